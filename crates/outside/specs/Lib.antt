@@ -2,6 +2,8 @@ pub mod FailAt
 pub mod Failure
 pub mod MemShelf
 pub mod MemSink
+pub mod Miss
 pub mod Rose
 pub mod Shelf
 pub mod Sink
+pub mod Wire

@@ -1,7 +1,6 @@
 -- Files by their names.
 use Rattle.std.specs.Prelude.{◌≡◌, ℕ, ◌<◌, List, length, Option, Some, None, Result, Ok, Err}
 use Rattle.std.specs.Global.{Vec}
-use Rattle.outside.specs.Rose.{Rose}
 use Rattle.outside.specs.declared.faults.TakeFault.{TakeFault}
 use Rattle.outside.specs.declared.faults.TakeFault.TheVariants.{Failed, TooLong, Memory}
 
@@ -19,8 +18,3 @@ Takes None limit (Err Failed) = Unit {0}
 Takes None limit (Err TooLong) = ⊥
 Takes None limit (Err Memory) = ⊥
 Takes None limit (Ok taken) = ⊥
-
--- the misses rise at an absent file, and at nothing else
-abbrev pub CountsMiss : Option (List ℕ) → ℕ → ℕ → Type 0
-CountsMiss (Some bytes) before after = after ≡ before
-CountsMiss None before after = Rose before after

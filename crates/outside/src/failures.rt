@@ -13,9 +13,13 @@ pub trait Failures: Drop {
     /// What comes of the next call: it fails after so many bytes, or it doesn't fail.
     ghost due: { Self → Option ℕ };
 
+    /// The plan once that call was counted.
+    ghost after: { Self → Self };
+
     /// Counts a call, and tells after how many bytes it fails, if it does.
     fn next_call(&mut self) -> Option<usize>
         ensures due { result ≡ due self.old }
+        ensures after { self.new ≡ after self.old }
         ensures counts { count self.old ≤ count self.new }
         ensures cause { IsSome result → Rose (count self.old) (count self.new) }
         ensures quiet { IsNone result → count self.new ≡ count self.old };
@@ -29,6 +33,8 @@ impl Failures for Never {
     ghost count = { λ _. 0 };
 
     ghost due = { λ _. None };
+
+    ghost after = { λ plan. plan };
 
     fn next_call(&mut self) -> Option<usize> {
         None
@@ -72,13 +78,9 @@ impl Failures for FailAt {
 
     ghost due = { due_of };
 
-    fn next_call(&mut self) -> Option<usize>
-        ensures due { result ≡ due_of self.old }
-        ensures counts { self.old.count ≤ self.new.count }
-        ensures cause { IsSome result → Rose self.old.count self.new.count }
-        ensures quiet { IsNone result → self.new.count ≡ self.old.count }
-        ensures after { self.new ≡ next_plan self.old }
-    {
+    ghost after = { next_plan };
+
+    fn next_call(&mut self) -> Option<usize> {
         let due = failure_at(self.calls, &self.failures);
         self.calls = self.calls.saturating_add(1);
         if due.is_some() {

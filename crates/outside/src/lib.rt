@@ -7,8 +7,10 @@
 
 mod failures;
 mod faults;
+mod link;
 mod mem_shelf;
 mod mem_sink;
+mod net;
 mod shelf;
 mod sink;
 #[cfg(test)]
@@ -16,7 +18,9 @@ mod tests;
 
 pub use failures::{FailAt, Failure, Failures, Never};
 pub use faults::{Failed, PutFault, TakeFault};
+pub use link::Link;
 pub use mem_shelf::{MemShelf, NamedFile};
 pub use mem_sink::MemSink;
+pub use net::Net;
 pub use shelf::Shelf;
 pub use sink::Sink;

@@ -1,7 +1,8 @@
 //! Files that are kept in memory.
-ghost use Rattle.std.specs.Prelude.{◌≡◌, ℕ, ◌+◌, ◌≤◌, Some, length, IfSome, IfOk, IsErrOf};
+ghost use Rattle.std.specs.Prelude.{◌≡◌, ℕ, ◌+◌, ◌≤◌, ◌↔◌, Some, length, is_some, IsSome, IfOk, IsErrOf};
+ghost use Rattle.outside.specs.Miss.{CountsMiss};
 ghost use Rattle.outside.specs.Rose.{Rose};
-ghost use Rattle.outside.specs.Shelf.{Takes, CountsMiss};
+ghost use Rattle.outside.specs.Shelf.{Takes};
 
 use crate::failures::Failures;
 use crate::faults::TakeFault;
@@ -52,7 +53,20 @@ impl<P: Failures> Shelf for MemShelf<P> {
 
     ghost misses = { misses_of };
 
-    fn take(&mut self, alloc: Global, name: &str, limit: u64) -> Result<Vec<u8>, TakeFault> {
+    fn take(&mut self, alloc: Global, name: &str, limit: u64) -> Result<Vec<u8>, TakeFault>
+        ensures told { Takes (file_at (files_of self.old) name.now) limit result }
+        ensures fits { IfOk result (λ taken. length taken.items ≤ limit) }
+        ensures kept { files_of self.new ≡ files_of self.old }
+
+        ensures counts { P.count (plan_of self.old) + misses_of self.old ≤ P.count (plan_of self.new) + misses_of self.new }
+        ensures cause { IsErrOf result TakeFault.Failed
+            → Rose (P.count (plan_of self.old) + misses_of self.old) (P.count (plan_of self.new) + misses_of self.new) }
+        ensures misses { CountsMiss (is_some (file_at (files_of self.old) name.now)) (misses_of self.old) (misses_of self.new) }
+
+        ensures due { IsSome (file_at (files_of self.old) name.now)
+            → (IsErrOf result TakeFault.Failed ↔ IsSome (P.due (plan_of self.old))) }
+        ensures plan { plan_of self.new ≡ P.after (plan_of self.old) }
+    {
         let failure = self.failures.next_call();
         let Some(bytes) = find(&self.files, name) else {
             self.misses = self.misses.saturating_add(1);

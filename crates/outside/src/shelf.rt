@@ -1,7 +1,8 @@
 //! Files, each taken whole by its name.
-ghost use Rattle.std.specs.Prelude.{◌≡◌, ℕ, ◌≤◌, Option, length, IfSome, IfOk, IsErrOf};
+ghost use Rattle.std.specs.Prelude.{◌≡◌, ℕ, ◌≤◌, Option, is_some, length, IfSome, IfOk, IsErrOf};
+ghost use Rattle.outside.specs.Miss.{CountsMiss};
 ghost use Rattle.outside.specs.Rose.{Rose};
-ghost use Rattle.outside.specs.Shelf.{Files, Takes, CountsMiss};
+ghost use Rattle.outside.specs.Shelf.{Files, Takes};
 
 use crate::faults::TakeFault;
 use std::alloc::Global;
@@ -26,5 +27,5 @@ pub trait Shelf {
         ensures counts { faults self.old ≤ faults self.new }
         ensures cause { IsErrOf result TakeFault.Failed → Rose (faults self.old) (faults self.new) }
         ensures misses { IfSome (contents self.old)
-            (λ files. CountsMiss (files name.now) (misses self.old) (misses self.new)) };
+            (λ files. CountsMiss (is_some (files name.now)) (misses self.old) (misses self.new)) };
 }
