@@ -1,5 +1,6 @@
 pub mod FailAt
 pub mod Failure
+pub mod MemNet
 pub mod MemShelf
 pub mod MemSink
 pub mod Miss

@@ -9,13 +9,17 @@ pub record Wire : Type 0 where
   pub queue : List (List ℕ)       -- the connections to come, each by its bytes to come
   pub past : List (List ℕ)        -- the bytes put on each that was closed
 
+-- no connection stands yet, and these are to come
+abbrev pub waiting : List (List ℕ) → Wire
+waiting queue = record { stands = false; coming = []; sent = []; queue = queue; past = [] }
+
 -- n bytes were taken
-abbrev pub got : ℕ → Option Wire → Option Wire
-got n wire = option_map (λ (wire : Wire). record wire { coming = drop n wire.coming }) wire
+abbrev pub take_from : ℕ → Wire → Wire
+take_from n wire = record wire { coming = drop n wire.coming }
 
 -- this piece was put
-abbrev pub sent_on : List ℕ → Option Wire → Option Wire
-sent_on piece wire = option_map (λ (wire : Wire). record wire { sent = wire.sent ++ piece }) wire
+abbrev pub send_on : List ℕ → Wire → Wire
+send_on piece wire = record wire { sent = wire.sent ++ piece }
 
 -- the connection, if one stands, is ended, and what was put on it is kept
 abbrev pub shut : Wire → Wire
@@ -26,19 +30,29 @@ shut wire = record wire {
   ; past = cond wire.stands (wire.past ++ wire.sent ∷ []) wire.past
   }
 
-abbrev pub closed : Option Wire → Option Wire
-closed wire = option_map shut wire
-
 -- the first connection to come stands, and any that stood before is ended
-abbrev pub opened : Option Wire → Option Wire
-opened wire = option_map (λ (wire : Wire). record (shut wire) {
+abbrev pub open_next : Wire → Wire
+open_next wire = record (shut wire) {
     stands = true
   ; coming = slice_index_or wire.queue 0 []
   ; queue = drop 1 wire.queue
-  }) wire
+  }
 
 abbrev pub has_next : Wire → Bool
 has_next wire = nat_lt 0 (length wire.queue)
+
+-- the same, where the wire is told
+abbrev pub got : ℕ → Option Wire → Option Wire
+got n wire = option_map (take_from n) wire
+
+abbrev pub sent_on : List ℕ → Option Wire → Option Wire
+sent_on piece wire = option_map (send_on piece) wire
+
+abbrev pub closed : Option Wire → Option Wire
+closed wire = option_map shut wire
+
+abbrev pub opened : Option Wire → Option Wire
+opened wire = option_map open_next wire
 
 -- a call that took n bytes put them in front; with room for some, none is the end
 pub record Gets (n : ℕ) (coming before after : List ℕ) : Type 0 where

@@ -8,6 +8,7 @@
 mod failures;
 mod faults;
 mod link;
+mod mem_net;
 mod mem_shelf;
 mod mem_sink;
 mod net;
@@ -19,6 +20,7 @@ mod tests;
 pub use failures::{FailAt, Failure, Failures, Never};
 pub use faults::{Failed, PutFault, TakeFault};
 pub use link::Link;
+pub use mem_net::MemNet;
 pub use mem_shelf::{MemShelf, NamedFile};
 pub use mem_sink::MemSink;
 pub use net::Net;
