@@ -10,7 +10,7 @@ use Rattle.vo_spec.specs.declared.values.Kind.{Kind}
 use Rattle.vo_spec.specs.declared.values.Kind.TheVariants as kind
 use Rattle.vo_spec.specs.declared.values.Value.{Value}
 use Rattle.vo_spec.specs.declared.values.Value.TheVariants.{Int, Text, Bool as Truth}
-use Rattle.vo_spec.specs.Bytes.{u64_bytes, u64_at, string}
+use Rattle.vo_spec.specs.Bytes.{u64_bytes, u64_of, string}
 
 abbrev pub kind_of : Value → Kind
 kind_of (Int z) = kind.Int
@@ -47,7 +47,7 @@ key_of (Text s) = s
 key_of (Truth b) = from_bool b ∷ []
 
 abbrev pub value_of_key : Kind → List ℕ → Value
-value_of_key kind.Int key = Int (pos (u64_at key 0) -ℤ pos (2 ^ 63))
+value_of_key kind.Int key = Int (pos (u64_of key) -ℤ pos (2 ^ 63))
 value_of_key kind.Text key = Text key
 value_of_key kind.Bool key = Truth (nat_lt 0 (length key))
 

@@ -1,6 +1,9 @@
 //! What a client says of a reply, and an auditor of both.
-use crate::digests::Digest;
+use crate::collision::Collision;
+use crate::digest::Digest;
+use crate::lists::List;
 use crate::queries::Outcome;
+use crate::records::Record;
 use crate::texts::Name;
 use thiserror::Error;
 
@@ -73,4 +76,21 @@ pub enum AuditFault {
     Refused(CheckFault),
     #[error("out of memory")]
     Memory,
+}
+
+/// What an audit finds of a reply that a client accepts.
+#[derive(Drop)]
+pub enum Verdict {
+    /// The journal holds no such record. `last` is the version of its last entry.
+    Unsigned {
+        rec: Record,
+        signature: List<u8>,
+        last: u64,
+    },
+    /// The answer is the query's result on the tables of this version.
+    Exact {
+        version: u64,
+    },
+    /// The answer is another; here are two byte strings with one digest.
+    Collides(Collision),
 }

@@ -6,21 +6,25 @@
 #![tactic(auto)]
 
 mod checks;
-mod digests;
+mod collision;
+mod digest;
 mod keys;
 mod lists;
 mod queries;
 mod records;
+mod signatures;
 mod tables;
 mod texts;
 mod values;
 
-pub use checks::{Answer, AuditFault, CheckFault};
-pub use digests::Digest;
+pub use checks::{Answer, AuditFault, CheckFault, Verdict};
+pub use collision::Collision;
+pub use digest::Digest;
 pub use keys::{Bound, Interval, Key};
 pub use lists::List;
 pub use queries::{Cmp, Cond, Items, Join, Operand, Outcome, QueryFault, QueryText, Ref, Source};
 pub use records::{Catalog, CatalogTable, Entry, Record};
+pub use signatures::{LmsType, OtsType};
 pub use tables::{Batch, Column, Command, CommandFault, Schema, SetPart, Table, Tables};
 pub use texts::{Name, Text};
 pub use values::{Kind, Row, Value};

@@ -1,5 +1,5 @@
 //! What an owner signs and writes down: catalogs, records, journal entries.
-use crate::digests::Digest;
+use crate::digest::Digest;
 use crate::lists::List;
 use crate::tables::{Batch, Schema};
 use crate::texts::Name;

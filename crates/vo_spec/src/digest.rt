@@ -1,37 +1,37 @@
-//! A SHA-256 digest, which contracts see as its 32 bytes.
+//! A SHA-256 digest.
 ghost use Rattle.std.specs.Prelude.{◌≡◌, length};
 
 use std::marker::Model;
 
-/// The digest of some bytes (FIPS 180-4, SHA-256): 32 bytes.
+/// The 32 bytes of a SHA-256 digest (FIPS 180-4); contracts see the list of them.
 #[derive(Clone, Copy, PartialEq, Eq, Debug)]
-pub struct Digest {
-    bytes: [u8; 32],
-}
+pub struct Digest([u8; 32]);
 
 impl Model for Digest {
     ghost use Rattle.std.specs.Prelude.{◌≡◌, List, ℕ, length};
 
     ghost Value = { List ℕ };
 
-    ghost view = { λ d. d.bytes };
+    ghost view = { λ digest. digest.0 };
 
-    ghost invariant = { λ d. length d.bytes ≡ 32 };
+    ghost invariant = { λ digest. length digest.0 ≡ 32 };
 
-    ghost inverse = { λ bytes. record { bytes = bytes } };
+    ghost inverse = { λ bytes. record { 0 = bytes } };
 }
 
 impl Digest {
+    /// The digest with these bytes.
     pub fn new(bytes: [u8; 32]) -> Digest
         ensures { result ≡ bytes }
     {
-        Digest { bytes }
+        Digest(bytes)
     }
 
+    /// The digest's bytes.
     pub fn as_bytes(&self) -> &[u8; 32]
         ensures value { result.now ≡ self.now }
-        ensures full { length self.now ≡ 32 }
+        ensures len { length self.now ≡ 32 }
     {
-        &self.bytes
+        &self.0
     }
 }
