@@ -18,7 +18,7 @@ use Rattle.vo_spec.specs.declared.queries.Operand.TheVariants.{Literal}
 use Rattle.vo_spec.specs.declared.queries.QueryFault.TheVariants as wrong
 use Rattle.vo_spec.specs.declared.queries.Outcome.{Outcome}
 use Rattle.vo_spec.specs.declared.queries.Outcome.TheVariants.{Rows, Wrong}
-use Rattle.vo_spec.specs.Bytes.{u64_bytes, u64_at, u16_bytes}
+use Rattle.vo_spec.specs.Bytes.{u64_bytes, u64_of, u16_bytes}
 use Rattle.vo_spec.specs.Values.{value_bytes, key_of, value_of_key}
 use Rattle.vo_spec.specs.Tables.{apply, apply_batch, tables_after}
 use Rattle.vo_spec.specs.Conditions.{Condition, Query, test}
@@ -43,11 +43,11 @@ unfolding u64_bytes
 key_greatest = refl
 
 value_minus_one : value_of_key kind.Int (0x7f ∷ 0xff ∷ 0xff ∷ 0xff ∷ 0xff ∷ 0xff ∷ 0xff ∷ 0xff ∷ []) ≡ Int (negsuc 0)
-unfolding u64_at
+unfolding u64_of
 value_minus_one = refl
 
 value_least : value_of_key kind.Int (0 ∷ 0 ∷ 0 ∷ 0 ∷ 0 ∷ 0 ∷ 0 ∷ 0 ∷ []) ≡ Int (negsuc 9223372036854775807)
-unfolding u64_at
+unfolding u64_of
 value_least = refl
 
 -- Value bytes.
@@ -196,13 +196,13 @@ abbrev names_above_one : Query
 names_above_one = one_table (plain (codes "name") ∷ []) (Some (test (plain (codes "id")) cmp.Gt (Literal (int 1))))
 
 above_one : result names_above_one two_rows ≡ Rows (codes "name" ∷ []) ((text (codes "bob") ∷ []) ∷ [])
-unfolding result u64_bytes u64_at
+unfolding result u64_bytes u64_of
 above_one = refl
 
 -- every column, by `*`
 all_columns : result (record { items = All; left = alone (codes "t"); join = None; condition = None }) two_rows
     ≡ Rows (codes "id" ∷ codes "name" ∷ []) ((int 1 ∷ text (codes "ann") ∷ []) ∷ (int 3 ∷ text (codes "bob") ∷ []) ∷ [])
-unfolding result u64_bytes u64_at
+unfolding result u64_bytes u64_of
 all_columns = refl
 
 absent_table : result (record { items = All; left = alone (codes "t"); join = None; condition = None }) [] ≡ Wrong (wrong.NoTable (codes "t"))
@@ -252,10 +252,10 @@ abbrev who_has_ann : Outcome
 who_has_ann = Rows (codes "a.name" ∷ codes "b.name" ∷ []) ((text (codes "bob") ∷ text (codes "ann") ∷ []) ∷ (text (codes "cid") ∷ text (codes "ann") ∷ []) ∷ [])
 
 joined : result (bosses (of (codes "a") (codes "boss")) (of (codes "b") (codes "id"))) people ≡ who_has_ann
-unfolding result u64_bytes u64_at
+unfolding result u64_bytes u64_of
 joined = refl
 
 -- ON's columns in the other order
 joined_swapped : result (bosses (of (codes "b") (codes "id")) (of (codes "a") (codes "boss"))) people ≡ who_has_ann
-unfolding result u64_bytes u64_at
+unfolding result u64_bytes u64_of
 joined_swapped = refl
