@@ -2,7 +2,7 @@
 -- program are proved to give what these functions give; laws beside them tie these to the spellings.
 use Rattle.std.specs.Prelude.{◌≡◌, ℕ, zero, suc, ◌+◌, ◌≤◌, Bool, List, [], ◌∷◌, ◌++◌, length, take, drop, nat_lt, Option, Some, None, if◌then◌else◌, bytes_eq}
 use Rattle.std.specs.Int.{w16, w32, w64, from_be_bytes}
-use Rattle.vo_spec.specs.Batches.{is_name}
+use Rattle.vo_spec.specs.Names.{is_name}
 
 -- a value, and the bytes behind it
 abbrev pub Found : Type 0 → Type 0
