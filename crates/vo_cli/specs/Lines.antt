@@ -1,6 +1,5 @@
 -- What the program says: a status, and lines of text.
 use Rattle.std.specs.Prelude.{ℕ, ℤ, List, [], ◌∷◌, ◌++◌, map, flat_map, length, codes, decimal, ◌==◌, if◌then◌else◌, Bool, true, false, Option, Some, None, Result, Ok, Err}
-use Rattle.std.specs.List.{join_with_byte}
 use Rattle.std.specs.Option.{option_map_or}
 use Rattle.std.specs.Fmt.{signed_decimal}
 use Rattle.hex.specs.Hex.{encode_lower}
@@ -31,13 +30,18 @@ pub record Said : Type 0 where
 abbrev pub line : List ℕ → List ℕ
 line text = text ++ 10 ∷ []
 
+-- pieces with a byte between each two
+abbrev pub separated : ℕ → List (List ℕ) → List ℕ
+separated separator [] = []
+separated separator (first ∷ others) = first ++ flat_map (λ piece. separator ∷ piece) others
+
 -- a line of words, with one space between each two
 abbrev pub words_line : List (List ℕ) → List ℕ
-words_line words = line (join_with_byte 32 words)
+words_line words = line (separated 32 words)
 
 -- a line of columns, with a comma between each two
 abbrev pub columns_line : List (List ℕ) → List ℕ
-columns_line columns = line (join_with_byte 44 columns)
+columns_line columns = line (separated 44 columns)
 
 -- with status 0 there is output; with any other status, lines alone
 abbrev pub done : List ℕ → Said
@@ -64,11 +68,11 @@ literal (Truth false) = codes "FALSE"
 -- Answers of `check`.
 
 abbrev pub wrong_words : QueryFault → List (List ℕ)
-wrong_words (query.NoTable name) = codes "no" ∷ codes "table" ∷ name ∷ []
-wrong_words (query.NoColumn r) = codes "no" ∷ codes "column" ∷ ref_title r ∷ []
+wrong_words (query.NoTable name) = codes "no table" ∷ name ∷ []
+wrong_words (query.NoColumn r) = codes "no column" ∷ ref_title r ∷ []
 wrong_words (query.Ambiguous r) = codes "ambiguous" ∷ ref_title r ∷ []
-wrong_words query.TypeMismatch = codes "kinds" ∷ codes "differ" ∷ []
-wrong_words query.NotKeyJoin = codes "not" ∷ codes "a" ∷ codes "key" ∷ codes "join" ∷ []
+wrong_words query.TypeMismatch = codes "kinds differ" ∷ []
+wrong_words query.NotKeyJoin = codes "not a key join" ∷ []
 
 abbrev pub outcome_lines : Outcome → List ℕ
 outcome_lines (Rows header rows) = columns_line header ++ flat_map (λ row. columns_line (map literal row)) rows
@@ -78,16 +82,16 @@ abbrev pub version_line : ℕ → List ℕ
 version_line version = words_line (codes "version" ∷ decimal version ∷ [])
 
 abbrev pub fault_words : CheckFault → List (List ℕ)
-fault_words (check.TooLong length) = codes "too" ∷ codes "long" ∷ decimal length ∷ []
-fault_words check.BadForm = codes "bad" ∷ codes "form" ∷ []
-fault_words (check.WrongKey want got) = codes "wrong" ∷ codes "key" ∷ encode_lower want ∷ encode_lower got ∷ []
-fault_words (check.WrongLeaf version q) = codes "wrong" ∷ codes "leaf" ∷ decimal version ∷ decimal q ∷ []
-fault_words check.BadSignature = codes "bad" ∷ codes "signature" ∷ []
+fault_words (check.TooLong length) = codes "too long" ∷ decimal length ∷ []
+fault_words check.BadForm = codes "bad form" ∷ []
+fault_words (check.WrongKey want got) = codes "wrong key" ∷ encode_lower want ∷ encode_lower got ∷ []
+fault_words (check.WrongLeaf version q) = codes "wrong leaf" ∷ decimal version ∷ decimal q ∷ []
+fault_words check.BadSignature = codes "bad signature" ∷ []
 fault_words (check.Stale least got) = codes "stale" ∷ decimal least ∷ decimal got ∷ []
-fault_words (check.WrongCatalog want got) = codes "wrong" ∷ codes "catalog" ∷ encode_lower want ∷ encode_lower got ∷ []
-fault_words (check.WrongTrees want got) = codes "wrong" ∷ codes "trees" ∷ decimal want ∷ decimal got ∷ []
-fault_words check.WrongShape = codes "wrong" ∷ codes "shape" ∷ []
-fault_words (check.WrongRoot table want got) = codes "wrong" ∷ codes "root" ∷ table ∷ encode_lower want ∷ encode_lower got ∷ []
+fault_words (check.WrongCatalog want got) = codes "wrong catalog" ∷ encode_lower want ∷ encode_lower got ∷ []
+fault_words (check.WrongTrees want got) = codes "wrong trees" ∷ decimal want ∷ decimal got ∷ []
+fault_words check.WrongShape = codes "wrong shape" ∷ []
+fault_words (check.WrongRoot table want got) = codes "wrong root" ∷ table ∷ encode_lower want ∷ encode_lower got ∷ []
 fault_words check.Missing = codes "missing" ∷ []
 fault_words check.Surplus = codes "surplus" ∷ []
 fault_words check.Memory = []
@@ -100,17 +104,19 @@ check_said (Err fault) = refused 1 (fault_words fault)
 -- Verdicts of `audit`.
 
 abbrev pub verdict_said : Verdict → Said
-verdict_said (Exact version) = done (words_line (codes "exact" ∷ codes "version" ∷ decimal version ∷ []))
+verdict_said (Exact version) = done (words_line (codes "exact version" ∷ decimal version ∷ []))
 verdict_said (Unsigned rec signature last) = record {
-    status = 6
-  ; bytes = words_line (codes "unsigned" ∷ []) ++ words_line (encode_lower (record_bytes rec) ∷ []) ++ words_line (encode_lower signature ∷ [])
-      ++ words_line (codes "journal" ∷ codes "ends" ∷ codes "at" ∷ codes "version" ∷ decimal last ∷ []) }
+  status = 6;
+  bytes = words_line (codes "unsigned" ∷ []) ++ words_line (encode_lower (record_bytes rec) ∷ []) ++ words_line (encode_lower signature ∷ [])
+      ++ words_line (codes "journal ends at version" ∷ decimal last ∷ []);
+}
 verdict_said (Collides found) = record {
-    status = 5
-  ; bytes = words_line (codes "collision" ∷ []) ++ words_line (encode_lower found.0 ∷ []) ++ words_line (encode_lower found.1 ∷ []) }
+  status = 5;
+  bytes = words_line (codes "collision" ∷ []) ++ words_line (encode_lower found.0 ∷ []) ++ words_line (encode_lower found.1 ∷ []);
+}
 
 abbrev pub bad_journal : ℕ → Said
-bad_journal index = record { status = 7; bytes = words_line (codes "bad" ∷ codes "journal" ∷ decimal index ∷ []) }
+bad_journal index = record { status = 7; bytes = words_line (codes "bad journal" ∷ decimal index ∷ []) }
 
 abbrev pub audit_said : Result Verdict AuditFault → Said
 audit_said (Ok verdict) = verdict_said verdict
@@ -139,4 +145,4 @@ abbrev pub command_said : ℕ → CommandFault → Said
 command_said index fault = refused 8 (codes "command" ∷ decimal index ∷ fault_name fault ∷ [])
 
 abbrev pub key_spent : Said
-key_spent = refused 8 (codes "key" ∷ codes "spent" ∷ [])
+key_spent = refused 8 (codes "key spent" ∷ [])
