@@ -1,9 +1,8 @@
 -- Plain tables, and what commands and batches make of them.
-use Rattle.std.specs.Prelude.{ℕ, ◌+◌, ◌-◌, Bool, true, false, not, ◌&&◌, ◌||◌, ◌==◌, nat_lt, nat_le, if◌then◌else◌, List, [], ◌∷◌, ◌++◌, map, length, remove, slice_index_or, slice_set, filter, find, fold, Option, Some, None, Result, Ok, Err, option_map, is_some, is_none, bytes_eq}
+use Rattle.std.specs.Prelude.{ℕ, ◌+◌, ◌-◌, Bool, true, false, not, ◌&&◌, ◌||◌, ◌==◌, nat_lt, nat_le, if◌then◌else◌, List, [], ◌∷◌, map, length, remove, slice_index_or, slice_set, filter, find, fold, Option, Some, Result, Ok, Err, is_some, bytes_eq}
 use Rattle.std.specs.Option.{option_map_or}
 use Rattle.std.specs.Result.{result_unwrap_or}
 use Rattle.std.specs.List.{list_any, list_all, position_or_len}
-use Rattle.vo_spec.specs.declared.values.Kind.{Kind}
 use Rattle.vo_spec.specs.declared.values.Kind.TheVariants as kind
 use Rattle.vo_spec.specs.declared.values.Value.{Value}
 use Rattle.vo_spec.specs.declared.values.Value.TheVariants.{Bool as Truth}
