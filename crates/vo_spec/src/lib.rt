@@ -5,11 +5,13 @@
 //! definitions in `specs/` speak of the very values that the program passes.
 #![tactic(auto)]
 
+mod cells;
 mod checks;
 mod collision;
 mod digest;
 mod keys;
 mod lists;
+mod numbers;
 mod queries;
 mod records;
 mod signatures;
@@ -17,11 +19,13 @@ mod tables;
 mod texts;
 mod values;
 
+pub use cells::ValueRef;
 pub use checks::{Answer, AuditFault, CheckFault, Verdict};
 pub use collision::Collision;
 pub use digest::Digest;
 pub use keys::{Bound, Interval, Key};
 pub use lists::List;
+pub use numbers::{u16_bytes, u32_bytes, u64_bytes};
 pub use queries::{Cmp, Cond, Items, Join, Operand, Outcome, QueryFault, QueryText, Ref, Source};
 pub use records::{Catalog, CatalogTable, Entry, Record};
 pub use signatures::{LmsType, OtsType};
