@@ -1,0 +1,40 @@
+//! What calls on trees answer.
+use crate::collision::Collision;
+use thiserror::Error;
+
+/// Why a scan or a test of a proof has no answer.
+#[derive(Clone, Copy, PartialEq, Eq, Debug, Error)]
+pub enum ScanFault {
+    #[error("something is missing")]
+    Missing,
+    #[error("out of memory")]
+    Memory,
+}
+
+/// Why a tree isn't changed.
+#[derive(Clone, Copy, PartialEq, Eq, Debug, Error)]
+pub enum UpdateFault {
+    #[error("a row of this key is there")]
+    DuplicateKey,
+    #[error("no row of this key")]
+    NoRow,
+    /// The work looks at a node or a row that is a digest, in part trees alone.
+    #[error("something is missing")]
+    Missing,
+    #[error("out of memory")]
+    Memory,
+}
+
+/// Whether a part tree prunes a whole tree of its digest, or what shows that it doesn't.
+#[derive(Drop)]
+pub enum Agreement {
+    Prunes,
+    Collides(Collision),
+}
+
+/// Whether two part trees of one digest show the same, or what shows that they don't.
+#[derive(Drop)]
+pub enum Twins {
+    Same,
+    Collides(Collision),
+}
