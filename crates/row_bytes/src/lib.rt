@@ -3,12 +3,14 @@
 
 mod cursor;
 mod fault;
+mod fields;
 mod reading;
 mod text;
 mod writing;
 
 pub use cursor::Cursor;
 pub use fault::FormFault;
+pub use fields::is_name;
 pub use reading::take_value;
 pub use vo_spec::{Bound, Interval, Key, Kind, List, Name, Row, Text, Value, ValueRef};
 pub use writing::put_value;
