@@ -1,1 +1,2 @@
 mod WorkedTrees
+mod WorkedRows

@@ -20,6 +20,14 @@ unfoldable pub u32_at : List ℕ → ℕ → ℕ
 u32_at bytes at = from_be_bytes w32
     (slice_index bytes at ∷ slice_index bytes (at + 1) ∷ slice_index bytes (at + 2) ∷ slice_index bytes (at + 3) ∷ [])
 
+-- the number that two bytes spell
+unfoldable pub u16_of : List ℕ → ℕ
+u16_of bytes = from_be_bytes w16 bytes
+
+-- the number that four bytes spell
+unfoldable pub u32_of : List ℕ → ℕ
+u32_of bytes = from_be_bytes w32 bytes
+
 -- the number that eight bytes spell
 unfoldable pub u64_of : List ℕ → ℕ
 u64_of bytes = from_be_bytes w64 bytes

@@ -1,0 +1,14 @@
+//! Values, keys and rows as bytes, and intervals of keys.
+#![tactic(auto)]
+
+mod cursor;
+mod fault;
+mod reading;
+mod text;
+mod writing;
+
+pub use cursor::Cursor;
+pub use fault::FormFault;
+pub use reading::take_value;
+pub use vo_spec::{Bound, Interval, Key, Kind, List, Name, Row, Text, Value, ValueRef};
+pub use writing::put_value;
