@@ -1,2 +1,4 @@
 mod WorkedRows
 mod WorkedTrees
+mod WorkedTrees
+mod WorkedRows

@@ -1,5 +1,5 @@
 -- The proof for some needs: what of a tree must be open, what must not, and the one part of it that is so.
-use Rattle.std.specs.Prelude.{◌≡◌, ℕ, ◌+◌, Bool, true, false, not, ◌&&◌, ◌||◌, ◌==◌, if◌then◌else◌, List, [], ◌∷◌, filter, map, slice_get, drop, Option, None, is_none}
+use Rattle.std.specs.Prelude.{◌≡◌, ℕ, ◌+◌, Bool, true, false, not, ◌&&◌, ◌||◌, ◌==◌, if◌then◌else◌, List, [], ◌∷◌, filter, flat_map, map, slice_get, drop, Option, None, is_none}
 use Rattle.std.specs.List.{list_any}
 use Rattle.vo_spec.specs.declared.needs.Need.{Need}
 use Rattle.vo_spec.specs.declared.cells.Cell.{Cell}
@@ -79,53 +79,54 @@ abbrev pub is_any : {A : Type 0} → List A → Bool
 is_any [] = false
 is_any (x ∷ xs) = true
 
--- whether some need whose interval has this key names this column, or any
-abbrev pub is_named : List Need → List ℕ → ℕ → Bool
-is_named needs key column =
-    list_any (λ need. in_interval need.interval key && list_any (λ c. c == column) need.columns) needs
+-- the columns that some need names whose interval has this key
+abbrev pub named : List Need → List ℕ → List ℕ
+named needs key = flat_map (λ need. need.columns) (filter (λ need. in_interval need.interval key) needs)
 
-abbrev pub names_any : List Need → List ℕ → Bool
-names_any needs key = list_any (λ need. in_interval need.interval key && is_any need.columns) needs
+abbrev pub has_column : List ℕ → ℕ → Bool
+has_column columns column = list_any (λ c. c == column) columns
 
--- the entry hides a column that such a need names
-abbrev pub lacks_named : List Need → PartEntry → Bool
-lacks_named needs e =
-    list_any (λ need. in_interval need.interval e.key && list_any (λ c. is_none (value_in e.row c)) need.columns) needs
+-- the row hides one of these columns
+abbrev pub hides_any : List ℕ → RowPart → Bool
+hides_any columns row = list_any (λ c. is_none (value_in row c)) columns
 
--- a cell is shown that isn't among these columns, the first cell being that of this column
-abbrev pub shows_beyond : (ℕ → Bool) → ℕ → List Cell → Bool
-shows_beyond named column [] = false
-shows_beyond named column (Hidden d ∷ cells) = shows_beyond named (column + 1) cells
-shows_beyond named column (Shown v ∷ cells) = not (named column) || shows_beyond named (column + 1) cells
+-- a cell is shown that is none of these columns, the first cell being that of this column
+abbrev pub shows_beyond : List ℕ → ℕ → List Cell → Bool
+shows_beyond columns column [] = false
+shows_beyond columns column (Hidden d ∷ cells) = shows_beyond columns (column + 1) cells
+shows_beyond columns column (Shown v ∷ cells) =
+    not (has_column columns column) || shows_beyond columns (column + 1) cells
 
-abbrev pub row_beyond : List Need → List ℕ → RowPart → Bool
-row_beyond needs key (Closed d) = false
-row_beyond needs key (Cells cells) = not (names_any needs key) || shows_beyond (is_named needs key) 0 cells
+-- and a row stands as cells only where some column is to be shown
+abbrev pub row_beyond : List ℕ → RowPart → Bool
+row_beyond columns (Closed d) = false
+row_beyond columns (Cells cells) = not (is_any columns) || shows_beyond columns 0 cells
 
 -- the cells with these columns alone shown, so far as they are
-abbrev pub shown_cell : (ℕ → Bool) → ℕ → Cell → Cell
-shown_cell named column (Hidden d) = Hidden d
-shown_cell named column (Shown v) = if named column then Shown v else Hidden (cell_digest column (Shown v))
+abbrev pub shown_cell : List ℕ → ℕ → Cell → Cell
+shown_cell columns column (Hidden d) = Hidden d
+shown_cell columns column (Shown v) =
+    if has_column columns column then Shown v else Hidden (cell_digest column (Shown v))
 
-abbrev pub shown_cells : (ℕ → Bool) → ℕ → List Cell → List Cell
-shown_cells named column [] = []
-shown_cells named column (cell ∷ cells) = shown_cell named column cell ∷ shown_cells named (column + 1) cells
+abbrev pub shown_cells : List ℕ → ℕ → List Cell → List Cell
+shown_cells columns column [] = []
+shown_cells columns column (cell ∷ cells) = shown_cell columns column cell ∷ shown_cells columns (column + 1) cells
 
-abbrev pub shown_row : List Need → List ℕ → RowPart → RowPart
-shown_row needs key (Closed d) = Closed d
-shown_row needs key (Cells cells) =
-    if names_any needs key then Cells (shown_cells (is_named needs key) 0 cells) else Closed (row_digest (Cells cells))
+abbrev pub shown_row : List ℕ → RowPart → RowPart
+shown_row columns (Closed d) = Closed d
+shown_row columns (Cells cells) =
+    if is_any columns then Cells (shown_cells columns 0 cells) else Closed (row_digest (Cells cells))
 
 abbrev pub shown_entry : List Need → PartEntry → PartEntry
-shown_entry needs e = record { key = e.key; row = shown_row needs e.key e.row }
+shown_entry needs e = record { key = e.key; row = shown_row (named needs e.key) e.row }
 
 abbrev pub walk_for : List Need → Walk PartEntry (List Need)
 walk_for needs = record {
   opens = is_any;
   onward = going_on;
   past = λ going lower upper. going;
-  lacks = lacks_named needs;
-  exceeds = λ e. row_beyond needs e.key e.row;
+  lacks = λ e. hides_any (named needs e.key) e.row;
+  exceeds = λ e. row_beyond (named needs e.key) e.row;
   shown = shown_entry needs;
 }
 
