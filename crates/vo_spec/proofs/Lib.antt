@@ -1,4 +1,2 @@
 mod WorkedRows
 mod WorkedTrees
-mod WorkedTrees
-mod WorkedRows
