@@ -4,6 +4,7 @@
 mod cursor;
 mod fault;
 mod fields;
+mod keys;
 mod reading;
 mod text;
 mod writing;
@@ -11,6 +12,7 @@ mod writing;
 pub use cursor::Cursor;
 pub use fault::FormFault;
 pub use fields::is_name;
+pub use keys::{key_of, value_of_key};
 pub use reading::take_value;
 pub use vo_spec::{Bound, Interval, Key, Kind, List, Name, Row, Text, Value, ValueRef};
 pub use writing::put_value;
