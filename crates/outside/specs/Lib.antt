@@ -1,3 +1,4 @@
+pub mod Drive
 pub mod FailAt
 pub mod Failure
 pub mod MemNet
