@@ -15,6 +15,15 @@ pub record Drive : Type 0 where
   pub calls : List Call           -- oldest first
   pub room : Room
 
+-- these contents, put down, and no room
+abbrev pub fresh : List ℕ → Drive
+fresh contents = record {
+    seen = contents
+  ; first = contents
+  ; calls = []
+  ; room = record { end = 0; bytes = 0; calls = 0 }
+  }
+
 -- how many bytes are wanting before a write past the end: zeros are read there
 abbrev pub gap : ℕ → List ℕ → List ℕ → ℕ
 gap place piece seen = cond (length piece == 0) 0 (place - length seen)

@@ -1,6 +1,8 @@
+pub mod Done
 pub mod Drive
 pub mod FailAt
 pub mod Failure
+pub mod MemDisk
 pub mod MemNet
 pub mod MemShelf
 pub mod MemSink
