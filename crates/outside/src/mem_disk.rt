@@ -77,3 +77,104 @@ impl<P: Failures> MemDisk<P> {
         self.room.calls -= 1;
     }
 }
+
+impl<P: Failures> Disk for MemDisk<P> {
+    ghost use Rattle.outside.specs.MemDisk.{drive_of, plan_of};
+    ghost use Rattle.outside.specs.ImageLaws.{may_leave-seen};
+
+    ghost drive = { λ disk. Some (drive_of disk) };
+
+    ghost faults = { λ disk. P.count (plan_of disk) };
+
+    ghost sees = { λ disk. may_leave-seen disk.first.items disk.seen.items disk.log.items (reverse disk.done.items) disk.room disk.kept };
+
+    fn len(&mut self) -> Result<u64, Failed>
+        ensures len { IfOk result (λ n. n ≡ length (drive_of self.old).seen) }
+        ensures kept { drive_of self.new ≡ drive_of self.old }
+        ensures counts { P.count (plan_of self.old) ≤ P.count (plan_of self.new) }
+        ensures cause { IsErr result → Rose (P.count (plan_of self.old)) (P.count (plan_of self.new)) }
+
+        ensures due { IsErr result ↔ IsSome (P.due (plan_of self.old)) }
+        ensures plan { plan_of self.new ≡ P.after (plan_of self.old) }
+    {
+        match self.failures.next_call() {
+            None => Ok(self.seen.len() as u64),
+            Some(_) => Err(Failed),
+        }
+    }
+
+    fn read(&mut self, at: u64, into: &mut [u8]) -> Result<(), Failed>
+        requires { at + length into.old ≤ length (drive_of self.old).seen }
+        ensures read { OnOk result (into.new ≡ take (length into.old) (drop at (drive_of self.old).seen)) }
+        ensures kept { drive_of self.new ≡ drive_of self.old }
+        ensures counts { P.count (plan_of self.old) ≤ P.count (plan_of self.new) }
+        ensures cause { IsErr result → Rose (P.count (plan_of self.old)) (P.count (plan_of self.new)) }
+
+        ensures due { IsErr result ↔ IsSome (P.due (plan_of self.old)) }
+        ensures plan { plan_of self.new ≡ P.after (plan_of self.old) }
+    {
+        if self.failures.next_call().is_some() {
+            return Err(Failed);
+        }
+        let at = at as usize;
+        into.copy_from_slice(&self.seen[at..at + into.len()]);
+        Ok(())
+    }
+
+    fn write_at(&mut self, at: u64, piece: &[u8]) -> Result<(), Failed>
+        requires { HasRoom (at + length piece.now) (length piece.now) 1 (drive_of self.old).room }
+        ensures ok { OnOk result (drive_of self.new ≡ write_on at piece.now (drive_of self.old)) }
+        ensures err { OnErr result ((seen : List ℕ) × (drive_of self.new ≡ write_leaving at (length piece.now) seen (drive_of self.old))) }
+        ensures counts { P.count (plan_of self.old) ≤ P.count (plan_of self.new) }
+        ensures cause { IsErr result → Rose (P.count (plan_of self.old)) (P.count (plan_of self.new)) }
+
+        ensures due { IsErr result ↔ IsSome (P.due (plan_of self.old)) }
+        ensures plan { plan_of self.new ≡ P.after (plan_of self.old) }
+    {
+        match self.failures.next_call() {
+            None => {
+                self.write_front(at, piece, 0);
+                Ok(())
+            }
+            Some(after) => {
+                let kept = piece.len().min(after);
+                self.write_front(at, &piece[..kept], piece.len() - kept);
+                Err(Failed)
+            }
+        }
+    }
+
+    fn sync(&mut self) -> Result<(), Failed>
+        requires { HasRoom 0 0 1 (drive_of self.old).room }
+        ensures ok { OnOk result (drive_of self.new ≡ sync_now (drive_of self.old)) }
+        ensures err { OnErr result (drive_of self.new ≡ drive_of self.old) }
+        ensures counts { P.count (plan_of self.old) ≤ P.count (plan_of self.new) }
+        ensures cause { IsErr result → Rose (P.count (plan_of self.old)) (P.count (plan_of self.new)) }
+
+        ensures due { IsErr result ↔ IsSome (P.due (plan_of self.old)) }
+        ensures plan { plan_of self.new ≡ P.after (plan_of self.old) }
+    {
+        if self.failures.next_call().is_some() {
+            return Err(Failed);
+        }
+        self.done.push(Done::Sync).unwrap();
+        self.room.calls -= 1;
+        Ok(())
+    }
+
+    fn reserve(&mut self, end: u64, bytes: u64, calls: u64) -> Result<(), AllocError>
+        ensures ok { OnOk result (HasRoom end bytes calls (drive_of self.new).room) }
+        ensures only { drive_of self.new ≡ record (drive_of self.old) { room = (drive_of self.new).room } }
+        ensures no_less { NoLess (drive_of self.old).room (drive_of self.new).room }
+        ensures plan { plan_of self.new ≡ plan_of self.old }
+    {
+        let longer = end.saturating_sub(self.seen.len() as u64);
+        self.seen.reserve(longer as usize)?;
+        self.room.end = self.room.end.max(end);
+        self.log.reserve(bytes as usize)?;
+        self.room.bytes = self.room.bytes.max(bytes);
+        self.done.reserve(calls as usize)?;
+        self.room.calls = self.room.calls.max(calls);
+        Ok(())
+    }
+}
