@@ -12,12 +12,12 @@ log_start log kept = length log - kept
 abbrev pub seen_after : List ℕ → List ℕ → List Done → List ℕ
 seen_after first log [] = first
 seen_after first log (Write at kept lost ∷ earlier) =
-  overwritten at (drop (log_start log kept) log) (seen_after first (take (log_start log kept) log) earlier)
+    overwritten at (drop (log_start log kept) log) (seen_after first (take (log_start log kept) log) earlier)
 seen_after first log (Sync ∷ earlier) = seen_after first log earlier
 
 -- the same calls as a crash sees them, oldest first
 abbrev pub calls_after : List ℕ → List ℕ → List Done → List Call
 calls_after first log [] = []
 calls_after first log (Write at kept lost ∷ earlier) =
-  calls_after first (take (log_start log kept) log) earlier ++ Wrote at (kept + lost) ∷ []
+    calls_after first (take (log_start log kept) log) earlier ++ Wrote at (kept + lost) ∷ []
 calls_after first log (Sync ∷ earlier) = calls_after first log earlier ++ Synced (seen_after first log earlier) ∷ []

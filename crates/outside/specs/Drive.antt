@@ -10,19 +10,19 @@ pub data Call : Type 0 where
   Synced : (contents : List ℕ) → Call
 
 pub record Drive : Type 0 where
-  pub seen : List ℕ               -- what reads give
-  pub first : List ℕ              -- what was down before the calls
-  pub calls : List Call           -- oldest first
+  pub seen : List ℕ  -- what reads give
+  pub first : List ℕ  -- what was down before the calls
+  pub calls : List Call  -- oldest first
   pub room : Room
 
 -- these contents, put down, and no room
 abbrev pub fresh : List ℕ → Drive
 fresh contents = record {
-    seen = contents
-  ; first = contents
-  ; calls = []
-  ; room = record { end = 0; bytes = 0; calls = 0 }
-  }
+  seen = contents;
+  first = contents;
+  calls = [];
+  room = record { end = 0; bytes = 0; calls = 0 };
+}
 
 -- how many bytes are wanting before a write past the end: zeros are read there
 abbrev pub gap : ℕ → List ℕ → List ℕ → ℕ
@@ -31,7 +31,7 @@ gap place piece seen = cond (length piece == 0) 0 (place - length seen)
 -- these bytes with the piece written over them
 abbrev pub overwritten : ℕ → List ℕ → List ℕ → List ℕ
 overwritten place piece seen =
-  (take place seen ++ replicate (gap place piece seen) 0) ++ piece ++ drop (place + length piece) seen
+    (take place seen ++ replicate (gap place piece seen) 0) ++ piece ++ drop (place + length piece) seen
 
 -- the room that a call which writes so many bytes leaves
 abbrev pub less : ℕ → Room → Room
@@ -40,10 +40,10 @@ less count room = record room { bytes = room.bytes - count; calls = room.calls -
 -- a write of count bytes was begun, and reads give these bytes now
 abbrev pub write_leaving : ℕ → ℕ → List ℕ → Drive → Drive
 write_leaving place count seen drive = record drive {
-    seen = seen
-  ; calls = drive.calls ++ Wrote place count ∷ []
-  ; room = less count drive.room
-  }
+  seen = seen;
+  calls = drive.calls ++ Wrote place count ∷ [];
+  room = less count drive.room;
+}
 
 abbrev pub write_on : ℕ → List ℕ → Drive → Drive
 write_on place piece drive = write_leaving place (length piece) (overwritten place piece drive.seen) drive
@@ -111,7 +111,7 @@ pub record IsImage (down : Down) (image : List ℕ) : Type 0 where
   pub no_shorter : length down.contents ≤ length image
   pub no_longer : length image ≤ furthest (length down.contents) down.ranges
   pub stays : (k : ℕ) → k < length down.contents → IsTrue (not (is_written k down.ranges))
-    → slice_index image k ≡ slice_index down.contents k
+      → slice_index image k ≡ slice_index down.contents k
 
 -- a crash now may leave it
 abbrev pub MayLeave : Drive → List ℕ → Type 0
@@ -120,4 +120,4 @@ MayLeave drive image = IsImage (down_at drive (now drive)) image
 -- a crash at this moment or some later one may have left it
 abbrev pub LeftSince : Drive → ℕ → List ℕ → Type 0
 LeftSince drive since image =
-  (moment : ℕ) × (since ≤ moment) × (moment ≤ now drive) × IsImage (down_at drive moment) image
+    (moment : ℕ) × (since ≤ moment) × (moment ≤ now drive) × IsImage (down_at drive moment) image

@@ -34,17 +34,17 @@ end-of-front place few count le = grind (arith, nat_tests)
 pub after_write : (down : Down) (seen piece : List ℕ) (place count : ℕ) → length piece ≤ count → IsImage down seen
     → IsImage (down_after down (Wrote place count)) (overwritten place piece seen)
 after_write down seen piece place count front image = record {
-    no_shorter = let e = length-overwritten place piece seen in omega arith
-  ; no_longer =
+  no_shorter = let e = length-overwritten place piece seen in omega arith;
+  no_longer =
       let e = length-overwritten place piece seen in
       let l = end-of-front place (length piece) count front in
-      omega arith
-  ; stays = λ k within free.
+      omega arith;
+  stays = λ k within free.
       let parts = newest-misses k (place, count) down.ranges free in
       let apart = nearer k place (length piece) count front (outside-range k place count parts.0) in
       let inside : k < length seen = omega arith in
-      get_or-overwritten place piece seen k apart inside ∙ image.stays k within parts.1
-  }
+      get_or-overwritten place piece seen k apart inside ∙ image.stays k within parts.1;
+}
 
 -- the state at the end of the calls that a disk in memory has kept
 abbrev pub down_of : List ℕ → List Call → Down

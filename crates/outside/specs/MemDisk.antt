@@ -6,11 +6,11 @@ use Rattle.outside.specs.declared.mem_disk.MemDisk.{MemDisk}
 
 abbrev pub drive_of : {P : Type 0} → MemDisk P → Drive
 drive_of disk = record {
-    seen = disk.seen.items
-  ; first = disk.first.items
-  ; calls = calls_after disk.first.items disk.log.items (reverse disk.done.items)
-  ; room = disk.room
-  }
+  seen = disk.seen.items;
+  first = disk.first.items;
+  calls = calls_after disk.first.items disk.log.items (reverse disk.done.items);
+  room = disk.room;
+}
 
 abbrev pub plan_of : {P : Type 0} → MemDisk P → P
 plan_of disk = disk.failures

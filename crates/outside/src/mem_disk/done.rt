@@ -3,10 +3,6 @@
 #[derive(Clone, Copy, Debug, PartialEq, Eq)]
 pub enum Done {
     /// So many bytes were written from a place on, and so many more were to be.
-    Write {
-        at: u64,
-        kept: usize,
-        lost: usize,
-    },
+    Write { at: u64, kept: usize, lost: usize },
     Sync,
 }
