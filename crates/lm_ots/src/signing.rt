@@ -35,14 +35,27 @@ pub fn signed_value(
     )
 }
 
-// The signature's typecode and randomizer, with room for the rest.
-fn signature_front(alloc: Global, ots: OtsType, random: &Digest) -> Result<Vec<u8>, AllocError>
-    ensures { IfOk result (λ front. front.items ≡ u32_bytes (ots_code_of ots) ++ random.now) }
+// The bytes with the typecode and the randomizer of a signature behind them.
+fn put_front(mut bytes: Vec<u8>, ots: OtsType, random: &Digest) -> Result<Vec<u8>, AllocError>
+    ensures { IfOk result (λ front. front.items ≡ bytes.items ++ u32_bytes (ots_code_of ots) ++ random.now) }
 {
-    let mut front = Vec::with_capacity(alloc, ots.signature_len())?;
-    front.extend_from_slice(&u32_bytes(ots.code()))?;
-    front.extend_from_slice(random.as_bytes())?;
-    Ok(front)
+    bytes.extend_from_slice(&u32_bytes(ots.code()))?;
+    bytes.extend_from_slice(random.as_bytes())?;
+    Ok(bytes)
+}
+
+/// The bytes with the signature of the message by a leaf behind them. It takes no memory where they have room for the
+/// signature.
+pub fn sign_onto(bytes: Vec<u8>, id: &[u8; 16], q: u32, ots: OtsType, seed: &[u8; 32], message: &[u8]) -> Result<Vec<u8>, AllocError>
+    ensures { IfOk result (λ signed. signed.items ≡ bytes.items ++ ots_signature id.now q ots seed.now message.now) }
+{
+    let random = secret(id, q, RANDOMIZER, seed);
+    let digits = digits_of(id, q, ots, &random, message);
+    let mut signed = put_front(bytes, ots, &random)?;
+    for i in 0..ots.count() {
+        signed.extend_from_slice(signed_value(id, q, ots, seed, &digits, i).as_bytes())?;
+    }
+    Ok(signed)
 }
 
 /// The signature of the message by a leaf (RFC 8554, section 4.5), a function of leaf, seed and message.
@@ -58,11 +71,6 @@ pub fn sign_ots(
     ensures form { IfOk result (λ signature. IsTrue (is_ots_form ots signature.items)) }
     ensures valid { IfOk result (λ signature. ots_candidate id.now q ots message.now signature.items ≡ ots_public id.now q ots seed.now) }
 {
-    let random = secret(id, q, RANDOMIZER, seed);
-    let digits = digits_of(id, q, ots, &random, message);
-    let mut signature = signature_front(alloc, ots, &random)?;
-    for i in 0..ots.count() {
-        signature.extend_from_slice(signed_value(id, q, ots, seed, &digits, i).as_bytes())?;
-    }
-    Ok(signature)
+    let room = Vec::with_capacity(alloc, ots.signature_len())?;
+    sign_onto(room, id, q, ots, seed, message)
 }
