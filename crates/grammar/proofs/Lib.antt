@@ -1,0 +1,5 @@
+pub mod Tests
+pub mod KindSets
+pub mod Starts
+pub mod Completions
+pub mod Complete
