@@ -112,7 +112,7 @@ module _ (l : Language) (w : IsLanguage l) (g : Grammar l) (N : Nests l) (R : Re
 
   pub complete : {A : Type 0} (p : Rule l A) → is_predictive g p ≡ true → (ts : List l.Token) (v : A) (rest : List l.Token)
       → Spells N counted p ts v → begins l (goes_on g p) rest ≡ false → Takes Deep counted v rest (read R p (ts ++ rest))
-  complete (nothing a) good ts v rest (e, f) after = subst (λ z. Takes Deep counted v rest (read R (nothing a) (z ++ rest))) (sym e) (sym f, refl)
+  complete (nothing a) good ts v rest (e, f) after = subst (λ z. Takes Deep counted v rest (read {l = l} R (nothing a) (z ++ rest))) (sym e) (sym f, refl)
   complete (token k) good ts v rest (real, e, f) after = subst (λ z. Takes Deep counted v rest (taken l k (z ++ rest))) (sym f) (rw (taken_is k v rest e) (refl, refl))
   complete (both p q) good ts v rest (x, y, e, s, r) after =
       let whole : ts ++ rest ≡ x ++ (y ++ rest) = ap (λ z. z ++ rest) e ∙ append_assoc x y rest in

@@ -3,3 +3,6 @@ pub mod KindSets
 pub mod Starts
 pub mod Completions
 pub mod Complete
+pub mod Shorter
+pub mod Widen
+pub mod Traced
