@@ -1,12 +1,12 @@
 -- Texts that a rule has: with nothing inside, empty, and with a given first token.
-use Rattle.std.proofs.Common.{◌≡◌, ℕ, zero, suc, ◌≤◌, Bool, true, false, cond, List, [], ◌∷◌, ◌++◌, length, Option, Some, None, refl, ◌⊎◌, inl, inr, ap, sym, ◌∙◌, subst, arith, append_assoc}
+use Rattle.std.proofs.Common.{◌≡◌, ℕ, Bool, true, false, cond, List, [], ◌∷◌, ◌++◌, Option, Some, None, refl, ◌⊎◌, inl, inr, sym, arith, append_assoc}
 use Rattle.std.proofs.lemmas.List.{append-nil}
-use Rattle.std.specs.Prelude.{not, ◌&&◌, ◌||◌}
+use Rattle.std.specs.Prelude.{◌&&◌}
 use Rattle.grammar.specs.Language.{Language, IsLanguage}
-use Rattle.grammar.specs.Rule.{Rule, Grammar, nothing, token, both, either, many, means, inside}
-use Rattle.grammar.specs.Text.{Nests, Within, Repeats, Spells, NestsIn, IsText}
+use Rattle.grammar.specs.Rule.{Rule, nothing, token, both, either, many, means, inside}
+use Rattle.grammar.specs.Text.{Nests, Within, Spells}
 use Rattle.grammar.specs.Checks.{has, is_nullable, first, is_plain, is_completable}
-use Rattle.grammar.proofs.Tests.{or_either, or_from_left, or_from_right, and_left, and_right}
+use Rattle.grammar.proofs.Truths.{or_either, or_from_left, or_from_right, and_left, and_right}
 use Rattle.grammar.proofs.KindSets.{has_one}
 
 pub within_none : (counted : Bool) (limit : Option ℕ) → Within counted limit 0
@@ -21,9 +21,10 @@ Begun {l} {A} N counted p ts = (more : List l.Token) × (v : A) × Spells N coun
 has_in : (l : Language) (a b : List l.Kind) (k : l.Kind) → has l (a ++ b) k ≡ true → (has l a k ≡ true) ⊎ (has l b k ≡ true)
 has_in l [] b k e = inr e
 has_in l (x ∷ a) b k e =
-    elim (or_either (l.same x k) _ e)
-    [ inl h ↦ inl (or_from_left (l.same x k) _ h)
-    | inr h ↦ elim (has_in l a b k h) [ inl i ↦ inl (or_from_right (l.same x k) _ i) | inr i ↦ inr i ] ]
+    elim (or_either (l.same x k) _ e) [
+      | inl h ↦ inl (or_from_left (l.same x k) _ h)
+      | inr h ↦ elim (has_in l a b k h) [ inl i ↦ inl (or_from_right (l.same x k) _ i) | inr i ↦ inr i ]
+    ]
 
 when_has : (l : Language) (b : Bool) (a : List l.Kind) (k : l.Kind) → has l (cond b a []) k ≡ true → (b ≡ true) × (has l a k ≡ true)
 when_has l true a k e = (refl, e)
@@ -38,9 +39,10 @@ module _ (l : Language) (w : IsLanguage l) (N : Nests l) (counted : Bool) where
       let b = plain q (and_right (is_plain p) _ e) in
       (a.0 ++ b.0, (a.1, b.1), (a.0, b.0, refl, a.2, b.2))
   plain (either p q) e =
-      elim (or_either (is_plain p) _ e)
-      [ inl h ↦ let a = plain p h in (a.0, a.1, inl a.2)
-      | inr h ↦ let b = plain q h in (b.0, b.1, inr b.2) ]
+      elim (or_either (is_plain p) _ e) [
+        | inl h ↦ let a = plain p h in (a.0, a.1, inl a.2)
+        | inr h ↦ let b = plain q h in (b.0, b.1, inr b.2)
+      ]
   plain (many limit p) e = ([], [], (within_none counted limit, refl))
   plain (means f p) e = let a = plain p e in (a.0, f a.1, (a.1, a.2, refl))
   plain (inside k n) e = absurd (cc)
@@ -53,9 +55,10 @@ module _ (l : Language) (w : IsLanguage l) (N : Nests l) (counted : Bool) where
       let b = empty q (and_right (is_nullable p) _ e) in
       ((a.0, b.0), ([], [], refl, a.1, b.1))
   empty (either p q) e =
-      elim (or_either (is_nullable p) _ e)
-      [ inl h ↦ let a = empty p h in (a.0, inl a.1)
-      | inr h ↦ let b = empty q h in (b.0, inr b.1) ]
+      elim (or_either (is_nullable p) _ e) [
+        | inl h ↦ let a = empty p h in (a.0, inl a.1)
+        | inr h ↦ let b = empty q h in (b.0, inr b.1)
+      ]
   empty (many limit p) e = ([], (within_none counted limit, refl))
   empty (means f p) e = let a = empty p e in (f a.0, (a.0, a.1, refl))
   empty (inside k n) e = absurd (cc)
@@ -80,16 +83,18 @@ module _ (l : Language) (w : IsLanguage l) (N : Nests l) (has_some : (n : l.Nont
   opened (token k) t e real h = begun_one k t real (sym (has_one l w k (l.kind t) h))
   opened (both p q) t e real h =
       let plain_q : is_plain q ≡ true = and_left _ _ (and_left _ (is_completable q) e) in
-      elim (has_in l (first p) _ (l.kind t) h)
-      [ inl here ↦ begun_first l w N false p q (t ∷ []) plain_q (opened p t (and_right (is_plain q) _ (and_left _ (is_completable q) e)) real here)
-      | inr later ↦
-          let none = empty l w N false p (when_has l (is_nullable p) (first q) (l.kind t) later).0 in
-          begun_second l w N false p q [] (t ∷ []) none.0 none.1
-              (opened q t (and_right (is_plain q && is_completable p) _ e) real (when_has l (is_nullable p) (first q) (l.kind t) later).1) ]
+      elim (has_in l (first p) _ (l.kind t) h) [
+        | inl here ↦ begun_first l w N false p q (t ∷ []) plain_q (opened p t (and_right (is_plain q) _ (and_left _ (is_completable q) e)) real here)
+        | inr later ↦
+            let none = empty l w N false p (when_has l (is_nullable p) (first q) (l.kind t) later).0 in
+            begun_second l w N false p q [] (t ∷ []) none.0 none.1
+            (opened q t (and_right (is_plain q && is_completable p) _ e) real (when_has l (is_nullable p) (first q) (l.kind t) later).1)
+      ]
   opened (either p q) t e real h =
-      elim (has_in l (first p) _ (l.kind t) h)
-      [ inl here ↦ let b = opened p t (and_left _ _ e) real here in (b.0, b.1, inl b.2)
-      | inr later ↦ let b = opened q t (and_right (is_completable p) _ e) real later in (b.0, b.1, inr b.2) ]
+      elim (has_in l (first p) _ (l.kind t) h) [
+        | inl here ↦ let b = opened p t (and_left _ _ e) real here in (b.0, b.1, inl b.2)
+        | inr later ↦ let b = opened q t (and_right (is_completable p) _ e) real later in (b.0, b.1, inr b.2)
+      ]
   opened (many limit p) t e real h = begun_part l w N false limit p (t ∷ []) tt (opened p t e real h)
   opened (means f p) t e real h = let b = opened p t e real h in (b.0, f b.1, (b.1, b.2, refl))
   opened (inside k n) t e real h =

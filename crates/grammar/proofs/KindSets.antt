@@ -1,10 +1,9 @@
 -- Lists of kinds as sets.
-use Rattle.std.proofs.Common.{◌≡◌, Bool, true, false, List, [], ◌∷◌, ◌++◌, refl, ◌⊎◌, inl, inr, ap, sym, ◌∙◌, subst}
-use Rattle.std.specs.Prelude.{not, ◌&&◌, ◌||◌}
-use Rattle.std.specs.List.{list_any, list_all}
+use Rattle.std.proofs.Common.{◌≡◌, true, false, List, [], ◌∷◌, ◌++◌, refl, inl, inr, subst}
+use Rattle.std.specs.Prelude.{not}
 use Rattle.grammar.specs.Language.{Language, IsLanguage}
 use Rattle.grammar.specs.Checks.{has, are_apart, are_among}
-use Rattle.grammar.proofs.Tests.{and_left, and_right, or_left, or_right, or_either, or_from_left, or_from_right, not_true}
+use Rattle.grammar.proofs.Truths.{and_left, and_right, or_left, or_right, or_either, or_from_left, or_from_right, not_true}
 
 module _ (l : Language) (w : IsLanguage l) where
   pub has_in_left : (a b : List l.Kind) (k : l.Kind) → has l a k ≡ true → has l (a ++ b) k ≡ true

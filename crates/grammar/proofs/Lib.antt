@@ -1,4 +1,4 @@
-pub mod Tests
+pub mod Truths
 pub mod KindSets
 pub mod Starts
 pub mod Completions
@@ -6,3 +6,5 @@ pub mod Complete
 pub mod Shorter
 pub mod Widen
 pub mod Traced
+pub mod Levels
+pub mod Judged

@@ -1,12 +1,11 @@
 -- Reading leaves fewer tokens, so a repetition is read round by round, whatever its fuel.
-use Rattle.std.proofs.Common.{◌≡◌, ℕ, zero, suc, ◌+◌, ◌≤◌, ◌<◌, Bool, true, false, cond, List, [], ◌∷◌, ◌++◌, length, Option, Some, None, Result, Ok, Err, refl, ◌⊎◌, inl, inr, ap, sym, ◌∙◌, subst, arith}
-use Rattle.std.specs.Prelude.{not, ◌&&◌, ◌||◌, if◌then◌else◌}
-use Rattle.grammar.specs.Language.{Language, IsLanguage}
+use Rattle.std.proofs.Common.{◌≡◌, ℕ, zero, suc, ◌+◌, ◌≤◌, Bool, true, false, cond, List, [], ◌∷◌, length, Option, Ok, Err, refl, ap, subst, arith}
+use Rattle.std.specs.Prelude.{◌&&◌, ◌||◌, if◌then◌else◌}
+use Rattle.grammar.specs.Language.{Language}
 use Rattle.grammar.specs.Rule.{Rule, Grammar, nothing, token, both, either, many, means, inside}
-use Rattle.grammar.specs.Checks.{has, is_nullable, first}
+use Rattle.grammar.specs.Checks.{is_nullable, first}
 use Rattle.grammar.specs.Reading.{Found, Reader, begins, and_then, taken, is_full, one_less, rounds, read, reader}
-use Rattle.grammar.specs.declared.Stop.TheVariants.{Syntax, Nesting, TooMany}
-use Rattle.grammar.proofs.Tests.{tested}
+use Rattle.grammar.specs.declared.Stop.TheVariants.{Syntax, TooMany}
 
 -- what was read took at least so many tokens
 abbrev pub Shortens : {T A : Type 0} → ℕ → List T → Found T A → Type 0
@@ -58,8 +57,8 @@ shortens_rounds : {T A : Type 0} (go : List T → Bool) (next : List T → Found
 shortens_rounds go next part limit zero ts = omega arith
 shortens_rounds go next part limit (suc fuel) ts =
     shortens_choice (go ts) (is_full limit) ts _
-        (shortens_then 0 0 ts (next ts) _ (part ts)
-            (λ v rest. shortens_ended 0 rest (rounds go next (one_less limit) fuel rest) _ (shortens_rounds go next part (one_less limit) fuel rest)))
+    (shortens_then 0 0 ts (next ts) _ (part ts)
+    (λ v rest. shortens_ended 0 rest (rounds go next (one_less limit) fuel rest) _ (shortens_rounds go next part (one_less limit) fuel rest)))
 
 module _ (l : Language) (R : Reader l) (nested : (n : l.Nonterminal) (t : l.Token) (ts : List l.Token) → Shortens 0 ts (R n t ts)) where
   shortens_taken : (k : l.Kind) (ts : List l.Token) → Shortens 1 ts (taken l k ts)
@@ -79,12 +78,12 @@ module _ (l : Language) (R : Reader l) (nested : (n : l.Nonterminal) (t : l.Toke
   shorter (token k) ts = shortens_taken k ts
   shorter (both p q) ts =
       shortens_less (least (is_nullable p) + least (is_nullable q)) (least (is_nullable p && is_nullable q)) ts (read R (both p q) ts) (least_and (is_nullable p) (is_nullable q))
-          (shortens_then (least (is_nullable p)) (least (is_nullable q)) ts (read R p ts) _ (shorter p ts)
-              (λ v mid. shortens_ended (least (is_nullable q)) mid (read R q mid) _ (shorter q mid)))
+      (shortens_then (least (is_nullable p)) (least (is_nullable q)) ts (read R p ts) _ (shorter p ts)
+      (λ v mid. shortens_ended (least (is_nullable q)) mid (read R q mid) _ (shorter q mid)))
   shorter (either p q) ts =
       shortens_either (begins l (first p) ts) (least (is_nullable p || is_nullable q)) ts (read R p ts) (read R q ts)
-          (shortens_less _ _ ts (read R p ts) (least_or_left (is_nullable p) (is_nullable q)) (shorter p ts))
-          (shortens_less _ _ ts (read R q ts) (least_or_right (is_nullable p) (is_nullable q)) (shorter q ts))
+      (shortens_less _ _ ts (read R p ts) (least_or_left (is_nullable p) (is_nullable q)) (shorter p ts))
+      (shortens_less _ _ ts (read R q ts) (least_or_right (is_nullable p) (is_nullable q)) (shorter q ts))
   shorter (many limit p) ts =
       shortens_rounds (begins l (first p)) (read R p) (λ z. shortens_less (least (is_nullable p)) 0 z (read R p z) (omega arith) (shorter p z)) limit (length ts) ts
   shorter (means f p) ts = shortens_ended (least (is_nullable p)) ts (read R p ts) f (shorter p ts)
@@ -109,8 +108,8 @@ rounds_enough go next none part limit (suc fuel) zero [] h i = rw none refl
 rounds_enough go next none part limit (suc fuel) zero (t ∷ ts) h i = absurd (omega arith)
 rounds_enough go next none part limit (suc fuel) (suc more) ts h i =
     ap (λ z. cond (go ts) (cond (is_full limit) (Err TooMany, ts) z) (Ok [], ts))
-        (same_then ts (next ts) _ _ (part ts)
-            (λ v mid s. ap (λ z. and_then z (λ vs end. (Ok (v ∷ vs), end))) (rounds_enough go next none part (one_less limit) fuel more mid (omega arith) (omega arith))))
+    (same_then ts (next ts) _ _ (part ts)
+    (λ v mid s. ap (λ z. and_then z (λ vs end. (Ok (v ∷ vs), end))) (rounds_enough go next none part (one_less limit) fuel more mid (omega arith) (omega arith))))
 
 -- one round, and the others
 abbrev pub round : {l : Language} {A : Type 0} → Reader l → Option ℕ → Rule l A → List l.Token → Found l.Token (List A)
@@ -121,9 +120,9 @@ pub many_step : (l : Language) (R : Reader l) {A : Type 0} (p : Rule l A) → ((
 many_step l R p part limit [] = refl
 many_step l R p part limit (t ∷ ts) =
     ap (λ z. cond (begins l (first p) (t ∷ ts)) (cond (is_full limit) (Err TooMany, t ∷ ts) z) (Ok [], t ∷ ts))
-        (same_then (t ∷ ts) (read R p (t ∷ ts)) _ _ (part (t ∷ ts))
-            (λ v mid s. ap (λ z. and_then z (λ vs end. (Ok (v ∷ vs), end)))
-                (rounds_enough (begins l (first p)) (read R p) refl part (one_less limit) (length ts) (length mid) mid (omega arith) (omega arith))))
+    (same_then (t ∷ ts) (read R p (t ∷ ts)) _ _ (part (t ∷ ts))
+    (λ v mid s. ap (λ z. and_then z (λ vs end. (Ok (v ∷ vs), end)))
+    (rounds_enough (begins l (first p)) (read R p) refl part (one_less limit) (length ts) (length mid) mid (omega arith) (omega arith))))
 
 -- a rule with no empty text takes a token
 pub solid_shorter : (l : Language) (g : Grammar l) (m : ℕ) {A : Type 0} (p : Rule l A) → is_nullable p ≡ false → (ts : List l.Token) → Shortens 1 ts (read (reader g m) p ts)

@@ -1,13 +1,12 @@
 -- What a text begins with.
-use Rattle.std.proofs.Common.{◌≡◌, ℕ, Bool, true, false, cond, List, [], ◌∷◌, ◌++◌, Option, refl, ◌⊎◌, inl, inr, ap, sym, ◌∙◌, subst}
-use Rattle.std.specs.Prelude.{not, ◌&&◌, ◌||◌}
+use Rattle.std.proofs.Common.{◌≡◌, ℕ, Bool, true, false, cond, List, [], ◌∷◌, ◌++◌, Option, refl, inl, inr, sym, subst}
 use Rattle.grammar.specs.Language.{Language, IsLanguage}
-use Rattle.grammar.specs.Rule.{Rule, Grammar, nothing, token, both, either, many, means, inside}
+use Rattle.grammar.specs.Rule.{Rule, nothing, token, both, either, many, means, inside}
 use Rattle.grammar.specs.Text.{Nests, Repeats, Spells}
-use Rattle.grammar.specs.Checks.{has, are_apart, is_nullable, first}
+use Rattle.grammar.specs.Checks.{has, is_nullable, first}
 use Rattle.grammar.specs.Reading.{begins}
-use Rattle.grammar.proofs.Tests.{or_from_left, or_from_right, not_both, tested, and_left, and_right}
-use Rattle.grammar.proofs.KindSets.{has_in_left, has_in_right, has_not_left, has_not_right, has_itself, apart_not, among_has}
+use Rattle.grammar.proofs.Truths.{or_from_left, or_from_right}
+use Rattle.grammar.proofs.KindSets.{has_in_left, has_in_right, has_not_left, has_not_right, has_itself}
 
 -- the empty text is of a nullable rule, and any other begins with one of its first kinds
 abbrev pub Starts : {l : Language} {A : Type 0} → Rule l A → List l.Token → Type 0

@@ -1,8 +1,8 @@
 -- A text stays one where more nests and limits are looser.
-use Rattle.std.proofs.Common.{◌≡◌, ℕ, zero, suc, ◌≤◌, Bool, true, false, List, [], ◌∷◌, ◌++◌, length, Option, Some, None, refl, ◌⊎◌, inl, inr}
-use Rattle.grammar.specs.Language.{Language, IsLanguage}
+use Rattle.std.proofs.Common.{ℕ, zero, suc, Bool, true, false, List, [], ◌∷◌, length, Option, inl, inr}
+use Rattle.grammar.specs.Language.{Language}
 use Rattle.grammar.specs.Rule.{Rule, Grammar, nothing, token, both, either, many, means, inside}
-use Rattle.grammar.specs.Text.{Nests, Within, Repeats, Spells, NestsIn, IsText}
+use Rattle.grammar.specs.Text.{Nests, Within, Repeats, Spells, NestsIn}
 
 module _ (l : Language) (N M : Nests l) (c d : Bool) (nests : (n : l.Nonterminal) (ts : List l.Token) (v : l.Tree) → N n ts v → M n ts v)
     (loose : (limit : Option ℕ) (n : ℕ) → Within c limit n → Within d limit n) where

@@ -3,3 +3,4 @@ pub mod Rule
 pub mod Text
 pub mod Reading
 pub mod Checks
+pub mod Example

@@ -43,8 +43,8 @@ rounds go next limit zero ts = (Ok [], ts)
 rounds go next limit (suc fuel) ts =
     if go ts
     then (if is_full limit
-        then (Err TooMany, ts)
-        else and_then (next ts) (λ v rest. and_then (rounds go next (one_less limit) fuel rest) (λ vs end. (Ok (v ∷ vs), end))))
+    then (Err TooMany, ts)
+    else and_then (next ts) (λ v rest. and_then (rounds go next (one_less limit) fuel rest) (λ vs end. (Ok (v ∷ vs), end))))
     else (Ok [], ts)
 
 abbrev pub read : {l : Language} {A : Type 0} → Reader l → Rule l A → List l.Token → Found l.Token A

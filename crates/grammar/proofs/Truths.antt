@@ -1,5 +1,5 @@
 -- What the parts of a test that is true or false say.
-use Rattle.std.proofs.Common.{◌≡◌, Bool, true, false, cond, refl, inl, inr, ◌⊎◌}
+use Rattle.std.proofs.Common.{◌≡◌, Bool, true, false, refl, inl, inr, ◌⊎◌}
 use Rattle.std.specs.Prelude.{not, ◌&&◌, ◌||◌}
 
 pub and_left : (a b : Bool) → (a && b) ≡ true → a ≡ true
