@@ -1,0 +1,10 @@
+pub mod FailAt
+pub mod Failure
+pub mod MemNet
+pub mod MemShelf
+pub mod MemSink
+pub mod Miss
+pub mod Rose
+pub mod Shelf
+pub mod Sink
+pub mod Wire

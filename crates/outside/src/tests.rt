@@ -1,0 +1,2 @@
+//! Each object once, on its plain path and at a failure.
+use super::*;

@@ -1,0 +1,3 @@
+pub use Rattle.vo_spec.specs.Sha256
+pub use Rattle.vo_spec.specs.Collides
+pub mod Holding

@@ -1,0 +1,39 @@
+//! A digest of pieces that come one after another.
+ghost use Rattle.std.specs.Prelude.{◌≡◌, ℕ, List, [], ◌++◌};
+ghost use Rattle.vo_spec.specs.Sha256.{sha256};
+ghost use Rattle.tagged_hash.specs.Holding.{Holds};
+
+use sha2::{Digest as _, Sha256};
+use vo_spec::Digest;
+
+/// A hasher of the pieces that were added, joined.
+#[derive(Drop)]
+pub struct Hasher {
+    inner: Sha256,
+}
+
+#[tactic(auto, unfolding(crate::specs::Holding::Holds))]
+impl Hasher {
+    /// A hasher of no bytes.
+    pub fn new() -> Hasher
+        ensures { Holds result [] }
+    {
+        Hasher {
+            inner: Sha256::new(),
+        }
+    }
+
+    /// Adds a piece.
+    pub fn add(&mut self, piece: &[u8])
+        ensures { (bytes : List ℕ) → Holds self.old bytes → Holds self.new (bytes ++ piece.now) }
+    {
+        self.inner.update(piece);
+    }
+
+    /// The digest of all pieces.
+    pub fn end(self) -> Digest
+        ensures { (bytes : List ℕ) → Holds self bytes → result ≡ sha256 bytes }
+    {
+        Digest::new(self.inner.finalize())
+    }
+}

@@ -1,0 +1,36 @@
+//! Digests from outside, and collisions that are none.
+use super::*;
+use std::test::Fail;
+
+// SHA-256 of no bytes, and of `abc` (FIPS 180-4's example).
+const EMPTY: [u8; 32] = [
+    0xe3, 0xb0, 0xc4, 0x42, 0x98, 0xfc, 0x1c, 0x14, 0x9a, 0xfb, 0xf4, 0xc8, 0x99, 0x6f, 0xb9, 0x24,
+    0x27, 0xae, 0x41, 0xe4, 0x64, 0x9b, 0x93, 0x4c, 0xa4, 0x95, 0x99, 0x1b, 0x78, 0x52, 0xb8, 0x55,
+];
+
+const ABC: [u8; 32] = [
+    0xba, 0x78, 0x16, 0xbf, 0x8f, 0x01, 0xcf, 0xea, 0x41, 0x41, 0x40, 0xde, 0x5d, 0xae, 0x22, 0x23,
+    0xb0, 0x03, 0x61, 0xa3, 0x96, 0x17, 0x7a, 0x9c, 0xb4, 0x10, 0xff, 0x61, 0xf2, 0x00, 0x15, 0xad,
+];
+
+#[test]
+fn digests_are_the_standards(rt: HostRuntime) {
+    assert_eq!(rt; digest_of(b""), Digest::new(EMPTY));
+    assert_eq!(rt; digest_of(b"abc"), Digest::new(ABC));
+    let mut hasher = Hasher::new();
+    hasher.add(b"a");
+    hasher.add(b"");
+    hasher.add(b"bc");
+    assert_eq!(rt; *hasher.end().as_bytes(), ABC);
+}
+
+#[test]
+fn finds_no_collision(rt: HostRuntime) -> Result<(), Fail> {
+    let alloc = rt.alloc();
+    for other in [b"abc", b"abd"] {
+        let first = Vec::from_slice(alloc, b"abc")?;
+        let second = Vec::from_slice(alloc, other)?;
+        assert!(rt; collision(first, second).is_none());
+    }
+    Ok(())
+}

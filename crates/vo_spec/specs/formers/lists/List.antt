@@ -1,0 +1,50 @@
+-- How a `List` holds its items, so that a type may hold lists of itself: as the `Vec` inside it does.
+use mathlib.Core.Path.{◌≡◌, refl, sym}
+use mathlib.Core.List as core
+use mathlib.Core.Former.{Former, this, list, via, children}
+use base.Stored.{code_map}
+use denote.RattleType.{RattleType}
+use denote.HoleLaws.{Alike}
+use denote.HolePlaces.{Recodes, struct_places, laid}
+use denote.Hole.Carrier.{listed, list-listed}
+use denote.Hole.Fix.{over}
+use denote.Param.Weighed.{Weighed, w_list}
+use denote.Model.Placed.{view_places}
+use Rattle.std.specs.formers.vec.Vec as vec
+use Rattle.std.specs.declared.alloc.Global.{Global}
+use Rattle.std.specs.contracts.alloc.Global as heap
+use Rattle.std.specs.contracts.impls.GlobalAllocator.TheImpl.{ghosts}
+use Rattle.vo_spec.specs.declared.lists.List.TheInside.{Inside}
+use Rattle.vo_spec.specs.declared.lists.List.TheView.{view, invariant}
+use Rattle.vo_spec.specs.contracts.lists.List as contract
+use Rattle.vo_spec.specs.contracts.lists.List.TheInside as inside
+
+-- seen from outside, it is a list
+abbrev pub the_former : Former {0} → Former {0}
+the_former item = list item
+
+abbrev pub the_weighed : {item : Former {0}} → Weighed item → Weighed (the_former item)
+the_weighed weighed = w_list weighed
+
+pub the_empty : core.List ⊥
+the_empty = core.[]
+
+abbrev pub the_items : (X : Type 0) → core.List X → core.List X
+the_items X items = items
+
+pub the_items_listed : (X : Type 0) (items : core.List X) → listed _ (children (the_former this) X items) ≡ the_items X items
+the_items_listed X items = list-listed X items
+
+-- inside, it is a struct whose one field is a `Vec` of the items
+abbrev fields : Former {0}
+fields = via (vec.the_former this Global) Inside (λ X a. a.items) (λ X v. record { items = v }) (λ X a. refl) (λ X v. refl)
+
+module _ (R S : RattleType) (h : R.Denot → S.Denot) where
+  pub the_places : Alike R S h → Alike (contract.the_row R) (contract.the_row S) ((the_former this).map R.Denot S.Denot h)
+  the_places alike = view_places fields (list this) view (λ X Y k u. refl) (λ X u. refl) R.Denot S.Denot h (contract.the_row R).coded (contract.the_row S).coded
+      (invariant R.Denot) (invariant S.Denot) (λ u p q. refl) (λ u p q. refl) (λ u e. tt) (λ u e. tt)
+      (over (inside.the_row R)) (over (inside.the_row S))
+      (struct_places (inside.the_type R) (inside.the_type S) (vec.mapped h, tt) _ (λ d. refl) refl (laid _ _ _ (vec.the_places heap.the_row ghosts R S h alike), tt))
+
+  pub the_codes_placed : Recodes R S h → Recodes (contract.the_row R) (contract.the_row S) ((the_former this).map R.Denot S.Denot h)
+  the_codes_placed recodes items = sym (code_map R.coded.code S.coded.code h (λ x. sym (recodes x)) items)

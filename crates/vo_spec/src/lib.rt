@@ -1,0 +1,30 @@
+//! The plain types of the system, and the definitions that its contracts cite.
+//!
+//! Contracts see these types as themselves: a list as the list of its items, a text, a name, a key and
+//! a digest as their bytes, and every struct and enum as the record or the cases that stand here. So the
+//! definitions in `specs/` speak of the very values that the program passes.
+#![tactic(auto)]
+
+mod checks;
+mod collision;
+mod digest;
+mod keys;
+mod lists;
+mod queries;
+mod records;
+mod signatures;
+mod tables;
+mod texts;
+mod values;
+
+pub use checks::{Answer, AuditFault, CheckFault, Verdict};
+pub use collision::Collision;
+pub use digest::Digest;
+pub use keys::{Bound, Interval, Key};
+pub use lists::List;
+pub use queries::{Cmp, Cond, Items, Join, Operand, Outcome, QueryFault, QueryText, Ref, Source};
+pub use records::{Catalog, CatalogTable, Entry, Record};
+pub use signatures::{LmsType, OtsType};
+pub use tables::{Batch, Column, Command, CommandFault, Schema, SetPart, Table, Tables};
+pub use texts::{Name, Text};
+pub use values::{Kind, Row, Value};
