@@ -1,0 +1,9 @@
+//! SQL texts as tokens.
+#![tactic(auto)]
+
+mod kinds;
+mod lexemes;
+mod words;
+
+pub use kinds::{KEYWORDS, TokenKind};
+pub use lexemes::{Lapse, LexFault, Lexeme};
