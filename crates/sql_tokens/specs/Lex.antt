@@ -1,9 +1,9 @@
 -- The tokens of a text. Each is the longest that begins where it begins; blanks separate them.
-use Rattle.std.specs.Prelude.{ℕ, zero, suc, ◌+◌, ◌-◌, Bool, true, false, not, ◌&&◌, ◌||◌, ◌==◌, nat_le, nat_lt, if◌then◌else◌, List, [], ◌∷◌, length, take, drop, slice_index, Option, Some, None, option_map, Result, Ok, Err, ℤ, pos, neg_ℤ, int_le, int_lt, ◌≡◌, ◌^◌, map, Vec}
+use Rattle.std.specs.Prelude.{ℕ, zero, suc, ◌+◌, ◌-◌, Bool, true, false, not, ◌&&◌, ◌||◌, ◌==◌, nat_le, nat_lt, if◌then◌else◌, List, [], ◌∷◌, length, take, drop, slice_index, Option, Some, None, option_map, Result, Ok, Err, ℤ, pos, neg_ℤ, ◌≡◌, ◌^◌, map, Vec}
 use Rattle.std.specs.Global.{Global}
 use Rattle.std.specs.List.{prefix_len, list_all}
 use Rattle.std.specs.Char.{is_ascii_alphabetic, is_ascii_digit}
-use Rattle.std.specs.Str.Parse.{signed_digits_value}
+use Rattle.std.specs.Str.Parse.{digits_value}
 use Rattle.sql_tokens.specs.declared.kinds.TokenKind.{TokenKind}
 use Rattle.sql_tokens.specs.declared.kinds.TokenKind.TheVariants as k
 use Rattle.sql_tokens.specs.declared.lexemes.Lapse.{Lapse}
@@ -39,14 +39,21 @@ abbrev pub named : Option TokenKind → List ℕ → Result Token Lapse
 named (Some kind) word = Ok (record { kind = kind; text = word; number = pos 0 })
 named None word = if nat_le (length word) 63 then Ok (record { kind = k.Name; text = word; number = pos 0 }) else Err lapse.Name
 
--- a number of 64 bits with a sign
-abbrev pub is_int64 : ℤ → Bool
-is_int64 number = int_le (neg_ℤ (pos (2 ^ 63))) number && int_lt number (pos (2 ^ 63))
+-- the digits behind a minus, if there is one
+abbrev pub digits : List ℕ → List ℕ
+digits text = if slice_index text 0 == 45 then drop 1 text else text
 
-abbrev pub integer : List ℕ → Result Token Lapse
-integer digits =
-    let number = signed_digits_value 10 digits in
-    if is_int64 number then Ok (record { kind = k.Integer; text = digits; number = number }) else Err lapse.Literal
+-- the number, if it has 64 bits with a sign
+abbrev pub integer_value : List ℕ → Option ℤ
+integer_value text =
+    let size = digits_value 10 (digits text) in
+    if slice_index text 0 == 45
+    then (if nat_le size (2 ^ 63) then Some (neg_ℤ (pos size)) else None)
+    else (if nat_lt size (2 ^ 63) then Some (pos size) else None)
+
+abbrev pub integer : Option ℤ → List ℕ → Result Token Lapse
+integer None text = Err lapse.Literal
+integer (Some number) text = Ok (record { kind = k.Integer; text = text; number = number })
 
 -- how many bytes a quoted text goes on for behind its first quote, where `second` says that the byte before was a quote that may be its last;
 -- two quotes stand for one
@@ -63,14 +70,15 @@ single_quotes second (b ∷ bytes) = if second && b == 39 then single_quotes fal
 abbrev pub unquoted : List ℕ → List ℕ
 unquoted text = single_quotes false (take (length text - 2) (drop 1 text))
 
--- at most 1,024 bytes, none below 20 hex
+-- it stands for at most 1,024 bytes, and has none below 20 hex
+abbrev pub fits_text : List ℕ → Bool
+fits_text text = nat_le (length (unquoted text)) 1024 && list_all (λ b. nat_le 32 b) text
+
 abbrev pub quoted : Option ℕ → List ℕ → Result Token Lapse
 quoted None bytes = Err lapse.Token
 quoted (Some len) bytes =
     let text = take (suc len) bytes in
-    if nat_le (length (unquoted text)) 1024 && list_all (nat_le 32) text
-    then Ok (record { kind = k.Quoted; text = text; number = pos 0 })
-    else Err lapse.Literal
+    if fits_text text then Ok (record { kind = k.Quoted; text = text; number = pos 0 }) else Err lapse.Literal
 
 -- the symbol that these two bytes begin with
 abbrev pub symbol : ℕ → ℕ → Option TokenKind
@@ -91,8 +99,8 @@ token_at bytes =
     let first = slice_index bytes 0 in
     let second = slice_index bytes 1 in
     if is_letter first then (let word = take (prefix_len is_word_byte bytes) bytes in named (keyword word) word)
-    else (if is_ascii_digit first then integer (take (prefix_len is_ascii_digit bytes) bytes)
-    else (if first == 45 && is_ascii_digit second then integer (take (suc (prefix_len is_ascii_digit (drop 1 bytes))) bytes)
+    else (if is_ascii_digit first then (let text = take (prefix_len is_ascii_digit bytes) bytes in integer (integer_value text) text)
+    else (if first == 45 && is_ascii_digit second then (let text = take (suc (prefix_len is_ascii_digit (drop 1 bytes))) bytes in integer (integer_value text) text)
     else (if first == 39 then quoted (closing false (drop 1 bytes)) bytes else symbolic (symbol first second) bytes)))
 
 abbrev pub followed : Placed → Result (List Placed) (Lapse × ℕ) → Result (List Placed) (Lapse × ℕ)

@@ -3,6 +3,7 @@
 
 mod kinds;
 mod lexemes;
+mod token;
 mod words;
 
 pub use kinds::{KEYWORDS, TokenKind};
