@@ -1,12 +1,13 @@
 -- What std's `parse` says of an integer's token.
-use Rattle.std.proofs.Common.{◌≡◌, ℕ, ◌+◌, ◌<◌, ◌≤◌, ◌^◌, Bool, true, false, cond, eqb, List, [], ◌∷◌, length, drop, get_or, Option, Some, None, Result, Ok, Err, ℤ, pos, neg_ℤ, refl, ◌⊎◌, inl, inr, sym, ap, ◌∙◌, subst, arith, w64}
+use Rattle.std.proofs.Common.{◌≡◌, ℕ, ◌+◌, ◌<◌, ◌≤◌, ◌^◌, Bool, true, false, cond, eqb, List, [], ◌∷◌, length, take, drop, get_or, suc, Option, Some, None, Result, Ok, Err, ℤ, pos, neg_ℤ, refl, ◌⊎◌, inl, inr, sym, ap, ◌∙◌, subst, arith, w64}
 use Rattle.std.specs.Str.{IsAscii}
 use Rattle.std.specs.Prelude.{slice_index, ◌==◌, nat_le, nat_lt, ◌&&◌}
 use Rattle.std.specs.Result.{OkIff, result_ok}
 use Rattle.std.specs.Str.{all_ascii_digits}
 use Rattle.std.specs.Char.{is_ascii_digit}
+use Rattle.std.specs.List.{prefix_len}
 use Rattle.std.specs.Str.Parse.{digits_value, ParsesSigned}
-use Rattle.std.proofs.lemmas.Str.{IsUtf8-from_ascii}
+use Rattle.std.proofs.Math.Numerals.{one-add}
 use Rattle.std.proofs.lemmas.Str.Ascii.{IsAscii-nil, IsAscii-cons}
 use Rattle.std.proofs.lemmas.Bool.Decides.{nat_tests}
 use Rattle.std.proofs.lemmas.Str.Parse.{IsNumeralModel, numerals_by_value, tells_all_ascii_digits, parse_signed_minus, parse_signed_digits}
@@ -85,3 +86,18 @@ parsed_integer text r h e some = by_minus (slice_index text 0 == 45) refl
         let k = parse_signed_digits own w64 text r h d in
         subst (λ z. result_ok r ≡ value z) (sym m)
             (decided r _ _ (nat_lt (digits_value 10 text) (2 ^ 63)) (λ b. (n, within_lt _ _ b)) (λ b q. past_lt _ _ b q.1) k)
+
+-- the digits that stand first are digits
+pub run_digits : (text : List ℕ) → all_ascii_digits (take (prefix_len is_ascii_digit text) text) ≡ true
+run_digits [] = refl
+run_digits (b ∷ text) = by_digit (is_ascii_digit b) refl (run_digits text)
+  where
+    by_digit : (d : Bool) → is_ascii_digit b ≡ d → all_ascii_digits (take (prefix_len is_ascii_digit text) text) ≡ true
+        → all_ascii_digits (take (cond (is_ascii_digit b) (1 + prefix_len is_ascii_digit text) 0) (b ∷ text)) ≡ true
+    by_digit true e others = rw (e, one-add, e) others
+    by_digit false e others = rw e refl
+
+pub minus_digits : (text : List ℕ) → slice_index text 0 ≡ 45 → all_ascii_digits (digits (take (1 + prefix_len is_ascii_digit (drop 1 text)) text)) ≡ true
+minus_digits [] e = cc
+minus_digits (b ∷ text) e =
+    subst (λ z. all_ascii_digits (digits (take (1 + prefix_len is_ascii_digit text) (z ∷ text))) ≡ true) (sym e) (rw one-add (run_digits text))

@@ -100,7 +100,7 @@ token_at bytes =
     let second = slice_index bytes 1 in
     if is_letter first then (let word = take (prefix_len is_word_byte bytes) bytes in named (keyword word) word)
     else (if is_ascii_digit first then (let text = take (prefix_len is_ascii_digit bytes) bytes in integer (integer_value text) text)
-    else (if first == 45 && is_ascii_digit second then (let text = take (suc (prefix_len is_ascii_digit (drop 1 bytes))) bytes in integer (integer_value text) text)
+    else (if first == 45 && is_ascii_digit second then (let text = take (1 + prefix_len is_ascii_digit (drop 1 bytes)) bytes in integer (integer_value text) text)
     else (if first == 39 then quoted (closing false (drop 1 bytes)) bytes else symbolic (symbol first second) bytes)))
 
 abbrev pub followed : Placed → Result (List Placed) (Lapse × ℕ) → Result (List Placed) (Lapse × ℕ)

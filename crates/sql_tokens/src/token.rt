@@ -74,3 +74,52 @@ fn quoted<'a>(text: &'a [u8], at: usize) -> Result<Lexeme<'a>, Lapse>
         at,
     })
 }
+
+/// The byte behind the first, or 0.
+fn second_byte(text: &[u8]) -> u8
+    ensures value { result ≡ slice_index text.now 1 }
+    ensures one { length text.now ≤ 1 → result ≡ 0 }
+{
+    text.get(1).copied().unwrap_or(0)
+}
+
+fn symbolic<'a>(text: &'a [u8], at: usize) -> Result<Lexeme<'a>, Lapse>
+    requires { 0 < length text.now }
+    ensures value { Gives result (symbolic (symbol (slice_index text.now 0) (slice_index text.now 1)) text.now) }
+    ensures place { IfOk result (λ x. x.at ≡ at) }
+    ensures within { IfOk result (λ x. (1 ≤ length x.text.now) × (length x.text.now ≤ length text.now)) }
+{
+    let kind = words::symbol(text[0], second_byte(text)).ok_or(Lapse::Token)?;
+    let (text, _) = text.split_at(kind.spelling().len());
+    Ok(Lexeme {
+        kind,
+        text,
+        number: 0,
+        at,
+    })
+}
+
+/// The token that a text begins with, where it begins with no blank.
+#[tactic(auto, unfolding(crate::specs::Lex::token_at), using(crate::proofs::Integers::run_digits, crate::proofs::Integers::minus_digits))]
+pub fn token<'a>(text: &'a [u8], at: usize) -> Result<Lexeme<'a>, Lapse>
+    requires { 0 < length text.now }
+    ensures value { Gives result (token_at text.now) }
+    ensures place { IfOk result (λ x. x.at ≡ at) }
+    ensures within { IfOk result (λ x. (1 ≤ length x.text.now) × (length x.text.now ≤ length text.now)) }
+{
+    let first = text[0];
+    if words::is_letter(first) {
+        return word(text, at);
+    }
+    if first.is_ascii_digit() {
+        return number(text, words::digits_len(text), at);
+    }
+    if first == b'-' && second_byte(text).is_ascii_digit() {
+        let (_, digits) = text.split_at(1);
+        return number(text, 1 + words::digits_len(digits), at);
+    }
+    if first == b'\'' {
+        return quoted(text, at);
+    }
+    symbolic(text, at)
+}

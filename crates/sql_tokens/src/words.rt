@@ -1,5 +1,5 @@
 //! Runs of bytes at the head of a text, and what they stand for.
-ghost use Rattle.std.specs.Prelude.{◌≡◌, ◌<◌, ◌≤◌, ◌+◌, length, take, drop, slice_index, option_copied, IfSome, IfOk, false, true, nat_le};
+ghost use Rattle.std.specs.Prelude.{◌≡◌, ◌<◌, ◌≤◌, ◌+◌, length, take, drop, slice_index, option_copied, IfSome, IfOk, false, true, nat_le, ◌==◌, if◌then◌else◌};
 ghost use Rattle.std.specs.Str.{all_ascii_digits};
 ghost use Rattle.std.specs.Str.{str_eq_ignore_ascii_case};
 ghost use Rattle.std.specs.List.{prefix_len, list_all};
@@ -85,7 +85,8 @@ pub fn closing_len(text: &[u8]) -> Option<usize>
 
 /// The symbol that two bytes begin with.
 pub fn symbol(first: u8, second: u8) -> Option<TokenKind>
-    ensures { result ≡ symbol first second }
+    ensures value { result ≡ symbol first second }
+    ensures len { IfSome result (λ kind. (1 ≤ length (spelling kind)) × (length (spelling kind) ≤ (if second == 0 then 1 else 2))) }
 {
     match first {
         b'(' => Some(TokenKind::LeftParen),
