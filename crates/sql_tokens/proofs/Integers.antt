@@ -73,19 +73,20 @@ parsed_integer text r h e some = by_minus (slice_index text 0 == 45) refl
     value minus =
         let size = digits_value 10 (cond minus (drop 1 text) text) in
         cond minus (cond (nat_le size (2 ^ 63)) (Some (neg_ℤ (pos size))) None) (cond (nat_lt size (2 ^ 63)) (Some (pos size)) None)
+
     by_minus : (minus : Bool) → (slice_index text 0 == 45) ≡ minus → result_ok r ≡ integer_value text
     by_minus true m =
         let d : all_ascii_digits (drop 1 text) ≡ true = subst (λ z. all_ascii_digits (cond z (drop 1 text) text) ≡ true) m e in
         let n : 0 < length (drop 1 text) = subst (λ z. 0 < length (cond z (drop 1 text) text)) m some in
         let k = parse_signed_minus own w64 text r h (same_number (slice_index text 0) 45 m) in
         subst (λ z. result_ok r ≡ value z) (sym m)
-            (decided r _ _ (nat_le (digits_value 10 (drop 1 text)) (2 ^ 63)) (λ b. (d, n, within_le _ _ b)) (λ b q. past_le _ _ b q.2) k)
+        (decided r _ _ (nat_le (digits_value 10 (drop 1 text)) (2 ^ 63)) (λ b. (d, n, within_le _ _ b)) (λ b q. past_le _ _ b q.2) k)
     by_minus false m =
         let d : all_ascii_digits text ≡ true = subst (λ z. all_ascii_digits (cond z (drop 1 text) text) ≡ true) m e in
         let n : 0 < length text = subst (λ z. 0 < length (cond z (drop 1 text) text)) m some in
         let k = parse_signed_digits own w64 text r h d in
         subst (λ z. result_ok r ≡ value z) (sym m)
-            (decided r _ _ (nat_lt (digits_value 10 text) (2 ^ 63)) (λ b. (n, within_lt _ _ b)) (λ b q. past_lt _ _ b q.1) k)
+        (decided r _ _ (nat_lt (digits_value 10 text) (2 ^ 63)) (λ b. (n, within_lt _ _ b)) (λ b q. past_lt _ _ b q.1) k)
 
 -- the digits that stand first are digits
 pub run_digits : (text : List ℕ) → all_ascii_digits (take (prefix_len is_ascii_digit text) text) ≡ true

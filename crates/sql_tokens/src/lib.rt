@@ -3,8 +3,10 @@
 
 mod kinds;
 mod lexemes;
+mod scan;
 mod token;
 mod words;
 
 pub use kinds::{KEYWORDS, TokenKind};
 pub use lexemes::{Lapse, LexFault, Lexeme};
+pub use scan::tokens;

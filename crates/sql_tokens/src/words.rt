@@ -65,7 +65,10 @@ fn is_spelled(kind: TokenKind, word: &[u8]) -> bool
 pub fn keyword(word: &[u8]) -> Option<TokenKind>
     ensures { result ≡ keyword word.now }
 {
-    KEYWORDS.iter().copied().find(|kind| is_spelled(*kind, word))
+    KEYWORDS
+        .iter()
+        .copied()
+        .find(|kind| is_spelled(*kind, word))
 }
 
 /// Where a quoted text ends, counted from behind its first quote.
