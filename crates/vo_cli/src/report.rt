@@ -2,6 +2,7 @@
 ghost use Rattle.std.specs.Prelude.{◌≡◌};
 ghost use Rattle.vo_cli.specs.Reports.{status_code};
 
+use std::alloc::AllocError;
 use thiserror::Error;
 
 /// The statuses that come with lines or output of their own.
@@ -53,4 +54,15 @@ pub enum Stop {
     Outside,
     #[error("out of memory")]
     Memory,
+}
+
+impl From<AllocError> for Stop {
+    ghost use Rattle.std.specs.Prelude.{◌≡◌};
+    ghost use Rattle.vo_cli.specs.declared.report.Stop.TheVariants.{Memory};
+
+    ghost from_gives = { λ _ stop. stop ≡ Memory };
+
+    fn from(_error: AllocError) -> Stop {
+        Stop::Memory
+    }
 }
