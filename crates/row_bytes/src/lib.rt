@@ -4,6 +4,7 @@
 mod copies;
 mod cursor;
 mod fault;
+mod fields;
 mod keys;
 mod reading;
 mod text;
@@ -12,6 +13,7 @@ mod writing;
 pub use copies::{copy_values, own_value};
 pub use cursor::Cursor;
 pub use fault::FormFault;
+pub use fields::is_name;
 pub use keys::{key_of, value_of_key};
 pub use reading::take_value;
 pub use vo_spec::{Bound, Interval, Key, Kind, List, Name, Row, Text, Value, ValueRef};

@@ -2,6 +2,7 @@
 #![tactic(auto)]
 
 mod columns;
+mod refusal;
 mod sets;
 
 pub use vo_spec::{

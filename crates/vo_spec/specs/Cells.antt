@@ -1,5 +1,5 @@
 -- Cells, rows and entries of leaves: what is hashed of them, and what they may leave out.
-use Rattle.std.specs.Prelude.{◌≡◌, ℕ, ◌+◌, ◌≤◌, Bool, List, [], ◌∷◌, ◌++◌, map, length, slice_get, Option, Some, None}
+use Rattle.std.specs.Prelude.{◌≡◌, ℕ, ◌+◌, List, [], ◌∷◌, ◌++◌, map, length, slice_get, Option, Some, None}
 use Rattle.sha2.specs.Sha256.{sha256}
 use Rattle.vo_spec.specs.declared.values.Value.{Value}
 use Rattle.vo_spec.specs.declared.values.Row.{Row}
@@ -37,8 +37,11 @@ entry_bytes e = string e.key ++ row_digest e.row
 
 -- A row of a table as an entry, with every cell shown.
 
+abbrev pub whole_cells : List Value → List Cell
+whole_cells = map Shown
+
 abbrev pub whole_row : List Value → RowPart
-whole_row values = Cells (map Shown values)
+whole_row values = Cells (whole_cells values)
 
 abbrev pub whole_entry : Row → PartEntry
 whole_entry row = record { key = row.key; row = whole_row row.cells }

@@ -1,7 +1,7 @@
 -- Merkle B-trees, whole or in part: their nodes, digests, and what a part may leave out of a tree. One
 -- type has them all. A family of trees says what its entries are, and what a node holds of each child
 -- beside the child itself (its mark: nothing, in the trees of rows).
-use Rattle.std.specs.Prelude.{◌≡◌, ℕ, ◌+◌, max, Bool, true, false, List, [], ◌∷◌, ◌++◌, length, flat_map, slice_get, Option}
+use Rattle.std.specs.Prelude.{◌≡◌, ℕ, ◌+◌, max, List, [], ◌∷◌, ◌++◌, length, flat_map}
 use Rattle.std.specs.List.{AllZip}
 use Rattle.sha2.specs.Sha256.{sha256}
 use Rattle.vo_spec.specs.Bytes.{string}
@@ -60,18 +60,22 @@ module _ {E M : Type 0} (family : Family E M) where
   abbrev pub leaf_bytes : List E → List ℕ
   leaf_bytes es = family.leaf_tag ∷ length es ∷ flat_map family.entry_bytes es
 
+  -- an inner node's bytes before its children's
+  abbrev pub inner_head : List (List ℕ) → ℕ → List ℕ
+  inner_head ss children = family.inner_tag ∷ children ∷ flat_map string ss
+
   abbrev mutual
     pub digest_by : Part E M → List ℕ
     digest_by (stub d) = d
     digest_by (leaf es) = sha256 (leaf_bytes es)
-    digest_by (inner ss ps) = sha256 (family.inner_tag ∷ count ps ∷ flat_map string ss ++ child_bytes ps)
+    digest_by (inner ss ps) = sha256 (inner_head ss (count ps) ++ child_bytes ps)
 
     pub child_bytes : Parts E M → List ℕ
     child_bytes none = []
     child_bytes (more m p ps) = digest_by p ++ (family.mark_bytes m ++ child_bytes ps)
 
   abbrev pub inner_bytes : List (List ℕ) → Parts E M → List ℕ
-  inner_bytes ss ps = family.inner_tag ∷ count ps ∷ flat_map string ss ++ child_bytes ps
+  inner_bytes ss ps = inner_head ss (count ps) ++ child_bytes ps
 
   -- a stub has none
   abbrev pub preimage_by : Part E M → List ℕ

@@ -3,7 +3,7 @@
 use Rattle.std.specs.Prelude.{ℕ, List, []}
 use Rattle.vo_spec.specs.declared.cells.PartEntry.{PartEntry}
 use Rattle.vo_spec.specs.Cells.{entry_bytes, EntryPrunes}
-use Rattle.vo_spec.specs.Parts.{Part, Parts, Family, digest_by, preimage_by, PrunesBy, PrunesEach}
+use Rattle.vo_spec.specs.Parts.{Part, Parts, Family, digest_by, preimage_by, PrunesBy}
 
 abbrev pub RowTree : Type 0
 RowTree = Part PartEntry (Unit {0})

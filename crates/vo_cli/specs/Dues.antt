@@ -1,0 +1,64 @@
+-- What a run of the program is due to say, by its words and by the files that it takes.
+use Rattle.std.specs.Prelude.{◌≡◌, ◌⊎◌, ℕ, ◌==◌, nat_lt, if◌then◌else◌, List, [], ◌∷◌, ◌++◌, length, take, drop, codes, decimal, Option, Some, None, option_map}
+use Rattle.outside.specs.Shelf.{Files}
+use Rattle.outside.specs.Sink.{added}
+use Rattle.vo_spec.specs.declared.signatures.OtsType.TheVariants.{W8}
+use Rattle.vo_spec.specs.Secret.{Secret, public_of_secret, lms_of_height}
+use Rattle.vo_words.specs.Asked.{Asked, Keygen, Seal, Answer, Check, Audit}
+use Rattle.vo_cli.specs.Lines.{Said, line, done, refused_input}
+
+-- These lines; or what fits, where more than one answer does.
+pub data Due : Type 0 where
+  Exactly : (said : Said) → Due
+
+abbrev pub Fits : Due → Said → Type 0
+Fits (Exactly due) said = said ≡ due
+
+-- the outside failed
+abbrev pub outside_failed : Said
+outside_failed = record { status = 3; bytes = line (codes "fault: outside") }
+
+abbrev pub refused_words : Said
+refused_words = refused_input (codes "words" ∷ [])
+
+-- the rest of the work on a file; an absent one fails, and one over its limit is refused
+abbrev pub with_file : Files → List ℕ → ℕ → (List ℕ → Due) → Due
+with_file files name limit rest = with_taken (files name) name limit rest
+  where
+    with_taken : Option (List ℕ) → List ℕ → ℕ → (List ℕ → Due) → Due
+    with_taken None name limit rest = Exactly outside_failed
+    with_taken (Some bytes) name limit rest =
+        if nat_lt limit (length bytes) then Exactly (refused_input (codes "file too long" ∷ name ∷ [])) else rest bytes
+
+-- a seed file: the identifier and the seed, 48 bytes
+abbrev pub seed_limit : ℕ
+seed_limit = 48
+
+abbrev pub secret_in : List ℕ → ℕ → Secret
+secret_in bytes height = record { id = take 16 bytes; seed = drop 16 bytes; ots = W8; lms = lms_of_height height }
+
+abbrev pub with_seed : Files → List ℕ → ℕ → (Secret → Due) → Due
+with_seed files name height rest = with_file files name seed_limit (λ bytes.
+    if length bytes == seed_limit then rest (secret_in bytes height)
+    else Exactly (refused_input (codes "seed file" ∷ decimal (length bytes) ∷ [])))
+
+-- what the words ask for; commands that aren't there yet are refused words
+abbrev pub due_to : Option Files → Option Asked → Option Due
+due_to files None = Some (Exactly refused_words)
+due_to files (Some (Keygen seed height)) = option_map (λ files. with_seed files seed height (λ secret. Exactly (done (public_of_secret secret)))) files
+due_to files (Some _) = Some (Exactly refused_words)
+
+-- The output after an end with what is said: all of it was put; or the output failed, and a front of it was;
+-- or memory ran out, and nothing was.
+abbrev pub Writes : Said → Type 0 → ℕ → Option (List ℕ) → Option (List ℕ) → Type 0
+Writes said out_rose status before after =
+    ((status ≡ said.status) × (after ≡ added before said.bytes))
+    ⊎ ((status ≡ 3) × out_rose × ((n : ℕ) × (after ≡ added before (take n said.bytes))))
+    ⊎ ((status ≡ 4) × (after ≡ before))
+
+-- A run ends with what is due, or the outside failed, or memory ran out.
+abbrev pub Ends : Due → Type 0 → Type 0 → ℕ → Option (List ℕ) → Option (List ℕ) → Type 0
+Ends due outside_rose out_rose status before after =
+    ((status ≡ 4) × (after ≡ before))
+    ⊎ ((said : Said) × Fits due said × Writes said out_rose status before after)
+    ⊎ (outside_rose × Writes outside_failed out_rose status before after)
