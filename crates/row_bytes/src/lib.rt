@@ -1,6 +1,7 @@
 //! Values, keys and rows as bytes, and intervals of keys.
 #![tactic(auto)]
 
+mod copies;
 mod cursor;
 mod fault;
 mod fields;
@@ -9,6 +10,7 @@ mod reading;
 mod text;
 mod writing;
 
+pub use copies::{copy_values, own_value};
 pub use cursor::Cursor;
 pub use fault::FormFault;
 pub use fields::is_name;

@@ -1,0 +1,11 @@
+//! Plain tables: what commands and batches make of them, and what queries give.
+#![tactic(auto)]
+
+mod columns;
+mod refusal;
+mod sets;
+
+pub use vo_spec::{
+    Batch, Cmp, Column, Command, CommandFault, Cond, Items, Join, Operand, Outcome, QueryFault,
+    QueryText, Ref, Schema, SetPart, Source, Table,
+};
