@@ -35,4 +35,4 @@ pub use signatures::{LmsType, OtsType};
 pub use tables::{Batch, Column, Command, CommandFault, Schema, SetPart, Table, Tables};
 pub use texts::{Name, Text};
 pub use trees::{Agreement, ScanFault, Twins, UpdateFault};
-pub use values::{Kind, Row, Value};
+pub use values::{Kind, Row, Value, copy_values};

@@ -1,0 +1,6 @@
+pub mod Codes
+pub mod View
+pub mod Sizes
+pub mod Hashed
+pub mod Whole
+pub mod WholeSizes

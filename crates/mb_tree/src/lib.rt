@@ -1,0 +1,13 @@
+//! Merkle B-trees, whole and in part.
+#![tactic(auto)]
+
+mod branches;
+mod entries;
+mod hashing;
+mod part_digest;
+mod parts;
+
+pub use branches::{Branch, Node};
+pub use entries::{HashedCells, TreeEntry};
+pub use parts::{Nodes, PartTree};
+pub use vo_spec::{Agreement, KeyPart, PartEntry, ScanFault, Twins, UpdateFault};
