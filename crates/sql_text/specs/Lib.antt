@@ -1,0 +1,4 @@
+pub mod Tokens
+pub mod Rules
+pub mod Queries
+pub mod Commands

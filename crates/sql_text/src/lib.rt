@@ -1,0 +1,2 @@
+//! SQL texts: read by their grammar, and printed.
+#![tactic(auto)]
