@@ -2,3 +2,4 @@ pub mod Tokens
 pub mod Rules
 pub mod Queries
 pub mod Commands
+pub mod Parsing
