@@ -36,7 +36,7 @@ abbrev pub seed_limit : ℕ
 seed_limit = 48
 
 abbrev pub secret_in : List ℕ → ℕ → Secret
-secret_in bytes height = secret_of (take 16 bytes) (drop 16 bytes) W8 (lms_of_height height)
+secret_in bytes height = secret_of (take 16 bytes) (take 32 (drop 16 bytes)) W8 (lms_of_height height)
 
 abbrev pub with_secret : ℕ → (Secret → Due) → List ℕ → Due
 with_secret height rest bytes =

@@ -63,24 +63,22 @@ fn secret_key(alloc: Global, bytes: &[u8], height: Height) -> Result<SecretKey, 
     ensures told { GoesOn (λ key. key) (λ rest. with_secret (number_of height) rest bytes.now) result }
     ensures inside { IsErrOf result Stop.Outside → ⊥ }
 {
-    match parts_of(bytes) {
-        Some((id, seed)) => Ok(SecretKey::make(alloc, id, seed, OtsType::W8, height.number())?),
-        None => {
-            let words = [Word::Phrase("seed file"), Word::Number(bytes.len() as u64)];
-            Err(Stop::Says(refusal(alloc, Status::RefusedInput, &words)?))
-        }
-    }
+    let Some((id, seed)) = parts_of(bytes) else {
+        let words = [Word::Phrase("seed file"), Word::Number(bytes.len() as u64)];
+        return Err(Stop::Says(refusal(alloc, Status::RefusedInput, &words)?));
+    };
+    Ok(SecretKey::make(alloc, *id, *seed, OtsType::W8, height.number())?)
 }
 
 /// The identifier and the seed, where there are 48 bytes.
-fn parts_of(bytes: &[u8]) -> Option<([u8; 16], [u8; 32])>
+fn parts_of(bytes: &[u8]) -> Option<(&[u8; 16], &[u8; 32])>
     ensures some { is_some result ≡ (length bytes.now == seed_limit) }
-    ensures parts { IfSome result (λ parts. (parts.0 ≡ take 16 bytes.now) × (parts.1 ≡ drop 16 bytes.now)) }
+    ensures parts { IfSome result (λ parts. (parts.0.now ≡ take 16 bytes.now) × (parts.1.now ≡ take 32 (drop 16 bytes.now))) }
 {
     let (id, rest) = bytes.split_first_chunk::<16>()?;
     let (seed, rest) = rest.split_first_chunk::<32>()?;
     if rest.is_empty() {
-        Some((*id, *seed))
+        Some((id, seed))
     } else {
         None
     }

@@ -1,5 +1,5 @@
 //! What a run of the program comes to: a status, and what it writes.
-ghost use Rattle.std.specs.Prelude.{◌≡◌};
+ghost use Rattle.std.specs.Prelude.{◌≡◌, ◌≢◌};
 ghost use Rattle.vo_cli.specs.Reports.{status_code};
 
 use std::alloc::AllocError;
@@ -24,7 +24,8 @@ pub enum Status {
 impl Status {
     /// The exit status.
     pub fn code(self) -> u8
-        ensures { result ≡ status_code self }
+        ensures value { result ≡ status_code self }
+        ensures own { (result ≢ 3) × (result ≢ 4) }
     {
         match self {
             Status::Done => 0,

@@ -1,10 +1,10 @@
 //! The top call.
-ghost use Rattle.std.specs.Prelude.{◌≡◌, ◌⊎◌, ℕ, ◌≤◌, map, string_bytes, IfSome, IsErrOf};
+ghost use Rattle.std.specs.Prelude.{◌≡◌, ◌≢◌, ◌⊎◌, ℕ, ◌≤◌, map, string_bytes, IfSome, IsErrOf};
 ghost use Rattle.outside.specs.Rose.{Rose};
 ghost use Rattle.vo_words.specs.Asked.{asked_by};
 ghost use Rattle.vo_words.specs.Request.{asked};
-ghost use Rattle.vo_cli.specs.Dues.{due_to, Ends, HoldsEach, file_words};
-ghost use Rattle.vo_cli.specs.Reports.{Answers};
+ghost use Rattle.vo_cli.specs.Dues.{due_to, Ends, Writes, HoldsEach, file_words};
+ghost use Rattle.vo_cli.specs.Reports.{Answers, said_of};
 
 use crate::keygen::keygen;
 use crate::printed::Word;
@@ -38,10 +38,9 @@ pub fn run<F: Shelf, D: Disk, N: Net, S: Sink>(
     ensures disk { disk.new ≡ disk.old }
     ensures net { net.new ≡ net.old }
 {
-    let _ = (&disk, &net);
     match work(alloc, words, files) {
-        Ok(report) => write(out, report.status.code(), &report.bytes),
-        Err(Stop::Says(report)) => write(out, report.status.code(), &report.bytes),
+        Ok(report) => say(out, &report),
+        Err(Stop::Says(report)) => say(out, &report),
         Err(Stop::Outside) => write(out, 3, b"fault: outside\n"),
         Err(Stop::Memory) => 4,
     }
@@ -62,8 +61,22 @@ fn work<F: Shelf>(alloc: Global, words: &[String], files: &mut F) -> Result<Repo
     }
 }
 
+fn say<S: Sink>(out: &mut S, report: &Report) -> u8
+    ensures wrote { Writes (said_of report.now) (Rose (S.faults out.old) (S.faults out.new))
+        result (S.written out.old) (S.written out.new) }
+    ensures outside { result ≡ 3 → Rose (S.faults out.old) (S.faults out.new) }
+    ensures memory { result ≡ 4 → S.written out.new ≡ S.written out.old }
+{
+    write(out, report.status.code(), &report.bytes)
+}
+
 /// Puts all output in one piece. A failing output gives 3 whatever the status was.
-fn write<S: Sink>(out: &mut S, status: u8, bytes: &[u8]) -> u8 {
+fn write<S: Sink>(out: &mut S, status: u8, bytes: &[u8]) -> u8
+    ensures wrote { Writes (record { status = status; bytes = bytes.now }) (Rose (S.faults out.old) (S.faults out.new))
+        result (S.written out.old) (S.written out.new) }
+    ensures outside { status ≢ 3 → result ≡ 3 → Rose (S.faults out.old) (S.faults out.new) }
+    ensures memory { status ≢ 4 → result ≡ 4 → S.written out.new ≡ S.written out.old }
+{
     match out.put(bytes) {
         Ok(()) => status,
         Err(PutFault::Failed) => 3,
