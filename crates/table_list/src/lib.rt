@@ -2,8 +2,10 @@
 #![tactic(auto)]
 
 mod columns;
+mod place;
 mod refusal;
 mod sets;
+mod sharing;
 
 pub use vo_spec::{
     Batch, Cmp, Column, Command, CommandFault, Cond, Items, Join, Operand, Outcome, QueryFault,

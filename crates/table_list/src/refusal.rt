@@ -118,3 +118,33 @@ fn delete_fault(heading: HeadingRef<'_>, column: &[u8], value: &Value) -> Option
     }
     None
 }
+
+/// The first of a command's tests that holds, but for those that need the rows. `found` is the table that
+/// the command names, where it is there, and `tables` how many tables there are.
+pub fn refusal(command: &Command, found: Option<HeadingRef<'_>>, tables: usize) -> Option<CommandFault>
+    ensures { (headings : List Heading) → heading_named (command_name command.now) headings ≡ option_map heading_seen found.entry
+        → length headings ≡ tables → result ≡ refusal command.now headings }
+{
+    match (command, found) {
+        (Command::Create { columns, key, .. }, found) => {
+            create_fault(found.is_some(), tables, columns.as_slice(), key.as_bytes())
+        }
+        (_, None) => Some(CommandFault::NoTable),
+        (Command::Drop { .. }, Some(_)) => None,
+        (Command::Insert { values, .. }, Some(heading)) => {
+            insert_fault(heading, values.as_slice())
+        }
+        (
+            Command::Update {
+                sets,
+                column,
+                value,
+                ..
+            },
+            Some(heading),
+        ) => update_fault(heading, sets.as_slice(), column.as_bytes(), value),
+        (Command::Delete { column, value, .. }, Some(heading)) => {
+            delete_fault(heading, column.as_bytes(), value)
+        }
+    }
+}
