@@ -1,2 +1,4 @@
 mod WorkedRows
 mod WorkedTrees
+pub mod KeyOrder
+pub mod ListLaws
