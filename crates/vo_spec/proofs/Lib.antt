@@ -2,3 +2,4 @@ mod WorkedRows
 mod WorkedTrees
 pub mod KeyOrder
 pub mod ListLaws
+pub mod ScanLaws
