@@ -3,3 +3,4 @@ mod WorkedTrees
 pub mod KeyOrder
 pub mod ListLaws
 pub mod ScanLaws
+pub mod SeenLaws
