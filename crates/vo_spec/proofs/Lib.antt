@@ -4,3 +4,4 @@ pub mod KeyOrder
 pub mod ListLaws
 pub mod ScanLaws
 pub mod SeenLaws
+pub mod ValueOrder
