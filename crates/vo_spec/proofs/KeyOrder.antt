@@ -16,7 +16,7 @@ reversed_lt Equal = refl
 reversed_lt Greater = refl
 
 -- `a` is below `b` as the one or the other is compared
-flipped : (a b : List ℕ) → key_lt b a ≡ is_gt (key_cmp a b)
+pub flipped : (a b : List ℕ) → key_lt b a ≡ is_gt (key_cmp a b)
 flipped a b = ap is_lt (order.antisymm b a) ∙ reversed_lt (key_cmp a b)
 
 not_both : (o : Ordering) → is_lt o ≡ true → is_gt o ≡ false

@@ -5,3 +5,4 @@ pub mod ListLaws
 pub mod ScanLaws
 pub mod SeenLaws
 pub mod ValueOrder
+pub mod ConditionLaws
