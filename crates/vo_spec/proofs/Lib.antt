@@ -1,2 +1,8 @@
 mod WorkedRows
 mod WorkedTrees
+pub mod KeyOrder
+pub mod ListLaws
+pub mod ScanLaws
+pub mod SeenLaws
+pub mod ValueOrder
+pub mod ConditionLaws
