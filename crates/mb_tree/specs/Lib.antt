@@ -4,3 +4,4 @@ pub mod Sizes
 pub mod Hashed
 pub mod Whole
 pub mod WholeSizes
+pub mod Standing
