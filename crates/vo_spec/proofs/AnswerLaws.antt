@@ -229,7 +229,7 @@ module _ (ss : List Side) (q : Query) where
 
   -- A left row that fails the left condition gives nothing.
 
-  no_answer : (rows : List Line) → (is_answer ss q rows ≡ true → ⊥) → answer_of rows ≡ []
+  pub no_answer : (rows : List Line) → (is_answer ss q rows ≡ true → ⊥) → answer_of rows ≡ []
   no_answer rows never = step (is_answer ss q rows) refl
     where
       step : (b : Bool) → is_answer ss q rows ≡ b → cond b (map (place_value rows) (shown_places ss q.items) ∷ []) [] ≡ []

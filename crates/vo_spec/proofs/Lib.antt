@@ -7,3 +7,4 @@ pub mod SeenLaws
 pub mod ValueOrder
 pub mod ConditionLaws
 pub mod AnswerLaws
+pub mod JoinLaws
