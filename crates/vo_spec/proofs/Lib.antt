@@ -6,3 +6,5 @@ pub mod ScanLaws
 pub mod SeenLaws
 pub mod ValueOrder
 pub mod ConditionLaws
+pub mod AnswerLaws
+pub mod JoinLaws
