@@ -1,6 +1,6 @@
 -- What an honest owner and an honest store make of batches: the trees of the tables, the proofs of a batch,
 -- catalogs and records, the journal, and the reply to a query.
-use Rattle.std.specs.Prelude.{◌≡◌, ℕ, ◌+◌, ◌-◌, Bool, not, if◌then◌else◌, List, [], ◌∷◌, ◌++◌, map, length, fold, filter, find, take, drop, zip, Option, Some, None, is_some, Result, Ok, Err, slice_get, bytes_eq, unwrap_or, option_map}
+use Rattle.std.specs.Prelude.{◌≡◌, ℕ, ◌-◌, not, if◌then◌else◌, List, [], ◌∷◌, ◌++◌, map, length, fold, filter, find, drop, Option, is_some, Result, Ok, Err, slice_get, bytes_eq, option_map}
 use Rattle.std.specs.Option.{option_map_or}
 use Rattle.std.specs.Result.{result_unwrap_or}
 use Rattle.std.specs.List.{AllZip, AllByRecursion}
