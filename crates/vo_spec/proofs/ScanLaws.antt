@@ -21,7 +21,7 @@ use Rattle.vo_spec.specs.Parts.{stub, leaf, inner, none, more, entries, entries_
 use Rattle.vo_spec.specs.Trees.{RowTree, RowTrees, row_family, Prunes}
 use Rattle.vo_spec.specs.Scans.{is_above, is_below, in_interval, is_empty_interval, ends_above, begins_below, visits, put_before, joined, values_in, with_key, seen_entries, seen_in, seen_in_each, seen}
 use Rattle.vo_spec.specs.Pruned.{walk_for, misses, misses_in, going_in, going_on, is_any, named, hides_any, is_missing}
-use Rattle.vo_spec.specs.Standing.{is_from, is_before, is_between, IsNode, AreNodes, IsTree, fewest_in_root}
+use Rattle.vo_spec.specs.Standing.{is_from, is_before, is_up_to, is_between, is_within, IsNode, AreNodes, IsTree, fewest_in_root}
 use Rattle.vo_spec.specs.Inserts.{half}
 use Rattle.vo_spec.proofs.KeyOrder.{key_lt_back, key_le_le, key_lt_le, key_lt_lt}
 use Rattle.vo_spec.proofs.ListLaws.{IsIn, each_of, each_both, each_weaker, none_any, in_filter, in_flat_map}
@@ -267,23 +267,27 @@ passed_by interval lower upper key e from before = elim (and_cases (ends_above i
 
 -- The keys of a whole tree are between its bounds.
 
-narrower_before : (lower upper : Option (List ℕ)) (s key : List ℕ) → is_between lower upper s ≡ true → is_before (Some s) key ≡ true → is_before upper key ≡ true
+narrower_before : (lower upper : Option (List ℕ)) (s key : List ℕ) → is_within lower upper s ≡ true → is_before (Some s) key ≡ true
+    → is_before upper key ≡ true
 narrower_before lower None s key e b = refl
-narrower_before lower (Some u) s key e b = key_lt_lt key s u b (and_parts (is_from lower s) (key_lt s u) e).1
+narrower_before lower (Some u) s key e b =
+    key_lt_le key s u b (not-true (key_lt u s) (and_parts (is_from lower s) (not (key_lt u s)) e).1)
 
-narrower_from : (lower upper : Option (List ℕ)) (s key : List ℕ) → is_between lower upper s ≡ true → is_from (Some s) key ≡ true → is_from lower key ≡ true
+narrower_from : (lower upper : Option (List ℕ)) (s key : List ℕ) → is_within lower upper s ≡ true → is_from (Some s) key ≡ true
+    → is_from lower key ≡ true
 narrower_from None upper s key e b = refl
 narrower_from (Some l) upper s key e b =
-    not_from_false (key_lt key l) (key_le_le l s key (not-true (key_lt s l) (and_parts (not (key_lt s l)) (is_before upper s) e).0) (not-true (key_lt key s) b))
+    not_from_false (key_lt key l)
+    (key_le_le l s key (not-true (key_lt s l) (and_parts (not (key_lt s l)) (is_up_to upper s) e).0) (not-true (key_lt key s) b))
 
-abbrev Between : Option (List ℕ) → Option (List ℕ) → PartEntry → Type 0
+abbrev pub Between : Option (List ℕ) → Option (List ℕ) → PartEntry → Type 0
 Between lower upper e = is_between lower upper e.key ≡ true
 
-left_between : (lower upper : Option (List ℕ)) (s : List ℕ) → is_between lower upper s ≡ true → (e : PartEntry) → Between lower (Some s) e → Between lower upper e
+left_between : (lower upper : Option (List ℕ)) (s : List ℕ) → is_within lower upper s ≡ true → (e : PartEntry) → Between lower (Some s) e → Between lower upper e
 left_between lower upper s b e h = let p = and_parts (is_from lower e.key) (key_lt e.key s) h in
     and_from (is_from lower e.key) (is_before upper e.key) p.0 (narrower_before lower upper s e.key b p.1)
 
-right_between : (lower upper : Option (List ℕ)) (s : List ℕ) → is_between lower upper s ≡ true → (e : PartEntry) → Between (Some s) upper e → Between lower upper e
+right_between : (lower upper : Option (List ℕ)) (s : List ℕ) → is_within lower upper s ≡ true → (e : PartEntry) → Between (Some s) upper e → Between lower upper e
 right_between lower upper s b e h = let p = and_parts (not (key_lt e.key s)) (is_before upper e.key) h in
     and_from (is_from lower e.key) (is_before upper e.key) (narrower_from lower upper s e.key b p.0) p.1
 
