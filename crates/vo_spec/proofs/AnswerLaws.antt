@@ -1,29 +1,26 @@
 -- The answers of a query, left row by left row: rows that are alike in what the query names give the same
 -- answers, and a left row outside the interval, or that fails the left condition, gives none.
-use Rattle.std.proofs.Common.{◌≡◌, ℕ, zero, suc, ◌+◌, ◌<◌, ◌≤◌, Bool, true, false, cond, List, [], ◌∷◌, ◌++◌, Option, Some, None, length, map, inl, inr, refl, sym, ap, ◌∙◌, subst, arith}
-use Rattle.std.specs.Prelude.{◌||◌, ◌&&◌, ◌⊎◌, ◌==◌, not, filter, flat_map, slice_index_or, option_to_list}
+use Rattle.std.proofs.Common.{◌≡◌, ℕ, zero, suc, ◌+◌, ◌<◌, ◌≤◌, Bool, true, false, cond, List, [], ◌∷◌, ◌++◌, Option, Some, None, length, map, inl, inr, refl, ap, ◌∙◌, subst, arith}
+use Rattle.std.specs.Prelude.{◌&&◌, ◌⊎◌, ◌==◌, not, flat_map, slice_index_or}
 use Rattle.std.specs.Option.{option_map_or}
 use Rattle.std.specs.List.{list_any, AllByRecursion, position_or_len}
 use Rattle.std.proofs.lemmas.List.Concat.{flat_map-append}
 use Rattle.std.proofs.lemmas.Bool.{and_parts, and_from, both_ways, eqb-true, eq-eqb, ltb-true, cases_Bool, not_from_false, or_left, or_right}
-use Rattle.vo_spec.specs.declared.values.Kind.{Kind}
 use Rattle.vo_spec.specs.declared.values.Value.{Value}
 use Rattle.vo_spec.specs.declared.values.Row.{Row}
-use Rattle.vo_spec.specs.declared.tables.Schema.{Schema}
-use Rattle.vo_spec.specs.declared.keys.Interval.{Interval}
 use Rattle.vo_spec.specs.declared.queries.Ref.{Ref}
 use Rattle.vo_spec.specs.declared.queries.Join.{Join}
 use Rattle.vo_spec.specs.declared.queries.Items.{Items}
 use Rattle.vo_spec.specs.declared.queries.Items.TheVariants.{All, Refs}
 use Rattle.vo_spec.specs.declared.queries.Operand.{Operand}
-use Rattle.vo_spec.specs.Values.{value_cmp, value_of_key, IsKeyOf}
-use Rattle.vo_spec.specs.Tables.{column_at, column_number, has_column, cell_number, value_at}
+use Rattle.vo_spec.specs.Values.{value_of_key, IsKeyOf}
+use Rattle.vo_spec.specs.Tables.{column_at, has_column, cell_number}
 use Rattle.vo_spec.specs.Conditions.{Condition, condition_refs, comparisons, is_met, Query, FitsOperand, FitsQuery}
-use Rattle.vo_spec.specs.Results.{Side, Place, side_at, schema_at, place_of, ref_kind, kind_at, means_column_of, speaks_of, item_refs, join_refs, query_refs, numbers_from, places_in, shown_places, Line, line_of, no_line, place_value, ref_value, is_joined, is_answer, combinations, answer_rows, kind_fault}
+use Rattle.vo_spec.specs.Results.{Side, Place, side_at, schema_at, place_of, means_column_of, speaks_of, item_refs, join_refs, query_refs, numbers_from, places_in, shown_places, Line, line_of, no_line, place_value, ref_value, is_joined, is_answer, combinations, answer_rows}
 use Rattle.vo_spec.specs.Scans.{in_interval}
-use Rattle.vo_spec.specs.Needs.{all_keys, interval_of, is_left_key, left_truth, meets_left, is_place, shows_all, is_named_column, named_columns, named_cells, left_need}
+use Rattle.vo_spec.specs.Needs.{all_keys, interval_of, left_truth, meets_left, is_place, shows_all, is_named_column, named_columns, named_cells, left_need}
 use Rattle.vo_spec.specs.Checks.{key_kind}
-use Rattle.vo_spec.proofs.ListLaws.{IsIn, each_of, each_from, each_left, each_right, each_both, each_map, any_in, in_filter, in_left, in_right, in_map, filtered_map, flat_map_map, flat_map_flat_map}
+use Rattle.vo_spec.proofs.ListLaws.{IsIn, each_from, each_left, each_right, each_both, each_map, any_in, in_filter, in_map, filtered_map, flat_map_map}
 use Rattle.vo_spec.proofs.SeenLaws.{Alike}
 use Rattle.vo_spec.proofs.ConditionLaws.{Same, SameLeft, same_truth, same_left, left_met, met_inside, ReadsKey, KindsAgree}
 
@@ -43,9 +40,9 @@ passes {A} test (x ∷ xs) d lt = step (test x) refl lt (passes test xs d)
 in_numbers : (first n c : ℕ) → first ≤ c → c < first + n → IsIn c (numbers_from first n)
 in_numbers first zero c low high = absurd (omega arith)
 in_numbers first (suc n) c low high = elim (cases_Bool (c == first)) [
-    | inl e ↦ inl (eqb-true c first e)
-    | inr e ↦ inr (in_numbers (first + 1) n c (above e) (omega arith))
-  ]
+  | inl e ↦ inl (eqb-true c first e)
+  | inr e ↦ inr (in_numbers (first + 1) n c (above e) (omega arith))
+]
   where
     above : (c == first) ≡ false → first + 1 ≤ c
     above e = let other : c ≡ first → ⊥ = λ s. both_ways (c == first) e (eq-eqb c first s) in omega arith
@@ -103,12 +100,12 @@ module _ (ss : List Side) (q : Query) where
   named : (side column : ℕ) → column < length (schema_at ss side).columns → is_named_column ss q side column ≡ true
       → ((column == (schema_at ss side).key) ≡ true) ⊎ IsIn (cell_number (schema_at ss side).key column) (named_cells ss q side)
   named side column lt e = elim (cases_Bool (column == (schema_at ss side).key)) [
-      | inl f ↦ inl f
-      | inr f ↦ inr (in_map (cell_number (schema_at ss side).key) (named_columns ss q side) column
-          (in_filter (λ c. not (c == (schema_at ss side).key) && is_named_column ss q side c) (numbers_from 0 (length (schema_at ss side).columns)) column
-              (in_numbers 0 (length (schema_at ss side).columns) column (omega arith) (omega arith))
-              (and_from (not (column == (schema_at ss side).key)) (is_named_column ss q side column) (not_from_false (column == (schema_at ss side).key) f) e)))
-    ]
+    | inl f ↦ inl f
+    | inr f ↦ inr (in_map (cell_number (schema_at ss side).key) (named_columns ss q side) column
+        (in_filter (λ c. not (c == (schema_at ss side).key) && is_named_column ss q side c) (numbers_from 0 (length (schema_at ss side).columns)) column
+        (in_numbers 0 (length (schema_at ss side).columns) column (omega arith) (omega arith))
+        (and_from (not (column == (schema_at ss side).key)) (is_named_column ss q side column) (not_from_false (column == (schema_at ss side).key) f) e)))
+  ]
 
   itself : (p : Place) → is_place p p ≡ true
   itself p = and_from (p.side == p.side) (p.column == p.column) (eq-eqb p.side p.side refl) (eq-eqb p.column p.column refl)
@@ -185,11 +182,11 @@ module _ (ss : List Side) (q : Query) where
   pub same_answer : (rows others : List Line) → Agree rows others → answer_of rows ≡ answer_of others
   same_answer rows others a =
       ap (λ b. cond b (map (place_value rows) (shown_places ss q.items) ∷ []) [])
-          (ap (λ b. b && is_met (ref_value ss rows) q.condition) (same_joined rows others a q.join joins_read)
-          ∙ ap (λ b. is_joined ss others q.join && b) (same_met rows others a q.condition conditions_read))
+      (ap (λ b. b && is_met (ref_value ss rows) q.condition) (same_joined rows others a q.join joins_read)
+      ∙ ap (λ b. is_joined ss others q.join && b) (same_met rows others a q.condition conditions_read))
       ∙ ap (λ shown. cond (is_answer ss q others) (shown ∷ []) [])
-          (same_map (place_value rows) (place_value others) (shown_places ss q.items)
-              (same_places rows others a (shown_places ss q.items) (shown_read q.items refl)))
+      (same_map (place_value rows) (place_value others) (shown_places ss q.items)
+      (same_places rows others a (shown_places ss q.items) (shown_read q.items refl)))
 
   -- Lines that are alike in a side's named cells.
   abbrev pub AlikeIn : ℕ → Line → Line → Type 0
@@ -275,9 +272,10 @@ module _ (ss : List Side) (q : Query) where
           → (slice_index_or (line_of (schema_at ss 0) row ∷ rest) side no_line column ≡ value_of_key (key_kind (schema_at ss 0)) row.key)
           × ((column_at (schema_at ss side).columns column).kind ≡ key_kind (schema_at ss 0))
       at side column z f =
-          let same : column ≡ (schema_at ss 0).key = eqb-true column (schema_at ss 0).key f in
-          ( ap (λ n. slice_index_or (line_of (schema_at ss 0) row ∷ rest) n no_line column) z ∙ line_key column f
-          , ap (λ n. (column_at (schema_at ss n).columns column).kind) z ∙ ap (λ c. (column_at (schema_at ss 0).columns c).kind) same )
+          let same : column ≡ (schema_at ss 0).key = eqb-true column (schema_at ss 0).key f in (
+            ap (λ n. slice_index_or (line_of (schema_at ss 0) row ∷ rest) n no_line column) z ∙ line_key column f,
+            ap (λ n. (column_at (schema_at ss n).columns column).kind) z ∙ ap (λ c. (column_at (schema_at ss 0).columns c).kind) same,
+          )
 
   pub outside_gives_none : (row : Row) → IsKeyOf (key_kind (schema_at ss 0)) row.key
       → AllByRecursion (KindsAgree ss) (option_map_or comparisons q.condition []) → FitsQuery q

@@ -1,11 +1,11 @@
 -- Conditions: a condition's truth goes by what its references give; a row that meets one meets its left
 -- part, and has its key in the interval.
-use Rattle.std.proofs.Common.{◌≡◌, ℕ, Bool, true, false, cond, List, [], ◌∷◌, ◌++◌, Option, Some, None, Ordering, inl, inr, refl, sym, ap, ◌∙◌, subst}
-use Rattle.std.specs.Prelude.{◌||◌, ◌&&◌, ◌==◌, not}
+use Rattle.std.proofs.Common.{◌≡◌, ℕ, Bool, true, false, cond, List, [], ◌∷◌, Some, None, Ordering, refl, sym, ap, ◌∙◌}
+use Rattle.std.specs.Prelude.{◌==◌, not}
 use Rattle.std.specs.List.{list_all, AllByRecursion}
 use Rattle.std.specs.declared.cmp.Ordering.TheVariants.{Less, Equal, Greater}
 use Rattle.std.specs.Ordering.{is_lt, is_gt, is_eq, is_le, is_ge}
-use Rattle.std.proofs.lemmas.Bool.{and_parts, and_from, both_ways}
+use Rattle.std.proofs.lemmas.Bool.{and_parts, and_from}
 use Rattle.vo_spec.specs.declared.values.Kind.{Kind}
 use Rattle.vo_spec.specs.declared.values.Kind.TheVariants as kind
 use Rattle.vo_spec.specs.declared.values.Value.{Value}
@@ -14,19 +14,18 @@ use Rattle.vo_spec.specs.declared.queries.Cmp.{Cmp}
 use Rattle.vo_spec.specs.declared.queries.Cmp.TheVariants as cmp
 use Rattle.vo_spec.specs.declared.queries.Operand.{Operand}
 use Rattle.vo_spec.specs.declared.queries.Operand.TheVariants.{Ref as Column, Literal}
-use Rattle.vo_spec.specs.declared.queries.QueryFault.{QueryFault}
 use Rattle.vo_spec.specs.declared.queries.QueryFault.TheVariants.{TypeMismatch}
 use Rattle.vo_spec.specs.declared.keys.Bound.{Bound}
 use Rattle.vo_spec.specs.declared.keys.Bound.TheVariants.{Absent, Inclusive, Exclusive}
 use Rattle.vo_spec.specs.declared.keys.Interval.{Interval}
 use Rattle.vo_spec.specs.Values.{kind_of, same_kind, key_of, key_cmp, key_lt, value_cmp, value_of_key, IsKeyOf}
 use Rattle.vo_spec.specs.Conditions.{Condition, Conditions, every, some, negated, test, none, more, operand_refs, condition_refs, conditions_refs, comparisons, comparisons_in, compares, operand_value, truth, all_true, any_true, FitsOperand}
-use Rattle.vo_spec.specs.Results.{Side, Place, schema_at, place_of, ref_kind, operand_kind, kind_fault}
+use Rattle.vo_spec.specs.Results.{Side, schema_at, place_of, ref_kind, kind_fault}
 use Rattle.vo_spec.specs.Scans.{is_above, is_below, in_interval}
 use Rattle.vo_spec.specs.Needs.{all_keys, keys_that, higher, lower, shared, is_left_key, test_interval, interval_of, interval_of_all, is_left, left_truth, left_truths}
 use Rattle.vo_spec.specs.Checks.{key_kind}
 use Rattle.vo_spec.proofs.KeyOrder.{flipped}
-use Rattle.vo_spec.proofs.ListLaws.{each_left, each_right, each_weaker}
+use Rattle.vo_spec.proofs.ListLaws.{each_left, each_right}
 use Rattle.vo_spec.proofs.ValueOrder.{keys_in_order}
 
 -- Rows that give the same for each reference of a condition agree on it.
@@ -48,14 +47,18 @@ mutual
   same_all : (row other : Ref → Value) (cs : Conditions) → AllByRecursion (Same row other) (conditions_refs cs) → all_true row cs ≡ all_true other cs
   same_all row other none all = refl
   same_all row other (more c cs) all =
-      rw (same_truth row other c (each_left (Same row other) (condition_refs c) (conditions_refs cs) all),
-          same_all row other cs (each_right (Same row other) (condition_refs c) (conditions_refs cs) all)) refl
+      rw (
+        same_truth row other c (each_left (Same row other) (condition_refs c) (conditions_refs cs) all),
+        same_all row other cs (each_right (Same row other) (condition_refs c) (conditions_refs cs) all),
+      ) refl
 
   same_any : (row other : Ref → Value) (cs : Conditions) → AllByRecursion (Same row other) (conditions_refs cs) → any_true row cs ≡ any_true other cs
   same_any row other none all = refl
   same_any row other (more c cs) all =
-      rw (same_truth row other c (each_left (Same row other) (condition_refs c) (conditions_refs cs) all),
-          same_any row other cs (each_right (Same row other) (condition_refs c) (conditions_refs cs) all)) refl
+      rw (
+        same_truth row other c (each_left (Same row other) (condition_refs c) (conditions_refs cs) all),
+        same_any row other cs (each_right (Same row other) (condition_refs c) (conditions_refs cs) all),
+      ) refl
 
 -- The left condition goes by the references that mean left columns.
 
@@ -88,14 +91,16 @@ mutual
       same_choice (is_left ss (negated c)) (truth row (negated c)) (truth other (negated c)) (left_same ss row other (negated c) all)
   same_left ss row other (test left op right) all =
       same_choice (is_left ss (test left op right)) (truth row (test left op right)) (truth other (test left op right))
-          (left_same ss row other (test left op right) all)
+      (left_same ss row other (test left op right) all)
 
   same_lefts : (ss : List Side) (row other : Ref → Value) (cs : Conditions) → AllByRecursion (SameLeft ss row other) (conditions_refs cs)
       → left_truths ss row cs ≡ left_truths ss other cs
   same_lefts ss row other none all = refl
   same_lefts ss row other (more c cs) all =
-      rw (same_left ss row other c (each_left (SameLeft ss row other) (condition_refs c) (conditions_refs cs) all),
-          same_lefts ss row other cs (each_right (SameLeft ss row other) (condition_refs c) (conditions_refs cs) all)) refl
+      rw (
+        same_left ss row other c (each_left (SameLeft ss row other) (condition_refs c) (conditions_refs cs) all),
+        same_lefts ss row other cs (each_right (SameLeft ss row other) (condition_refs c) (conditions_refs cs) all),
+      ) refl
 
 -- A row that meets a condition meets its left part.
 
@@ -120,8 +125,8 @@ mutual
   lefts_met ss row left (more c cs) all e =
       let p = and_parts (truth row c) (all_true row cs) e in
       and_from (left_truth ss left c) (left_truths ss left cs)
-          (left_met ss row left c (each_left (SameLeft ss row left) (condition_refs c) (conditions_refs cs) all) p.0)
-          (lefts_met ss row left cs (each_right (SameLeft ss row left) (condition_refs c) (conditions_refs cs) all) p.1)
+      (left_met ss row left c (each_left (SameLeft ss row left) (condition_refs c) (conditions_refs cs) all) p.0)
+      (lefts_met ss row left cs (each_right (SameLeft ss row left) (condition_refs c) (conditions_refs cs) all) p.1)
 
 -- What two intervals have, the interval that they share has.
 
@@ -229,7 +234,7 @@ tested_inside ss row key left op (Literal v) is reads kinds fits e = step (is_le
         let r = reads left f in
         let same : kind_of v ≡ key_kind (schema_at ss 0) = kinds_are ss left v kinds ∙ r.1 in
         key_among op key (key_of v)
-            (ap (compares op) (sym (ap (λ x. value_cmp x v) r.0 ∙ keys_in_order (key_kind (schema_at ss 0)) key v is same fits)) ∙ e)
+        (ap (compares op) (sym (ap (λ x. value_cmp x v) r.0 ∙ keys_in_order (key_kind (schema_at ss 0)) key v is same fits)) ∙ e)
     step false f = refl
 
 mutual
@@ -250,7 +255,7 @@ mutual
   all_inside ss row key (more c cs) is reads kinds fits e =
       let p = and_parts (truth row c) (all_true row cs) e in
       in_shared (interval_of ss c) (interval_of_all ss cs) key
-          (met_inside ss row key c is reads (each_left (KindsAgree ss) (comparisons c) (comparisons_in cs) kinds)
-              (each_left Fitting (comparisons c) (comparisons_in cs) fits) p.0)
-          (all_inside ss row key cs is reads (each_right (KindsAgree ss) (comparisons c) (comparisons_in cs) kinds)
-              (each_right Fitting (comparisons c) (comparisons_in cs) fits) p.1)
+      (met_inside ss row key c is reads (each_left (KindsAgree ss) (comparisons c) (comparisons_in cs) kinds)
+      (each_left Fitting (comparisons c) (comparisons_in cs) fits) p.0)
+      (all_inside ss row key cs is reads (each_right (KindsAgree ss) (comparisons c) (comparisons_in cs) kinds)
+      (each_right Fitting (comparisons c) (comparisons_in cs) fits) p.1)

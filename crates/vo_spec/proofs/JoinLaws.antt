@@ -1,12 +1,10 @@
 -- Joins: of a left row's right rows none is outside its interval, and those that are seen give the answers
 -- that all of them give.
-use Rattle.std.proofs.Common.{◌≡◌, ℕ, zero, suc, ◌<◌, Bool, true, false, cond, List, [], ◌∷◌, ◌++◌, Option, Some, None, Ordering, length, map, inl, inr, refl, sym, ap, ◌∙◌, subst, arith}
-use Rattle.std.specs.Prelude.{ℤ, ◌&&◌, ◌==◌, not, flat_map, filter, slice_index_or, bytes_eq, ◌<ℤ◌}
+use Rattle.std.proofs.Common.{◌≡◌, ℕ, ◌<◌, Bool, true, false, cond, List, [], ◌∷◌, Some, None, length, map, refl, sym, ap, ◌∙◌, subst, arith}
+use Rattle.std.specs.Prelude.{ℤ, ◌&&◌, ◌==◌, not, flat_map, slice_index_or, bytes_eq, ◌<ℤ◌}
 use Rattle.std.specs.Option.{option_map_or}
 use Rattle.std.specs.List.{AllByRecursion, AllZip}
-use Rattle.std.specs.declared.cmp.Ordering.TheVariants.{Less, Equal, Greater}
-use Rattle.std.specs.Ordering.{is_eq, int_cmp, nat_cmp, bool_cmp}
-use Rattle.std.specs.Cmp.Lexicographic.{slice_cmp}
+use Rattle.std.specs.Ordering.{is_eq, int_cmp}
 use Rattle.std.proofs.lemmas.Bool.{and_parts, both_ways, eqb-true, eq-eqb}
 use Rattle.std.proofs.lemmas.Cmp.{int_ranked, by_ranked, nat_list_cmp_total, tied_itself}
 use Rattle.std.proofs.lemmas.Map.Text.{is_eq-slice_cmp}
@@ -16,13 +14,11 @@ use Rattle.vo_spec.specs.declared.values.Value.TheVariants.{Int, Text, Bool as T
 use Rattle.vo_spec.specs.declared.values.Row.{Row}
 use Rattle.vo_spec.specs.declared.queries.Cmp.TheVariants as cmp
 use Rattle.vo_spec.specs.declared.queries.Join.{Join}
-use Rattle.vo_spec.specs.declared.queries.QueryFault.{QueryFault}
 use Rattle.vo_spec.specs.declared.queries.QueryFault.TheVariants.{NotKeyJoin, TypeMismatch}
 use Rattle.vo_spec.specs.Firsts.{first_of}
 use Rattle.vo_spec.specs.Values.{same_kind, key_of, key_cmp, value_cmp, value_of_key, IsKeyOf}
-use Rattle.vo_spec.specs.Tables.{column_at}
 use Rattle.vo_spec.specs.Conditions.{Query, is_met}
-use Rattle.vo_spec.specs.Results.{Side, Place, schema_at, place_of, ref_kind, join_refs, join_places, is_key_join, join_fault, Line, line_of, no_line, place_value, ref_value, is_joined, is_answer, shown_places}
+use Rattle.vo_spec.specs.Results.{Side, Place, schema_at, place_of, ref_kind, join_refs, join_places, is_key_join, join_fault, Line, line_of, no_line, place_value, ref_value, is_joined}
 use Rattle.vo_spec.specs.Scans.{in_interval}
 use Rattle.vo_spec.specs.Needs.{keys_that, join_value, right_need}
 use Rattle.vo_spec.specs.Checks.{key_kind}
@@ -30,7 +26,7 @@ use Rattle.vo_spec.proofs.ListLaws.{zip_weaker, flat_map_kept, flat_map_zip, fla
 use Rattle.vo_spec.proofs.ValueOrder.{key_again}
 use Rattle.vo_spec.proofs.ConditionLaws.{key_among}
 use Rattle.vo_spec.proofs.SeenLaws.{rows_in}
-use Rattle.vo_spec.proofs.AnswerLaws.{answer_of, AlikeIn, IsRead, Agree, agree_one, agree_two, same_answer, no_answer, joins_read}
+use Rattle.vo_spec.proofs.AnswerLaws.{answer_of, AlikeIn, IsRead, agree_one, agree_two, same_answer, no_answer, joins_read}
 
 -- Values that compare as equal are equal.
 
@@ -40,7 +36,7 @@ is_bytes a b e = (bytes_eq-Decides a b).0 e
 integers_equal : (a b : ℤ) → is_eq (int_cmp a b) ≡ true → a ≡ b
 integers_equal a b e =
     by_ranked (a <ℤ b) (a ≡ b) (b <ℤ a) (int_cmp a b) (int_ranked a b (int_cmp a b) refl)
-        (λ f h. absurd (both_ways (is_eq (int_cmp a b)) (ap is_eq f) e)) (λ f h. h) (λ f h. absurd (both_ways (is_eq (int_cmp a b)) (ap is_eq f) e))
+    (λ f h. absurd (both_ways (is_eq (int_cmp a b)) (ap is_eq f) e)) (λ f h. h) (λ f h. absurd (both_ways (is_eq (int_cmp a b)) (ap is_eq f) e))
 
 pub values_equal : (a b : Value) → is_eq (value_cmp a b) ≡ true → a ≡ b
 values_equal (Int a) (Int b) e = ap Int (integers_equal a b e)
@@ -115,8 +111,8 @@ module _ (ss : List Side) (j : Join) where
       let rows : List Line = left ∷ line_of (schema_at ss 1) row ∷ [] in
       let equal : place_value rows (place_of ss j.left_ref) ≡ place_value rows (place_of ss j.right_ref) = values_equal (ref_value ss rows j.left_ref) (ref_value ss rows j.right_ref) e in
       let same : key_of (join_value ss j left) ≡ row.key =
-          ap key_of (sym (left_value left (line_of (schema_at ss 1) row) on) ∙ equal_places rows equal ∙ right_value left row on)
-          ∙ key_again (key_kind (schema_at ss 1)) row.key is in
+      ap key_of (sym (left_value left (line_of (schema_at ss 1) row) on) ∙ equal_places rows equal ∙ right_value left row on)
+      ∙ key_again (key_kind (schema_at ss 1)) row.key is in
       key_among cmp.Eq row.key (key_of (join_value ss j left)) (ap is_eq (ap (key_cmp row.key) same ∙ tied_itself nat_list_cmp_total row.key))
 
 module _ (ss : List Side) (q : Query) (j : Join) (is_join : q.join ≡ Some j) where
@@ -133,11 +129,11 @@ module _ (ss : List Side) (q : Query) (j : Join) (is_join : q.join ≡ Some j) w
   right_outside left row on is e = no_answer ss q (left ∷ line_of (schema_at ss 1) row ∷ []) (λ a.
       let joined = (and_parts (is_joined ss (left ∷ line_of (schema_at ss 1) row ∷ []) q.join) (is_met (ref_value ss (left ∷ line_of (schema_at ss 1) row ∷ [])) q.condition) a).0 in
       both_ways (in_interval (keys_that cmp.Eq (key_of (join_value ss j left))) row.key) e
-          (joined_inside ss j left row on is (subst (λ o. is_joined ss (left ∷ line_of (schema_at ss 1) row ∷ []) o ≡ true) is_join joined)))
+      (joined_inside ss j left row on is (subst (λ o. is_joined ss (left ∷ line_of (schema_at ss 1) row ∷ []) o ≡ true) is_join joined)))
 
   rights_outside : (left : Line) (rows : List Row) → JoinsOnKey ss j → AllByRecursion (λ (row : Row). IsKeyOf (key_kind (schema_at ss 1)) row.key) rows
       → AllByRecursion (λ (row : Row). in_interval (keys_that cmp.Eq (key_of (join_value ss j left))) row.key ≡ false
-          → answer_of ss q (left ∷ line_of (schema_at ss 1) row ∷ []) ≡ []) rows
+      → answer_of ss q (left ∷ line_of (schema_at ss 1) row ∷ []) ≡ []) rows
   rights_outside left [] on keys = tt
   rights_outside left (row ∷ rows) on keys = (right_outside left row on keys.0, rights_outside left rows on keys.1)
 
@@ -148,14 +144,14 @@ module _ (ss : List Side) (q : Query) (j : Join) (is_join : q.join ≡ Some j) w
       → flat_map (λ right. answer_of ss q (a ∷ right ∷ [])) seen ≡ flat_map (λ right. answer_of ss q (b ∷ right ∷ [])) (map (line_of (schema_at ss 1)) rows)
   same_rights a b seen rows fault lt alike keys zip =
       flat_map_zip (λ right. answer_of ss q (a ∷ right ∷ [])) (λ right. answer_of ss q (b ∷ right ∷ [])) seen
-          (map (line_of (schema_at ss 1)) (rows_in (right_need ss q j a).interval rows))
-          (zip_weaker (AlikeIn ss q 1) (λ r s. answer_of ss q (a ∷ r ∷ []) ≡ answer_of ss q (b ∷ s ∷ []))
-              (λ r s other. same_answer ss q (a ∷ r ∷ []) (b ∷ s ∷ []) (agree_two ss q a b r s lt alike other)) seen
-              (map (line_of (schema_at ss 1)) (rows_in (right_need ss q j a).interval rows)) zip)
+      (map (line_of (schema_at ss 1)) (rows_in (right_need ss q j a).interval rows))
+      (zip_weaker (AlikeIn ss q 1) (λ r s. answer_of ss q (a ∷ r ∷ []) ≡ answer_of ss q (b ∷ s ∷ []))
+      (λ r s other. same_answer ss q (a ∷ r ∷ []) (b ∷ s ∷ []) (agree_two ss q a b r s lt alike other)) seen
+      (map (line_of (schema_at ss 1)) (rows_in (right_need ss q j a).interval rows)) zip)
       ∙ flat_map_map (λ right. answer_of ss q (b ∷ right ∷ [])) (line_of (schema_at ss 1)) (rows_in (right_need ss q j a).interval rows)
       ∙ ap (λ v. flat_map (λ (row : Row). answer_of ss q (b ∷ line_of (schema_at ss 1) row ∷ [])) (rows_in (keys_that cmp.Eq (key_of v)) rows)) same_value
       ∙ flat_map_kept (λ (row : Row). answer_of ss q (b ∷ line_of (schema_at ss 1) row ∷ [])) (λ (row : Row). in_interval (keys_that cmp.Eq (key_of (join_value ss j b))) row.key) rows
-          (rights_outside b rows (joins_on_key ss j fault) keys)
+      (rights_outside b rows (joins_on_key ss j fault) keys)
       ∙ sym (flat_map_map (λ right. answer_of ss q (b ∷ right ∷ [])) (line_of (schema_at ss 1)) rows)
     where
       same_value : join_value ss j a ≡ join_value ss j b

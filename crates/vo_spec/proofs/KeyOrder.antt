@@ -1,5 +1,5 @@
 -- The order of keys is total: what follows from comparing two of them.
-use Rattle.std.proofs.Common.{◌≡◌, ℕ, Bool, true, false, List, Ordering, inl, inr, refl, sym, ap, ◌∙◌}
+use Rattle.std.proofs.Common.{◌≡◌, ℕ, true, false, List, Ordering, inl, inr, refl, sym, ap, ◌∙◌}
 use Rattle.std.specs.declared.cmp.Ordering.TheVariants.{Less, Equal, Greater}
 use Rattle.std.specs.Ordering.{is_lt, is_gt, ordering_reverse}
 use Rattle.std.specs.Cmp.{IsTotalOrder}
@@ -38,15 +38,15 @@ key_le_le a b c e f =
 
 pub key_lt_le : (a b c : List ℕ) → key_lt a b ≡ true → key_lt c b ≡ false → key_lt a c ≡ true
 key_lt_le a b c e f = elim (cases_Bool (key_lt a c)) [
-    | inl g ↦ g
-    | inr g ↦ absurd (both_ways (key_lt a b) (key_le_le b c a f g) e)
-  ]
+  | inl g ↦ g
+  | inr g ↦ absurd (both_ways (key_lt a b) (key_le_le b c a f g) e)
+]
 
 pub key_le_lt : (a b c : List ℕ) → key_lt b a ≡ false → key_lt b c ≡ true → key_lt a c ≡ true
 key_le_lt a b c e f = elim (cases_Bool (key_lt a c)) [
-    | inl g ↦ g
-    | inr g ↦ absurd (both_ways (key_lt b c) (key_le_le c a b g e) f)
-  ]
+  | inl g ↦ g
+  | inr g ↦ absurd (both_ways (key_lt b c) (key_le_le c a b g e) f)
+]
 
 pub key_lt_lt : (a b c : List ℕ) → key_lt a b ≡ true → key_lt b c ≡ true → key_lt a c ≡ true
 key_lt_lt a b c e f = key_lt_le a b c e (key_lt_back b c f)

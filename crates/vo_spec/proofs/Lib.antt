@@ -8,3 +8,4 @@ pub mod ValueOrder
 pub mod ConditionLaws
 pub mod AnswerLaws
 pub mod JoinLaws
+pub mod Exact

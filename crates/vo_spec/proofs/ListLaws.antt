@@ -1,9 +1,9 @@
 -- Laws of lists that std doesn't have: what holds of each item, and lists place by place.
-use Rattle.std.proofs.Common.{◌≡◌, ℕ, Bool, true, false, cond, List, [], ◌∷◌, ◌++◌, Option, Some, None, length, map, inl, inr, refl, sym, ap, ◌∙◌, subst, append_assoc}
-use Rattle.std.specs.Prelude.{◌||◌, ◌&&◌, ◌⊎◌, filter, flat_map, find}
-use Rattle.std.specs.List.{list_any, list_all, AllByRecursion, AllZip}
+use Rattle.std.proofs.Common.{◌≡◌, Bool, true, false, cond, List, [], ◌∷◌, ◌++◌, map, inl, inr, refl, sym, ap, ◌∙◌, subst}
+use Rattle.std.specs.Prelude.{◌||◌, ◌⊎◌, filter, flat_map}
+use Rattle.std.specs.List.{list_any, AllByRecursion, AllZip}
 use Rattle.std.proofs.lemmas.List.Concat.{flat_map-append}
-use Rattle.std.proofs.lemmas.Bool.{or_parts, and_parts, both_ways}
+use Rattle.std.proofs.lemmas.Bool.{or_parts}
 
 -- the item is one of the list
 abbrev pub IsIn : {A : Type 0} → A → List A → Type 0

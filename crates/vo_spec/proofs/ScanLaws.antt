@@ -1,9 +1,9 @@
 -- Scans: a part tree that misses nothing shows all that a need asks for, what it shows is what the whole
 -- tree shows, and of a whole tree a scan is a filter of its entries.
-use Rattle.std.proofs.Common.{◌≡◌, ℕ, zero, suc, ◌+◌, ◌-◌, Bool, true, false, cond, List, [], ◌∷◌, ◌++◌, Option, Some, None, inl, inr, refl, sym, ap, ◌∙◌, subst, append_assoc}
-use Rattle.std.specs.Prelude.{◌||◌, ◌&&◌, not, slice_get, drop, is_none}
+use Rattle.std.proofs.Common.{◌≡◌, ℕ, zero, suc, ◌+◌, ◌-◌, Bool, true, false, cond, List, [], ◌∷◌, ◌++◌, Option, Some, None, inl, inr, refl, sym, ap, ◌∙◌, subst}
+use Rattle.std.specs.Prelude.{◌&&◌, not, slice_get, drop, is_none}
 use Rattle.std.specs.List.{list_any, AllByRecursion, AllZip}
-use Rattle.std.proofs.lemmas.Bool.{or_parts, and_parts, and_from, and_cases, both_ways, cases_Bool, not-true, not-false, not_from_false, not_from_true}
+use Rattle.std.proofs.lemmas.Bool.{or_parts, and_parts, and_from, and_cases, both_ways, not-true, not-false, not_from_false, not_from_true}
 use Rattle.vo_spec.specs.declared.values.Value.{Value}
 use Rattle.vo_spec.specs.declared.keys.Bound.{Bound}
 use Rattle.vo_spec.specs.declared.keys.Bound.TheVariants.{Absent, Inclusive, Exclusive}
@@ -21,9 +21,9 @@ use Rattle.vo_spec.specs.Parts.{stub, leaf, inner, none, more, entries, entries_
 use Rattle.vo_spec.specs.Trees.{RowTree, RowTrees, row_family, Prunes}
 use Rattle.vo_spec.specs.Scans.{is_above, is_below, in_interval, is_empty_interval, ends_above, begins_below, visits, put_before, joined, values_in, with_key, seen_entries, seen_in, seen_in_each, seen}
 use Rattle.vo_spec.specs.Pruned.{walk_for, misses, misses_in, going_in, going_on, is_any, named, hides_any, is_missing}
-use Rattle.vo_spec.specs.Standing.{is_from, is_before, is_between, IsNode, AreNodes, IsTree, fewest_in_root}
+use Rattle.vo_spec.specs.Standing.{is_from, is_before, is_up_to, is_between, is_within, IsNode, AreNodes, IsTree, fewest_in_root}
 use Rattle.vo_spec.specs.Inserts.{half}
-use Rattle.vo_spec.proofs.KeyOrder.{key_lt_back, key_le_le, key_lt_le, key_le_lt, key_lt_lt}
+use Rattle.vo_spec.proofs.KeyOrder.{key_lt_back, key_le_le, key_lt_le, key_lt_lt}
 use Rattle.vo_spec.proofs.ListLaws.{IsIn, each_of, each_both, each_weaker, none_any, in_filter, in_flat_map}
 
 -- What the one gives, so does the other.
@@ -78,12 +78,12 @@ entries_given need [] (f ∷ fs) z = absurd z
 entries_given need (e ∷ es) [] z = absurd z
 entries_given need (e ∷ es) (f ∷ fs) z =
     rw (← z.0.key) (gives_cond (in_interval need.interval e.key)
-        (put_before (with_key e.key (values_in e.row need.columns)) (seen_entries need es)) (seen_entries need es)
-        (put_before (with_key e.key (values_in f.row need.columns)) (seen_entries need fs)) (seen_entries need fs)
-        (gives_put (with_key e.key (values_in e.row need.columns)) (with_key e.key (values_in f.row need.columns)) (seen_entries need es) (seen_entries need fs)
-            (gives_key e.key (values_in e.row need.columns) (values_in f.row need.columns) (values_given e.row f.row need.columns z.0.row))
-            (entries_given need es fs z.1))
-        (entries_given need es fs z.1))
+    (put_before (with_key e.key (values_in e.row need.columns)) (seen_entries need es)) (seen_entries need es)
+    (put_before (with_key e.key (values_in f.row need.columns)) (seen_entries need fs)) (seen_entries need fs)
+    (gives_put (with_key e.key (values_in e.row need.columns)) (with_key e.key (values_in f.row need.columns)) (seen_entries need es) (seen_entries need fs)
+    (gives_key e.key (values_in e.row need.columns) (values_in f.row need.columns) (values_given e.row f.row need.columns z.0.row))
+    (entries_given need es fs z.1))
+    (entries_given need es fs z.1))
 
 mutual
   node_given : (need : Need) (p t : RowTree) → Prunes p t → Gives (seen_in need p) (seen_in need t)
@@ -103,11 +103,11 @@ mutual
   nodes_given need lower ss (more m p ps) none g = absurd g
   nodes_given need lower ss (more m p ps) (more n q qs) g =
       gives_cond (visits need.interval lower (slice_get ss 0))
-          (joined (seen_in need p) (seen_in_each need (slice_get ss 0) (drop 1 ss) ps)) (seen_in_each need (slice_get ss 0) (drop 1 ss) ps)
-          (joined (seen_in need q) (seen_in_each need (slice_get ss 0) (drop 1 ss) qs)) (seen_in_each need (slice_get ss 0) (drop 1 ss) qs)
-          (gives_joined (seen_in need p) (seen_in need q) (seen_in_each need (slice_get ss 0) (drop 1 ss) ps) (seen_in_each need (slice_get ss 0) (drop 1 ss) qs)
-              (node_given need p q g.1) (nodes_given need (slice_get ss 0) (drop 1 ss) ps qs g.2))
-          (nodes_given need (slice_get ss 0) (drop 1 ss) ps qs g.2)
+      (joined (seen_in need p) (seen_in_each need (slice_get ss 0) (drop 1 ss) ps)) (seen_in_each need (slice_get ss 0) (drop 1 ss) ps)
+      (joined (seen_in need q) (seen_in_each need (slice_get ss 0) (drop 1 ss) qs)) (seen_in_each need (slice_get ss 0) (drop 1 ss) qs)
+      (gives_joined (seen_in need p) (seen_in need q) (seen_in_each need (slice_get ss 0) (drop 1 ss) ps) (seen_in_each need (slice_get ss 0) (drop 1 ss) qs)
+      (node_given need p q g.1) (nodes_given need (slice_get ss 0) (drop 1 ss) ps qs g.2))
+      (nodes_given need (slice_get ss 0) (drop 1 ss) ps qs g.2)
 
 -- What a part tree shows for a need, the tree that it prunes shows too.
 pub sound : (need : Need) (p t : RowTree) → Prunes p t → Gives (seen need p) (seen need t)
@@ -166,7 +166,7 @@ entries_shown needs need (e ∷ es) i h = step (in_interval need.interval e.key)
         → Shows (cond b (put_before (with_key e.key (values_in e.row need.columns)) (seen_entries need es)) (seen_entries need es))
     step true inside rest =
         shows_put (with_key e.key (values_in e.row need.columns)) (seen_entries need es)
-            (shows_key e.key (values_in e.row need.columns) (row_shown needs need e i inside both.0)) rest
+        (shows_key e.key (values_in e.row need.columns) (row_shown needs need e i inside both.0)) rest
     step false inside rest = rest
 
 child_shown : (need : Need) (lower upper : Option (List ℕ)) (x y : Option (List SeenRow)) → (visits need.interval lower upper ≡ true → Shows x) → Shows y
@@ -190,8 +190,8 @@ mutual
   nodes_shown needs need going lower ss (more m p ps) i j h =
       let both = or_parts (misses (walk_for needs) (going_on going lower (slice_get ss 0)) p) (misses_in (walk_for needs) going (slice_get ss 0) (drop 1 ss) ps) h in
       child_shown need lower (slice_get ss 0) (seen_in need p) (seen_in_each need (slice_get ss 0) (drop 1 ss) ps)
-          (λ v. node_shown needs need (going_on going lower (slice_get ss 0)) p i (in_filter (λ n. visits n.interval lower (slice_get ss 0)) going need j v) both.0)
-          (nodes_shown needs need going (slice_get ss 0) (drop 1 ss) ps i j both.1)
+      (λ v. node_shown needs need (going_on going lower (slice_get ss 0)) p i (in_filter (λ n. visits n.interval lower (slice_get ss 0)) going need j v) both.0)
+      (nodes_shown needs need going (slice_get ss 0) (drop 1 ss) ps i j both.1)
 
 -- A part tree that misses nothing for some needs shows something for each of them.
 pub complete : (needs : List Need) (need : Need) (p : RowTree) → IsIn need needs → is_missing needs p ≡ false → Shows (seen need p)
@@ -201,7 +201,7 @@ complete needs need p i h = step (is_empty_interval need.interval) refl
     step true e = tt
     step false e =
         node_shown needs need (going_in needs) p i
-            (in_filter (λ n. not (is_empty_interval n.interval)) needs need i (not_from_false (is_empty_interval need.interval) e)) h
+        (in_filter (λ n. not (is_empty_interval n.interval)) needs need i (not_from_false (is_empty_interval need.interval) e)) h
 
 -- Of a whole tree a scan is a filter of its entries.
 
@@ -222,9 +222,11 @@ cond_joined false x y z = refl
 entries_joined : (need : Need) (es fs : List PartEntry) → seen_entries need (es ++ fs) ≡ joined (seen_entries need es) (seen_entries need fs)
 entries_joined need [] fs = sym (joined_nothing (seen_entries need fs))
 entries_joined need (e ∷ es) fs =
-    rw (entries_joined need es fs,
-        cond_joined (in_interval need.interval e.key) (put_before (with_key e.key (values_in e.row need.columns)) (seen_entries need es)) (seen_entries need es) (seen_entries need fs),
-        put_joined (with_key e.key (values_in e.row need.columns)) (seen_entries need es) (seen_entries need fs)) refl
+    rw (
+      entries_joined need es fs,
+      cond_joined (in_interval need.interval e.key) (put_before (with_key e.key (values_in e.row need.columns)) (seen_entries need es)) (seen_entries need es) (seen_entries need fs),
+      put_joined (with_key e.key (values_in e.row need.columns)) (seen_entries need es) (seen_entries need fs),
+    ) refl
 
 none_inside : (need : Need) (es : List PartEntry) → AllByRecursion (λ (e : PartEntry). in_interval need.interval e.key ≡ false) es → seen_entries need es ≡ Some []
 none_inside need [] all = refl
@@ -252,9 +254,9 @@ below_lower (Exclusive high) (Some s) key e b = key_le_le high s key e (not-true
 passed_by : (interval : Interval) (lower upper : Option (List ℕ)) (key : List ℕ) → visits interval lower upper ≡ false
     → is_from lower key ≡ true → is_before upper key ≡ true → in_interval interval key ≡ false
 passed_by interval lower upper key e from before = elim (and_cases (ends_above interval.low upper) (begins_below interval.high lower) e) [
-    | inl f ↦ outside_low (above_upper interval.low upper key f before)
-    | inr f ↦ outside_high (is_above interval.low key) (below_lower interval.high lower key f from)
-  ]
+  | inl f ↦ outside_low (above_upper interval.low upper key f before)
+  | inr f ↦ outside_high (is_above interval.low key) (below_lower interval.high lower key f from)
+]
   where
     outside_low : is_above interval.low key ≡ false → in_interval interval key ≡ false
     outside_low f = rw f refl
@@ -265,23 +267,27 @@ passed_by interval lower upper key e from before = elim (and_cases (ends_above i
 
 -- The keys of a whole tree are between its bounds.
 
-narrower_before : (lower upper : Option (List ℕ)) (s key : List ℕ) → is_between lower upper s ≡ true → is_before (Some s) key ≡ true → is_before upper key ≡ true
+narrower_before : (lower upper : Option (List ℕ)) (s key : List ℕ) → is_within lower upper s ≡ true → is_before (Some s) key ≡ true
+    → is_before upper key ≡ true
 narrower_before lower None s key e b = refl
-narrower_before lower (Some u) s key e b = key_lt_lt key s u b (and_parts (is_from lower s) (key_lt s u) e).1
+narrower_before lower (Some u) s key e b =
+    key_lt_le key s u b (not-true (key_lt u s) (and_parts (is_from lower s) (not (key_lt u s)) e).1)
 
-narrower_from : (lower upper : Option (List ℕ)) (s key : List ℕ) → is_between lower upper s ≡ true → is_from (Some s) key ≡ true → is_from lower key ≡ true
+narrower_from : (lower upper : Option (List ℕ)) (s key : List ℕ) → is_within lower upper s ≡ true → is_from (Some s) key ≡ true
+    → is_from lower key ≡ true
 narrower_from None upper s key e b = refl
 narrower_from (Some l) upper s key e b =
-    not_from_false (key_lt key l) (key_le_le l s key (not-true (key_lt s l) (and_parts (not (key_lt s l)) (is_before upper s) e).0) (not-true (key_lt key s) b))
+    not_from_false (key_lt key l)
+    (key_le_le l s key (not-true (key_lt s l) (and_parts (not (key_lt s l)) (is_up_to upper s) e).0) (not-true (key_lt key s) b))
 
-abbrev Between : Option (List ℕ) → Option (List ℕ) → PartEntry → Type 0
+abbrev pub Between : Option (List ℕ) → Option (List ℕ) → PartEntry → Type 0
 Between lower upper e = is_between lower upper e.key ≡ true
 
-left_between : (lower upper : Option (List ℕ)) (s : List ℕ) → is_between lower upper s ≡ true → (e : PartEntry) → Between lower (Some s) e → Between lower upper e
+left_between : (lower upper : Option (List ℕ)) (s : List ℕ) → is_within lower upper s ≡ true → (e : PartEntry) → Between lower (Some s) e → Between lower upper e
 left_between lower upper s b e h = let p = and_parts (is_from lower e.key) (key_lt e.key s) h in
     and_from (is_from lower e.key) (is_before upper e.key) p.0 (narrower_before lower upper s e.key b p.1)
 
-right_between : (lower upper : Option (List ℕ)) (s : List ℕ) → is_between lower upper s ≡ true → (e : PartEntry) → Between (Some s) upper e → Between lower upper e
+right_between : (lower upper : Option (List ℕ)) (s : List ℕ) → is_within lower upper s ≡ true → (e : PartEntry) → Between (Some s) upper e → Between lower upper e
 right_between lower upper s b e h = let p = and_parts (not (key_lt e.key s)) (is_before upper e.key) h in
     and_from (is_from lower e.key) (is_before upper e.key) (narrower_from lower upper s e.key b p.0) p.1
 
@@ -299,8 +305,8 @@ mutual
   nodes_between height lower upper [] (more m p (more k q ps)) n = absurd n
   nodes_between height lower upper (s ∷ ss) (more m p ps) n =
       each_both (Between lower upper) (entries p) (entries_in ps)
-          (each_weaker (Between lower (Some s)) (Between lower upper) (left_between lower upper s n.1) (entries p) (node_between half height lower (Some s) p n.2))
-          (each_weaker (Between (Some s) upper) (Between lower upper) (right_between lower upper s n.1) (entries_in ps) (nodes_between height (Some s) upper ss ps n.3))
+      (each_weaker (Between lower (Some s)) (Between lower upper) (left_between lower upper s n.1) (entries p) (node_between half height lower (Some s) p n.2))
+      (each_weaker (Between (Some s) upper) (Between lower upper) (right_between lower upper s n.1) (entries_in ps) (nodes_between height (Some s) upper ss ps n.3))
 
 -- of a child: it is visited and gives what it has, or it has nothing to give
 child_scanned : (need : Need) (near lower upper : Option (List ℕ)) (p : RowTree) (x : Option (List SeenRow))
@@ -328,7 +334,7 @@ last_scanned : (need : Need) (near lower upper : Option (List ℕ)) (p : RowTree
     → cond (visits need.interval near None) (joined (seen_in need p) (Some [])) (Some []) ≡ seen_entries need (entries p ++ [])
 last_scanned need near lower upper p near_is all e =
     rw (entries_joined need (entries p) [])
-        (child_scanned need near lower None p (Some []) near_is (each_weaker (Between lower upper) (Between lower None) (weaker_upper lower upper) (entries p) all) e)
+    (child_scanned need near lower None p (Some []) near_is (each_weaker (Between lower upper) (Between lower None) (weaker_upper lower upper) (entries p) all) e)
 
 mutual
   node_scanned : (need : Need) (fewest height : ℕ) (lower upper : Option (List ℕ)) (t : RowTree) → IsNode row_family fewest height lower upper t
@@ -346,8 +352,8 @@ mutual
   nodes_scanned need height near lower upper [] (more m p (more k q ps)) near_is n = absurd n
   nodes_scanned need height near lower upper (s ∷ ss) (more m p ps) near_is n =
       rw (nodes_scanned need height (Some s) (Some s) upper ss ps (λ key f. f) n.3, entries_joined need (entries p) (entries_in ps))
-          (child_scanned need near lower (Some s) p (seen_entries need (entries_in ps)) near_is
-              (node_between half height lower (Some s) p n.2) (node_scanned need half height lower (Some s) p n.2))
+      (child_scanned need near lower (Some s) p (seen_entries need (entries_in ps)) near_is
+      (node_between half height lower (Some s) p n.2) (node_scanned need half height lower (Some s) p n.2))
 
 -- A scan of a whole tree is a filter of its entries.
 pub scan_is_filter : (need : Need) (t : RowTree) → IsTree row_family t → seen_in need t ≡ seen_entries need (entries t)

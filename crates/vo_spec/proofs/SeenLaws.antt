@@ -1,8 +1,8 @@
 -- What a part tree shows for a need is, in the columns that the need names, the rows of the interval.
-use Rattle.std.proofs.Common.{◌≡◌, ℕ, zero, suc, ◌+◌, Bool, true, false, cond, eqb, List, [], ◌∷◌, Option, Some, None, map, inl, inr, refl, sym, ap, ◌∙◌, subst, arith}
-use Rattle.std.specs.Prelude.{◌&&◌, ◌⊎◌, ◌==◌, not, filter, slice_get, unwrap_or}
-use Rattle.std.specs.List.{AllByRecursion, AllZip, position_or_len}
-use Rattle.std.proofs.lemmas.Bool.{cases_Bool, both_ways, eqb-true, eq-eqb, not-true, not-false, not_from_true}
+use Rattle.std.proofs.Common.{◌≡◌, ℕ, zero, suc, ◌+◌, Bool, true, false, cond, List, [], ◌∷◌, Option, Some, None, map, inl, inr, refl, sym, ap, subst, arith}
+use Rattle.std.specs.Prelude.{◌&&◌, ◌⊎◌, ◌==◌, not, filter, unwrap_or}
+use Rattle.std.specs.List.{AllZip, position_or_len}
+use Rattle.std.proofs.lemmas.Bool.{both_ways, eqb-true, eq-eqb, not-true, not_from_true}
 use Rattle.vo_spec.specs.declared.values.Value.{Value}
 use Rattle.vo_spec.specs.declared.values.Row.{Row}
 use Rattle.vo_spec.specs.declared.tables.Schema.{Schema}
@@ -15,7 +15,6 @@ use Rattle.vo_spec.specs.Values.{key_lt, value_of_key}
 use Rattle.vo_spec.specs.Tables.{column_at, cell_number, value_at}
 use Rattle.vo_spec.specs.Results.{Line, line_of}
 use Rattle.vo_spec.specs.Cells.{value_in, whole_entry, whole_row}
-use Rattle.vo_spec.specs.Parts.{entries}
 use Rattle.vo_spec.specs.Trees.{RowTree, Prunes}
 use Rattle.vo_spec.specs.Scans.{is_above, is_below, in_interval, are_crossed, is_empty_interval, put_before, values_in, with_key, seen_entries, seen_in, seen}
 use Rattle.vo_spec.specs.Pruned.{is_missing}
@@ -65,8 +64,8 @@ rows_seen need (row ∷ rows) = step (in_interval need.interval row.key) (rows_s
   where
     step : (b : Bool) → AreSeenOf need.columns (seen_entries need (map whole_entry rows)) (filter (λ (r : Row). in_interval need.interval r.key) rows)
         → AreSeenOf need.columns
-            (cond b (put_before (with_key row.key (values_in (whole_row row.cells) need.columns)) (seen_entries need (map whole_entry rows))) (seen_entries need (map whole_entry rows)))
-            (cond b (row ∷ filter (λ (r : Row). in_interval need.interval r.key) rows) (filter (λ (r : Row). in_interval need.interval r.key) rows))
+        (cond b (put_before (with_key row.key (values_in (whole_row row.cells) need.columns)) (seen_entries need (map whole_entry rows))) (seen_entries need (map whole_entry rows)))
+        (cond b (row ∷ filter (λ (r : Row). in_interval need.interval r.key) rows) (filter (λ (r : Row). in_interval need.interval r.key) rows))
     step true s = row_seen need.columns row (values_in (whole_row row.cells) need.columns) refl (seen_entries need (map whole_entry rows)) _ s
     step false s = s
 
@@ -153,7 +152,7 @@ accepted schema needs need p t rows i full prunes stands =
     step None s g = absurd s
     step (Some xs) s g =
         let all : AllZip (IsSeenOf need.columns) xs (rows_in need.interval rows) =
-                subst (λ z. AreSeenOf need.columns z (rows_in need.interval rows)) g (whole_seen need t rows stands) in
+        subst (λ z. AreSeenOf need.columns z (rows_in need.interval rows)) g (whole_seen need t rows stands) in
         zip_map (Alike schema need.columns) (seen_line schema need.columns) (line_of schema) xs (rows_in need.interval rows)
-            (zip_weaker (IsSeenOf need.columns) (λ x row. Alike schema need.columns (seen_line schema need.columns x) (line_of schema row))
-                (line_alike schema need.columns) xs (rows_in need.interval rows) all)
+        (zip_weaker (IsSeenOf need.columns) (λ x row. Alike schema need.columns (seen_line schema need.columns x) (line_of schema row))
+        (line_alike schema need.columns) xs (rows_in need.interval rows) all)

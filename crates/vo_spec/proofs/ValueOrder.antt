@@ -1,8 +1,8 @@
 -- Keys are in the order of the values that they are keys of.
-use Rattle.std.proofs.Common.{◌≡◌, ℕ, zero, suc, ◌+◌, ◌-◌, ◌*◌, ◌^◌, ◌<◌, ◌≤◌, Bool, true, false, List, [], ◌∷◌, length, Ordering, refl, sym, ap, ◌∙◌, subst, arith}
+use Rattle.std.proofs.Common.{◌≡◌, ℕ, ◌+◌, ◌*◌, ◌^◌, ◌<◌, List, [], ◌∷◌, length, refl, sym, ap, ◌∙◌, arith}
 use Rattle.std.specs.Prelude.{ℤ, pos, negsuc, ◌≤ℤ◌, ◌<ℤ◌, ◌+ℤ◌, ◌-ℤ◌, FitsSigned}
 use Rattle.std.specs.declared.cmp.Ordering.TheVariants.{Less, Equal, Greater}
-use Rattle.std.specs.Ordering.{nat_cmp, int_cmp, ordering_then, MatchOrdering}
+use Rattle.std.specs.Ordering.{nat_cmp, int_cmp, ordering_then}
 use Rattle.std.specs.Cmp.Lexicographic.{slice_cmp}
 use Rattle.std.specs.Int.{w64, cast_unsigned, from_be_bytes}
 use Rattle.std.specs.List.{AllByRecursion}
@@ -118,9 +118,9 @@ is_shifted z fits =
 shifted_in_order : (x y : ℤ) (m n : ℕ) → IsShifted x m → IsShifted y n → int_cmp x y ≡ nat_cmp m n
 shifted_in_order x y m n a b =
     by_ranked (m < n) (m ≡ n) (n < m) (nat_cmp m n) (ranked m n (nat_cmp m n) refl)
-        (λ e lt. int_less x y (omega (arith, ints)) ∙ sym e)
-        (λ e same. int_equal x y (omega (arith, ints)) ∙ sym e)
-        (λ e lt. int_greater x y (omega (arith, ints)) ∙ sym e)
+    (λ e lt. int_less x y (omega (arith, ints)) ∙ sym e)
+    (λ e same. int_equal x y (omega (arith, ints)) ∙ sym e)
+    (λ e lt. int_greater x y (omega (arith, ints)) ∙ sym e)
 
 integers_in_order : (x y : ℤ) → FitsSigned w64 x → FitsSigned w64 y → int_cmp x y ≡ key_cmp (key_of (Int x)) (key_of (Int y))
 integers_in_order x y fx fy =

@@ -23,9 +23,17 @@ abbrev pub is_before : Option (List ℕ) → List ℕ → Bool
 is_before None key = true
 is_before (Some upper) key = key_lt key upper
 
+abbrev pub is_up_to : Option (List ℕ) → List ℕ → Bool
+is_up_to None key = true
+is_up_to (Some upper) key = not (key_lt upper key)
+
 -- at or above the lower separator, and below the upper one
 abbrev pub is_between : Option (List ℕ) → Option (List ℕ) → List ℕ → Bool
 is_between lower upper key = is_from lower key && is_before upper key
+
+-- at or above the lower bound, and not above the upper one
+abbrev pub is_within : Option (List ℕ) → Option (List ℕ) → List ℕ → Bool
+is_within lower upper key = is_from lower key && is_up_to upper key
 
 -- each key is below all that come after it
 abbrev pub AreRising : List (List ℕ) → Type 0
@@ -50,7 +58,7 @@ module _ {E M : Type 0} (family : Family E M) where
     AreNodes height lower upper [] (more m p none) = (m ≡ family.mark p) × IsNode half height lower upper p
     AreNodes height lower upper [] (more m p (more n q ps)) = ⊥
     AreNodes height lower upper (s ∷ ss) (more m p ps) =
-        (m ≡ family.mark p) × IsTrue (is_between lower upper s)
+        (m ≡ family.mark p) × IsTrue (is_within lower upper s)
         × IsNode half height lower (Some s) p × AreNodes height (Some s) upper ss ps
 
   -- a root that is a leaf may have any number of entries, and an inner one two children
