@@ -20,9 +20,9 @@ use Rattle.vo_spec.specs.Results.{Side, Place, side_at, schema_at, place_of, mea
 use Rattle.vo_spec.specs.Scans.{in_interval}
 use Rattle.vo_spec.specs.Needs.{all_keys, interval_of, left_truth, meets_left, is_place, shows_all, is_named_column, named_columns, named_cells, left_need}
 use Rattle.vo_spec.specs.Checks.{key_kind}
-use Rattle.vo_spec.proofs.ListLaws.{IsIn, each_from, each_left, each_right, each_both, each_map, any_in, in_filter, in_map, filtered_map, flat_map_map}
-use Rattle.vo_spec.proofs.SeenLaws.{Alike}
-use Rattle.vo_spec.proofs.ConditionLaws.{Same, SameLeft, same_truth, same_left, left_met, met_inside, ReadsKey, KindsAgree}
+use Rattle.vo_laws.proofs.ListLaws.{IsIn, each_from, each_left, each_right, each_both, each_map, any_in, in_filter, in_map, filtered_map, flat_map_map}
+use Rattle.vo_laws.proofs.SeenLaws.{Alike}
+use Rattle.vo_laws.proofs.ConditionLaws.{Same, SameLeft, same_truth, same_left, left_met, met_inside, ReadsKey, KindsAgree}
 
 -- The first item that passes a test passes it.
 passes : {A : Type 0} (test : A → Bool) (xs : List A) (d : A) → position_or_len test xs < length xs → test (slice_index_or xs (position_or_len test xs) d) ≡ true

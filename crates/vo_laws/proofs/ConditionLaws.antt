@@ -24,9 +24,9 @@ use Rattle.vo_spec.specs.Results.{Side, schema_at, place_of, ref_kind, kind_faul
 use Rattle.vo_spec.specs.Scans.{is_above, is_below, in_interval}
 use Rattle.vo_spec.specs.Needs.{all_keys, keys_that, higher, lower, shared, is_left_key, test_interval, interval_of, interval_of_all, is_left, left_truth, left_truths}
 use Rattle.vo_spec.specs.Checks.{key_kind}
-use Rattle.vo_spec.proofs.KeyOrder.{flipped}
-use Rattle.vo_spec.proofs.ListLaws.{each_left, each_right}
-use Rattle.vo_spec.proofs.ValueOrder.{keys_in_order}
+use Rattle.vo_laws.proofs.KeyOrder.{flipped}
+use Rattle.vo_laws.proofs.ListLaws.{each_left, each_right}
+use Rattle.vo_laws.proofs.ValueOrder.{keys_in_order}
 
 -- Rows that give the same for each reference of a condition agree on it.
 

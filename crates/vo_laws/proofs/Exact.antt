@@ -32,11 +32,11 @@ use Rattle.vo_spec.specs.Needs.{meets_left, left_need, right_need, seen_lines, s
 use Rattle.vo_spec.specs.Checks.{key_kind, needed, missing_fault, seen_outcome}
 use Rattle.vo_spec.specs.Replies.{Reply}
 use Rattle.vo_spec.specs.Honest.{Stored, StandsForTable, StandForTables, catalog_of, stored_tree, trees_for}
-use Rattle.vo_spec.proofs.ListLaws.{IsIn, in_left, in_map, zip_weaker, zip_filter, flat_map_kept, flat_map_zip, flat_map_map}
-use Rattle.vo_spec.proofs.ConditionLaws.{KindsAgree}
-use Rattle.vo_spec.proofs.SeenLaws.{accepted, rows_in}
-use Rattle.vo_spec.proofs.AnswerLaws.{answer_of, answers_of, answer_rows_are, AlikeIn, agree_one, same_answer, same_meets, failing_gives_none, outside_gives_none}
-use Rattle.vo_spec.proofs.JoinLaws.{is_bytes, same_rights}
+use Rattle.vo_laws.proofs.ListLaws.{IsIn, in_left, in_map, zip_weaker, zip_filter, flat_map_kept, flat_map_zip, flat_map_map}
+use Rattle.vo_laws.proofs.ConditionLaws.{KindsAgree}
+use Rattle.vo_laws.proofs.SeenLaws.{accepted, rows_in}
+use Rattle.vo_laws.proofs.AnswerLaws.{answer_of, answers_of, answer_rows_are, AlikeIn, agree_one, same_answer, same_meets, failing_gives_none, outside_gives_none}
+use Rattle.vo_laws.proofs.JoinLaws.{is_bytes, same_rights}
 
 -- Of tests in a row none finds a fault.
 

@@ -20,9 +20,9 @@ use Rattle.vo_spec.specs.Scans.{is_above, is_below, in_interval, are_crossed, is
 use Rattle.vo_spec.specs.Pruned.{is_missing}
 use Rattle.vo_spec.specs.Standing.{StandsFor}
 use Rattle.vo_spec.specs.Needs.{seen_line, seen_lines}
-use Rattle.vo_spec.proofs.KeyOrder.{key_lt_back, key_le_le, key_lt_le, key_le_lt}
-use Rattle.vo_spec.proofs.ListLaws.{IsIn, zip_map, zip_weaker}
-use Rattle.vo_spec.proofs.ScanLaws.{Gives, Shows, sound, complete, scan_is_filter}
+use Rattle.vo_laws.proofs.KeyOrder.{key_lt_back, key_le_le, key_lt_le, key_le_lt}
+use Rattle.vo_laws.proofs.ListLaws.{IsIn, zip_map, zip_weaker}
+use Rattle.vo_laws.proofs.ScanLaws.{Gives, Shows, sound, complete, scan_is_filter}
 
 -- An empty interval has no key.
 

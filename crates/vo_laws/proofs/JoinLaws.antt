@@ -22,11 +22,11 @@ use Rattle.vo_spec.specs.Results.{Side, Place, schema_at, place_of, ref_kind, jo
 use Rattle.vo_spec.specs.Scans.{in_interval}
 use Rattle.vo_spec.specs.Needs.{keys_that, join_value, right_need}
 use Rattle.vo_spec.specs.Checks.{key_kind}
-use Rattle.vo_spec.proofs.ListLaws.{zip_weaker, flat_map_kept, flat_map_zip, flat_map_map}
-use Rattle.vo_spec.proofs.ValueOrder.{key_again}
-use Rattle.vo_spec.proofs.ConditionLaws.{key_among}
-use Rattle.vo_spec.proofs.SeenLaws.{rows_in}
-use Rattle.vo_spec.proofs.AnswerLaws.{answer_of, AlikeIn, IsRead, agree_one, agree_two, same_answer, no_answer, joins_read}
+use Rattle.vo_laws.proofs.ListLaws.{zip_weaker, flat_map_kept, flat_map_zip, flat_map_map}
+use Rattle.vo_laws.proofs.ValueOrder.{key_again}
+use Rattle.vo_laws.proofs.ConditionLaws.{key_among}
+use Rattle.vo_laws.proofs.SeenLaws.{rows_in}
+use Rattle.vo_laws.proofs.AnswerLaws.{answer_of, AlikeIn, IsRead, agree_one, agree_two, same_answer, no_answer, joins_read}
 
 -- Values that compare as equal are equal.
 
