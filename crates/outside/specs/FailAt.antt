@@ -14,6 +14,6 @@ new_plan failures = record { failures = failures; calls = 0; count = 0 }
 -- one more call, and one more failure if it was to fail; both numbers stand still at the end of 64 bits
 abbrev pub next_plan : FailAt → FailAt
 next_plan plan = record plan {
-    calls = min (plan.calls + 1) (2 ^ 64 - 1)
-  ; count = cond (is_some (due_of plan)) (min (plan.count + 1) (2 ^ 64 - 1)) plan.count
-  }
+  calls = min (plan.calls + 1) (2 ^ 64 - 1);
+  count = cond (is_some (due_of plan)) (min (plan.count + 1) (2 ^ 64 - 1)) plan.count;
+}

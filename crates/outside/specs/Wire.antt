@@ -3,11 +3,11 @@ use Rattle.std.specs.Prelude.{◌≡◌, ℕ, ◌<◌, ◌≤◌, ◌↔◌, Boo
 
 -- what a network is at a moment
 pub record Wire : Type 0 where
-  pub stands : Bool               -- a connection stands
-  pub coming : List ℕ             -- the bytes to come on it
-  pub sent : List ℕ               -- the bytes put on it
-  pub queue : List (List ℕ)       -- the connections to come, each by its bytes to come
-  pub past : List (List ℕ)        -- the bytes put on each that was closed
+  pub stands : Bool  -- a connection stands
+  pub coming : List ℕ  -- the bytes to come on it
+  pub sent : List ℕ  -- the bytes put on it
+  pub queue : List (List ℕ)  -- the connections to come, each by its bytes to come
+  pub past : List (List ℕ)  -- the bytes put on each that was closed
 
 -- no connection stands yet, and these are to come
 abbrev pub waiting : List (List ℕ) → Wire
@@ -24,19 +24,19 @@ send_on piece wire = record wire { sent = wire.sent ++ piece }
 -- the connection, if one stands, is ended, and what was put on it is kept
 abbrev pub shut : Wire → Wire
 shut wire = record wire {
-    stands = false
-  ; coming = []
-  ; sent = []
-  ; past = cond wire.stands (wire.past ++ wire.sent ∷ []) wire.past
-  }
+  stands = false;
+  coming = [];
+  sent = [];
+  past = cond wire.stands (wire.past ++ wire.sent ∷ []) wire.past;
+}
 
 -- the first connection to come stands, and any that stood before is ended
 abbrev pub open_next : Wire → Wire
 open_next wire = record (shut wire) {
-    stands = true
-  ; coming = slice_index_or wire.queue 0 []
-  ; queue = drop 1 wire.queue
-  }
+  stands = true;
+  coming = slice_index_or wire.queue 0 [];
+  queue = drop 1 wire.queue;
+}
 
 abbrev pub has_next : Wire → Bool
 has_next wire = nat_lt 0 (length wire.queue)

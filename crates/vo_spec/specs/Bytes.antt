@@ -1,7 +1,11 @@
 -- Numbers as bytes, the highest first, and what stands at a place of a byte string. What a number has as
 -- bytes stays closed here, so that goals speak of numbers.
-use Rattle.std.specs.Prelude.{ℕ, zero, suc, ◌+◌, List, [], ◌∷◌, ◌++◌, length, take, drop, slice_index}
+use Rattle.std.specs.Prelude.{ℕ, zero, suc, ◌+◌, ◌<◌, List, [], ◌∷◌, ◌++◌, length, take, drop, slice_index}
 use Rattle.std.specs.Int.{w16, w32, w64, to_be_bytes, from_be_bytes}
+
+-- each number of the list is a byte
+abbrev pub IsBytes : List ℕ → Type 0
+IsBytes bytes = (i : ℕ) → slice_index bytes i < 256
 
 -- the two bytes of a number below 2 ^ 16
 unfoldable pub u16_bytes : ℕ → List ℕ
@@ -19,6 +23,14 @@ u64_bytes n = to_be_bytes w64 n
 unfoldable pub u32_at : List ℕ → ℕ → ℕ
 u32_at bytes at = from_be_bytes w32
     (slice_index bytes at ∷ slice_index bytes (at + 1) ∷ slice_index bytes (at + 2) ∷ slice_index bytes (at + 3) ∷ [])
+
+-- the number that two bytes spell
+unfoldable pub u16_of : List ℕ → ℕ
+u16_of bytes = from_be_bytes w16 bytes
+
+-- the number that four bytes spell
+unfoldable pub u32_of : List ℕ → ℕ
+u32_of bytes = from_be_bytes w32 bytes
 
 -- the number that eight bytes spell
 unfoldable pub u64_of : List ℕ → ℕ

@@ -11,13 +11,14 @@ use Rattle.vo_spec.specs.declared.records.Record.{Record}
 use Rattle.vo_spec.specs.Bytes.{u16_bytes, u64_bytes, short_string}
 use Rattle.vo_spec.specs.Values.{key_lt, same_kind}
 use Rattle.vo_spec.specs.Tables.{Heading, column_at, has_twice, most_tables, most_rows}
-use Rattle.vo_spec.specs.Batches.{FitsName, FitsCount, FitsColumn, column_bytes}
+use Rattle.vo_spec.specs.Names.{FitsName}
+use Rattle.vo_spec.specs.Batches.{FitCounted, FitsColumn, counted, column_bytes}
 
 -- Catalogs.
 
 abbrev pub catalog_table_bytes : CatalogTable → List ℕ
 catalog_table_bytes t =
-    short_string t.name ++ length t.schema.columns ∷ flat_map column_bytes t.schema.columns ++ t.schema.key ∷ u64_bytes t.rows ++ t.root
+    short_string t.name ++ counted column_bytes t.schema.columns ++ t.schema.key ∷ u64_bytes t.rows ++ t.root
 
 unfoldable pub catalog_bytes : Catalog → List ℕ
 catalog_bytes c = u16_bytes (length c.tables) ++ flat_map catalog_table_bytes c.tables
@@ -28,8 +29,7 @@ catalog_digest c = sha256 (5 ∷ catalog_bytes c)
 
 -- columns of different names, one of them the key, which is no BOOLEAN
 pub record FitsSchema (s : Schema) : Type 0 where
-  pub count : FitsCount (length s.columns)
-  pub names : AllByRecursion FitsColumn s.columns
+  pub columns : FitCounted FitsColumn s.columns
   pub once : IsTrue (not (has_twice (map (λ (c : Column). c.name) s.columns)))
   pub key_in : s.key < length s.columns
   pub key_kind : IsTrue (not (same_kind (column_at s.columns s.key).kind kind.Bool))

@@ -1,12 +1,11 @@
 -- What a query gives on plain tables: filters and nested loops.
-use Rattle.std.specs.Prelude.{ℕ, zero, suc, ◌+◌, Bool, true, false, not, ◌&&◌, ◌||◌, ◌==◌, nat_lt, if◌then◌else◌, List, [], ◌∷◌, ◌++◌, map, length, slice_index_or, filter, flat_map, count_by, Option, Some, None, option_map, option_to_list, is_some, is_none, bytes_eq}
+use Rattle.std.specs.Prelude.{ℕ, zero, suc, ◌+◌, Bool, true, not, ◌&&◌, ◌==◌, nat_lt, if◌then◌else◌, List, [], ◌∷◌, ◌++◌, map, length, slice_index_or, filter, flat_map, count_by, Option, Some, None, option_map, option_to_list, is_some, bytes_eq}
 use Rattle.std.specs.Option.{option_map_or}
 use Rattle.std.specs.List.{list_any, position_or_len}
 use Rattle.std.specs.Ordering.{is_eq}
 use Rattle.vo_spec.specs.declared.values.Kind.{Kind}
 use Rattle.vo_spec.specs.declared.values.Value.{Value}
 use Rattle.vo_spec.specs.declared.values.Row.{Row}
-use Rattle.vo_spec.specs.declared.tables.Column.{Column}
 use Rattle.vo_spec.specs.declared.tables.Schema.{Schema}
 use Rattle.vo_spec.specs.declared.tables.Table.{Table}
 use Rattle.vo_spec.specs.declared.queries.Ref.{Ref}
@@ -22,8 +21,8 @@ use Rattle.vo_spec.specs.declared.queries.Outcome.{Outcome}
 use Rattle.vo_spec.specs.declared.queries.Outcome.TheVariants.{Rows, Wrong}
 use Rattle.vo_spec.specs.Firsts.{first_of, first_some}
 use Rattle.vo_spec.specs.Values.{kind_of, same_kind, value_of_key, value_cmp}
-use Rattle.vo_spec.specs.Tables.{Heading, heading_of, heading_named, rows_named, column_at, column_number, has_column, cell_number, value_at, is_key}
-use Rattle.vo_spec.specs.Conditions.{Condition, condition_refs, comparisons, is_met, Query}
+use Rattle.vo_spec.specs.Tables.{Heading, heading_of, heading_named, rows_named, column_at, column_number, has_column, cell_number, value_at}
+use Rattle.vo_spec.specs.Conditions.{condition_refs, comparisons, is_met, Query}
 
 -- The sources.
 

@@ -5,26 +5,34 @@
 //! definitions in `specs/` speak of the very values that the program passes.
 #![tactic(auto)]
 
+mod cells;
 mod checks;
 mod collision;
 mod digest;
 mod keys;
 mod lists;
+mod needs;
+mod numbers;
 mod queries;
 mod records;
 mod signatures;
 mod tables;
 mod texts;
+mod trees;
 mod values;
 
+pub use cells::{Cell, CellValue, KeyPart, PartEntry, RowPart, ValueRef};
 pub use checks::{Answer, AuditFault, CheckFault, Verdict};
 pub use collision::Collision;
 pub use digest::Digest;
 pub use keys::{Bound, Interval, Key};
 pub use lists::List;
+pub use needs::{Need, SeenRow};
+pub use numbers::{u16_bytes, u32_bytes, u64_bytes};
 pub use queries::{Cmp, Cond, Items, Join, Operand, Outcome, QueryFault, QueryText, Ref, Source};
 pub use records::{Catalog, CatalogTable, Entry, Record};
 pub use signatures::{LmsType, OtsType};
 pub use tables::{Batch, Column, Command, CommandFault, Schema, SetPart, Table, Tables};
 pub use texts::{Name, Text};
-pub use values::{Kind, Row, Value};
+pub use trees::{Agreement, ScanFault, Twins, UpdateFault};
+pub use values::{Kind, Row, Value, copy_values};

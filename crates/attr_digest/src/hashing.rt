@@ -1,0 +1,101 @@
+//! What is hashed of a row.
+ghost use Rattle.std.specs.Prelude.{◌≡◌, ◌≤◌, length, All};
+ghost use Rattle.vo_spec.specs.Sha256.{sha256};
+ghost use Rattle.vo_spec.specs.declared.cells.Cell.TheVariants.{Shown};
+ghost use Rattle.vo_spec.specs.declared.values.Value.TheVariants.{Int, Text};
+ghost use Rattle.vo_spec.specs.Lent.{value_of};
+ghost use Rattle.vo_spec.specs.Values.{value_bytes, FitsValue};
+ghost use Rattle.vo_spec.specs.Cells.{cell_digest as cell_digest_of, row_bytes, row_digest as row_digest_of, whole_row};
+ghost use Rattle.vo_spec.specs.Fits.{FitsCell, FitsCells, FitsRowPart, most_cells};
+ghost use Rattle.attr_digest.specs.Adding.{Adds};
+
+use tagged_hash::Hasher;
+use vo_spec::{Cell, Digest, RowPart, Value, ValueRef, u16_bytes, u64_bytes};
+
+/// The digest of the value in this column, numbered from 0 among those that aren't the key.
+pub fn attr_digest(column: u8, value: ValueRef<'_>) -> Digest
+    requires { FitsValue (value_of value) }
+    ensures { result ≡ cell_digest_of column (Shown (value_of value.entry)) }
+{
+    let mut hasher = Hasher::new();
+    hasher.add(&[1, column]);
+    add_value(&mut hasher, value);
+    hasher.end()
+}
+
+/// Adds the value's bytes to what is hashed.
+pub fn add_value(hasher: &mut Hasher, value: ValueRef<'_>)
+    requires { FitsValue (value_of value) }
+    ensures { Adds hasher.old hasher.new (value_bytes (value_of value.entry)) }
+{
+    match value {
+        ValueRef::Int(number) => add_int(hasher, number),
+        ValueRef::Text(text) => add_text(hasher, text),
+        ValueRef::Bool(truth) => hasher.add(&[3, u8::from(truth)]),
+    }
+}
+
+fn add_int(hasher: &mut Hasher, number: i64)
+    ensures { Adds hasher.old hasher.new (value_bytes (Int number)) }
+{
+    hasher.add(&[1]);
+    hasher.add(&u64_bytes(number.cast_unsigned()));
+}
+
+fn add_text(hasher: &mut Hasher, text: &[u8])
+    requires { length text.now ≤ 1024 }
+    ensures { Adds hasher.old hasher.new (value_bytes (Text text.now)) }
+{
+    hasher.add(&[2]);
+    hasher.add(&u16_bytes(text.len() as u16));
+    hasher.add(text);
+}
+
+/// The digest of the row: its own where it is one.
+pub fn row_digest(part: &RowPart<'_>) -> Digest
+    requires { FitsRowPart part.now }
+    ensures { result ≡ row_digest_of part.now }
+{
+    match part {
+        RowPart::Digest(digest) => *digest,
+        RowPart::Cells(cells) => cells_digest(cells.as_slice()),
+    }
+}
+
+/// The digest of a row with all its cells shown.
+#[tactic(auto, using(crate::proofs::Digests::whole_digests_more))]
+pub fn whole_row_digest(values: &[Value]) -> Digest
+    requires { FitsCells values.now }
+    ensures { result ≡ row_digest_of (whole_row values.now) }
+{
+    let mut hasher = Hasher::new();
+    hasher.add(&[2, values.len() as u8]);
+    for (column, value) in values.iter().enumerate() {
+        hasher.add(attr_digest(column as u8, value.as_ref()).as_bytes());
+    }
+    hasher.end()
+}
+
+#[tactic(auto, using(crate::proofs::Digests::cell_digests_more))]
+fn cells_digest(cells: &[Cell<'_>]) -> Digest
+    requires count { length cells.now ≤ most_cells }
+    requires fits { All FitsCell cells.now }
+    ensures { result ≡ sha256 (row_bytes cells.now) }
+{
+    let mut hasher = Hasher::new();
+    hasher.add(&[2, cells.len() as u8]);
+    for (column, cell) in cells.iter().enumerate() {
+        hasher.add(cell_digest(column as u8, cell).as_bytes());
+    }
+    hasher.end()
+}
+
+fn cell_digest(column: u8, cell: &Cell<'_>) -> Digest
+    requires { FitsCell cell.now }
+    ensures { result ≡ cell_digest_of column cell.now }
+{
+    match cell {
+        Cell::Shown(value) => attr_digest(column, value.as_ref()),
+        Cell::Hidden(digest) => *digest,
+    }
+}

@@ -1,0 +1,9 @@
+//! Digests of attributes and rows, and rows with some of their cells hidden.
+#![tactic(auto)]
+
+mod hashing;
+mod hiding;
+
+pub use hashing::{add_value, attr_digest, row_digest, whole_row_digest};
+pub use hiding::hide;
+pub use vo_spec::{Cell, CellValue, RowPart};
