@@ -6,9 +6,8 @@ ghost use Rattle.vo_spec.specs.Ots.{randomizer, signed_value, ots_public, ots_ca
 
 use crate::chains::{chain, secret};
 use crate::digits::{coef, digits_of};
-use crate::numbers::u32_bytes;
 use std::alloc::{AllocError, Global};
-use vo_spec::{Digest, OtsType};
+use vo_spec::{Digest, OtsType, u32_bytes};
 
 // The chain number of the hash that makes the randomizer from the seed: no chain has it.
 const RANDOMIZER: u16 = 0xfffd;

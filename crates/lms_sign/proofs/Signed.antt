@@ -1,15 +1,15 @@
 -- What a secret key signs is valid under its public key.
-use Rattle.std.proofs.Common.{◌≡◌, ℕ, ◌+◌, ◌-◌, ◌*◌, ◌/◌, ◌^◌, ◌≤◌, ◌<◌, List, [], ◌++◌, length, drop, take, refl, sym, ap, ◌∙◌, append_assoc, arith}
-use Rattle.std.specs.Prelude.{true, Some, nat_lt, nat_le}
+use Rattle.std.proofs.Common.{◌≡◌, ℕ, ◌+◌, ◌-◌, ◌*◌, ◌/◌, ◌^◌, ◌≤◌, ◌<◌, List, [], ◌++◌, length, drop, refl, sym, ap, ◌∙◌, append_assoc, arith}
+use Rattle.std.specs.Prelude.{true, Some, nat_le}
 use Rattle.std.proofs.lemmas.Bool.{and_from, eq-eqb, lt-ltb, le-leb, cond-true}
 use Rattle.std.proofs.lemmas.List.{append-nil, length-append}
 use Rattle.std.proofs.lemmas.Slice.Eq.{bytes_eq-Decides}
 use Rattle.std.proofs.Math.Seq.{drop-append_seam, take-append_seam}
-use Rattle.vo_spec.specs.Bytes.{u32_bytes, u32_at, digest_at, joined}
+use Rattle.vo_spec.specs.Bytes.{u32_bytes, u32_at, joined}
 use Rattle.vo_spec.specs.OtsSets.{ots_signature_len}
-use Rattle.vo_spec.specs.Ots.{ots_signature, ots_public, ots_candidate, is_ots_form}
+use Rattle.vo_spec.specs.Ots.{ots_signature, ots_public, is_ots_form}
 use Rattle.vo_spec.specs.LmsSets.{lms_code_of, height_of, leaves_of, lms_signature_len}
-use Rattle.vo_spec.specs.Lms.{ots_part, path_at, climb, leaf_node, is_lms_form, lms_candidate, is_valid_under, lms_valid, leaf_of, key_signature_len}
+use Rattle.vo_spec.specs.Lms.{ots_part, path_at, leaf_node, is_lms_form, lms_candidate, is_valid_under, lms_valid, leaf_of, key_signature_len}
 use Rattle.vo_spec.specs.Secret.{Secret, tree_node, path_node, sibling_of, lms_signature, public_of_secret}
 use Rattle.lm_ots.proofs.Pieces.{length-u32_bytes, length-joined, digest_at-joined, u32_at-front, u32_at-append}
 use Rattle.lm_ots.proofs.Valid.{length-ots_signature, signed_form, signed_leads}

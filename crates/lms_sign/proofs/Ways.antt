@@ -1,9 +1,9 @@
 -- The way from a leaf to the root.
-use Rattle.std.proofs.Common.{◌≡◌, ℕ, zero, suc, ◌+◌, ◌-◌, ◌*◌, ◌/◌, ◌%◌, ◌^◌, ◌≤◌, ◌<◌, ◌⊎◌, inl, inr, List, length, refl, sym, ap, ◌∙◌, add-one, arith}
+use Rattle.std.proofs.Common.{◌≡◌, ℕ, zero, suc, ◌+◌, ◌-◌, ◌*◌, ◌/◌, ◌%◌, ◌^◌, ◌≤◌, ◌<◌, ◌⊎◌, inl, inr, List, refl, sym, ap, ◌∙◌, add-one, arith}
 use Rattle.std.proofs.lemmas.Nat.{pow_pos, shr-shr, le-div}
 use Rattle.std.proofs.Math.Nat.{two-pow-succ, pow-le-pow_right, div-one, div-le_self, div-eq_of_lt-le}
 use Rattle.vo_spec.specs.LmsSets.{height_of, leaves_of}
-use Rattle.vo_spec.specs.Lms.{parent, climb, inner_node}
+use Rattle.vo_spec.specs.Lms.{parent, climb}
 use Rattle.vo_spec.specs.Secret.{Secret, tree_node, sibling_of, path_node}
 use Rattle.lms_sign.proofs.Trees.{tree_inner}
 

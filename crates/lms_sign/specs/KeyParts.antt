@@ -1,13 +1,13 @@
 -- The parts of a public key, read back from its bytes.
 use Rattle.std.proofs.Common.{◌≡◌, ℕ, ◌^◌, ◌<◌, List, [], ◌++◌, length, refl, sym, append_assoc, lit<}
-use Rattle.std.proofs.Math.Seq.{drop-append_seam, take-append_seam, drop-append-add}
+use Rattle.std.proofs.Math.Seq.{drop-append_seam, take-append_seam}
 use Rattle.std.proofs.lemmas.List.{append-nil, length-append}
-use Rattle.std.specs.Prelude.{Option, Some, None, unwrap_or}
+use Rattle.std.specs.Prelude.{Some, unwrap_or}
 use Rattle.vo_spec.specs.declared.signatures.OtsType.{OtsType}
 use Rattle.vo_spec.specs.declared.signatures.OtsType.TheVariants.{W1, W2, W4, W8}
 use Rattle.vo_spec.specs.declared.signatures.LmsType.{LmsType}
 use Rattle.vo_spec.specs.declared.signatures.LmsType.TheVariants.{H5, H10, H15, H20, H25}
-use Rattle.vo_spec.specs.Bytes.{u32_bytes, u32_at, digest_at, id_at}
+use Rattle.vo_spec.specs.Bytes.{u32_bytes, id_at}
 use Rattle.vo_spec.specs.OtsSets.{ots_of, ots_code_of}
 use Rattle.vo_spec.specs.LmsSets.{lms_of, lms_code_of}
 use Rattle.vo_spec.specs.Lms.{key_lms, key_ots, key_id, key_root, public_bytes}

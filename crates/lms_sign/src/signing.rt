@@ -7,9 +7,10 @@ ghost use Rattle.vo_spec.specs.Secret.{path_node, sibling_of, lms_signature, pub
 ghost use Rattle.lms_sign.specs.declared.signing.SignFault.TheVariants.{Memory};
 
 use crate::secret_key::SecretKey;
-use lm_ots::{sign_onto, u32_bytes};
+use lm_ots::sign_onto;
 use std::alloc::{AllocError, Global};
 use thiserror::Error;
+use vo_spec::u32_bytes;
 
 /// Why a message is not signed.
 #[derive(Clone, Copy, Debug, PartialEq, Eq, Error)]

@@ -2,11 +2,12 @@
 ghost use Rattle.std.specs.Prelude.{◌≡◌, ◌⊎◌};
 
 use super::*;
-use lm_ots::{sign_ots, u32_bytes};
+use lm_ots::sign_ots;
 use std::alloc::{AllocError, Global};
 use std::process::Abort;
 use std::test::Fail;
 use tagged_hash::digest_of;
+use vo_spec::u32_bytes;
 
 const ID: [u8; 16] = [0, 1, 2, 3, 4, 5, 6, 7, 8, 9, 10, 11, 12, 13, 14, 15];
 

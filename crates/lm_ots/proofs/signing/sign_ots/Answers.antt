@@ -1,4 +1,4 @@
-use Rattle.std.proofs.Common.{◌≡◌, ◌++◌, Vec, ℕ, Global, refl}
+use Rattle.std.proofs.Common.{◌≡◌, ◌++◌, Vec, ℕ, Global}
 use Rattle.std.specs.Prelude.{IsTrue}
 use Rattle.std.proofs.lemmas.Result.{IfOk-weaker}
 use Rattle.vo_spec.specs.Ots.{ots_signature, ots_public, ots_candidate, is_ots_form}

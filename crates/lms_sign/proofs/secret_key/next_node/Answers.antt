@@ -1,6 +1,6 @@
-use Rattle.std.proofs.Common.{◌≡◌, ◌+◌, ◌*◌, ◌%◌, ◌^◌, ◌<◌, ◌≤◌, refl, sym, ◌∙◌, arith}
+use Rattle.std.proofs.Common.{◌≡◌, ◌+◌, ◌*◌, ◌%◌, ◌^◌, ◌<◌, ◌≤◌, sym, arith}
 use Rattle.vo_spec.specs.LmsSets.{leaves_of}
-use Rattle.vo_spec.specs.Secret.{secret_of, tree_node}
+use Rattle.vo_spec.specs.Secret.{secret_of}
 use Rattle.lms_sign.proofs.Keys.{leaves_fit_32}
 use Rattle.lms_sign.proofs.Trees.{tree_bottom, tree_inner, node_kept}
 use Rattle.lms_sign.proofs.secret_key.next_node.Goals as goal

@@ -1,7 +1,6 @@
-use Rattle.std.proofs.Common.{◌≡◌, ◌+◌, ◌*◌, ◌%◌, ◌^◌, ◌<◌, ◌≤◌, refl, sym, ◌∙◌, arith}
-use Rattle.vo_spec.specs.LmsSets.{leaves_of}
+use Rattle.std.proofs.Common.{refl, arith}
 use Rattle.vo_spec.specs.Lms.{lms_candidate}
-use Rattle.lms_sign.proofs.Forms.{HasForm, has_form}
+use Rattle.lms_sign.proofs.Forms.{has_form}
 use Rattle.lms_sign.proofs.Keys.{leaves_fit_32, leaves_few}
 use Rattle.lms_sign.proofs.verifying.candidate_root.Goals as goal
 

@@ -1,6 +1,4 @@
-use Rattle.std.proofs.Common.{◌≡◌, length, sym, inl, inr, ◌∙◌, Some}
-use Rattle.vo_spec.specs.LmsSets.{lms_of}
-use Rattle.vo_spec.specs.OtsSets.{ots_of}
+use Rattle.std.proofs.Common.{◌≡◌, sym, inl, inr, ◌∙◌, Some}
 use Rattle.vo_spec.specs.Lms.{IsUnknownSet, key_lms, key_ots}
 use Rattle.lms_sign.proofs.Reading.{public_bytes-read}
 use Rattle.lms_sign.proofs.public_key.PublicKey.read.Goals as goal

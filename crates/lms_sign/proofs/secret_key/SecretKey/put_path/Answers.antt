@@ -1,9 +1,9 @@
-use Rattle.std.proofs.Common.{◌≡◌, ◌+◌, ◌*◌, ◌/◌, ◌%◌, ◌^◌, ◌<◌, ◌≤◌, ◌++◌, refl, sym, ap, ◌∙◌, arith}
+use Rattle.std.proofs.Common.{◌≡◌, ◌+◌, ◌*◌, ◌/◌, ◌%◌, ◌^◌, ◌<◌, sym, arith}
 use Rattle.std.proofs.lemmas.List.{append-nil}
 use Rattle.std.proofs.Math.Nat.{div-le_self}
 use Rattle.vo_spec.specs.Bytes.{joined}
 use Rattle.vo_spec.specs.LmsSets.{height_of, leaves_of}
-use Rattle.vo_spec.specs.Secret.{path_node, sibling_of}
+use Rattle.vo_spec.specs.Secret.{path_node}
 use Rattle.lm_ots.proofs.Pieces.{joined_on}
 use Rattle.lms_sign.proofs.Keys.{leaves_fit_32}
 use Rattle.lms_sign.proofs.Ways.{low_enough, sibling_range}
