@@ -1,1 +1,5 @@
 pub mod Utf8
+pub mod Readers
+pub mod ValueLaws
+pub mod KeyLaws
+pub mod Rounds

@@ -16,3 +16,8 @@ TakenOr (Err fault) old new read = (read ≡ Err fault) × (new ≡ old)
 abbrev pub Read : Result (ValueRef × Bor (List ℕ)) FormFault → Result (Value × List ℕ) FormFault → Type 0
 Read (Ok x) read = read ≡ Ok (value_of x.0, x.1.now)
 Read (Err fault) read = read ≡ Err fault
+
+-- a call answers the value, lent, or its fault
+abbrev pub Lends : Result ValueRef FormFault → Result Value FormFault → Type 0
+Lends (Ok v) answer = answer ≡ Ok (value_of v)
+Lends (Err fault) answer = answer ≡ Err fault

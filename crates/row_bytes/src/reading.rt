@@ -57,11 +57,35 @@ fn value_at(bytes: &[u8]) -> Result<(ValueRef<'_>, &[u8]), FormFault>
     }
 }
 
+/// The value in front, and the bytes after it.
+fn front_value(bytes: &[u8]) -> Result<(ValueRef<'_>, &[u8]), FormFault>
+    ensures exact { Read result (value_at bytes.now) }
+    ensures found { IfOk result (λ x. FitsValue (value_of x.0) × (bytes.now ≡ value_bytes (value_of x.0) ++ x.1.now)) }
+    ensures only { (v : Plain) (rest : List ℕ) → FitsValue v → bytes.now ≡ value_bytes v ++ rest
+        → IsOkAnd result (λ x. (value_of x.0 ≡ v) × (x.1.now ≡ rest)) }
+{
+    value_at(bytes)
+}
+
 /// Takes the value whose bytes come next, and lends its text.
 pub fn take_value<'b>(cursor: &mut Cursor<'b>) -> Result<ValueRef<'b>, FormFault>
+    // What is taken is a value's spelling.
+    ensures found { IfOk result (λ v. FitsValue (value_of v) × (cursor.old ≡ value_bytes (value_of v) ++ cursor.new)) }
+
+    // What is spelled is taken.
+    ensures only { (v : Plain) (rest : List ℕ) → FitsValue v → cursor.old ≡ value_bytes v ++ rest
+        → IsOkAnd result (λ x. value_of x ≡ v) × (cursor.new ≡ rest) }
+
+    // Which fault it is; and a fault leaves the cursor.
     ensures exact { TakenOr result cursor.old cursor.new (value_at cursor.old) }
 {
-    let (value, rest) = value_at(cursor.rest())?;
+    let (value, rest) = front_value(cursor.rest())?;
     *cursor = Cursor::new(rest);
     Ok(value)
 }
+
+/// No value's spelling begins another's.
+pub fn one_spelling()
+    ensures { (v w : Plain) (a b : List ℕ) → FitsValue v → FitsValue w
+        → value_bytes v ++ a ≡ value_bytes w ++ b → (v ≡ w) × (a ≡ b) }
+{}

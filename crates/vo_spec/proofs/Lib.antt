@@ -1,2 +1,10 @@
-mod WorkedTrees
 mod WorkedRows
+mod WorkedTrees
+pub mod KeyOrder
+pub mod ListLaws
+pub mod ScanLaws
+pub mod SeenLaws
+pub mod ValueOrder
+pub mod ConditionLaws
+pub mod AnswerLaws
+pub mod JoinLaws

@@ -1,5 +1,5 @@
 -- Commands and batches as bytes.
-use Rattle.std.specs.Prelude.{ℕ, ◌≤◌, List, [], ◌∷◌, ◌++◌, length}
+use Rattle.std.specs.Prelude.{◌≡◌, ℕ, ◌≤◌, List, [], ◌∷◌, ◌++◌, length}
 use Rattle.std.specs.List.{flat_map, AllByRecursion}
 use Rattle.vo_spec.specs.declared.values.Value.{Value}
 use Rattle.vo_spec.specs.declared.tables.Column.{Column}
@@ -66,3 +66,8 @@ pub record FitsBatch (commands : List Command) : Type 0 where
   pub count : length commands ≤ most_commands
   pub each : AllByRecursion FitsCommand commands
   pub size : length (batch_bytes commands) ≤ most_batch_bytes
+
+-- The bytes are this batch.
+pub record IsBatch (bytes : List ℕ) (batch : List Command) : Type 0 where
+  pub fits : FitsBatch batch
+  pub spelled : bytes ≡ batch_bytes batch

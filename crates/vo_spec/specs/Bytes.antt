@@ -1,7 +1,11 @@
 -- Numbers as bytes, the highest first, and what stands at a place of a byte string. What a number has as
 -- bytes stays closed here, so that goals speak of numbers.
-use Rattle.std.specs.Prelude.{ℕ, zero, suc, ◌+◌, List, [], ◌∷◌, ◌++◌, length, take, drop, slice_index}
+use Rattle.std.specs.Prelude.{ℕ, zero, suc, ◌+◌, ◌<◌, List, [], ◌∷◌, ◌++◌, length, take, drop, slice_index}
 use Rattle.std.specs.Int.{w16, w32, w64, to_be_bytes, from_be_bytes}
+
+-- each number of the list is a byte
+abbrev pub IsBytes : List ℕ → Type 0
+IsBytes bytes = (i : ℕ) → slice_index bytes i < 256
 
 -- the two bytes of a number below 2 ^ 16
 unfoldable pub u16_bytes : ℕ → List ℕ

@@ -15,6 +15,9 @@ pub record Secret : Type 0 where
   pub ots : OtsType
   pub lms : LmsType
 
+abbrev pub secret_of : List ℕ → List ℕ → OtsType → LmsType → Secret
+secret_of id seed ots lms = record { id = id; seed = seed; ots = ots; lms = lms }
+
 -- the tree's node r where it is at or above 2 ^ h, from the one-time key of its leaf
 abbrev pub bottom_node : Secret → ℕ → List ℕ
 bottom_node key r = leaf_node key.id r (ots_public key.id (r - 2 ^ height_of key.lms) key.ots key.seed)

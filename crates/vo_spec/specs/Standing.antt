@@ -44,13 +44,14 @@ module _ {E M : Type 0} (family : Family E M) where
     IsNode fewest height lower upper (inner ss ps) =
         (0 < height) × (fewest ≤ count ps) × (count ps ≤ most_in_node) × AreNodes (height - 1) lower upper ss ps
 
-    -- and its children, one separator fewer than they are
+    -- and its children, with the separators between them, one fewer, within the same bounds
     pub AreNodes : ℕ → Option (List ℕ) → Option (List ℕ) → List (List ℕ) → Parts E M → Type 0
     AreNodes height lower upper ss none = ⊥
     AreNodes height lower upper [] (more m p none) = (m ≡ family.mark p) × IsNode half height lower upper p
     AreNodes height lower upper [] (more m p (more n q ps)) = ⊥
     AreNodes height lower upper (s ∷ ss) (more m p ps) =
-        (m ≡ family.mark p) × IsNode half height lower (Some s) p × AreNodes height (Some s) upper ss ps
+        (m ≡ family.mark p) × IsTrue (is_between lower upper s)
+        × IsNode half height lower (Some s) p × AreNodes height (Some s) upper ss ps
 
   -- a root that is a leaf may have any number of entries, and an inner one two children
   abbrev pub fewest_in_root : Part E M → ℕ

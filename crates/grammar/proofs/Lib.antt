@@ -1,0 +1,10 @@
+pub mod Truths
+pub mod KindSets
+pub mod Starts
+pub mod Completions
+pub mod Complete
+pub mod Shorter
+pub mod Widen
+pub mod Traced
+pub mod Levels
+pub mod Judged

@@ -1,0 +1,5 @@
+pub mod Chaining
+pub mod Checking
+pub mod Pieces
+pub mod Forms
+pub mod Valid

@@ -1,0 +1,21 @@
+//! One-time signatures by hash chains: LM-OTS over SHA-256 (RFC 8554, section 4).
+//!
+//! A key pair is named by the identifier of its tree and its leaf's number. Its secrets are made from a seed as in the
+//! RFC's appendix A, and so is the randomizer: one message by one leaf always has one signature.
+#![tactic(auto)]
+
+mod candidates;
+mod chains;
+mod digits;
+mod numbers;
+mod signing;
+
+pub use candidates::{candidate, candidate_end};
+pub use chains::{chain, public_of, secret};
+pub use digits::{checksum, coef, digits_of};
+pub use numbers::{digest_at, u16_bytes, u32_at, u32_bytes};
+pub use signing::{sign_onto, sign_ots, signed_value};
+pub use vo_spec::{Digest, OtsType};
+
+#[cfg(test)]
+mod tests;

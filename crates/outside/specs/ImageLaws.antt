@@ -1,0 +1,74 @@
+-- What reads give, a crash may leave.
+use Rattle.std.proofs.Common.{rules, suc, ap, ◌∙◌, sym, subst, min, max, ◌≡◌, ℕ, ◌+◌, ◌-◌, ◌<◌, ◌≤◌, ◌==◌, ◌&&◌, ◌||◌, not, ◌⊎◌, inl, inr, cond, Bool, true, false, List, [], ◌∷◌, ◌++◌, length, take, drop, get_or, arith, refl, IsTrue, fold, nat_lt, nat_le}
+use Rattle.std.proofs.lemmas.List.{length-drop, length-take, take_all}
+use Rattle.std.proofs.lemmas.Bool.Decides.{nat_tests}
+use Rattle.std.proofs.lemmas.List.Sums.{fold-append}
+use Rattle.outside.specs.declared.room.Room.{Room}
+use Rattle.outside.specs.declared.mem_disk.done.Done.{Done}
+use Rattle.outside.specs.declared.mem_disk.done.Done.TheVariants.{Write, Sync}
+use Rattle.outside.specs.Done.{log_start, seen_after, calls_after}
+use Rattle.outside.specs.Drive.{Call, Wrote, Synced, Drive, Down, down_after, IsImage, MayLeave, overwritten, furthest, has, is_written, range_end}
+use Rattle.outside.specs.OverwrittenLaws.{length-overwritten, get_or-overwritten}
+
+neither : (a b : Bool) → IsTrue (not (a || b)) → IsTrue (not a) × IsTrue (not b)
+neither true b free = absurd (cc free)
+neither false b free = (refl, free)
+
+-- a place that no range has is in neither the newest nor an older one
+newest-misses : (k : ℕ) (range : ℕ × ℕ) (ranges : List (ℕ × ℕ)) → IsTrue (not (is_written k (range ∷ ranges)))
+    → IsTrue (not (has k range)) × IsTrue (not (is_written k ranges))
+newest-misses k range ranges free = neither (has k range) (is_written k ranges) free
+
+outside-range : (k place count : ℕ) → IsTrue (not (nat_le place k && nat_lt k (place + count))) → (k < place) ⊎ (place + count ≤ k)
+outside-range k place count free = grind (arith, nat_tests)
+
+nearer : (k place few count : ℕ) → few ≤ count → (k < place) ⊎ (place + count ≤ k) → (k < place) ⊎ (place + few ≤ k)
+nearer k place few count le (inl before) = inl before
+nearer k place few count le (inr after) = inr (omega arith)
+
+-- a range that is no longer ends no further
+end-of-front : (place few count : ℕ) → few ≤ count → cond (few == 0) 0 (place + few) ≤ cond (count == 0) 0 (place + count)
+end-of-front place few count le = grind (arith, nat_tests)
+
+-- a write whose front was kept leaves an image
+pub after_write : (down : Down) (seen piece : List ℕ) (place count : ℕ) → length piece ≤ count → IsImage down seen
+    → IsImage (down_after down (Wrote place count)) (overwritten place piece seen)
+after_write down seen piece place count front image = record {
+  no_shorter = let e = length-overwritten place piece seen in omega arith;
+  no_longer =
+      let e = length-overwritten place piece seen in
+      let l = end-of-front place (length piece) count front in
+      omega arith;
+  stays = λ k within free.
+      let parts = newest-misses k (place, count) down.ranges free in
+      let apart = nearer k place (length piece) count front (outside-range k place count parts.0) in
+      let inside : k < length seen = omega arith in
+      get_or-overwritten place piece seen k apart inside ∙ image.stays k within parts.1;
+}
+
+-- the state at the end of the calls that a disk in memory has kept
+abbrev pub down_of : List ℕ → List Call → Down
+down_of first calls = fold down_after (record { contents = first; ranges = [] }) calls
+
+one_more : (first : List ℕ) (calls : List Call) (call : Call) → down_of first (calls ++ call ∷ []) ≡ down_after (down_of first calls) call
+one_more first calls call = fold-append down_after (record { contents = first; ranges = [] }) calls (call ∷ [])
+
+pub seen-image : (first log : List ℕ) (done : List Done) → IsImage (down_of first (calls_after first log done)) (seen_after first log done)
+seen-image first log [] = record { no_shorter = omega arith; no_longer = omega arith; stays = λ k within free. refl }
+seen-image first log (Write at kept lost ∷ earlier) =
+    let log' : List ℕ = take (log_start log kept) log in
+    let piece : List ℕ = drop (log_start log kept) log in
+    let front : length piece ≤ kept + lost = simp length-drop (omega arith) in
+    rw (one_more first (calls_after first log' earlier) (Wrote at (kept + lost)))
+    (after_write _ _ piece at (kept + lost) front (seen-image first log' earlier))
+seen-image first log (Sync ∷ earlier) =
+    rw (one_more first (calls_after first log earlier) (Synced (seen_after first log earlier)))
+    record { no_shorter = omega arith; no_longer = omega arith; stays = λ k within free. refl }
+
+-- what reads give after the calls that a disk in memory has kept, a crash may leave
+pub may_leave-seen : (first seen log : List ℕ) (done : List Done) (room : Room) → seen ≡ seen_after first log done
+    → MayLeave (record { seen = seen; first = first; calls = calls_after first log done; room = room }) seen
+may_leave-seen first seen log done room same =
+    let calls : List Call = calls_after first log done in
+    let all : take (length calls) calls ≡ calls = take_all (length calls) calls (omega arith) in
+    rw all (rw same (seen-image first log done))

@@ -1,0 +1,15 @@
+pub mod Done
+pub mod Drive
+pub mod FailAt
+pub mod Failure
+pub mod ImageLaws
+pub mod MemDisk
+pub mod MemNet
+pub mod MemShelf
+pub mod MemSink
+pub mod Miss
+pub mod OverwrittenLaws
+pub mod Rose
+pub mod Shelf
+pub mod Sink
+pub mod Wire

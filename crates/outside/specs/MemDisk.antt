@@ -1,0 +1,16 @@
+-- A disk that is kept in memory.
+use Rattle.std.specs.Prelude.{reverse}
+use Rattle.outside.specs.Done.{calls_after}
+use Rattle.outside.specs.Drive.{Drive}
+use Rattle.outside.specs.declared.mem_disk.MemDisk.{MemDisk}
+
+abbrev pub drive_of : {P : Type 0} → MemDisk P → Drive
+drive_of disk = record {
+  seen = disk.seen.items;
+  first = disk.first.items;
+  calls = calls_after disk.first.items disk.log.items (reverse disk.done.items);
+  room = disk.room;
+}
+
+abbrev pub plan_of : {P : Type 0} → MemDisk P → P
+plan_of disk = disk.failures

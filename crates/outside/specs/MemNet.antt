@@ -1,0 +1,19 @@
+-- Connections that are kept in memory.
+use Rattle.std.specs.Prelude.{ℕ, drop, map}
+use Rattle.outside.specs.Wire.{Wire}
+use Rattle.outside.specs.declared.mem_net.MemNet.{MemNet}
+
+abbrev pub wire_of : {P : Type 0} → MemNet P → Wire
+wire_of net = record {
+  stands = net.stands;
+  coming = drop net.taken net.coming.items;
+  sent = net.sent.items;
+  queue = map (λ bytes. bytes.items) net.queue.items;
+  past = map (λ bytes. bytes.items) net.past.items;
+}
+
+abbrev pub misses_of : {P : Type 0} → MemNet P → ℕ
+misses_of net = net.misses
+
+abbrev pub plan_of : {P : Type 0} → MemNet P → P
+plan_of net = net.failures

@@ -1,0 +1,43 @@
+-- What a write leaves of the bytes that it goes over.
+use Rattle.std.proofs.Common.{rules, suc, ap, ◌∙◌, min, ◌≡◌, ℕ, ◌+◌, ◌-◌, ◌<◌, ◌≤◌, ◌==◌, ◌⊎◌, inl, inr, max, cond, Bool, true, false, List, [], ◌∷◌, ◌++◌, length, take, drop, replicate, get_or, arith, refl}
+use Rattle.std.proofs.lemmas.List.{places, length-append, length-take, length-drop, length-replicate}
+use Rattle.std.proofs.lemmas.Grind.{common_steps}
+use Rattle.outside.specs.Drive.{gap, overwritten}
+
+-- the same with any number of zeros
+abbrev laid : ℕ → ℕ → List ℕ → List ℕ → List ℕ
+laid zeros place piece seen = (take place seen ++ replicate zeros 0) ++ piece ++ drop (place + length piece) seen
+
+length-laid : (zeros place : ℕ) (piece seen : List ℕ)
+    → length (laid zeros place piece seen) ≡ min place (length seen) + zeros + length piece + (length seen - (place + length piece))
+length-laid zeros place piece seen = simp (length-append, length-take, length-drop, length-replicate) refl
+
+laid-before : (zeros place : ℕ) (piece seen : List ℕ) (k : ℕ) → k < place → k < length seen
+    → get_or (laid zeros place piece seen) k 0 ≡ get_or seen k 0
+laid-before zeros place piece seen k before within = search (rules, places)
+
+laid-after : (place : ℕ) (piece seen : List ℕ) (k : ℕ) → place + length piece ≤ k → k < length seen
+    → get_or (laid 0 place piece seen) k 0 ≡ get_or seen k 0
+laid-after place piece seen k after within = search (rules, places)
+
+-- the zeros before a piece that has bytes
+some : (n m : ℕ) → cond (suc n == 0) 0 m ≡ m
+some n m = grind arith
+
+gap-some : (place b : ℕ) (bs seen : List ℕ) → overwritten place (b ∷ bs) seen ≡ laid (place - length seen) place (b ∷ bs) seen
+gap-some place b bs seen = ap (λ zeros. laid zeros place (b ∷ bs) seen) (some (length bs) (place - length seen))
+
+pub length-overwritten : (place : ℕ) (piece seen : List ℕ)
+    → length (overwritten place piece seen) ≡ max (length seen) (cond (length piece == 0) 0 (place + length piece))
+length-overwritten place [] seen = length-laid 0 place [] seen ∙ omega arith
+length-overwritten place (b ∷ bs) seen =
+    rw (some (length bs) (place + suc (length bs)))
+    (ap length (gap-some place b bs seen) ∙ length-laid (place - length seen) place (b ∷ bs) seen ∙ omega arith)
+
+pub get_or-overwritten : (place : ℕ) (piece seen : List ℕ) (k : ℕ) → (k < place) ⊎ (place + length piece ≤ k) → k < length seen
+    → get_or (overwritten place piece seen) k 0 ≡ get_or seen k 0
+get_or-overwritten place piece seen k (inl before) within = laid-before _ place piece seen k before within
+get_or-overwritten place [] seen k (inr after) within = laid-after place [] seen k after within
+get_or-overwritten place (b ∷ bs) seen k (inr after) within =
+    let none : place - length seen ≡ 0 = omega arith in
+    rw (gap-some place b bs seen, none) (laid-after place (b ∷ bs) seen k after within)

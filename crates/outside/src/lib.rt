@@ -1,0 +1,34 @@
+//! What lies outside the program, as traits: files, output, connections and a disk, with forms of each
+//! in memory.
+//!
+//! Each object counts its faults, and a call fails only where that count rose in it. What an object
+//! holds is told by the forms in memory, and not by a real one, of which nothing is known.
+#![tactic(auto)]
+
+mod disk;
+mod failures;
+mod faults;
+mod link;
+mod mem_disk;
+mod mem_net;
+mod mem_shelf;
+mod mem_sink;
+mod net;
+mod room;
+mod shelf;
+mod sink;
+#[cfg(test)]
+mod tests;
+
+pub use disk::Disk;
+pub use failures::{FailAt, Failure, Failures, Never};
+pub use faults::{Failed, PutFault, TakeFault};
+pub use link::Link;
+pub use mem_disk::MemDisk;
+pub use mem_net::MemNet;
+pub use mem_shelf::{MemShelf, NamedFile};
+pub use mem_sink::MemSink;
+pub use net::Net;
+pub use room::Room;
+pub use shelf::Shelf;
+pub use sink::Sink;

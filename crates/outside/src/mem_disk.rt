@@ -1,0 +1,180 @@
+//! A disk that is kept in memory, with what was done to it.
+ghost use Rattle.std.specs.Prelude.{◌≡◌, ℕ, ◌+◌, ◌≤◌, ◌↔◌, List, Some, length, take, drop, reverse, vec_len, vec_capacity, IsSome, IfOk, OnOk, OnErr, IsErr};
+ghost use Rattle.outside.specs.declared.room.Room.{Room};
+ghost use Rattle.outside.specs.Done.{seen_after};
+ghost use Rattle.outside.specs.Drive.{HasRoom, NoLess, fresh, overwritten, write_on, write_leaving, sync_now};
+ghost use Rattle.outside.specs.Rose.{Rose};
+
+use crate::disk::Disk;
+use crate::failures::Failures;
+use crate::faults::Failed;
+use crate::room::Room;
+use std::alloc::{AllocError, Global};
+
+mod done;
+mod overwrite;
+
+use done::Done;
+use overwrite::overwrite;
+
+/// Contents, and each write and sync since they were handed in.
+#[derive(Drop)]
+pub struct MemDisk<P> {
+    first: Vec<u8>,
+    seen: Vec<u8>,
+    // The bytes of all writes, in a row.
+    log: Vec<u8>,
+    done: Vec<Done>,
+    room: Room,
+    failures: P,
+    ghost kept: { seen.items ≡ seen_after first.items log.items (reverse done.items) },
+    ghost end: { room.end ≤ vec_capacity seen },
+    ghost bytes: { vec_len log + room.bytes ≤ vec_capacity log },
+    ghost calls: { vec_len done + room.calls ≤ vec_capacity done },
+}
+
+impl<P: Failures> MemDisk<P> {
+    ghost use Rattle.outside.specs.MemDisk.{drive_of, plan_of};
+
+    /// These contents, put down.
+    pub fn new(alloc: Global, contents: Vec<u8>, failures: P) -> Result<Self, AllocError>
+        ensures drive { IfOk result (λ disk. drive_of disk ≡ fresh contents.items) }
+        ensures plan { IfOk result (λ disk. plan_of disk ≡ failures) }
+    {
+        Ok(MemDisk {
+            first: Vec::from_slice(alloc, &contents)?,
+            seen: contents,
+            log: Vec::new(alloc),
+            done: Vec::new(alloc),
+            room: Room {
+                end: 0,
+                bytes: 0,
+                calls: 0,
+            },
+            failures,
+        })
+    }
+
+    /// What reads give.
+    pub fn seen(&self) -> &[u8]
+        ensures { result.now ≡ (drive_of self.now).seen }
+    {
+        self.seen.as_slice()
+    }
+
+    /// Writes a front of a piece, the rest of which is lost.
+    fn write_front(&mut self, at: u64, front: &[u8], lost: usize)
+        requires { HasRoom (at + (length front.now + lost)) (length front.now + lost) 1 (drive_of self.old).room }
+        ensures drive { drive_of self.new
+            ≡ write_leaving at (length front.now + lost) (overwritten at front.now (drive_of self.old).seen) (drive_of self.old) }
+        ensures plan { plan_of self.new ≡ plan_of self.old }
+    {
+        overwrite(&mut self.seen, at as usize, front);
+        self.log.extend_from_slice(front).unwrap();
+        let kept = front.len();
+        self.done.push(Done::Write { at, kept, lost }).unwrap();
+        self.room.bytes -= (kept + lost) as u64;
+        self.room.calls -= 1;
+    }
+}
+
+impl<P: Failures> Disk for MemDisk<P> {
+    ghost use Rattle.outside.specs.MemDisk.{drive_of, plan_of};
+    ghost use Rattle.outside.specs.ImageLaws.{may_leave-seen};
+
+    ghost drive = { λ disk. Some (drive_of disk) };
+
+    ghost faults = { λ disk. P.count (plan_of disk) };
+
+    ghost sees = { λ disk. may_leave-seen disk.first.items disk.seen.items disk.log.items (reverse disk.done.items) disk.room disk.kept };
+
+    fn len(&mut self) -> Result<u64, Failed>
+        ensures len { IfOk result (λ n. n ≡ length (drive_of self.old).seen) }
+        ensures kept { drive_of self.new ≡ drive_of self.old }
+        ensures counts { P.count (plan_of self.old) ≤ P.count (plan_of self.new) }
+        ensures cause { IsErr result → Rose (P.count (plan_of self.old)) (P.count (plan_of self.new)) }
+
+        ensures due { IsErr result ↔ IsSome (P.due (plan_of self.old)) }
+        ensures plan { plan_of self.new ≡ P.after (plan_of self.old) }
+    {
+        match self.failures.next_call() {
+            None => Ok(self.seen.len() as u64),
+            Some(_) => Err(Failed),
+        }
+    }
+
+    fn read(&mut self, at: u64, into: &mut [u8]) -> Result<(), Failed>
+        requires { at + length into.old ≤ length (drive_of self.old).seen }
+        ensures read { OnOk result (into.new ≡ take (length into.old) (drop at (drive_of self.old).seen)) }
+        ensures kept { drive_of self.new ≡ drive_of self.old }
+        ensures counts { P.count (plan_of self.old) ≤ P.count (plan_of self.new) }
+        ensures cause { IsErr result → Rose (P.count (plan_of self.old)) (P.count (plan_of self.new)) }
+
+        ensures due { IsErr result ↔ IsSome (P.due (plan_of self.old)) }
+        ensures plan { plan_of self.new ≡ P.after (plan_of self.old) }
+    {
+        if self.failures.next_call().is_some() {
+            return Err(Failed);
+        }
+        let at = at as usize;
+        into.copy_from_slice(&self.seen[at..at + into.len()]);
+        Ok(())
+    }
+
+    fn write_at(&mut self, at: u64, piece: &[u8]) -> Result<(), Failed>
+        requires { HasRoom (at + length piece.now) (length piece.now) 1 (drive_of self.old).room }
+        ensures ok { OnOk result (drive_of self.new ≡ write_on at piece.now (drive_of self.old)) }
+        ensures err { OnErr result ((seen : List ℕ) × (drive_of self.new ≡ write_leaving at (length piece.now) seen (drive_of self.old))) }
+        ensures counts { P.count (plan_of self.old) ≤ P.count (plan_of self.new) }
+        ensures cause { IsErr result → Rose (P.count (plan_of self.old)) (P.count (plan_of self.new)) }
+
+        ensures due { IsErr result ↔ IsSome (P.due (plan_of self.old)) }
+        ensures plan { plan_of self.new ≡ P.after (plan_of self.old) }
+    {
+        match self.failures.next_call() {
+            None => {
+                self.write_front(at, piece, 0);
+                Ok(())
+            }
+            Some(after) => {
+                let kept = piece.len().min(after);
+                self.write_front(at, &piece[..kept], piece.len() - kept);
+                Err(Failed)
+            }
+        }
+    }
+
+    fn sync(&mut self) -> Result<(), Failed>
+        requires { HasRoom 0 0 1 (drive_of self.old).room }
+        ensures ok { OnOk result (drive_of self.new ≡ sync_now (drive_of self.old)) }
+        ensures err { OnErr result (drive_of self.new ≡ drive_of self.old) }
+        ensures counts { P.count (plan_of self.old) ≤ P.count (plan_of self.new) }
+        ensures cause { IsErr result → Rose (P.count (plan_of self.old)) (P.count (plan_of self.new)) }
+
+        ensures due { IsErr result ↔ IsSome (P.due (plan_of self.old)) }
+        ensures plan { plan_of self.new ≡ P.after (plan_of self.old) }
+    {
+        if self.failures.next_call().is_some() {
+            return Err(Failed);
+        }
+        self.done.push(Done::Sync).unwrap();
+        self.room.calls -= 1;
+        Ok(())
+    }
+
+    fn reserve(&mut self, end: u64, bytes: u64, calls: u64) -> Result<(), AllocError>
+        ensures ok { OnOk result (HasRoom end bytes calls (drive_of self.new).room) }
+        ensures only { drive_of self.new ≡ record (drive_of self.old) { room = (drive_of self.new).room } }
+        ensures no_less { NoLess (drive_of self.old).room (drive_of self.new).room }
+        ensures plan { plan_of self.new ≡ plan_of self.old }
+    {
+        let longer = end.saturating_sub(self.seen.len() as u64);
+        self.seen.reserve(longer as usize)?;
+        self.room.end = self.room.end.max(end);
+        self.log.reserve(bytes as usize)?;
+        self.room.bytes = self.room.bytes.max(bytes);
+        self.done.reserve(calls as usize)?;
+        self.room.calls = self.room.calls.max(calls);
+        Ok(())
+    }
+}

@@ -1,0 +1,24 @@
+//! Where output goes.
+ghost use Rattle.std.specs.Prelude.{◌≡◌, ℕ, ◌≤◌, Option, List, take, OnOk, IsErrOf};
+ghost use Rattle.outside.specs.Rose.{Rose};
+ghost use Rattle.outside.specs.Sink.{added};
+
+use crate::faults::PutFault;
+
+/// Output that grows at its end.
+pub trait Sink {
+    /// The bytes written so far, where that is told.
+    ghost written: { Self → Option (List ℕ) };
+
+    /// How many calls have failed.
+    ghost faults: { Self → ℕ };
+
+    fn put(&mut self, piece: &[u8]) -> Result<(), PutFault>
+        ensures ok { OnOk result (written self.new ≡ added (written self.old) piece.now) }
+        ensures failed { IsErrOf result PutFault.Failed
+            → ((n : ℕ) × (written self.new ≡ added (written self.old) (take n piece.now))) }
+        ensures memory { IsErrOf result PutFault.Memory → written self.new ≡ written self.old }
+
+        ensures counts { faults self.old ≤ faults self.new }
+        ensures cause { IsErrOf result PutFault.Failed → Rose (faults self.old) (faults self.new) };
+}

@@ -1,0 +1,105 @@
+//! Each object once, on its plain path and at a failure that was listed.
+use super::*;
+use std::alloc::{AllocError, Global};
+use std::test::Fail;
+
+fn fails_at(alloc: Global, call: u64, after: usize) -> Result<FailAt, AllocError> {
+    Ok(FailAt::new(vec![in alloc; Failure { call, after }]?))
+}
+
+fn bytes(alloc: Global, text: &str) -> Result<Vec<u8>, AllocError> {
+    Vec::from_slice(alloc, text.as_bytes())
+}
+
+#[test]
+fn sinks(rt: HostRuntime) -> Result<(), Fail> {
+    let mut sink = MemSink::new(rt.alloc(), fails_at(rt.alloc(), 1, 2)?);
+    assert_eq!(rt; sink.put(b"ab"), Ok(()));
+    assert_eq!(rt; sink.put(b"cde"), Err(PutFault::Failed));
+    assert_eq!(rt; sink.put(b"f"), Ok(()));
+    assert_eq!(rt; sink.written(), b"abcdf".as_slice());
+    let mut quiet = MemSink::new(rt.alloc(), Never);
+    assert_eq!(rt; quiet.put(b"x"), Ok(()));
+    Ok(())
+}
+
+#[test]
+fn shelves(rt: HostRuntime) -> Result<(), Fail> {
+    let name = String::from_str(rt.alloc(), "seed")?;
+    let file = NamedFile {
+        name,
+        bytes: bytes(rt.alloc(), "123")?,
+    };
+    let files = vec![in rt.alloc(); file]?;
+    let mut shelf = MemShelf::new(files, fails_at(rt.alloc(), 2, 0)?);
+    let taken = shelf.take(rt.alloc(), "seed", 3)?;
+    assert_eq!(rt; taken.as_slice(), b"123".as_slice());
+    assert_eq!(rt;
+        shelf.take(rt.alloc(), "seed", 2).err(),
+        Some(TakeFault::TooLong)
+    );
+    assert_eq!(rt;
+        shelf.take(rt.alloc(), "seed", 3).err(),
+        Some(TakeFault::Failed)
+    );
+    assert_eq!(rt;
+        shelf.take(rt.alloc(), "see", 3).err(),
+        Some(TakeFault::Failed)
+    );
+    Ok(())
+}
+
+#[test]
+fn comes_in_pieces(rt: HostRuntime) -> Result<(), Fail> {
+    let coming = vec![in rt.alloc(); bytes(rt.alloc(), "hello")?]?;
+    let mut net = MemNet::new(rt.alloc(), coming, Never)?.in_pieces(3);
+    let mut buffer = [0u8; 4];
+    assert_eq!(rt; net.get(&mut buffer), Err(Failed));
+    assert_eq!(rt; net.connect("there"), Ok(()));
+    assert_eq!(rt; net.get(&mut buffer), Ok(3));
+    assert_eq!(rt; buffer, [104, 101, 108, 0]);
+    assert_eq!(rt; net.next(), Err(Failed));
+    Ok(())
+}
+
+#[test]
+fn keeps_what_was_put(rt: HostRuntime) -> Result<(), Fail> {
+    let coming = vec![in rt.alloc(); bytes(rt.alloc(), "")?]?;
+    let mut net = MemNet::new(rt.alloc(), coming, fails_at(rt.alloc(), 2, 1)?)?;
+    assert_eq!(rt; net.listen("here"), Ok(()));
+    assert_eq!(rt; net.next(), Ok(()));
+    assert_eq!(rt; net.put(b"zz"), Err(PutFault::Failed));
+    assert_eq!(rt; net.sent(), b"z".as_slice());
+    net.close();
+    let past = net.past().first().map(|sent| sent.as_slice());
+    assert_eq!(rt; past, Some(b"z".as_slice()));
+    Ok(())
+}
+
+#[test]
+fn disks(rt: HostRuntime) -> Result<(), Fail> {
+    let mut disk = MemDisk::new(rt.alloc(), bytes(rt.alloc(), "abc")?, Never)?;
+    disk.reserve(7, 4, 3)?;
+    assert_eq!(rt; disk.write_at(5, b"xy"), Ok(()));
+    assert_eq!(rt; disk.write_at(1, b"BC"), Ok(()));
+    assert_eq!(rt; disk.sync(), Ok(()));
+    assert_eq!(rt; disk.len(), Ok(7));
+    assert_eq!(rt; disk.seen(), b"aBC\0\0xy".as_slice());
+    let mut buffer = [0u8; 2];
+    assert_eq!(rt; disk.read(2, &mut buffer), Ok(()));
+    assert_eq!(rt; buffer, *b"C\0");
+    Ok(())
+}
+
+#[test]
+fn failing_disks(rt: HostRuntime) -> Result<(), Fail> {
+    let mut disk = MemDisk::new(
+        rt.alloc(),
+        bytes(rt.alloc(), "abc")?,
+        fails_at(rt.alloc(), 0, 1)?,
+    )?;
+    disk.reserve(4, 4, 1)?;
+    assert_eq!(rt; disk.write_at(0, b"ABCD"), Err(Failed));
+    assert_eq!(rt; disk.seen(), b"Abc".as_slice());
+    Ok(())
+}

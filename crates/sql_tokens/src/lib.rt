@@ -1,0 +1,12 @@
+//! SQL texts as tokens.
+#![tactic(auto)]
+
+mod kinds;
+mod lexemes;
+mod scan;
+mod token;
+mod words;
+
+pub use kinds::{KEYWORDS, TokenKind};
+pub use lexemes::{Lapse, LexFault, Lexeme};
+pub use scan::tokens;

@@ -1,0 +1,4 @@
+pub mod KindLaws
+pub mod KeyOrder
+pub mod RowLaws
+pub mod Searches

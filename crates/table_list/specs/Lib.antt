@@ -1,0 +1,3 @@
+pub mod Headings
+pub mod Rising
+pub mod Chunks

@@ -1,0 +1,13 @@
+//! Plain tables: what commands and batches make of them, and what queries give.
+#![tactic(auto)]
+
+mod columns;
+mod place;
+mod refusal;
+mod sets;
+mod sharing;
+
+pub use vo_spec::{
+    Batch, Cmp, Column, Command, CommandFault, Cond, Items, Join, Operand, Outcome, QueryFault,
+    QueryText, Ref, Schema, SetPart, Source, Table,
+};

@@ -1,0 +1,148 @@
+-- What the program says: a status, and lines of text.
+use Rattle.std.specs.Prelude.{ℕ, ℤ, List, [], ◌∷◌, ◌++◌, map, flat_map, length, codes, decimal, ◌==◌, if◌then◌else◌, Bool, true, false, Option, Some, None, Result, Ok, Err}
+use Rattle.std.specs.Option.{option_map_or}
+use Rattle.std.specs.Fmt.{signed_decimal}
+use Rattle.hex.specs.Hex.{encode_lower}
+use Rattle.vo_spec.specs.declared.values.Value.{Value}
+use Rattle.vo_spec.specs.declared.values.Value.TheVariants.{Int, Text, Bool as Truth}
+use Rattle.vo_spec.specs.declared.queries.Ref.{Ref}
+use Rattle.vo_spec.specs.declared.queries.QueryFault.{QueryFault}
+use Rattle.vo_spec.specs.declared.queries.QueryFault.TheVariants as query
+use Rattle.vo_spec.specs.declared.queries.Outcome.{Outcome}
+use Rattle.vo_spec.specs.declared.queries.Outcome.TheVariants.{Rows, Wrong}
+use Rattle.vo_spec.specs.declared.tables.CommandFault.{CommandFault}
+use Rattle.vo_spec.specs.declared.tables.CommandFault.TheVariants as command
+use Rattle.vo_spec.specs.declared.checks.Answer.{Answer}
+use Rattle.vo_spec.specs.declared.checks.CheckFault.{CheckFault}
+use Rattle.vo_spec.specs.declared.checks.CheckFault.TheVariants as check
+use Rattle.vo_spec.specs.declared.checks.Verdict.{Verdict}
+use Rattle.vo_spec.specs.declared.checks.Verdict.TheVariants.{Unsigned, Exact, Collides}
+use Rattle.vo_spec.specs.declared.checks.AuditFault.{AuditFault}
+use Rattle.vo_spec.specs.declared.checks.AuditFault.TheVariants as audit
+use Rattle.vo_spec.specs.Records.{record_bytes}
+use Rattle.vo_spec.specs.Results.{ref_title, qualifier_of}
+
+pub record Said : Type 0 where
+  pub status : ℕ
+  pub bytes : List ℕ
+
+-- a line of text
+abbrev pub line : List ℕ → List ℕ
+line text = text ++ 10 ∷ []
+
+-- pieces with a byte between each two
+abbrev pub separated : ℕ → List (List ℕ) → List ℕ
+separated separator [] = []
+separated separator (first ∷ others) = first ++ flat_map (λ piece. separator ∷ piece) others
+
+-- a line of words, with one space between each two
+abbrev pub words_line : List (List ℕ) → List ℕ
+words_line words = line (separated 32 words)
+
+-- a line of columns, with a comma between each two
+abbrev pub columns_line : List (List ℕ) → List ℕ
+columns_line columns = line (separated 44 columns)
+
+-- with status 0 there is output; with any other status, lines alone
+abbrev pub done : List ℕ → Said
+done bytes = record { status = 0; bytes = bytes }
+
+abbrev pub refused : ℕ → List (List ℕ) → Said
+refused status words = record { status = status; bytes = words_line (codes "refused:" ∷ words) }
+
+-- words, key, seed, file size or text refused
+abbrev pub refused_input : List (List ℕ) → Said
+refused_input words = refused 2 words
+
+-- Values as they are printed.
+
+abbrev pub quoted_byte : ℕ → List ℕ
+quoted_byte b = if b == 39 then 39 ∷ 39 ∷ [] else b ∷ []
+
+abbrev pub literal : Value → List ℕ
+literal (Int z) = signed_decimal z
+literal (Text s) = 39 ∷ flat_map quoted_byte s ++ 39 ∷ []
+literal (Truth true) = codes "TRUE"
+literal (Truth false) = codes "FALSE"
+
+-- Answers of `check`.
+
+abbrev pub wrong_words : QueryFault → List (List ℕ)
+wrong_words (query.NoTable name) = codes "no table" ∷ name ∷ []
+wrong_words (query.NoColumn r) = codes "no column" ∷ ref_title r ∷ []
+wrong_words (query.Ambiguous r) = codes "ambiguous" ∷ ref_title r ∷ []
+wrong_words query.TypeMismatch = codes "kinds differ" ∷ []
+wrong_words query.NotKeyJoin = codes "not a key join" ∷ []
+
+abbrev pub outcome_lines : Outcome → List ℕ
+outcome_lines (Rows header rows) = columns_line header ++ flat_map (λ row. columns_line (map literal row)) rows
+outcome_lines (Wrong fault) = words_line (codes "wrong:" ∷ wrong_words fault)
+
+abbrev pub version_line : ℕ → List ℕ
+version_line version = words_line (codes "version" ∷ decimal version ∷ [])
+
+abbrev pub fault_words : CheckFault → List (List ℕ)
+fault_words (check.TooLong length) = codes "too long" ∷ decimal length ∷ []
+fault_words check.BadForm = codes "bad form" ∷ []
+fault_words (check.WrongKey want got) = codes "wrong key" ∷ encode_lower want ∷ encode_lower got ∷ []
+fault_words (check.WrongLeaf version q) = codes "wrong leaf" ∷ decimal version ∷ decimal q ∷ []
+fault_words check.BadSignature = codes "bad signature" ∷ []
+fault_words (check.Stale least got) = codes "stale" ∷ decimal least ∷ decimal got ∷ []
+fault_words (check.WrongCatalog want got) = codes "wrong catalog" ∷ encode_lower want ∷ encode_lower got ∷ []
+fault_words (check.WrongTrees want got) = codes "wrong trees" ∷ decimal want ∷ decimal got ∷ []
+fault_words check.WrongShape = codes "wrong shape" ∷ []
+fault_words (check.WrongRoot table want got) = codes "wrong root" ∷ table ∷ encode_lower want ∷ encode_lower got ∷ []
+fault_words check.Missing = codes "missing" ∷ []
+fault_words check.Surplus = codes "surplus" ∷ []
+fault_words check.Memory = []
+
+-- Of want of memory nothing is said here: it has a status of its own.
+abbrev pub check_said : Result Answer CheckFault → Said
+check_said (Ok answer) = done (version_line answer.version ++ outcome_lines answer.outcome)
+check_said (Err fault) = refused 1 (fault_words fault)
+
+-- Verdicts of `audit`.
+
+abbrev pub verdict_said : Verdict → Said
+verdict_said (Exact version) = done (words_line (codes "exact version" ∷ decimal version ∷ []))
+verdict_said (Unsigned rec signature last) = record {
+  status = 6;
+  bytes = words_line (codes "unsigned" ∷ []) ++ words_line (encode_lower (record_bytes rec) ∷ []) ++ words_line (encode_lower signature ∷ [])
+      ++ words_line (codes "journal ends at version" ∷ decimal last ∷ []);
+}
+verdict_said (Collides found) = record {
+  status = 5;
+  bytes = words_line (codes "collision" ∷ []) ++ words_line (encode_lower found.0 ∷ []) ++ words_line (encode_lower found.1 ∷ []);
+}
+
+abbrev pub bad_journal : ℕ → Said
+bad_journal index = record { status = 7; bytes = words_line (codes "bad journal" ∷ decimal index ∷ []) }
+
+abbrev pub audit_said : Result Verdict AuditFault → Said
+audit_said (Ok verdict) = verdict_said verdict
+audit_said (Err (audit.BadJournal index)) = bad_journal index
+audit_said (Err (audit.Refused fault)) = refused 1 (fault_words fault)
+audit_said (Err audit.Memory) = refused 1 []
+
+-- Refusals of `seal`.
+
+abbrev pub fault_name : CommandFault → List ℕ
+fault_name command.TableExists = codes "TableExists"
+fault_name command.NoTable = codes "NoTable"
+fault_name command.BadSchema = codes "BadSchema"
+fault_name command.Arity = codes "Arity"
+fault_name command.TypeMismatch = codes "TypeMismatch"
+fault_name command.DuplicateKey = codes "DuplicateKey"
+fault_name command.NoRow = codes "NoRow"
+fault_name command.TableFull = codes "TableFull"
+fault_name command.TooManyTables = codes "TooManyTables"
+fault_name command.KeyTooLong = codes "KeyTooLong"
+fault_name command.NoColumn = codes "NoColumn"
+fault_name command.NotKey = codes "NotKey"
+fault_name command.BadSet = codes "BadSet"
+
+abbrev pub command_said : ℕ → CommandFault → Said
+command_said index fault = refused 8 (codes "command" ∷ decimal index ∷ fault_name fault ∷ [])
+
+abbrev pub key_spent : Said
+key_spent = refused 8 (codes "key spent" ∷ [])

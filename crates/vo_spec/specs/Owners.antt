@@ -1,0 +1,43 @@
+-- Which journals an owner has written: each entry signed by the leaf of its version, its record and its proofs
+-- those of the honest trees.
+use Rattle.std.specs.Prelude.{◌≡◌, ℕ, ◌<◌, List, [], ◌∷◌, ◌++◌, length, Some, IsOk, IsTrue}
+use Rattle.vo_spec.specs.declared.tables.Command.{Command}
+use Rattle.vo_spec.specs.declared.records.Record.{Record}
+use Rattle.vo_spec.specs.declared.records.Entry.{Entry}
+use Rattle.vo_spec.specs.Tables.{apply_batch, tables_after}
+use Rattle.vo_spec.specs.Lms.{leaf_of, lms_valid}
+use Rattle.vo_spec.specs.Records.{record_bytes}
+use Rattle.vo_spec.specs.Journals.{Begins, IsJournal}
+use Rattle.vo_spec.specs.Replies.{proofs_bytes}
+use Rattle.vo_spec.specs.Honest.{honest_trees, honest_proofs, honest_record}
+
+-- the record is signed under the key by the leaf of its version
+pub record IsSigned (key : List ℕ) (rec : Record) (signature : List ℕ) : Type 0 where
+  pub leaf : leaf_of key signature ≡ Some rec.version
+  pub valid : IsTrue (lms_valid key (record_bytes rec) signature)
+
+-- the entry after these batches, which are as many as its version
+pub record IsHonestEntry (key : List ℕ) (earlier : List (List Command)) (e : Entry) : Type 0 where
+  pub accepted : IsOk (apply_batch e.batch.commands (tables_after earlier))
+  pub record_is : e.rec ≡ honest_record key (length earlier) (honest_trees (earlier ++ e.batch.commands ∷ []))
+  pub proofs_are : e.proofs ≡ proofs_bytes (honest_proofs e.batch.commands (honest_trees earlier))
+  pub signed : IsSigned key e.rec e.signature
+
+abbrev pub AreOwnedAfter : List ℕ → List (List Command) → List Entry → Type 0
+AreOwnedAfter key earlier [] = Unit {0}
+AreOwnedAfter key earlier (e ∷ es) = IsHonestEntry key earlier e × AreOwnedAfter key (earlier ++ e.batch.commands ∷ []) es
+
+-- Entries from version 0 on that an owner of this key has written. Version 0 has no commands.
+unfoldable pub AreOwned : List ℕ → List Entry → Type 0
+AreOwned key [] = Unit {0}
+AreOwned key (e ∷ es) = (e.batch.commands ≡ []) × AreOwnedAfter key [] (e ∷ es)
+
+-- The bytes are the journal of these entries, at least one, and they are owned.
+unfoldable pub IsOwned : List ℕ → List ℕ → List Entry → Type 0
+IsOwned key bytes es = IsJournal bytes es × AreOwned key es × (0 < length es)
+
+-- The first entry that can't be read, isn't owned, or is wanted and isn't there, has this number.
+unfoldable pub IsBadAt : List ℕ → List ℕ → ℕ → Type 0
+IsBadAt key bytes index = (es : List Entry) × Begins bytes es × AreOwned key es × (length es ≡ index)
+    × (IsOwned key bytes es → ⊥)
+    × ((e : Entry) → Begins bytes (es ++ e ∷ []) → AreOwned key (es ++ e ∷ []) → ⊥)

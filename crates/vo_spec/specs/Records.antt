@@ -1,0 +1,83 @@
+-- Catalogs and records as bytes: what an owner signs of its tables.
+use Rattle.std.specs.Prelude.{◌≡◌, ℕ, ◌+◌, ◌<◌, ◌≤◌, ◌^◌, Bool, true, false, not, ◌&&◌, List, [], ◌∷◌, ◌++◌, map, length, flat_map, codes, IsTrue, if◌then◌else◌}
+use Rattle.std.specs.List.{AllByRecursion, list_all}
+use Rattle.sha2.specs.Sha256.{sha256}
+use Rattle.vo_spec.specs.declared.values.Kind.TheVariants as kind
+use Rattle.vo_spec.specs.declared.tables.Column.{Column}
+use Rattle.vo_spec.specs.declared.tables.Schema.{Schema}
+use Rattle.vo_spec.specs.declared.records.CatalogTable.{CatalogTable}
+use Rattle.vo_spec.specs.declared.records.Catalog.{Catalog}
+use Rattle.vo_spec.specs.declared.records.Record.{Record}
+use Rattle.vo_spec.specs.Bytes.{u16_bytes, u64_bytes, short_string}
+use Rattle.vo_spec.specs.Values.{key_lt, same_kind}
+use Rattle.vo_spec.specs.Tables.{Heading, column_at, has_twice, most_tables, most_rows}
+use Rattle.vo_spec.specs.Names.{FitsName}
+use Rattle.vo_spec.specs.Batches.{FitCounted, FitsColumn, counted, column_bytes}
+
+-- Catalogs.
+
+abbrev pub catalog_table_bytes : CatalogTable → List ℕ
+catalog_table_bytes t =
+    short_string t.name ++ counted column_bytes t.schema.columns ++ t.schema.key ∷ u64_bytes t.rows ++ t.root
+
+unfoldable pub catalog_bytes : Catalog → List ℕ
+catalog_bytes c = u16_bytes (length c.tables) ++ flat_map catalog_table_bytes c.tables
+
+-- the digest of a catalog: of its bytes behind `05`
+unfoldable pub catalog_digest : Catalog → List ℕ
+catalog_digest c = sha256 (5 ∷ catalog_bytes c)
+
+-- columns of different names, one of them the key, which is no BOOLEAN
+pub record FitsSchema (s : Schema) : Type 0 where
+  pub columns : FitCounted FitsColumn s.columns
+  pub once : IsTrue (not (has_twice (map (λ (c : Column). c.name) s.columns)))
+  pub key_in : s.key < length s.columns
+  pub key_kind : IsTrue (not (same_kind (column_at s.columns s.key).kind kind.Bool))
+
+pub record FitsCatalogTable (t : CatalogTable) : Type 0 where
+  pub name : FitsName t.name
+  pub schema : FitsSchema t.schema
+  pub rows : t.rows < 2 ^ 32
+  pub root : length t.root ≡ 32
+
+-- each name is below the next
+abbrev pub are_rising : List (List ℕ) → Bool
+are_rising [] = true
+are_rising (a ∷ []) = true
+are_rising (a ∷ b ∷ names) = key_lt a b && are_rising (b ∷ names)
+
+pub record FitsCatalog (c : Catalog) : Type 0 where
+  pub count : length c.tables ≤ most_tables
+  pub each : AllByRecursion FitsCatalogTable c.tables
+  pub rising : IsTrue (are_rising (map (λ (t : CatalogTable). t.name) c.tables))
+
+-- The bytes are this catalog.
+pub record IsCatalog (bytes : List ℕ) (c : Catalog) : Type 0 where
+  pub fits : FitsCatalog c
+  pub spelled : bytes ≡ catalog_bytes c
+
+-- the tables of a catalog without their rows, by which commands and queries are refused
+abbrev pub headings : Catalog → List Heading
+headings c = map (λ (t : CatalogTable). record { name = t.name; schema = t.schema; count = t.rows }) c.tables
+
+abbrev pub no_tables : Catalog
+no_tables = record { tables = [] }
+
+-- Records.
+
+-- what a record begins with
+abbrev pub magic : Record → List ℕ
+magic r = codes "VREC"
+
+unfoldable pub record_bytes : Record → List ℕ
+record_bytes r = magic r ++ r.id ++ u64_bytes r.version ++ r.catalog
+
+pub record FitsRecord (r : Record) : Type 0 where
+  pub id : length r.id ≡ 16
+  pub version : r.version < 2 ^ 64
+  pub catalog : length r.catalog ≡ 32
+
+-- The bytes are this record.
+pub record IsRecord (bytes : List ℕ) (r : Record) : Type 0 where
+  pub fits : FitsRecord r
+  pub spelled : bytes ≡ record_bytes r
