@@ -77,7 +77,7 @@ fn scan_children(
     Ok(())
 }
 
-fn separator_at<'s>(separators: &'s [KeyPart<'_>], place: usize) -> Option<&'s [u8]>
+pub fn separator_at<'s>(separators: &'s [KeyPart<'_>], place: usize) -> Option<&'s [u8]>
     ensures { option_copied result ≡ slice_get separators.now place }
 {
     match separators.get(place) {

@@ -1,7 +1,7 @@
 use Rattle.std.proofs.Common.{◌≡◌, ◌++◌, drop}
 use Rattle.vo_spec.specs.Cells.{whole_cells}
 use Rattle.vo_spec.specs.Pruned.{shown_cells}
-use Rattle.attr_digest.proofs.hiding.hide.Given as goal
+use Rattle.attr_digest.proofs.hiding.hide_cells.Given as goal
 
 -- with the cells to come, these are all
 abbrev pub invariant-loop-column : goal.invariant-loop-column
