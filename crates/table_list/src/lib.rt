@@ -1,9 +1,11 @@
 //! Plain tables: what commands and batches make of them, and what queries give.
 #![tactic(auto)]
 
+mod cells;
 mod columns;
 mod place;
 mod refusal;
+mod rows;
 mod sets;
 mod sharing;
 
