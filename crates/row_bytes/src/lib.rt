@@ -10,7 +10,7 @@ mod reading;
 mod text;
 mod writing;
 
-pub use copies::{copy_values, own_value};
+pub use copies::{copy_onto, copy_values, own_value};
 pub use cursor::Cursor;
 pub use fault::FormFault;
 pub use fields::is_name;

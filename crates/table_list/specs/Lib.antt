@@ -1,3 +1,5 @@
 pub mod Headings
 pub mod Rising
 pub mod Chunks
+pub mod StoredTables
+pub mod Named

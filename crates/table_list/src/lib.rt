@@ -8,6 +8,7 @@ mod refusal;
 mod rows;
 mod sets;
 mod sharing;
+mod stored;
 
 pub use vo_spec::{
     Batch, Cmp, Column, Command, CommandFault, Cond, Items, Join, Operand, Outcome, QueryFault,

@@ -1,0 +1,50 @@
+//! A table as it is kept.
+ghost use Rattle.std.specs.Prelude.{◌≡◌, ◌<◌, length};
+ghost use Rattle.vo_spec.specs.Tables.{heading_of};
+ghost use Rattle.table_list.specs.Headings.{heading_seen};
+ghost use Rattle.table_list.specs.StoredTables.{table_of, tables_in};
+ghost use Rattle.table_list.specs.Named.{Differ, IsFound, table_at};
+
+use crate::refusal::HeadingRef;
+use crate::rows::Rows;
+use std::rc::Rc;
+use vo_spec::{Name, Schema};
+
+#[derive(Drop)]
+pub(crate) struct Stored {
+    pub(crate) name: Name,
+    pub(crate) schema: Schema,
+    pub(crate) rows: Rows,
+}
+
+impl Stored {
+    pub(crate) fn heading(&self) -> HeadingRef<'_>
+        ensures { heading_seen result ≡ heading_of (table_of self.now) }
+    {
+        HeadingRef {
+            name: self.name.as_bytes(),
+            schema: &self.schema,
+            count: self.rows.len() as u64,
+        }
+    }
+}
+
+fn name_at(tables: &[Rc<Stored>], at: usize) -> &[u8]
+    requires { at < length tables.now }
+    ensures { result.now ≡ (table_at (tables_in tables.now) at).name }
+{
+    tables[at].name.as_bytes()
+}
+
+/// Where the table of this name is.
+pub(crate) fn find(tables: &[Rc<Stored>], name: &[u8]) -> Option<usize>
+    requires { Differ (tables_in tables.now) }
+    ensures { IsFound name.now (tables_in tables.now) result }
+{
+    for at in 0..tables.len() {
+        if name_at(tables, at) == name {
+            return Some(at);
+        }
+    }
+    None
+}
