@@ -5,3 +5,4 @@ pub mod RowLaws
 pub mod Searches
 pub mod Edits
 pub mod TableLaws
+pub mod Applied

@@ -3,3 +3,4 @@ pub mod Rising
 pub mod Chunks
 pub mod StoredTables
 pub mod Named
+pub mod Changes

@@ -2,7 +2,9 @@
 #![tactic(auto)]
 
 mod cells;
+mod changing;
 mod columns;
+mod fault;
 mod place;
 mod refusal;
 mod rows;
@@ -10,6 +12,7 @@ mod sets;
 mod sharing;
 mod stored;
 
+pub use fault::{ApplyFault, BatchFault};
 pub use vo_spec::{
     Batch, Cmp, Column, Command, CommandFault, Cond, Items, Join, Operand, Outcome, QueryFault,
     QueryText, Ref, Schema, SetPart, Source, Table,

@@ -49,8 +49,16 @@ impl Rows {
         self.rows.len()
     }
 
+    pub(crate) fn from_vec(rows: Vec<Rc<Row>>) -> Rows
+        requires { Rises (rows_in rows.items) }
+        ensures { result ≡ rows_in rows.items }
+    {
+        Rows { rows }
+    }
+
     pub(crate) fn as_slice(&self) -> &[Rc<Row>]
-        ensures { rows_in result.now ≡ self.now }
+        ensures value { rows_in result.now ≡ self.now }
+        ensures rises { Rises (rows_in result.now) }
     {
         self.rows.as_slice()
     }

@@ -10,10 +10,16 @@ use crate::rows::Rows;
 use std::rc::Rc;
 use vo_spec::{Name, Schema};
 
+/// The part of a table that stays when its rows change.
 #[derive(Drop)]
-pub(crate) struct Stored {
+pub(crate) struct Head {
     pub(crate) name: Name,
     pub(crate) schema: Schema,
+}
+
+#[derive(Drop)]
+pub(crate) struct Stored {
+    pub(crate) head: Rc<Head>,
     pub(crate) rows: Rows,
 }
 
@@ -22,8 +28,8 @@ impl Stored {
         ensures { heading_seen result ≡ heading_of (table_of self.now) }
     {
         HeadingRef {
-            name: self.name.as_bytes(),
-            schema: &self.schema,
+            name: self.head.name.as_bytes(),
+            schema: &self.head.schema,
             count: self.rows.len() as u64,
         }
     }
@@ -33,7 +39,7 @@ fn name_at(tables: &[Rc<Stored>], at: usize) -> &[u8]
     requires { at < length tables.now }
     ensures { result.now ≡ (table_at (tables_in tables.now) at).name }
 {
-    tables[at].name.as_bytes()
+    tables[at].head.name.as_bytes()
 }
 
 /// Where the table of this name is.
