@@ -7,7 +7,7 @@ use Rattle.std.proofs.lemmas.Slice.Eq.{bytes_eq-Decides}
 use Rattle.vo_spec.specs.declared.values.Row.{Row}
 use Rattle.vo_spec.specs.declared.tables.Table.{Table}
 use Rattle.vo_spec.specs.Tables.{Heading, heading_of, heading_named, table_named, with_rows, put_table}
-use Rattle.table_list.specs.Named.{table_at, no_table, IsUnlike, Differ, IsAt}
+use Rattle.table_list.specs.Named.{table_at, no_table, IsUnlike, Differ, IsAt, rowed, exchanged}
 use Rattle.table_list.proofs.Places.{parted_at, take_more, all_more, all_first, all_last}
 
 -- The table of a name among tables of others.
@@ -39,9 +39,6 @@ named_at name tables at h =
 
 -- Other rows in one table.
 
-abbrev pub rowed : Table → List Row → Table
-rowed t rows = record { name = t.name; schema = t.schema; rows = rows }
-
 others_keep : (name : List ℕ) (rows : Table → List Row) (tables : List Table) → Front name tables → with_rows name rows tables ≡ tables
 others_keep name rows [] h = refl
 others_keep name rows (t ∷ tables) h = rw h.0 (ap (λ (ts : List Table). t ∷ ts) (others_keep name rows tables h.1))
@@ -50,10 +47,6 @@ rows_parted : (name : List ℕ) (rows : Table → List Row) (before : List Table
     → with_rows name rows (before ++ t ∷ after) ≡ before ++ rowed t (rows t) ∷ after
 rows_parted name rows [] t after h e g = rw e (ap (λ (ts : List Table). rowed t (rows t) ∷ ts) (others_keep name rows after g))
 rows_parted name rows (b ∷ before) t after h e g = rw h.0 (ap (λ (ts : List Table). b ∷ ts) (rows_parted name rows before t after h.1 e g))
-
--- with the table at this place exchanged for another
-abbrev pub exchanged : List Table → ℕ → Table → List Table
-exchanged tables at t = take at tables ++ t ∷ drop (at + 1) tables
 
 pub rows_at : (name : List ℕ) (rows : Table → List Row) (tables : List Table) (at : ℕ) → IsAt name tables at → with_rows name rows tables ≡ exchanged tables at (rowed (table_at tables at) (rows (table_at tables at)))
 rows_at name rows tables at h =

@@ -1,9 +1,11 @@
 //! Plain tables: what commands and batches make of them, and what queries give.
 #![tactic(auto)]
 
+mod applying;
 mod cells;
 mod changing;
 mod columns;
+mod creating;
 mod fault;
 mod place;
 mod refusal;

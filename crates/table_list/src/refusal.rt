@@ -26,7 +26,7 @@ pub struct HeadingRef<'t> {
     pub count: u64,
 }
 
-fn create_fault(
+pub(crate) fn create_fault(
     exists: bool,
     tables: usize,
     columns: &[Column],

@@ -35,7 +35,7 @@ impl Stored {
     }
 }
 
-fn name_at(tables: &[Rc<Stored>], at: usize) -> &[u8]
+pub(crate) fn name_at(tables: &[Rc<Stored>], at: usize) -> &[u8]
     requires { at < length tables.now }
     ensures { result.now ≡ (table_at (tables_in tables.now) at).name }
 {
