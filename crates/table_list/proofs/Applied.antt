@@ -26,13 +26,10 @@ use Rattle.table_list.specs.declared.stored.Stored.{Stored}
 use Rattle.table_list.specs.StoredTables.{table_of, tables_in}
 use Rattle.table_list.specs.Named.{table_at, no_table, IsUnlike, Differ, IsAt, IsFound, IsNotAbove, BeginsAbove, new_table, rowed, exchanged, with_new}
 use Rattle.table_list.proofs.Places.{parted_at, take_more, all_more, all_first, all_last, drop_at as drop_at_place}
-use Rattle.table_list.specs.Changes.{put_new, inserted_rows, set_there, updated_rows, drop_there, deleted_rows}
+use Rattle.table_list.specs.Changes.{on_tables, put_new, inserted_rows, set_there, updated_rows, drop_there, deleted_rows}
 use Rattle.table_list.proofs.TableLaws.{heading_at, heading_absent, named_at, rows_at, less_at, differ_less, differ_same}
 
 -- Answers on tables from answers on rows.
-
-abbrev pub on_tables : List Table → ℕ → Result (List Row) CommandFault → Result (List Table) CommandFault
-on_tables tables at answer = result_map_both (with_new tables at) (λ fault. fault) answer
 
 false_true : (b : Bool) → b ≡ false → b ≡ true → ⊥
 false_true b e f = both_ways b e f
@@ -221,6 +218,12 @@ less_differs tables at lt h = differ_less (take at tables) (table_at tables at) 
 -- of a name that is lent
 pub found_lent : (lent name : List ℕ) (tables : List Table) (found : Option ℕ) → lent ≡ name → IsFound lent tables found → IsFound name tables found
 found_lent lent name tables found e h = subst (λ (n : List ℕ). IsFound n tables found) e h
+
+pub at_lent : (lent name : List ℕ) (tables : List Table) (at : ℕ) → lent ≡ name → IsAt lent tables at → IsAt name tables at
+at_lent lent name tables at e h = subst (λ (n : List ℕ). IsAt n tables at) e h
+
+pub unlike_lent : (lent name : List ℕ) (tables : List Table) → lent ≡ name → AllByRecursion (IsUnlike lent) tables → AllByRecursion (IsUnlike name) tables
+unlike_lent lent name tables e h = subst (λ (n : List ℕ). AllByRecursion (IsUnlike n) tables) e h
 
 -- what the tests say of a CREATE
 pub tests_lent : (name lent key : List ℕ) (columns : List Column) (tables : List Table) (result : Option CommandFault) → lent ≡ key → result ≡ first_of (create_tests name columns lent (map heading_of tables)) → first_of (create_tests name columns key (map heading_of tables)) ≡ result

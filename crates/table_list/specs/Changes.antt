@@ -1,5 +1,6 @@
 -- What a command makes of the rows of its table; what a call gives of an answer.
 use Rattle.std.specs.Prelude.{◌≡◌, ℕ, if◌then◌else◌, List, map, Result, Ok, Err}
+use Rattle.std.specs.Result.{result_map_both}
 use Rattle.vo_spec.specs.declared.values.Value.{Value}
 use Rattle.vo_spec.specs.declared.values.Row.{Row}
 use Rattle.vo_spec.specs.declared.tables.Table.{Table}
@@ -9,8 +10,13 @@ use Rattle.vo_spec.specs.declared.tables.CommandFault.TheVariants.{DuplicateKey,
 use Rattle.vo_spec.specs.Firsts.{first_of, unless, and_then}
 use Rattle.vo_spec.specs.Values.{key_of}
 use Rattle.vo_spec.specs.Tables.{heading_of, insert_tests, update_tests, delete_tests, row_of, has_row, put_row, without_row, changed_row, cell_changes}
+use Rattle.table_list.specs.Named.{with_new}
 use Rattle.table_list.specs.declared.fault.ApplyFault.{ApplyFault}
 use Rattle.table_list.specs.declared.fault.ApplyFault.TheVariants.{Refused, Memory}
+
+-- an answer on one table's rows as one on the tables
+abbrev pub on_tables : List Table → ℕ → Result (List Row) CommandFault → Result (List Table) CommandFault
+on_tables tables at answer = result_map_both (with_new tables at) (λ fault. fault) answer
 
 -- what a call returned, seen by view, is the answer, unless memory ran out
 abbrev pub Gives : {X Y : Type 0} → (X → Y) → Result X ApplyFault → Result Y CommandFault → Type 0

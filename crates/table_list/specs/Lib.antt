@@ -4,3 +4,4 @@ pub mod Chunks
 pub mod StoredTables
 pub mod Named
 pub mod Changes
+pub mod Batched

@@ -11,7 +11,7 @@ use crate::rows::{Rows, with_changed, with_row, without_row};
 use crate::stored::Stored;
 use row_bytes::{copy_onto, key_of};
 use std::alloc::{AllocError, Global};
-use vo_spec::{CommandFault, Key, List, Row, Schema, SetPart, Value};
+use vo_spec::{CommandFault, Key, List, Name, Row, Schema, SetPart, Value};
 
 fn key_at(alloc: Global, values: &[Value], number: usize) -> Result<Key, AllocError>
     ensures { IfOk result (λ key. key ≡ key_of (value_at values.now number)) }
@@ -69,12 +69,12 @@ pub(crate) fn updated_rows(
     alloc: Global,
     table: &Stored,
     sets: &[SetPart],
-    column: &[u8],
+    column: &Name,
     value: &Value,
 ) -> Result<Rows, ApplyFault>
     ensures { Gives (λ rows. rows) result (updated_rows sets.now column.now value.now (table_of table.now)) }
 {
-    if let Some(fault) = update_fault(table.heading(), sets, column, value) {
+    if let Some(fault) = update_fault(table.heading(), sets, column.as_bytes(), value) {
         return Err(ApplyFault::Refused(fault));
     }
     let key = key_of(alloc, value)?;
@@ -88,12 +88,12 @@ pub(crate) fn updated_rows(
 pub(crate) fn deleted_rows(
     alloc: Global,
     table: &Stored,
-    column: &[u8],
+    column: &Name,
     value: &Value,
 ) -> Result<Rows, ApplyFault>
     ensures { Gives (λ rows. rows) result (deleted_rows column.now value.now (table_of table.now)) }
 {
-    if let Some(fault) = delete_fault(table.heading(), column, value) {
+    if let Some(fault) = delete_fault(table.heading(), column.as_bytes(), value) {
         return Err(ApplyFault::Refused(fault));
     }
     let key = key_of(alloc, value)?;

@@ -13,8 +13,10 @@ mod rows;
 mod sets;
 mod sharing;
 mod stored;
+mod tables;
 
 pub use fault::{ApplyFault, BatchFault};
+pub use tables::{Tables, apply};
 pub use vo_spec::{
     Batch, Cmp, Column, Command, CommandFault, Cond, Items, Join, Operand, Outcome, QueryFault,
     QueryText, Ref, Schema, SetPart, Source, Table,

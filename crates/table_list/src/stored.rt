@@ -42,6 +42,13 @@ pub(crate) fn name_at(tables: &[Rc<Stored>], at: usize) -> &[u8]
     tables[at].head.name.as_bytes()
 }
 
+pub(crate) fn stored_at(tables: &[Rc<Stored>], at: usize) -> &Stored
+    requires { at < length tables.now }
+    ensures { table_of result.now ≡ table_at (tables_in tables.now) at }
+{
+    &tables[at]
+}
+
 /// Where the table of this name is.
 pub(crate) fn find(tables: &[Rc<Stored>], name: &[u8]) -> Option<usize>
     requires { Differ (tables_in tables.now) }
