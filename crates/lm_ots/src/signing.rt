@@ -46,7 +46,14 @@ fn put_front(mut bytes: Vec<u8>, ots: OtsType, random: &Digest) -> Result<Vec<u8
 
 /// The bytes with the signature of the message by a leaf behind them. It takes no memory where they have room for the
 /// signature.
-pub fn sign_onto(bytes: Vec<u8>, id: &[u8; 16], q: u32, ots: OtsType, seed: &[u8; 32], message: &[u8]) -> Result<Vec<u8>, AllocError>
+pub fn sign_onto(
+    bytes: Vec<u8>,
+    id: &[u8; 16],
+    q: u32,
+    ots: OtsType,
+    seed: &[u8; 32],
+    message: &[u8],
+) -> Result<Vec<u8>, AllocError>
     ensures { IfOk result (λ signed. signed.items ≡ bytes.items ++ ots_signature id.now q ots seed.now message.now) }
 {
     let random = secret(id, q, RANDOMIZER, seed);

@@ -50,5 +50,5 @@ public_bytes-read (a ∷ b ∷ c ∷ d ∷ e ∷ f ∷ g ∷ h ∷ rest) lms ots
     let second = u32_bytes-u32_at e f g h rest (small 4) (small 5) (small 6) (small 7) in
     let whole_rest : length rest ≡ 48 = omega arith in
     rw (lms_code_of-found (u32_at bytes 0) lms by_lms, ots_code_of-found (u32_at bytes 4) ots by_ots, first, second)
-        (ap (λ tail. a ∷ b ∷ c ∷ d ∷ e ∷ f ∷ g ∷ h ∷ tail) (id_and_root rest whole_rest))
+    (ap (λ tail. a ∷ b ∷ c ∷ d ∷ e ∷ f ∷ g ∷ h ∷ tail) (id_and_root rest whole_rest))
 public_bytes-read _ lms ots whole small by_lms by_ots = absurd (omega arith)

@@ -8,6 +8,7 @@ use vo_spec::Digest;
 
 // What the texts of a leaf and of an inner node begin with, after the node's name (RFC 8554, section 5.3).
 const D_LEAF: u16 = 0x8282;
+
 const D_INTR: u16 = 0x8383;
 
 /// The leaf at node `r`, from its one-time public key.

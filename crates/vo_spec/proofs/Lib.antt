@@ -1,2 +1,0 @@
-mod WorkedRows
-mod WorkedTrees

@@ -1,5 +1,7 @@
 -- Conditions, and when a row meets one.
 use Rattle.std.specs.Prelude.{Bool, true, false, not, ◌&&◌, ◌||◌, List, [], ◌∷◌, ◌++◌, Option, Some, None, option_map}
+use Rattle.std.specs.Option.{option_map_or}
+use Rattle.std.specs.List.{AllByRecursion}
 use Rattle.std.specs.declared.cmp.Ordering.{Ordering}
 use Rattle.std.specs.Ordering.{is_eq, is_ne, is_lt, is_le, is_gt, is_ge}
 use Rattle.vo_spec.specs.declared.values.Value.{Value}
@@ -14,7 +16,7 @@ use Rattle.vo_spec.specs.declared.queries.Items.{Items}
 use Rattle.vo_spec.specs.declared.queries.Source.{Source}
 use Rattle.vo_spec.specs.declared.queries.Join.{Join}
 use Rattle.vo_spec.specs.declared.queries.QueryText.{QueryText}
-use Rattle.vo_spec.specs.Values.{value_cmp}
+use Rattle.vo_spec.specs.Values.{value_cmp, IsInRange}
 
 -- A condition: every part holds, some part holds, the part doesn't hold, or a comparison.
 mutual
@@ -117,3 +119,12 @@ abbrev mutual
 abbrev pub is_met : (Ref → Value) → Option Condition → Bool
 is_met row None = true
 is_met row (Some c) = truth row c
+
+-- The numbers that the query compares with are of 64 bits with a sign.
+
+abbrev pub FitsOperand : Operand → Type 0
+FitsOperand (Column r) = Unit {0}
+FitsOperand (Literal v) = IsInRange v
+
+abbrev pub FitsQuery : Query → Type 0
+FitsQuery q = AllByRecursion (λ (c : Ref × Operand). FitsOperand c.1) (option_map_or comparisons q.condition [])

@@ -1,9 +1,12 @@
 -- What an honest owner and an honest store make of batches: the trees of the tables, the proofs of a batch,
 -- catalogs and records, the journal, and the reply to a query.
-use Rattle.std.specs.Prelude.{◌≡◌, ℕ, ◌+◌, ◌-◌, Bool, not, if◌then◌else◌, List, [], ◌∷◌, ◌++◌, map, length, fold, filter, find, take, drop, zip, Option, Some, None, is_some, Result, Ok, Err, slice_get, bytes_eq, unwrap_or, option_map}
+use Rattle.std.specs.Prelude.{◌≡◌, ℕ, ◌-◌, not, if◌then◌else◌, List, [], ◌∷◌, ◌++◌, map, length, fold, filter, find, drop, Option, is_some, Result, Ok, Err, slice_get, bytes_eq, option_map}
 use Rattle.std.specs.Option.{option_map_or}
 use Rattle.std.specs.Result.{result_unwrap_or}
+use Rattle.std.specs.List.{AllZip, AllByRecursion}
+use Rattle.vo_spec.specs.declared.values.Row.{Row}
 use Rattle.vo_spec.specs.declared.tables.Schema.{Schema}
+use Rattle.vo_spec.specs.declared.tables.Table.{Table}
 use Rattle.vo_spec.specs.declared.tables.Command.{Command}
 use Rattle.vo_spec.specs.declared.tables.Command.TheVariants.{Create, Drop, Insert, Update, Delete}
 use Rattle.vo_spec.specs.declared.tables.CommandFault.{CommandFault}
@@ -15,7 +18,7 @@ use Rattle.vo_spec.specs.declared.records.Catalog.{Catalog}
 use Rattle.vo_spec.specs.declared.records.Record.{Record}
 use Rattle.vo_spec.specs.declared.records.Entry.{Entry}
 use Rattle.vo_spec.specs.Firsts.{unless, and_then}
-use Rattle.vo_spec.specs.Values.{key_of, key_lt}
+use Rattle.vo_spec.specs.Values.{key_of, key_lt, IsKeyOf}
 use Rattle.vo_spec.specs.Tables.{Heading, refusal, column_number, value_at, row_of, cell_changes}
 use Rattle.vo_spec.specs.Conditions.{Query}
 use Rattle.vo_spec.specs.Results.{sides}
@@ -30,7 +33,8 @@ use Rattle.vo_spec.specs.Inserts.{result_map, inserted, insert_proof}
 use Rattle.vo_spec.specs.Removes.{removed, replaced, remove_proof, replace_proof}
 use Rattle.vo_spec.specs.Pruned.{pruned}
 use Rattle.vo_spec.specs.Needs.{needs}
-use Rattle.vo_spec.specs.Checks.{tables_wanted}
+use Rattle.vo_spec.specs.Standing.{StandsFor}
+use Rattle.vo_spec.specs.Checks.{tables_wanted, key_kind}
 use Rattle.vo_spec.specs.Replies.{Reply, proofs_bytes}
 
 -- A table as its tree.
@@ -45,6 +49,16 @@ stored_heading s = record { name = s.name; schema = s.schema; count = length (en
 abbrev pub put_stored : Stored → List Stored → List Stored
 put_stored stored [] = stored ∷ []
 put_stored stored (s ∷ ss) = if key_lt stored.name s.name then stored ∷ s ∷ ss else s ∷ put_stored stored ss
+
+-- The tree stands for the table's rows, and their keys are keys of values of the key's kind.
+pub record StandsForTable (s : Stored) (t : Table) : Type 0 where
+  pub name : s.name ≡ t.name
+  pub schema : s.schema ≡ t.schema
+  pub stands : StandsFor s.tree t.rows
+  pub keys : AllByRecursion (λ (row : Row). IsKeyOf (key_kind t.schema) row.key) t.rows
+
+abbrev pub StandForTables : List Stored → List Table → Type 0
+StandForTables = AllZip StandsForTable
 
 -- Commands on trees.
 

@@ -1,5 +1,5 @@
 -- Values of columns: their kinds, bytes and order, and the keys that they give.
-use Rattle.std.specs.Prelude.{ℕ, ◌^◌, pos, ◌+ℤ◌, ◌-ℤ◌, Bool, ◌&&◌, List, [], ◌∷◌, length, nat_le, nat_lt, ◌==◌, IsTrue, FitsSigned}
+use Rattle.std.specs.Prelude.{◌≡◌, ℕ, ℤ, ◌^◌, pos, ◌+ℤ◌, ◌-ℤ◌, Bool, ◌&&◌, List, [], ◌∷◌, length, nat_le, nat_lt, ◌==◌, IsTrue, FitsSigned}
 use Rattle.std.specs.Int.{w64, from_bool, cast_unsigned}
 use Rattle.std.specs.List.{list_all}
 use Rattle.std.specs.declared.cmp.Ordering.{Ordering}
@@ -45,6 +45,18 @@ abbrev pub key_of : Value → List ℕ
 key_of (Int z) = u64_bytes (cast_unsigned w64 (z +ℤ pos (2 ^ 63)))
 key_of (Text s) = s
 key_of (Truth b) = from_bool b ∷ []
+
+-- a number of 64 bits with a sign; other values have no such limit
+abbrev pub IsInRange : Value → Type 0
+IsInRange (Int z) = FitsSigned w64 z
+IsInRange (Text s) = Unit {0}
+IsInRange (Truth b) = Unit {0}
+
+-- the bytes are the key of a value of this kind, and no BOOLEAN is a key
+abbrev pub IsKeyOf : Kind → List ℕ → Type 0
+IsKeyOf kind.Int key = (z : ℤ) × FitsSigned w64 z × (key ≡ key_of (Int z))
+IsKeyOf kind.Text key = Unit {0}
+IsKeyOf kind.Bool key = ⊥
 
 abbrev pub value_of_key : Kind → List ℕ → Value
 value_of_key kind.Int key = Int (pos (u64_of key) -ℤ pos (2 ^ 63))

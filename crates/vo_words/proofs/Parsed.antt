@@ -23,7 +23,7 @@ accepted app words m same has passes =
     let simple : is_simple app ≡ true = rw same program-simple in
     let free : is_simple_and_free app ≡ true = rw same program-free in
     let asked : asked_in (subcommand_rows_of m) ≡ asked_if (fault_of app words) (asked_in (subcommand_of app words)) =
-      rw (passes free) (ap asked_in (has simple).1) in
+    rw (passes free) (ap asked_in (has simple).1) in
     rw same at asked
 
 faulty : (e : Error) (faults : Kinds) (asked : Option Asked) → HasKind faults e → kind_of e ≢ OutOfMemory → None ≡ asked_if faults asked
@@ -36,5 +36,5 @@ pub refused : (app : App) (words : List Text) (e : Error) → app ≡ program_ap
 refused app words e same kinds other =
     let free : is_simple_and_free app ≡ true = rw same program-free in
     let asked : None ≡ asked_if (fault_of app words) (asked_in (subcommand_of app words)) =
-      faulty e (fault_of app words) (asked_in (subcommand_of app words)) (kinds free) other in
+    faulty e (fault_of app words) (asked_in (subcommand_of app words)) (kinds free) other in
     rw same at asked

@@ -21,9 +21,7 @@ pub fn program<'a>(alloc: Global) -> Result<Command<'a>, AllocError>
 fn add_owner<'a>(alloc: Global, program: Command<'a>) -> Result<Command<'a>, AllocError>
     ensures { IfOk result (λ made. app_of made ≡ with_owner (app_of program.entry)) }
 {
-    program
-        .subcommand(keygen(alloc)?)?
-        .subcommand(seal(alloc)?)
+    program.subcommand(keygen(alloc)?)?.subcommand(seal(alloc)?)
 }
 
 /// What the store does.
@@ -37,9 +35,7 @@ fn add_store<'a>(alloc: Global, program: Command<'a>) -> Result<Command<'a>, All
 fn add_client<'a>(alloc: Global, program: Command<'a>) -> Result<Command<'a>, AllocError>
     ensures { IfOk result (λ made. app_of made ≡ with_client (app_of program.entry)) }
 {
-    program
-        .subcommand(check(alloc)?)?
-        .subcommand(audit(alloc)?)
+    program.subcommand(check(alloc)?)?.subcommand(audit(alloc)?)
 }
 
 fn keygen<'a>(alloc: Global) -> Result<Command<'a>, AllocError>
@@ -101,7 +97,11 @@ fn add_word<'a>(alloc: Global, command: Command<'a>, id: &'a str) -> Result<Comm
 }
 
 /// An option that takes a value.
-fn add_option<'a>(alloc: Global, command: Command<'a>, id: &'a str) -> Result<Command<'a>, AllocError>
+fn add_option<'a>(
+    alloc: Global,
+    command: Command<'a>,
+    id: &'a str,
+) -> Result<Command<'a>, AllocError>
     ensures shape { IfOk result (λ made. app_of made ≡ with_rule (app_of command.entry) (option_rule id.entry.now)) }
     ensures local { (fields_of command.entry).has_globals ≡ false → IfOk result (λ made. (fields_of made).has_globals ≡ false) }
 {

@@ -7,8 +7,8 @@ ghost use Rattle.vo_words.specs.Request.{asked};
 
 use crate::commands::program;
 use crate::request::{Height, Request};
-use clap::{ArgMatches, Error};
 use clap::error::ErrorKind;
+use clap::{ArgMatches, Error};
 use std::alloc::{AllocError, Global};
 
 /// What the words ask for, the program's name first. None are refused words: those that `clap`

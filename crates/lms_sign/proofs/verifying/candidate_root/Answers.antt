@@ -23,5 +23,12 @@ root_above-requires c = (has_form c.args.lms c.args.ots c.args.signature.now c.r
 pub returns-clause-value : goal.returns-clause-value
 unfolding lms_candidate
 returns-clause-value c =
-    rw (c.root_above.ensures, c.leaf_node-leaf.ensures, c.in-Some.ensures.value, c.ots_part.ensures, c.u32_at-q.ensures,
-        c.height.ensures, leaves_fit_32 c.args.lms) refl
+    rw (
+      c.root_above.ensures,
+      c.leaf_node-leaf.ensures,
+      c.in-Some.ensures.value,
+      c.ots_part.ensures,
+      c.u32_at-q.ensures,
+      c.height.ensures,
+      leaves_fit_32 c.args.lms,
+    ) refl

@@ -1,0 +1,5 @@
+pub mod Tokens
+pub mod Rules
+pub mod Queries
+pub mod Commands
+pub mod Parsing

@@ -1,0 +1,7 @@
+//! SQL texts: read by their grammar, and printed.
+#![tactic(auto)]
+
+mod conditions;
+mod halt;
+mod names;
+mod parser;
