@@ -1,5 +1,5 @@
 //! Values of one's own.
-ghost use Rattle.std.specs.Prelude.{◌≡◌, IfOk};
+ghost use Rattle.std.specs.Prelude.{◌≡◌, ◌++◌, IfOk, OnOk};
 ghost use Rattle.vo_spec.specs.Lent.{value_of};
 
 use std::alloc::{AllocError, Global};
@@ -16,13 +16,21 @@ pub fn own_value(alloc: Global, value: ValueRef<'_>) -> Result<Value, AllocError
     })
 }
 
+/// Puts copies of the values at the end.
+pub fn copy_onto(alloc: Global, out: &mut Vec<Value>, values: &[Value]) -> Result<(), AllocError>
+    ensures { OnOk result (out.new.items ≡ out.old.items ++ values.now) }
+{
+    for value in values {
+        out.push(own_value(alloc, value.as_ref())?)?;
+    }
+    Ok(())
+}
+
 /// The values, each copied.
 pub fn copy_values(alloc: Global, values: &[Value]) -> Result<List<Value>, AllocError>
     ensures { IfOk result (λ copy. copy ≡ values.now) }
 {
     let mut copy = Vec::with_capacity(alloc, values.len())?;
-    for value in values {
-        copy.push(own_value(alloc, value.as_ref())?)?;
-    }
+    copy_onto(alloc, &mut copy, values)?;
     Ok(List::from_vec(copy))
 }

@@ -13,7 +13,7 @@ mod text;
 mod writing;
 
 pub use columns::{take_columns, take_kind};
-pub use copies::{copy_values, own_value};
+pub use copies::{copy_onto, copy_values, own_value};
 pub use cursor::Cursor;
 pub use fault::FormFault;
 pub use fields::is_name;

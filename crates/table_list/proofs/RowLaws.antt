@@ -8,6 +8,7 @@ use Rattle.vo_spec.specs.declared.values.Value.{Value}
 use Rattle.vo_spec.specs.Values.{key_cmp, key_lt}
 use Rattle.vo_spec.specs.Tables.{has_row, put_row, without_row, changed_row, CellChange}
 use Rattle.table_list.specs.Rising.{IsBelow, IsAbove, Rises, Begins, Parts}
+use Rattle.table_list.proofs.Places.{all_more, all_first, all_last}
 use Rattle.table_list.proofs.KeyOrder.{less_greater, greater_less, equal_turned, less_then, greater_then, equal_then, then_equal, unlike_less, unlike_greater, alike, lt_less, lt_greater}
 
 -- Whether there is the key.
@@ -58,18 +59,6 @@ changed_parts key changes (b ∷ before) r after h g = rw (unlike_less b.key key
 
 -- Rising rows.
 
-pub all_append : (P : Row → Type 0) (xs ys : List Row) → AllByRecursion P xs → AllByRecursion P ys → AllByRecursion P (xs ++ ys)
-all_append P [] ys h g = g
-all_append P (x ∷ xs) ys h g = (h.0, all_append P xs ys h.1 g)
-
-pub all_front : (P : Row → Type 0) (xs ys : List Row) → AllByRecursion P (xs ++ ys) → AllByRecursion P xs
-all_front P [] ys h = tt
-all_front P (x ∷ xs) ys h = (h.0, all_front P xs ys h.1)
-
-pub all_back : (P : Row → Type 0) (xs ys : List Row) → AllByRecursion P (xs ++ ys) → AllByRecursion P ys
-all_back P [] ys h = h
-all_back P (x ∷ xs) ys h = all_back P xs ys h.1
-
 -- rows above one row are above what is below it
 pub all_above : (a b : List ℕ) (rows : List Row) → key_cmp a b ≡ Greater → AllByRecursion (IsAbove a) rows → AllByRecursion (IsAbove b) rows
 all_above a b [] e h = tt
@@ -96,7 +85,7 @@ rises_back (x ∷ xs) ys h = rises_back xs ys h.1
 pub rises_below : (xs : List Row) (r : Row) (ys : List Row) → Rises (xs ++ r ∷ ys) → AllByRecursion (IsBelow r.key) xs
 unfolding Rises
 rises_below [] r ys h = tt
-rises_below (x ∷ xs) r ys h = (greater_less r.key x.key (all_back (IsAbove x.key) xs (r ∷ ys) h.0).0, rises_below xs r ys h.1)
+rises_below (x ∷ xs) r ys h = (greater_less r.key x.key (all_last (IsAbove x.key) xs (r ∷ ys) h.0).0, rises_below xs r ys h.1)
 
 -- and what stands after it is above it
 pub rises_above : (xs : List Row) (r : Row) (ys : List Row) → Rises (xs ++ r ∷ ys) → AllByRecursion (IsAbove r.key) ys
@@ -108,24 +97,24 @@ pub rises_around : (key : List ℕ) (xs ys : List Row) → Rises xs → Rises ys
 unfolding Rises
 rises_around key [] ys h g b a = g
 rises_around key (x ∷ xs) ys h g b a =
-    (all_append (IsAbove x.key) xs ys h.0 (all_above key x.key ys (less_greater x.key key b.0) a), rises_around key xs ys h.1 g b.1 a)
+    (all_more (IsAbove x.key) xs ys h.0 (all_above key x.key ys (less_greater x.key key b.0) a), rises_around key xs ys h.1 g b.1 a)
 
 pub rises_front : (xs ys : List Row) → Rises (xs ++ ys) → Rises xs
 unfolding Rises
 rises_front [] ys h = tt
-rises_front (x ∷ xs) ys h = (all_front (IsAbove x.key) xs ys h.0, rises_front xs ys h.1)
+rises_front (x ∷ xs) ys h = (all_first (IsAbove x.key) xs ys h.0, rises_front xs ys h.1)
 
 -- a row in the place of its key
 pub rises_put : (row : Row) (xs ys : List Row) → Rises (xs ++ ys) → AllByRecursion (IsBelow row.key) xs → AllByRecursion (IsAbove row.key) ys → Rises (xs ++ row ∷ ys)
 unfolding Rises
 rises_put row [] ys h b a = (a, h)
 rises_put row (x ∷ xs) ys h b a =
-    let front = all_front (IsAbove x.key) xs ys h.0 in
-    let back = all_back (IsAbove x.key) xs ys h.0 in
-    (all_append (IsAbove x.key) xs (row ∷ ys) front (less_greater x.key row.key b.0, back), rises_put row xs ys h.1 b.1 a)
+    let front = all_first (IsAbove x.key) xs ys h.0 in
+    let back = all_last (IsAbove x.key) xs ys h.0 in
+    (all_more (IsAbove x.key) xs (row ∷ ys) front (less_greater x.key row.key b.0, back), rises_put row xs ys h.1 b.1 a)
 
 pub rises_without : (xs : List Row) (r : Row) (ys : List Row) → Rises (xs ++ r ∷ ys) → Rises (xs ++ ys)
 unfolding Rises
 rises_without [] r ys h = h.1
 rises_without (x ∷ xs) r ys h =
-    (all_append (IsAbove x.key) xs ys (all_front (IsAbove x.key) xs (r ∷ ys) h.0) (all_back (IsAbove x.key) xs (r ∷ ys) h.0).1, rises_without xs r ys h.1)
+    (all_more (IsAbove x.key) xs ys (all_first (IsAbove x.key) xs (r ∷ ys) h.0) (all_last (IsAbove x.key) xs (r ∷ ys) h.0).1, rises_without xs r ys h.1)

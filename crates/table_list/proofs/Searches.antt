@@ -6,34 +6,20 @@ use Rattle.vo_spec.specs.declared.values.Row.{Row}
 use Rattle.vo_spec.specs.Values.{key_cmp}
 use Rattle.table_list.specs.Rising.{IsBelow, IsAbove, Rises, Begins}
 use Rattle.table_list.specs.Chunks.{row_at, no_row}
+use Rattle.table_list.proofs.Places.{all_more, parted_at, drop_at, take_more}
 use Rattle.table_list.proofs.KeyOrder.{greater_less, equal_turned}
-use Rattle.table_list.proofs.RowLaws.{all_append, all_above, all_above_equal, all_below, all_below_equal, rises_below, rises_above}
+use Rattle.table_list.proofs.RowLaws.{ all_above, all_above_equal, all_below, all_below_equal, rises_below, rises_above}
 
 -- parted at a place
 
-parted_next : (rows : List Row) (m : ℕ) → m < length rows → rows ≡ take m rows ++ row_at rows m ∷ drop (suc m) rows
-parted_next [] m lt = absurd (omega arith)
-parted_next (r ∷ rows) zero lt = refl
-parted_next (r ∷ rows) (suc m) lt = ap (λ (t : List Row). r ∷ t) (parted_next rows m (omega arith))
-
-drop_next : (rows : List Row) (m : ℕ) → m < length rows → drop m rows ≡ row_at rows m ∷ drop (suc m) rows
-drop_next [] m lt = absurd (omega arith)
-drop_next (r ∷ rows) zero lt = refl
-drop_next (r ∷ rows) (suc m) lt = drop_next rows m (omega arith)
-
-take_next : (rows : List Row) (m : ℕ) → m < length rows → take (suc m) rows ≡ take m rows ++ row_at rows m ∷ []
-take_next [] m lt = absurd (omega arith)
-take_next (r ∷ rows) zero lt = refl
-take_next (r ∷ rows) (suc m) lt = ap (λ (t : List Row). r ∷ t) (take_next rows m (omega arith))
-
 pub parted : (rows : List Row) (m : ℕ) → m < length rows → rows ≡ take m rows ++ row_at rows m ∷ drop (m + 1) rows
-parted rows m lt = rw add-one (parted_next rows m lt)
+parted rows m lt = parted_at rows m no_row lt
 
 pub drop_here : (rows : List Row) (m : ℕ) → m < length rows → drop m rows ≡ row_at rows m ∷ drop (m + 1) rows
-drop_here rows m lt = rw add-one (drop_next rows m lt)
+drop_here rows m lt = drop_at rows m no_row lt
 
 take_here : (rows : List Row) (m : ℕ) → m < length rows → take (m + 1) rows ≡ take m rows ++ row_at rows m ∷ []
-take_here rows m lt = rw add-one (take_next rows m lt)
+take_here rows m lt = take_more rows m no_row lt
 
 around : (rows : List Row) (m : ℕ) → m < length rows → Rises rows → Rises (take m rows ++ row_at rows m ∷ drop (m + 1) rows)
 around rows m lt h = subst Rises (parted rows m lt) h
@@ -41,7 +27,7 @@ around rows m lt h = subst Rises (parted rows m lt) h
 pub search_less : (rows : List Row) (m : ℕ) (key : List ℕ) → Rises rows → m < length rows → key_cmp (row_at rows m).key key ≡ Less → AllByRecursion (IsBelow key) (take (m + 1) rows)
 search_less rows m key h lt e =
     let below = all_below (row_at rows m).key key (take m rows) e (rises_below (take m rows) (row_at rows m) (drop (m + 1) rows) (around rows m lt h)) in
-    subst (AllByRecursion (IsBelow key)) (sym (take_here rows m lt)) (all_append (IsBelow key) (take m rows) (row_at rows m ∷ []) below (e, tt))
+    subst (AllByRecursion (IsBelow key)) (sym (take_here rows m lt)) (all_more (IsBelow key) (take m rows) (row_at rows m ∷ []) below (e, tt))
 
 pub search_greater : (rows : List Row) (m : ℕ) (key : List ℕ) → Rises rows → m < length rows → key_cmp (row_at rows m).key key ≡ Greater → AllByRecursion (IsAbove key) (drop m rows)
 search_greater rows m key h lt e =

@@ -1,14 +1,16 @@
 //! Columns by their names.
-ghost use Rattle.std.specs.Prelude.{◌≡◌, map, bytes_eq};
+ghost use Rattle.std.specs.Prelude.{◌≡◌, ◌≤◌, length, map, bytes_eq, IfOk};
 ghost use Rattle.std.specs.List.{list_any};
 ghost use Rattle.vo_spec.specs.Tables.{column_at, column_number, has_column, is_key, suits, are_of_kinds, has_twice, is_bad_schema};
 ghost use Rattle.vo_spec.specs.Values.{kind_of, same_kind};
 
-use vo_spec::{Column, Kind, Schema, Value};
+use std::alloc::{AllocError, Global};
+use vo_spec::{Column, Kind, List, Name, Schema, Value};
 
 /// The number of the column of this name, or else how many there are.
 pub(crate) fn column_number(columns: &[Column], name: &[u8]) -> usize
-    ensures { result ≡ column_number columns.now name.now }
+    ensures number { result ≡ column_number columns.now name.now }
+    ensures bound { result ≤ length columns.now }
 {
     let mut number = 0;
     for column in columns {
@@ -114,4 +116,24 @@ pub(crate) fn is_bad_schema(columns: &[Column], key: &[u8]) -> bool
     has_twice(columns)
         || !has_column(columns, key)
         || same_kind(kind_at(columns, column_number(columns, key)), Kind::Bool)
+}
+
+/// The columns, each copied.
+pub(crate) fn copy_columns(alloc: Global, columns: &[Column]) -> Result<List<Column>, AllocError>
+    ensures { IfOk result (λ copy. copy ≡ columns.now) }
+{
+    let mut copy = Vec::with_capacity(alloc, columns.len())?;
+    for column in columns {
+        copy.push(Column {
+            name: copy_name(alloc, &column.name)?,
+            kind: column.kind,
+        })?;
+    }
+    Ok(List::from_vec(copy))
+}
+
+pub(crate) fn copy_name(alloc: Global, name: &Name) -> Result<Name, AllocError>
+    ensures { IfOk result (λ copy. copy ≡ name.now) }
+{
+    Ok(Name::from_vec(Vec::from_slice(alloc, name.as_bytes())?))
 }

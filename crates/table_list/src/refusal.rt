@@ -26,7 +26,7 @@ pub struct HeadingRef<'t> {
     pub count: u64,
 }
 
-fn create_fault(
+pub(crate) fn create_fault(
     exists: bool,
     tables: usize,
     columns: &[Column],
@@ -60,7 +60,7 @@ fn key_length(values: &[Value], number: usize) -> usize
     }
 }
 
-fn insert_fault(heading: HeadingRef<'_>, values: &[Value]) -> Option<CommandFault>
+pub(crate) fn insert_fault(heading: HeadingRef<'_>, values: &[Value]) -> Option<CommandFault>
     ensures { result ≡ first_of (insert_tests values.now (heading_seen heading.entry)) }
 {
     let columns = heading.schema.columns.as_slice();
@@ -79,7 +79,7 @@ fn insert_fault(heading: HeadingRef<'_>, values: &[Value]) -> Option<CommandFaul
     None
 }
 
-fn update_fault(
+pub(crate) fn update_fault(
     heading: HeadingRef<'_>,
     sets: &[SetPart],
     column: &[u8],
@@ -103,7 +103,7 @@ fn update_fault(
     None
 }
 
-fn delete_fault(heading: HeadingRef<'_>, column: &[u8], value: &Value) -> Option<CommandFault>
+pub(crate) fn delete_fault(heading: HeadingRef<'_>, column: &[u8], value: &Value) -> Option<CommandFault>
     ensures { result ≡ first_of (delete_tests column.now value.now (heading_seen heading.entry)) }
 {
     let columns = heading.schema.columns.as_slice();
