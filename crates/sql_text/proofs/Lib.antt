@@ -1,3 +1,4 @@
 pub mod Firsts
 pub mod Rounds
 pub mod Conds
+pub mod Repeats
