@@ -5,3 +5,4 @@ mod conditions;
 mod halt;
 mod names;
 mod parser;
+mod queries;

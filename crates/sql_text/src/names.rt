@@ -175,7 +175,7 @@ impl<'a> Parser<'a> {
     }
 
     /// References, at most 64.
-    fn references(&mut self, alloc: Global) -> Result<Vec<Ref>, Halt>
+    pub fn references(&mut self, alloc: Global) -> Result<Vec<Ref>, Halt>
         ensures value { Reads (λ (v : Vec Ref Global). v.items) (listed (Some 63) k.Comma reference) self.old result self.new }
         ensures levels { self.new.levels ≡ self.old.levels }
         ensures list { self.new.list.now ≡ self.old.list.now }
