@@ -2,7 +2,10 @@
 #![tactic(auto)]
 
 mod conditions;
+mod faults;
 mod halt;
 mod names;
 mod parser;
 mod queries;
+
+pub use faults::SqlFault;

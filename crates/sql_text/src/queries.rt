@@ -77,6 +77,7 @@ impl<'a> Parser<'a> {
     #[tactic(auto, unfolding(crate::specs::Rules::optional, crate::specs::Rules::before))]
     fn condition_if_any(&mut self, alloc: Global) -> Result<Option<Cond>, Halt>
         ensures value { Reads (option_map condition_of) (optional (before k.Where disj)) self.old result self.new }
+        ensures levels { OnOk result (self.new.levels ≡ self.old.levels) }
         ensures list { self.new.list.now ≡ self.old.list.now }
     {
         if self.sees(TokenKind::Where) {
@@ -85,5 +86,25 @@ impl<'a> Parser<'a> {
         } else {
             Ok(None)
         }
+    }
+
+    #[tactic(auto, unfolding(crate::specs::Queries::query, crate::specs::Rules::before))]
+    pub fn query(&mut self, alloc: Global) -> Result<QueryText, Halt>
+        ensures value { Reads query_of query self.old result self.new }
+        ensures list { self.new.list.now ≡ self.old.list.now }
+    {
+        self.want(TokenKind::Select)?;
+        let items = self.items(alloc)?;
+        self.want(TokenKind::From)?;
+        let left = self.source(alloc)?;
+        let join = self.join_if_any(alloc)?;
+        let cond = self.condition_if_any(alloc)?;
+        self.skip(TokenKind::Semicolon);
+        Ok(QueryText {
+            items,
+            left,
+            join,
+            cond,
+        })
     }
 }
