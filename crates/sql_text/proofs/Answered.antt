@@ -1,5 +1,5 @@
 -- What the parser found in the tokens of a text answers for the text.
-use Rattle.std.proofs.Common.{◌≡◌, ℕ, zero, suc, ◌≤◌, Bool, true, false, List, [], ◌∷◌, ◌++◌, length, drop, map, Result, Ok, Err, refl, sym, ap, ◌∙◌, subst, ◌⊎◌}
+use Rattle.std.proofs.Common.{◌≡◌, ℕ, zero, suc, min, arith, ◌≤◌, Bool, true, false, List, [], ◌∷◌, ◌++◌, length, drop, map, Result, Ok, Err, refl, sym, ap, ◌∙◌, subst, ◌⊎◌}
 use Rattle.std.specs.List.{AllByRecursion}
 use Rattle.grammar.specs.Rule.{Rule}
 use Rattle.grammar.specs.Text.{IsText, FaultsAt, Judges}
@@ -79,3 +79,14 @@ module _ {A B : Type 0} (view : B → A) (start : Rule sql A) (good : is_good co
   accepts (Ok x) left h v t = accepts_ok x left v (ap at_end (sym h) ∙ parses v t)
   accepts (Err Memory) left h v t = tt
   accepts (Err (Fault s)) left h v t = accepts_fault s left v (ap at_end (sym h) ∙ parses v t)
+
+-- past its end a list has nothing
+pub drop_all : {X : Type 0} (n : ℕ) (xs : List X) → drop (min n (length xs)) xs ≡ drop n xs
+drop_all zero xs = let e : min 0 (length xs) ≡ 0 = omega arith in ap (λ z. drop z xs) e
+drop_all (suc n) [] = let e : min (suc n) 0 ≡ 0 = omega arith in ap (λ z. drop z []) e
+drop_all (suc n) (x ∷ xs) = let e : min (suc n) (suc (length xs)) ≡ suc (min n (length xs)) = omega arith in ap (λ z. drop z (x ∷ xs)) e ∙ drop_all n xs
+
+pub drop_placed : (n : ℕ) (list : List Lexeme) → drop n (map placed_of list) ≡ map placed_of (drop n list)
+drop_placed zero list = refl
+drop_placed (suc n) [] = refl
+drop_placed (suc n) (x ∷ list) = drop_placed n list

@@ -7,5 +7,7 @@ mod halt;
 mod names;
 mod parser;
 mod queries;
+mod texts;
 
 pub use faults::SqlFault;
+pub use texts::{TEXT_MAX, parse_query};
