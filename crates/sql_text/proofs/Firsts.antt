@@ -25,3 +25,8 @@ or_two false b = refl
 pub first_alias : (left : List Token) → begins sql (k.As ∷ k.Name ∷ []) left ≡ (begins sql (k.As ∷ []) left || begins sql (k.Name ∷ []) left)
 first_alias [] = refl
 first_alias (t ∷ left) = or_two (same_kind k.As t.kind) (same_kind k.Name t.kind)
+
+pub first_join : (left : List Token) → begins sql (first join) left ≡ (begins sql (k.Inner ∷ []) left || begins sql (k.Join ∷ []) left)
+unfolding join optional before
+first_join [] = refl
+first_join (t ∷ left) = or_two (same_kind k.Inner t.kind) (same_kind k.Join t.kind)

@@ -3,3 +3,5 @@ pub mod Rules
 pub mod Queries
 pub mod Commands
 pub mod Parsing
+pub mod Texts
+pub mod Faults

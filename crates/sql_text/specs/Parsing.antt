@@ -1,8 +1,7 @@
 -- What a method of the parser does: it reads a rule from the tokens that are left.
 use Rattle.std.specs.Prelude.{◌≡◌, ℕ, List, drop, map, Result, Ok, Err}
 use Rattle.grammar.specs.Rule.{Rule}
-use Rattle.grammar.specs.Reading.{Found, taken, read, reader}
-use Rattle.sql_tokens.specs.declared.kinds.TokenKind.{TokenKind}
+use Rattle.grammar.specs.Reading.{Found, read, reader}
 use Rattle.sql_tokens.specs.Lex.{Token, token_of}
 use Rattle.sql_text.specs.declared.parser.Parser.{Parser}
 use Rattle.sql_text.specs.declared.halt.Halt.{Halt}
@@ -23,7 +22,3 @@ Finds view found (Err (Fault stop)) left = found ≡ (Err stop, left)
 -- the method reads this rule with the levels that are left
 abbrev pub Reads : {A B : Type 0} → (B → A) → Rule sql A → Parser → Result B Halt → Parser → Type 0
 Reads view rule old result new = Finds view (read (reader conditions_of old.levels) rule (left_of old)) result (left_of new)
-
--- a token of this kind was taken
-abbrev pub OpensBy : TokenKind → List Token → List Token → Type 0
-OpensBy kind old new = (t : Token) × (taken sql kind old ≡ (Ok t, new))

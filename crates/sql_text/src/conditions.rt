@@ -1,15 +1,16 @@
 //! Conditions, by recursive descent. A level is one NOT or one opening parenthesis.
 ghost use Rattle.std.specs.Prelude.{◌≡◌, ◌+◌, ◌<◌, [], ◌∷◌, true, map, OnOk, OnErr, IfOk,  Ok, Err, length};
 ghost use Rattle.vo_spec.specs.Conditions.{condition_of};
-ghost use Rattle.grammar.specs.Reading.{begins};
+ghost use Rattle.grammar.specs.Reading.{begins, taken};
+ghost use Rattle.sql_tokens.specs.Lex.{token_of};
 ghost use Rattle.sql_text.specs.Tokens.{sql};
-ghost use Rattle.sql_text.specs.Parsing.{left_of, Reads, OpensBy};
+ghost use Rattle.sql_text.specs.Parsing.{left_of, Reads};
 ghost use Rattle.sql_text.specs.Queries.{test, prim, conj, disj, all_of, any_of};
 
 use crate::halt::Halt;
 use crate::parser::Parser;
 use grammar::Stop;
-use sql_tokens::TokenKind;
+use sql_tokens::{Lexeme, TokenKind};
 use std::alloc::Global;
 use vo_spec::{Cond, List};
 
@@ -53,9 +54,9 @@ impl<'a> Parser<'a> {
     }
 
     /// The token that opens a level, which is next.
-    fn open(&mut self, kind: TokenKind) -> Result<(), Halt>
+    fn open(&mut self, kind: TokenKind) -> Result<Lexeme<'a>, Halt>
         requires { begins sql (kind ∷ []) (left_of self.old) ≡ true }
-        ensures opened { OnOk result (OpensBy kind (left_of self.old) (left_of self.new)) }
+        ensures opened { IfOk result (λ x. taken sql kind (left_of self.old) ≡ (Ok (token_of x), left_of self.new)) }
         ensures levels { OnOk result (self.new.levels + 1 ≡ self.old.levels) }
         ensures deep { OnErr result ((result ≡ Err (Halt.Fault Stop.Nesting)) × (self.old.levels ≡ 0) × (left_of self.new ≡ left_of self.old)) }
         ensures list { self.new.list.now ≡ self.old.list.now }
@@ -64,8 +65,7 @@ impl<'a> Parser<'a> {
             return Err(Halt::Fault(Stop::Nesting));
         }
         self.levels -= 1;
-        self.take(kind);
-        Ok(())
+        Ok(self.take(kind))
     }
 
     #[cycle(cond)]
@@ -76,14 +76,16 @@ impl<'a> Parser<'a> {
         ensures list { self.new.list.now ≡ self.old.list.now }
     {
         if self.sees(TokenKind::Not) {
+            let levels = self.levels;
             self.open(TokenKind::Not)?;
             let part = self.prim(alloc)?;
-            self.levels += 1;
+            self.levels = levels;
             Ok(Cond::Not(Box::new(alloc, part)?))
         } else if self.sees(TokenKind::LeftParen) {
+            let levels = self.levels;
             self.open(TokenKind::LeftParen)?;
             let whole = self.disj(alloc)?;
-            self.levels += 1;
+            self.levels = levels;
             self.want(TokenKind::RightParen)?;
             Ok(whole)
         } else {
@@ -92,7 +94,6 @@ impl<'a> Parser<'a> {
     }
 
     #[cycle(cond)]
-    #[tactic(auto, using(crate::proofs::Conds::conjs))]
     fn conj(&mut self, alloc: Global) -> Result<Cond, Halt>
         ensures value { Reads condition_of conj self.old result self.new }
         ensures levels { OnOk result (self.new.levels ≡ self.old.levels) }
@@ -108,7 +109,6 @@ impl<'a> Parser<'a> {
     }
 
     #[cycle(cond)]
-    #[tactic(auto, using(crate::proofs::Conds::disjs))]
     pub fn disj(&mut self, alloc: Global) -> Result<Cond, Halt>
         ensures value { Reads condition_of disj self.old result self.new }
         ensures levels { OnOk result (self.new.levels ≡ self.old.levels) }

@@ -2,6 +2,12 @@
 #![tactic(auto)]
 
 mod conditions;
+mod faults;
 mod halt;
 mod names;
 mod parser;
+mod queries;
+mod texts;
+
+pub use faults::SqlFault;
+pub use texts::{TEXT_MAX, parse_query};

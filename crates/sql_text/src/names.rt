@@ -1,15 +1,23 @@
 //! Names, literals, references and sources.
-ghost use Rattle.std.specs.Prelude.{◌≡◌, OnOk, IfOk, false, List};
+ghost use Rattle.std.specs.Prelude.{◌≡◌, OnOk, IfOk, false, List, Some, Vec};
 ghost use Rattle.std.specs.Str.{str_to_ascii_lowercase};
 ghost use Rattle.sql_tokens.specs.Lex.{unquoted, single_quotes};
 ghost use Rattle.sql_text.specs.Parsing.{Reads};
+ghost use Rattle.std.specs.Global.{Global};
+ghost use Rattle.sql_tokens.specs.declared.kinds.TokenKind.TheVariants as k;
+ghost use Rattle.vo_spec.specs.declared.queries.Ref.{Ref};
+ghost use Rattle.sql_text.specs.Rules.{before, listed};
 ghost use Rattle.sql_text.specs.Queries.{name, literal, reference, source, operator, operand, ref_of, source_of};
 
 use crate::halt::Halt;
 use crate::parser::Parser;
+use grammar::Stop;
 use sql_tokens::TokenKind;
 use std::alloc::{AllocError, Global};
 use vo_spec::{Cmp, Name, Operand, Ref, Source, Text, Value};
+
+/// The most items that a query shows.
+const ITEMS_MAX: usize = 64;
 
 /// A word in small letters.
 fn folded(alloc: Global, word: &[u8]) -> Result<Vec<u8>, AllocError>
@@ -153,5 +161,33 @@ impl<'a> Parser<'a> {
             Name::from_vec(Vec::from_slice(alloc, table.as_bytes())?)
         };
         Ok(Source { table, alias })
+    }
+
+    /// A comma, and a reference.
+    #[tactic(auto, unfolding(crate::specs::Rules::before))]
+    fn next_reference(&mut self, alloc: Global) -> Result<Ref, Halt>
+        ensures value { Reads (λ x. x) (before k.Comma reference) self.old result self.new }
+        ensures levels { self.new.levels ≡ self.old.levels }
+        ensures list { self.new.list.now ≡ self.old.list.now }
+    {
+        self.want(TokenKind::Comma)?;
+        self.reference(alloc)
+    }
+
+    /// References, at most 64.
+    pub fn references(&mut self, alloc: Global) -> Result<Vec<Ref>, Halt>
+        ensures value { Reads (λ (v : Vec Ref Global). v.items) (listed (Some 63) k.Comma reference) self.old result self.new }
+        ensures levels { self.new.levels ≡ self.old.levels }
+        ensures list { self.new.list.now ≡ self.old.list.now }
+    {
+        let mut list = Vec::new(alloc);
+        list.push(self.reference(alloc)?)?;
+        'parts: while self.sees(TokenKind::Comma) {
+            if list.len() == ITEMS_MAX {
+                return Err(Halt::Fault(Stop::TooMany));
+            }
+            list.push(self.next_reference(alloc)?)?;
+        }
+        Ok(list)
     }
 }

@@ -6,6 +6,7 @@ use grammar::Stop;
 use sql_tokens::{Lexeme, TokenKind};
 
 /// The tokens, the place of the next one, and how many levels of conditions may still be opened.
+#[derive(Drop)]
 pub struct Parser<'a> {
     pub list: &'a [Lexeme<'a>],
     pub place: usize,
