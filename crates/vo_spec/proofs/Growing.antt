@@ -1,4 +1,4 @@
--- Insertion into a whole tree gives a whole tree with the entry among its entries, or finds the key there.
+-- Entries with one more among them, and nodes that are split: what they keep of a whole tree's shape.
 use Rattle.std.proofs.Common.{◌≡◌, ℕ, zero, suc, ◌+◌, ◌-◌, ◌<◌, ◌≤◌, Bool, true, false, cond, List, [], ◌∷◌, ◌++◌, Option, Some, None, Result, Ok, Err, length, map, take, drop, inl, inr, refl, sym, ap, ◌∙◌, subst, arith, append_assoc}
 use Rattle.std.specs.Prelude.{◌||◌, ◌&&◌, not, nat_le, slice_get, slice_index_or, bytes_eq}
 use Rattle.std.specs.List.{list_any, AllByRecursion}
@@ -24,20 +24,20 @@ keys_in = map key_in
 -- Where an entry goes in a list.
 
 -- keys that are all below, or not above, this one
-abbrev Below : List ℕ → PartEntry → Type 0
+abbrev pub Below : List ℕ → PartEntry → Type 0
 Below key f = key_lt f.key key ≡ true
 
-abbrev NotAbove : List ℕ → PartEntry → Type 0
+abbrev pub NotAbove : List ℕ → PartEntry → Type 0
 NotAbove key f = key_lt key f.key ≡ false
 
-abbrev Above : List ℕ → PartEntry → Type 0
+abbrev pub Above : List ℕ → PartEntry → Type 0
 Above key f = key_lt key f.key ≡ true
 
 put_before_all : (e : PartEntry) (fs : List PartEntry) → AllByRecursion (Above e.key) fs → put_entry row_family e fs ≡ e ∷ fs
 put_before_all e [] all = refl
 put_before_all e (f ∷ fs) all = rw (all.0) refl
 
-put_left : (e : PartEntry) (xs ys : List PartEntry) → AllByRecursion (Above e.key) ys → put_entry row_family e (xs ++ ys) ≡ put_entry row_family e xs ++ ys
+pub put_left : (e : PartEntry) (xs ys : List PartEntry) → AllByRecursion (Above e.key) ys → put_entry row_family e (xs ++ ys) ≡ put_entry row_family e xs ++ ys
 put_left e [] ys all = put_before_all e ys all
 put_left e (x ∷ xs) ys all = step (key_lt e.key x.key) (put_left e xs ys all)
   where
@@ -46,11 +46,11 @@ put_left e (x ∷ xs) ys all = step (key_lt e.key x.key) (put_left e xs ys all)
     step true rest = refl
     step false rest = ap (λ z. x ∷ z) rest
 
-put_right : (e : PartEntry) (xs ys : List PartEntry) → AllByRecursion (NotAbove e.key) xs → put_entry row_family e (xs ++ ys) ≡ xs ++ put_entry row_family e ys
+pub put_right : (e : PartEntry) (xs ys : List PartEntry) → AllByRecursion (NotAbove e.key) xs → put_entry row_family e (xs ++ ys) ≡ xs ++ put_entry row_family e ys
 put_right e [] ys all = refl
 put_right e (x ∷ xs) ys all = rw (all.0, put_right e xs ys all.1) refl
 
-put_length : (e : PartEntry) (fs : List PartEntry) → length (put_entry row_family e fs) ≡ suc (length fs)
+pub put_length : (e : PartEntry) (fs : List PartEntry) → length (put_entry row_family e fs) ≡ suc (length fs)
 put_length e [] = refl
 put_length e (f ∷ fs) = step (key_lt e.key f.key) (put_length e fs)
   where
@@ -59,7 +59,7 @@ put_length e (f ∷ fs) = step (key_lt e.key f.key) (put_length e fs)
     step false rest = ap suc rest
 
 -- what holds of the entry and of each of the others
-put_each : (P : PartEntry → Type 0) (e : PartEntry) (fs : List PartEntry) → P e → AllByRecursion P fs → AllByRecursion P (put_entry row_family e fs)
+pub put_each : (P : PartEntry → Type 0) (e : PartEntry) (fs : List PartEntry) → P e → AllByRecursion P fs → AllByRecursion P (put_entry row_family e fs)
 put_each P e [] p all = (p, tt)
 put_each P e (f ∷ fs) p all = step (key_lt e.key f.key) (put_each P e fs p all.1)
   where
@@ -99,24 +99,24 @@ none_below : (key : List ℕ) (fs : List PartEntry) → AllByRecursion (Below ke
 none_below key [] all = refl
 none_below key (f ∷ fs) all = rw (other_key f.key key all.0) (none_below key fs all.1)
 
-has_left : (key : List ℕ) (xs ys : List PartEntry) → AllByRecursion (Above key) ys → has_key row_family key (xs ++ ys) ≡ has_key row_family key xs
+pub has_left : (key : List ℕ) (xs ys : List PartEntry) → AllByRecursion (Above key) ys → has_key row_family key (xs ++ ys) ≡ has_key row_family key xs
 has_left key xs ys all = any_append (λ (f : PartEntry). bytes_eq f.key key) xs ys ∙ step (has_key row_family key xs) ∙ refl
   where
     step : (b : Bool) → (b || has_key row_family key ys) ≡ b
     step true = refl
     step false = none_above key ys all
 
-has_right : (key : List ℕ) (xs ys : List PartEntry) → AllByRecursion (Below key) xs → has_key row_family key (xs ++ ys) ≡ has_key row_family key ys
+pub has_right : (key : List ℕ) (xs ys : List PartEntry) → AllByRecursion (Below key) xs → has_key row_family key (xs ++ ys) ≡ has_key row_family key ys
 has_right key xs ys all = any_append (λ (f : PartEntry). bytes_eq f.key key) xs ys ∙ ap (λ b. b || has_key row_family key ys) (none_below key xs all)
 
 -- Keys that rise.
 
-rising_left : (xs ys : List PartEntry) → AreRising (keys_in (xs ++ ys)) → AreRising (keys_in xs)
+pub rising_left : (xs ys : List PartEntry) → AreRising (keys_in (xs ++ ys)) → AreRising (keys_in xs)
 rising_left [] ys r = tt
 rising_left (x ∷ xs) ys r =
     (each_map (λ k. key_lt x.key k ≡ true) key_in xs (each_left (λ (f : PartEntry). key_lt x.key f.key ≡ true) xs ys (each_mapped (λ k. key_lt x.key k ≡ true) key_in (xs ++ ys) r.0)), rising_left xs ys r.1)
 
-rising_right : (xs ys : List PartEntry) → AreRising (keys_in (xs ++ ys)) → AreRising (keys_in ys)
+pub rising_right : (xs ys : List PartEntry) → AreRising (keys_in (xs ++ ys)) → AreRising (keys_in ys)
 rising_right [] ys r = r
 rising_right (x ∷ xs) ys r = rising_right xs ys r.1
 
@@ -150,11 +150,11 @@ put_rises e (f ∷ fs) h r = step (key_lt e.key f.key) refl (put_rises e fs part
 
 -- What comes in a node's place.
 
-abbrev grown_entries : Grown PartEntry (Unit {0}) → List PartEntry
+abbrev pub grown_entries : Grown PartEntry (Unit {0}) → List PartEntry
 grown_entries (one p) = entries p
 grown_entries (two left key right) = entries left ++ entries right
 
-abbrev IsGrown : ℕ → ℕ → Option (List ℕ) → Option (List ℕ) → Grown PartEntry (Unit {0}) → Type 0
+abbrev pub IsGrown : ℕ → ℕ → Option (List ℕ) → Option (List ℕ) → Grown PartEntry (Unit {0}) → Type 0
 IsGrown fewest height lower upper (one p) = IsNode row_family fewest height lower upper p × (fewest_in_root row_family p ≤ fewest)
 IsGrown fewest height lower upper (two left key right) =
     (is_within lower upper key ≡ true) × IsNode row_family half height lower (Some key) left × IsNode row_family half height (Some key) upper right
@@ -194,7 +194,7 @@ halves_grown fewest height lower upper xs (y ∷ ys) low left few many all risin
         ( and_from (not (key_lt y.key y.key)) (is_before upper y.key) (not_from_false (key_lt y.key y.key) (key_lt_itself y.key)) (and_parts (is_from lower y.key) (is_before upper y.key) y_in).1
         , after ys (each_right (Between lower upper) xs (y ∷ ys) all).1 (each_mapped (λ k. key_lt y.key k ≡ true) key_in ys (rising_right xs (y ∷ ys) rising).0) )
 
-leaf_grown : (fewest height : ℕ) (lower upper : Option (List ℕ)) (es : List PartEntry) → height ≡ 0 → fewest ≤ length es → length es ≤ 17
+pub leaf_grown : (fewest height : ℕ) (lower upper : Option (List ℕ)) (es : List PartEntry) → height ≡ 0 → fewest ≤ length es → length es ≤ 17
     → AllByRecursion (Between lower upper) es → AreRising (keys_in es)
     → IsGrown fewest height lower upper (split_leaf row_family es) × (grown_entries (split_leaf row_family es) ≡ es)
 leaf_grown fewest height lower upper es low few many all rising = step (nat_le (length es) 16) refl
@@ -268,7 +268,7 @@ nodes_split (suc k) height lower upper (s ∷ ss) (more m p ps) lt n =
       whole = append_assoc (entries p) (entries_in (take_parts (suc k) ps)) (entries_in (drop_parts (suc k) ps)) ∙ ap (λ z. entries p ++ z) i.whole;
     }
 
-inner_grown : (fewest height : ℕ) (lower upper : Option (List ℕ)) (c : Children PartEntry (Unit {0})) → 0 < height → fewest ≤ count c.parts → count c.parts ≤ 17 → 2 ≤ fewest
+pub inner_grown : (fewest height : ℕ) (lower upper : Option (List ℕ)) (c : Children PartEntry (Unit {0})) → 0 < height → fewest ≤ count c.parts → count c.parts ≤ 17 → 2 ≤ fewest
     → AreNodes row_family (height - 1) lower upper c.separators c.parts
     → IsGrown fewest height lower upper (split_inner row_family c) × (grown_entries (split_inner row_family c) ≡ entries_in c.parts)
 inner_grown fewest height lower upper c high few many two_or_more nodes = step (nat_le (count c.parts) 16) refl

@@ -10,3 +10,4 @@ pub mod AnswerLaws
 pub mod JoinLaws
 pub mod Exact
 pub mod Growing
+pub mod Grown
