@@ -47,9 +47,11 @@ module _ {A B : Type 0} (view : B → A) (start : Rule sql A) (good : is_good co
   -- with tokens left behind a value the first of them is the fault
   ended_ok : (x : B) (left : List Placed) → drop n ps ≡ left → read (reader conditions_of 32) start (unplaced ps) ≡ (Ok (view x), unplaced left) → Answers view most start text (ended (Ok x) left (length text))
   ended_ok x [] e h = (fits, ps, scanned, answer_judged _ h)
-  ended_ok x (p ∷ left) e h =
-      (fits, subst (λ z. Breaks start text stop.Syntax (place_of z (length text))) e
-          (breaks stop.Syntax (subst (λ z. FaultsAt conditions_of 32 start (unplaced ps) stop.Syntax (unplaced z)) (sym e) (answer_judged _ h))))
+  ended_ok x (p ∷ left) e h = (
+    fits,
+    subst (λ z. Breaks start text stop.Syntax (place_of z (length text))) e
+        (breaks stop.Syntax (subst (λ z. FaultsAt conditions_of 32 start (unplaced ps) stop.Syntax (unplaced z)) (sym e) (answer_judged _ h))),
+  )
 
   ended_fault : (s : Stop) (left : List Placed) → drop n ps ≡ left → read (reader conditions_of 32) start (unplaced ps) ≡ (Err s, unplaced left)
       → Answers view most start text (ended {B = B} (Err (Fault s)) left (length text))

@@ -155,7 +155,7 @@ pub create_at : (name : List ℕ) (columns : List Column) (key : List ℕ) (tabl
 unfolding apply
 create_at name columns key tables at e b a =
     let put : put_table (new_table name columns key) tables ≡ take at tables ++ new_table name columns key ∷ drop at tables =
-        ap (put_table (new_table name columns key)) (sym (take-append-drop at tables)) ∙ put_parted (new_table name columns key) (take at tables) (drop at tables) b a in
+    ap (put_table (new_table name columns key)) (sym (take-append-drop at tables)) ∙ put_parted (new_table name columns key) (take at tables) (drop at tables) b a in
     rw e (ap Ok put)
 
 first_passes : (b : Bool) (fault : CommandFault) (others : Tests) → first_of ((b, fault) ∷ others) ≡ None → b ≡ false

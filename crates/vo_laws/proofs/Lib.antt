@@ -9,3 +9,5 @@ pub mod ConditionLaws
 pub mod AnswerLaws
 pub mod JoinLaws
 pub mod Exact
+pub mod Growing
+pub mod Grown

@@ -14,9 +14,9 @@ use Rattle.vo_spec.specs.Trees.{RowTree, RowTrees, key_in, row_family}
 use Rattle.vo_spec.specs.Fits.{most_in_node}
 use Rattle.vo_spec.specs.Inserts.{half, result_map, goes_here, Grown, one, two, Children, take_parts, drop_parts, after_child, has_key, put_entry, first_key, split_leaf, split_inner, put_grown, grow, grow_in, root_of, inserted}
 use Rattle.vo_spec.specs.Standing.{is_from, is_before, is_up_to, is_between, is_within, AreRising, IsNode, AreNodes, IsTree, fewest_in_root}
-use Rattle.vo_spec.proofs.KeyOrder.{key_lt_itself, same_key, key_lt_back, key_le_le, key_lt_le, key_le_lt, key_lt_lt}
-use Rattle.vo_spec.proofs.ListLaws.{each_left, each_right, each_both, each_weaker, each_map, each_mapped}
-use Rattle.vo_spec.proofs.ScanLaws.{Between, node_between, nodes_between}
+use Rattle.vo_laws.proofs.KeyOrder.{key_lt_itself, same_key, key_lt_back, key_le_le, key_lt_le, key_le_lt, key_lt_lt}
+use Rattle.vo_laws.proofs.ListLaws.{each_left, each_right, each_both, each_weaker, each_map, each_mapped}
+use Rattle.vo_laws.proofs.ScanLaws.{Between, node_between, nodes_between}
 
 abbrev pub keys_in : List PartEntry → List (List ℕ)
 keys_in = map key_in
@@ -123,16 +123,17 @@ rising_right (x ∷ xs) ys r = rising_right xs ys r.1
 -- those before an entry are below it
 rising_before : (xs : List PartEntry) (y : PartEntry) (ys : List PartEntry) → AreRising (keys_in (xs ++ y ∷ ys)) → AllByRecursion (Below y.key) xs
 rising_before [] y ys r = tt
-rising_before (x ∷ xs) y ys r =
-    ( (each_right (λ (f : PartEntry). key_lt x.key f.key ≡ true) xs (y ∷ ys) (each_mapped (λ k. key_lt x.key k ≡ true) key_in (xs ++ y ∷ ys) r.0)).0
-    , rising_before xs y ys r.1 )
+rising_before (x ∷ xs) y ys r = (
+  (each_right (λ (f : PartEntry). key_lt x.key f.key ≡ true) xs (y ∷ ys) (each_mapped (λ k. key_lt x.key k ≡ true) key_in (xs ++ y ∷ ys) r.0)).0,
+  rising_before xs y ys r.1,
+)
 
 -- a key that isn't there keeps them rising
 not_there : (key other : List ℕ) → key_lt key other ≡ false → bytes_eq other key ≡ false → key_lt other key ≡ true
 not_there key other e f = elim (cases_Bool (key_lt other key)) [
-    | inl g ↦ g
-    | inr g ↦ absurd (both_ways (bytes_eq other key) f ((bytes_eq-Decides other key).1 (same_key other key g e)))
-  ]
+  | inl g ↦ g
+  | inr g ↦ absurd (both_ways (bytes_eq other key) f ((bytes_eq-Decides other key).1 (same_key other key g e)))
+]
 
 pub put_rises : (e : PartEntry) (fs : List PartEntry) → has_key row_family e.key fs ≡ false → AreRising (keys_in fs) → AreRising (keys_in (put_entry row_family e fs))
 put_rises e [] h r = (tt, tt)
@@ -143,10 +144,11 @@ put_rises e (f ∷ fs) h r = step (key_lt e.key f.key) refl (put_rises e fs part
 
     step : (b : Bool) → key_lt e.key f.key ≡ b → AreRising (keys_in (put_entry row_family e fs)) → AreRising (keys_in (cond b (e ∷ f ∷ fs) (f ∷ put_entry row_family e fs)))
     step true lt rest = ((lt, each_weaker (λ k. key_lt f.key k ≡ true) (λ k. key_lt e.key k ≡ true) (λ k g. key_lt_lt e.key f.key k lt g) (keys_in fs) r.0), r)
-    step false ge rest =
-        ( each_map (λ k. key_lt f.key k ≡ true) key_in (put_entry row_family e fs)
-            (put_each (λ (g : PartEntry). key_lt f.key g.key ≡ true) e fs (not_there e.key f.key ge parts.0) (each_mapped (λ k. key_lt f.key k ≡ true) key_in fs r.0))
-        , rest )
+    step false ge rest = (
+      each_map (λ k. key_lt f.key k ≡ true) key_in (put_entry row_family e fs)
+          (put_each (λ (g : PartEntry). key_lt f.key g.key ≡ true) e fs (not_there e.key f.key ge parts.0) (each_mapped (λ k. key_lt f.key k ≡ true) key_in fs r.0)),
+      rest,
+    )
 
 -- What comes in a node's place.
 
@@ -165,9 +167,11 @@ halves_grown : (fewest height : ℕ) (lower upper : Option (List ℕ)) (xs ys : 
     → AllByRecursion (Between lower upper) (xs ++ ys) → AreRising (keys_in (xs ++ ys))
     → IsGrown fewest height lower upper (two (leaf xs) (first_key row_family ys) (leaf ys))
 halves_grown fewest height lower upper xs [] low left few many all rising = absurd (omega arith)
-halves_grown fewest height lower upper xs (y ∷ ys) low left few many all rising =
-    (within, (low, omega arith, omega arith, lefts xs (each_left (Between lower upper) xs (y ∷ ys) all) (rising_before xs y ys rising)),
-        (low, few, many, rights))
+halves_grown fewest height lower upper xs (y ∷ ys) low left few many all rising = (
+  within,
+  (low, omega arith, omega arith, lefts xs (each_left (Between lower upper) xs (y ∷ ys) all) (rising_before xs y ys rising)),
+  (low, few, many, rights),
+)
   where
     y_in : Between lower upper y
     y_in = (each_right (Between lower upper) xs (y ∷ ys) all).0
@@ -190,9 +194,10 @@ halves_grown fewest height lower upper xs (y ∷ ys) low left few many all risin
         (and_from (not (key_lt z.key y.key)) (is_before upper z.key) (not_from_false (key_lt z.key y.key) (key_lt_back y.key z.key b.0)) (and_parts (is_from lower z.key) (is_before upper z.key) a.0).1, after zs a.1 b.1)
 
     rights : AllByRecursion (Between (Some y.key) upper) (y ∷ ys)
-    rights =
-        ( and_from (not (key_lt y.key y.key)) (is_before upper y.key) (not_from_false (key_lt y.key y.key) (key_lt_itself y.key)) (and_parts (is_from lower y.key) (is_before upper y.key) y_in).1
-        , after ys (each_right (Between lower upper) xs (y ∷ ys) all).1 (each_mapped (λ k. key_lt y.key k ≡ true) key_in ys (rising_right xs (y ∷ ys) rising).0) )
+    rights = (
+      and_from (not (key_lt y.key y.key)) (is_before upper y.key) (not_from_false (key_lt y.key y.key) (key_lt_itself y.key)) (and_parts (is_from lower y.key) (is_before upper y.key) y_in).1,
+      after ys (each_right (Between lower upper) xs (y ∷ ys) all).1 (each_mapped (λ k. key_lt y.key k ≡ true) key_in ys (rising_right xs (y ∷ ys) rising).0),
+    )
 
 pub leaf_grown : (fewest height : ℕ) (lower upper : Option (List ℕ)) (es : List PartEntry) → height ≡ 0 → fewest ≤ length es → length es ≤ 17
     → AllByRecursion (Between lower upper) es → AreRising (keys_in es)
@@ -209,10 +214,11 @@ leaf_grown fewest height lower upper es low few many all rising = step (nat_le (
     step false e =
         let large : 16 < length es = leb-false (length es) 16 e in
         let left : length (take 8 es) ≡ 8 = omega (arith, length-take 8 es) in
-        let right : length (drop 8 es) ≡ 9 = omega (arith, length-drop 8 es) in
-        ( halves_grown fewest height lower upper (take 8 es) (drop 8 es) low left (omega arith) (omega arith)
-            (subst (AllByRecursion (Between lower upper)) (sym whole) all) (subst (λ zs. AreRising (keys_in zs)) (sym whole) rising)
-        , whole )
+        let right : length (drop 8 es) ≡ 9 = omega (arith, length-drop 8 es) in (
+          halves_grown fewest height lower upper (take 8 es) (drop 8 es) low left (omega arith) (omega arith)
+              (subst (AllByRecursion (Between lower upper)) (sym whole) all) (subst (λ zs. AreRising (keys_in zs)) (sym whole) rising),
+          whole,
+        )
 
 -- An inner node is split.
 

@@ -12,9 +12,9 @@ use Rattle.vo_spec.specs.Parts.{stub, leaf, inner, none, more, count, entries, e
 use Rattle.vo_spec.specs.Trees.{RowTree, RowTrees, row_family}
 use Rattle.vo_spec.specs.Inserts.{half, result_map, goes_here, Grown, one, two, Children, after_child, has_key, put_entry, split_leaf, split_inner, put_grown, grow, grow_in, root_of, inserted}
 use Rattle.vo_spec.specs.Standing.{is_from, is_before, is_up_to, is_between, is_within, AreRising, IsNode, AreNodes, IsTree, fewest_in_root}
-use Rattle.vo_spec.proofs.KeyOrder.{key_lt_back, key_le_le, key_lt_le}
-use Rattle.vo_spec.proofs.ScanLaws.{Between, node_between, nodes_between}
-use Rattle.vo_spec.proofs.Growing.{keys_in, Below, NotAbove, Above, put_left, put_right, put_length, put_each, put_rises, has_left, has_right, rising_left, rising_right, grown_entries, IsGrown, leaf_grown, inner_grown}
+use Rattle.vo_laws.proofs.KeyOrder.{key_lt_back, key_le_le, key_lt_le}
+use Rattle.vo_laws.proofs.ScanLaws.{Between, node_between, nodes_between}
+use Rattle.vo_laws.proofs.Growing.{keys_in, Below, NotAbove, Above, put_left, put_right, put_length, put_each, put_rises, has_left, has_right, rising_left, rising_right, grown_entries, IsGrown, leaf_grown, inner_grown}
 
 -- what insertion gives of a node with these entries, and of the children of one
 abbrev NodeGrows : PartEntry → ℕ → ℕ → Option (List ℕ) → Option (List ℕ) → List PartEntry → Result (Grown PartEntry (Unit {0})) UpdateFault → Type 0
@@ -66,14 +66,20 @@ first_grows : (e : PartEntry) (height : ℕ) (lower upper : Option (List ℕ)) (
     → is_within lower upper s ≡ true → AreNodes row_family height (Some s) upper ss ps → AllByRecursion (Above e.key) (entries_in ps)
     → NodeGrows e half height lower (Some s) es r
     → NodesGrow e height lower upper (es ++ entries_in ps) (count ps + 1) (result_map (put_grown row_family (s ∷ ss) ps) r)
-first_grows e height lower upper s ss ps es (Ok (one p)) w nodes above g =
-    ( has_left e.key es (entries_in ps) above ∙ g.0, (refl, w, g.1.0, nodes)
-    , ap (λ z. z ++ entries_in ps) g.2 ∙ sym (put_left e es (entries_in ps) above), omega arith, omega arith )
-first_grows e height lower upper s ss ps es (Ok (two left key right)) w nodes above g =
-    ( has_left e.key es (entries_in ps) above ∙ g.0
-    , (refl, wider lower upper s key w g.1.0, g.1.1, (refl, behind lower upper s key w g.1.0, g.1.2, nodes))
-    , sym (append_assoc (entries left) (entries right) (entries_in ps)) ∙ ap (λ z. z ++ entries_in ps) g.2 ∙ sym (put_left e es (entries_in ps) above)
-    , omega arith, omega arith )
+first_grows e height lower upper s ss ps es (Ok (one p)) w nodes above g = (
+  has_left e.key es (entries_in ps) above ∙ g.0,
+  (refl, w, g.1.0, nodes),
+  ap (λ z. z ++ entries_in ps) g.2 ∙ sym (put_left e es (entries_in ps) above),
+  omega arith,
+  omega arith,
+)
+first_grows e height lower upper s ss ps es (Ok (two left key right)) w nodes above g = (
+  has_left e.key es (entries_in ps) above ∙ g.0,
+  (refl, wider lower upper s key w g.1.0, g.1.1, (refl, behind lower upper s key w g.1.0, g.1.2, nodes)),
+  sym (append_assoc (entries left) (entries right) (entries_in ps)) ∙ ap (λ z. z ++ entries_in ps) g.2 ∙ sym (put_left e es (entries_in ps) above),
+  omega arith,
+  omega arith,
+)
 first_grows e height lower upper s ss ps es (Err DuplicateKey) w nodes above g = has_left e.key es (entries_in ps) above ∙ g
 first_grows e height lower upper s ss ps es (Err NoRow) w nodes above g = absurd g
 first_grows e height lower upper s ss ps es (Err Missing) w nodes above g = absurd g
@@ -89,10 +95,13 @@ later_grows : (e : PartEntry) (height : ℕ) (lower upper : Option (List ℕ)) (
     → m ≡ tt → is_within lower upper s ≡ true → IsNode row_family half height lower (Some s) p → AllByRecursion (Below e.key) (entries p)
     → NodesGrow e height (Some s) upper es n r
     → NodesGrow e height lower upper (entries p ++ es) (n + 1) (result_map (after_child m p (s ∷ ss)) r)
-later_grows e height lower upper s ss m p es n (Ok c) mark w node below g =
-    ( has_right e.key (entries p) es below ∙ g.0, (mark, w, node, g.1)
-    , ap (λ z. entries p ++ z) g.2 ∙ sym (put_right e (entries p) es (each_not_above e.key (entries p) below))
-    , omega (arith, g.3), omega (arith, g.4) )
+later_grows e height lower upper s ss m p es n (Ok c) mark w node below g = (
+  has_right e.key (entries p) es below ∙ g.0,
+  (mark, w, node, g.1),
+  ap (λ z. entries p ++ z) g.2 ∙ sym (put_right e (entries p) es (each_not_above e.key (entries p) below)),
+  omega (arith, g.3),
+  omega (arith, g.4),
+)
 later_grows e height lower upper s ss m p es n (Err DuplicateKey) mark w node below g = has_right e.key (entries p) es below ∙ g
 later_grows e height lower upper s ss m p es n (Err NoRow) mark w node below g = absurd g
 later_grows e height lower upper s ss m p es n (Err Missing) mark w node below g = absurd g
@@ -123,7 +132,7 @@ leaf_grows e fewest height lower upper es node rising here = step (has_key row_f
         let few : fewest ≤ length es = node.1 in
         let many : length es ≤ 16 = node.2 in
         let i = leaf_grown fewest height lower upper (put_entry row_family e es) node.0 (omega arith) (omega arith)
-            (put_each (Between lower upper) e es here node.3) (put_rises e es h rising) in
+        (put_each (Between lower upper) e es here node.3) (put_rises e es h rising) in
         (h, i.0, i.1)
 
 each_above : (key s : List ℕ) (upper : Option (List ℕ)) (fs : List PartEntry) → key_lt key s ≡ true → AllByRecursion (Between (Some s) upper) fs → AllByRecursion (Above key) fs
@@ -146,14 +155,14 @@ last_in : (e : PartEntry) (height : ℕ) (lower upper : Option (List ℕ)) (p : 
     → NodesGrow e height lower upper (entries p ++ []) (0 + 1) (result_map (put_grown row_family [] none) (grow row_family e p))
 last_in e height lower upper p rising f =
     subst (λ z. NodesGrow e height lower upper z (0 + 1) (result_map (put_grown row_family [] none) (grow row_family e p))) (sym (append-nil (entries p)))
-        (last_grows e height lower upper (entries p) (grow row_family e p) (f rising))
+    (last_grows e height lower upper (entries p) (grow row_family e p) (f rising))
 
 child_grows : (e : PartEntry) (height : ℕ) (lower upper : Option (List ℕ)) (s : List ℕ) (ss : List (List ℕ)) (m : Unit {0}) (p : RowTree) (ps : RowTrees)
     → AreNodes row_family height lower upper (s ∷ ss) (more m p ps) → is_between lower upper e.key ≡ true
     → (is_between lower (Some s) e.key ≡ true → NodeGrows e half height lower (Some s) (entries p) (grow row_family e p))
     → (is_between (Some s) upper e.key ≡ true → NodesGrow e height (Some s) upper (entries_in ps) (count ps) (grow_in row_family e ss ps))
     → NodesGrow e height lower upper (entries p ++ entries_in ps) (count ps + 1)
-        (cond (key_lt e.key s) (result_map (put_grown row_family (s ∷ ss) ps) (grow row_family e p)) (result_map (after_child m p (s ∷ ss)) (grow_in row_family e ss ps)))
+    (cond (key_lt e.key s) (result_map (put_grown row_family (s ∷ ss) ps) (grow row_family e p)) (result_map (after_child m p (s ∷ ss)) (grow_in row_family e ss ps)))
 child_grows e height lower upper s ss m p ps nodes here first later = step (key_lt e.key s) refl
   where
     parts : (is_from lower e.key ≡ true) × (is_before upper e.key ≡ true)
@@ -176,7 +185,7 @@ mutual
   node_grows e fewest height lower upper (leaf es) node rising here few = leaf_grows e fewest height lower upper es node rising here
   node_grows e fewest height lower upper (inner ss ps) node rising here few =
       inner_grows e fewest height lower upper (entries_in ps) (count ps) (grow_in row_family e ss ps) node.0 node.1 node.2 few
-          (nodes_grow e (height - 1) lower upper ss ps node.3 rising here)
+      (nodes_grow e (height - 1) lower upper ss ps node.3 rising here)
 
   nodes_grow : (e : PartEntry) (height : ℕ) (lower upper : Option (List ℕ)) (ss : List (List ℕ)) (ps : RowTrees) → AreNodes row_family height lower upper ss ps
       → AreRising (keys_in (entries_in ps)) → is_between lower upper e.key ≡ true
@@ -184,12 +193,12 @@ mutual
   nodes_grow e height lower upper ss none nodes rising here = absurd nodes
   nodes_grow e height lower upper [] (more m p none) nodes rising here =
       last_in e height lower upper p (rising_left (entries p) [] rising)
-          (λ r. node_grows e half height lower upper p nodes.1 r here (root_few p))
+      (λ r. node_grows e half height lower upper p nodes.1 r here (root_few p))
   nodes_grow e height lower upper [] (more m p (more n q ps)) nodes rising here = absurd nodes
   nodes_grow e height lower upper (s ∷ ss) (more m p ps) nodes rising here =
       child_grows e height lower upper s ss m p ps nodes here
-          (λ b. node_grows e half height lower (Some s) p nodes.2 (rising_left (entries p) (entries_in ps) rising) b (root_few p))
-          (λ b. nodes_grow e height (Some s) upper ss ps nodes.3 (rising_right (entries p) (entries_in ps) rising) b)
+      (λ b. node_grows e half height lower (Some s) p nodes.2 (rising_left (entries p) (entries_in ps) rising) b (root_few p))
+      (λ b. nodes_grow e height (Some s) upper ss ps nodes.3 (rising_right (entries p) (entries_in ps) rising) b)
 
 -- A root.
 
@@ -208,23 +217,25 @@ TreeGrows e es (Err Memory) = ⊥
 
 rooted : (e : PartEntry) (fewest height : ℕ) (es : List PartEntry) (r : Result (Grown PartEntry (Unit {0})) UpdateFault) → AreRising (keys_in es)
     → NodeGrows e fewest height None None es r → TreeGrows e es (result_map (root_of row_family) r)
-rooted e fewest height es (Ok (one p)) rising g =
-    ( g.0
-    , record {
-        height = height;
-        shape = fewer (fewest_in_root row_family p) fewest height None None p g.1.1 g.1.0;
-        rising = subst (λ z. AreRising (keys_in z)) (sym g.2) (put_rises e es g.0 rising);
-      }
-    , g.2 )
+rooted e fewest height es (Ok (one p)) rising g = (
+  g.0,
+  record {
+    height = height;
+    shape = fewer (fewest_in_root row_family p) fewest height None None p g.1.1 g.1.0;
+    rising = subst (λ z. AreRising (keys_in z)) (sym g.2) (put_rises e es g.0 rising);
+  },
+  g.2,
+)
 rooted e fewest height es (Ok (two left key right)) rising g =
-    let same : entries left ++ (entries right ++ []) ≡ put_entry row_family e es = ap (λ z. entries left ++ z) (append-nil (entries right)) ∙ g.2 in
-    ( g.0
-    , record {
+    let same : entries left ++ (entries right ++ []) ≡ put_entry row_family e es = ap (λ z. entries left ++ z) (append-nil (entries right)) ∙ g.2 in (
+      g.0,
+      record {
         height = height + 1;
         shape = (omega arith, omega arith, omega arith, subst (λ h. AreNodes row_family h None None (key ∷ []) (more tt left (more tt right none))) below (refl, g.1.0, g.1.1, (refl, g.1.2)));
         rising = subst (λ z. AreRising (keys_in z)) (sym same) (put_rises e es g.0 rising);
-      }
-    , same )
+      },
+      same,
+    )
   where
     below : height ≡ height + 1 - 1
     below = omega arith
@@ -236,4 +247,4 @@ rooted e fewest height es (Err Memory) rising g = absurd g
 pub tree_grows : (e : PartEntry) (t : RowTree) → IsTree row_family t → TreeGrows e (entries t) (inserted e t)
 tree_grows e t tree =
     rooted e (fewest_in_root row_family t) tree.height (entries t) (grow row_family e t) tree.rising
-        (node_grows e (fewest_in_root row_family t) tree.height None None t tree.shape tree.rising refl (omega arith))
+    (node_grows e (fewest_in_root row_family t) tree.height None None t tree.shape tree.rising refl (omega arith))
