@@ -1,14 +1,14 @@
 -- One more call of a disk in memory.
-use Rattle.std.proofs.Common.{suc, ap, ◌∙◌, sym, ◌≡◌, ℕ, ◌+◌, ◌<◌, ◌≤◌, ◌&&◌, Bool, true, false, List, [], ◌∷◌, ◌++◌, length, take, drop, arith, refl, IsTrue, fold, nat_le}
+use Rattle.std.proofs.Common.{suc, ap, ◌∙◌, ◌≡◌, ℕ, ◌+◌, ◌≤◌, ◌&&◌, Bool, true, false, List, [], ◌∷◌, ◌++◌, length, take, drop, arith, refl, IsTrue, nat_le}
 use Rattle.std.specs.List.{list_all}
 use Rattle.std.proofs.lemmas.Bool.Decides.{nat_tests}
-use Rattle.std.proofs.lemmas.List.{length-drop, take-append-le, drop-append-le, drop_at, take_all, length-append, append-nil}
+use Rattle.std.proofs.lemmas.List.{length-drop, take-append-le, drop-append-le, drop_at, take_all, length-append}
 use Rattle.std.proofs.lemmas.List.Folds.{list_all-append}
 use Rattle.std.proofs.lemmas.List.Sums.{fold-append}
 use Rattle.outside.specs.declared.mem_disk.done.Done.{Done}
 use Rattle.outside.specs.declared.mem_disk.done.Done.TheVariants.{Write, Sync}
 use Rattle.outside.specs.Done.{seen_next, call_of, seen_after, calls_after, is_within}
-use Rattle.outside.specs.Drive.{Call, Wrote, Synced, overwritten}
+use Rattle.outside.specs.Drive.{Wrote, overwritten}
 
 below : (a b : ℕ) → IsTrue (nat_le a b) → a ≤ b
 below a b test = grind (arith, nat_tests)

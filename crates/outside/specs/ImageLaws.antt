@@ -1,13 +1,12 @@
 -- What reads give, a crash may leave.
-use Rattle.std.proofs.Common.{rules, suc, ap, ◌∙◌, sym, subst, min, max, ◌≡◌, ℕ, ◌+◌, ◌-◌, ◌<◌, ◌≤◌, ◌==◌, ◌&&◌, ◌||◌, not, ◌⊎◌, inl, inr, cond, Bool, true, false, List, [], ◌∷◌, ◌++◌, length, take, drop, get_or, arith, refl, IsTrue, fold, nat_lt, nat_le}
-use Rattle.std.proofs.lemmas.List.{length-drop, length-take, take_all}
+use Rattle.std.proofs.Common.{◌∙◌, ◌≡◌, ℕ, ◌+◌, ◌<◌, ◌≤◌, ◌==◌, ◌&&◌, ◌||◌, not, ◌⊎◌, inl, inr, cond, Bool, true, false, List, [], ◌∷◌, length, take, drop, arith, refl, IsTrue, fold, nat_lt, nat_le}
+use Rattle.std.proofs.lemmas.List.{length-take, take_all}
 use Rattle.std.proofs.lemmas.Bool.Decides.{nat_tests}
-use Rattle.std.proofs.lemmas.List.Sums.{fold-append}
 use Rattle.outside.specs.declared.room.Room.{Room}
 use Rattle.outside.specs.declared.mem_disk.done.Done.{Done}
 use Rattle.outside.specs.declared.mem_disk.done.Done.TheVariants.{Write, Sync}
 use Rattle.outside.specs.Done.{seen_next, call_of, seen_after, calls_after}
-use Rattle.outside.specs.Drive.{Call, Wrote, Synced, Drive, Down, down_after, IsImage, MayLeave, overwritten, furthest, has, is_written, range_end}
+use Rattle.outside.specs.Drive.{Call, Wrote, Down, down_after, IsImage, MayLeave, overwritten, has, is_written}
 use Rattle.outside.specs.OverwrittenLaws.{length-overwritten, get_or-overwritten}
 
 neither : (a b : Bool) → IsTrue (not (a || b)) → IsTrue (not a) × IsTrue (not b)

@@ -1,7 +1,5 @@
-use Rattle.std.proofs.Common.{arith, ◌≡◌, ◌∙◌, sym, ap, refl, ◌++◌, ◌∷◌, [], length}
+use Rattle.std.proofs.Common.{arith, refl, length}
 use Rattle.std.proofs.lemmas.Grind.{common_steps}
-use Rattle.outside.specs.Drive.{overwritten}
-use Rattle.outside.specs.Done.{seen_after}
 use Rattle.outside.proofs.Logged.{seen_write, within_put}
 use Rattle.outside.proofs.mem_disk.MemDisk.write_front.Goals as goal
 
