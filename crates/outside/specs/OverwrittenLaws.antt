@@ -1,8 +1,7 @@
 -- What a write leaves of the bytes that it goes over.
-use Rattle.std.proofs.Common.{rules, suc, ap, ◌∙◌, min, ◌≡◌, ℕ, ◌+◌, ◌-◌, ◌<◌, ◌≤◌, ◌==◌, ◌⊎◌, inl, inr, max, cond, Bool, true, false, List, [], ◌∷◌, ◌++◌, length, take, drop, replicate, get_or, arith, refl}
+use Rattle.std.proofs.Common.{rules, suc, ap, ◌∙◌, min, ◌≡◌, ℕ, ◌+◌, ◌-◌, ◌<◌, ◌≤◌, ◌==◌, ◌⊎◌, inl, inr, max, cond, List, [], ◌∷◌, ◌++◌, length, take, drop, replicate, get_or, arith, refl}
 use Rattle.std.proofs.lemmas.List.{places, length-append, length-take, length-drop, length-replicate}
-use Rattle.std.proofs.lemmas.Grind.{common_steps}
-use Rattle.outside.specs.Drive.{gap, overwritten}
+use Rattle.outside.specs.Drive.{overwritten}
 
 -- the same with any number of zeros
 abbrev laid : ℕ → ℕ → List ℕ → List ℕ → List ℕ
