@@ -1,6 +1,7 @@
 //! SQL texts: read by their grammar, and printed.
 #![tactic(auto)]
 
+mod commands;
 mod conditions;
 mod faults;
 mod halt;
