@@ -11,4 +11,4 @@ mod queries;
 mod texts;
 
 pub use faults::SqlFault;
-pub use texts::{TEXT_MAX, parse_query};
+pub use texts::{TEXT_MAX, parse_batch, parse_query};

@@ -2,7 +2,9 @@
 ghost use Rattle.std.specs.Prelude.{◌≡◌, drop, map};
 ghost use Rattle.sql_tokens.specs.Lex.{placed_of};
 ghost use Rattle.vo_spec.specs.Conditions.{Query, query_of};
+ghost use Rattle.vo_spec.specs.declared.tables.Batch.{Batch};
 ghost use Rattle.sql_text.specs.Queries.{query};
+ghost use Rattle.sql_text.specs.Commands.{batch};
 ghost use Rattle.sql_text.specs.Texts.{ended, IsTextOf, Answers, Accepts};
 
 use crate::faults::{SqlFault, of_tokens};
@@ -11,7 +13,7 @@ use crate::parser::Parser;
 use grammar::Stop;
 use sql_tokens::{Lexeme, tokens};
 use std::alloc::Global;
-use vo_spec::QueryText;
+use vo_spec::{Batch, QueryText};
 
 /// The longest text of a query or a batch, in bytes.
 pub const TEXT_MAX: usize = 65_536;
@@ -76,5 +78,23 @@ pub fn parse_query(alloc: Global, text: &str) -> Result<QueryText, SqlFault>
     };
     let mut parser = Parser::new(list.as_slice());
     let found = parser.query(alloc);
+    ended(found, parser.left(), bytes.len())
+}
+
+/// The batch that a text is, or the text's first fault.
+pub fn parse_batch(alloc: Global, text: &str) -> Result<Batch, SqlFault>
+    ensures found { Answers (λ x. x) TEXT_MAX batch text.now result }
+    ensures only { (b : Batch) → IsTextOf TEXT_MAX batch text.now b → Accepts (λ x. x) result b }
+{
+    let bytes = text.as_bytes();
+    if bytes.len() > TEXT_MAX {
+        return Err(SqlFault::TooLong);
+    }
+    let list = match tokens(alloc, bytes) {
+        Ok(list) => list,
+        Err(fault) => return Err(of_tokens(fault)),
+    };
+    let mut parser = Parser::new(list.as_slice());
+    let found = parser.batch(alloc);
     ended(found, parser.left(), bytes.len())
 }
