@@ -53,9 +53,11 @@ module _ {A B : Type 0} (view : B → A) (start : Rule sql A) (good : is_good co
   -- with tokens left behind a value the first of them is the fault
   ended_ok : (x : B) (left : List Placed) → drop n ps ≡ left → read (reader conditions_of 32) start (unplaced ps) ≡ (Ok (view x), unplaced left) → Answers view most start text (ended (Ok x) left (length text))
   ended_ok x [] e h = (fits, ps, scanned, answer_judged _ h)
-  ended_ok x (p ∷ left) e h =
-      (fits, subst (λ z. Breaks start text stop.Syntax (place_of z (length text))) e
-          (breaks stop.Syntax (subst (λ z. FaultsAt conditions_of 32 start (unplaced ps) stop.Syntax (unplaced z)) (sym e) (answer_judged _ h))))
+  ended_ok x (p ∷ left) e h = (
+    fits,
+    subst (λ z. Breaks start text stop.Syntax (place_of z (length text))) e
+        (breaks stop.Syntax (subst (λ z. FaultsAt conditions_of 32 start (unplaced ps) stop.Syntax (unplaced z)) (sym e) (answer_judged _ h))),
+  )
 
   ended_fault : (s : Stop) (left : List Placed) → drop n ps ≡ left → read (reader conditions_of 32) start (unplaced ps) ≡ (Err s, unplaced left)
       → Answers view most start text (ended {B = B} (Err (Fault s)) left (length text))
@@ -110,29 +112,38 @@ pub whole : {A B : Type 0} (view : B → A) (start : Rule sql A) → is_good con
     → old.list.now ≡ list → old.place ≡ 0 → old.levels ≡ 32 → Reads view start old found new → new.list.now ≡ old.list.now → left ≡ drop new.place new.list.now
     → r ≡ ended found (map placed_of left) (length bytes)
     → Answers view most start text r × ((v : A) → IsTextOf most start text v → Accepts view r v)
-whole {A} {B} view start good most text bytes list left old new found r same fits scan begins at levels reads stays left_is result_is =
-    (subst (Answers view most start text) (sym is_ended) (answers view start good most text ps new.place fits_so scanned real found (drop new.place ps) refl finds),
-        λ v t. subst (λ z. Accepts view z v) (sym is_ended) (accepts view start good most text ps new.place fits_so scanned real found (drop new.place ps) finds v t))
+whole {A} {B} view start good most text bytes list left old new found r same fits scan begins at levels reads stays left_is result_is = (
+  subst (Answers view most start text) (sym is_ended) (answers view start good most text ps new.place fits_so scanned real found (drop new.place ps) refl finds),
+  λ v t. subst (λ z. Accepts view z v) (sym is_ended) (accepts view start good most text ps new.place fits_so scanned real found (drop new.place ps) finds v t),
+)
   where
     ps : List Placed
     ps = map placed_of list
+
     scanned : tokens_of text ≡ Ok ps
     scanned = subst (λ z. tokens_of z ≡ Ok ps) same scan
+
     fits_so : length text ≤ most
     fits_so = subst (λ z. length z ≤ most) same fits
+
     real : AllByRecursion IsToken (unplaced ps)
     real = tokens_real text ps scanned
+
     at_start : left_of old ≡ unplaced ps
     at_start = ap (λ z. map token_of (drop z old.list.now)) at ∙ ap (map token_of) begins ∙ sym (unplaced_is list)
+
     here : new.list.now ≡ list
     here = stays ∙ begins
+
     at_end : left_of new ≡ unplaced (drop new.place ps)
     at_end = ap (λ z. map token_of (drop new.place z)) here ∙ sym (unplaced_is (drop new.place list)) ∙ ap unplaced (sym (drop_placed new.place list))
+
     finds : Finds view (read (reader conditions_of 32) start (unplaced ps)) found (unplaced (drop new.place ps))
     finds =
         subst (λ z. Finds view (read (reader conditions_of 32) start (unplaced ps)) found z) at_end
-            (subst (λ z. Finds view (read (reader conditions_of 32) start z) found (left_of new)) at_start
-                (subst (λ z. Finds view (read (reader conditions_of z) start (left_of old)) found (left_of new)) levels reads))
+        (subst (λ z. Finds view (read (reader conditions_of 32) start z) found (left_of new)) at_start
+        (subst (λ z. Finds view (read (reader conditions_of z) start (left_of old)) found (left_of new)) levels reads))
+
     is_ended : r ≡ ended found (drop new.place ps) (length text)
     is_ended =
         result_is ∙ ap (λ z. ended found z (length bytes)) (ap (map placed_of) (left_is ∙ ap (drop new.place) here) ∙ sym (drop_placed new.place list))

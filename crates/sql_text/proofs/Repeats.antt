@@ -122,6 +122,7 @@ one_fewer most front next x e h = go (most - length front) refl
   where
     longer : length next ≡ length front + 1
     longer = ap length e ∙ length-append front (x ∷ [])
+
     go : (k : ℕ) → most - length front ≡ k → Some (most - length next) ≡ one_less (Some k)
     go zero f = absurd (omega arith)
     go (suc k) f = let fewer : most - length next ≡ k = omega (arith, longer) in ap Some fewer

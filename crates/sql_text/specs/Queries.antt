@@ -95,6 +95,7 @@ conditions_of = record { rule = rule; after = after }
     rule : Nested → Rule sql Condition
     rule whole = disj
     rule primary = prim
+
     after : Nested → List TokenKind
     after whole = k.Dot ∷ k.And ∷ k.Or ∷ []
     after primary = k.Dot ∷ []

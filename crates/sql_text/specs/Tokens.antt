@@ -17,12 +17,12 @@ pub data Nested : Type 0 where
 
 abbrev pub sql : Language
 sql = record {
-    Kind = TokenKind;
-    same = same_kind;
-    Token = Token;
-    kind = λ t. t.kind;
-    IsToken = IsToken;
-    Nonterminal = Nested;
-    every = λ test. test whole && test primary;
-    Tree = Condition;
-  }
+  Kind = TokenKind;
+  same = same_kind;
+  Token = Token;
+  kind = λ t. t.kind;
+  IsToken = IsToken;
+  Nonterminal = Nested;
+  every = λ test. test whole && test primary;
+  Tree = Condition;
+}

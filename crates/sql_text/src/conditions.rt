@@ -1,5 +1,5 @@
 //! Conditions, by recursive descent. A level is one NOT or one opening parenthesis.
-ghost use Rattle.std.specs.Prelude.{◌≡◌, ◌+◌, ◌<◌, [], ◌∷◌, true, map, OnOk, OnErr, IfOk,  Ok, Err, length};
+ghost use Rattle.std.specs.Prelude.{◌≡◌, ◌+◌, ◌<◌, [], ◌∷◌, true, map, OnOk, OnErr, IfOk, Ok, Err, length};
 ghost use Rattle.vo_spec.specs.Conditions.{condition_of};
 ghost use Rattle.grammar.specs.Reading.{begins, taken};
 ghost use Rattle.sql_tokens.specs.Lex.{token_of};

@@ -12,3 +12,6 @@ mod texts;
 
 pub use faults::SqlFault;
 pub use texts::{TEXT_MAX, parse_batch, parse_query};
+
+#[cfg(test)]
+mod tests;

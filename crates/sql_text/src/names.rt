@@ -23,7 +23,9 @@ const ITEMS_MAX: usize = 64;
 fn folded(alloc: Global, word: &[u8]) -> Result<Vec<u8>, AllocError>
     ensures { IfOk result (λ v. v.items ≡ str_to_ascii_lowercase word.now) }
 {
-    word.iter().map(|byte| byte.to_ascii_lowercase()).collect(alloc)
+    word.iter()
+        .map(|byte| byte.to_ascii_lowercase())
+        .collect(alloc)
 }
 
 /// What stands between quotes, one quote for two.

@@ -24,7 +24,11 @@ impl<'a> Parser<'a> {
         ensures levels { self.new.levels ≡ self.old.levels }
         ensures list { self.new.list.now ≡ self.old.list.now }
     {
-        if self.sees(kind) { Some(self.take(kind)) } else { None }
+        if self.sees(kind) {
+            Some(self.take(kind))
+        } else {
+            None
+        }
     }
 
     #[tactic(auto, unfolding(crate::specs::Queries::items))]

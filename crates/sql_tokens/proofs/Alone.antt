@@ -45,6 +45,7 @@ stands_less c kind h = by_greater (c == 62) refl h
     by_equal : (e : Bool) → (c == 61) ≡ e → Some (cond e k.LessEqual k.Less) ≡ Some kind → Stands 60 c kind
     by_equal true e f = stands_at 60 c kind k.LessEqual f (refl, inr (refl, above_zero c 61 e (omega arith)))
     by_equal false e f = stands_at 60 c kind k.Less f (refl, inl (refl, refl))
+
     by_greater : (g : Bool) → (c == 62) ≡ g → Some (cond g k.NotEqual (cond (c == 61) k.LessEqual k.Less)) ≡ Some kind → Stands 60 c kind
     by_greater true e f = stands_at 60 c kind k.NotEqual f (refl, inr (refl, above_zero c 62 e (omega arith)))
     by_greater false e f = by_equal (c == 61) refl f
@@ -65,6 +66,7 @@ stands_unequal b c kind true e f =
     and_one : (p q : Bool) → (p && q) ≡ true → p ≡ true
     and_one true q h = refl
     and_one false q h = h
+
     and_two : (p q : Bool) → (p && q) ≡ true → q ≡ true
     and_two true q h = h
     and_two false q h = absurd (cc)
@@ -161,7 +163,7 @@ run_token p of b z t e text at h =
     let found : of w ≡ Ok t = sym (at z) ∙ h in
     let w_is : w ≡ b ∷ take (prefix_len p z) z = run_first p b z e in
     let again : take (prefix_len p (b ∷ take (prefix_len p z) z)) (b ∷ take (prefix_len p z) z) ≡ w =
-        subst (λ y. take (prefix_len p y) y ≡ w) w_is (run_alone p (b ∷ z)) in
+    subst (λ y. take (prefix_len p y) y ≡ w) w_is (run_alone p (b ∷ z)) in
     ap token_at (text w found ∙ w_is) ∙ at (take (prefix_len p z) z) ∙ ap of again ∙ found
 
 word_letter : (b : ℕ) → is_letter b ≡ true → is_word_byte b ≡ true
@@ -243,6 +245,7 @@ symbol_token b z t (Some kind) e f q s h = by_length z (stands b (slice_index z 
   where
     no_minus : (b == 45) ≡ false → (c : Bool) → (b == 45 && c) ≡ false
     no_minus m c = rw m refl
+
     by_length : (z : List ℕ) → Stands b (slice_index z 0) kind → symbol b (slice_index z 0) ≡ Some kind → symbolic (Some kind) (b ∷ z) ≡ Ok t → token_at t.text ≡ Ok t
     by_length z (m, inl (len, at)) s h =
         let one : (y : List ℕ) → take (length (spelling kind)) (b ∷ y) ≡ b ∷ [] = λ y. ap (λ n. take n (b ∷ y)) len in
@@ -269,12 +272,15 @@ alone (b ∷ z) t h = by_letter (is_letter b) refl
         let found : quoted (closing false z) (39 ∷ z) ≡ Ok t = ap (λ y. quoted (closing false z) (y ∷ z)) (sym same) ∙ sym (quote_at b z e f m g) ∙ h in
         quote_token z t (closing false z) refl found
     by_quote e f m false g = symbol_token b z t (symbol b (slice_index z 0)) e f g refl (sym (symbol_at b z e f m g) ∙ h)
+
     by_minus : is_letter b ≡ false → is_ascii_digit b ≡ false → (m : Bool) → (b == 45 && is_ascii_digit (slice_index z 0)) ≡ m → token_at t.text ≡ Ok t
     by_minus e f true g = minus_token b z t e f g h
     by_minus e f false g = by_quote e f g (b == 39) refl
+
     by_digit : is_letter b ≡ false → (d : Bool) → is_ascii_digit b ≡ d → token_at t.text ≡ Ok t
     by_digit e true f = run_token is_ascii_digit (λ w. integer (integer_value w) w) b z t f (λ w g. integer_text (integer_value w) w t g) (λ y. digit_at b y e f) h
     by_digit e false f = by_minus e f (b == 45 && is_ascii_digit (slice_index z 0)) refl
+
     by_letter : (l : Bool) → is_letter b ≡ l → token_at t.text ≡ Ok t
     by_letter true e = run_token is_word_byte (λ w. named (keyword w) w) b z t (word_letter b e) (λ w g. named_text (keyword w) w t g) (λ y. letter_at b y e) h
     by_letter false e = by_digit e (is_ascii_digit b) refl

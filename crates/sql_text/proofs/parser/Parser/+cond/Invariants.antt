@@ -19,7 +19,7 @@ abbrev pub invariant-conj-loop-alloc : goal.invariant-conj-loop-alloc
 invariant-conj-loop-alloc l =
     (l.self.list.now ≡ l.initial.self.list.now) × (l.self.levels ≡ l.initial.self.levels) × (0 < length l.parts.items)
     × (with_front (map condition_of l.parts.items) (more_of None k.And prim l.self.levels (left_of l.self))
-        ≡ with_front (map condition_of l.initial.parts.items) (more_of None k.And prim l.initial.self.levels (left_of l.initial.self)))
+    ≡ with_front (map condition_of l.initial.parts.items) (more_of None k.And prim l.initial.self.levels (left_of l.initial.self)))
 
 abbrev pub decreases-conj-loop-alloc : goal.decreases-conj-loop-alloc
 decreases-conj-loop-alloc l = length (left_of l.self)
@@ -28,7 +28,7 @@ abbrev pub invariant-disj-loop-alloc : goal.invariant-disj-loop-alloc
 invariant-disj-loop-alloc l =
     (l.self.list.now ≡ l.initial.self.list.now) × (l.self.levels ≡ l.initial.self.levels) × (0 < length l.parts.items)
     × (with_front (map condition_of l.parts.items) (more_of None k.Or conj l.self.levels (left_of l.self))
-        ≡ with_front (map condition_of l.initial.parts.items) (more_of None k.Or conj l.initial.self.levels (left_of l.initial.self)))
+    ≡ with_front (map condition_of l.initial.parts.items) (more_of None k.Or conj l.initial.self.levels (left_of l.initial.self)))
 
 abbrev pub decreases-disj-loop-alloc : goal.decreases-disj-loop-alloc
 decreases-disj-loop-alloc l = length (left_of l.self)

@@ -15,7 +15,7 @@ abbrev pub invariant-parts : goal.invariant-parts
 invariant-parts l =
     (l.self.list.now ≡ l.initial.self.list.now) × (l.self.levels ≡ l.initial.self.levels)
     × (with_front (map (λ x. x) l.list.items) (many_of (Some (32 - length l.list.items)) (closed column k.Comma) l.self.levels (left_of l.self))
-        ≡ with_front (map (λ x. x) l.initial.list.items) (many_of (Some 31) (closed column k.Comma) l.initial.self.levels (left_of l.initial.self)))
+    ≡ with_front (map (λ x. x) l.initial.list.items) (many_of (Some 31) (closed column k.Comma) l.initial.self.levels (left_of l.initial.self)))
     × (length l.list.items ≤ 32)
 
 abbrev pub decreases-parts : goal.decreases-parts
