@@ -11,3 +11,4 @@ pub mod JoinLaws
 pub mod Exact
 pub mod Growing
 pub mod Grown
+pub mod CommandLaws
