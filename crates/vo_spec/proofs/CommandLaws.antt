@@ -249,7 +249,7 @@ created_fit name columns key tables fits e before =
 
 -- A row is put into a table.
 
-each_put_row : (P : Row → Type 0) (row : Row) (rows : List Row) → P row → AllByRecursion P rows → AllByRecursion P (put_row row rows)
+pub each_put_row : (P : Row → Type 0) (row : Row) (rows : List Row) → P row → AllByRecursion P rows → AllByRecursion P (put_row row rows)
 each_put_row P row [] p all = (p, tt)
 each_put_row P row (r ∷ rows) p all = step (key_lt row.key r.key) (each_put_row P row rows p all.1)
   where

@@ -12,3 +12,4 @@ pub mod Exact
 pub mod Growing
 pub mod Grown
 pub mod CommandLaws
+pub mod StandingLaws
