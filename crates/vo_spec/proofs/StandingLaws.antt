@@ -183,3 +183,81 @@ changed_in_step (Insert name values) stored tables o fits e zs good =
         (λ t found. key_inserted t values (schema_named name tables good.each t found) fits.1.2 (insertable name values tables e t found))
 changed_in_step (Update name sets column value) stored tables o fits e zs good = absurd (cc)
 changed_in_step (Delete name column value) stored tables o fits e zs good = absurd (cc)
+
+abbrev pub FitAfter : Result (List Table) CommandFault → Type 0
+FitAfter (Ok tables) = FitTables tables
+FitAfter (Err fault) = Unit {0}
+
+changed_fit : (c : Command) (tables : List Table) → is_open_command c ≡ true → FitsCommand c → refusal c (map heading_of tables) ≡ None → FitTables tables → FitAfter (changed c tables)
+changed_fit (Create name columns key) tables o fits e good = created_fit name columns key tables fits e good
+changed_fit (Drop name) tables o fits e good = dropped_fit (λ (t : Table). not (bytes_eq t.name name)) tables good
+changed_fit (Insert name values) tables o fits e good = step (is_doubled values (table_named name tables))
+  where
+    step : (b : Bool) → FitAfter (cond b (Err command.DuplicateKey) (Ok (insert_into name values tables)))
+    step true = tt
+    step false = inserted_fit name values tables fits e good
+changed_fit (Update name sets column value) tables o fits e good = absurd (cc)
+changed_fit (Delete name column value) tables o fits e good = absurd (cc)
+
+-- What the command makes of trees that stand for tables stands for what it makes of the tables; and where it
+-- is refused on the one, it is refused on the other for the same reason.
+pub command_in_step : (c : Command) (stored : List Stored) (tables : List Table) → is_open_command c ≡ true → FitsCommand c → StandForTables stored tables → FitTables tables
+    → InStep (work c stored) (apply c tables) × FitAfter (apply c tables)
+unfolding work apply
+command_in_step c stored tables o fits zs good =
+    subst (λ hs. InStep (and_then (changed_trees c) (unless (refusal c hs) stored)) (and_then (changed c) (unless (refusal c (map heading_of tables)) tables))
+        × FitAfter (and_then (changed c) (unless (refusal c (map heading_of tables)) tables)))
+        (sym (stored_headings stored tables zs)) (step (refusal c (map heading_of tables)) refl)
+  where
+    step : (r : Option CommandFault) → refusal c (map heading_of tables) ≡ r
+        → InStep (and_then (changed_trees c) (unless r stored)) (and_then (changed c) (unless r tables)) × FitAfter (and_then (changed c) (unless r tables))
+    step None e = (changed_in_step c stored tables o fits e zs good, changed_fit c tables o fits e good)
+    step (Some fault) e = (refl, tt)
+
+-- Batches.
+
+abbrev pub InStepFrom : Result (List Stored) CommandFault → Result (List Table) (ℕ × CommandFault) → Type 0
+InStepFrom (Ok stored) (Ok tables) = StandForTables stored tables × FitTables tables
+InStepFrom (Ok stored) (Err fault) = ⊥
+InStepFrom (Err fault) (Ok tables) = ⊥
+InStepFrom (Err fault) (Err other) = fault ≡ other.1
+
+next_in_step : (index : ℕ) (cs : List Command) (r : Result (List Stored) CommandFault) (s : Result (List Table) CommandFault) → InStep r s → FitAfter s
+    → ((stored : List Stored) (tables : List Table) → StandForTables stored tables → FitTables tables → InStepFrom (work_all cs stored) (apply_from (index + 1) cs tables))
+    → InStepFrom (and_then (work_all cs) r) (and_then (apply_from (index + 1) cs) (numbered index s))
+next_in_step index cs (Ok stored) (Ok tables) i good next = next stored tables i good
+next_in_step index cs (Ok stored) (Err fault) i good next = absurd i
+next_in_step index cs (Err fault) (Ok tables) i good next = absurd i
+next_in_step index cs (Err fault) (Err other) i good next = i
+
+pub batch_in_step : (index : ℕ) (cs : List Command) (stored : List Stored) (tables : List Table) → list_all is_open_command cs ≡ true → AllByRecursion FitsCommand cs
+    → StandForTables stored tables → FitTables tables → InStepFrom (work_all cs stored) (apply_from index cs tables)
+batch_in_step index [] stored tables o fits zs good = (zs, good)
+batch_in_step index (c ∷ cs) stored tables o fits zs good =
+    let open_both = and_parts (is_open_command c) (list_all is_open_command cs) o in
+    let i = command_in_step c stored tables open_both.0 fits.0 zs good in
+    next_in_step index cs (work c stored) (apply c tables) i.0 i.1 (λ after others y g. batch_in_step (index + 1) cs after others open_both.1 fits.1 y g)
+
+after_in_step : (stored : List Stored) (tables : List Table) (batch : List Command) → list_all is_open_command batch ≡ true → AllByRecursion FitsCommand batch
+    → StandForTables stored tables → FitTables tables → StandForTables (after_work stored batch) (after_batch tables batch) × FitTables (after_batch tables batch)
+after_in_step stored tables batch o fits zs good = step (work_all batch stored) (apply_batch batch tables) (batch_in_step 0 batch stored tables o fits zs good)
+  where
+    step : (r : Result (List Stored) CommandFault) (s : Result (List Table) (ℕ × CommandFault)) → InStepFrom r s
+        → StandForTables (result_unwrap_or r stored) (result_unwrap_or s tables) × FitTables (result_unwrap_or s tables)
+    step (Ok after) (Ok others) i = i
+    step (Ok after) (Err fault) i = absurd i
+    step (Err fault) (Ok others) i = absurd i
+    step (Err fault) (Err other) i = (zs, good)
+
+all_in_step : (batches : List (List Command)) (stored : List Stored) (tables : List Table) → AllByRecursion FitsBatch batches → AreOpen batches
+    → StandForTables stored tables → FitTables tables → StandForTables (fold after_work stored batches) (fold after_batch tables batches) × FitTables (fold after_batch tables batches)
+all_in_step [] stored tables fits o zs good = (zs, good)
+all_in_step (batch ∷ batches) stored tables fits o zs good =
+    let i = after_in_step stored tables batch o.0 fits.0.each zs good in
+    all_in_step batches (after_work stored batch) (after_batch tables batch) fits.1 o.1 i.0 i.1
+
+-- The honest trees stand for the tables after the same batches, and the tables fit.
+pub stands : (batches : List (List Command)) → AllByRecursion FitsBatch batches → AreOpen batches
+    → StandForTables (honest_trees batches) (tables_after batches) × FitTables (tables_after batches)
+unfolding honest_trees tables_after
+stands batches fits o = all_in_step batches [] [] fits o tt (record { each = tt; rising = tt; count = omega arith })
