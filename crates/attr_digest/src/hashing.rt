@@ -5,12 +5,12 @@ ghost use Rattle.vo_spec.specs.declared.cells.Cell.TheVariants.{Shown};
 ghost use Rattle.vo_spec.specs.declared.values.Value.TheVariants.{Int, Text};
 ghost use Rattle.vo_spec.specs.Lent.{value_of};
 ghost use Rattle.vo_spec.specs.Values.{value_bytes, FitsValue};
-ghost use Rattle.vo_spec.specs.Cells.{cell_digest as cell_digest_of, row_bytes, row_digest as row_digest_of};
-ghost use Rattle.vo_spec.specs.Fits.{FitsCell, FitsRowPart, most_cells};
+ghost use Rattle.vo_spec.specs.Cells.{cell_digest as cell_digest_of, row_bytes, row_digest as row_digest_of, whole_row};
+ghost use Rattle.vo_spec.specs.Fits.{FitsCell, FitsCells, FitsRowPart, most_cells};
 ghost use Rattle.attr_digest.specs.Adding.{Adds};
 
 use tagged_hash::Hasher;
-use vo_spec::{Cell, Digest, RowPart, ValueRef, u16_bytes, u64_bytes};
+use vo_spec::{Cell, Digest, RowPart, Value, ValueRef, u16_bytes, u64_bytes};
 
 /// The digest of the value in this column, numbered from 0 among those that aren't the key.
 pub fn attr_digest(column: u8, value: ValueRef<'_>) -> Digest
@@ -60,6 +60,20 @@ pub fn row_digest(part: &RowPart<'_>) -> Digest
         RowPart::Digest(digest) => *digest,
         RowPart::Cells(cells) => cells_digest(cells.as_slice()),
     }
+}
+
+/// The digest of a row with all its cells shown.
+#[tactic(auto, using(crate::proofs::Digests::whole_digests_more))]
+pub fn whole_row_digest(values: &[Value]) -> Digest
+    requires { FitsCells values.now }
+    ensures { result ≡ row_digest_of (whole_row values.now) }
+{
+    let mut hasher = Hasher::new();
+    hasher.add(&[2, values.len() as u8]);
+    for (column, value) in values.iter().enumerate() {
+        hasher.add(attr_digest(column as u8, value.as_ref()).as_bytes());
+    }
+    hasher.end()
 }
 
 #[tactic(auto, using(crate::proofs::Digests::cell_digests_more))]

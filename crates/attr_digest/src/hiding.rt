@@ -5,7 +5,7 @@ ghost use Rattle.vo_spec.specs.declared.cells.RowPart.TheVariants.{Cells};
 ghost use Rattle.vo_spec.specs.Cells.{whole_cells};
 ghost use Rattle.vo_spec.specs.Values.{FitsValue};
 ghost use Rattle.vo_spec.specs.Pruned.{shown_cell, shown_cells};
-ghost use Rattle.vo_spec.specs.Fits.{FitsRow};
+ghost use Rattle.vo_spec.specs.Fits.{FitsCells, FitsRow};
 
 use crate::hashing::attr_digest;
 use std::alloc::{AllocError, Global};
@@ -16,12 +16,24 @@ pub fn hide<'b>(alloc: Global, row: &'b Row, shown: &[u8]) -> Result<RowPart<'b>
     requires { FitsRow row.now }
     ensures { IfOk result (λ part. part ≡ Cells (shown_cells shown.now 0 (whole_cells row.now.cells))) }
 {
-    let values = row.cells.as_slice();
+    let cells = hide_cells(alloc, row.cells.as_slice(), shown)?;
+    Ok(RowPart::Cells(cells))
+}
+
+/// The values as cells, those of these columns shown, and all others hidden.
+pub fn hide_cells<'b>(
+    alloc: Global,
+    values: &'b [Value],
+    shown: &[u8],
+) -> Result<List<Cell<'b>>, AllocError>
+    requires { FitsCells values.now }
+    ensures { IfOk result (λ cells. cells ≡ shown_cells shown.now 0 (whole_cells values.now)) }
+{
     let mut cells = Vec::with_capacity(alloc, values.len())?;
     for (column, value) in values.iter().enumerate() {
         cells.push(cell_of(column as u8, value, shown))?;
     }
-    Ok(RowPart::Cells(List::from_vec(cells)))
+    Ok(List::from_vec(cells))
 }
 
 fn cell_of<'b>(column: u8, value: &'b Value, shown: &[u8]) -> Cell<'b>

@@ -61,7 +61,7 @@ shortens_rounds go next part limit (suc fuel) ts =
     (λ v rest. shortens_ended 0 rest (rounds go next (one_less limit) fuel rest) _ (shortens_rounds go next part (one_less limit) fuel rest)))
 
 module _ (l : Language) (R : Reader l) (nested : (n : l.Nonterminal) (t : l.Token) (ts : List l.Token) → Shortens 0 ts (R n t ts)) where
-  shortens_taken : (k : l.Kind) (ts : List l.Token) → Shortens 1 ts (taken l k ts)
+  pub shortens_taken : (k : l.Kind) (ts : List l.Token) → Shortens 1 ts (taken l k ts)
   shortens_taken k [] = tt
   shortens_taken k (t ∷ ts) = by_kind (l.same (l.kind t) k)
     where

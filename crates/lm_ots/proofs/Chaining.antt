@@ -1,5 +1,5 @@
 -- Steps of chains.
-use Rattle.std.proofs.Common.{◌≡◌, ℕ, zero, suc, ◌+◌, ◌-◌, ◌≤◌, List, refl, ap, ◌∙◌, add-one, add-suc, add-zero, zero-add, add_assoc, arith, length}
+use Rattle.std.proofs.Common.{◌≡◌, ℕ, zero, suc, ◌+◌, ◌-◌, ◌≤◌, List, refl, add-one, add-suc, add-zero, zero-add, add_assoc, arith, length}
 use Rattle.tagged_hash.proofs.Lengths.{length-sha256}
 use Rattle.vo_spec.specs.Ots.{step, step_text, advance}
 

@@ -1,6 +1,6 @@
 -- What is signed has the form of a signature, and leads to the public key.
-use Rattle.std.proofs.Common.{◌≡◌, ℕ, ◌+◌, ◌-◌, ◌*◌, ◌/◌, ◌%◌, ◌^◌, ◌<◌, ◌≤◌, List, [], ◌++◌, length, refl, ap, sym, ◌∙◌, append_assoc, arith, lit<}
-use Rattle.std.specs.Prelude.{◌==◌, true, slice_index}
+use Rattle.std.proofs.Common.{◌≡◌, ℕ, ◌+◌, ◌-◌, ◌*◌, ◌/◌, ◌%◌, ◌^◌, ◌<◌, List, [], ◌++◌, length, refl, sym, append_assoc, lit<}
+use Rattle.std.specs.Prelude.{true, slice_index}
 use Rattle.std.proofs.lemmas.Bool.{and_from, eq-eqb}
 use Rattle.std.proofs.lemmas.List.{append-nil, length-append}
 use Rattle.std.proofs.lemmas.Nat.{and_le_l}

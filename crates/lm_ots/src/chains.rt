@@ -5,9 +5,8 @@ ghost use Rattle.vo_spec.specs.Ots.{step, advance, secret, public_text, public_e
 ghost use Rattle.tagged_hash.specs.Holding.{Holds};
 ghost use Rattle.std.specs.Prelude.{[]};
 
-use crate::numbers::{u16_bytes, u32_bytes};
 use tagged_hash::Hasher;
-use vo_spec::{Digest, OtsType};
+use vo_spec::{Digest, OtsType, u16_bytes, u32_bytes};
 
 // What the text of a public key begins with, after its leaf's name (RFC 8554, section 4.3).
 const D_PBLC: u16 = 0x8080;

@@ -4,9 +4,8 @@ ghost use Rattle.vo_spec.specs.OtsSets.{IsWidth};
 ghost use Rattle.vo_spec.specs.Ots.{coef, checksum_of, message_text, digits_of};
 ghost use Rattle.vo_spec.specs.Sha256.{sha256};
 
-use crate::numbers::{u16_bytes, u32_bytes};
 use tagged_hash::Hasher;
-use vo_spec::{Digest, OtsType};
+use vo_spec::{Digest, OtsType, u16_bytes, u32_bytes};
 
 // What the text of a message begins with, after its leaf's name (RFC 8554, section 4.5).
 const D_MESG: u16 = 0x8181;

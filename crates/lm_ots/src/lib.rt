@@ -13,7 +13,7 @@ mod signing;
 pub use candidates::{candidate, candidate_end};
 pub use chains::{chain, public_of, secret};
 pub use digits::{checksum, coef, digits_of};
-pub use numbers::{digest_at, u16_bytes, u32_at, u32_bytes};
+pub use numbers::{digest_at, u32_at};
 pub use signing::{sign_onto, sign_ots, signed_value};
 pub use vo_spec::{Digest, OtsType};
 

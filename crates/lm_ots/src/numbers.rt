@@ -1,24 +1,8 @@
-//! Numbers and digests inside byte strings, high bytes first.
+//! Numbers and digests at places of byte strings.
 ghost use Rattle.std.specs.Prelude.{◌≡◌, ◌+◌, ◌≤◌, length};
-ghost use Rattle.vo_spec.specs.Bytes.{u16_bytes, u32_bytes, u32_at, digest_at};
+ghost use Rattle.vo_spec.specs.Bytes.{u32_at, digest_at};
 
 use vo_spec::Digest;
-
-/// The number's two bytes.
-#[tactic(auto, unfolding(vo_spec::specs::Bytes::u16_bytes))]
-pub fn u16_bytes(number: u16) -> [u8; 2]
-    ensures { result ≡ u16_bytes number }
-{
-    number.to_be_bytes()
-}
-
-/// The number's four bytes.
-#[tactic(auto, unfolding(vo_spec::specs::Bytes::u32_bytes))]
-pub fn u32_bytes(number: u32) -> [u8; 4]
-    ensures { result ≡ u32_bytes number }
-{
-    number.to_be_bytes()
-}
 
 /// The number that the four bytes from `at` on spell.
 #[tactic(auto, unfolding(vo_spec::specs::Bytes::u32_at))]

@@ -6,9 +6,8 @@ ghost use Rattle.vo_spec.specs.Ots.{randomizer, signed_value, ots_public, ots_ca
 
 use crate::chains::{chain, secret};
 use crate::digits::{coef, digits_of};
-use crate::numbers::u32_bytes;
 use std::alloc::{AllocError, Global};
-use vo_spec::{Digest, OtsType};
+use vo_spec::{Digest, OtsType, u32_bytes};
 
 // The chain number of the hash that makes the randomizer from the seed: no chain has it.
 const RANDOMIZER: u16 = 0xfffd;
@@ -46,7 +45,14 @@ fn put_front(mut bytes: Vec<u8>, ots: OtsType, random: &Digest) -> Result<Vec<u8
 
 /// The bytes with the signature of the message by a leaf behind them. It takes no memory where they have room for the
 /// signature.
-pub fn sign_onto(bytes: Vec<u8>, id: &[u8; 16], q: u32, ots: OtsType, seed: &[u8; 32], message: &[u8]) -> Result<Vec<u8>, AllocError>
+pub fn sign_onto(
+    bytes: Vec<u8>,
+    id: &[u8; 16],
+    q: u32,
+    ots: OtsType,
+    seed: &[u8; 32],
+    message: &[u8],
+) -> Result<Vec<u8>, AllocError>
     ensures { IfOk result (λ signed. signed.items ≡ bytes.items ++ ots_signature id.now q ots seed.now message.now) }
 {
     let random = secret(id, q, RANDOMIZER, seed);

@@ -45,5 +45,10 @@ pub lms_valid-public_bytes : (lms : LmsType) (ots : OtsType) (id root message si
     → lms_valid (public_bytes lms ots id root) message signature ≡ is_valid_under lms ots id root message signature
 unfolding lms_valid
 lms_valid-public_bytes lms ots id root message signature lengths =
-    rw (length-public_bytes lms ots id root lengths, key_lms-public_bytes lms ots id root, key_ots-public_bytes lms ots id root,
-        key_id-public_bytes lms ots id root lengths.id_len, key_root-public_bytes lms ots id root lengths) refl
+    rw (
+      length-public_bytes lms ots id root lengths,
+      key_lms-public_bytes lms ots id root,
+      key_ots-public_bytes lms ots id root,
+      key_id-public_bytes lms ots id root lengths.id_len,
+      key_root-public_bytes lms ots id root lengths,
+    ) refl

@@ -1,10 +1,10 @@
 -- A public key's bytes are made of the parts that are read of them.
-use Rattle.std.proofs.Common.{◌≡◌, ℕ, zero, suc, lit<, ◌+◌, ◌^◌, ◌<◌, ◌≤◌, List, [], ◌∷◌, ◌++◌, length, take, drop, get_or, refl, ap, sym, ◌∙◌, arith}
+use Rattle.std.proofs.Common.{◌≡◌, ℕ, zero, suc, lit<, ◌<◌, List, [], ◌∷◌, ◌++◌, length, take, drop, get_or, refl, ap, arith}
 use Rattle.std.proofs.lemmas.List.{take-append-drop, length-drop}
 use Rattle.std.proofs.Math.Seq.{take-length}
 use Rattle.std.proofs.lemmas.Bool.Decides.{nat_tests}
 use Rattle.std.proofs.lemmas.Nat.{be_bytes_4}
-use Rattle.std.specs.Prelude.{Option, Some, None}
+use Rattle.std.specs.Prelude.{Some}
 use Rattle.vo_spec.specs.declared.signatures.OtsType.{OtsType}
 use Rattle.vo_spec.specs.declared.signatures.LmsType.{LmsType}
 use Rattle.vo_spec.specs.Bytes.{u32_bytes, u32_at, digest_at, id_at}
@@ -50,5 +50,5 @@ public_bytes-read (a ∷ b ∷ c ∷ d ∷ e ∷ f ∷ g ∷ h ∷ rest) lms ots
     let second = u32_bytes-u32_at e f g h rest (small 4) (small 5) (small 6) (small 7) in
     let whole_rest : length rest ≡ 48 = omega arith in
     rw (lms_code_of-found (u32_at bytes 0) lms by_lms, ots_code_of-found (u32_at bytes 4) ots by_ots, first, second)
-        (ap (λ tail. a ∷ b ∷ c ∷ d ∷ e ∷ f ∷ g ∷ h ∷ tail) (id_and_root rest whole_rest))
+    (ap (λ tail. a ∷ b ∷ c ∷ d ∷ e ∷ f ∷ g ∷ h ∷ tail) (id_and_root rest whole_rest))
 public_bytes-read _ lms ots whole small by_lms by_ots = absurd (omega arith)

@@ -1,13 +1,13 @@
 -- The parts of a public key, read back from its bytes.
 use Rattle.std.proofs.Common.{◌≡◌, ℕ, ◌^◌, ◌<◌, List, [], ◌++◌, length, refl, sym, append_assoc, lit<}
-use Rattle.std.proofs.Math.Seq.{drop-append_seam, take-append_seam, drop-append-add}
+use Rattle.std.proofs.Math.Seq.{drop-append_seam, take-append_seam}
 use Rattle.std.proofs.lemmas.List.{append-nil, length-append}
-use Rattle.std.specs.Prelude.{Option, Some, None, unwrap_or}
+use Rattle.std.specs.Prelude.{Some, unwrap_or}
 use Rattle.vo_spec.specs.declared.signatures.OtsType.{OtsType}
 use Rattle.vo_spec.specs.declared.signatures.OtsType.TheVariants.{W1, W2, W4, W8}
 use Rattle.vo_spec.specs.declared.signatures.LmsType.{LmsType}
 use Rattle.vo_spec.specs.declared.signatures.LmsType.TheVariants.{H5, H10, H15, H20, H25}
-use Rattle.vo_spec.specs.Bytes.{u32_bytes, u32_at, digest_at, id_at}
+use Rattle.vo_spec.specs.Bytes.{u32_bytes, id_at}
 use Rattle.vo_spec.specs.OtsSets.{ots_of, ots_code_of}
 use Rattle.vo_spec.specs.LmsSets.{lms_of, lms_code_of}
 use Rattle.vo_spec.specs.Lms.{key_lms, key_ots, key_id, key_root, public_bytes}
@@ -26,7 +26,7 @@ lms_in key = unwrap_or (key_lms key) H5
 abbrev pub ots_in : List ℕ → OtsType
 ots_in key = unwrap_or (key_ots key) W8
 
-lms_code_fits : (lms : LmsType) → lms_code_of lms < 2 ^ 32
+pub lms_code_fits : (lms : LmsType) → lms_code_of lms < 2 ^ 32
 lms_code_fits H5 = lit< tt
 lms_code_fits H10 = lit< tt
 lms_code_fits H15 = lit< tt
@@ -59,7 +59,7 @@ key_lms-public_bytes lms ots id root =
     let first = u32_bytes (lms_code_of lms) in
     let second = u32_bytes (ots_code_of ots) in
     rw (append_assoc (first ++ second) id root, append_assoc first second (id ++ root), u32_at-front (lms_code_of lms) (second ++ (id ++ root)) (lms_code_fits lms))
-        (lms_of-lms_code_of lms)
+    (lms_of-lms_code_of lms)
 
 pub key_ots-public_bytes : (lms : LmsType) (ots : OtsType) (id root : List ℕ)
     → key_ots (public_bytes lms ots id root) ≡ Some ots
@@ -67,10 +67,13 @@ unfolding public_bytes
 key_ots-public_bytes lms ots id root =
     let first = u32_bytes (lms_code_of lms) in
     let second = u32_bytes (ots_code_of ots) in
-    rw (append_assoc (first ++ second) id root, append_assoc first second (id ++ root),
-        u32_at-append first (second ++ (id ++ root)) 4 (sym (length-u32_bytes (lms_code_of lms))),
-        u32_at-front (ots_code_of ots) (id ++ root) (ots_code_fits ots))
-        (ots_of-ots_code_of ots)
+    rw (
+      append_assoc (first ++ second) id root,
+      append_assoc first second (id ++ root),
+      u32_at-append first (second ++ (id ++ root)) 4 (sym (length-u32_bytes (lms_code_of lms))),
+      u32_at-front (ots_code_of ots) (id ++ root) (ots_code_fits ots),
+    )
+    (ots_of-ots_code_of ots)
 
 -- the typecodes have 8 bytes
 length-codes : (lms : LmsType) (ots : OtsType) → length (u32_bytes (lms_code_of lms) ++ u32_bytes (ots_code_of ots)) ≡ 8
@@ -115,5 +118,5 @@ parts_read_back lms ots id root lengths = record {
   lms_is = rw (key_lms-public_bytes lms ots id root) refl;
   ots_is = rw (key_ots-public_bytes lms ots id root) refl;
   id_is = key_id-public_bytes lms ots id root lengths.id_len;
-  root_is = key_root-public_bytes lms ots id root lengths
+  root_is = key_root-public_bytes lms ots id root lengths;
 }

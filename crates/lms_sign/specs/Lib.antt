@@ -1,1 +1,2 @@
 pub mod KeyParts
+pub mod Kept

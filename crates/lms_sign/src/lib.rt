@@ -5,8 +5,15 @@
 
 mod nodes;
 mod public_key;
+mod secret_key;
+mod signing;
 mod verifying;
 
 pub use public_key::{KeyFault, PublicKey};
+pub use secret_key::SecretKey;
+pub use signing::SignFault;
 pub use verifying::verify;
 pub use vo_spec::{Digest, LmsType, OtsType};
+
+#[cfg(test)]
+mod tests;

@@ -3,12 +3,11 @@ ghost use Rattle.std.specs.Prelude.{◌≡◌, ◌≢◌, ◌+◌, ◌≤◌, �
 ghost use Rattle.vo_spec.specs.Bytes.{id_at};
 ghost use Rattle.vo_spec.specs.Lms.{key_id, leaf_of, leaf_count, key_signature_len, IsUnknownSet};
 
+use lm_ots::{digest_at, u32_at};
 use std::alloc::{AllocError, Global};
 use std::marker::Model;
-
-use lm_ots::{digest_at, u32_at, u32_bytes};
 use thiserror::Error;
-use vo_spec::{Digest, LmsType, OtsType};
+use vo_spec::{Digest, LmsType, OtsType, u32_bytes};
 
 /// Why bytes are no public key.
 #[derive(Clone, Copy, Debug, PartialEq, Eq, Error)]

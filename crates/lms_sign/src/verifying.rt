@@ -5,11 +5,10 @@ ghost use Rattle.vo_spec.specs.OtsSets.{ots_signature_len};
 ghost use Rattle.vo_spec.specs.LmsSets.{height_of, lms_signature_len};
 ghost use Rattle.vo_spec.specs.Lms.{climb, path_at, is_lms_form, ots_part, is_valid_under, lms_valid, lms_candidate};
 
-use lm_ots::{candidate, digest_at, u32_at};
-use vo_spec::{Digest, LmsType, OtsType};
-
 use crate::nodes::{leaf_node, parent};
 use crate::public_key::PublicKey;
+use lm_ots::{candidate, digest_at, u32_at};
+use vo_spec::{Digest, LmsType, OtsType};
 
 // The signature has the length and the typecode of the sets, and its leaf is one of the tree's.
 #[tactic(auto, unfolding(vo_spec::specs::Lms::is_lms_form))]
@@ -31,7 +30,14 @@ fn path_at(ots: OtsType, signature: &[u8], level: u32) -> Digest
 }
 
 // The root above the leaf at node `r`, along the signature's path.
-fn root_above(id: &[u8; 16], lms: LmsType, ots: OtsType, r: u32, leaf: &Digest, signature: &[u8]) -> Digest
+fn root_above(
+    id: &[u8; 16],
+    lms: LmsType,
+    ots: OtsType,
+    r: u32,
+    leaf: &Digest,
+    signature: &[u8],
+) -> Digest
     requires { length signature.now ≡ lms_signature_len lms ots }
     ensures { result ≡ climb id.now r (path_at ots signature.now) leaf.now (height_of lms) }
 {
@@ -52,7 +58,13 @@ fn ots_part(ots: OtsType, signature: &[u8]) -> &[u8]
 }
 
 // The root that the signature leads to (RFC 8554, algorithm 6a), if the one-time signature has its form.
-fn candidate_root(lms: LmsType, ots: OtsType, id: &[u8; 16], message: &[u8], signature: &[u8]) -> Option<Digest>
+fn candidate_root(
+    lms: LmsType,
+    ots: OtsType,
+    id: &[u8; 16],
+    message: &[u8],
+    signature: &[u8],
+) -> Option<Digest>
     requires { IsTrue (is_lms_form lms ots signature.now) }
     ensures form { is_some result ≡ is_ots_form ots (ots_part ots signature.now) }
     ensures value { IfSome result (λ root. root ≡ lms_candidate lms ots id.now message.now signature.now) }
@@ -68,7 +80,14 @@ fn candidate_root(lms: LmsType, ots: OtsType, id: &[u8; 16], message: &[u8], sig
 
 // The signature is valid under a key of these parts.
 #[tactic(auto, unfolding(vo_spec::specs::Lms::is_valid_under))]
-fn is_valid_under(lms: LmsType, ots: OtsType, id: &[u8; 16], root: &Digest, message: &[u8], signature: &[u8]) -> bool
+fn is_valid_under(
+    lms: LmsType,
+    ots: OtsType,
+    id: &[u8; 16],
+    root: &Digest,
+    message: &[u8],
+    signature: &[u8],
+) -> bool
     ensures { result ≡ is_valid_under lms ots id.now root.now message.now signature.now }
 {
     if !is_form(lms, ots, signature) {

@@ -1,7 +1,13 @@
 -- Fields of byte formats: what reading gives of strings and names behind their lengths, and of so many
 -- things in a row.
-use Rattle.std.specs.Prelude.{◌≡◌, ℕ, zero, suc, Bool, List, [], ◌∷◌, length, if◌then◌else◌, Option, Some, None, bytes_eq}
+use Rattle.std.specs.Prelude.{◌≡◌, ℕ, zero, suc, Bool, ◌&&◌, ◌==◌, nat_le, List, [], ◌∷◌, ◌++◌, length, if◌then◌else◌, Option, Some, None, Result, Ok, Err, bytes_eq}
+use Rattle.vo_spec.specs.declared.values.Kind.{Kind}
+use Rattle.vo_spec.specs.declared.values.Kind.TheVariants as kind
+use Rattle.vo_spec.specs.declared.tables.Column.{Column}
 use Rattle.vo_spec.specs.Names.{is_name}
+use Rattle.vo_spec.specs.Batches.{most_columns}
+use Rattle.row_bytes.specs.declared.read_fault.ReadFault.{ReadFault}
+use Rattle.row_bytes.specs.declared.read_fault.ReadFault.TheVariants.{BadForm, Memory}
 use Rattle.row_bytes.specs.Reading.{byte_at, bytes_at, u16_at, u32_at}
 
 -- what the next step makes of what was read
@@ -18,6 +24,17 @@ where_true test value = if test then Some value else None
 abbrev pub Found : {X A : Type 0} → (X → A) → Option X → List ℕ → Option (A × List ℕ) → Type 0
 Found view None new read = read ≡ None
 Found view (Some x) new read = read ≡ Some (view x, new)
+
+-- the same of a call that takes memory
+abbrev pub FoundOr : {X A : Type 0} → (X → A) → Result X ReadFault → List ℕ → Option (A × List ℕ) → Type 0
+FoundOr view (Ok x) new read = read ≡ Some (view x, new)
+FoundOr view (Err BadForm) new read = read ≡ None
+FoundOr view (Err Memory) new read = Unit {0}
+
+-- things in front of those that are read
+abbrev pub with_front : {A : Type 0} → List A → Option (List A × List ℕ) → Option (List A × List ℕ)
+with_front front None = None
+with_front front (Some others) = Some (front ++ others.0, others.1)
 
 -- bytes behind their length, which is one byte, two or four
 unfoldable pub short_string_at : List ℕ → Option (List ℕ × List ℕ)
@@ -47,3 +64,26 @@ abbrev pub whole : {A : Type 0} → Option (A × List ℕ) → Option A
 whole None = None
 whole (Some (value, [])) = Some value
 whole (Some (value, byte ∷ bytes)) = None
+
+-- Columns.
+
+abbrev pub kind_of_byte : ℕ → Option Kind
+kind_of_byte byte =
+    if byte == 1 then Some kind.Int
+    else if byte == 2 then Some kind.Text
+    else if byte == 3 then Some kind.Bool
+    else None
+
+unfoldable pub kind_at : List ℕ → Option (Kind × List ℕ)
+kind_at bytes = byte_at bytes >>= λ byte. kind_of_byte byte.0 >>= λ k. Some (k, byte.1)
+
+-- a name, and the byte of a kind
+unfoldable pub column_at : List ℕ → Option (Column × List ℕ)
+column_at bytes = name_at bytes >>= λ name. kind_at name.1 >>= λ k. Some (record { name = name.0; kind = k.0 }, k.1)
+
+-- a byte that says how many there are, 1 to 32
+unfoldable pub count_at : List ℕ → Option (ℕ × List ℕ)
+count_at bytes = byte_at bytes >>= λ count. where_true (nat_le 1 count.0 && nat_le count.0 most_columns) count
+
+unfoldable pub columns_at : List ℕ → Option (List Column × List ℕ)
+columns_at bytes = count_at bytes >>= λ count. times column_at count.0 count.1

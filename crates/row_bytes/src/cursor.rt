@@ -49,6 +49,16 @@ impl<'b> Cursor<'b> {
         Some(front)
     }
 
+    /// The next `N` bytes.
+    #[tactic(auto, unfolding(crate::specs::Reading::bytes_at))]
+    pub fn take_chunk<const N: usize>(&mut self) -> Option<&'b [u8; N]>
+        ensures { Taken (λ chunk. chunk.now) result self.old self.new (bytes_at N self.old) }
+    {
+        let (front, rest) = self.rest.split_first_chunk::<N>()?;
+        self.rest = rest;
+        Some(front)
+    }
+
     #[tactic(auto, unfolding(crate::specs::Reading::byte_at))]
     pub fn take_byte(&mut self) -> Option<u8>
         ensures { Taken (λ byte. byte) result self.old self.new (byte_at self.old) }

@@ -36,15 +36,14 @@ fn from_least(above: u64) -> i64
     }
 }
 
-/// The bytes that order the values of a kind of key.
+/// The bytes that order the values of a kind. A BOOLEAN has some too, though it is no key.
 pub fn key_of(alloc: Global, value: &Value) -> Result<Key, AllocError>
-    requires { kind_of value.now ≢ Kind.Bool }
     ensures { IfOk result (λ key. key ≡ key_of value.now) }
 {
     let bytes = match value {
         Value::Int(number) => Vec::from_slice(alloc, &u64_bytes(above_least(*number)))?,
         Value::Text(text) => Vec::from_slice(alloc, text.as_bytes())?,
-        Value::Bool(_) => unreachable!(),
+        Value::Bool(truth) => Vec::from_slice(alloc, &[u8::from(*truth)])?,
     };
     Ok(Key::from_vec(bytes))
 }

@@ -1,18 +1,24 @@
 //! Values, keys and rows as bytes, and intervals of keys.
 #![tactic(auto)]
 
+mod columns;
+mod copies;
 mod cursor;
 mod fault;
 mod fields;
 mod keys;
+mod read_fault;
 mod reading;
 mod text;
 mod writing;
 
+pub use columns::{take_columns, take_kind};
+pub use copies::{copy_onto, copy_values, own_value};
 pub use cursor::Cursor;
 pub use fault::FormFault;
 pub use fields::is_name;
 pub use keys::{key_of, value_of_key};
+pub use read_fault::ReadFault;
 pub use reading::take_value;
 pub use vo_spec::{Bound, Interval, Key, Kind, List, Name, Row, Text, Value, ValueRef};
 pub use writing::put_value;

@@ -1,5 +1,5 @@
 -- The kinds of tokens, and how keywords and symbols are written.
-use Rattle.std.specs.Prelude.{ℕ, List, [], ◌∷◌, Option, find, codes}
+use Rattle.std.specs.Prelude.{Bool, ◌==◌, ℕ, List, [], ◌∷◌, Option, find, codes}
 use Rattle.std.specs.Str.{str_eq_ignore_ascii_case}
 use Rattle.sql_tokens.specs.declared.kinds.TokenKind.{TokenKind}
 use Rattle.sql_tokens.specs.declared.kinds.TokenKind.TheVariants as k
@@ -96,3 +96,57 @@ keywords =
 -- the reserved word that this word is, in small or capital letters
 abbrev pub keyword : List ℕ → Option TokenKind
 keyword word = find (λ kind. str_eq_ignore_ascii_case (spelling kind) word) keywords
+
+-- the number of a kind in their order
+abbrev pub kind_number : TokenKind → ℕ
+kind_number k.Select = 0
+kind_number k.From = 1
+kind_number k.Where = 2
+kind_number k.As = 3
+kind_number k.Inner = 4
+kind_number k.Join = 5
+kind_number k.On = 6
+kind_number k.And = 7
+kind_number k.Or = 8
+kind_number k.Not = 9
+kind_number k.True = 10
+kind_number k.False = 11
+kind_number k.Create = 12
+kind_number k.Table = 13
+kind_number k.Primary = 14
+kind_number k.Key = 15
+kind_number k.Drop = 16
+kind_number k.Insert = 17
+kind_number k.Into = 18
+kind_number k.Values = 19
+kind_number k.Update = 20
+kind_number k.Set = 21
+kind_number k.Delete = 22
+kind_number k.Commit = 23
+kind_number k.Bigint = 24
+kind_number k.Text = 25
+kind_number k.Boolean = 26
+kind_number k.Null = 27
+kind_number k.Is = 28
+kind_number k.Index = 29
+kind_number k.Count = 30
+kind_number k.Sum = 31
+kind_number k.Limit = 32
+kind_number k.LeftParen = 33
+kind_number k.RightParen = 34
+kind_number k.Comma = 35
+kind_number k.Semicolon = 36
+kind_number k.Dot = 37
+kind_number k.Star = 38
+kind_number k.Equal = 39
+kind_number k.NotEqual = 40
+kind_number k.Less = 41
+kind_number k.LessEqual = 42
+kind_number k.Greater = 43
+kind_number k.GreaterEqual = 44
+kind_number k.Name = 45
+kind_number k.Integer = 46
+kind_number k.Quoted = 47
+
+abbrev pub same_kind : TokenKind → TokenKind → Bool
+same_kind a b = kind_number a == kind_number b

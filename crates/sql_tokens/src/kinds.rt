@@ -1,6 +1,6 @@
 //! The kinds of tokens.
 ghost use Rattle.std.specs.Prelude.{◌≡◌};
-ghost use Rattle.sql_tokens.specs.Kinds.{spelling};
+ghost use Rattle.sql_tokens.specs.Kinds.{spelling, kind_number, same_kind};
 
 /// What a token is: a keyword, a symbol, or one of many words.
 #[derive(Clone, Copy, Debug, PartialEq, Eq)]
@@ -147,5 +147,19 @@ impl TokenKind {
             TokenKind::GreaterEqual => b">=",
             TokenKind::Name | TokenKind::Integer | TokenKind::Quoted => b"",
         }
+    }
+
+    /// Its number in the order of the kinds.
+    fn number(self) -> u8
+        ensures { result ≡ kind_number self }
+    {
+        self as u8
+    }
+
+    /// Whether it is the other kind.
+    pub fn is(self, other: TokenKind) -> bool
+        ensures { result ≡ same_kind self other }
+    {
+        self.number() == other.number()
     }
 }

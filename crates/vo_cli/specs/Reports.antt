@@ -1,9 +1,12 @@
 -- Reports as what the program says.
-use Rattle.std.specs.Prelude.{ℕ}
+use Rattle.std.specs.Prelude.{◌≡◌, ℕ, Result, Ok, Err}
 use Rattle.vo_cli.specs.declared.report.Status.{Status}
 use Rattle.vo_cli.specs.declared.report.Status.TheVariants.{Done, RefusedReply, RefusedInput, Collision, Unsigned, BadJournal, RefusedCommand}
 use Rattle.vo_cli.specs.declared.report.Report.{Report}
+use Rattle.vo_cli.specs.declared.report.Stop.{Stop}
+use Rattle.vo_cli.specs.declared.report.Stop.TheVariants.{Says, Outside, Memory}
 use Rattle.vo_cli.specs.Lines.{Said}
+use Rattle.vo_cli.specs.Dues.{Due, Exactly, Fits as Meets}
 
 abbrev pub status_code : Status → ℕ
 status_code Done = 0
@@ -16,3 +19,17 @@ status_code RefusedCommand = 8
 
 abbrev pub said_of : Report → Said
 said_of report = record { status = status_code report.status; bytes = report.bytes.items }
+
+-- The command's answer is what is due, unless the outside failed or memory ran out.
+abbrev pub Answers : Due → Result Report Stop → Type 0
+Answers due (Ok report) = Meets due (said_of report)
+Answers due (Err (Says report)) = Meets due (said_of report)
+Answers due (Err Outside) = Unit {0}
+Answers due (Err Memory) = Unit {0}
+
+-- What was taken of a file is what the rest of the work goes on with, whatever that rest is; or a refusal is due.
+abbrev pub GoesOn : {A B : Type 0} → (A → B) → ((B → Due) → Due) → Result A Stop → Type 0
+GoesOn {B = B} view due (Ok taken) = (rest : B → Due) → due rest ≡ rest (view taken)
+GoesOn {B = B} view due (Err (Says report)) = (rest : B → Due) → due rest ≡ Exactly (said_of report)
+GoesOn view due (Err Outside) = Unit {0}
+GoesOn view due (Err Memory) = Unit {0}

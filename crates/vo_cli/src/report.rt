@@ -1,7 +1,8 @@
 //! What a run of the program comes to: a status, and what it writes.
-ghost use Rattle.std.specs.Prelude.{◌≡◌};
+ghost use Rattle.std.specs.Prelude.{◌≡◌, ◌≢◌};
 ghost use Rattle.vo_cli.specs.Reports.{status_code};
 
+use std::alloc::AllocError;
 use thiserror::Error;
 
 /// The statuses that come with lines or output of their own.
@@ -23,7 +24,8 @@ pub enum Status {
 impl Status {
     /// The exit status.
     pub fn code(self) -> u8
-        ensures { result ≡ status_code self }
+        ensures value { result ≡ status_code self }
+        ensures own { (result ≢ 3) × (result ≢ 4) }
     {
         match self {
             Status::Done => 0,
@@ -53,4 +55,15 @@ pub enum Stop {
     Outside,
     #[error("out of memory")]
     Memory,
+}
+
+impl From<AllocError> for Stop {
+    ghost use Rattle.std.specs.Prelude.{◌≡◌};
+    ghost use Rattle.vo_cli.specs.declared.report.Stop.TheVariants.{Memory};
+
+    ghost from_gives = { λ _ stop. stop ≡ Memory };
+
+    fn from(_error: AllocError) -> Stop {
+        Stop::Memory
+    }
 }

@@ -1,5 +1,6 @@
 -- The limits that part trees keep: those of their bytes.
 use Rattle.std.specs.Prelude.{◌≡◌, ℕ, ◌+◌, ◌≤◌, List, All, length}
+use Rattle.vo_spec.specs.declared.values.Value.{Value}
 use Rattle.vo_spec.specs.declared.values.Row.{Row}
 use Rattle.vo_spec.specs.declared.cells.Cell.{Cell}
 use Rattle.vo_spec.specs.declared.cells.Cell.TheVariants.{Shown, Hidden}
@@ -39,11 +40,14 @@ pub record FitsEntry (e : PartEntry) : Type 0 where
   pub key : FitsKey e.key
   pub row : FitsRowPart e.row
 
--- a row of a table
+-- the values of a row without its key, and a row of a table
+pub record FitsCells (values : List Value) : Type 0 where
+  pub count : length values ≤ most_cells
+  pub each : All FitsValue values
+
 pub record FitsRow (row : Row) : Type 0 where
   pub key : FitsKey row.key
-  pub cells : length row.cells ≤ most_cells
-  pub values : All FitsValue row.cells
+  pub cells : FitsCells row.cells
 
 module _ {E M : Type 0} (FitsE : E → Type 0) where
   abbrev mutual

@@ -1,7 +1,13 @@
 -- Whole trees: their shape, and the rows that one stands for.
 use Rattle.std.specs.Prelude.{◌≡◌, ℕ, ◌-◌, ◌<◌, ◌≤◌, Bool, true, not, ◌&&◌, IsTrue, List, [], ◌∷◌, map, length, Option, Some, None}
 use Rattle.std.specs.List.{AllByRecursion}
+use Rattle.vo_spec.specs.declared.values.Value.{Value}
 use Rattle.vo_spec.specs.declared.values.Row.{Row}
+use Rattle.vo_spec.specs.declared.cells.Cell.{Cell}
+use Rattle.vo_spec.specs.declared.cells.Cell.TheVariants.{Shown, Hidden}
+use Rattle.vo_spec.specs.declared.cells.RowPart.{RowPart}
+use Rattle.vo_spec.specs.declared.cells.RowPart.TheVariants.{Digest as Closed, Cells}
+use Rattle.vo_spec.specs.declared.cells.PartEntry.{PartEntry}
 use Rattle.vo_spec.specs.Values.{key_lt}
 use Rattle.vo_spec.specs.Cells.{whole_entry}
 use Rattle.vo_spec.specs.Parts.{Part, Parts, stub, leaf, inner, none, more, Family, count, entries}
@@ -71,3 +77,24 @@ module _ {E M : Type 0} (family : Family E M) where
 pub record StandsFor (t : RowTree) (rows : List Row) : Type 0 where
   pub tree : IsTree row_family t
   pub rows_are : entries t ≡ map whole_entry rows
+
+-- The rows that a tree shows: the values that an entry's row has.
+
+abbrev pub shown_values : List Cell → List Value
+shown_values [] = []
+shown_values (Shown v ∷ cells) = v ∷ shown_values cells
+shown_values (Hidden d ∷ cells) = shown_values cells
+
+abbrev pub values_of_row : RowPart → List Value
+values_of_row (Closed d) = []
+values_of_row (Cells cells) = shown_values cells
+
+abbrev pub row_in : PartEntry → Row
+row_in e = record { key = e.key; cells = values_of_row e.row }
+
+abbrev pub rows_in : RowTree → List Row
+rows_in t = map row_in (entries t)
+
+-- every cell is shown
+abbrev pub IsShown : RowTree → Type 0
+IsShown t = entries t ≡ map whole_entry (rows_in t)

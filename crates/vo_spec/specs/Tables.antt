@@ -96,31 +96,48 @@ is_key schema name = column_number schema.columns name == schema.key
 abbrev pub suits : List Column → List ℕ → Value → Bool
 suits columns name value = same_kind (column_at columns (column_number columns name)).kind (kind_of value)
 
--- The first of a command's tests that holds, but for those that need the rows (DuplicateKey, NoRow).
-abbrev pub refusal : Command → List Heading → Option CommandFault
-refusal (Create name columns key) headings = first_of
-    ((is_some (heading_named name headings), TableExists)
+-- The tests of each command, in their order, but for those that need the rows (DuplicateKey, NoRow).
+
+abbrev pub Tests : Type 0
+Tests = List (Bool × CommandFault)
+
+abbrev pub create_tests : List ℕ → List Column → List ℕ → List Heading → Tests
+create_tests name columns key headings =
+    (is_some (heading_named name headings), TableExists)
     ∷ (nat_le most_tables (length headings), TooManyTables)
     ∷ (is_bad_schema columns key, BadSchema)
-    ∷ [])
-refusal (Drop name) headings = on_table name headings (λ h. [])
-refusal (Insert name values) headings = on_table name headings (λ h.
-    ((not (length values == length h.schema.columns), Arity)
+    ∷ []
+
+abbrev pub insert_tests : List Value → Heading → Tests
+insert_tests values h =
+    (not (length values == length h.schema.columns), Arity)
     ∷ (not (are_of_kinds h.schema.columns values), TypeMismatch)
     ∷ (nat_lt most_key (length (key_of (value_at values h.schema.key))), KeyTooLong)
     ∷ (nat_le most_rows h.count, TableFull)
-    ∷ []))
-refusal (Update name sets column value) headings = on_table name headings (λ h.
-    ((not (list_all (λ (s : SetPart). has_column h.schema.columns s.column) sets && has_column h.schema.columns column), NoColumn)
+    ∷ []
+
+abbrev pub update_tests : List SetPart → List ℕ → Value → Heading → Tests
+update_tests sets column value h =
+    (not (list_all (λ (s : SetPart). has_column h.schema.columns s.column) sets && has_column h.schema.columns column), NoColumn)
     ∷ (not (is_key h.schema column), NotKey)
     ∷ (list_any (λ (s : SetPart). is_key h.schema s.column) sets || has_twice (map (λ (s : SetPart). s.column) sets), BadSet)
     ∷ (not (list_all (λ (s : SetPart). suits h.schema.columns s.column s.value) sets && suits h.schema.columns column value), TypeMismatch)
-    ∷ []))
-refusal (Delete name column value) headings = on_table name headings (λ h.
-    ((not (has_column h.schema.columns column), NoColumn)
+    ∷ []
+
+abbrev pub delete_tests : List ℕ → Value → Heading → Tests
+delete_tests column value h =
+    (not (has_column h.schema.columns column), NoColumn)
     ∷ (not (is_key h.schema column), NotKey)
     ∷ (not (suits h.schema.columns column value), TypeMismatch)
-    ∷ []))
+    ∷ []
+
+-- the first of a command's tests that holds
+abbrev pub refusal : Command → List Heading → Option CommandFault
+refusal (Create name columns key) headings = first_of (create_tests name columns key headings)
+refusal (Drop name) headings = on_table name headings (λ h. [])
+refusal (Insert name values) headings = on_table name headings (insert_tests values)
+refusal (Update name sets column value) headings = on_table name headings (update_tests sets column value)
+refusal (Delete name column value) headings = on_table name headings (delete_tests column value)
 
 -- Rows.
 

@@ -1,9 +1,9 @@
 -- The trees of rows: the first bytes of a leaf are 03 and the count of its entries, those of an inner node
 -- 04 and the count of its children. Of a child its parent holds its digest alone.
-use Rattle.std.specs.Prelude.{ℕ, List, []}
+use Rattle.std.specs.Prelude.{ℕ, List, [], ◌∷◌}
 use Rattle.vo_spec.specs.declared.cells.PartEntry.{PartEntry}
 use Rattle.vo_spec.specs.Cells.{entry_bytes, EntryPrunes}
-use Rattle.vo_spec.specs.Parts.{Part, Parts, Family, digest_by, preimage_by, PrunesBy}
+use Rattle.vo_spec.specs.Parts.{Part, Parts, none, more, Family, digest_by, preimage_by, PrunesBy}
 
 abbrev pub RowTree : Type 0
 RowTree = Part PartEntry (Unit {0})
@@ -33,3 +33,8 @@ preimage = preimage_by row_family
 -- the one is the other with some of its subtrees, rows or cells replaced by their digests
 abbrev pub Prunes : RowTree → RowTree → Type 0
 Prunes = PrunesBy row_family EntryPrunes
+
+-- children as a list
+abbrev pub open_parts : List RowTree → RowTrees
+open_parts [] = none
+open_parts (p ∷ ps) = more tt p (open_parts ps)

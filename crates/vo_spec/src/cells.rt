@@ -1,11 +1,13 @@
 //! The rows of trees as a proof has them: whole, with hidden cells, or as a digest alone.
-ghost use Rattle.std.specs.Prelude.{◌≡◌};
+ghost use Rattle.std.specs.Prelude.{◌≡◌, IfOk};
 ghost use Rattle.vo_spec.specs.Lent.{value_of};
 
 use crate::digest::Digest;
 use crate::keys::Key;
 use crate::lists::List;
+use crate::texts::Text;
 use crate::values::Value;
+use std::alloc::{AllocError, Global};
 use std::marker::Model;
 
 /// A value whose text, if it is one, is lent.
@@ -60,6 +62,19 @@ impl<'b> CellValue<'b> {
         match &self.held {
             HeldValue::Lent(value) => *value,
             HeldValue::Owned(value) => value.as_ref(),
+        }
+    }
+}
+
+impl ValueRef<'_> {
+    /// The value, with a text of its own.
+    pub fn to_value(&self, alloc: Global) -> Result<Value, AllocError>
+        ensures { IfOk result (λ value. value ≡ value_of self.now) }
+    {
+        match self {
+            ValueRef::Int(number) => Ok(Value::Int(*number)),
+            ValueRef::Text(text) => Ok(Value::Text(Text::from_vec(Vec::from_slice(alloc, text)?))),
+            ValueRef::Bool(truth) => Ok(Value::Bool(*truth)),
         }
     }
 }

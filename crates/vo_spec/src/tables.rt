@@ -25,12 +25,6 @@ pub struct Table {
     pub rows: List<Row>,
 }
 
-/// Tables by strictly rising name.
-#[derive(Debug, Drop)]
-pub struct Tables {
-    pub list: List<Table>,
-}
-
 /// One part of an UPDATE's SET.
 #[derive(Debug, Drop)]
 pub struct SetPart {

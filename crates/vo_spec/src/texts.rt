@@ -1,6 +1,7 @@
 //! Texts and names, which contracts see as their bytes.
-ghost use Rattle.std.specs.Prelude.{◌≡◌};
+ghost use Rattle.std.specs.Prelude.{◌≡◌, IfOk};
 
+use std::alloc::{AllocError, Global};
 use std::marker::Model;
 
 /// The UTF-8 bytes of a text.
@@ -18,6 +19,15 @@ impl Model for Text {
 }
 
 impl Text {
+    /// The same text once more.
+    pub fn copy(&self, alloc: Global) -> Result<Text, AllocError>
+        ensures { IfOk result (λ text. text ≡ self.now) }
+    {
+        Ok(Text {
+            bytes: Vec::from_slice(alloc, self.as_bytes())?,
+        })
+    }
+
     pub fn from_vec(bytes: Vec<u8>) -> Text
         ensures { result ≡ bytes.items }
     {

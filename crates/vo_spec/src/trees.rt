@@ -1,5 +1,8 @@
 //! What calls on trees answer.
+ghost use Rattle.std.specs.Prelude.{◌≡◌};
+
 use crate::collision::Collision;
+use std::alloc::AllocError;
 use thiserror::Error;
 
 /// Why a scan or a test of a proof has no answer.
@@ -9,6 +12,16 @@ pub enum ScanFault {
     Missing,
     #[error("out of memory")]
     Memory,
+}
+
+impl From<AllocError> for ScanFault {
+    ghost use Rattle.vo_spec.specs.declared.trees.ScanFault.TheVariants.{Memory as OutOfMemory};
+
+    ghost from_gives = { λ _ fault. fault ≡ OutOfMemory };
+
+    fn from(_: AllocError) -> ScanFault {
+        ScanFault::Memory
+    }
 }
 
 /// Why a tree isn't changed.
@@ -23,6 +36,16 @@ pub enum UpdateFault {
     Missing,
     #[error("out of memory")]
     Memory,
+}
+
+impl From<AllocError> for UpdateFault {
+    ghost use Rattle.vo_spec.specs.declared.trees.UpdateFault.TheVariants.{Memory as OutOfMemory};
+
+    ghost from_gives = { λ _ fault. fault ≡ OutOfMemory };
+
+    fn from(_: AllocError) -> UpdateFault {
+        UpdateFault::Memory
+    }
 }
 
 /// Whether a part tree prunes a whole tree of its digest, or what shows that it doesn't.

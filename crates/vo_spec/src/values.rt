@@ -1,7 +1,10 @@
 //! Values of columns, and rows of them.
+ghost use Rattle.std.specs.Prelude.{◌≡◌, IfOk};
+
 use crate::keys::Key;
 use crate::lists::List;
 use crate::texts::Text;
+use std::alloc::{AllocError, Global};
 
 /// What a column holds.
 #[derive(Clone, Copy, PartialEq, Eq, Debug)]
@@ -27,4 +30,28 @@ pub enum Value {
 pub struct Row {
     pub key: Key,
     pub cells: List<Value>,
+}
+
+impl Value {
+    /// The same value once more.
+    pub fn copy(&self, alloc: Global) -> Result<Value, AllocError>
+        ensures { IfOk result (λ value. value ≡ self.now) }
+    {
+        match self {
+            Value::Int(number) => Ok(Value::Int(*number)),
+            Value::Text(text) => Ok(Value::Text(text.copy(alloc)?)),
+            Value::Bool(truth) => Ok(Value::Bool(*truth)),
+        }
+    }
+}
+
+/// The same values once more.
+pub fn copy_values(alloc: Global, values: &[Value]) -> Result<List<Value>, AllocError>
+    ensures { IfOk result (λ copies. copies ≡ values.now) }
+{
+    let mut copies = Vec::with_capacity(alloc, values.len())?;
+    for value in values {
+        copies.push(value.copy(alloc)?)?;
+    }
+    Ok(List::from_vec(copies))
 }

@@ -1,9 +1,7 @@
-use Rattle.std.proofs.Common.{◌≡◌, ◌+◌, length, refl, ap, sym, ◌∙◌, subst, arith}
+use Rattle.std.proofs.Common.{◌≡◌, length, sym, ◌∙◌, arith}
 use Rattle.vo_spec.specs.Bytes.{joined}
 use Rattle.vo_spec.specs.OtsSets.{count_of, ots_signature_len}
 use Rattle.vo_spec.specs.Ots.{candidate_end, ots_candidate, public_text}
-use Rattle.vo_spec.specs.Sha256.{sha256}
-use Rattle.tagged_hash.specs.Holding.{Holds}
 use Rattle.lm_ots.proofs.Forms.{length_by_form}
 use Rattle.lm_ots.proofs.Pieces.{public_text_more}
 use Rattle.lm_ots.proofs.candidates.candidate.Goals as goal

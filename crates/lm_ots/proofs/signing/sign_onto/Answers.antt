@@ -15,7 +15,7 @@ loop-i-preserved c =
     let front = c.args.bytes.items ++ u32_bytes (ots_code_of c.args.ots) ++ randomizer c.args.id.now c.args.q c.args.seed.now in
     let values = signed_value c.args.id.now c.args.q c.args.ots c.args.seed.now c.digits_of-digits.result in
     rw (c.in_ok-extend_from_slice.ensures.items, c.as_bytes.ensures.value, c.signed_value.ensures, c.loop-i.invariant)
-        (joined_on front values c.loop-i.i)
+    (joined_on front values c.loop-i.i)
 
 pub returns : goal.returns
 unfolding ots_signature
@@ -27,4 +27,4 @@ returns c =
     let all : c.loop-i.i ≡ count_of c.args.ots = omega arith in
     let made = rw (all, c.digits_of-digits.ensures, c.secret-random.ensures) at c.loop-i.invariant in
     rw (made, append_assoc (c.args.bytes.items ++ code) random values, append_assoc c.args.bytes.items code (random ++ values))
-        (ap (λ rest. c.args.bytes.items ++ rest) (sym (append_assoc code random values)))
+    (ap (λ rest. c.args.bytes.items ++ rest) (sym (append_assoc code random values)))

@@ -8,4 +8,4 @@ use Rattle.lm_ots.proofs.signing.sign_onto.Given as goal
 abbrev pub invariant-loop-i : goal.invariant-loop-i
 invariant-loop-i l = l.signed.items
     ≡ l.fn.bytes.items ++ u32_bytes (ots_code_of l.ots) ++ randomizer l.id l.q l.seed
-        ++ joined (signed_value l.id l.q l.ots l.seed l.digits) l.i
+    ++ joined (signed_value l.id l.q l.ots l.seed l.digits) l.i

@@ -1,7 +1,6 @@
-use Rattle.std.proofs.Common.{◌≡◌, ◌+◌, ◌*◌, ◌%◌, ◌^◌, ◌<◌, ◌≤◌, refl, sym, ◌∙◌, arith}
-use Rattle.vo_spec.specs.LmsSets.{leaves_of}
+use Rattle.std.proofs.Common.{refl, arith}
 use Rattle.vo_spec.specs.Lms.{lms_candidate}
-use Rattle.lms_sign.proofs.Forms.{HasForm, has_form}
+use Rattle.lms_sign.proofs.Forms.{has_form}
 use Rattle.lms_sign.proofs.Keys.{leaves_fit_32, leaves_few}
 use Rattle.lms_sign.proofs.verifying.candidate_root.Goals as goal
 
@@ -23,5 +22,12 @@ root_above-requires c = (has_form c.args.lms c.args.ots c.args.signature.now c.r
 pub returns-clause-value : goal.returns-clause-value
 unfolding lms_candidate
 returns-clause-value c =
-    rw (c.root_above.ensures, c.leaf_node-leaf.ensures, c.in-Some.ensures.value, c.ots_part.ensures, c.u32_at-q.ensures,
-        c.height.ensures, leaves_fit_32 c.args.lms) refl
+    rw (
+      c.root_above.ensures,
+      c.leaf_node-leaf.ensures,
+      c.in-Some.ensures.value,
+      c.ots_part.ensures,
+      c.u32_at-q.ensures,
+      c.height.ensures,
+      leaves_fit_32 c.args.lms,
+    ) refl

@@ -5,6 +5,6 @@ use Rattle.lms_sign.proofs.verifying.verify.Goals as goal
 pub returns : goal.returns
 returns c =
     rw (← c.key.view_is)
-        (c.is_valid_under.ensures
-            ∙ sym (lms_valid-public_bytes c.key.inside.lms c.key.inside.ots c.key.inside.id c.key.inside.root
-                c.args.message.now c.args.signature.now c.key.invariant))
+    (c.is_valid_under.ensures
+    ∙ sym (lms_valid-public_bytes c.key.inside.lms c.key.inside.ots c.key.inside.id c.key.inside.root
+    c.args.message.now c.args.signature.now c.key.invariant))

@@ -5,4 +5,4 @@ use Rattle.lms_sign.proofs.public_key.PublicKey.id.Goals as goal
 pub returns : goal.returns
 returns c =
     rw (← c.self.view_is)
-        (sym (key_id-public_bytes c.self.inside.lms c.self.inside.ots c.self.inside.id c.self.inside.root c.self.invariant.id_len))
+    (sym (key_id-public_bytes c.self.inside.lms c.self.inside.ots c.self.inside.id c.self.inside.root c.self.invariant.id_len))

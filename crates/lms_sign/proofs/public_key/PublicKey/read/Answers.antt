@@ -1,6 +1,4 @@
-use Rattle.std.proofs.Common.{◌≡◌, length, sym, inl, inr, ◌∙◌, Some}
-use Rattle.vo_spec.specs.LmsSets.{lms_of}
-use Rattle.vo_spec.specs.OtsSets.{ots_of}
+use Rattle.std.proofs.Common.{◌≡◌, sym, inl, inr, ◌∙◌, Some}
 use Rattle.vo_spec.specs.Lms.{IsUnknownSet, key_lms, key_ots}
 use Rattle.lms_sign.proofs.Reading.{public_bytes-read}
 use Rattle.lms_sign.proofs.public_key.PublicKey.read.Goals as goal
@@ -20,10 +18,10 @@ returns-in_default-of-clause-unknown c = (λ e. (c.if-bytes-ne56.false, inr (rw 
 pub returns-clause-ok : goal.returns-clause-ok
 returns-clause-ok c =
     rw (c.id_at.ensures, c.digest_at.ensures)
-        (public_bytes-read c.args.bytes.now c.in-Some.lms c.in-Some-of.ots c.if-bytes-ne56.false
-            (λ i. (c.type_inv.bytes i).fits)
-            (rw (← c.u32_at.ensures) (sym c.of.ensures ∙ c.in-Some.is))
-            (rw (← c.u32_at-2.ensures) (sym c.of-2.ensures ∙ c.in-Some-of.is)))
+    (public_bytes-read c.args.bytes.now c.in-Some.lms c.in-Some-of.ots c.if-bytes-ne56.false
+    (λ i. (c.type_inv.bytes i).fits)
+    (rw (← c.u32_at.ensures) (sym c.of.ensures ∙ c.in-Some.is))
+    (rw (← c.u32_at-2.ensures) (sym c.of-2.ensures ∙ c.in-Some-of.is)))
 
 pub returns-clause-unknown : goal.returns-clause-unknown
 unfolding IsUnknownSet

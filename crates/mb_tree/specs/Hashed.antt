@@ -1,0 +1,16 @@
+-- What the nodes of whole trees keep beside what they are.
+use Rattle.std.specs.Prelude.{◌≡◌, ℕ, List}
+use Rattle.vo_spec.specs.declared.values.Value.{Value}
+use Rattle.vo_spec.specs.Cells.{row_digest, whole_row}
+use Rattle.vo_spec.specs.Trees.{RowTree, digest}
+use Rattle.vo_spec.specs.Fits.{FitsCells, FitsPart}
+
+-- a row's digest
+pub record IsHashed (values : List Value) (digest : List ℕ) : Type 0 where
+  pub fits : FitsCells values
+  pub hashed : digest ≡ row_digest (whole_row values)
+
+-- a node's digest
+pub record IsBranch (hash : List ℕ) (t : RowTree) : Type 0 where
+  pub fits : FitsPart t
+  pub hashed : hash ≡ digest t

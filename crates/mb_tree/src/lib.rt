@@ -1,0 +1,17 @@
+//! Merkle B-trees, whole and in part.
+#![tactic(auto)]
+
+mod branch_digest;
+mod branches;
+mod entries;
+mod hashing;
+mod part_digest;
+mod parts;
+mod rows;
+mod tree;
+
+pub use branches::{Branch, Node};
+pub use entries::{HashedCells, TreeEntry};
+pub use parts::{Nodes, PartTree};
+pub use tree::Tree;
+pub use vo_spec::{Agreement, KeyPart, PartEntry, ScanFault, Twins, UpdateFault};

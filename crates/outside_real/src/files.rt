@@ -1,0 +1,52 @@
+//! The files of the working folder.
+ghost use Rattle.std.specs.Prelude.{None};
+
+use crate::count::raise;
+use outside::{Shelf, TakeFault};
+use std::alloc::Global;
+use std::io::Read;
+use std::rt::Files;
+use std::{fs, io};
+
+#[cfg(test)]
+mod tests;
+
+/// Files by their paths, from the working folder on.
+#[derive(Drop)]
+pub struct FolderFiles<'r, R> {
+    rt: &'r R,
+    faults: u64,
+}
+
+impl<'r, R: Files> FolderFiles<'r, R> {
+    pub fn new(rt: &'r R) -> Self {
+        FolderFiles { rt, faults: 0 }
+    }
+}
+
+impl<R: Files> Shelf for FolderFiles<'_, R> {
+    ghost contents = { λ _. None };
+
+    ghost faults = { λ files. files.faults };
+
+    ghost misses = { λ _. 0 };
+
+    fn take(&mut self, alloc: Global, name: &str, limit: u64) -> Result<Vec<u8>, TakeFault> {
+        match read_front(self.rt, alloc, name, limit.saturating_add(1)) {
+            Ok(bytes) if bytes.len() as u64 <= limit => Ok(bytes),
+            Ok(_) => Err(TakeFault::TooLong),
+            Err(error) if error.kind() == io::ErrorKind::OutOfMemory => Err(TakeFault::Memory),
+            Err(_) => {
+                raise(&mut self.faults);
+                Err(TakeFault::Failed)
+            }
+        }
+    }
+}
+
+/// The first bytes of a file, at most so many.
+fn read_front<R: Files>(rt: &R, alloc: Global, name: &str, most: u64) -> io::Result<Vec<u8>> {
+    let mut bytes = Vec::new(alloc);
+    fs::open(rt, name)?.take(most).read_to_end(&mut bytes)?;
+    Ok(bytes)
+}

@@ -1,0 +1,16 @@
+//! The outside as it is: a folder's files, standard output, TCP and one file that is kept.
+//!
+//! Nothing is known of what they hold, so each says only that a call fails where its count of faults
+//! rose. That a file keeps what a sync put down is the system's word.
+#![tactic(auto)]
+
+mod count;
+mod files;
+mod journal_file;
+mod output;
+mod tcp;
+
+pub use files::FolderFiles;
+pub use journal_file::JournalFile;
+pub use output::StandardOutput;
+pub use tcp::Tcp;

@@ -1,0 +1,7 @@
+use Rattle.std.proofs.Common.{◌≡◌, ◌++◌, drop}
+use Rattle.vo_spec.specs.Pruned.{named}
+use Rattle.range_proof.proofs.naming.named.Given as goal
+
+-- with what the needs to come name, these are all
+abbrev pub invariant-loop-need : goal.invariant-loop-need
+invariant-loop-need l = l.columns.items ++ named (drop l.need-index l.needs) l.key ≡ named l.needs l.key

@@ -1,0 +1,8 @@
+use Rattle.std.proofs.Common.{◌≡◌, map, take}
+use Rattle.vo_spec.specs.Cells.{whole_entry}
+use Rattle.vo_spec.specs.Pruned.{shown_entry}
+use Rattle.range_proof.proofs.pruning.prune_entries.Given as goal
+
+-- the entries so far
+abbrev pub invariant-loop-entry : goal.invariant-loop-entry
+invariant-loop-entry l = l.shown.items ≡ map (shown_entry l.needs) (map whole_entry (take l.entry-index l.entries))

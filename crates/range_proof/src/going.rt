@@ -1,0 +1,41 @@
+//! The needs whose scans visit a node.
+ghost use Rattle.std.specs.Prelude.{◌≡◌, map, IfOk};
+ghost use Rattle.std.specs.Option.{option_copied};
+ghost use Rattle.vo_spec.specs.Pruned.{going_in as first_going, going_on as next_going};
+ghost use Rattle.range_proof.specs.Lending.{lent_need};
+
+use crate::intervals::{is_empty_interval, visits};
+use std::alloc::{AllocError, Global};
+use vo_spec::Need;
+
+/// Those whose scans visit the root.
+pub fn going_in<'n>(alloc: Global, needs: &'n [Need]) -> Result<Vec<&'n Need>, AllocError>
+    ensures { IfOk result (λ going. map lent_need going.items ≡ first_going needs.now) }
+{
+    let mut going = Vec::new(alloc);
+    for need in needs {
+        if !is_empty_interval(&need.interval) {
+            going.push(need)?;
+        }
+    }
+    Ok(going)
+}
+
+/// Those of them whose scans go on to the child between these separators.
+pub fn going_on<'n>(
+    alloc: Global,
+    needs: &[&'n Need],
+    lower: Option<&[u8]>,
+    upper: Option<&[u8]>,
+) -> Result<Vec<&'n Need>, AllocError>
+    ensures { IfOk result (λ going. map lent_need going.items
+        ≡ next_going (map lent_need needs.now) (option_copied lower.entry) (option_copied upper.entry)) }
+{
+    let mut going = Vec::new(alloc);
+    for need in needs {
+        if visits(&need.interval, lower, upper) {
+            going.push(*need)?;
+        }
+    }
+    Ok(going)
+}

@@ -1,0 +1,14 @@
+//! Scans of trees for intervals of keys, and the proofs that such scans need.
+#![tactic(auto)]
+
+mod going;
+mod intervals;
+mod judging;
+mod naming;
+mod pruning;
+mod scanning;
+
+pub use judging::is_canonical;
+pub use pruning::prune;
+pub use scanning::scan;
+pub use vo_spec::{Need, SeenRow};

@@ -1,0 +1,68 @@
+//! Which columns of a row the needs name, and whether a part of the row has these and no others.
+ghost use Rattle.std.specs.Prelude.{◌≡◌, IfOk};
+ghost use Rattle.vo_spec.specs.Pruned.{
+  named as named_by,
+  has_column as is_among,
+  hides_any as does_hide,
+  row_beyond as goes_beyond,
+  shows_beyond as does_show,
+};
+
+use crate::intervals::in_interval;
+use crate::scanning::value_in;
+use std::alloc::{AllocError, Global};
+use vo_spec::{Cell, Need, RowPart};
+
+/// The columns that the needs name whose intervals have the key.
+pub fn named(alloc: Global, needs: &[Need], key: &[u8]) -> Result<Vec<u8>, AllocError>
+    ensures { IfOk result (λ columns. columns.items ≡ named_by needs.now key.now) }
+{
+    let mut columns = Vec::new(alloc);
+    for need in needs {
+        if in_interval(&need.interval, key) {
+            columns.extend_from_slice(need.columns.as_slice())?;
+        }
+    }
+    Ok(columns)
+}
+
+/// Whether the row hides one of these columns.
+pub fn hides_any(columns: &[u8], row: &RowPart<'_>) -> bool
+    ensures { result ≡ does_hide columns.now row.now }
+{
+    for column in columns {
+        if value_in(row, *column).is_none() {
+            return true;
+        }
+    }
+    false
+}
+
+/// Whether the row shows a cell of none of these columns, or stands as cells though there are none.
+pub fn row_beyond(columns: &[u8], row: &RowPart<'_>) -> bool
+    ensures { result ≡ goes_beyond columns.now row.now }
+{
+    match row {
+        RowPart::Digest(_) => false,
+        RowPart::Cells(cells) => columns.is_empty() || shows_beyond(columns, cells.as_slice()),
+    }
+}
+
+fn shows_beyond(columns: &[u8], cells: &[Cell<'_>]) -> bool
+    ensures { result ≡ does_show columns.now 0 cells.now }
+{
+    for (column, cell) in cells.iter().enumerate() {
+        if let Cell::Shown(_) = cell {
+            if !has_column(columns, column) {
+                return true;
+            }
+        }
+    }
+    false
+}
+
+fn has_column(columns: &[u8], column: usize) -> bool
+    ensures { result ≡ is_among columns.now column }
+{
+    columns.iter().any(|c| usize::from(*c) == column)
+}

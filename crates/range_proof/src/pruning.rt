@@ -1,0 +1,127 @@
+//! The proof for some needs that a whole tree has.
+ghost use Rattle.std.specs.Prelude.{◌≡◌, map, slice_get, IfOk};
+ghost use Rattle.std.specs.Option.{option_copied};
+ghost use Rattle.vo_spec.specs.Cells.{whole_entry};
+ghost use Rattle.vo_spec.specs.Trees.{row_family, open_parts};
+ghost use Rattle.vo_spec.specs.Pruned.{pruned, pruned_by, pruned_in, walk_for, shown_entry};
+ghost use Rattle.mb_tree.specs.Whole.{value_of};
+ghost use Rattle.mb_tree.specs.View.{part_of};
+ghost use Rattle.range_proof.specs.Lending.{lent_need};
+
+use crate::going::{going_in, going_on};
+use crate::naming::named;
+use attr_digest::hide_cells;
+use mb_tree::{Branch, Node, Nodes, PartTree, Tree, TreeEntry};
+use std::alloc::{AllocError, Global};
+use std::rc::Rc;
+use vo_spec::{Key, KeyPart, List, Need, PartEntry, RowPart};
+
+/// The part of the tree that is the proof for these needs.
+pub fn prune<'b>(alloc: Global, tree: &'b Tree, needs: &[Need]) -> Result<PartTree<'b>, AllocError>
+    ensures { IfOk result (λ part. part_of part ≡ pruned needs.now tree.now) }
+{
+    let going = going_in(alloc, needs)?;
+    prune_branch(alloc, tree.root(), needs, &going)
+}
+
+#[cycle(prune)]
+fn prune_branch<'b>(
+    alloc: Global,
+    branch: &'b Branch,
+    needs: &[Need],
+    going: &[&Need],
+) -> Result<PartTree<'b>, AllocError>
+    ensures { IfOk result (λ part. part_of part
+        ≡ pruned_by (walk_for needs.now) row_family (map lent_need going.now) branch.now) }
+{
+    if going.is_empty() {
+        return Ok(PartTree::Stub(branch.node_digest()));
+    }
+    match branch.node() {
+        Node::Leaf(entries) => Ok(PartTree::Leaf(prune_entries(alloc, entries, needs)?)),
+        Node::Inner {
+            separators,
+            children,
+        } => {
+            let children = prune_children(alloc, separators, children, needs, going)?;
+            let separators = lend_keys(alloc, separators)?;
+            Ok(PartTree::Inner {
+                separators,
+                children,
+            })
+        },
+    }
+}
+
+#[cycle(prune)]
+fn prune_children<'b>(
+    alloc: Global,
+    separators: &'b [Rc<Key>],
+    children: &'b [Branch],
+    needs: &[Need],
+    going: &[&Need],
+) -> Result<Nodes<'b>, AllocError>
+    ensures { IfOk result (λ parts. parts
+        ≡ pruned_in (walk_for needs.now) row_family (map lent_need going.now) None (map value_of separators.now) (open_parts children.now)) }
+{
+    let mut parts = Vec::with_capacity(alloc, children.len())?;
+    let mut lower = None;
+    for (place, child) in children.iter().enumerate() {
+        let upper = separator_at(separators, place);
+        let onward = going_on(alloc, going, lower, upper)?;
+        parts.push(prune_branch(alloc, child, needs, &onward)?)?;
+        lower = upper;
+    }
+    Ok(Nodes::from_vec(parts))
+}
+
+fn separator_at(separators: &[Rc<Key>], place: usize) -> Option<&[u8]>
+    ensures { option_copied result ≡ slice_get (map value_of separators.now) place }
+{
+    match separators.get(place) {
+        Some(separator) => Some(separator.as_ref().as_bytes()),
+        None => None,
+    }
+}
+
+fn lend_keys<'b>(alloc: Global, keys: &'b [Rc<Key>]) -> Result<List<KeyPart<'b>>, AllocError>
+    ensures { IfOk result (λ lent. lent ≡ map value_of keys.now) }
+{
+    let mut lent = Vec::with_capacity(alloc, keys.len())?;
+    for key in keys {
+        lent.push(KeyPart::lent(key.as_ref().as_bytes()))?;
+    }
+    Ok(List::from_vec(lent))
+}
+
+fn prune_entries<'b>(
+    alloc: Global,
+    entries: &'b [TreeEntry],
+    needs: &[Need],
+) -> Result<List<PartEntry<'b>>, AllocError>
+    ensures { IfOk result (λ shown. shown ≡ map (shown_entry needs.now) (map whole_entry entries.now)) }
+{
+    let mut shown = Vec::with_capacity(alloc, entries.len())?;
+    for entry in entries {
+        shown.push(prune_entry(alloc, entry, needs)?)?;
+    }
+    Ok(List::from_vec(shown))
+}
+
+fn prune_entry<'b>(
+    alloc: Global,
+    entry: &'b TreeEntry,
+    needs: &[Need],
+) -> Result<PartEntry<'b>, AllocError>
+    ensures { IfOk result (λ shown. shown ≡ shown_entry needs.now (whole_entry entry.now)) }
+{
+    let key = KeyPart::lent(entry.key().as_bytes());
+    let cells = entry.cells();
+    let columns = named(alloc, needs, entry.key().as_bytes())?;
+    if columns.is_empty() {
+        let row = RowPart::Digest(cells.digest());
+        return Ok(PartEntry { key, row });
+    }
+    let row = RowPart::Cells(hide_cells(alloc, cells.values(), &columns)?);
+    Ok(PartEntry { key, row })
+}

@@ -1,0 +1,67 @@
+//! Taking the columns of a table.
+ghost use Rattle.std.specs.Prelude.{◌≡◌};
+ghost use Rattle.row_bytes.specs.Fields.{Found, FoundOr, kind_at, column_at, count_at, columns_at, times};
+
+use crate::cursor::Cursor;
+use crate::read_fault::ReadFault;
+use std::alloc::Global;
+use vo_spec::{Column, Kind, List, Name};
+
+/// The kind that a byte stands for.
+#[tactic(auto, unfolding(crate::specs::Fields::kind_at))]
+pub fn take_kind(cursor: &mut Cursor<'_>) -> Option<Kind>
+    ensures { Found (λ kind. kind) result cursor.new (kind_at cursor.old) }
+{
+    match cursor.take_byte()? {
+        1 => Some(Kind::Int),
+        2 => Some(Kind::Text),
+        3 => Some(Kind::Bool),
+        _ => None,
+    }
+}
+
+/// How many things of a list come next: 1 to 32.
+#[tactic(auto, unfolding(crate::specs::Fields::count_at))]
+pub fn take_count(cursor: &mut Cursor<'_>) -> Option<u8>
+    ensures { Found (λ count. count) result cursor.new (count_at cursor.old) }
+{
+    let count = cursor.take_byte()?;
+    if 1 <= count && count <= 32 {
+        Some(count)
+    } else {
+        None
+    }
+}
+
+#[tactic(auto, unfolding(crate::specs::Fields::column_at))]
+fn take_column(alloc: Global, cursor: &mut Cursor<'_>) -> Result<Column, ReadFault>
+    ensures { FoundOr (λ column. column) result cursor.new (column_at cursor.old) }
+{
+    let name = cursor.take_name().ok_or(ReadFault::BadForm)?;
+    let kind = take_kind(cursor).ok_or(ReadFault::BadForm)?;
+    let name = Name::from_vec(Vec::from_slice(alloc, name)?);
+    Ok(Column { name, kind })
+}
+
+/// A list of 1 to 32 columns.
+#[tactic(auto, unfolding(crate::specs::Fields::columns_at))]
+pub fn take_columns(alloc: Global, cursor: &mut Cursor<'_>) -> Result<List<Column>, ReadFault>
+    ensures { FoundOr (λ columns. columns) result cursor.new (columns_at cursor.old) }
+{
+    let count = take_count(cursor).ok_or(ReadFault::BadForm)?;
+    let columns = take_each(alloc, cursor, count)?;
+    Ok(List::from_vec(columns))
+}
+
+fn take_each(alloc: Global, cursor: &mut Cursor<'_>, count: u8) -> Result<Vec<Column>, ReadFault>
+    ensures { FoundOr (λ columns. columns.items) result cursor.new (times column_at count cursor.old) }
+{
+    let mut columns = Vec::new(alloc);
+    for _ in 0..count {
+        match take_column(alloc, cursor) {
+            Ok(column) => columns.push(column)?,
+            Err(fault) => return Err(fault),
+        }
+    }
+    Ok(columns)
+}

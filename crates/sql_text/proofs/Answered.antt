@@ -1,0 +1,94 @@
+-- What the parser found in the tokens of a text answers for the text.
+use Rattle.std.proofs.Common.{◌≡◌, ℕ, zero, suc, min, arith, ◌≤◌, Bool, true, false, List, [], ◌∷◌, ◌++◌, length, drop, map, Result, Ok, Err, refl, sym, ap, ◌∙◌, subst, ◌⊎◌}
+use Rattle.std.specs.List.{AllByRecursion}
+use Rattle.grammar.specs.Rule.{Rule}
+use Rattle.grammar.specs.Text.{IsText, FaultsAt, Judges}
+use Rattle.grammar.specs.Checks.{is_good}
+use Rattle.grammar.specs.Reading.{Found, read, reader, at_end, parse}
+use Rattle.grammar.specs.declared.Stop.{Stop}
+use Rattle.grammar.specs.declared.Stop.TheVariants as stop
+use Rattle.grammar.proofs.Judged.{judged, parsed}
+use Rattle.sql_tokens.specs.declared.lexemes.Lapse.{Lapse}
+use Rattle.sql_tokens.specs.declared.lexemes.Lexeme.{Lexeme}
+use Rattle.sql_tokens.specs.Lex.{Token, Placed, tokens_of, token_of, placed_of}
+use Rattle.sql_text.specs.declared.faults.SqlFault.{SqlFault}
+use Rattle.sql_text.specs.declared.faults.SqlFault.TheVariants as fault
+use Rattle.sql_text.specs.declared.halt.Halt.{Halt}
+use Rattle.sql_text.specs.declared.halt.Halt.TheVariants.{Memory, Fault}
+use Rattle.sql_text.specs.Tokens.{sql, IsToken}
+use Rattle.sql_text.specs.Parsing.{Finds}
+use Rattle.sql_text.specs.Queries.{conditions_of}
+use Rattle.sql_text.specs.Texts.{unplaced, IsTextOf, place_of, Breaks, HasFault, Answers, Accepts, ended}
+use Rattle.sql_text.proofs.Good.{is_sql}
+
+pub unplaced_is : (list : List Lexeme) → unplaced (map placed_of list) ≡ map token_of list
+unplaced_is [] = refl
+unplaced_is (x ∷ list) = ap (λ z. token_of x ∷ z) (unplaced_is list)
+
+-- one value or fault of the tokens is no other
+same_ok : {A E : Type 0} (x y : A) (r : Result A E) → r ≡ Ok x → r ≡ Ok y → x ≡ y
+same_ok x y r e f = let g : Ok x ≡ Ok y = sym e ∙ f in cc
+
+ok_is_no_err : {T A : Type 0} (v : A) (s : Stop) (left : List T) (r : Found T A) → r ≡ (Err s, left) → r ≡ (Ok v, []) → ⊥
+ok_is_no_err v s left r e f = let g : (Err s, left) ≡ (Ok v, []) = sym e ∙ f in let h : Err s ≡ Ok v = ap (λ z. z.0) g in cc
+
+same_value : {T A : Type 0} (u v : A) (r : Found T A) → r ≡ (Ok u, []) → r ≡ (Ok v, []) → u ≡ v
+same_value u v r e f = let g : (Ok u, []) ≡ (Ok v, []) = sym e ∙ f in let h : Ok u ≡ Ok v = ap (λ z. z.0) g in cc
+
+module _ {A B : Type 0} (view : B → A) (start : Rule sql A) (good : is_good conditions_of start ≡ true) (most : ℕ) (text : List ℕ) (ps : List Placed) (n : ℕ)
+    (fits : length text ≤ most) (scanned : tokens_of text ≡ Ok ps) (real : AllByRecursion IsToken (unplaced ps)) where
+  answer_judged : (r : Found Token A) → read (reader conditions_of 32) start (unplaced ps) ≡ r → Judges conditions_of 32 start (unplaced ps) (at_end r).0 (at_end r).1
+  answer_judged r e =
+      subst (λ z. Judges conditions_of 32 start (unplaced ps) (at_end z).0 (at_end z).1) e (judged sql is_sql conditions_of start good 32 (unplaced ps) real)
+
+  breaks : (s : Stop) → FaultsAt conditions_of 32 start (unplaced ps) s (unplaced (drop n ps)) → Breaks start text s (place_of (drop n ps) (length text))
+  breaks s j = (ps, scanned, n, refl, j)
+
+  -- with tokens left behind a value the first of them is the fault
+  ended_ok : (x : B) (left : List Placed) → drop n ps ≡ left → read (reader conditions_of 32) start (unplaced ps) ≡ (Ok (view x), unplaced left) → Answers view most start text (ended (Ok x) left (length text))
+  ended_ok x [] e h = (fits, ps, scanned, answer_judged _ h)
+  ended_ok x (p ∷ left) e h = (
+    fits,
+    subst (λ z. Breaks start text stop.Syntax (place_of z (length text))) e
+        (breaks stop.Syntax (subst (λ z. FaultsAt conditions_of 32 start (unplaced ps) stop.Syntax (unplaced z)) (sym e) (answer_judged _ h))),
+  )
+
+  ended_fault : (s : Stop) (left : List Placed) → drop n ps ≡ left → read (reader conditions_of 32) start (unplaced ps) ≡ (Err s, unplaced left)
+      → Answers view most start text (ended {B = B} (Err (Fault s)) left (length text))
+  ended_fault stop.Syntax left e h = (fits, subst (λ z. Breaks start text stop.Syntax (place_of z (length text))) e (breaks stop.Syntax (subst (λ z. FaultsAt conditions_of 32 start (unplaced ps) stop.Syntax (unplaced z)) (sym e) (answer_judged _ h))))
+  ended_fault stop.Nesting left e h = (fits, _, breaks stop.Nesting (subst (λ z. FaultsAt conditions_of 32 start (unplaced ps) stop.Nesting (unplaced z)) (sym e) (answer_judged _ h)))
+  ended_fault stop.TooMany left e h = (fits, _, breaks stop.TooMany (subst (λ z. FaultsAt conditions_of 32 start (unplaced ps) stop.TooMany (unplaced z)) (sym e) (answer_judged _ h)))
+
+  pub answers : (found : Result B Halt) (left : List Placed) → drop n ps ≡ left → Finds view (read (reader conditions_of 32) start (unplaced ps)) found (unplaced left)
+      → Answers view most start text (ended found left (length text))
+  answers (Ok x) left e h = ended_ok x left e h
+  answers (Err Memory) left e h = tt
+  answers (Err (Fault s)) left e h = ended_fault s left e h
+
+  parses : (v : A) → IsTextOf most start text v → at_end (read (reader conditions_of 32) start (unplaced ps)) ≡ (Ok v, [])
+  parses v (_, others, f, s) =
+      parsed sql is_sql conditions_of start good 32 (unplaced ps) v (subst (λ z. IsText conditions_of true 32 start (unplaced z) v) (same_ok others ps (tokens_of text) f scanned) s)
+
+  accepts_ok : (x : B) (left : List Placed) (v : A) → at_end (Ok (view x), unplaced left) ≡ (Ok v, []) → Accepts view (ended (Ok x) left (length text)) v
+  accepts_ok x [] v e = same_value (view x) v _ refl e
+  accepts_ok x (p ∷ left) v e = ok_is_no_err v stop.Syntax (unplaced (p ∷ left)) _ refl e
+
+  accepts_fault : (s : Stop) (left : List Placed) (v : A) → at_end {A = A} (Err s, unplaced left) ≡ (Ok v, []) → Accepts view (ended {B = B} (Err (Fault s)) left (length text)) v
+  accepts_fault s left v e = absurd (ok_is_no_err v s (unplaced left) _ refl e)
+
+  pub accepts : (found : Result B Halt) (left : List Placed) → Finds view (read (reader conditions_of 32) start (unplaced ps)) found (unplaced left)
+      → (v : A) → IsTextOf most start text v → Accepts view (ended found left (length text)) v
+  accepts (Ok x) left h v t = accepts_ok x left v (ap at_end (sym h) ∙ parses v t)
+  accepts (Err Memory) left h v t = tt
+  accepts (Err (Fault s)) left h v t = accepts_fault s left v (ap at_end (sym h) ∙ parses v t)
+
+-- past its end a list has nothing
+pub drop_all : {X : Type 0} (n : ℕ) (xs : List X) → drop (min n (length xs)) xs ≡ drop n xs
+drop_all zero xs = let e : min 0 (length xs) ≡ 0 = omega arith in ap (λ z. drop z xs) e
+drop_all (suc n) [] = let e : min (suc n) 0 ≡ 0 = omega arith in ap (λ z. drop z []) e
+drop_all (suc n) (x ∷ xs) = let e : min (suc n) (suc (length xs)) ≡ suc (min n (length xs)) = omega arith in ap (λ z. drop z (x ∷ xs)) e ∙ drop_all n xs
+
+pub drop_placed : (n : ℕ) (list : List Lexeme) → drop n (map placed_of list) ≡ map placed_of (drop n list)
+drop_placed zero list = refl
+drop_placed (suc n) [] = refl
+drop_placed (suc n) (x ∷ list) = drop_placed n list

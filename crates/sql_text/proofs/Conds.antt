@@ -1,0 +1,117 @@
+-- Reading a condition's parts, in the words of what each step found.
+use Rattle.std.proofs.Common.{◌≡◌, ℕ, zero, suc, ◌+◌, ◌<◌, Bool, true, false, List, [], ◌∷◌, ◌++◌, Option, Some, None, Result, Ok, Err, refl, sym, ap, ◌∙◌, subst, add-one}
+use Rattle.std.proofs.lemmas.List.{append-nil}
+use Rattle.grammar.specs.Rule.{Rule}
+use Rattle.grammar.specs.Reading.{Found, begins, taken, and_then, read, reader}
+use Rattle.grammar.specs.declared.Stop.{Stop}
+use Rattle.grammar.specs.declared.Stop.TheVariants.{Syntax, Nesting, TooMany}
+use Rattle.sql_tokens.specs.declared.kinds.TokenKind.{TokenKind}
+use Rattle.sql_tokens.specs.declared.kinds.TokenKind.TheVariants as k
+use Rattle.sql_tokens.specs.Kinds.{same_kind}
+use Rattle.sql_tokens.proofs.KindLemmas.{same_kind_true, same_kind_self}
+use Rattle.std.specs.Prelude.{◌||◌}
+use Rattle.sql_tokens.specs.Lex.{Token, token_of}
+use Rattle.std.specs.Prelude.{Box}
+use Rattle.std.specs.Global.{Global}
+use Rattle.vo_spec.specs.declared.queries.Cond
+use Rattle.vo_spec.specs.declared.queries.Cond.{Cond, fold-roll-Cond}
+use Rattle.vo_spec.specs.Conditions.{Condition, negated, condition_of}
+use Rattle.sql_text.specs.declared.halt.Halt.{Halt}
+use Rattle.sql_text.specs.declared.halt.Halt.TheVariants.{Memory, Fault}
+use Rattle.sql_text.specs.Parsing.{Finds}
+use Rattle.sql_tokens.specs.declared.lexemes.Lexeme.{Lexeme}
+use Rattle.sql_text.specs.Tokens.{sql, Nested, whole, primary}
+use Rattle.sql_text.specs.Rules.{before, closed, listed}
+use Rattle.sql_text.specs.Queries.{name, test, prim, conj, disj, all_of, any_of, conditions_of}
+
+or_false : (a : Bool) → (a || false) ≡ true → a ≡ true
+or_false true e = refl
+or_false false e = e
+
+-- with no level left, the token that opens one is the fault
+too_deep : (kind : TokenKind) (n : Nested) (left : List Token) → begins sql (kind ∷ []) left ≡ true
+    → and_then (taken sql kind left) (reader conditions_of 0 n) ≡ (Err Nesting, left)
+too_deep kind n [] e = absurd (cc)
+too_deep kind n (t ∷ ts) e =
+    let same : kind ≡ t.kind = same_kind_true kind t.kind (or_false (same_kind kind t.kind) e) in
+    let f : same_kind t.kind kind ≡ true = subst (λ z. same_kind t.kind z ≡ true) (sym same) (same_kind_self t.kind) in
+    rw f refl
+
+-- a level deeper, the rule of what stands there is read
+opened : (kind : TokenKind) (n : Nested) (left : List Token) (levels m : ℕ) (t : Token) (mid : List Token) → m + 1 ≡ levels → taken sql kind left ≡ (Ok t, mid)
+    → and_then (taken sql kind left) (reader conditions_of levels n) ≡ read (reader conditions_of m) (conditions_of.rule n) mid
+opened kind n left levels m t mid e f = subst (λ z. and_then (taken sql kind left) (reader conditions_of z n) ≡ read (reader conditions_of m) (conditions_of.rule n) mid) (sym (add-one m) ∙ e) (rw f refl)
+
+-- a fault that comes of another, or the end of memory
+pub passed_on : {A B C D : Type 0} (view : B → A) (other : D → C) (found : Found Token A) (next : Found Token C) (halt : Halt) (left : List Token)
+    → ((s : Stop) → found ≡ (Err s, left) → next ≡ (Err s, left)) → Finds view found (Err halt) left → Finds other next (Err halt) left
+passed_on view other found next Memory left f h = tt
+passed_on view other found next (Fault s) left f h = f s h
+
+module _ (levels : ℕ) (left : List Token) where
+  pub not_deep : begins sql (k.Not ∷ []) left ≡ true → levels ≡ 0 → read (reader conditions_of levels) prim left ≡ (Err Nesting, left)
+  unfolding prim
+  not_deep b f = subst (λ z. read (reader conditions_of z) prim left ≡ (Err Nesting, left)) (sym f) (rw (b, too_deep k.Not primary left b) refl)
+
+  module _ (m : ℕ) (t : Token) (mid : List Token) (fewer : m + 1 ≡ levels) where
+    pub not_done : (v : Condition) (rest : List Token) → begins sql (k.Not ∷ []) left ≡ true
+        → taken sql k.Not left ≡ (Ok t, mid) → read (reader conditions_of m) prim mid ≡ (Ok v, rest) → read (reader conditions_of levels) prim left ≡ (Ok (negated v), rest)
+    unfolding prim conditions_of
+    not_done v rest b f h = rw (b, opened k.Not primary left levels m t mid fewer f, h) refl
+
+    not_fault : (s : Stop) (rest : List Token) → begins sql (k.Not ∷ []) left ≡ true
+        → taken sql k.Not left ≡ (Ok t, mid) → read (reader conditions_of m) prim mid ≡ (Err s, rest) → read (reader conditions_of levels) prim left ≡ (Err s, rest)
+    unfolding prim conditions_of
+    not_fault s rest b f h = rw (b, opened k.Not primary left levels m t mid fewer f, h) refl
+
+    pub not_fails : (halt : Halt) (rest : List Token) → begins sql (k.Not ∷ []) left ≡ true → taken sql k.Not left ≡ (Ok t, mid)
+        → Finds {B = Cond} condition_of (read (reader conditions_of m) prim mid) (Err halt) rest → Finds {B = Cond} condition_of (read (reader conditions_of levels) prim left) (Err halt) rest
+    not_fails halt rest b f h = passed_on condition_of condition_of (read (reader conditions_of m) prim mid) _ halt rest (λ s e. not_fault s rest b f e) h
+
+    pub paren_done : (v : Condition) (rest : List Token) (u : Token) (end : List Token) → begins sql (k.Not ∷ []) left ≡ false → begins sql (k.LeftParen ∷ []) left ≡ true
+        → taken sql k.LeftParen left ≡ (Ok t, mid) → read (reader conditions_of m) disj mid ≡ (Ok v, rest) → taken sql k.RightParen rest ≡ (Ok u, end)
+        → read (reader conditions_of levels) prim left ≡ (Ok v, end)
+    unfolding prim conditions_of closed
+    paren_done v rest u end a b f h i = rw (a, b, opened k.LeftParen whole left levels m t mid fewer f, h, i) refl
+
+    paren_left_open : (v : Condition) (rest : List Token) (s : Stop) (end : List Token) → begins sql (k.Not ∷ []) left ≡ false → begins sql (k.LeftParen ∷ []) left ≡ true
+        → taken sql k.LeftParen left ≡ (Ok t, mid) → read (reader conditions_of m) disj mid ≡ (Ok v, rest) → taken sql k.RightParen rest ≡ (Err s, end)
+        → read (reader conditions_of levels) prim left ≡ (Err s, end)
+    unfolding prim conditions_of closed
+    paren_left_open v rest s end a b f h i = rw (a, b, opened k.LeftParen whole left levels m t mid fewer f, h, i) refl
+
+    pub paren_open : (v : Condition) (rest : List Token) (halt : Halt) (end : List Token) → begins sql (k.Not ∷ []) left ≡ false → begins sql (k.LeftParen ∷ []) left ≡ true
+        → taken sql k.LeftParen left ≡ (Ok t, mid) → read (reader conditions_of m) disj mid ≡ (Ok v, rest) → Finds {B = Lexeme} token_of (taken sql k.RightParen rest) (Err halt) end
+        → Finds {B = Cond} condition_of (read (reader conditions_of levels) prim left) (Err halt) end
+    paren_open v rest halt end a b f h i = passed_on token_of condition_of (taken sql k.RightParen rest) _ halt end (λ s e. paren_left_open v rest s end a b f h e) i
+
+    paren_fault : (s : Stop) (rest : List Token) → begins sql (k.Not ∷ []) left ≡ false → begins sql (k.LeftParen ∷ []) left ≡ true
+        → taken sql k.LeftParen left ≡ (Ok t, mid) → read (reader conditions_of m) disj mid ≡ (Err s, rest) → read (reader conditions_of levels) prim left ≡ (Err s, rest)
+    unfolding prim conditions_of closed
+    paren_fault s rest a b f h = rw (a, b, opened k.LeftParen whole left levels m t mid fewer f, h) refl
+
+    pub paren_fails : (halt : Halt) (rest : List Token) → begins sql (k.Not ∷ []) left ≡ false → begins sql (k.LeftParen ∷ []) left ≡ true → taken sql k.LeftParen left ≡ (Ok t, mid)
+        → Finds {B = Cond} condition_of (read (reader conditions_of m) disj mid) (Err halt) rest → Finds {B = Cond} condition_of (read (reader conditions_of levels) prim left) (Err halt) rest
+    paren_fails halt rest a b f h = passed_on condition_of condition_of (read (reader conditions_of m) disj mid) _ halt rest (λ s e. paren_fault s rest a b f e) h
+
+  pub paren_deep : begins sql (k.Not ∷ []) left ≡ false → begins sql (k.LeftParen ∷ []) left ≡ true → levels ≡ 0 → read (reader conditions_of levels) prim left ≡ (Err Nesting, left)
+  unfolding prim closed
+  paren_deep a b f = subst (λ z. read (reader conditions_of z) prim left ≡ (Err Nesting, left)) (sym f) (rw (a, b, too_deep k.LeftParen whole left b) refl)
+
+  pub test_is : begins sql (k.Not ∷ []) left ≡ false → begins sql (k.LeftParen ∷ []) left ≡ false → read (reader conditions_of levels) prim left ≡ read (reader conditions_of levels) test left
+  unfolding prim closed
+  test_is a b = rw (a, b) refl
+
+pub ruleset prims = (not_deep, not_done, not_fails, paren_done, paren_open, paren_fails, paren_deep, test_is)
+
+pub conj_is : (levels : ℕ) (left : List Token) → read (reader conditions_of levels) conj left ≡ and_then (read (reader conditions_of levels) (listed None k.And prim) left) (λ vs end. (Ok (all_of vs), end))
+unfolding conj
+conj_is levels left = refl
+
+pub disj_is : (levels : ℕ) (left : List Token) → read (reader conditions_of levels) disj left ≡ and_then (read (reader conditions_of levels) (listed None k.Or conj) left) (λ vs end. (Ok (any_of vs), end))
+unfolding disj
+disj_is levels left = refl
+
+-- a condition is seen part by part
+pub not_is : (part : Box Cond Global) → condition_of (Cond.TheVariants.Not part) ≡ negated (condition_of part.value)
+not_is part = ap condition_of (sym (Cond.TheVariants.rolls-Not part)) ∙ search fold-roll-Cond

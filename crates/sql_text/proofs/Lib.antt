@@ -1,0 +1,6 @@
+pub mod Firsts
+pub mod Rounds
+pub mod Conds
+pub mod Repeats
+pub mod Good
+pub mod Answered

@@ -1,0 +1,131 @@
+use Rattle.std.proofs.Common.{◌≡◌, sym, ap, ◌∙◌, rules, arith, map, length, subst, None, [], refl, Ok, Err}
+use Rattle.grammar.specs.Reading.{and_then}
+use Rattle.sql_tokens.specs.declared.kinds.TokenKind.TheVariants as k
+use Rattle.sql_tokens.specs.Lex.{token_of}
+use Rattle.vo_spec.specs.Conditions.{condition_of, negated}
+use Rattle.sql_text.specs.Parsing.{left_of}
+use Rattle.sql_text.specs.Queries.{prim, conj, all_of, any_of}
+use Rattle.sql_text.proofs.Rounds.{turn, turn_fails, begun, begun_fails, stopped, fewer}
+use Rattle.sql_text.proofs.Conds.{not_done, not_fails, paren_done, paren_open, paren_fails, conj_is, disj_is, not_is}
+use Rattle.sql_text.proofs.parser.Parser.+cond.Goals as goal
+
+pub prim-returns-in_err-part-clause-value : goal.prim-returns-in_err-part-clause-value
+prim-returns-in_err-part-clause-value t c =
+    let f = not_fails c.args.self.now.levels (left_of c.args.self.now) c.open.new.self.levels (token_of c.in_ok-open.field-0) (left_of c.open.new.self) c.in_ok-open.ensures.levels
+    c.in_err-part.field-0.0 (left_of c.prim.new.self) (sym c.sees.ensures ∙ c.if-sees.true) c.in_ok-open.ensures.opened c.in_err-part.ensures.value in
+    search rules
+
+pub prim-returns-in_ok-new-clause-value : goal.prim-returns-in_ok-new-clause-value
+prim-returns-in_ok-new-clause-value t c =
+    not_done c.args.self.now.levels (left_of c.args.self.now) c.open.new.self.levels (token_of c.in_ok-open.field-0) (left_of c.open.new.self) c.in_ok-open.ensures.levels
+    (condition_of c.in_ok-part.part) (left_of c.prim.new.self) (sym c.sees.ensures ∙ c.if-sees.true) c.in_ok-open.ensures.opened c.in_ok-part.ensures.value
+    ∙ ap (λ z. (Ok z, left_of c.prim.new.self)) (sym (not_is c.in_ok-new.field-0 ∙ ap (λ z. negated (condition_of z)) c.in_ok-new.ensures.ok))
+
+pub prim-returns-in_err-whole-clause-value : goal.prim-returns-in_err-whole-clause-value
+prim-returns-in_err-whole-clause-value t c =
+    let f = paren_fails c.args.self.now.levels (left_of c.args.self.now) c.open-then-sees-2.new.self.levels (token_of c.in_ok-open-2.field-0) (left_of c.open-then-sees-2.new.self) c.in_ok-open-2.ensures.levels
+    c.in_err-whole.field-0.0 (left_of c.disj.new.self) (sym c.sees.ensures ∙ c.if-sees.false) (sym c.sees-else-sees.ensures ∙ c.if-sees-2.true) c.in_ok-open-2.ensures.opened c.in_err-whole.ensures.value in
+    search rules
+
+pub prim-returns-in_err-want-clause-value : goal.prim-returns-in_err-want-clause-value
+prim-returns-in_err-want-clause-value t c =
+    let f = paren_open c.args.self.now.levels (left_of c.args.self.now) c.open-then-sees-2.new.self.levels (token_of c.in_ok-open-2.field-0) (left_of c.open-then-sees-2.new.self) c.in_ok-open-2.ensures.levels
+    (condition_of c.in_ok-whole.whole) (left_of c.disj.new.self) c.in_err-want.field-0.0 (left_of c.want.new.self)
+    (sym c.sees.ensures ∙ c.if-sees.false) (sym c.sees-else-sees.ensures ∙ c.if-sees-2.true) c.in_ok-open-2.ensures.opened c.in_ok-whole.ensures.value c.in_err-want.ensures.value in
+    search rules
+
+pub prim-returns-in_ok-want-clause-value : goal.prim-returns-in_ok-want-clause-value
+prim-returns-in_ok-want-clause-value t c =
+    paren_done c.args.self.now.levels (left_of c.args.self.now) c.open-then-sees-2.new.self.levels (token_of c.in_ok-open-2.field-0) (left_of c.open-then-sees-2.new.self) c.in_ok-open-2.ensures.levels
+    (condition_of c.in_ok-whole.whole) (left_of c.disj.new.self) (token_of c.in_ok-want.field-0) (left_of c.want.new.self)
+    (sym c.sees.ensures ∙ c.if-sees.false) (sym c.sees-else-sees.ensures ∙ c.if-sees-2.true) c.in_ok-open-2.ensures.opened c.in_ok-whole.ensures.value c.in_ok-want.ensures.value
+
+pub conj-returns-in_err-prim-clause-value : goal.conj-returns-in_err-prim-clause-value
+conj-returns-in_err-prim-clause-value t c =
+    let f = begun_fails condition_of None k.And prim condition_of c.args.self.now.levels (left_of c.args.self.now) (left_of c.prim.new.self) c.in_err-prim.field-0.0 _
+    (λ z. and_then z (λ vs end. (Ok (all_of vs), end))) (λ s. refl) (conj_is c.args.self.now.levels (left_of c.args.self.now)) c.in_err-prim.ensures.value in
+    search rules
+
+pub conj-loop-alloc-smaller : goal.conj-loop-alloc-smaller
+conj-loop-alloc-smaller t c =
+    fewer prim k.And c.take.new.self.levels (left_of c.loop-alloc.self) (token_of c.take.result) (left_of c.take.new.self) (condition_of c.in_ok-prim-2.field-0) (left_of c.prim-in-loop-alloc.new.self)
+    c.take.ensures.value c.in_ok-prim-2.ensures.value
+
+pub conj-loop-alloc-preserved : goal.conj-loop-alloc-preserved
+conj-loop-alloc-preserved t c = (
+  c.in_ok-prim-2.ensures.list ∙ c.take.ensures.list ∙ c.loop-alloc.invariant.0,
+  c.in_ok-prim-2.ensures.levels ∙ c.take.ensures.levels ∙ c.loop-alloc.invariant.1,
+  search rules,
+  turn condition_of None k.And prim c.loop-alloc.self.levels c.take.new.self.levels c.prim-in-loop-alloc.new.self.levels c.loop-alloc.parts.items c.push-in-loop-alloc.new.self.items
+      c.in_ok-prim-2.field-0 (left_of c.loop-alloc.self) (token_of c.take.result) (left_of c.take.new.self) (left_of c.prim-in-loop-alloc.new.self)
+      c.take.ensures.levels c.in_ok-prim-2.ensures.levels refl (sym c.sees.ensures ∙ c.loop-alloc-test.true) c.take.ensures.value c.in_ok-prim-2.ensures.value c.in_ok-push-2.ensures.items
+      ∙ c.loop-alloc.invariant.3,
+)
+
+pub conj-returns-in_err-prim-2-clause-value : goal.conj-returns-in_err-prim-2-clause-value
+conj-returns-in_err-prim-2-clause-value t c =
+    let f = turn_fails condition_of None k.And prim condition_of c.loop-alloc.self.levels c.take.new.self.levels c.loop-alloc.parts.items (left_of c.loop-alloc.self) (token_of c.take.result)
+    (left_of c.take.new.self) (left_of c.prim-in-loop-alloc.new.self) c.in_err-prim-2.field-0.0 _ (λ z. and_then z (λ vs end. (Ok (all_of vs), end))) (λ s. refl)
+    c.take.ensures.levels refl (sym c.sees.ensures ∙ c.loop-alloc-test.true) c.take.ensures.value
+    (conj_is c.args.self.now.levels (left_of c.args.self.now)
+    ∙ ap (λ z. and_then z (λ vs end. (Ok (all_of vs), end)))
+    (begun condition_of None k.And prim c.args.self.now.levels c.prim.new.self.levels (left_of c.args.self.now) (left_of c.prim.new.self) c.in_ok-prim.field-0 c.new-parts.result.items c.push.new.self.items
+    c.in_ok-prim.ensures.levels c.in_ok-prim.ensures.value c.new-parts.ensures.items c.in_ok-push.ensures.items
+    ∙ sym c.loop-alloc.invariant.3))
+    c.in_err-prim-2.ensures.value in
+    search rules
+
+pub conj-returns-clause-value : goal.conj-returns-clause-value
+conj-returns-clause-value t c =
+    conj_is c.args.self.now.levels (left_of c.args.self.now)
+    ∙ ap (λ z. and_then z (λ vs end. (Ok (all_of vs), end)))
+    (begun condition_of None k.And prim c.args.self.now.levels c.prim.new.self.levels (left_of c.args.self.now) (left_of c.prim.new.self) c.in_ok-prim.field-0 c.new-parts.result.items c.push.new.self.items
+    c.in_ok-prim.ensures.levels c.in_ok-prim.ensures.value c.new-parts.ensures.items c.in_ok-push.ensures.items
+    ∙ sym c.loop-alloc.invariant.3
+    ∙ stopped condition_of None k.And prim c.loop-alloc.self.levels c.loop-alloc.parts.items (left_of c.loop-alloc.self) (sym c.sees.ensures ∙ c.loop-alloc-test.false))
+    ∙ ap (λ z. (Ok z, left_of c.loop-alloc.self)) (sym c.all_of.ensures)
+
+pub disj-returns-in_err-conj-clause-value : goal.disj-returns-in_err-conj-clause-value
+disj-returns-in_err-conj-clause-value t c =
+    let f = begun_fails condition_of None k.Or conj condition_of c.args.self.now.levels (left_of c.args.self.now) (left_of c.conj.new.self) c.in_err-conj.field-0.0 _
+    (λ z. and_then z (λ vs end. (Ok (any_of vs), end))) (λ s. refl) (disj_is c.args.self.now.levels (left_of c.args.self.now)) c.in_err-conj.ensures.value in
+    search rules
+
+pub disj-loop-alloc-smaller : goal.disj-loop-alloc-smaller
+disj-loop-alloc-smaller t c =
+    fewer conj k.Or c.take.new.self.levels (left_of c.loop-alloc.self) (token_of c.take.result) (left_of c.take.new.self) (condition_of c.in_ok-conj-2.field-0) (left_of c.conj-in-loop-alloc.new.self)
+    c.take.ensures.value c.in_ok-conj-2.ensures.value
+
+pub disj-loop-alloc-preserved : goal.disj-loop-alloc-preserved
+disj-loop-alloc-preserved t c = (
+  c.in_ok-conj-2.ensures.list ∙ c.take.ensures.list ∙ c.loop-alloc.invariant.0,
+  c.in_ok-conj-2.ensures.levels ∙ c.take.ensures.levels ∙ c.loop-alloc.invariant.1,
+  search rules,
+  turn condition_of None k.Or conj c.loop-alloc.self.levels c.take.new.self.levels c.conj-in-loop-alloc.new.self.levels c.loop-alloc.parts.items c.push-in-loop-alloc.new.self.items
+      c.in_ok-conj-2.field-0 (left_of c.loop-alloc.self) (token_of c.take.result) (left_of c.take.new.self) (left_of c.conj-in-loop-alloc.new.self)
+      c.take.ensures.levels c.in_ok-conj-2.ensures.levels refl (sym c.sees.ensures ∙ c.loop-alloc-test.true) c.take.ensures.value c.in_ok-conj-2.ensures.value c.in_ok-push-2.ensures.items
+      ∙ c.loop-alloc.invariant.3,
+)
+
+pub disj-returns-in_err-conj-2-clause-value : goal.disj-returns-in_err-conj-2-clause-value
+disj-returns-in_err-conj-2-clause-value t c =
+    let f = turn_fails condition_of None k.Or conj condition_of c.loop-alloc.self.levels c.take.new.self.levels c.loop-alloc.parts.items (left_of c.loop-alloc.self) (token_of c.take.result)
+    (left_of c.take.new.self) (left_of c.conj-in-loop-alloc.new.self) c.in_err-conj-2.field-0.0 _ (λ z. and_then z (λ vs end. (Ok (any_of vs), end))) (λ s. refl)
+    c.take.ensures.levels refl (sym c.sees.ensures ∙ c.loop-alloc-test.true) c.take.ensures.value
+    (disj_is c.args.self.now.levels (left_of c.args.self.now)
+    ∙ ap (λ z. and_then z (λ vs end. (Ok (any_of vs), end)))
+    (begun condition_of None k.Or conj c.args.self.now.levels c.conj.new.self.levels (left_of c.args.self.now) (left_of c.conj.new.self) c.in_ok-conj.field-0 c.new-parts.result.items c.push.new.self.items
+    c.in_ok-conj.ensures.levels c.in_ok-conj.ensures.value c.new-parts.ensures.items c.in_ok-push.ensures.items
+    ∙ sym c.loop-alloc.invariant.3))
+    c.in_err-conj-2.ensures.value in
+    search rules
+
+pub disj-returns-clause-value : goal.disj-returns-clause-value
+disj-returns-clause-value t c =
+    disj_is c.args.self.now.levels (left_of c.args.self.now)
+    ∙ ap (λ z. and_then z (λ vs end. (Ok (any_of vs), end)))
+    (begun condition_of None k.Or conj c.args.self.now.levels c.conj.new.self.levels (left_of c.args.self.now) (left_of c.conj.new.self) c.in_ok-conj.field-0 c.new-parts.result.items c.push.new.self.items
+    c.in_ok-conj.ensures.levels c.in_ok-conj.ensures.value c.new-parts.ensures.items c.in_ok-push.ensures.items
+    ∙ sym c.loop-alloc.invariant.3
+    ∙ stopped condition_of None k.Or conj c.loop-alloc.self.levels c.loop-alloc.parts.items (left_of c.loop-alloc.self) (sym c.sees.ensures ∙ c.loop-alloc-test.false))
+    ∙ ap (λ z. (Ok z, left_of c.loop-alloc.self)) (sym c.any_of.ensures)

@@ -1,0 +1,68 @@
+-- The grammar of commands, batches and scripts.
+use Rattle.std.specs.Prelude.{ℕ, List, [], ◌∷◌, Option, Some, None}
+use Rattle.grammar.specs.Rule.{Rule, nothing, token, both, either, many, means}
+use Rattle.sql_tokens.specs.declared.kinds.TokenKind.{TokenKind}
+use Rattle.sql_tokens.specs.declared.kinds.TokenKind.TheVariants as k
+use Rattle.vo_spec.specs.declared.values.Kind.{Kind}
+use Rattle.vo_spec.specs.declared.values.Kind.TheVariants as kind_of
+use Rattle.vo_spec.specs.declared.tables.Column.{Column}
+use Rattle.vo_spec.specs.declared.tables.SetPart.{SetPart}
+use Rattle.vo_spec.specs.declared.tables.Command.{Command}
+use Rattle.vo_spec.specs.declared.tables.Command.TheVariants as command_of
+use Rattle.vo_spec.specs.declared.tables.Batch.{Batch}
+use Rattle.sql_text.specs.Tokens.{sql}
+use Rattle.sql_text.specs.Rules.{before, closed, in_parens, optional, listed, ended}
+use Rattle.sql_text.specs.Queries.{name, literal}
+
+-- BIGINT | TEXT | BOOLEAN
+unfoldable pub column_kind : Rule sql Kind
+column_kind =
+    either (means (λ t. kind_of.Int) (token k.Bigint))
+    (either (means (λ t. kind_of.Text) (token k.Text)) (means (λ t. kind_of.Bool) (token k.Boolean)))
+
+-- name kind [ NOT NULL ]; the mark changes nothing
+unfoldable pub column : Rule sql Column
+column = means (λ x. record { name = x.0; kind = x.1.0 }) (both name (both column_kind (optional (both (token k.Not) (token k.Null)))))
+
+-- CREATE TABLE name ( column { , column } , PRIMARY KEY ( name ) ), at most 32 columns
+unfoldable pub create : Rule sql Command
+create =
+    means (λ x. command_of.Create x.0 x.1.0 x.1.1)
+    (before k.Create (before k.Table (both name (in_parens (both (ended (Some 31) column k.Comma) (before k.Primary (before k.Key (in_parens name))))))))
+
+-- DROP TABLE name
+unfoldable pub drop_table : Rule sql Command
+drop_table = means command_of.Drop (before k.Drop (before k.Table name))
+
+-- INSERT INTO name VALUES ( literal { , literal } ), at most 32
+unfoldable pub insert : Rule sql Command
+insert =
+    means (λ x. command_of.Insert x.0 x.1)
+    (before k.Insert (before k.Into (both name (before k.Values (in_parens (listed (Some 31) k.Comma literal))))))
+
+-- name = literal
+unfoldable pub set_part : Rule sql SetPart
+set_part = means (λ x. record { column = x.0; value = x.1 }) (both name (before k.Equal literal))
+
+-- UPDATE name SET part { , part } WHERE name = literal, at most 32 parts
+unfoldable pub update : Rule sql Command
+update =
+    means (λ x. command_of.Update x.0 x.1.0 x.1.1.column x.1.1.value)
+    (before k.Update (both name (both (before k.Set (listed (Some 31) k.Comma set_part)) (before k.Where set_part))))
+
+-- DELETE FROM name WHERE name = literal
+unfoldable pub delete : Rule sql Command
+delete =
+    means (λ x. command_of.Delete x.0 x.1.column x.1.value)
+    (before k.Delete (before k.From (both name (before k.Where set_part))))
+
+unfoldable pub command : Rule sql Command
+command = either create (either drop_table (either insert (either update delete)))
+
+-- command ; { command ; }, at most 1,000
+unfoldable pub batch : Rule sql Batch
+batch = means (λ commands. record { commands = commands }) (ended (Some 999) command k.Semicolon)
+
+-- { batch COMMIT ; }
+unfoldable pub script : Rule sql (List Batch)
+script = many None (closed (closed batch k.Commit) k.Semicolon)

@@ -1,0 +1,7 @@
+pub mod Tokens
+pub mod Rules
+pub mod Queries
+pub mod Commands
+pub mod Parsing
+pub mod Texts
+pub mod Faults

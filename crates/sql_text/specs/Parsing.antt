@@ -1,0 +1,24 @@
+-- What a method of the parser does: it reads a rule from the tokens that are left.
+use Rattle.std.specs.Prelude.{◌≡◌, ℕ, List, drop, map, Result, Ok, Err}
+use Rattle.grammar.specs.Rule.{Rule}
+use Rattle.grammar.specs.Reading.{Found, read, reader}
+use Rattle.sql_tokens.specs.Lex.{Token, token_of}
+use Rattle.sql_text.specs.declared.parser.Parser.{Parser}
+use Rattle.sql_text.specs.declared.halt.Halt.{Halt}
+use Rattle.sql_text.specs.declared.halt.Halt.TheVariants.{Memory, Fault}
+use Rattle.sql_text.specs.Tokens.{sql}
+use Rattle.sql_text.specs.Queries.{conditions_of}
+
+-- the tokens that are left
+abbrev pub left_of : Parser → List Token
+left_of p = map token_of (drop p.place p.list.now)
+
+-- the value or the fault is what was found, and what is left is left; memory may end
+abbrev pub Finds : {A B : Type 0} → (B → A) → Found Token A → Result B Halt → List Token → Type 0
+Finds view found (Ok x) left = found ≡ (Ok (view x), left)
+Finds view found (Err Memory) left = Unit {0}
+Finds view found (Err (Fault stop)) left = found ≡ (Err stop, left)
+
+-- the method reads this rule with the levels that are left
+abbrev pub Reads : {A B : Type 0} → (B → A) → Rule sql A → Parser → Result B Halt → Parser → Type 0
+Reads view rule old result new = Finds view (read (reader conditions_of old.levels) rule (left_of old)) result (left_of new)

@@ -1,0 +1,118 @@
+-- The grammar of queries. Each rule is a line of it, and `means` says what value its text has.
+use Rattle.std.specs.Prelude.{ℕ, Bool, true, false, List, [], ◌∷◌, Option, Some, None}
+use Rattle.std.specs.Str.{str_to_ascii_lowercase}
+use Rattle.grammar.specs.Rule.{Rule, Grammar, nothing, token, both, either, many, means, inside}
+use Rattle.sql_tokens.specs.declared.kinds.TokenKind.{TokenKind}
+use Rattle.sql_tokens.specs.declared.kinds.TokenKind.TheVariants as k
+use Rattle.sql_tokens.specs.Lex.{Token, unquoted}
+use Rattle.vo_spec.specs.declared.values.Value.{Value}
+use Rattle.vo_spec.specs.declared.values.Value.TheVariants as value
+use Rattle.vo_spec.specs.declared.queries.Ref.{Ref}
+use Rattle.vo_spec.specs.declared.queries.Source.{Source}
+use Rattle.vo_spec.specs.declared.queries.Join.{Join}
+use Rattle.vo_spec.specs.declared.queries.Items.{Items}
+use Rattle.vo_spec.specs.declared.queries.Items.TheVariants as items_of
+use Rattle.vo_spec.specs.declared.queries.Cmp.{Cmp}
+use Rattle.vo_spec.specs.declared.queries.Cmp.TheVariants as cmp
+use Rattle.vo_spec.specs.declared.queries.Operand.{Operand}
+use Rattle.vo_spec.specs.declared.queries.Operand.TheVariants as operand_of
+use Rattle.vo_spec.specs.Conditions.{Condition, conditions, every, some, negated, Query}
+use Rattle.vo_spec.specs.Conditions
+use Rattle.sql_text.specs.Tokens.{sql, Nested, whole, primary}
+use Rattle.sql_text.specs.Rules.{before, closed, in_parens, optional, listed}
+
+-- a name: its letters small
+unfoldable pub name : Rule sql (List ℕ)
+name = means (λ t. str_to_ascii_lowercase t.text) (token k.Name)
+
+-- integer | string | TRUE | FALSE
+unfoldable pub literal : Rule sql Value
+literal =
+    either (means (λ t. value.Int t.number) (token k.Integer))
+    (either (means (λ t. value.Text (unquoted t.text)) (token k.Quoted))
+    (either (means (λ t. value.Bool true) (token k.True)) (means (λ t. value.Bool false) (token k.False))))
+
+-- the column of a name alone, or of a qualifier and a name
+abbrev pub ref_of : List ℕ → Option (List ℕ) → Ref
+ref_of column None = record { qualifier = None; column = column }
+ref_of qualifier (Some column) = record { qualifier = Some qualifier; column = column }
+
+-- name [ . name ]
+unfoldable pub reference : Rule sql Ref
+reference = means (λ x. ref_of x.0 x.1) (both name (optional (before k.Dot name)))
+
+-- a source without an alias has its table's name for one
+abbrev pub source_of : List ℕ → Option (List ℕ) → Source
+source_of table None = record { table = table; alias = table }
+source_of table (Some alias) = record { table = table; alias = alias }
+
+-- name [ [AS] name ]
+unfoldable pub source : Rule sql Source
+source = means (λ x. source_of x.0 x.1) (both name (optional (either (before k.As name) name)))
+
+-- = | <> | < | <= | > | >=
+unfoldable pub operator : Rule sql Cmp
+operator =
+    either (means (λ t. cmp.Eq) (token k.Equal))
+    (either (means (λ t. cmp.Ne) (token k.NotEqual))
+    (either (means (λ t. cmp.Lt) (token k.Less))
+    (either (means (λ t. cmp.Le) (token k.LessEqual))
+    (either (means (λ t. cmp.Gt) (token k.Greater)) (means (λ t. cmp.Ge) (token k.GreaterEqual))))))
+
+-- ref | literal
+unfoldable pub operand : Rule sql Operand
+operand = either (means operand_of.Ref reference) (means operand_of.Literal literal)
+
+-- ref op ( ref | literal )
+unfoldable pub test : Rule sql Condition
+test = means (λ x. Conditions.test x.0 x.1.0 x.1.1) (both reference (both operator operand))
+
+-- NOT prim | ( cond ) | test
+unfoldable pub prim : Rule sql Condition
+prim = either (means negated (inside k.Not primary)) (either (closed (inside k.LeftParen whole) k.RightParen) test)
+
+-- one part is itself
+abbrev pub all_of : List Condition → Condition
+all_of (c ∷ []) = c
+all_of parts = every (conditions parts)
+
+abbrev pub any_of : List Condition → Condition
+any_of (c ∷ []) = c
+any_of parts = some (conditions parts)
+
+-- prim { AND prim }
+unfoldable pub conj : Rule sql Condition
+conj = means all_of (listed None k.And prim)
+
+-- conj { OR conj }
+unfoldable pub disj : Rule sql Condition
+disj = means any_of (listed None k.Or conj)
+
+-- what stands in a condition, and what may follow it: the rest of a reference at its end, or a further part
+unfoldable pub conditions_of : Grammar sql
+conditions_of = record { rule = rule; after = after }
+  where
+    rule : Nested → Rule sql Condition
+    rule whole = disj
+    rule primary = prim
+
+    after : Nested → List TokenKind
+    after whole = k.Dot ∷ k.And ∷ k.Or ∷ []
+    after primary = k.Dot ∷ []
+
+-- * | ref { , ref }, at most 64
+unfoldable pub items : Rule sql Items
+items = either (means (λ t. items_of.All) (token k.Star)) (means items_of.Refs (listed (Some 63) k.Comma reference))
+
+-- [INNER] JOIN source ON ref = ref
+unfoldable pub join : Rule sql Join
+join =
+    means (λ x. record { right = x.1.0; left_ref = x.1.1.0; right_ref = x.1.1.1 })
+    (both (optional (token k.Inner)) (before k.Join (both source (before k.On (both reference (before k.Equal reference))))))
+
+-- SELECT items FROM source [ join ] [ WHERE cond ] [;]
+unfoldable pub query : Rule sql Query
+query =
+    means (λ x. record { items = x.0; left = x.1.0; join = x.1.1.0; condition = x.1.1.1.0 })
+    (both (before k.Select items) (both (before k.From source)
+    (both (optional join) (both (optional (before k.Where disj)) (optional (token k.Semicolon))))))

@@ -1,0 +1,68 @@
+-- Whole texts: what they are, and which fault comes first.
+use Rattle.std.specs.Prelude.{◌≡◌, ℕ, ◌≤◌, ◌<◌, Bool, true, List, [], ◌∷◌, length, drop, map, Result, Ok, Err}
+use Rattle.grammar.specs.Rule.{Rule}
+use Rattle.grammar.specs.Text.{IsText, FaultsAt}
+use Rattle.grammar.specs.declared.Stop.{Stop}
+use Rattle.grammar.specs.declared.Stop.TheVariants as stop
+use Rattle.sql_tokens.specs.declared.lexemes.Lapse.TheVariants as lapse
+use Rattle.sql_tokens.specs.Lex.{Token, Placed, tokens_of}
+use Rattle.sql_text.specs.declared.faults.SqlFault.{SqlFault}
+use Rattle.sql_text.specs.declared.faults.SqlFault.TheVariants as fault
+use Rattle.sql_text.specs.declared.halt.Halt.{Halt}
+use Rattle.sql_text.specs.declared.halt.Halt.TheVariants.{Memory, Fault}
+use Rattle.sql_text.specs.Tokens.{sql}
+use Rattle.sql_text.specs.Queries.{conditions_of}
+
+-- conditions nest in at most so many levels
+abbrev pub most_levels : ℕ
+most_levels = 32
+
+abbrev pub unplaced : List Placed → List Token
+unplaced ps = map (λ p. p.token) ps
+
+-- a text of at most so many bytes that the rule derives, and its value
+abbrev pub IsTextOf : {A : Type 0} → ℕ → Rule sql A → List ℕ → A → Type 0
+IsTextOf most start text v =
+    (length text ≤ most) × (ps : List Placed) × (tokens_of text ≡ Ok ps) × IsText conditions_of true most_levels start (unplaced ps) v
+
+-- the place of the first of these tokens, or the text's end
+abbrev pub place_of : List Placed → ℕ → ℕ
+place_of [] end = end
+place_of (p ∷ _) end = p.at
+
+-- the text's tokens have this fault, at this place
+abbrev pub Breaks : {A : Type 0} → Rule sql A → List ℕ → Stop → ℕ → Type 0
+Breaks start text s at =
+    (ps : List Placed) × (tokens_of text ≡ Ok ps)
+    × (n : ℕ) × (at ≡ place_of (drop n ps) (length text)) × FaultsAt conditions_of most_levels start (unplaced ps) s (unplaced (drop n ps))
+
+-- when each fault comes: the length first, then the first token that is none, then the first token that the rule can't go on with
+abbrev pub HasFault : {A : Type 0} → ℕ → Rule sql A → List ℕ → SqlFault → Type 0
+HasFault most start text fault.TooLong = most < length text
+HasFault most start text (fault.Token at) = (length text ≤ most) × (tokens_of text ≡ Err (lapse.Token, at))
+HasFault most start text (fault.Literal at) = (length text ≤ most) × (tokens_of text ≡ Err (lapse.Literal, at))
+HasFault most start text fault.Name = (length text ≤ most) × (at : ℕ) × (tokens_of text ≡ Err (lapse.Name, at))
+HasFault most start text (fault.Syntax at) = (length text ≤ most) × Breaks start text stop.Syntax at
+HasFault most start text fault.Nesting = (length text ≤ most) × (at : ℕ) × Breaks start text stop.Nesting at
+HasFault most start text fault.TooMany = (length text ≤ most) × (at : ℕ) × Breaks start text stop.TooMany at
+HasFault most start text fault.Memory = Unit {0}
+
+-- the text's value or its first fault
+abbrev pub Answers : {A B : Type 0} → (B → A) → ℕ → Rule sql A → List ℕ → Result B SqlFault → Type 0
+Answers view most start text (Ok x) = IsTextOf most start text (view x)
+Answers view most start text (Err fault) = HasFault most start text fault
+
+-- this value, unless memory ends
+abbrev pub Accepts : {A B : Type 0} → (B → A) → Result B SqlFault → A → Type 0
+Accepts view (Ok x) v = view x ≡ v
+Accepts view (Err fault.Memory) v = Unit {0}
+Accepts view (Err _) v = ⊥
+
+-- the answer by what the parser found, and the tokens that it left
+abbrev pub ended : {B : Type 0} → Result B Halt → List Placed → ℕ → Result B SqlFault
+ended (Ok x) [] end = Ok x
+ended (Ok x) (p ∷ _) end = Err (fault.Syntax p.at)
+ended (Err Memory) left end = Err fault.Memory
+ended (Err (Fault stop.Syntax)) left end = Err (fault.Syntax (place_of left end))
+ended (Err (Fault stop.Nesting)) left end = Err fault.Nesting
+ended (Err (Fault stop.TooMany)) left end = Err fault.TooMany

@@ -1,0 +1,125 @@
+//! Conditions, by recursive descent. A level is one NOT or one opening parenthesis.
+ghost use Rattle.std.specs.Prelude.{◌≡◌, ◌+◌, ◌<◌, [], ◌∷◌, true, map, OnOk, OnErr, IfOk, Ok, Err, length};
+ghost use Rattle.vo_spec.specs.Conditions.{condition_of};
+ghost use Rattle.grammar.specs.Reading.{begins, taken};
+ghost use Rattle.sql_tokens.specs.Lex.{token_of};
+ghost use Rattle.sql_text.specs.Tokens.{sql};
+ghost use Rattle.sql_text.specs.Parsing.{left_of, Reads};
+ghost use Rattle.sql_text.specs.Queries.{test, prim, conj, disj, all_of, any_of};
+
+use crate::halt::Halt;
+use crate::parser::Parser;
+use grammar::Stop;
+use sql_tokens::{Lexeme, TokenKind};
+use std::alloc::Global;
+use vo_spec::{Cond, List};
+
+/// One part is itself.
+fn all_of(mut parts: Vec<Cond>) -> Cond
+    requires { 0 < length parts.items }
+    ensures { condition_of result ≡ all_of (map condition_of parts.items) }
+{
+    if parts.len() == 1
+        && let Some(part) = parts.pop()
+    {
+        return part;
+    }
+    Cond::All(List::from_vec(parts))
+}
+
+/// One part is itself.
+fn any_of(mut parts: Vec<Cond>) -> Cond
+    requires { 0 < length parts.items }
+    ensures { condition_of result ≡ any_of (map condition_of parts.items) }
+{
+    if parts.len() == 1
+        && let Some(part) = parts.pop()
+    {
+        return part;
+    }
+    Cond::Any(List::from_vec(parts))
+}
+
+impl<'a> Parser<'a> {
+    #[tactic(auto, unfolding(crate::specs::Queries::test))]
+    fn test(&mut self, alloc: Global) -> Result<Cond, Halt>
+        ensures value { Reads condition_of test self.old result self.new }
+        ensures levels { self.new.levels ≡ self.old.levels }
+        ensures list { self.new.list.now ≡ self.old.list.now }
+    {
+        let left = self.reference(alloc)?;
+        let op = self.operator()?;
+        let right = self.operand(alloc)?;
+        Ok(Cond::Test { left, op, right })
+    }
+
+    /// The token that opens a level, which is next.
+    fn open(&mut self, kind: TokenKind) -> Result<Lexeme<'a>, Halt>
+        requires { begins sql (kind ∷ []) (left_of self.old) ≡ true }
+        ensures opened { IfOk result (λ x. taken sql kind (left_of self.old) ≡ (Ok (token_of x), left_of self.new)) }
+        ensures levels { OnOk result (self.new.levels + 1 ≡ self.old.levels) }
+        ensures deep { OnErr result ((result ≡ Err (Halt.Fault Stop.Nesting)) × (self.old.levels ≡ 0) × (left_of self.new ≡ left_of self.old)) }
+        ensures list { self.new.list.now ≡ self.old.list.now }
+    {
+        if self.levels == 0 {
+            return Err(Halt::Fault(Stop::Nesting));
+        }
+        self.levels -= 1;
+        Ok(self.take(kind))
+    }
+
+    #[cycle(cond)]
+    #[tactic(auto, using(crate::proofs::Conds::prims))]
+    fn prim(&mut self, alloc: Global) -> Result<Cond, Halt>
+        ensures value { Reads condition_of prim self.old result self.new }
+        ensures levels { OnOk result (self.new.levels ≡ self.old.levels) }
+        ensures list { self.new.list.now ≡ self.old.list.now }
+    {
+        if self.sees(TokenKind::Not) {
+            let levels = self.levels;
+            self.open(TokenKind::Not)?;
+            let part = self.prim(alloc)?;
+            self.levels = levels;
+            Ok(Cond::Not(Box::new(alloc, part)?))
+        } else if self.sees(TokenKind::LeftParen) {
+            let levels = self.levels;
+            self.open(TokenKind::LeftParen)?;
+            let whole = self.disj(alloc)?;
+            self.levels = levels;
+            self.want(TokenKind::RightParen)?;
+            Ok(whole)
+        } else {
+            self.test(alloc)
+        }
+    }
+
+    #[cycle(cond)]
+    fn conj(&mut self, alloc: Global) -> Result<Cond, Halt>
+        ensures value { Reads condition_of conj self.old result self.new }
+        ensures levels { OnOk result (self.new.levels ≡ self.old.levels) }
+        ensures list { self.new.list.now ≡ self.old.list.now }
+    {
+        let mut parts = Vec::new(alloc);
+        parts.push(self.prim(alloc)?)?;
+        while self.sees(TokenKind::And) {
+            self.take(TokenKind::And);
+            parts.push(self.prim(alloc)?)?;
+        }
+        Ok(all_of(parts))
+    }
+
+    #[cycle(cond)]
+    pub fn disj(&mut self, alloc: Global) -> Result<Cond, Halt>
+        ensures value { Reads condition_of disj self.old result self.new }
+        ensures levels { OnOk result (self.new.levels ≡ self.old.levels) }
+        ensures list { self.new.list.now ≡ self.old.list.now }
+    {
+        let mut parts = Vec::new(alloc);
+        parts.push(self.conj(alloc)?)?;
+        while self.sees(TokenKind::Or) {
+            self.take(TokenKind::Or);
+            parts.push(self.conj(alloc)?)?;
+        }
+        Ok(any_of(parts))
+    }
+}

@@ -1,0 +1,13 @@
+//! SQL texts: read by their grammar, and printed.
+#![tactic(auto)]
+
+mod conditions;
+mod faults;
+mod halt;
+mod names;
+mod parser;
+mod queries;
+mod texts;
+
+pub use faults::SqlFault;
+pub use texts::{TEXT_MAX, parse_query};

@@ -1,0 +1,195 @@
+//! Names, literals, references and sources.
+ghost use Rattle.std.specs.Prelude.{◌≡◌, OnOk, IfOk, false, List, Some, Vec};
+ghost use Rattle.std.specs.Str.{str_to_ascii_lowercase};
+ghost use Rattle.sql_tokens.specs.Lex.{unquoted, single_quotes};
+ghost use Rattle.sql_text.specs.Parsing.{Reads};
+ghost use Rattle.std.specs.Global.{Global};
+ghost use Rattle.sql_tokens.specs.declared.kinds.TokenKind.TheVariants as k;
+ghost use Rattle.vo_spec.specs.declared.queries.Ref.{Ref};
+ghost use Rattle.sql_text.specs.Rules.{before, listed};
+ghost use Rattle.sql_text.specs.Queries.{name, literal, reference, source, operator, operand, ref_of, source_of};
+
+use crate::halt::Halt;
+use crate::parser::Parser;
+use grammar::Stop;
+use sql_tokens::TokenKind;
+use std::alloc::{AllocError, Global};
+use vo_spec::{Cmp, Name, Operand, Ref, Source, Text, Value};
+
+/// The most items that a query shows.
+const ITEMS_MAX: usize = 64;
+
+/// A word in small letters.
+fn folded(alloc: Global, word: &[u8]) -> Result<Vec<u8>, AllocError>
+    ensures { IfOk result (λ v. v.items ≡ str_to_ascii_lowercase word.now) }
+{
+    word.iter()
+        .map(|byte| byte.to_ascii_lowercase())
+        .collect(alloc)
+}
+
+/// What stands between quotes, one quote for two.
+fn single_quotes(alloc: Global, text: &[u8]) -> Result<Vec<u8>, AllocError>
+    ensures { IfOk result (λ v. v.items ≡ single_quotes false text.now) }
+{
+    let mut bytes = Vec::with_capacity(alloc, text.len())?;
+    let mut is_second = false;
+    for byte in text {
+        if is_second && *byte == b'\'' {
+            is_second = false;
+        } else {
+            bytes.push(*byte)?;
+            is_second = *byte == b'\'';
+        }
+    }
+    Ok(bytes)
+}
+
+/// What a text in its quotes stands for.
+fn unquoted(alloc: Global, text: &[u8]) -> Result<Text, AllocError>
+    ensures { IfOk result (λ t. t ≡ unquoted text.now) }
+{
+    if text.len() < 2 {
+        return Ok(Text::from_vec(Vec::new(alloc)));
+    }
+    Ok(Text::from_vec(single_quotes(alloc, &text[1..text.len() - 1])?))
+}
+
+impl<'a> Parser<'a> {
+    #[tactic(auto, unfolding(crate::specs::Queries::name))]
+    pub fn name(&mut self, alloc: Global) -> Result<Name, Halt>
+        ensures value { Reads (λ x. x) name self.old result self.new }
+        ensures levels { self.new.levels ≡ self.old.levels }
+        ensures list { self.new.list.now ≡ self.old.list.now }
+    {
+        let token = self.want(TokenKind::Name)?;
+        Ok(Name::from_vec(folded(alloc, token.text)?))
+    }
+
+    #[tactic(auto, unfolding(crate::specs::Queries::literal))]
+    pub fn literal(&mut self, alloc: Global) -> Result<Value, Halt>
+        ensures value { Reads (λ x. x) literal self.old result self.new }
+        ensures levels { self.new.levels ≡ self.old.levels }
+        ensures list { self.new.list.now ≡ self.old.list.now }
+    {
+        if self.sees(TokenKind::Integer) {
+            Ok(Value::Int(self.take(TokenKind::Integer).number))
+        } else if self.sees(TokenKind::Quoted) {
+            let token = self.take(TokenKind::Quoted);
+            Ok(Value::Text(unquoted(alloc, token.text)?))
+        } else if self.sees(TokenKind::True) {
+            self.take(TokenKind::True);
+            Ok(Value::Bool(true))
+        } else {
+            self.want(TokenKind::False)?;
+            Ok(Value::Bool(false))
+        }
+    }
+
+    #[tactic(auto, unfolding(crate::specs::Queries::reference, crate::specs::Rules::optional, crate::specs::Rules::before))]
+    pub fn reference(&mut self, alloc: Global) -> Result<Ref, Halt>
+        ensures value { Reads (λ x. x) reference self.old result self.new }
+        ensures levels { self.new.levels ≡ self.old.levels }
+        ensures list { self.new.list.now ≡ self.old.list.now }
+    {
+        let name = self.name(alloc)?;
+        if !self.sees(TokenKind::Dot) {
+            return Ok(Ref {
+                qualifier: None,
+                column: name,
+            });
+        }
+        self.take(TokenKind::Dot);
+        let column = self.name(alloc)?;
+        Ok(Ref {
+            qualifier: Some(name),
+            column,
+        })
+    }
+
+    #[tactic(auto, unfolding(crate::specs::Queries::operator))]
+    pub fn operator(&mut self) -> Result<Cmp, Halt>
+        ensures value { Reads (λ x. x) operator self.old result self.new }
+        ensures levels { self.new.levels ≡ self.old.levels }
+        ensures list { self.new.list.now ≡ self.old.list.now }
+    {
+        if self.sees(TokenKind::Equal) {
+            self.take(TokenKind::Equal);
+            Ok(Cmp::Eq)
+        } else if self.sees(TokenKind::NotEqual) {
+            self.take(TokenKind::NotEqual);
+            Ok(Cmp::Ne)
+        } else if self.sees(TokenKind::Less) {
+            self.take(TokenKind::Less);
+            Ok(Cmp::Lt)
+        } else if self.sees(TokenKind::LessEqual) {
+            self.take(TokenKind::LessEqual);
+            Ok(Cmp::Le)
+        } else if self.sees(TokenKind::Greater) {
+            self.take(TokenKind::Greater);
+            Ok(Cmp::Gt)
+        } else {
+            self.want(TokenKind::GreaterEqual)?;
+            Ok(Cmp::Ge)
+        }
+    }
+
+    #[tactic(auto, unfolding(crate::specs::Queries::operand), using(crate::proofs::Firsts::first_reference))]
+    pub fn operand(&mut self, alloc: Global) -> Result<Operand, Halt>
+        ensures value { Reads (λ x. x) operand self.old result self.new }
+        ensures levels { self.new.levels ≡ self.old.levels }
+        ensures list { self.new.list.now ≡ self.old.list.now }
+    {
+        if self.sees(TokenKind::Name) {
+            Ok(Operand::Ref(self.reference(alloc)?))
+        } else {
+            Ok(Operand::Literal(self.literal(alloc)?))
+        }
+    }
+
+    #[tactic(auto, unfolding(crate::specs::Queries::source, crate::specs::Rules::optional, crate::specs::Rules::before), using(crate::proofs::Firsts::first_name, crate::proofs::Firsts::first_alias))]
+    pub fn source(&mut self, alloc: Global) -> Result<Source, Halt>
+        ensures value { Reads (λ x. x) source self.old result self.new }
+        ensures levels { self.new.levels ≡ self.old.levels }
+        ensures list { self.new.list.now ≡ self.old.list.now }
+    {
+        let table = self.name(alloc)?;
+        let alias = if self.sees(TokenKind::As) {
+            self.take(TokenKind::As);
+            self.name(alloc)?
+        } else if self.sees(TokenKind::Name) {
+            self.name(alloc)?
+        } else {
+            Name::from_vec(Vec::from_slice(alloc, table.as_bytes())?)
+        };
+        Ok(Source { table, alias })
+    }
+
+    /// A comma, and a reference.
+    #[tactic(auto, unfolding(crate::specs::Rules::before))]
+    fn next_reference(&mut self, alloc: Global) -> Result<Ref, Halt>
+        ensures value { Reads (λ x. x) (before k.Comma reference) self.old result self.new }
+        ensures levels { self.new.levels ≡ self.old.levels }
+        ensures list { self.new.list.now ≡ self.old.list.now }
+    {
+        self.want(TokenKind::Comma)?;
+        self.reference(alloc)
+    }
+
+    /// References, at most 64.
+    pub fn references(&mut self, alloc: Global) -> Result<Vec<Ref>, Halt>
+        ensures value { Reads (λ (v : Vec Ref Global). v.items) (listed (Some 63) k.Comma reference) self.old result self.new }
+        ensures levels { self.new.levels ≡ self.old.levels }
+        ensures list { self.new.list.now ≡ self.old.list.now }
+    {
+        let mut list = Vec::new(alloc);
+        list.push(self.reference(alloc)?)?;
+        'parts: while self.sees(TokenKind::Comma) {
+            if list.len() == ITEMS_MAX {
+                return Err(Halt::Fault(Stop::TooMany));
+            }
+            list.push(self.next_reference(alloc)?)?;
+        }
+        Ok(list)
+    }
+}

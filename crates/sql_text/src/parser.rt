@@ -1,0 +1,57 @@
+//! A parser over a list of tokens, one token ahead.
+ghost use Rattle.std.specs.Prelude.{◌≡◌, ◌+◌, ◌<◌, [], ◌∷◌, true, Ok, Err, OnOk};
+
+use crate::halt::Halt;
+use grammar::Stop;
+use sql_tokens::{Lexeme, TokenKind};
+
+/// The tokens, the place of the next one, and how many levels of conditions may still be opened.
+#[derive(Drop)]
+pub struct Parser<'a> {
+    pub list: &'a [Lexeme<'a>],
+    pub place: usize,
+    pub levels: usize,
+}
+
+impl<'a> Parser<'a> {
+    ghost use Rattle.grammar.specs.Rule.{token};
+    ghost use Rattle.grammar.specs.Reading.{begins, taken};
+    ghost use Rattle.sql_tokens.specs.Lex.{token_of};
+    ghost use Rattle.sql_text.specs.Tokens.{sql};
+    ghost use Rattle.sql_text.specs.Parsing.{left_of, Reads};
+
+    /// Whether the next token is of this kind.
+    pub fn sees(&self, kind: TokenKind) -> bool
+        ensures { result ≡ begins sql (kind ∷ []) (left_of self.now) }
+    {
+        match self.list.get(self.place) {
+            Some(next) => next.kind.is(kind),
+            None => false,
+        }
+    }
+
+    /// The next token, which is of this kind.
+    pub fn take(&mut self, kind: TokenKind) -> Lexeme<'a>
+        requires { begins sql (kind ∷ []) (left_of self.old) ≡ true }
+        ensures value { taken sql kind (left_of self.old) ≡ (Ok (token_of result), left_of self.new) }
+        ensures levels { self.new.levels ≡ self.old.levels }
+        ensures list { self.new.list.now ≡ self.old.list.now }
+    {
+        let next = self.list[self.place];
+        self.place += 1;
+        next
+    }
+
+    /// The next token, if it is of this kind.
+    pub fn want(&mut self, kind: TokenKind) -> Result<Lexeme<'a>, Halt>
+        ensures value { Reads token_of (token kind) self.old result self.new }
+        ensures levels { self.new.levels ≡ self.old.levels }
+        ensures list { self.new.list.now ≡ self.old.list.now }
+    {
+        if self.sees(kind) {
+            Ok(self.take(kind))
+        } else {
+            Err(Halt::Fault(Stop::Syntax))
+        }
+    }
+}

@@ -1,0 +1,114 @@
+//! Queries.
+ghost use Rattle.std.specs.Prelude.{◌≡◌, Ok, OnOk, option_map};
+ghost use Rattle.grammar.specs.Rule.{token};
+ghost use Rattle.grammar.specs.Reading.{read, reader};
+ghost use Rattle.sql_tokens.specs.Lex.{token_of};
+ghost use Rattle.sql_tokens.specs.declared.kinds.TokenKind.TheVariants as k;
+ghost use Rattle.vo_spec.specs.Conditions.{condition_of, query_of};
+ghost use Rattle.sql_text.specs.Tokens.{sql};
+ghost use Rattle.sql_text.specs.Parsing.{left_of, Reads};
+ghost use Rattle.sql_text.specs.Rules.{before, optional};
+ghost use Rattle.sql_text.specs.Queries.{items, join, disj, query, conditions_of};
+
+use crate::halt::Halt;
+use crate::parser::Parser;
+use sql_tokens::{Lexeme, TokenKind};
+use std::alloc::Global;
+use vo_spec::{Cond, Items, Join, List, QueryText};
+
+impl<'a> Parser<'a> {
+    /// A token of this kind, if it is next.
+    #[tactic(auto, unfolding(crate::specs::Rules::optional))]
+    pub fn skip(&mut self, kind: TokenKind) -> Option<Lexeme<'a>>
+        ensures value { read (reader conditions_of self.old.levels) (optional (token kind)) (left_of self.old) ≡ (Ok (option_map token_of result), left_of self.new) }
+        ensures levels { self.new.levels ≡ self.old.levels }
+        ensures list { self.new.list.now ≡ self.old.list.now }
+    {
+        if self.sees(kind) {
+            Some(self.take(kind))
+        } else {
+            None
+        }
+    }
+
+    #[tactic(auto, unfolding(crate::specs::Queries::items))]
+    fn items(&mut self, alloc: Global) -> Result<Items, Halt>
+        ensures value { Reads (λ x. x) items self.old result self.new }
+        ensures levels { self.new.levels ≡ self.old.levels }
+        ensures list { self.new.list.now ≡ self.old.list.now }
+    {
+        if self.sees(TokenKind::Star) {
+            self.take(TokenKind::Star);
+            Ok(Items::All)
+        } else {
+            Ok(Items::Refs(List::from_vec(self.references(alloc)?)))
+        }
+    }
+
+    #[tactic(auto, unfolding(crate::specs::Queries::join, crate::specs::Rules::before))]
+    fn join(&mut self, alloc: Global) -> Result<Join, Halt>
+        ensures value { Reads (λ x. x) join self.old result self.new }
+        ensures levels { self.new.levels ≡ self.old.levels }
+        ensures list { self.new.list.now ≡ self.old.list.now }
+    {
+        self.skip(TokenKind::Inner);
+        self.want(TokenKind::Join)?;
+        let right = self.source(alloc)?;
+        self.want(TokenKind::On)?;
+        let left_ref = self.reference(alloc)?;
+        self.want(TokenKind::Equal)?;
+        let right_ref = self.reference(alloc)?;
+        Ok(Join {
+            right,
+            left_ref,
+            right_ref,
+        })
+    }
+
+    #[tactic(auto, unfolding(crate::specs::Rules::optional), using(crate::proofs::Firsts::first_join))]
+    fn join_if_any(&mut self, alloc: Global) -> Result<Option<Join>, Halt>
+        ensures value { Reads (λ x. x) (optional join) self.old result self.new }
+        ensures levels { self.new.levels ≡ self.old.levels }
+        ensures list { self.new.list.now ≡ self.old.list.now }
+    {
+        if self.sees(TokenKind::Inner) || self.sees(TokenKind::Join) {
+            Ok(Some(self.join(alloc)?))
+        } else {
+            Ok(None)
+        }
+    }
+
+    #[tactic(auto, unfolding(crate::specs::Rules::optional, crate::specs::Rules::before))]
+    fn condition_if_any(&mut self, alloc: Global) -> Result<Option<Cond>, Halt>
+        ensures value { Reads (option_map condition_of) (optional (before k.Where disj)) self.old result self.new }
+        ensures levels { OnOk result (self.new.levels ≡ self.old.levels) }
+        ensures list { self.new.list.now ≡ self.old.list.now }
+    {
+        if self.sees(TokenKind::Where) {
+            self.take(TokenKind::Where);
+            Ok(Some(self.disj(alloc)?))
+        } else {
+            Ok(None)
+        }
+    }
+
+    #[tactic(auto, unfolding(crate::specs::Queries::query, crate::specs::Rules::before))]
+    pub fn query(&mut self, alloc: Global) -> Result<QueryText, Halt>
+        ensures value { Reads query_of query self.old result self.new }
+        ensures list { self.new.list.now ≡ self.old.list.now }
+    {
+        self.want(TokenKind::Select)?;
+        let items = self.items(alloc)?;
+        self.want(TokenKind::From)?;
+        let left = self.source(alloc)?;
+        let join = self.join_if_any(alloc)?;
+        let cond = self.condition_if_any(alloc)?;
+        self.skip(TokenKind::Semicolon);
+        Ok(QueryText {
+            items,
+            left,
+            join,
+            cond,
+        })
+    }
+}

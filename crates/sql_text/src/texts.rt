@@ -1,0 +1,80 @@
+//! Whole texts.
+ghost use Rattle.std.specs.Prelude.{◌≡◌, drop, map};
+ghost use Rattle.sql_tokens.specs.Lex.{placed_of};
+ghost use Rattle.vo_spec.specs.Conditions.{Query, query_of};
+ghost use Rattle.sql_text.specs.Queries.{query};
+ghost use Rattle.sql_text.specs.Texts.{ended, IsTextOf, Answers, Accepts};
+
+use crate::faults::{SqlFault, of_tokens};
+use crate::halt::Halt;
+use crate::parser::Parser;
+use grammar::Stop;
+use sql_tokens::{Lexeme, tokens};
+use std::alloc::Global;
+use vo_spec::QueryText;
+
+/// The longest text of a query or a batch, in bytes.
+pub const TEXT_MAX: usize = 65_536;
+
+/// The levels that conditions may nest in.
+const LEVELS_MAX: usize = 32;
+
+impl<'a> Parser<'a> {
+    /// A parser at the first of these tokens.
+    fn new(list: &'a [Lexeme<'a>]) -> Parser<'a>
+        ensures list { result.list.now ≡ list.now }
+        ensures place { result.place ≡ 0 }
+        ensures levels { result.levels ≡ 32 }
+    {
+        Parser {
+            list,
+            place: 0,
+            levels: LEVELS_MAX,
+        }
+    }
+
+    /// The tokens that are left.
+    #[tactic(auto, using(crate::proofs::Answered::drop_all))]
+    fn left(&self) -> &'a [Lexeme<'a>]
+        ensures { result.now ≡ drop self.now.place self.now.list.now }
+    {
+        let (_, left) = self.list.split_at(self.place.min(self.list.len()));
+        left
+    }
+}
+
+/// The answer by what the parser found: a text has no tokens behind its value.
+fn ended<T: Drop>(found: Result<T, Halt>, left: &[Lexeme<'_>], end: usize) -> Result<T, SqlFault>
+    ensures { result ≡ ended found (map placed_of left.now) end }
+{
+    let place = match left.first() {
+        Some(next) => next.at,
+        None => end,
+    };
+    match found {
+        Ok(value) if left.is_empty() => Ok(value),
+        Ok(_) => Err(SqlFault::Syntax { at: place }),
+        Err(Halt::Memory) => Err(SqlFault::Memory),
+        Err(Halt::Fault(Stop::Syntax)) => Err(SqlFault::Syntax { at: place }),
+        Err(Halt::Fault(Stop::Nesting)) => Err(SqlFault::Nesting),
+        Err(Halt::Fault(Stop::TooMany)) => Err(SqlFault::TooMany),
+    }
+}
+
+/// The query that a text is, or the text's first fault.
+pub fn parse_query(alloc: Global, text: &str) -> Result<QueryText, SqlFault>
+    ensures found { Answers query_of TEXT_MAX query text.now result }
+    ensures only { (q : Query) → IsTextOf TEXT_MAX query text.now q → Accepts query_of result q }
+{
+    let bytes = text.as_bytes();
+    if bytes.len() > TEXT_MAX {
+        return Err(SqlFault::TooLong);
+    }
+    let list = match tokens(alloc, bytes) {
+        Ok(list) => list,
+        Err(fault) => return Err(of_tokens(fault)),
+    };
+    let mut parser = Parser::new(list.as_slice());
+    let found = parser.query(alloc);
+    ended(found, parser.left(), bytes.len())
+}

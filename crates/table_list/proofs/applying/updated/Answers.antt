@@ -1,0 +1,21 @@
+use Rattle.std.proofs.Common.{◌≡◌, sym, ap, subst, ◌∙◌}
+use Rattle.std.specs.Prelude.{List, Result}
+use Rattle.vo_spec.specs.declared.tables.Table.{Table}
+use Rattle.vo_spec.specs.declared.tables.CommandFault.{CommandFault}
+use Rattle.table_list.specs.StoredTables.{table_of, tables_in}
+use Rattle.table_list.specs.Changes.{Gives, on_tables, updated_rows}
+use Rattle.table_list.proofs.Applied.{update_at, update_absent, unlike_lent, at_lent}
+use Rattle.table_list.proofs.applying.updated.Goals as goal
+
+pub returns-in-None-clause-answer : goal.returns-in-None-clause-answer
+returns-in-None-clause-answer c =
+    let tables = tables_in c.args.tables.now in
+    update_absent c.args.name.now c.args.sets.now c.args.column.now c.args.value.now tables (unlike_lent c.as_bytes.result.now c.args.name.now tables c.as_bytes.ensures c.in-None.ensures)
+
+pub returns-in-Some-clause-answer : goal.returns-in-Some-clause-answer
+returns-in-Some-clause-answer c =
+    let tables = tables_in c.args.tables.now in
+    let here = at_lent c.as_bytes.result.now c.args.name.now tables c.in-Some.at c.as_bytes.ensures c.in-Some.ensures in
+    let same = ap (λ (t : Table). on_tables tables c.in-Some.at (updated_rows c.args.sets.now c.args.column.now c.args.value.now t)) c.stored_at-table.ensures ∙ sym (update_at c.args.name.now c.args.sets.now c.args.column.now c.args.value.now tables c.in-Some.at here) in
+    subst (λ (answer : Result (List Table) CommandFault). Gives (λ new. tables_in new.items) c.put_rows.result answer) same
+    (c.put_rows.ensures.answer (updated_rows c.args.sets.now c.args.column.now c.args.value.now (table_of c.stored_at-table.result.now)) c.updated_rows-rows.ensures)

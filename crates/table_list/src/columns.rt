@@ -1,0 +1,142 @@
+//! Columns by their names.
+ghost use Rattle.std.specs.Prelude.{◌≡◌, ◌≤◌, length, map, bytes_eq, IfOk};
+ghost use Rattle.std.specs.List.{list_any};
+ghost use Rattle.vo_spec.specs.Tables.{column_at, column_number, has_column, is_key, suits, are_of_kinds, has_twice, is_bad_schema};
+ghost use Rattle.vo_spec.specs.Values.{kind_of, same_kind};
+
+use std::alloc::{AllocError, Global};
+use vo_spec::{Column, Kind, List, Name, Schema, Value};
+
+/// The number of the column of this name, or else how many there are.
+pub(crate) fn column_number(columns: &[Column], name: &[u8]) -> usize
+    ensures number { result ≡ column_number columns.now name.now }
+    ensures bound { result ≤ length columns.now }
+{
+    let mut number = 0;
+    for column in columns {
+        if column.name.as_bytes() == name {
+            return number;
+        }
+        number += 1;
+    }
+    number
+}
+
+pub(crate) fn has_column(columns: &[Column], name: &[u8]) -> bool
+    ensures { result ≡ has_column columns.now name.now }
+{
+    column_number(columns, name) < columns.len()
+}
+
+pub(crate) fn is_key(schema: &Schema, name: &[u8]) -> bool
+    ensures { result ≡ is_key schema.now name.now }
+{
+    column_number(schema.columns.as_slice(), name) == schema.key as usize
+}
+
+pub(crate) fn kind_of(value: &Value) -> Kind
+    ensures { result ≡ kind_of value.now }
+{
+    match value {
+        Value::Int(_) => Kind::Int,
+        Value::Text(_) => Kind::Text,
+        Value::Bool(_) => Kind::Bool,
+    }
+}
+
+pub(crate) fn same_kind(a: Kind, b: Kind) -> bool
+    ensures { result ≡ same_kind a b }
+{
+    matches!(
+        (a, b),
+        (Kind::Int, Kind::Int) | (Kind::Text, Kind::Text) | (Kind::Bool, Kind::Bool)
+    )
+}
+
+/// The kind of the column of this number, past the end BIGINT.
+pub(crate) fn kind_at(columns: &[Column], number: usize) -> Kind
+    ensures { result ≡ (column_at columns.now number).kind }
+{
+    match columns.get(number) {
+        Some(column) => column.kind,
+        None => Kind::Int,
+    }
+}
+
+/// Whether the value is of the kind of the column of this name.
+pub(crate) fn suits(columns: &[Column], name: &[u8], value: &Value) -> bool
+    ensures { result ≡ suits columns.now name.now value.now }
+{
+    same_kind(
+        kind_at(columns, column_number(columns, name)),
+        kind_of(value),
+    )
+}
+
+#[tactic(auto, using(crate::proofs::KindLaws::unlike_lengths))]
+/// Whether each value is of its column's kind, column by column.
+pub(crate) fn are_of_kinds(columns: &[Column], values: &[Value]) -> bool
+    ensures { result ≡ are_of_kinds columns.now values.now }
+{
+    if columns.len() != values.len() {
+        return false;
+    }
+    for (number, column) in columns.iter().enumerate() {
+        if !same_kind(column.kind, kind_of(&values[number])) {
+            return false;
+        }
+    }
+    true
+}
+
+fn is_named(columns: &[Column], name: &[u8]) -> bool
+    ensures { result ≡ list_any (bytes_eq name.now) (map (λ c. c.name) columns.now) }
+{
+    for column in columns {
+        if name == column.name.as_bytes() {
+            return true;
+        }
+    }
+    false
+}
+
+/// Whether two columns have one name.
+pub(crate) fn has_twice(columns: &[Column]) -> bool
+    ensures { result ≡ has_twice (map (λ c. c.name) columns.now) }
+{
+    for (number, column) in columns.iter().enumerate() {
+        if is_named(&columns[number + 1..], column.name.as_bytes()) {
+            return true;
+        }
+    }
+    false
+}
+
+/// Whether this is no schema: two columns of one name, or a key that is no column or a BOOLEAN.
+pub(crate) fn is_bad_schema(columns: &[Column], key: &[u8]) -> bool
+    ensures { result ≡ is_bad_schema columns.now key.now }
+{
+    has_twice(columns)
+        || !has_column(columns, key)
+        || same_kind(kind_at(columns, column_number(columns, key)), Kind::Bool)
+}
+
+/// The columns, each copied.
+pub(crate) fn copy_columns(alloc: Global, columns: &[Column]) -> Result<List<Column>, AllocError>
+    ensures { IfOk result (λ copy. copy ≡ columns.now) }
+{
+    let mut copy = Vec::with_capacity(alloc, columns.len())?;
+    for column in columns {
+        copy.push(Column {
+            name: copy_name(alloc, &column.name)?,
+            kind: column.kind,
+        })?;
+    }
+    Ok(List::from_vec(copy))
+}
+
+pub(crate) fn copy_name(alloc: Global, name: &Name) -> Result<Name, AllocError>
+    ensures { IfOk result (λ copy. copy ≡ name.now) }
+{
+    Ok(Name::from_vec(Vec::from_slice(alloc, name.as_bytes())?))
+}

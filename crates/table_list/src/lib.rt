@@ -1,0 +1,23 @@
+//! Plain tables: what commands and batches make of them, and what queries give.
+#![tactic(auto)]
+
+mod applying;
+mod cells;
+mod changing;
+mod columns;
+mod creating;
+mod fault;
+mod place;
+mod refusal;
+mod rows;
+mod sets;
+mod sharing;
+mod stored;
+mod tables;
+
+pub use fault::{ApplyFault, BatchFault};
+pub use tables::{Tables, apply};
+pub use vo_spec::{
+    Batch, Cmp, Column, Command, CommandFault, Cond, Items, Join, Operand, Outcome, QueryFault,
+    QueryText, Ref, Schema, SetPart, Source, Table,
+};

@@ -1,0 +1,15 @@
+mod WorkedRows
+mod WorkedTrees
+pub mod KeyOrder
+pub mod ListLaws
+pub mod ScanLaws
+pub mod SeenLaws
+pub mod ValueOrder
+pub mod ConditionLaws
+pub mod AnswerLaws
+pub mod JoinLaws
+pub mod Exact
+pub mod Growing
+pub mod Grown
+pub mod CommandLaws
+pub mod StandingLaws

@@ -1,0 +1,40 @@
+-- What a parse by the commands says of what the words ask for.
+use Rattle.std.proofs.Common.{◌≡◌, ◌≢◌, List, [], ◌∷◌, true, None, Option, subst, sym, ap, inl, inr, refl}
+use Rattle.clap.proofs.OnLiterals.{clap_on_literals}
+use Rattle.clap.specs.Words.{App, Text, HasMatchesOf, HasKind, Kinds, IsAmong, kind_of, is_simple, is_simple_and_free, fault_of, subcommand_of, subcommand_rows_of}
+use Rattle.clap.specs.declared.error.Error.{Error}
+use Rattle.clap.specs.declared.error.kind.ErrorKind.{ErrorKind}
+use Rattle.clap.specs.declared.error.kind.ErrorKind.TheVariants.{OutOfMemory}
+use Rattle.clap.specs.declared.parser.matches.ArgMatches.{ArgMatches}
+use Rattle.vo_words.specs.Asked.{Asked, asked_by, asked_if, asked_in}
+use Rattle.vo_words.specs.Commands.{program_app}
+
+program-simple : is_simple program_app ≡ true
+unfolding clap_on_literals
+program-simple = refl
+
+program-free : is_simple_and_free program_app ≡ true
+unfolding clap_on_literals
+program-free = refl
+
+pub accepted : (app : App) (words : List Text) (m : ArgMatches) → app ≡ program_app → HasMatchesOf app words m
+    → (is_simple_and_free app ≡ true → fault_of app words ≡ []) → asked_in (subcommand_rows_of m) ≡ asked_by words
+accepted app words m same has passes =
+    let simple : is_simple app ≡ true = rw same program-simple in
+    let free : is_simple_and_free app ≡ true = rw same program-free in
+    let asked : asked_in (subcommand_rows_of m) ≡ asked_if (fault_of app words) (asked_in (subcommand_of app words)) =
+    rw (passes free) (ap asked_in (has simple).1) in
+    rw same at asked
+
+faulty : (e : Error) (faults : Kinds) (asked : Option Asked) → HasKind faults e → kind_of e ≢ OutOfMemory → None ≡ asked_if faults asked
+faulty e [] asked (inl memory) other = absurd (other memory)
+faulty e [] asked (inr among) other = absurd among
+faulty e (fault ∷ faults) asked kind other = refl
+
+pub refused : (app : App) (words : List Text) (e : Error) → app ≡ program_app
+    → (is_simple_and_free app ≡ true → HasKind (fault_of app words) e) → kind_of e ≢ OutOfMemory → None ≡ asked_by words
+refused app words e same kinds other =
+    let free : is_simple_and_free app ≡ true = rw same program-free in
+    let asked : None ≡ asked_if (fault_of app words) (asked_in (subcommand_of app words)) =
+    faulty e (fault_of app words) (asked_in (subcommand_of app words)) (kinds free) other in
+    rw same at asked

@@ -1,0 +1,140 @@
+//! The words, read by the commands.
+ghost use Rattle.std.specs.Prelude.{◌≡◌, map, option_map, string_bytes, IfOk, IsTrue, ◌↔◌};
+ghost use Rattle.clap.specs.Words.{kind_of, found_of, rows_of, first_of, subcommand_rows_of};
+ghost use Rattle.vo_words.specs.Asked.{asked_by, asked_in, keygen_asked, seal_asked, answer_asked, check_asked, audit_asked, given_height, height_number};
+ghost use Rattle.vo_words.specs.Height.{number_of};
+ghost use Rattle.vo_words.specs.Request.{asked};
+
+use crate::commands::program;
+use crate::request::{Height, Request};
+use clap::error::ErrorKind;
+use clap::{ArgMatches, Error};
+use std::alloc::{AllocError, Global};
+
+/// What the words ask for, the program's name first. None are refused words: those that `clap`
+/// refuses or answers with help, and a number that the command doesn't take.
+pub fn read_words<'a>(alloc: Global, words: &'a [String]) -> Result<Option<Request<'a>>, AllocError>
+    ensures { IfOk result (λ request. option_map asked request ≡ asked_by (map string_bytes words.entry.now)) }
+{
+    match program(alloc)?.try_get_matches_from(words) {
+        Ok(matches) => Ok(request_in(&matches)),
+        Err(error) => {
+            if is_of_memory(&error) {
+                return Err(AllocError);
+            }
+            Ok(None)
+        }
+    }
+}
+
+fn is_of_memory(error: &Error) -> bool
+    ensures { IsTrue result ↔ (kind_of error.now ≡ ErrorKind.OutOfMemory) }
+{
+    matches!(error.kind(), ErrorKind::OutOfMemory)
+}
+
+/// What the command that was used asks for.
+fn request_in<'a>(matches: &ArgMatches<'a>) -> Option<Request<'a>>
+    ensures { option_map asked result ≡ asked_in (subcommand_rows_of matches.now) }
+{
+    let (name, used) = matches.subcommand()?;
+    if name == "keygen" {
+        keygen_request(used)
+    } else if name == "seal" {
+        seal_request(used)
+    } else if name == "answer" {
+        answer_request(used)
+    } else if name == "check" {
+        check_request(used)
+    } else if name == "audit" {
+        audit_request(used)
+    } else {
+        None
+    }
+}
+
+fn keygen_request<'a>(used: &ArgMatches<'a>) -> Option<Request<'a>>
+    ensures { option_map asked result ≡ keygen_asked (rows_of (found_of used.now)) }
+{
+    let seed = text_of(used, "seed")?;
+    let height = height_of(used)?;
+    Some(Request::Keygen { seed, height })
+}
+
+fn seal_request<'a>(used: &ArgMatches<'a>) -> Option<Request<'a>>
+    ensures { option_map asked result ≡ seal_asked (rows_of (found_of used.now)) }
+{
+    let seed = text_of(used, "seed")?;
+    let script = text_of(used, "script")?;
+    let height = height_of(used)?;
+    Some(Request::Seal {
+        seed,
+        script,
+        height,
+    })
+}
+
+fn answer_request<'a>(used: &ArgMatches<'a>) -> Option<Request<'a>>
+    ensures { option_map asked result ≡ answer_asked (rows_of (found_of used.now)) }
+{
+    let key = text_of(used, "key")?;
+    let journal = text_of(used, "journal")?;
+    let query = text_of(used, "query")?;
+    Some(Request::Answer {
+        key,
+        journal,
+        query,
+    })
+}
+
+fn check_request<'a>(used: &ArgMatches<'a>) -> Option<Request<'a>>
+    ensures { option_map asked result ≡ check_asked (rows_of (found_of used.now)) }
+{
+    let key = text_of(used, "key")?;
+    let query = text_of(used, "query")?;
+    let reply = text_of(used, "reply")?;
+    Some(Request::Check { key, query, reply })
+}
+
+fn audit_request<'a>(used: &ArgMatches<'a>) -> Option<Request<'a>>
+    ensures { option_map asked result ≡ audit_asked (rows_of (found_of used.now)) }
+{
+    let key = text_of(used, "key")?;
+    let journal = text_of(used, "journal")?;
+    let query = text_of(used, "query")?;
+    let reply = text_of(used, "reply")?;
+    Some(Request::Audit {
+        key,
+        journal,
+        query,
+        reply,
+    })
+}
+
+/// The word or the option's value under this name.
+fn text_of<'a>(used: &ArgMatches<'a>, id: &str) -> Option<&'a str>
+    ensures { option_map (λ text. text.now) result ≡ first_of id.now (rows_of (found_of used.now)) }
+{
+    used.get_str(id)
+}
+
+fn height_of(used: &ArgMatches<'_>) -> Option<Height>
+    ensures { option_map number_of result ≡ given_height (rows_of (found_of used.now)) }
+{
+    match text_of(used, "height") {
+        None => Some(Height::Five),
+        Some(text) => height_in(text),
+    }
+}
+
+fn height_in(text: &str) -> Option<Height>
+    ensures { option_map number_of result ≡ height_number text.now }
+{
+    if text == "5" {
+        Some(Height::Five)
+    } else if text == "10" {
+        Some(Height::Ten)
+    } else {
+        None
+    }
+}

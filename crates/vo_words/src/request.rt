@@ -1,0 +1,52 @@
+//! What the words ask for.
+
+/// The height of a tree of one-time keys: it signs 2^5 or 2^10 times.
+#[derive(Clone, Copy, Debug, PartialEq, Eq)]
+pub enum Height {
+    Five,
+    Ten,
+}
+
+impl Height {
+    ghost use Rattle.std.specs.Prelude.{◌≡◌};
+    ghost use Rattle.vo_words.specs.Height.{number_of};
+
+    pub fn number(self) -> u32
+        ensures { result ≡ number_of self }
+    {
+        match self {
+            Height::Five => 5,
+            Height::Ten => 10,
+        }
+    }
+}
+
+/// A command and its words. A file is given by its name, and a query by its text.
+#[derive(Clone, Copy, Debug, PartialEq, Eq)]
+pub enum Request<'a> {
+    Keygen {
+        seed: &'a str,
+        height: Height,
+    },
+    Seal {
+        seed: &'a str,
+        script: &'a str,
+        height: Height,
+    },
+    Answer {
+        key: &'a str,
+        journal: &'a str,
+        query: &'a str,
+    },
+    Check {
+        key: &'a str,
+        query: &'a str,
+        reply: &'a str,
+    },
+    Audit {
+        key: &'a str,
+        journal: &'a str,
+        query: &'a str,
+        reply: &'a str,
+    },
+}

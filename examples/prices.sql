@@ -1,0 +1,10 @@
+CREATE TABLE prices (item BIGINT, name TEXT, cents BIGINT, PRIMARY KEY (item));
+INSERT INTO prices VALUES (1, 'bread', 320);
+INSERT INTO prices VALUES (2, 'milk', 145);
+INSERT INTO prices VALUES (3, 'olive oil', 1190);
+COMMIT;
+INSERT INTO prices VALUES (4, 'baker''s salt', 99);
+COMMIT;
+INSERT INTO prices VALUES (5, 'coffee', 875);
+INSERT INTO prices VALUES (6, 'tea', 430);
+COMMIT;
