@@ -13,3 +13,4 @@ pub mod Growing
 pub mod Grown
 pub mod CommandLaws
 pub mod StandingLaws
+pub mod TreeFits
