@@ -14,3 +14,4 @@ pub mod Grown
 pub mod CommandLaws
 pub mod StandingLaws
 pub mod TreeFits
+pub mod TreeLevels

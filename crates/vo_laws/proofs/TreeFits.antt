@@ -47,7 +47,7 @@ abbrev SeparatedChildren : Result (Children PartEntry (Unit {0})) UpdateFault �
 SeparatedChildren (Ok c) = AllByRecursion FitsKey c.separators × AreSeparated c.parts
 SeparatedChildren (Err fault) = Unit {0}
 
-abbrev KeyFits : PartEntry → Type 0
+abbrev pub KeyFits : PartEntry → Type 0
 KeyFits e = FitsKey e.key
 
 each_taken : {A : Type 0} (P : A → Type 0) (n : ℕ) (xs : List A) → AllByRecursion P xs → AllByRecursion P (take n xs)
@@ -148,14 +148,14 @@ tree_separated e t fits all s = root_separated (grow row_family e t) (node_separ
 
 -- A whole tree with such separators and entries that fit is within the limits.
 
-separators_counted : (height : ℕ) (lower upper : Option (List ℕ)) (ss : List (List ℕ)) (ps : RowTrees) → AreNodes row_family height lower upper ss ps → length ss + 1 ≡ count ps
+pub separators_counted : (height : ℕ) (lower upper : Option (List ℕ)) (ss : List (List ℕ)) (ps : RowTrees) → AreNodes row_family height lower upper ss ps → length ss + 1 ≡ count ps
 separators_counted height lower upper ss none n = absurd n
 separators_counted height lower upper [] (more m p none) n = refl
 separators_counted height lower upper [] (more m p (more o q ps)) n = absurd n
 separators_counted height lower upper (s ∷ ss) (more m p ps) n = let rest : length ss + 1 ≡ count ps = separators_counted height (Some s) upper ss ps n.3 in omega arith
 
 mutual
-  node_fits : (fewest height : ℕ) (lower upper : Option (List ℕ)) (t : RowTree) → fewest_in_root row_family t ≤ fewest → IsNode row_family fewest height lower upper t
+  pub node_fits : (fewest height : ℕ) (lower upper : Option (List ℕ)) (t : RowTree) → fewest_in_root row_family t ≤ fewest → IsNode row_family fewest height lower upper t
       → Separated t → AllByRecursion FitsEntry (entries t) → FitsPart t
   node_fits fewest height lower upper (stub d) few n s all = absurd n
   node_fits fewest height lower upper (leaf es) few n s all = (n.2, All-from_recursion FitsEntry es all)
@@ -163,7 +163,7 @@ mutual
       ( omega (arith, n.1), n.2, separators_counted (height - 1) lower upper ss ps n.3, All-from_recursion FitsKey ss s.0
       , nodes_fit (height - 1) lower upper ss ps n.3 s.1 all )
 
-  nodes_fit : (height : ℕ) (lower upper : Option (List ℕ)) (ss : List (List ℕ)) (ps : RowTrees) → AreNodes row_family height lower upper ss ps
+  pub nodes_fit : (height : ℕ) (lower upper : Option (List ℕ)) (ss : List (List ℕ)) (ps : RowTrees) → AreNodes row_family height lower upper ss ps
       → AreSeparated ps → AllByRecursion FitsEntry (entries_in ps) → FitsEach FitsEntry ps
   nodes_fit height lower upper ss none n s all = tt
   nodes_fit height lower upper [] (more m p none) n s all = (node_fits half height lower upper p (root_few p) n.1 s.0 (each_left FitsEntry (entries p) [] all), tt)
