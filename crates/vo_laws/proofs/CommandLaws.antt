@@ -135,7 +135,7 @@ pub record FitTables (tables : List Table) : Type 0 where
 
 -- A table is dropped.
 
-each_filter : {A : Type 0} (P : A → Type 0) (test : A → Bool) (xs : List A) → AllByRecursion P xs → AllByRecursion P (filter test xs)
+pub each_filter : {A : Type 0} (P : A → Type 0) (test : A → Bool) (xs : List A) → AllByRecursion P xs → AllByRecursion P (filter test xs)
 each_filter P test [] all = tt
 each_filter {A} P test (x ∷ xs) all = step (test x) (each_filter P test xs all.1)
   where

@@ -15,3 +15,4 @@ pub mod CommandLaws
 pub mod StandingLaws
 pub mod TreeFits
 pub mod TreeLevels
+pub mod StoredFits
