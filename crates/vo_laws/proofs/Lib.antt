@@ -16,3 +16,4 @@ pub mod StandingLaws
 pub mod TreeFits
 pub mod TreeLevels
 pub mod StoredFits
+pub mod PrunedLaws
