@@ -4,7 +4,7 @@ use Rattle.std.proofs.Common.{◌≡◌, ◌≢◌, ℕ, zero, suc, ◌+◌, ◌
 use Rattle.std.specs.Prelude.{◌||◌, ◌&&◌, ◌==◌, not, nat_lt, nat_le, find, filter, remove, slice_index_or, option_map, bytes_eq, is_some}
 use Rattle.std.specs.Option.{option_map_or}
 use Rattle.std.specs.List.{list_any, AllByRecursion}
-use Rattle.std.proofs.lemmas.Bool.{and_parts, or_parts, both_ways, cases_Bool, not-true, not-false, not_from_false, eqb-true, ltb-true, ltb-false, leb-false}
+use Rattle.std.proofs.lemmas.Bool.{and_parts, or_parts, both_ways, cases_Bool, not-true, not-false, not_from_false, eqb-true, ltb-true, ltb-false, leb-false, and_from, eq-eqb, le-leb}
 use Rattle.std.proofs.lemmas.Slice.Eq.{bytes_eq-Decides}
 use Rattle.std.proofs.lemmas.List.Edits.{length-remove}
 use Rattle.std.proofs.lemmas.List.{length-map}
@@ -22,16 +22,17 @@ use Rattle.vo_spec.specs.declared.tables.Command.TheVariants.{Create, Drop, Inse
 use Rattle.vo_spec.specs.declared.tables.CommandFault.{CommandFault}
 use Rattle.vo_spec.specs.declared.tables.CommandFault.TheVariants.{TableExists, NoTable, BadSchema, Arity, TypeMismatch, TableFull, TooManyTables, KeyTooLong}
 use Rattle.vo_spec.specs.Firsts.{first_of}
-use Rattle.vo_spec.specs.Values.{kind_of, same_kind, key_of, key_lt, FitsValue, IsInRange, IsKeyOf}
+use Rattle.vo_spec.specs.Values.{kind_of, same_kind, key_of, key_lt, FitsValue, IsInRange, IsKeyOf, is_text}
 use Rattle.vo_spec.specs.Tables.{most_tables, most_rows, most_key, no_value, no_column, value_at, column_at, column_number, has_column, has_twice, are_of_kinds, Heading, heading_of, heading_named, on_table, is_bad_schema, refusal, row_of, has_row, put_row, table_named, put_table, with_rows}
 use Rattle.vo_spec.specs.Names.{FitsName}
 use Rattle.vo_spec.specs.Batches.{FitCounted, FitsColumn, FitsCommand, most_columns}
 use Rattle.vo_spec.specs.Records.{FitsSchema}
 use Rattle.vo_spec.specs.Fits.{FitsKey, FitsRow, most_cells}
 use Rattle.vo_spec.specs.Standing.{AreRising}
-use Rattle.vo_spec.specs.Checks.{key_kind}
+use Rattle.vo_spec.specs.Checks.{key_kind, is_key_of}
 use Rattle.vo_laws.proofs.KeyOrder.{key_lt_itself, same_key, key_lt_lt}
 use Rattle.vo_laws.proofs.ListLaws.{each_weaker, each_left, each_right, each_both, each_map, each_mapped}
+use Rattle.vo_laws.proofs.ValueOrder.{number_length}
 use Rattle.vo_laws.proofs.ConditionLaws.{same_kind_is}
 use Rattle.vo_laws.proofs.Growing.{other_back}
 
@@ -119,10 +120,46 @@ key_inserted t values schema fits is =
 
 -- Tables with names that rise, each within its limits.
 
+-- the row's key is one of its column's kind, and its other values are of their columns' kinds
+pub record HasKinds (schema : Schema) (row : Row) : Type 0 where
+  pub key : is_key_of (key_kind schema) row.key ≡ true
+  pub cells : are_of_kinds (remove schema.columns schema.key) row.cells ≡ true
+
+kinds_removed : (columns : List Column) (values : List Value) (k : ℕ) → are_of_kinds columns values ≡ true
+    → are_of_kinds (remove columns k) (remove values k) ≡ true
+kinds_removed [] [] zero e = refl
+kinds_removed [] [] (suc k) e = refl
+kinds_removed [] (v ∷ values) k e = absurd (cc)
+kinds_removed (c ∷ columns) [] k e = absurd (cc)
+kinds_removed (c ∷ columns) (v ∷ values) zero e = (and_parts (same_kind c.kind (kind_of v)) (are_of_kinds columns values) e).1
+kinds_removed (c ∷ columns) (v ∷ values) (suc k) e =
+    let p = and_parts (same_kind c.kind (kind_of v)) (are_of_kinds columns values) e in
+    and_from (same_kind c.kind (kind_of v)) (are_of_kinds (remove columns k) (remove values k)) p.0 (kinds_removed columns values k p.1)
+
+is_key : (k : Kind) (v : Value) → kind_of v ≡ k → same_kind k kind.Bool ≡ false → FitsValue v → length (key_of v) ≤ most_key
+    → is_key_of k (key_of v) ≡ true
+is_key kind.Int (Int z) e other fits short = eq-eqb (length (key_of (Int z))) 8 (number_length _)
+is_key kind.Int (Text s) e other fits short = absurd (cc)
+is_key kind.Int (Truth b) e other fits short = absurd (cc)
+is_key kind.Text (Int z) e other fits short = absurd (cc)
+is_key kind.Text (Text s) e other fits short = and_from (nat_le (length s) 255) (is_text s) (le-leb (length s) 255 short) fits
+is_key kind.Text (Truth b) e other fits short = absurd (cc)
+is_key kind.Bool v e other fits short = absurd (cc)
+
+row_has_kinds : (t : Table) (values : List Value) → FitsSchema t.schema → AllByRecursion FitsValue values → IsInsertable t values
+    → HasKinds t.schema (row_of t.schema values)
+row_has_kinds t values schema fits is = record {
+  key = is_key (key_kind t.schema) (value_at values t.schema.key)
+      (same_kind_is (key_kind t.schema) (kind_of (value_at values t.schema.key)) (kind_there t.schema.columns values t.schema.key is.kinds schema.key_in))
+      (not-true (same_kind (key_kind t.schema) kind.Bool) schema.key_kind) (value_there values t.schema.key fits) is.short;
+  cells = kinds_removed t.schema.columns values t.schema.key is.kinds;
+}
+
 pub record FitsTable (t : Table) : Type 0 where
   pub name : FitsName t.name
   pub schema : FitsSchema t.schema
   pub rows : AllByRecursion FitsRow t.rows
+  pub kinds : AllByRecursion (HasKinds t.schema) t.rows
   pub count : length t.rows ≤ most_rows
 
 abbrev pub names_of : List Table → List (List ℕ)
@@ -237,6 +274,7 @@ created_fit name columns key tables fits e before =
               key_kind = not_from_false (same_kind (column_at columns (column_number columns key)).kind kind.Bool) schema.1;
             };
             rows = tt;
+            kinds = tt;
             count = omega arith;
           }) before.each;
       rising = put_table_rises made tables (named_nowhere name tables tests.0) before.rising;
@@ -322,6 +360,7 @@ each_changed name values (t ∷ tables) fits is all rising = step (bytes_eq t.na
             name = all.0.name;
             schema = all.0.schema;
             rows = each_put_row FitsRow (row_of t.schema values) t.rows (row_fits t values all.0.schema fits here) all.0.rows;
+            kinds = each_put_row (HasKinds t.schema) (row_of t.schema values) t.rows (row_has_kinds t values all.0.schema fits.2 here) all.0.kinds;
             count = omega arith;
           }
         , subst (AllByRecursion FitsTable) (sym (others_kept name (λ u. put_row (row_of u.schema values) u.rows) tables (subst (λ n. AllByRecursion (λ k. key_lt n k ≡ true) (names_of tables)) name_is rising.0))) all.1 )
