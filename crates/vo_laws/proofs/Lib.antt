@@ -17,3 +17,4 @@ pub mod TreeFits
 pub mod TreeLevels
 pub mod StoredFits
 pub mod PrunedLaws
+pub mod ReplyTrees
