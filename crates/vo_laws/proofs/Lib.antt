@@ -18,3 +18,5 @@ pub mod TreeLevels
 pub mod StoredFits
 pub mod PrunedLaws
 pub mod ReplyTrees
+pub mod NamedFits
+pub mod Complete
