@@ -7,6 +7,7 @@ use Rattle.std.proofs.lemmas.Bool.{and_from, or_from, eq-eqb, le-ltb, cond-true,
 use Rattle.std.proofs.lemmas.Slice.Eq.{bytes_eq-Decides}
 use Rattle.vo_spec.specs.declared.values.Value.{Value}
 use Rattle.vo_spec.specs.declared.tables.Table.{Table}
+use Rattle.vo_spec.specs.declared.tables.Command.{Command}
 use Rattle.vo_spec.specs.declared.needs.Need.{Need}
 use Rattle.vo_spec.specs.declared.needs.SeenRow.{SeenRow}
 use Rattle.vo_spec.specs.declared.queries.Join.{Join}
@@ -18,7 +19,8 @@ use Rattle.vo_spec.specs.declared.records.CatalogTable.{CatalogTable}
 use Rattle.vo_spec.specs.declared.checks.CheckFault.{CheckFault}
 use Rattle.vo_spec.specs.declared.checks.CheckFault.TheVariants.{WrongLeaf}
 use Rattle.vo_spec.specs.Firsts.{first_some, unless}
-use Rattle.vo_spec.specs.Tables.{Heading, heading_of, heading_named, rows_named}
+use Rattle.vo_spec.specs.Tables.{Heading, heading_of, heading_named, rows_named, tables_after}
+use Rattle.vo_spec.specs.Batches.{FitsBatch}
 use Rattle.vo_spec.specs.Conditions.{Condition, Query, FitsQuery}
 use Rattle.vo_spec.specs.Results.{Side, schema_at, sides, no_schema, binding_fault, result}
 use Rattle.vo_spec.specs.Records.{headings, record_bytes, catalog_digest}
@@ -32,7 +34,8 @@ use Rattle.vo_spec.specs.Checks.{table_named, has_table_shape, root_fault, trees
 use Rattle.vo_spec.specs.Replies.{Reply}
 use Rattle.vo_spec.specs.Lms.{key_id, leaf_of, lms_valid}
 use Rattle.vo_spec.specs.Owners.{IsSigned}
-use Rattle.vo_spec.specs.Honest.{Stored, StandForTables, catalog_of, stored_tree, pruned_each, honest_reply}
+use Rattle.vo_spec.specs.Honest.{Stored, StandForTables, catalog_of, stored_tree, pruned_each, honest_reply, honest_trees, honest_record, AreOpen}
+use Rattle.vo_laws.proofs.StandingLaws.{stands}
 use Rattle.vo_laws.proofs.ListLaws.{IsIn, each_both, each_map}
 use Rattle.vo_laws.proofs.ScanLaws.{Gives, Shows, sound, complete}
 use Rattle.vo_laws.proofs.PrunedLaws.{pruned_prunes, pruned_bare}
@@ -279,3 +282,15 @@ module _ (stored : List Stored) (tables : List Table) (stand : StandForTables st
       let outcome_is : seen_outcome q r.catalog r.trees ≡ result q tables = exact q r stored tables stand fits refl w.1 missing in
       ap (λ o. unless o (record { version = rec.version; outcome = seen_outcome q r.catalog r.trees })) (unrefused key least q rec signature id catalog signed recent)
       ∙ ap (λ o. Ok (record { version = rec.version; outcome = o })) outcome_is
+
+-- The reply of a store that holds the trees after these batches: a client takes it, with the query's result on
+-- the tables after them.
+pub honest_answer : (batches : List (List Command)) (key : List ℕ) (version least : ℕ) (q : Query) (rec : Record) (signature : List ℕ)
+    → AllByRecursion FitsBatch batches → AreOpen batches → rec ≡ honest_record key version (honest_trees batches) → IsSigned key rec signature
+    → least ≤ rec.version → FitsQuery q
+    → answer_to key least q (honest_reply q rec signature (honest_trees batches)) ≡ Ok (record { version = rec.version; outcome = result q (tables_after batches) })
+unfolding honest_record
+honest_answer batches key version least q rec signature fits o is signed recent query_fits =
+    let s = stands batches fits o in
+    answered (honest_trees batches) (tables_after batches) s.0 s.1 key least q rec signature
+        (ap (λ (r : Record). r.id) is) (ap (λ (r : Record). r.catalog) is) signed recent query_fits
