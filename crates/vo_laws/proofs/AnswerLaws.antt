@@ -47,7 +47,7 @@ in_numbers first (suc n) c low high = elim (cases_Bool (c == first)) [
     above : (c == first) ≡ false → first + 1 ≤ c
     above e = let other : c ≡ first → ⊥ = λ s. both_ways (c == first) e (eq-eqb c first s) in omega arith
 
-numbers_below : (first n : ℕ) → AllByRecursion (λ c. c < first + n) (numbers_from first n)
+pub numbers_below : (first n : ℕ) → AllByRecursion (λ c. c < first + n) (numbers_from first n)
 numbers_below first zero = tt
 numbers_below first (suc n) =
     (omega arith, each_of_next (numbers_from (first + 1) n) (numbers_below (first + 1) n))

@@ -69,7 +69,7 @@ zip_in R (x ∷ xs) (y ∷ ys) z =
 
 -- Trees of tables by name.
 
-one_heading : (s : Stored) (t : Table) → StandsForTable s t
+pub one_heading : (s : Stored) (t : Table) → StandsForTable s t
     → record { name = s.name; schema = s.schema; count = length (entries s.tree) } ≡ heading_of t
 one_heading s t z =
     let count : length (entries s.tree) ≡ length t.rows = ap length z.stands.rows_are ∙ length-map t.rows whole_entry in
@@ -81,7 +81,7 @@ same_headings [] (t ∷ tables) z = absurd z
 same_headings (s ∷ stored) [] z = absurd z
 same_headings (s ∷ stored) (t ∷ tables) z = rw (one_heading s t z.0, same_headings stored tables z.1) refl
 
-nothing_stands : StandsFor (leaf []) []
+pub nothing_stands : StandsFor (leaf []) []
 nothing_stands = record { tree = record { height = 0; shape = (refl, omega arith, omega arith, tt); rising = tt }; rows_are = refl }
 
 pub named_stands : (name : List ℕ) (stored : List Stored) (tables : List Table) → StandForTables stored tables → StandsFor (stored_tree stored name) (rows_named name tables)

@@ -84,7 +84,7 @@ other_key a b e = step (bytes_eq a b) refl
     step true f = absurd (both_ways (key_lt a b) (subst (λ z. key_lt a z ≡ false) ((bytes_eq-Decides a b).0 f) (key_lt_itself a)) e)
     step false f = refl
 
-other_back : (a b : List ℕ) → key_lt b a ≡ true → bytes_eq a b ≡ false
+pub other_back : (a b : List ℕ) → key_lt b a ≡ true → bytes_eq a b ≡ false
 other_back a b e = step (bytes_eq a b) refl
   where
     step : (c : Bool) → bytes_eq a b ≡ c → c ≡ false

@@ -145,7 +145,7 @@ each_below key s lower [] ge all = tt
 each_below key s lower (f ∷ fs) ge all =
     (key_lt_le f.key s key (and_parts (is_from lower f.key) (key_lt f.key s) all.0).1 ge, each_below key s lower fs ge all.1)
 
-root_few : (p : RowTree) → fewest_in_root row_family p ≤ half
+pub root_few : (p : RowTree) → fewest_in_root row_family p ≤ half
 root_few (stub d) = omega arith
 root_few (leaf es) = omega arith
 root_few (inner ss ps) = omega arith

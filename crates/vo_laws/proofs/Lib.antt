@@ -11,3 +11,12 @@ pub mod JoinLaws
 pub mod Exact
 pub mod Growing
 pub mod Grown
+pub mod CommandLaws
+pub mod StandingLaws
+pub mod TreeFits
+pub mod TreeLevels
+pub mod StoredFits
+pub mod PrunedLaws
+pub mod ReplyTrees
+pub mod NamedFits
+pub mod Complete

@@ -87,7 +87,7 @@ number_bytes : (n : ℕ) → AreBytes (u64_bytes n)
 unfolding u64_bytes
 number_bytes n = (omega arith, (omega arith, (omega arith, (omega arith, (omega arith, (omega arith, (omega arith, (omega arith, tt))))))))
 
-number_length : (n : ℕ) → length (u64_bytes n) ≡ 8
+pub number_length : (n : ℕ) → length (u64_bytes n) ≡ 8
 unfolding u64_bytes
 number_length n = refl
 

@@ -2,15 +2,22 @@
 //! client sees and what the plain tables say.
 #![tactic(auto)]
 
-ghost use Rattle.std.specs.Prelude.{◌≡◌, List, None};
-ghost use Rattle.std.specs.List.{AllZip};
+ghost use Rattle.std.specs.Prelude.{◌≡◌, ℕ, ◌^◌, ◌≤◌, ◌<◌, List, None, Ok, length};
+ghost use Rattle.std.specs.List.{AllByRecursion, AllZip};
+ghost use Rattle.vo_spec.specs.declared.records.Record.{Record};
+ghost use Rattle.vo_spec.specs.declared.tables.Command.{Command};
 ghost use Rattle.vo_spec.specs.declared.tables.Table.{Table};
+ghost use Rattle.vo_spec.specs.Batches.{FitsBatch};
+ghost use Rattle.vo_spec.specs.Fits.{FitsTree};
+ghost use Rattle.vo_spec.specs.Owners.{IsSigned};
+ghost use Rattle.vo_spec.specs.Records.{FitsCatalog, FitsRecord};
+ghost use Rattle.vo_spec.specs.Tables.{tables_after};
 ghost use Rattle.vo_spec.specs.Conditions.{Query, FitsQuery};
 ghost use Rattle.vo_spec.specs.Results.{result as result_of};
 ghost use Rattle.vo_spec.specs.Trees.{Prunes};
 ghost use Rattle.vo_spec.specs.Replies.{Reply};
-ghost use Rattle.vo_spec.specs.Checks.{seen_outcome, missing_fault};
-ghost use Rattle.vo_spec.specs.Honest.{Stored, StandForTables, catalog_of, trees_for};
+ghost use Rattle.vo_spec.specs.Checks.{answer_to, seen_outcome, missing_fault};
+ghost use Rattle.vo_spec.specs.Honest.{Stored, StandForTables, AreOpen, catalog_of, honest_record, honest_reply, honest_trees, trees_for};
 
 /// Where each tree of a reply prunes the whole tree of its table, nothing is missing, and the whole trees
 /// stand for plain tables, the outcome that the trees show is the query's result on these tables.
@@ -18,4 +25,26 @@ pub fn complete_proofs_show_the_result()
     ensures { (q : Query) (r : Reply) (stored : List Stored) (tables : List Table) → StandForTables stored tables → FitsQuery q
         → r.catalog ≡ catalog_of stored → AllZip Prunes r.trees (trees_for q stored) → missing_fault q r ≡ None
         → seen_outcome q r.catalog r.trees ≡ result_of q tables }
+{}
+
+/// The trees that an honest owner keeps stand for the plain tables of the same batches, as long as these
+/// only make tables, drop them and insert rows; and trees, catalogs and records fit their bytes.
+pub fn honest_trees_stand_for_the_tables()
+    ensures stand { (batches : List (List Command)) → AllByRecursion FitsBatch batches → AreOpen batches
+        → StandForTables (honest_trees batches) (tables_after batches) }
+    ensures trees_fit { (batches : List (List Command)) → AllByRecursion FitsBatch batches → AreOpen batches
+        → AllByRecursion (λ (s : Stored). FitsTree s.tree) (honest_trees batches) }
+    ensures catalog_fits { (batches : List (List Command)) → AllByRecursion FitsBatch batches → AreOpen batches
+        → FitsCatalog (catalog_of (honest_trees batches)) }
+    ensures record_fits { (key : List ℕ) (version : ℕ) (stored : List Stored) → 24 ≤ length key → version < 2 ^ 64
+        → FitsRecord (honest_record key version stored) }
+{}
+
+/// A client takes the reply of an honest store, and its outcome is the query's result on the plain tables.
+pub fn honest_replies_are_accepted()
+    ensures { (batches : List (List Command)) (key : List ℕ) (version : ℕ) (least : ℕ) (q : Query) (rec : Record) (signature : List ℕ)
+        → AllByRecursion FitsBatch batches → AreOpen batches → rec ≡ honest_record key version (honest_trees batches)
+        → IsSigned key rec signature → least ≤ rec.version → FitsQuery q
+        → answer_to key least q (honest_reply q rec signature (honest_trees batches))
+          ≡ Ok (record { version = rec.version; outcome = result_of q (tables_after batches) }) }
 {}

@@ -1,0 +1,217 @@
+-- What an honest owner stores is within the limits of its bytes: trees, catalogs and records.
+use Rattle.std.proofs.Common.{◌≡◌, ℕ, zero, suc, ◌+◌, ◌-◌, ◌^◌, ◌<◌, ◌≤◌, Bool, true, false, cond, List, [], ◌∷◌, Option, Some, None, Result, Ok, Err, length, map, take, drop, refl, sym, ap, ◌∙◌, subst, arith}
+use Rattle.std.specs.Prelude.{◌&&◌, not, filter, fold, bytes_eq, IsTrue}
+use Rattle.std.specs.Result.{result_unwrap_or}
+use Rattle.std.specs.List.{list_all, AllByRecursion, AllZip}
+use Rattle.std.proofs.lemmas.Bool.{and_parts, and_from}
+use Rattle.std.proofs.lemmas.List.{length-map, length-take, length-drop}
+use Rattle.sha2.proofs.Facts256.{length-sha256}
+use Rattle.vo_spec.specs.declared.values.Value.{Value}
+use Rattle.vo_spec.specs.declared.values.Row.{Row}
+use Rattle.vo_spec.specs.declared.tables.Table.{Table}
+use Rattle.vo_spec.specs.declared.tables.Command.{Command}
+use Rattle.vo_spec.specs.declared.tables.Command.TheVariants.{Create, Drop, Insert, Update, Delete}
+use Rattle.vo_spec.specs.declared.tables.CommandFault.{CommandFault}
+use Rattle.vo_spec.specs.declared.trees.UpdateFault.{UpdateFault}
+use Rattle.vo_spec.specs.declared.cells.PartEntry.{PartEntry}
+use Rattle.vo_spec.specs.declared.records.CatalogTable.{CatalogTable}
+use Rattle.vo_spec.specs.declared.records.Catalog.{Catalog}
+use Rattle.vo_spec.specs.Firsts.{unless, and_then}
+use Rattle.vo_spec.specs.Bytes.{id_at}
+use Rattle.vo_spec.specs.Values.{key_lt}
+use Rattle.vo_spec.specs.Tables.{most_tables, heading_of, row_of, table_named, refusal, apply, apply_from, apply_batch, after_batch, tables_after}
+use Rattle.vo_spec.specs.Batches.{FitsCommand, FitsBatch}
+use Rattle.vo_spec.specs.Records.{FitsSchema, FitsCatalogTable, FitsCatalog, FitsRecord, are_rising, catalog_digest, catalog_bytes}
+use Rattle.vo_spec.specs.Lms.{key_id}
+use Rattle.vo_spec.specs.Names.{FitsName}
+use Rattle.vo_spec.specs.Cells.{whole_entry}
+use Rattle.vo_spec.specs.Parts.{stub, leaf, inner, count, entries, leaf_bytes, inner_head, child_bytes}
+use Rattle.vo_spec.specs.Trees.{RowTree, row_family, digest}
+use Rattle.vo_spec.specs.Fits.{FitsKey, FitsRow, FitsTree}
+use Rattle.vo_spec.specs.Inserts.{inserted}
+use Rattle.vo_spec.specs.Standing.{AreRising, IsTree, IsNode, fewest_in_root, StandsFor}
+use Rattle.vo_spec.specs.Honest.{Stored, StandsForTable, StandForTables, is_open_command, AreOpen, stored_heading, put_stored, with_tree, behind_stored, change_tree, changed_trees, work, work_all, after_work, honest_trees, catalog_of, honest_record}
+use Rattle.vo_laws.proofs.ListLaws.{each_weaker, each_map}
+use Rattle.vo_laws.proofs.CommandLaws.{IsInsertable, insertable, FitsTable, FitTables, names_of, each_filter}
+use Rattle.vo_laws.proofs.TreeFits.{Separated, SeparatedTree, KeyFits, tree_separated}
+use Rattle.vo_laws.proofs.TreeLevels.{whole_fits}
+use Rattle.vo_laws.proofs.StandingLaws.{InStep, FitAfter, stored_headings, command_in_step, batch_in_step, InStepFrom, stands}
+
+-- The separators of what is stored fit.
+
+abbrev SeparatedIn : Stored → Type 0
+SeparatedIn s = Separated s.tree
+
+abbrev AreSeparatedIn : List Stored → Type 0
+AreSeparatedIn = AllByRecursion SeparatedIn
+
+abbrev SeparatedAfter : Result (List Stored) CommandFault → Type 0
+SeparatedAfter (Ok stored) = AreSeparatedIn stored
+SeparatedAfter (Err fault) = Unit {0}
+
+with_separated : (s : Stored) (stored : List Stored) (r : Result RowTree UpdateFault) → AreSeparatedIn stored → SeparatedTree r → SeparatedAfter (with_tree s stored r)
+with_separated s stored (Ok t) all here = (here, all)
+with_separated s stored (Err fault) all here = tt
+
+behind_separated : (s : Stored) (r : Result (List Stored) CommandFault) → SeparatedIn s → SeparatedAfter r → SeparatedAfter (behind_stored s r)
+behind_separated s (Ok stored) here all = (here, all)
+behind_separated s (Err fault) here all = tt
+
+keys_fit : (rows : List Row) → AllByRecursion FitsRow rows → AllByRecursion KeyFits (map whole_entry rows)
+keys_fit [] all = tt
+keys_fit (row ∷ rows) all = (all.0.key, keys_fit rows all.1)
+
+change_separated : (name : List ℕ) (values : List Value) (stored : List Stored) (tables : List Table) → StandForTables stored tables → AllByRecursion FitsTable tables
+    → ((t : Table) → table_named name tables ≡ Some t → IsInsertable t values) → AreSeparatedIn stored → SeparatedAfter (change_tree name (Insert name values) stored)
+change_separated name values [] [] zs fits is all = tt
+change_separated name values [] (t ∷ tables) zs fits is all = absurd zs
+change_separated name values (s ∷ stored) [] zs fits is all = absurd zs
+change_separated name values (s ∷ stored) (t ∷ tables) zs fits is all =
+    step (bytes_eq s.name name) (bytes_eq t.name name) (ap (λ n. bytes_eq n name) zs.0.name) is (λ f. change_separated name values stored tables zs.1 fits.1 f all.1)
+  where
+    keys : AllByRecursion KeyFits (entries s.tree)
+    keys = subst (AllByRecursion KeyFits) (sym zs.0.stands.rows_are) (keys_fit t.rows fits.0.rows)
+
+    step : (b c : Bool) → b ≡ c → ((u : Table) → cond c (Some t) (table_named name tables) ≡ Some u → IsInsertable u values)
+        → (((u : Table) → table_named name tables ≡ Some u → IsInsertable u values) → SeparatedAfter (change_tree name (Insert name values) stored))
+        → SeparatedAfter (cond b (with_tree s stored (inserted (whole_entry (row_of s.schema values)) s.tree)) (behind_stored s (change_tree name (Insert name values) stored)))
+    step true true e is rest =
+        with_separated s stored (inserted (whole_entry (row_of s.schema values)) s.tree) all.1
+            (tree_separated (whole_entry (row_of s.schema values)) s.tree (subst (λ z. FitsKey (row_of z values).key) (sym zs.0.schema) (is t refl).short) keys all.0)
+    step true false e is rest = absurd (cc)
+    step false true e is rest = absurd (cc)
+    step false false e is rest = behind_separated s (change_tree name (Insert name values) stored) all.0 (rest is)
+
+put_separated : (s : Stored) (stored : List Stored) → SeparatedIn s → AreSeparatedIn stored → AreSeparatedIn (put_stored s stored)
+put_separated s [] here all = (here, tt)
+put_separated s (r ∷ stored) here all = step (key_lt s.name r.name) (put_separated s stored here all.1)
+  where
+    step : (b : Bool) → AreSeparatedIn (put_stored s stored) → AreSeparatedIn (cond b (s ∷ r ∷ stored) (r ∷ put_stored s stored))
+    step true rest = (here, all)
+    step false rest = (all.0, rest)
+
+changed_separated : (c : Command) (stored : List Stored) (tables : List Table) → is_open_command c ≡ true → refusal c (map heading_of tables) ≡ None → StandForTables stored tables
+    → FitTables tables → AreSeparatedIn stored → SeparatedAfter (changed_trees c stored)
+changed_separated (Create name columns key) stored tables o e zs good all = put_separated _ stored tt all
+changed_separated (Drop name) stored tables o e zs good all = each_filter SeparatedIn (λ (s : Stored). not (bytes_eq s.name name)) stored all
+changed_separated (Insert name values) stored tables o e zs good all = change_separated name values stored tables zs good.each (insertable name values tables e) all
+changed_separated (Update name sets column value) stored tables o e zs good all = absurd (cc)
+changed_separated (Delete name column value) stored tables o e zs good all = absurd (cc)
+
+work_separated : (c : Command) (stored : List Stored) (tables : List Table) → is_open_command c ≡ true → StandForTables stored tables → FitTables tables → AreSeparatedIn stored
+    → SeparatedAfter (work c stored)
+unfolding work
+work_separated c stored tables o zs good all =
+    subst (λ hs. SeparatedAfter (and_then (changed_trees c) (unless (refusal c hs) stored))) (sym (stored_headings stored tables zs)) (step (refusal c (map heading_of tables)) refl)
+  where
+    step : (r : Option CommandFault) → refusal c (map heading_of tables) ≡ r → SeparatedAfter (and_then (changed_trees c) (unless r stored))
+    step None e = changed_separated c stored tables o e zs good all
+    step (Some fault) e = tt
+
+next_separated : (cs : List Command) (r : Result (List Stored) CommandFault) (s : Result (List Table) CommandFault) → InStep r s → FitAfter s → SeparatedAfter r
+    → ((stored : List Stored) (tables : List Table) → StandForTables stored tables → FitTables tables → AreSeparatedIn stored → SeparatedAfter (work_all cs stored))
+    → SeparatedAfter (and_then (work_all cs) r)
+next_separated cs (Ok stored) (Ok tables) i good all next = next stored tables i good all
+next_separated cs (Ok stored) (Err fault) i good all next = absurd i
+next_separated cs (Err fault) s i good all next = tt
+
+batch_separated : (cs : List Command) (stored : List Stored) (tables : List Table) → list_all is_open_command cs ≡ true → AllByRecursion FitsCommand cs
+    → StandForTables stored tables → FitTables tables → AreSeparatedIn stored → SeparatedAfter (work_all cs stored)
+batch_separated [] stored tables o fits zs good all = all
+batch_separated (c ∷ cs) stored tables o fits zs good all =
+    let open_both = and_parts (is_open_command c) (list_all is_open_command cs) o in
+    let i = command_in_step c stored tables open_both.0 fits.0 zs good in
+    next_separated cs (work c stored) (apply c tables) i.0 i.1 (work_separated c stored tables open_both.0 zs good all)
+        (λ after others y g a. batch_separated cs after others open_both.1 fits.1 y g a)
+
+all_separated : (batches : List (List Command)) (stored : List Stored) (tables : List Table) → AllByRecursion FitsBatch batches → AreOpen batches
+    → StandForTables stored tables → FitTables tables → AreSeparatedIn stored → AreSeparatedIn (fold after_work stored batches)
+all_separated [] stored tables fits o zs good all = all
+all_separated (batch ∷ batches) stored tables fits o zs good all =
+    next (work_all batch stored) (apply_batch batch tables) (batch_in_step 0 batch stored tables o.0 fits.0.each zs good) (batch_separated batch stored tables o.0 fits.0.each zs good all)
+        (λ after others y g a. all_separated batches after others fits.1 o.1 y g a)
+  where
+    next : (r : Result (List Stored) CommandFault) (s : Result (List Table) (ℕ × CommandFault)) → InStepFrom r s → SeparatedAfter r
+        → ((after : List Stored) (others : List Table) → StandForTables after others → FitTables others → AreSeparatedIn after → AreSeparatedIn (fold after_work after batches))
+        → AreSeparatedIn (fold after_work (result_unwrap_or r stored) batches)
+    next (Ok after) (Ok others) i a f = f after others i.0 i.1 a
+    next (Ok after) (Err fault) i a f = absurd i
+    next (Err fault) s i a f = f stored tables zs good all
+
+pub honest_separated : (batches : List (List Command)) → AllByRecursion FitsBatch batches → AreOpen batches → AllByRecursion SeparatedIn (honest_trees batches)
+unfolding honest_trees
+honest_separated batches fits o = all_separated batches [] [] fits o tt (record { each = tt; rising = tt; count = omega arith }) tt
+
+-- Trees.
+
+each_tree_fits : (stored : List Stored) (tables : List Table) → StandForTables stored tables → AllByRecursion FitsTable tables → AreSeparatedIn stored
+    → AllByRecursion (λ (s : Stored). FitsTree s.tree) stored
+each_tree_fits [] [] zs fits all = tt
+each_tree_fits [] (t ∷ tables) zs fits all = absurd zs
+each_tree_fits (s ∷ stored) [] zs fits all = absurd zs
+each_tree_fits (s ∷ stored) (t ∷ tables) zs fits all =
+    (whole_fits s.tree t.rows zs.0.stands all.0 fits.0.rows (omega (arith, fits.0.count)), each_tree_fits stored tables zs.1 fits.1 all.1)
+
+pub honest_trees_fit : (batches : List (List Command)) → AllByRecursion FitsBatch batches → AreOpen batches → AllByRecursion (λ (s : Stored). FitsTree s.tree) (honest_trees batches)
+honest_trees_fit batches fits o =
+    let i = stands batches fits o in
+    each_tree_fits (honest_trees batches) (tables_after batches) i.0 i.1.each (honest_separated batches fits o)
+
+-- Catalogs.
+
+pub root_length : (t : RowTree) → IsTree row_family t → length (digest t) ≡ 32
+root_length t tree = step t (fewest_in_root row_family t) tree.height tree.shape
+  where
+    step : (u : RowTree) (fewest height : ℕ) → IsNode row_family fewest height None None u → length (digest u) ≡ 32
+    step (stub d) fewest height n = absurd n
+    step (leaf es) fewest height n = length-sha256 (leaf_bytes row_family es)
+    step (inner ss ps) fewest height n = length-sha256 _
+
+each_catalog_fits : (stored : List Stored) (tables : List Table) → StandForTables stored tables → AllByRecursion FitsTable tables
+    → AllByRecursion FitsCatalogTable (catalog_of stored).tables
+each_catalog_fits [] [] zs fits = tt
+each_catalog_fits [] (t ∷ tables) zs fits = absurd zs
+each_catalog_fits (s ∷ stored) [] zs fits = absurd zs
+each_catalog_fits (s ∷ stored) (t ∷ tables) zs fits =
+    let same : length (entries s.tree) ≡ length t.rows = ap length zs.0.stands.rows_are ∙ length-map t.rows whole_entry in
+    ( record {
+        name = subst FitsName (sym zs.0.name) fits.0.name;
+        schema = subst FitsSchema (sym zs.0.schema) fits.0.schema;
+        rows = omega (arith, fits.0.count);
+        root = root_length s.tree zs.0.stands.tree;
+      }
+    , each_catalog_fits stored tables zs.1 fits.1 )
+
+names_same : (stored : List Stored) (tables : List Table) → StandForTables stored tables → map (λ (t : CatalogTable). t.name) (catalog_of stored).tables ≡ names_of tables
+names_same [] [] zs = refl
+names_same [] (t ∷ tables) zs = absurd zs
+names_same (s ∷ stored) [] zs = absurd zs
+names_same (s ∷ stored) (t ∷ tables) zs = rw (zs.0.name, names_same stored tables zs.1) refl
+
+rises : (names : List (List ℕ)) → AreRising names → IsTrue (are_rising names)
+rises [] r = refl
+rises (a ∷ []) r = refl
+rises (a ∷ b ∷ names) r = and_from (key_lt a b) (are_rising (b ∷ names)) r.0.0 (rises (b ∷ names) r.1)
+
+counted : (stored : List Stored) (tables : List Table) → StandForTables stored tables → length (catalog_of stored).tables ≡ length tables
+counted [] [] zs = refl
+counted [] (t ∷ tables) zs = absurd zs
+counted (s ∷ stored) [] zs = absurd zs
+counted (s ∷ stored) (t ∷ tables) zs = ap suc (counted stored tables zs.1)
+
+pub catalog_fits : (stored : List Stored) (tables : List Table) → StandForTables stored tables → FitTables tables → FitsCatalog (catalog_of stored)
+catalog_fits stored tables zs good = record {
+  count = subst (λ n. n ≤ most_tables) (sym (counted stored tables zs)) good.count;
+  each = each_catalog_fits stored tables zs good.each;
+  rising = subst (λ names. IsTrue (are_rising names)) (sym (names_same stored tables zs)) (rises (names_of tables) good.rising);
+}
+
+-- Records.
+
+pub record_fits : (key : List ℕ) (version : ℕ) (stored : List Stored) → 24 ≤ length key → version < 2 ^ 64 → FitsRecord (honest_record key version stored)
+unfolding honest_record key_id id_at catalog_digest
+record_fits key version stored long lt = record {
+  id = omega (arith, length-take 16 (drop 8 key), length-drop 8 key);
+  version = lt;
+  catalog = length-sha256 _;
+}

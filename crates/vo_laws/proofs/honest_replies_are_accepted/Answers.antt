@@ -1,0 +1,5 @@
+use Rattle.vo_laws.proofs.Complete.{honest_answer}
+use Rattle.vo_laws.proofs.honest_replies_are_accepted.Goals as goal
+
+pub returns : goal.returns
+returns c = honest_answer
