@@ -125,6 +125,9 @@ tables_seen : (xs : List (Rc Stored Global)) → tables_in xs ≡ map table_of (
 tables_seen [] = refl
 tables_seen (x ∷ xs) = ap (λ (t : List Table). table_of x.value ∷ t) (tables_seen xs)
 
+pub same_tables : (new items : List (Rc Stored Global)) → map (λ s. s.value) new ≡ map (λ s. s.value) items → tables_in new ≡ tables_in items
+same_tables new items e = tables_seen new ∙ ap (map table_of) e ∙ sym (tables_seen items)
+
 pub spliced_tables : (new items : List (Rc Stored Global)) (others : List Stored) (from to : ℕ) → map (λ s. s.value) new ≡ take from (map (λ s. s.value) items) ++ others ++ drop to (map (λ s. s.value) items)
     → tables_in new ≡ take from (tables_in items) ++ map table_of others ++ drop to (tables_in items)
 spliced_tables new items others from to e =
@@ -155,7 +158,7 @@ pub create_at : (name : List ℕ) (columns : List Column) (key : List ℕ) (tabl
 unfolding apply
 create_at name columns key tables at e b a =
     let put : put_table (new_table name columns key) tables ≡ take at tables ++ new_table name columns key ∷ drop at tables =
-        ap (put_table (new_table name columns key)) (sym (take-append-drop at tables)) ∙ put_parted (new_table name columns key) (take at tables) (drop at tables) b a in
+    ap (put_table (new_table name columns key)) (sym (take-append-drop at tables)) ∙ put_parted (new_table name columns key) (take at tables) (drop at tables) b a in
     rw e (ap Ok put)
 
 first_passes : (b : Bool) (fault : CommandFault) (others : Tests) → first_of ((b, fault) ∷ others) ≡ None → b ≡ false

@@ -68,7 +68,7 @@ pub row_less : (key : List ℕ) (rows : List Row) (at : ℕ) → Rises rows → 
 row_less key rows at h p =
     let f = here key rows at p.1 in
     let gone : without_row key rows ≡ take at rows ++ drop (at + 1) rows =
-        ap (without_row key) (parted rows at f.0) ∙ without_parts key (take at rows) (row_at rows at) (drop (at + 1) rows) p.0 f.1 (after_here key rows at h f.0 f.1) in
+    ap (without_row key) (parted rows at f.0) ∙ without_parts key (take at rows) (row_at rows at) (drop (at + 1) rows) p.0 f.1 (after_here key rows at h f.0 f.1) in
     rw (has_placed key true rows at p) (ap Some gone)
 
 pub row_less_rises : (key : List ℕ) (rows : List Row) (at : ℕ) → Rises rows → Placed key true rows at → Rises (take at rows ++ drop (at + 1) rows)
@@ -82,9 +82,9 @@ row_changed key changes rows at h p =
     let f = here key rows at p.1 in
     let one : changed_row key changes (row_at rows at) ≡ recelled changes (row_at rows at) = rw (alike (row_at rows at).key key f.1) refl in
     let made : map (changed_row key changes) rows ≡ take at rows ++ recelled changes (row_at rows at) ∷ drop (at + 1) rows =
-        ap (map (changed_row key changes)) (parted rows at f.0)
-        ∙ changed_parts key changes (take at rows) (row_at rows at) (drop (at + 1) rows) p.0 (after_here key rows at h f.0 f.1)
-        ∙ ap (λ (r : Row). take at rows ++ r ∷ drop (at + 1) rows) one in
+    ap (map (changed_row key changes)) (parted rows at f.0)
+    ∙ changed_parts key changes (take at rows) (row_at rows at) (drop (at + 1) rows) p.0 (after_here key rows at h f.0 f.1)
+    ∙ ap (λ (r : Row). take at rows ++ r ∷ drop (at + 1) rows) one in
     rw (has_placed key true rows at p) (ap Some made)
 
 pub row_changed_rises : (key : List ℕ) (changes : List CellChange) (rows : List Row) (at : ℕ) → Rises rows → Placed key true rows at → Rises (take at rows ++ recelled changes (row_at rows at) ∷ drop (at + 1) rows)

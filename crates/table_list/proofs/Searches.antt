@@ -8,7 +8,7 @@ use Rattle.table_list.specs.Rising.{IsBelow, IsAbove, Rises, Begins}
 use Rattle.table_list.specs.Chunks.{row_at, no_row}
 use Rattle.table_list.proofs.Places.{all_more, parted_at, drop_at, take_more}
 use Rattle.table_list.proofs.KeyOrder.{greater_less, equal_turned}
-use Rattle.table_list.proofs.RowLaws.{ all_above, all_above_equal, all_below, all_below_equal, rises_below, rises_above}
+use Rattle.table_list.proofs.RowLaws.{all_above, all_above_equal, all_below, all_below_equal, rises_below, rises_above}
 
 -- parted at a place
 
@@ -35,9 +35,10 @@ search_greater rows m key h lt e =
     subst (AllByRecursion (IsAbove key)) (sym (drop_here rows m lt)) (e, above)
 
 pub search_equal : (rows : List Row) (m : ℕ) (key : List ℕ) → Rises rows → m < length rows → key_cmp (row_at rows m).key key ≡ Equal → AllByRecursion (IsBelow key) (take m rows) × Begins key true (drop m rows)
-search_equal rows m key h lt e =
-    (all_below_equal (row_at rows m).key key (take m rows) e (rises_below (take m rows) (row_at rows m) (drop (m + 1) rows) (around rows m lt h)),
-    subst (Begins key true) (sym (drop_here rows m lt)) e)
+search_equal rows m key h lt e = (
+  all_below_equal (row_at rows m).key key (take m rows) e (rises_below (take m rows) (row_at rows m) (drop (m + 1) rows) (around rows m lt h)),
+  subst (Begins key true) (sym (drop_here rows m lt)) e,
+)
 
 pub search_ends : (rows : List Row) (key : List ℕ) → AllByRecursion (IsAbove key) rows → Begins key false rows
 search_ends [] key h = refl

@@ -65,11 +65,7 @@ fn exchanged(
     Ok(spliced(alloc, tables, at, at + 1, &table)?)
 }
 
-fn dropped(
-    alloc: Global,
-    tables: &[Rc<Stored>],
-    name: &Name,
-) -> Result<Vec<Rc<Stored>>, ApplyFault>
+fn dropped(alloc: Global, tables: &[Rc<Stored>], name: &Name) -> Result<Vec<Rc<Stored>>, ApplyFault>
     requires { Differ (tables_in tables.now) }
     ensures answer { Gives (λ new. tables_in new.items) result (apply (DropTable name.now) (tables_in tables.now)) }
     ensures differ { IfOk result (λ new. Differ (tables_in new.items)) }

@@ -78,7 +78,13 @@ pub(crate) fn updated_rows(
         return Err(ApplyFault::Refused(fault));
     }
     let key = key_of(alloc, value)?;
-    match with_changed(alloc, table.rows.as_slice(), &table.head.schema, sets, key.as_bytes())? {
+    match with_changed(
+        alloc,
+        table.rows.as_slice(),
+        &table.head.schema,
+        sets,
+        key.as_bytes(),
+    )? {
         None => Err(ApplyFault::Refused(CommandFault::NoRow)),
         Some(rows) => Ok(Rows::from_vec(rows)),
     }

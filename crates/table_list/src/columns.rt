@@ -67,7 +67,10 @@ pub(crate) fn kind_at(columns: &[Column], number: usize) -> Kind
 pub(crate) fn suits(columns: &[Column], name: &[u8], value: &Value) -> bool
     ensures { result ≡ suits columns.now name.now value.now }
 {
-    same_kind(kind_at(columns, column_number(columns, name)), kind_of(value))
+    same_kind(
+        kind_at(columns, column_number(columns, name)),
+        kind_of(value),
+    )
 }
 
 #[tactic(auto, using(crate::proofs::KindLaws::unlike_lengths))]

@@ -16,7 +16,7 @@ mod stored;
 mod tables;
 
 pub use fault::{ApplyFault, BatchFault};
-pub use tables::{Tables, apply};
+pub use tables::{Tables, apply, apply_batch};
 pub use vo_spec::{
     Batch, Cmp, Column, Command, CommandFault, Cond, Items, Join, Operand, Outcome, QueryFault,
     QueryText, Ref, Schema, SetPart, Source, Table,

@@ -103,7 +103,11 @@ pub(crate) fn update_fault(
     None
 }
 
-pub(crate) fn delete_fault(heading: HeadingRef<'_>, column: &[u8], value: &Value) -> Option<CommandFault>
+pub(crate) fn delete_fault(
+    heading: HeadingRef<'_>,
+    column: &[u8],
+    value: &Value,
+) -> Option<CommandFault>
     ensures { result ≡ first_of (delete_tests column.now value.now (heading_seen heading.entry)) }
 {
     let columns = heading.schema.columns.as_slice();
@@ -121,7 +125,11 @@ pub(crate) fn delete_fault(heading: HeadingRef<'_>, column: &[u8], value: &Value
 
 /// The first of a command's tests that holds, but for those that need the rows. `found` is the table that
 /// the command names, where it is there, and `tables` how many tables there are.
-pub fn refusal(command: &Command, found: Option<HeadingRef<'_>>, tables: usize) -> Option<CommandFault>
+pub fn refusal(
+    command: &Command,
+    found: Option<HeadingRef<'_>>,
+    tables: usize,
+) -> Option<CommandFault>
     ensures { (headings : List Heading) → heading_named (command_name command.now) headings ≡ option_map heading_seen found.entry
         → length headings ≡ tables → result ≡ refusal command.now headings }
 {

@@ -4,9 +4,6 @@ ghost use Rattle.vo_spec.specs.Tables.{has_row, put_row, without_row, changed_ro
 ghost use Rattle.table_list.specs.Chunks.{rows_in, row_at, recelled};
 ghost use Rattle.table_list.specs.Rising.{Rises};
 
-
-
-
 use crate::cells::changed_cells;
 use crate::place::place_of;
 use crate::sharing::spliced;
@@ -109,12 +106,7 @@ fn row_at(rows: &[Rc<Row>], at: usize) -> &Row
 }
 
 /// The row as a SET changes it.
-fn recelled(
-    alloc: Global,
-    row: &Row,
-    schema: &Schema,
-    sets: &[SetPart],
-) -> Result<Row, AllocError>
+fn recelled(alloc: Global, row: &Row, schema: &Schema, sets: &[SetPart]) -> Result<Row, AllocError>
     ensures { IfOk result (λ new. new ≡ recelled (cell_changes schema.now sets.now) row.now) }
 {
     Ok(Row {

@@ -9,19 +9,22 @@ use vo_spec::{Column, Schema, SetPart};
 pub(crate) fn have_columns(columns: &[Column], sets: &[SetPart]) -> bool
     ensures { result ≡ list_all (λ s. has_column columns.now s.column) sets.now }
 {
-    sets.iter().all(|part| has_column(columns, part.column.as_bytes()))
+    sets.iter()
+        .all(|part| has_column(columns, part.column.as_bytes()))
 }
 
 pub(crate) fn sets_key(schema: &Schema, sets: &[SetPart]) -> bool
     ensures { result ≡ list_any (λ s. is_key schema.now s.column) sets.now }
 {
-    sets.iter().any(|part| is_key(schema, part.column.as_bytes()))
+    sets.iter()
+        .any(|part| is_key(schema, part.column.as_bytes()))
 }
 
 pub(crate) fn all_suit(columns: &[Column], sets: &[SetPart]) -> bool
     ensures { result ≡ list_all (λ s. suits columns.now s.column s.value) sets.now }
 {
-    sets.iter().all(|part| suits(columns, part.column.as_bytes(), &part.value))
+    sets.iter()
+        .all(|part| suits(columns, part.column.as_bytes(), &part.value))
 }
 
 fn is_set(sets: &[SetPart], name: &[u8]) -> bool

@@ -18,4 +18,4 @@ returns-in-Some-clause-answer c =
     let here = at_lent c.as_bytes.result.now c.args.name.now tables c.in-Some.at c.as_bytes.ensures c.in-Some.ensures in
     let same = ap (λ (t : Table). on_tables tables c.in-Some.at (inserted_rows c.args.values.now t)) c.stored_at.ensures ∙ sym (insert_at c.args.name.now c.args.values.now tables c.in-Some.at here) in
     subst (λ (answer : Result (List Table) CommandFault). Gives (λ new. tables_in new.items) c.put_rows.result answer) same
-        (c.put_rows.ensures.answer (inserted_rows c.args.values.now (table_of c.stored_at.result.now)) c.inserted_rows-rows.ensures)
+    (c.put_rows.ensures.answer (inserted_rows c.args.values.now (table_of c.stored_at.result.now)) c.inserted_rows-rows.ensures)

@@ -18,4 +18,4 @@ returns-in-Some-clause-answer c =
     let here = at_lent c.as_bytes.result.now c.args.name.now tables c.in-Some.at c.as_bytes.ensures c.in-Some.ensures in
     let same = ap (λ (t : Table). on_tables tables c.in-Some.at (updated_rows c.args.sets.now c.args.column.now c.args.value.now t)) c.stored_at-table.ensures ∙ sym (update_at c.args.name.now c.args.sets.now c.args.column.now c.args.value.now tables c.in-Some.at here) in
     subst (λ (answer : Result (List Table) CommandFault). Gives (λ new. tables_in new.items) c.put_rows.result answer) same
-        (c.put_rows.ensures.answer (updated_rows c.args.sets.now c.args.column.now c.args.value.now (table_of c.stored_at-table.result.now)) c.updated_rows-rows.ensures)
+    (c.put_rows.ensures.answer (updated_rows c.args.sets.now c.args.column.now c.args.value.now (table_of c.stored_at-table.result.now)) c.updated_rows-rows.ensures)

@@ -16,7 +16,7 @@ returns-in-Some-clause-answer c =
     let found = found_lent c.as_bytes.result.now name tables c.find-found.result c.as_bytes.ensures c.find-found.ensures in
     let long : length (map heading_of tables) ≡ length c.args.tables.now = length-map tables heading_of ∙ length-map c.args.tables.now _ in
     let tests = tests_lent name c.as_bytes-2.result.now c.args.key.now c.args.columns.now tables c.create_fault.result c.as_bytes-2.ensures
-        (c.create_fault.ensures name (map heading_of tables) (found_some name tables c.find-found.result c.is_some.result found c.is_some.ensures) long) in
+    (c.create_fault.ensures name (map heading_of tables) (found_some name tables c.find-found.result c.is_some.result found c.is_some.ensures) long) in
     create_refused name c.args.columns.now c.args.key.now tables c.in-Some.fault (tests ∙ c.in-Some.is)
 
 pub returns-clause-answer : goal.returns-clause-answer
@@ -26,7 +26,7 @@ returns-clause-answer c =
     let found = found_lent c.as_bytes.result.now name tables c.find-found.result c.as_bytes.ensures c.find-found.ensures in
     let long : length (map heading_of tables) ≡ length c.args.tables.now = length-map tables heading_of ∙ length-map c.args.tables.now _ in
     let tests = tests_lent name c.as_bytes-2.result.now c.args.key.now c.args.columns.now tables c.create_fault.result c.as_bytes-2.ensures
-        (c.create_fault.ensures name (map heading_of tables) (found_some name tables c.find-found.result c.is_some.result found c.is_some.ensures) long) in
+    (c.create_fault.ensures name (map heading_of tables) (found_some name tables c.find-found.result c.is_some.result found c.is_some.ensures) long) in
     let at = c.place_for-at.result in
     let before = subst (λ (n : List ℕ). AllByRecursion (IsNotAbove n) (take at tables)) c.as_bytes-3.ensures c.place_for-at.ensures.before in
     let after = subst (λ (n : List ℕ). BeginsAbove n (drop at tables)) c.as_bytes-3.ensures c.place_for-at.ensures.after in
@@ -41,7 +41,7 @@ returns-clause-differ c =
     let found = found_lent c.as_bytes.result.now name tables c.find-found.result c.as_bytes.ensures c.find-found.ensures in
     let long : length (map heading_of tables) ≡ length c.args.tables.now = length-map tables heading_of ∙ length-map c.args.tables.now _ in
     let tests = tests_lent name c.as_bytes-2.result.now c.args.key.now c.args.columns.now tables c.create_fault.result c.as_bytes-2.ensures
-        (c.create_fault.ensures name (map heading_of tables) (found_some name tables c.find-found.result c.is_some.result found c.is_some.ensures) long) in
+    (c.create_fault.ensures name (map heading_of tables) (found_some name tables c.find-found.result c.is_some.result found c.is_some.ensures) long) in
     let at = c.place_for-at.result in
     let table = new_table name c.args.columns.now c.args.key.now in
     let made = made_between c.in_ok-spliced.field-0.items c.args.tables.now c.in_ok-new.field-0.value table at c.in_ok-spliced.ensures (ap table_of c.in_ok-new.ensures.ok ∙ c.in_ok-new_table.ensures) in
