@@ -2,6 +2,7 @@
 #![tactic(auto)]
 
 mod applying;
+mod batch_reading;
 mod cells;
 mod changing;
 mod columns;
