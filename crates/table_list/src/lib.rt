@@ -3,6 +3,7 @@
 
 mod applying;
 mod batch_reading;
+mod batch_writing;
 mod cells;
 mod changing;
 mod columns;
@@ -16,6 +17,8 @@ mod sharing;
 mod stored;
 mod tables;
 
+pub use batch_reading::read_batch;
+pub use batch_writing::batch_bytes;
 pub use fault::{ApplyFault, BatchFault};
 pub use tables::{Tables, apply, apply_batch};
 pub use vo_spec::{
