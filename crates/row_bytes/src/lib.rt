@@ -12,7 +12,7 @@ mod reading;
 mod text;
 mod writing;
 
-pub use columns::{take_columns, take_kind};
+pub use columns::{take_columns, take_count, take_kind};
 pub use copies::{copy_onto, copy_values, own_value};
 pub use cursor::Cursor;
 pub use fault::FormFault;

@@ -2,6 +2,8 @@
 #![tactic(auto)]
 
 mod applying;
+mod batch_reading;
+mod batch_writing;
 mod cells;
 mod changing;
 mod columns;
@@ -15,8 +17,10 @@ mod sharing;
 mod stored;
 mod tables;
 
+pub use batch_reading::read_batch;
+pub use batch_writing::batch_bytes;
 pub use fault::{ApplyFault, BatchFault};
-pub use tables::{Tables, apply};
+pub use tables::{Tables, apply, apply_batch};
 pub use vo_spec::{
     Batch, Cmp, Column, Command, CommandFault, Cond, Items, Join, Operand, Outcome, QueryFault,
     QueryText, Ref, Schema, SetPart, Source, Table,
