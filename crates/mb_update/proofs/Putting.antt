@@ -110,9 +110,9 @@ mutual
   grow_in_puts e ss (more k p ps) c h =
       chosen _ _ _ c h
       (λ here. let m = mapped (put_grown row_family ss ps) (grow row_family e p) c here in
-        same_lists e _ _ _ (before_others e (entries_in ps) _ _ (grow_puts e p m.value m.ok)) (sym (put_grown_entries ss ps m.value) ∙ ap (λ x. entries_in x.parts) (sym m.made)))
+      same_lists e _ _ _ (before_others e (entries_in ps) _ _ (grow_puts e p m.value m.ok)) (sym (put_grown_entries ss ps m.value) ∙ ap (λ x. entries_in x.parts) (sym m.made)))
       (λ on. let m = mapped (after_child k p ss) (grow_in row_family e (drop 1 ss) ps) c on in
-        same_lists e _ _ _ (after_others e (entries p) _ _ (grow_in_puts e (drop 1 ss) ps m.value m.ok)) (ap (λ x. entries_in x.parts) (sym m.made)))
+      same_lists e _ _ _ (after_others e (entries p) _ _ (grow_in_puts e (drop 1 ss) ps m.value m.ok)) (ap (λ x. entries_in x.parts) (sym m.made)))
 
 -- An insertion into a tree of so many rows, with every cell shown, gives one of one row more.
 

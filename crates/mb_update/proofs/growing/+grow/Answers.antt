@@ -26,9 +26,10 @@ pub grow_inner-returns-in_ok-put_grown-in-Ok : goal.grow_inner-returns-in_ok-put
 grow_inner-returns-in_ok-put_grown-in-Ok t c =
     let told : FitsGrown c.in-Ok.grown × (grow row_family (whole_entry c.args.entry.now) c.index-children-place.result ≡ Ok (grown_of c.in-Ok.grown)) = c.in-Ok.ensures in
     let ss = map value_of c.args.separators.now in
-    let between : length ss + 1 ≡ length c.args.children.now = omega (arith, count_keys c.args.separators.now, c.requires.between) in
-    (c.in_ok-put_grown-in-Ok.ensures.fits,
-      grown_inner (whole_entry c.args.entry.now) ss c.args.children.now c.child_for-place.result _ c.index-children-place.result (grown_of c.in-Ok.grown) _ between c.child_for-place.ensures.place (c.as_bytes.ensures ∙ c.key.ensures.value) c.index-children-place.is told.1 c.in_ok-put_grown-in-Ok.ensures.same)
+    let between : length ss + 1 ≡ length c.args.children.now = omega (arith, count_keys c.args.separators.now, c.requires.between) in (
+      c.in_ok-put_grown-in-Ok.ensures.fits,
+      grown_inner (whole_entry c.args.entry.now) ss c.args.children.now c.child_for-place.result _ c.index-children-place.result (grown_of c.in-Ok.grown) _ between c.child_for-place.ensures.place (c.as_bytes.ensures ∙ c.key.ensures.value) c.index-children-place.is told.1 c.in_ok-put_grown-in-Ok.ensures.same,
+    )
 
 pub grow_inner-returns-in-Err : goal.grow_inner-returns-in-Err
 grow_inner-returns-in-Err t c =
