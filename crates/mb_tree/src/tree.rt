@@ -2,7 +2,7 @@
 ghost use Rattle.std.specs.Prelude.{◌≡◌, ◌++◌, [], length, IfOk, OnOk, OnErr};
 ghost use Rattle.vo_spec.specs.Parts.{leaf, entries};
 ghost use Rattle.vo_spec.specs.Trees.{digest};
-ghost use Rattle.vo_spec.specs.Standing.{StandsFor, rows_in};
+ghost use Rattle.vo_spec.specs.Standing.{IsShown, rows_in};
 ghost use Rattle.mb_tree.specs.Standing.{IsWhole};
 
 use crate::branches::Branch;
@@ -11,7 +11,7 @@ use std::alloc::{AllocError, Global};
 use std::marker::Model;
 use vo_spec::{Digest, List, Row};
 
-/// A valid Merkle B-tree of rows: contracts see its nodes.
+/// A Merkle B-tree of rows: contracts see its nodes.
 #[derive(Drop)]
 pub struct Tree {
     root: Branch,
@@ -66,7 +66,7 @@ impl Tree {
     /// The rows that the tree stands for, from left to right.
     pub fn rows(&self, alloc: Global) -> Result<List<Row>, AllocError>
         ensures value { IfOk result (λ rows. rows ≡ rows_in self.now) }
-        ensures stands { IfOk result (λ rows. StandsFor self.now rows) }
+        ensures whole { IsShown self.now }
     {
         let mut rows = Vec::new(alloc);
         push_rows(alloc, &self.root, &mut rows)?;

@@ -1,0 +1,111 @@
+//! Insertion into a leaf.
+ghost use Rattle.std.specs.Prelude.{◌≡◌, ◌≤◌, ◌+◌, length, map, insert, IfOk};
+ghost use Rattle.vo_spec.specs.Cells.{whole_entry};
+ghost use Rattle.vo_spec.specs.Parts.{leaf};
+ghost use Rattle.vo_spec.specs.Trees.{row_family};
+ghost use Rattle.vo_spec.specs.Fits.{FitsKey, most_in_node};
+ghost use Rattle.vo_spec.specs.Values.{key_lt as is_less};
+ghost use Rattle.vo_spec.specs.Inserts.{grow, has_key as has_entry, put_entry, split_leaf as split};
+ghost use Rattle.mb_update.specs.Changing.{Grows, IsGrown};
+
+use crate::grown::Grown;
+use crate::sharing::share_entries;
+use mb_tree::{Branch, TreeEntry};
+use std::alloc::{AllocError, Global};
+use std::rc::Rc;
+use vo_spec::{Key, UpdateFault};
+
+/// What comes in the leaf's place with the entry in it.
+pub fn grow_leaf(
+    alloc: Global,
+    entries: &[TreeEntry],
+    entry: &TreeEntry,
+) -> Result<Grown, UpdateFault>
+    requires { length entries.now ≤ most_in_node }
+    ensures { Grows result (grow row_family (whole_entry entry.now) (leaf (map whole_entry entries.now))) }
+{
+    if has_key(entries, entry.key().as_bytes()) {
+        return Err(UpdateFault::DuplicateKey);
+    }
+    let all = with_entry(alloc, entries, entry)?;
+    Ok(split_leaf(alloc, all)?)
+}
+
+fn has_key(entries: &[TreeEntry], key: &[u8]) -> bool
+    ensures { result ≡ has_entry row_family key.now (map whole_entry entries.now) }
+{
+    for entry in entries {
+        if entry.key().as_bytes() == key {
+            return true;
+        }
+    }
+    false
+}
+
+/// How many entries stand before the first of a greater key.
+fn place_for(entries: &[TreeEntry], entry: &TreeEntry) -> usize
+    ensures within { result ≤ length entries.now }
+    ensures place { put_entry row_family (whole_entry entry.now) (map whole_entry entries.now)
+        ≡ map whole_entry (insert entries.now result entry.now) }
+{
+    for (place, other) in entries.iter().enumerate() {
+        if key_lt(entry.key().as_bytes(), other.key().as_bytes()) {
+            return place;
+        }
+    }
+    entries.len()
+}
+
+/// Whether the first is less.
+pub fn key_lt(a: &[u8], b: &[u8]) -> bool
+    ensures { result ≡ is_less a.now b.now }
+{
+    a.cmp(b).is_lt()
+}
+
+fn with_entry(
+    alloc: Global,
+    entries: &[TreeEntry],
+    entry: &TreeEntry,
+) -> Result<Vec<TreeEntry>, AllocError>
+    requires { length entries.now ≤ most_in_node }
+    ensures value { IfOk result (λ all. map whole_entry all.items ≡ put_entry row_family (whole_entry entry.now) (map whole_entry entries.now)) }
+    ensures count { IfOk result (λ all. length all.items ≡ length entries.now + 1) }
+{
+    let place = place_for(entries, entry);
+    let mut all = Vec::with_capacity(alloc, entries.len() + 1)?;
+    share_entries(&entries[..place], &mut all)?;
+    all.push(entry.share()?)?;
+    share_entries(&entries[place..], &mut all)?;
+    Ok(all)
+}
+
+fn split_leaf(alloc: Global, entries: Vec<TreeEntry>) -> Result<Grown, AllocError>
+    requires { length entries.items ≤ most_in_node + 1 }
+    ensures { IfOk result (λ grown. IsGrown grown (split row_family (map whole_entry entries.items))) }
+{
+    if entries.len() <= 16 {
+        return Ok(Grown::One(Branch::leaf(alloc, entries)?));
+    }
+    let left = leaf_of(alloc, &entries[..8])?;
+    let right = leaf_of(alloc, &entries[8..])?;
+    let key = key_of(&entries[8])?;
+    Ok(Grown::Two(left, key, right))
+}
+
+fn leaf_of(alloc: Global, entries: &[TreeEntry]) -> Result<Branch, AllocError>
+    requires { length entries.now ≤ most_in_node }
+    ensures { IfOk result (λ branch. branch ≡ leaf (map whole_entry entries.now)) }
+{
+    let mut shared = Vec::with_capacity(alloc, entries.len())?;
+    share_entries(entries, &mut shared)?;
+    Branch::leaf(alloc, shared)
+}
+
+fn key_of(entry: &TreeEntry) -> Result<Rc<Key>, AllocError>
+    ensures value { IfOk result (λ key. key.value ≡ entry.now.key) }
+    ensures fits { FitsKey entry.now.key }
+{
+    let _key = entry.key();
+    entry.share_key()
+}
