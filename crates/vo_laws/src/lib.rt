@@ -46,5 +46,5 @@ pub fn honest_replies_are_accepted()
         → AllByRecursion FitsBatch batches → AreOpen batches → rec ≡ honest_record key version (honest_trees batches)
         → IsSigned key rec signature → least ≤ rec.version → FitsQuery q
         → answer_to key least q (honest_reply q rec signature (honest_trees batches))
-          ≡ Ok (record { version = rec.version; outcome = result_of q (tables_after batches) }) }
+        ≡ Ok (record { version = rec.version; outcome = result_of q (tables_after batches) }) }
 {}
