@@ -13,8 +13,8 @@ use Rattle.vo_spec.specs.Cells.{cell_digest, cell_digests, row_digest, entry_byt
 use Rattle.vo_spec.specs.Parts.{stub, leaf, inner, none, more, count, entries, entries_in, child_bytes, PrunesEach}
 use Rattle.vo_spec.specs.Trees.{RowTree, RowTrees, row_family, digest, Prunes}
 use Rattle.vo_spec.specs.Pruned.{Walk, misses, misses_in, goes_beyond, goes_beyond_in, pruned_by, pruned_in, going_in, is_any, named, has_column, shows_beyond, row_beyond, shown_cells, shown_row, walk_for, has_surplus, pruned}
-use Rattle.vo_spec.specs.Inserts.{half}
-use Rattle.vo_spec.specs.Standing.{IsNode, AreNodes}
+use Rattle.vo_spec.specs.Inserts.{half, walk_to, insert_proof, insert_misses, insert_goes_beyond}
+use Rattle.vo_spec.specs.Standing.{IsNode, AreNodes, IsTree, fewest_in_root}
 use Rattle.vo_laws.proofs.ListLaws.{each_left, each_right, each_both}
 
 -- What prunes a tree has its digest.
@@ -250,3 +250,19 @@ row_bare columns (Cells cells) = step (is_any columns) refl
 
 pub pruned_bare : (needs : List Need) (t : RowTree) → has_surplus needs (pruned needs t) ≡ false
 pruned_bare needs t = walk_bare (walk_for needs) (λ e. row_bare (named needs e.key) e.row) (going_in needs) t
+
+-- The proof of an insertion.
+
+pub insert_prunes : (key : List ℕ) (t : RowTree) → Prunes (insert_proof key t) t
+insert_prunes key t = walk_prunes (walk_to key) (λ e. record { key = refl; row = refl }) true t
+
+pub insert_bare : (key : List ℕ) (t : RowTree) → insert_goes_beyond key (insert_proof key t) ≡ false
+insert_bare key t = walk_bare (walk_to key) (λ e. refl) true t
+
+nothing_lacks : (es : List PartEntry) → AllByRecursion (λ (e : PartEntry). false ≡ false) es
+nothing_lacks [] = tt
+nothing_lacks (e ∷ es) = (refl, nothing_lacks es)
+
+pub insert_complete : (key : List ℕ) (t : RowTree) → IsTree row_family t → insert_misses key (insert_proof key t) ≡ false
+insert_complete key t tree =
+    walk_complete (walk_to key) true (fewest_in_root row_family t) tree.height None None t tree.shape (nothing_lacks (entries t))
