@@ -20,3 +20,4 @@ pub mod PrunedLaws
 pub mod ReplyTrees
 pub mod NamedFits
 pub mod Complete
+pub mod PrunedFits
