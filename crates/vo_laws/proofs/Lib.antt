@@ -21,3 +21,4 @@ pub mod ReplyTrees
 pub mod NamedFits
 pub mod Complete
 pub mod PrunedFits
+pub mod ReplyFits
