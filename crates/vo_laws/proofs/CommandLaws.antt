@@ -1,10 +1,10 @@
 -- Commands on plain tables: what a command that isn't refused keeps of them, and the facts of a row that is
 -- inserted.
-use Rattle.std.proofs.Common.{◌≡◌, ◌≢◌, ℕ, zero, suc, ◌+◌, ◌-◌, ◌<◌, ◌≤◌, Bool, true, false, cond, eqb, List, [], ◌∷◌, ◌++◌, Option, Some, None, length, map, take, drop, inl, inr, refl, sym, ap, ◌∙◌, subst, arith}
-use Rattle.std.specs.Prelude.{◌||◌, ◌&&◌, ◌==◌, not, nat_lt, nat_le, find, filter, remove, slice_index_or, option_map, bytes_eq, is_some}
+use Rattle.std.proofs.Common.{◌≡◌, ℕ, zero, suc, ◌+◌, ◌<◌, ◌≤◌, Bool, true, false, cond, List, [], ◌∷◌, Some, None, length, map, take, drop, inl, inr, refl, sym, ap, ◌∙◌, subst, arith}
+use Rattle.std.specs.Prelude.{◌||◌, ◌==◌, not, nat_lt, nat_le, filter, remove, option_map, bytes_eq, is_some}
 use Rattle.std.specs.Option.{option_map_or}
-use Rattle.std.specs.List.{list_any, AllByRecursion}
-use Rattle.std.proofs.lemmas.Bool.{and_parts, or_parts, both_ways, cases_Bool, not-true, not-false, not_from_false, eqb-true, ltb-true, ltb-false, leb-false, and_from, eq-eqb, le-leb}
+use Rattle.std.specs.List.{AllByRecursion}
+use Rattle.std.proofs.lemmas.Bool.{and_parts, or_parts, both_ways, cases_Bool, not-true, not_from_false, eqb-true, ltb-true, ltb-false, leb-false, and_from, eq-eqb, le-leb}
 use Rattle.std.proofs.lemmas.Slice.Eq.{bytes_eq-Decides}
 use Rattle.std.proofs.lemmas.List.Edits.{length-remove}
 use Rattle.std.proofs.lemmas.List.{length-map}
@@ -17,21 +17,20 @@ use Rattle.vo_spec.specs.declared.values.Row.{Row}
 use Rattle.vo_spec.specs.declared.tables.Column.{Column}
 use Rattle.vo_spec.specs.declared.tables.Schema.{Schema}
 use Rattle.vo_spec.specs.declared.tables.Table.{Table}
-use Rattle.vo_spec.specs.declared.tables.Command.{Command}
-use Rattle.vo_spec.specs.declared.tables.Command.TheVariants.{Create, Drop, Insert, Update, Delete}
+use Rattle.vo_spec.specs.declared.tables.Command.TheVariants.{Create, Insert}
 use Rattle.vo_spec.specs.declared.tables.CommandFault.{CommandFault}
 use Rattle.vo_spec.specs.declared.tables.CommandFault.TheVariants.{TableExists, NoTable, BadSchema, Arity, TypeMismatch, TableFull, TooManyTables, KeyTooLong}
 use Rattle.vo_spec.specs.Firsts.{first_of}
 use Rattle.vo_spec.specs.Values.{kind_of, same_kind, key_of, key_lt, FitsValue, IsInRange, IsKeyOf, is_text}
-use Rattle.vo_spec.specs.Tables.{most_tables, most_rows, most_key, no_value, no_column, value_at, column_at, column_number, has_column, has_twice, are_of_kinds, Heading, heading_of, heading_named, on_table, is_bad_schema, refusal, row_of, has_row, put_row, table_named, put_table, with_rows}
+use Rattle.vo_spec.specs.Tables.{most_tables, most_rows, most_key, value_at, column_at, column_number, has_column, has_twice, are_of_kinds, Heading, heading_of, heading_named, is_bad_schema, refusal, row_of, put_row, table_named, put_table, with_rows}
 use Rattle.vo_spec.specs.Names.{FitsName}
-use Rattle.vo_spec.specs.Batches.{FitCounted, FitsColumn, FitsCommand, most_columns}
+use Rattle.vo_spec.specs.Batches.{FitCounted, FitsCommand}
 use Rattle.vo_spec.specs.Records.{FitsSchema}
-use Rattle.vo_spec.specs.Fits.{FitsKey, FitsRow, most_cells}
+use Rattle.vo_spec.specs.Fits.{FitsRow}
 use Rattle.vo_spec.specs.Standing.{AreRising}
 use Rattle.vo_spec.specs.Checks.{key_kind, is_key_of}
-use Rattle.vo_laws.proofs.KeyOrder.{key_lt_itself, same_key, key_lt_lt}
-use Rattle.vo_laws.proofs.ListLaws.{each_weaker, each_left, each_right, each_both, each_map, each_mapped}
+use Rattle.vo_laws.proofs.KeyOrder.{same_key, key_lt_lt}
+use Rattle.vo_laws.proofs.ListLaws.{each_weaker, each_both, each_map, each_mapped}
 use Rattle.vo_laws.proofs.ValueOrder.{number_length}
 use Rattle.vo_laws.proofs.ConditionLaws.{same_kind_is}
 use Rattle.vo_laws.proofs.Growing.{other_back}
@@ -114,9 +113,9 @@ pub key_inserted : (t : Table) (values : List Value) → FitsSchema t.schema →
     → IsKeyOf (key_kind t.schema) (row_of t.schema values).key
 key_inserted t values schema fits is =
     key_of_kind (key_kind t.schema) (value_at values t.schema.key)
-        (same_kind_is (key_kind t.schema) (kind_of (value_at values t.schema.key)) (kind_there t.schema.columns values t.schema.key is.kinds schema.key_in))
-        (not-true (same_kind (key_kind t.schema) kind.Bool) schema.key_kind)
-        (in_range (value_at values t.schema.key) (value_there values t.schema.key fits))
+    (same_kind_is (key_kind t.schema) (kind_of (value_at values t.schema.key)) (kind_there t.schema.columns values t.schema.key is.kinds schema.key_in))
+    (not-true (same_kind (key_kind t.schema) kind.Bool) schema.key_kind)
+    (in_range (value_at values t.schema.key) (value_there values t.schema.key fits))
 
 -- Tables with names that rise, each within its limits.
 
@@ -185,10 +184,11 @@ filter_rises test [] r = tt
 filter_rises test (t ∷ tables) r = step (test t) (filter_rises test tables r.1)
   where
     step : (b : Bool) → AreRising (names_of (filter test tables)) → AreRising (names_of (cond b (t ∷ filter test tables) (filter test tables)))
-    step true rest =
-        ( each_map (λ k. key_lt t.name k ≡ true) (λ (u : Table). u.name) (filter test tables)
-            (each_filter (λ (u : Table). key_lt t.name u.name ≡ true) test tables (each_mapped (λ k. key_lt t.name k ≡ true) (λ (u : Table). u.name) tables r.0))
-        , rest )
+    step true rest = (
+      each_map (λ k. key_lt t.name k ≡ true) (λ (u : Table). u.name) (filter test tables)
+          (each_filter (λ (u : Table). key_lt t.name u.name ≡ true) test tables (each_mapped (λ k. key_lt t.name k ≡ true) (λ (u : Table). u.name) tables r.0)),
+      rest,
+    )
     step false rest = rest
 
 filter_shorter : (test : Table → Bool) (tables : List Table) → length (filter test tables) ≤ length tables
@@ -219,9 +219,9 @@ named_nowhere name (t ∷ tables) e = step (bytes_eq t.name name) refl e (named_
 
 not_named : (name other : List ℕ) → key_lt name other ≡ false → bytes_eq other name ≡ false → key_lt other name ≡ true
 not_named name other e f = elim (cases_Bool (key_lt other name)) [
-    | inl g ↦ g
-    | inr g ↦ absurd (both_ways (bytes_eq other name) f ((bytes_eq-Decides other name).1 (same_key other name g e)))
-  ]
+  | inl g ↦ g
+  | inr g ↦ absurd (both_ways (bytes_eq other name) f ((bytes_eq-Decides other name).1 (same_key other name g e)))
+]
 
 each_put : (P : Table → Type 0) (t : Table) (tables : List Table) → P t → AllByRecursion P tables → AllByRecursion P (put_table t tables)
 each_put P t [] p all = (p, tt)
@@ -238,10 +238,11 @@ put_table_rises t (u ∷ tables) new r = step (key_lt t.name u.name) refl (put_t
   where
     step : (b : Bool) → key_lt t.name u.name ≡ b → AreRising (names_of (put_table t tables)) → AreRising (names_of (cond b (t ∷ u ∷ tables) (u ∷ put_table t tables)))
     step true lt rest = ((lt, each_weaker (λ k. key_lt u.name k ≡ true) (λ k. key_lt t.name k ≡ true) (λ k g. key_lt_lt t.name u.name k lt g) (names_of tables) r.0), r)
-    step false ge rest =
-        ( each_map (λ k. key_lt u.name k ≡ true) (λ (v : Table). v.name) (put_table t tables)
-            (each_put (λ (v : Table). key_lt u.name v.name ≡ true) t tables (not_named t.name u.name ge new.0) (each_mapped (λ k. key_lt u.name k ≡ true) (λ (v : Table). v.name) tables r.0))
-        , rest )
+    step false ge rest = (
+      each_map (λ k. key_lt u.name k ≡ true) (λ (v : Table). v.name) (put_table t tables)
+          (each_put (λ (v : Table). key_lt u.name v.name ≡ true) t tables (not_named t.name u.name ge new.0) (each_mapped (λ k. key_lt u.name k ≡ true) (λ (v : Table). v.name) tables r.0)),
+      rest,
+    )
 
 put_table_length : (t : Table) (tables : List Table) → length (put_table t tables) ≡ suc (length tables)
 put_table_length t [] = refl
@@ -257,7 +258,7 @@ pub created_fit : (name : List ℕ) (columns : List Column) (key : List ℕ) (ta
 unfolding FitsCommand
 created_fit name columns key tables fits e before =
     let tests = none_holds
-        ((is_some (heading_named name (map heading_of tables)), TableExists) ∷ (nat_le most_tables (length (map heading_of tables)), TooManyTables) ∷ (is_bad_schema columns key, BadSchema) ∷ []) e in
+    ((is_some (heading_named name (map heading_of tables)), TableExists) ∷ (nat_le most_tables (length (map heading_of tables)), TooManyTables) ∷ (is_bad_schema columns key, BadSchema) ∷ []) e in
     let schema = or_parts (has_twice (map (λ (c : Column). c.name) columns) || not (has_column columns key)) (same_kind (column_at columns (column_number columns key)).kind kind.Bool) tests.1.1.0 in
     let names = or_parts (has_twice (map (λ (c : Column). c.name) columns)) (not (has_column columns key)) schema.0 in
     let few : length (map heading_of tables) < most_tables = leb-false most_tables (length (map heading_of tables)) tests.1.0 in
@@ -349,21 +350,22 @@ each_changed name values (t ∷ tables) fits is all rising = step (bytes_eq t.na
   where
     step : (b : Bool) → bytes_eq t.name name ≡ b → ((u : Table) → cond b (Some t) (table_named name tables) ≡ Some u → IsInsertable u values)
         → (((u : Table) → table_named name tables ≡ Some u → IsInsertable u values) → AllByRecursion FitsTable tables → AreRising (names_of tables)
-            → AllByRecursion FitsTable (with_rows name (λ u. put_row (row_of u.schema values) u.rows) tables))
+        → AllByRecursion FitsTable (with_rows name (λ u. put_row (row_of u.schema values) u.rows) tables))
         → AllByRecursion FitsTable (cond b (record { name = t.name; schema = t.schema; rows = put_row (row_of t.schema values) t.rows }) t ∷ with_rows name (λ u. put_row (row_of u.schema values) u.rows) tables)
     step true f is rest =
         let here : IsInsertable t values = is t refl in
         let longer : length (put_row (row_of t.schema values) t.rows) ≡ suc (length t.rows) = put_row_length (row_of t.schema values) t.rows in
         let room : length t.rows < most_rows = here.room in
-        let name_is : t.name ≡ name = (bytes_eq-Decides t.name name).0 f in
-        ( record {
+        let name_is : t.name ≡ name = (bytes_eq-Decides t.name name).0 f in (
+          record {
             name = all.0.name;
             schema = all.0.schema;
             rows = each_put_row FitsRow (row_of t.schema values) t.rows (row_fits t values all.0.schema fits here) all.0.rows;
             kinds = each_put_row (HasKinds t.schema) (row_of t.schema values) t.rows (row_has_kinds t values all.0.schema fits.2 here) all.0.kinds;
             count = omega arith;
-          }
-        , subst (AllByRecursion FitsTable) (sym (others_kept name (λ u. put_row (row_of u.schema values) u.rows) tables (subst (λ n. AllByRecursion (λ k. key_lt n k ≡ true) (names_of tables)) name_is rising.0))) all.1 )
+          },
+          subst (AllByRecursion FitsTable) (sym (others_kept name (λ u. put_row (row_of u.schema values) u.rows) tables (subst (λ n. AllByRecursion (λ k. key_lt n k ≡ true) (names_of tables)) name_is rising.0))) all.1,
+        )
     step false f is rest = (all.0, rest is all.1 rising.1)
 
 pub inserted_fit : (name : List ℕ) (values : List Value) (tables : List Table) → FitsCommand (Insert name values)

@@ -1,6 +1,6 @@
 -- A client accepts the reply of an honest store, and its outcome is the query's result.
-use Rattle.std.proofs.Common.{◌≡◌, ℕ, zero, suc, ◌+◌, ◌<◌, ◌≤◌, Bool, true, false, cond, eqb, List, [], ◌∷◌, ◌++◌, Option, Some, None, Result, Ok, Err, length, map, inl, inr, refl, sym, ap, ◌∙◌, subst, arith}
-use Rattle.std.specs.Prelude.{◌||◌, ◌==◌, nat_lt, filter, find, flat_map, zip, is_some, bytes_eq, unwrap_or, option_to_list, option_and_then, IsTrue}
+use Rattle.std.proofs.Common.{◌≡◌, ℕ, suc, ◌≤◌, Bool, true, false, cond, List, [], ◌∷◌, ◌++◌, Option, Some, None, Ok, length, map, inl, refl, sym, ap, ◌∙◌, subst}
+use Rattle.std.specs.Prelude.{◌==◌, nat_lt, filter, zip, is_some, bytes_eq, unwrap_or, option_and_then}
 use Rattle.std.specs.Option.{option_map_or}
 use Rattle.std.specs.List.{list_any, list_all, AllByRecursion, AllZip}
 use Rattle.std.proofs.lemmas.Bool.{and_from, or_from, eq-eqb, le-ltb, cond-true, cond-false}
@@ -13,7 +13,6 @@ use Rattle.vo_spec.specs.declared.needs.SeenRow.{SeenRow}
 use Rattle.vo_spec.specs.declared.queries.Join.{Join}
 use Rattle.vo_spec.specs.declared.queries.Items.{Items}
 use Rattle.vo_spec.specs.declared.queries.Source.{Source}
-use Rattle.vo_spec.specs.declared.queries.QueryFault.{QueryFault}
 use Rattle.vo_spec.specs.declared.records.Record.{Record}
 use Rattle.vo_spec.specs.declared.records.CatalogTable.{CatalogTable}
 use Rattle.vo_spec.specs.declared.checks.CheckFault.{CheckFault}
@@ -24,19 +23,17 @@ use Rattle.vo_spec.specs.Batches.{FitsBatch}
 use Rattle.vo_spec.specs.Conditions.{Condition, Query, FitsQuery}
 use Rattle.vo_spec.specs.Results.{Side, schema_at, sides, no_schema, binding_fault, result}
 use Rattle.vo_spec.specs.Records.{headings, record_bytes, catalog_digest}
-use Rattle.vo_spec.specs.Parts.{leaf}
-use Rattle.vo_spec.specs.Trees.{RowTree, row_family, digest, Prunes}
+use Rattle.vo_spec.specs.Trees.{RowTree, Prunes}
 use Rattle.vo_spec.specs.Scans.{seen}
 use Rattle.vo_spec.specs.Pruned.{is_missing, has_surplus, pruned}
-use Rattle.vo_spec.specs.Standing.{StandsFor}
-use Rattle.vo_spec.specs.Needs.{meets_left, left_need, right_need, named_cells, seen_line, seen_lefts, right_needs, needs, tables_used, same_table, tree_at}
+use Rattle.vo_spec.specs.Needs.{meets_left, left_need, right_need, named_cells, seen_line, right_needs, needs, tables_used, same_table}
 use Rattle.vo_spec.specs.Checks.{table_named, has_table_shape, root_fault, trees_of, key_fault, leaf_fault, signature_fault, age_fault, catalog_fault, count_fault, shape_fault, missing_fault, surplus_fault, reply_fault, seen_outcome, answer_to}
 use Rattle.vo_spec.specs.Replies.{Reply}
-use Rattle.vo_spec.specs.Lms.{key_id, leaf_of, lms_valid}
+use Rattle.vo_spec.specs.Lms.{key_id, lms_valid}
 use Rattle.vo_spec.specs.Owners.{IsSigned}
 use Rattle.vo_spec.specs.Honest.{Stored, StandForTables, catalog_of, stored_tree, pruned_each, honest_reply, honest_trees, honest_record, AreOpen}
 use Rattle.vo_laws.proofs.StandingLaws.{stands}
-use Rattle.vo_laws.proofs.ListLaws.{IsIn, each_both, each_map}
+use Rattle.vo_laws.proofs.ListLaws.{IsIn, each_both}
 use Rattle.vo_laws.proofs.ScanLaws.{Gives, Shows, sound, complete}
 use Rattle.vo_laws.proofs.PrunedLaws.{pruned_prunes, pruned_bare}
 use Rattle.vo_laws.proofs.CommandLaws.{FitTables}
@@ -111,7 +108,7 @@ module _ (stored : List Stored) (tables : List Table) (stand : StandForTables st
   pub record NeedsFit (q : Query) : Type 0 where
     pub fits : AllZip FitNeeds (needs (sides (map heading_of tables) q) q (map tree (tables_used (sides (map heading_of tables) q)))) (tables_used (sides (map heading_of tables) q))
     pub same : needs (sides (map heading_of tables) q) q
-            (pruned_each (needs (sides (map heading_of tables) q) q (map tree (tables_used (sides (map heading_of tables) q)))) (map tree (tables_used (sides (map heading_of tables) q))))
+        (pruned_each (needs (sides (map heading_of tables) q) q (map tree (tables_used (sides (map heading_of tables) q)))) (map tree (tables_used (sides (map heading_of tables) q))))
         ≡ needs (sides (map heading_of tables) q) q (map tree (tables_used (sides (map heading_of tables) q)))
 
   one_source : (items : Items) (left : Source) (condition : Option Condition) → NeedsFit (record { items = items; left = left; join = None; condition = condition })
@@ -134,8 +131,8 @@ module _ (stored : List Stored) (tables : List Table) (stand : StandForTables st
     rights_bounded : (n : ℕ) (o : Option (List SeenRow)) → AreBelow n (named_cells both_sides joining 1) → AreBounded n (rights_of o)
     rights_bounded n o below =
         each_both (λ (need : Need). AreBelow n need.columns)
-            (map (right_need both_sides joining j) (filter (meets_left both_sides joining) (map (seen_line (schema_at both_sides 0) (left_need both_sides joining).columns) (unwrap_or o [])))) []
-            (each_right (filter (meets_left both_sides joining) (map (seen_line (schema_at both_sides 0) (left_need both_sides joining).columns) (unwrap_or o [])))) tt
+        (map (right_need both_sides joining j) (filter (meets_left both_sides joining) (map (seen_line (schema_at both_sides 0) (left_need both_sides joining).columns) (unwrap_or o [])))) []
+        (each_right (filter (meets_left both_sides joining) (map (seen_line (schema_at both_sides 0) (left_need both_sides joining).columns) (unwrap_or o [])))) tt
       where
         each_right : (lefts : List (ℕ → Value)) → AreBounded n (map (right_need both_sides joining j) lefts)
         each_right [] = tt
@@ -159,33 +156,43 @@ module _ (stored : List Stored) (tables : List Table) (stand : StandForTables st
     fits_by true e =
         let table : left.table ≡ j.right.table = is_bytes left.table j.right.table e in
         let n : cells_of (schema_at both_sides 1) ≡ cells_of (schema_at both_sides 0) =
-            ap (λ name. cells_of (option_map_or (λ (h : Heading). h.schema) (heading_named name (map heading_of tables)) no_schema)) (sym table) in
-        ( ( cells_of (schema_at both_sides 0)
-          , ( named_cells_below both_sides joining 0 (rows_named left.table tables) left_fits
-            , rights_bounded (cells_of (schema_at both_sides 0)) (seen (left_need both_sides joining) (tree left.table))
-                (subst (λ k. AreBelow k (named_cells both_sides joining 1)) n (named_cells_below both_sides joining 1 (rows_named j.right.table tables) right_fits)) )
-          , left_fits.cells )
-        , tt )
-    fits_by false e =
-        ( (cells_of (schema_at both_sides 0), (named_cells_below both_sides joining 0 (rows_named left.table tables) left_fits, tt), left_fits.cells)
-        , ( ( cells_of (schema_at both_sides 1)
-            , rights_bounded (cells_of (schema_at both_sides 1)) (seen (left_need both_sides joining) (tree left.table)) (named_cells_below both_sides joining 1 (rows_named j.right.table tables) right_fits)
-            , right_fits.cells )
-          , tt ) )
+        ap (λ name. cells_of (option_map_or (λ (h : Heading). h.schema) (heading_named name (map heading_of tables)) no_schema)) (sym table) in (
+          (
+            cells_of (schema_at both_sides 0),
+            (
+              named_cells_below both_sides joining 0 (rows_named left.table tables) left_fits,
+              rights_bounded (cells_of (schema_at both_sides 0)) (seen (left_need both_sides joining) (tree left.table))
+                  (subst (λ k. AreBelow k (named_cells both_sides joining 1)) n (named_cells_below both_sides joining 1 (rows_named j.right.table tables) right_fits)),
+            ),
+            left_fits.cells,
+          ),
+          tt,
+        )
+    fits_by false e = (
+      (cells_of (schema_at both_sides 0), (named_cells_below both_sides joining 0 (rows_named left.table tables) left_fits, tt), left_fits.cells),
+      (
+        (
+          cells_of (schema_at both_sides 1),
+          rights_bounded (cells_of (schema_at both_sides 1)) (seen (left_need both_sides joining) (tree left.table)) (named_cells_below both_sides joining 1 (rows_named j.right.table tables) right_fits),
+          right_fits.cells,
+        ),
+        tt,
+      ),
+    )
 
     same_by : (b : Bool) → AllZip FitNeeds (needs_by b (map tree (names_by b))) (names_by b)
         → needs_by b (pruned_each (needs_by b (map tree (names_by b))) (map tree (names_by b))) ≡ needs_by b (map tree (names_by b))
     same_by true z =
         let ns : List Need = left_need both_sides joining ∷ right_needs both_sides joining (tree left.table ∷ []) in
         let here : seen (left_need both_sides joining) (pruned ns (tree left.table)) ≡ seen (left_need both_sides joining) (tree left.table) =
-            seen_same ns (left_need both_sides joining) (tree left.table) (inl refl)
-                (pruned_complete z.0.0 ns (tree left.table) (rows_named left.table tables) (named_stands left.table stored tables stand) z.0.1 z.0.2) in
+        seen_same ns (left_need both_sides joining) (tree left.table) (inl refl)
+        (pruned_complete z.0.0 ns (tree left.table) (rows_named left.table tables) (named_stands left.table stored tables stand) z.0.1 z.0.2) in
         ap (λ o. (left_need both_sides joining ∷ rights_of o) ∷ []) here
     same_by false z =
         let ns : List Need = left_need both_sides joining ∷ [] in
         let here : seen (left_need both_sides joining) (pruned ns (tree left.table)) ≡ seen (left_need both_sides joining) (tree left.table) =
-            seen_same ns (left_need both_sides joining) (tree left.table) (inl refl)
-                (pruned_complete z.0.0 ns (tree left.table) (rows_named left.table tables) (named_stands left.table stored tables stand) z.0.1 z.0.2) in
+        seen_same ns (left_need both_sides joining) (tree left.table) (inl refl)
+        (pruned_complete z.0.0 ns (tree left.table) (rows_named left.table tables) (named_stands left.table stored tables stand) z.0.1 z.0.2) in
         ap (λ o. ns ∷ rights_of o ∷ []) here
 
     two_sources : NeedsFit joining
@@ -233,10 +240,12 @@ module _ (stored : List Stored) (tables : List Table) (stand : StandForTables st
       let hs : List Heading = map heading_of tables in
       let names : List (List ℕ) = tables_used (sides hs q) in
       let nss : List (List Need) = needs (sides hs q) q (map tree names) in
-      let n = needs_fit q in
-      ( counted names nss n.fits, each_prunes names nss n.fits
-      , subst (λ z. list_any (λ (t : List Need × RowTree). is_missing t.0 t.1) (zip z (pruned_each nss (map tree names))) ≡ false) (sym n.same) (full names nss n.fits)
-      , subst (λ z. list_any (λ (t : List Need × RowTree). has_surplus t.0 t.1) (zip z (pruned_each nss (map tree names))) ≡ false) (sym n.same) (bare names nss) )
+      let n = needs_fit q in (
+        counted names nss n.fits,
+        each_prunes names nss n.fits,
+        subst (λ z. list_any (λ (t : List Need × RowTree). is_missing t.0 t.1) (zip z (pruned_each nss (map tree names))) ≡ false) (sym n.same) (full names nss n.fits),
+        subst (λ z. list_any (λ (t : List Need × RowTree). has_surplus t.0 t.1) (zip z (pruned_each nss (map tree names))) ≡ false) (sym n.same) (bare names nss),
+      )
 
   well_headed : (q : Query) → IsWell q (headings (catalog_of stored)) (is_some (binding_fault (headings (catalog_of stored)) q))
   well_headed q = subst (λ hs. IsWell q hs (is_some (binding_fault hs q))) (sym (same_headings stored tables stand)) (well q (is_some (binding_fault (map heading_of tables) q)))
@@ -256,18 +265,18 @@ module _ (stored : List Stored) (tables : List Table) (stand : StandForTables st
       let names : List (List ℕ) = names_if q hs (is_some (binding_fault hs q)) in
       let nss : List (List Need) = needs (sides hs q) q (map tree names) in
       none_of_ten (key_fault key r) (leaf_fault key r) (signature_fault key r) (age_fault least r) (catalog_fault r) (count_fault q r) (shape_fault q r)
-          (first_some (map root_fault (trees_of q r))) (missing_fault q r) (surplus_fault q r)
-          (cond-true (bytes_eq rec.id (key_id key)) None _ ((bytes_eq-Decides rec.id (key_id key)).1 id))
-          (ap (option_and_then (λ leaf. cond (leaf == rec.version) None (Some (WrongLeaf rec.version leaf)))) signed.leaf
-              ∙ cond-true (rec.version == rec.version) None _ (eq-eqb rec.version rec.version refl))
-          (cond-true (lms_valid key (record_bytes rec) signature) None _ signed.valid)
-          (cond-false (nat_lt rec.version least) _ None (le-ltb rec.version least recent))
-          (cond-true (bytes_eq rec.catalog (catalog_digest (catalog_of stored))) None _ ((bytes_eq-Decides rec.catalog (catalog_digest (catalog_of stored))).1 catalog))
-          (cond-true (length (proofs_if q hs (is_some (binding_fault hs q))) == length names) None _ (eq-eqb (length (proofs_if q hs (is_some (binding_fault hs q)))) (length names) w.0))
-          (cond-true (list_all has_table_shape (zip (map look names) (pruned_each nss (map tree names)))) None _ (shapes names nss))
-          (roots names nss)
-          (cond-false (list_any (λ (t : List Need × RowTree). is_missing t.0 t.1) (needed_if q hs (is_some (binding_fault hs q)))) _ None w.2)
-          (cond-false (list_any (λ (t : List Need × RowTree). has_surplus t.0 t.1) (needed_if q hs (is_some (binding_fault hs q)))) _ None w.3)
+      (first_some (map root_fault (trees_of q r))) (missing_fault q r) (surplus_fault q r)
+      (cond-true (bytes_eq rec.id (key_id key)) None _ ((bytes_eq-Decides rec.id (key_id key)).1 id))
+      (ap (option_and_then (λ leaf. cond (leaf == rec.version) None (Some (WrongLeaf rec.version leaf)))) signed.leaf
+      ∙ cond-true (rec.version == rec.version) None _ (eq-eqb rec.version rec.version refl))
+      (cond-true (lms_valid key (record_bytes rec) signature) None _ signed.valid)
+      (cond-false (nat_lt rec.version least) _ None (le-ltb rec.version least recent))
+      (cond-true (bytes_eq rec.catalog (catalog_digest (catalog_of stored))) None _ ((bytes_eq-Decides rec.catalog (catalog_digest (catalog_of stored))).1 catalog))
+      (cond-true (length (proofs_if q hs (is_some (binding_fault hs q))) == length names) None _ (eq-eqb (length (proofs_if q hs (is_some (binding_fault hs q)))) (length names) w.0))
+      (cond-true (list_all has_table_shape (zip (map look names) (pruned_each nss (map tree names)))) None _ (shapes names nss))
+      (roots names nss)
+      (cond-false (list_any (λ (t : List Need × RowTree). is_missing t.0 t.1) (needed_if q hs (is_some (binding_fault hs q)))) _ None w.2)
+      (cond-false (list_any (λ (t : List Need × RowTree). has_surplus t.0 t.1) (needed_if q hs (is_some (binding_fault hs q)))) _ None w.3)
 
   -- A client takes it, and its outcome is the query's result on the tables that the trees stand for.
   pub answered : (key : List ℕ) (least : ℕ) (q : Query) (rec : Record) (signature : List ℕ) → rec.id ≡ key_id key → rec.catalog ≡ catalog_digest (catalog_of stored)
@@ -293,4 +302,4 @@ unfolding honest_record
 honest_answer batches key version least q rec signature fits o is signed recent query_fits =
     let s = stands batches fits o in
     answered (honest_trees batches) (tables_after batches) s.0 s.1 key least q rec signature
-        (ap (λ (r : Record). r.id) is) (ap (λ (r : Record). r.catalog) is) signed recent query_fits
+    (ap (λ (r : Record). r.id) is) (ap (λ (r : Record). r.catalog) is) signed recent query_fits

@@ -1,22 +1,19 @@
 -- Entries with one more among them, and nodes that are split: what they keep of a whole tree's shape.
-use Rattle.std.proofs.Common.{◌≡◌, ℕ, zero, suc, ◌+◌, ◌-◌, ◌<◌, ◌≤◌, Bool, true, false, cond, List, [], ◌∷◌, ◌++◌, Option, Some, None, Result, Ok, Err, length, map, take, drop, inl, inr, refl, sym, ap, ◌∙◌, subst, arith, append_assoc}
-use Rattle.std.specs.Prelude.{◌||◌, ◌&&◌, not, nat_le, slice_get, slice_index_or, bytes_eq}
+use Rattle.std.proofs.Common.{◌≡◌, ℕ, zero, suc, ◌+◌, ◌-◌, ◌<◌, ◌≤◌, Bool, true, false, cond, List, [], ◌∷◌, ◌++◌, Option, Some, None, length, map, take, drop, inl, inr, refl, sym, ap, ◌∙◌, subst, arith, append_assoc}
+use Rattle.std.specs.Prelude.{◌||◌, not, nat_le, slice_index_or, bytes_eq}
 use Rattle.std.specs.List.{list_any, AllByRecursion}
 use Rattle.std.proofs.lemmas.Bool.{and_parts, or_parts, and_from, both_ways, cases_Bool, not-true, not_from_false, leb-true, leb-false}
-use Rattle.std.proofs.lemmas.List.{append-nil, length-append, length-take, length-drop, take-append-drop}
+use Rattle.std.proofs.lemmas.List.{append-nil, length-take, length-drop, take-append-drop}
 use Rattle.std.proofs.lemmas.Slice.Eq.{bytes_eq-Decides}
 use Rattle.vo_spec.specs.declared.cells.PartEntry.{PartEntry}
-use Rattle.vo_spec.specs.declared.trees.UpdateFault.{UpdateFault}
-use Rattle.vo_spec.specs.declared.trees.UpdateFault.TheVariants.{DuplicateKey, NoRow, Missing, Memory}
 use Rattle.vo_spec.specs.Values.{key_lt}
-use Rattle.vo_spec.specs.Parts.{Part, Parts, stub, leaf, inner, none, more, count, entries, entries_in}
-use Rattle.vo_spec.specs.Trees.{RowTree, RowTrees, key_in, row_family}
-use Rattle.vo_spec.specs.Fits.{most_in_node}
-use Rattle.vo_spec.specs.Inserts.{half, result_map, goes_here, Grown, one, two, Children, take_parts, drop_parts, after_child, has_key, put_entry, first_key, split_leaf, split_inner, put_grown, grow, grow_in, root_of, inserted}
-use Rattle.vo_spec.specs.Standing.{is_from, is_before, is_up_to, is_between, is_within, AreRising, IsNode, AreNodes, IsTree, fewest_in_root}
-use Rattle.vo_laws.proofs.KeyOrder.{key_lt_itself, same_key, key_lt_back, key_le_le, key_lt_le, key_le_lt, key_lt_lt}
-use Rattle.vo_laws.proofs.ListLaws.{each_left, each_right, each_both, each_weaker, each_map, each_mapped}
-use Rattle.vo_laws.proofs.ScanLaws.{Between, node_between, nodes_between}
+use Rattle.vo_spec.specs.Parts.{leaf, inner, none, more, count, entries, entries_in}
+use Rattle.vo_spec.specs.Trees.{RowTrees, key_in, row_family}
+use Rattle.vo_spec.specs.Inserts.{half, Grown, one, two, Children, take_parts, drop_parts, has_key, put_entry, first_key, split_leaf, split_inner}
+use Rattle.vo_spec.specs.Standing.{is_from, is_before, is_up_to, is_within, AreRising, IsNode, AreNodes, fewest_in_root}
+use Rattle.vo_laws.proofs.KeyOrder.{key_lt_itself, same_key, key_lt_back, key_le_le, key_lt_lt}
+use Rattle.vo_laws.proofs.ListLaws.{each_left, each_right, each_weaker, each_map, each_mapped}
+use Rattle.vo_laws.proofs.ScanLaws.{Between}
 
 abbrev pub keys_in : List PartEntry → List (List ℕ)
 keys_in = map key_in

@@ -1,6 +1,6 @@
 -- Insertion into a whole tree gives the whole tree with the entry among its entries, or finds the key there.
-use Rattle.std.proofs.Common.{◌≡◌, ℕ, zero, suc, ◌+◌, ◌-◌, ◌<◌, ◌≤◌, Bool, true, false, cond, List, [], ◌∷◌, ◌++◌, Option, Some, None, Result, Ok, Err, length, map, refl, sym, ap, ◌∙◌, subst, arith, append_assoc}
-use Rattle.std.specs.Prelude.{◌&&◌, not}
+use Rattle.std.proofs.Common.{◌≡◌, ℕ, suc, ◌+◌, ◌-◌, ◌<◌, ◌≤◌, Bool, true, false, cond, List, [], ◌∷◌, ◌++◌, Option, Some, None, Result, Ok, Err, length, refl, sym, ap, ◌∙◌, subst, arith, append_assoc}
+use Rattle.std.specs.Prelude.{not}
 use Rattle.std.specs.List.{AllByRecursion}
 use Rattle.std.proofs.lemmas.Bool.{and_parts, and_from, not-true, not_from_false}
 use Rattle.std.proofs.lemmas.List.{append-nil}
@@ -10,7 +10,7 @@ use Rattle.vo_spec.specs.declared.trees.UpdateFault.TheVariants.{DuplicateKey, N
 use Rattle.vo_spec.specs.Values.{key_lt}
 use Rattle.vo_spec.specs.Parts.{stub, leaf, inner, none, more, count, entries, entries_in}
 use Rattle.vo_spec.specs.Trees.{RowTree, RowTrees, row_family}
-use Rattle.vo_spec.specs.Inserts.{half, result_map, goes_here, Grown, one, two, Children, after_child, has_key, put_entry, split_leaf, split_inner, put_grown, grow, grow_in, root_of, inserted}
+use Rattle.vo_spec.specs.Inserts.{half, result_map, Grown, one, two, Children, after_child, has_key, put_entry, split_leaf, split_inner, put_grown, grow, grow_in, root_of, inserted}
 use Rattle.vo_spec.specs.Standing.{is_from, is_before, is_up_to, is_between, is_within, AreRising, IsNode, AreNodes, IsTree, fewest_in_root}
 use Rattle.vo_laws.proofs.KeyOrder.{key_lt_back, key_le_le, key_lt_le}
 use Rattle.vo_laws.proofs.ScanLaws.{Between, node_between, nodes_between}

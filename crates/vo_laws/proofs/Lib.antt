@@ -20,3 +20,5 @@ pub mod PrunedLaws
 pub mod ReplyTrees
 pub mod NamedFits
 pub mod Complete
+pub mod PrunedFits
+pub mod ReplyFits

@@ -1,6 +1,6 @@
 -- The columns that a query names of a table are those of cells that its rows have.
-use Rattle.std.proofs.Common.{◌≡◌, ℕ, zero, suc, ◌+◌, ◌-◌, ◌<◌, ◌≤◌, Bool, true, false, cond, List, [], ◌∷◌, Option, Some, None, length, map, inl, inr, refl, sym, ap, ◌∙◌, subst, arith}
-use Rattle.std.specs.Prelude.{◌&&◌, ◌==◌, not, nat_lt, filter, find, remove, bytes_eq}
+use Rattle.std.proofs.Common.{◌≡◌, ℕ, suc, ◌+◌, ◌-◌, ◌<◌, ◌≤◌, Bool, true, false, cond, List, [], ◌∷◌, Some, length, map, refl, ap, arith}
+use Rattle.std.specs.Prelude.{◌&&◌, ◌==◌, not, nat_lt, find, remove, bytes_eq}
 use Rattle.std.specs.Option.{option_map_or}
 use Rattle.std.specs.List.{AllByRecursion}
 use Rattle.std.proofs.lemmas.Bool.{and_parts, both_ways, eq-eqb, ltb-true, ltb-false, not-true}
@@ -67,7 +67,7 @@ named_fits name (t ∷ tables) fits = step (bytes_eq t.name name) (named_fits na
   where
     step : (b : Bool) → NamedFits (option_map_or (λ (h : Heading). h.schema) (heading_named name (map heading_of tables)) no_schema) (rows_named name tables)
         → NamedFits (option_map_or (λ (h : Heading). h.schema) (cond b (Some (heading_of t)) (heading_named name (map heading_of tables))) no_schema)
-            (option_map_or (λ (x : Table). x.rows) (cond b (Some t) (find (λ (x : Table). bytes_eq x.name name) tables)) [])
+        (option_map_or (λ (x : Table). x.rows) (cond b (Some t) (find (λ (x : Table). bytes_eq x.name name) tables)) [])
     step true rest = table_fits t fits.0
     step false rest = rest
 
@@ -75,11 +75,11 @@ pub named_cells_below : (ss : List Side) (q : Query) (side : ℕ) (rows : List R
     → AreBelow (cells_of (schema_at ss side)) (named_cells ss q side)
 named_cells_below ss q side rows fits =
     each_map (λ c. c < cells_of (schema_at ss side)) (cell_number (schema_at ss side).key) (named_columns ss q side)
-        (each_from (λ column. cell_number (schema_at ss side).key column < cells_of (schema_at ss side)) (named_columns ss q side) there)
+    (each_from (λ column. cell_number (schema_at ss side).key column < cells_of (schema_at ss side)) (named_columns ss q side) there)
   where
     there : (column : ℕ) → IsIn column (named_columns ss q side) → cell_number (schema_at ss side).key column < cells_of (schema_at ss side)
     there column i =
         let f = filter_in (λ c. not (c == (schema_at ss side).key) && is_named_column ss q side c) (numbers_from 0 (length (schema_at ss side).columns)) column i in
         let lt : column < 0 + length (schema_at ss side).columns =
-            each_of (λ c. c < 0 + length (schema_at ss side).columns) (numbers_from 0 (length (schema_at ss side).columns)) (numbers_below 0 (length (schema_at ss side).columns)) column f.0 in
+        each_of (λ c. c < 0 + length (schema_at ss side).columns) (numbers_from 0 (length (schema_at ss side).columns)) (numbers_below 0 (length (schema_at ss side).columns)) column f.0 in
         fits.columns column (omega arith) (not-true (column == (schema_at ss side).key) (and_parts (not (column == (schema_at ss side).key)) (is_named_column ss q side column) f.1).0)

@@ -1,25 +1,21 @@
 -- The proof that a tree has for some needs: it prunes the tree, misses nothing, and shows nothing more.
-use Rattle.std.proofs.Common.{◌≡◌, ℕ, zero, suc, ◌+◌, ◌-◌, ◌<◌, ◌≤◌, Bool, true, false, cond, List, [], ◌∷◌, ◌++◌, Option, Some, None, length, map, inl, inr, refl, sym, ap, ◌∙◌, subst, arith}
-use Rattle.std.specs.Prelude.{◌||◌, ◌&&◌, not, slice_get, drop, flat_map, is_none}
-use Rattle.std.specs.List.{list_any, list_all, AllByRecursion, AllZip}
-use Rattle.std.proofs.lemmas.Bool.{both_ways, or_from, not_from_true}
-use Rattle.std.proofs.lemmas.List.{length-map}
-use Rattle.sha2.specs.Sha256.{sha256}
-use Rattle.vo_spec.specs.declared.values.Value.{Value}
+use Rattle.std.proofs.Common.{◌≡◌, ℕ, suc, ◌+◌, ◌-◌, Bool, true, false, cond, List, [], ◌∷◌, Option, Some, None, length, map, refl, ap}
+use Rattle.std.specs.Prelude.{not, slice_get, drop, flat_map}
+use Rattle.std.specs.List.{list_any, AllByRecursion, AllZip}
+use Rattle.std.proofs.lemmas.Bool.{or_from, not_from_true}
 use Rattle.vo_spec.specs.declared.needs.Need.{Need}
 use Rattle.vo_spec.specs.declared.cells.Cell.{Cell}
 use Rattle.vo_spec.specs.declared.cells.Cell.TheVariants.{Shown, Hidden}
 use Rattle.vo_spec.specs.declared.cells.RowPart.{RowPart}
 use Rattle.vo_spec.specs.declared.cells.RowPart.TheVariants.{Digest as Closed, Cells}
 use Rattle.vo_spec.specs.declared.cells.PartEntry.{PartEntry}
-use Rattle.vo_spec.specs.Bytes.{string}
-use Rattle.vo_spec.specs.Cells.{cell_digest, cell_digests, row_bytes, row_digest, entry_bytes, whole_cells, whole_row, value_in, CellPrunes, CellsPrune, RowPrunes, EntryPrunes}
-use Rattle.vo_spec.specs.Parts.{Part, Parts, stub, leaf, inner, none, more, count, entries, entries_in, leaf_bytes, inner_head, child_bytes, digest_by, PrunesBy, PrunesEach}
+use Rattle.vo_spec.specs.Cells.{cell_digest, cell_digests, row_digest, entry_bytes, CellPrunes, CellsPrune, RowPrunes, EntryPrunes}
+use Rattle.vo_spec.specs.Parts.{stub, leaf, inner, none, more, count, entries, entries_in, child_bytes, PrunesEach}
 use Rattle.vo_spec.specs.Trees.{RowTree, RowTrees, row_family, digest, Prunes}
-use Rattle.vo_spec.specs.Pruned.{Walk, misses, misses_in, goes_beyond, goes_beyond_in, pruned_by, pruned_in, going_in, is_any, named, has_column, hides_any, shows_beyond, row_beyond, shown_cell, shown_cells, shown_row, shown_entry, walk_for, is_missing, has_surplus, pruned}
-use Rattle.vo_spec.specs.Inserts.{half, closed_entry, walk_to, insert_proof, insert_misses, insert_goes_beyond}
-use Rattle.vo_spec.specs.Standing.{IsNode, AreNodes, IsTree}
-use Rattle.vo_laws.proofs.ListLaws.{IsIn, each_left, each_right, each_both, each_from, none_any}
+use Rattle.vo_spec.specs.Pruned.{Walk, misses, misses_in, goes_beyond, goes_beyond_in, pruned_by, pruned_in, going_in, is_any, named, has_column, shows_beyond, row_beyond, shown_cells, shown_row, walk_for, has_surplus, pruned}
+use Rattle.vo_spec.specs.Inserts.{half, walk_to, insert_proof, insert_misses, insert_goes_beyond}
+use Rattle.vo_spec.specs.Standing.{IsNode, AreNodes, IsTree, fewest_in_root}
+use Rattle.vo_laws.proofs.ListLaws.{each_left, each_right, each_both}
 
 -- What prunes a tree has its digest.
 
@@ -130,8 +126,8 @@ module _ {S : Type 0} (walk : Walk PartEntry S) where
     each_each P s lower ss none all = tt
     each_each P s lower ss (more m p ps) all =
         each_both P (entries (pruned_by walk row_family (walk.onward s lower (slice_get ss 0)) p)) (entries_in (pruned_in walk row_family (walk.past s lower (slice_get ss 0)) (slice_get ss 0) (drop 1 ss) ps))
-            (walk_each P (walk.onward s lower (slice_get ss 0)) p (each_left (λ (e : PartEntry). P (walk.shown e)) (entries p) (entries_in ps) all))
-            (each_each P (walk.past s lower (slice_get ss 0)) (slice_get ss 0) (drop 1 ss) ps (each_right (λ (e : PartEntry). P (walk.shown e)) (entries p) (entries_in ps) all))
+        (walk_each P (walk.onward s lower (slice_get ss 0)) p (each_left (λ (e : PartEntry). P (walk.shown e)) (entries p) (entries_in ps) all))
+        (each_each P (walk.past s lower (slice_get ss 0)) (slice_get ss 0) (drop 1 ss) ps (each_right (λ (e : PartEntry). P (walk.shown e)) (entries p) (entries_in ps) all))
 
   -- the pruned tree misses nothing, where the tree has no stub
 
@@ -168,13 +164,13 @@ module _ {S : Type 0} (walk : Walk PartEntry S) where
     each_complete s near height lower upper ss none n all = absurd n
     each_complete s near height lower upper [] (more m p none) n all =
         or_from (misses walk (walk.onward s near None) (pruned_by walk row_family (walk.onward s near None) p)) false
-            (walk_complete (walk.onward s near None) half height lower upper p n.1 (each_left (λ (e : PartEntry). walk.lacks (walk.shown e) ≡ false) (entries p) [] all)) refl
+        (walk_complete (walk.onward s near None) half height lower upper p n.1 (each_left (λ (e : PartEntry). walk.lacks (walk.shown e) ≡ false) (entries p) [] all)) refl
     each_complete s near height lower upper [] (more m p (more k q ps)) n all = absurd n
     each_complete s near height lower upper (x ∷ ss) (more m p ps) n all =
         or_from (misses walk (walk.onward s near (Some x)) (pruned_by walk row_family (walk.onward s near (Some x)) p))
-            (misses_in walk (walk.past s near (Some x)) (Some x) ss (pruned_in walk row_family (walk.past s near (Some x)) (Some x) ss ps))
-            (walk_complete (walk.onward s near (Some x)) half height lower (Some x) p n.2 (each_left (λ (e : PartEntry). walk.lacks (walk.shown e) ≡ false) (entries p) (entries_in ps) all))
-            (each_complete (walk.past s near (Some x)) (Some x) height (Some x) upper ss ps n.3 (each_right (λ (e : PartEntry). walk.lacks (walk.shown e) ≡ false) (entries p) (entries_in ps) all))
+        (misses_in walk (walk.past s near (Some x)) (Some x) ss (pruned_in walk row_family (walk.past s near (Some x)) (Some x) ss ps))
+        (walk_complete (walk.onward s near (Some x)) half height lower (Some x) p n.2 (each_left (λ (e : PartEntry). walk.lacks (walk.shown e) ≡ false) (entries p) (entries_in ps) all))
+        (each_complete (walk.past s near (Some x)) (Some x) height (Some x) upper ss ps n.3 (each_right (λ (e : PartEntry). walk.lacks (walk.shown e) ≡ false) (entries p) (entries_in ps) all))
 
   -- nor does it show more than is to be shown
 
@@ -209,8 +205,8 @@ module _ {S : Type 0} (walk : Walk PartEntry S) where
     each_bare f s lower ss none = refl
     each_bare f s lower ss (more m p ps) =
         or_from (goes_beyond walk (walk.onward s lower (slice_get ss 0)) (pruned_by walk row_family (walk.onward s lower (slice_get ss 0)) p))
-            (goes_beyond_in walk (walk.past s lower (slice_get ss 0)) (slice_get ss 0) (drop 1 ss) (pruned_in walk row_family (walk.past s lower (slice_get ss 0)) (slice_get ss 0) (drop 1 ss) ps))
-            (walk_bare f (walk.onward s lower (slice_get ss 0)) p) (each_bare f (walk.past s lower (slice_get ss 0)) (slice_get ss 0) (drop 1 ss) ps)
+        (goes_beyond_in walk (walk.past s lower (slice_get ss 0)) (slice_get ss 0) (drop 1 ss) (pruned_in walk row_family (walk.past s lower (slice_get ss 0)) (slice_get ss 0) (drop 1 ss) ps))
+        (walk_bare f (walk.onward s lower (slice_get ss 0)) p) (each_bare f (walk.past s lower (slice_get ss 0)) (slice_get ss 0) (drop 1 ss) ps)
 
 -- The walk for needs.
 
@@ -254,3 +250,19 @@ row_bare columns (Cells cells) = step (is_any columns) refl
 
 pub pruned_bare : (needs : List Need) (t : RowTree) → has_surplus needs (pruned needs t) ≡ false
 pruned_bare needs t = walk_bare (walk_for needs) (λ e. row_bare (named needs e.key) e.row) (going_in needs) t
+
+-- The proof of an insertion.
+
+pub insert_prunes : (key : List ℕ) (t : RowTree) → Prunes (insert_proof key t) t
+insert_prunes key t = walk_prunes (walk_to key) (λ e. record { key = refl; row = refl }) true t
+
+pub insert_bare : (key : List ℕ) (t : RowTree) → insert_goes_beyond key (insert_proof key t) ≡ false
+insert_bare key t = walk_bare (walk_to key) (λ e. refl) true t
+
+nothing_lacks : (es : List PartEntry) → AllByRecursion (λ (e : PartEntry). false ≡ false) es
+nothing_lacks [] = tt
+nothing_lacks (e ∷ es) = (refl, nothing_lacks es)
+
+pub insert_complete : (key : List ℕ) (t : RowTree) → IsTree row_family t → insert_misses key (insert_proof key t) ≡ false
+insert_complete key t tree =
+    walk_complete (walk_to key) true (fewest_in_root row_family t) tree.height None None t tree.shape (nothing_lacks (entries t))

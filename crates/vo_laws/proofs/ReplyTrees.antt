@@ -1,47 +1,33 @@
 -- The trees of an honest reply: each proof is complete and bare, of its table's shape and root.
-use Rattle.std.proofs.Common.{◌≡◌, ℕ, zero, suc, ◌+◌, ◌-◌, ◌<◌, ◌≤◌, Bool, true, false, cond, eqb, List, [], ◌∷◌, ◌++◌, Option, Some, None, length, map, inl, inr, refl, sym, ap, ◌∙◌, subst, arith}
-use Rattle.std.specs.Prelude.{◌||◌, ◌&&◌, ◌==◌, not, nat_lt, filter, find, flat_map, zip, remove, slice_get, bytes_eq, is_none, option_and_then}
+use Rattle.std.proofs.Common.{◌≡◌, ℕ, zero, suc, ◌+◌, ◌<◌, Bool, true, false, cond, List, [], ◌∷◌, Some, None, length, map, inl, inr, refl, sym, subst, arith}
+use Rattle.std.specs.Prelude.{◌==◌, filter, find, flat_map, remove, slice_get, bytes_eq, is_none}
 use Rattle.std.specs.Option.{option_map_or}
-use Rattle.std.specs.List.{list_any, list_all, AllByRecursion, AllZip}
-use Rattle.std.proofs.lemmas.Bool.{and_parts, and_from, or_from, both_ways, cases_Bool, eq-eqb, eqb-true, ltb-true, ltb-false, not-true}
-use Rattle.std.proofs.lemmas.List.{length-map}
-use Rattle.std.proofs.lemmas.List.Edits.{length-remove}
+use Rattle.std.specs.List.{list_all, AllByRecursion}
+use Rattle.std.proofs.lemmas.Bool.{and_parts, and_from, or_from, eq-eqb}
 use Rattle.std.proofs.lemmas.Slice.Eq.{bytes_eq-Decides}
-use Rattle.vo_spec.specs.declared.values.Kind.{Kind}
 use Rattle.vo_spec.specs.declared.values.Value.{Value}
 use Rattle.vo_spec.specs.declared.values.Row.{Row}
 use Rattle.vo_spec.specs.declared.tables.Column.{Column}
 use Rattle.vo_spec.specs.declared.tables.Schema.{Schema}
 use Rattle.vo_spec.specs.declared.tables.Table.{Table}
 use Rattle.vo_spec.specs.declared.needs.Need.{Need}
-use Rattle.vo_spec.specs.declared.cells.Cell.{Cell}
 use Rattle.vo_spec.specs.declared.cells.Cell.TheVariants.{Shown, Hidden}
 use Rattle.vo_spec.specs.declared.cells.RowPart.{RowPart}
 use Rattle.vo_spec.specs.declared.cells.RowPart.TheVariants.{Digest as Closed, Cells}
 use Rattle.vo_spec.specs.declared.cells.PartEntry.{PartEntry}
-use Rattle.vo_spec.specs.declared.records.Catalog.{Catalog}
-use Rattle.vo_spec.specs.declared.records.CatalogTable.{CatalogTable}
-use Rattle.vo_spec.specs.declared.checks.CheckFault.{CheckFault}
-use Rattle.vo_spec.specs.declared.checks.CheckFault.TheVariants.{WrongRoot}
-use Rattle.vo_spec.specs.Firsts.{first_some}
 use Rattle.vo_spec.specs.Values.{kind_of, same_kind}
-use Rattle.vo_spec.specs.Tables.{Heading, heading_of, heading_named, rows_named, cell_number, are_of_kinds}
-use Rattle.vo_spec.specs.Conditions.{Query}
-use Rattle.vo_spec.specs.Results.{Side, schema_at, no_schema, numbers_from}
+use Rattle.vo_spec.specs.Tables.{are_of_kinds}
 use Rattle.vo_spec.specs.Cells.{cell_digest, row_digest, whole_cells, whole_row, whole_entry, shown_value, value_in}
 use Rattle.vo_spec.specs.Parts.{leaf, entries}
-use Rattle.vo_spec.specs.Trees.{RowTree, row_family, digest, Prunes}
+use Rattle.vo_spec.specs.Trees.{RowTree, row_family, digest}
 use Rattle.vo_spec.specs.Scans.{in_interval}
-use Rattle.vo_spec.specs.Pruned.{going_in, is_any, named, has_column, hides_any, shown_cell, shown_cells, shown_row, shown_entry, walk_for, is_missing, has_surplus, pruned}
+use Rattle.vo_spec.specs.Pruned.{going_in, is_any, named, has_column, hides_any, shown_cell, shown_cells, shown_row, shown_entry, walk_for, is_missing, pruned}
 use Rattle.vo_spec.specs.Standing.{StandsFor, fewest_in_root}
-use Rattle.vo_spec.specs.Needs.{is_named_column, named_columns, named_cells}
 use Rattle.vo_spec.specs.Checks.{key_kind, is_key_of, shows_kind, cells_fit, row_fits, entry_fits, has_shape, table_named, has_table_shape, root_fault}
-use Rattle.vo_spec.specs.Honest.{Stored, StandsForTable, StandForTables, catalog_of, stored_tree, pruned_each}
-use Rattle.vo_laws.proofs.ListLaws.{IsIn, each_of, each_from, each_both, each_map, none_any, any_in}
-use Rattle.vo_laws.proofs.AnswerLaws.{numbers_below}
+use Rattle.vo_spec.specs.Honest.{Stored, StandForTables, catalog_of, stored_tree}
+use Rattle.vo_laws.proofs.ListLaws.{IsIn, each_of, each_both, any_in}
 use Rattle.vo_laws.proofs.CommandLaws.{HasKinds, FitsTable, each_filter}
-use Rattle.vo_laws.proofs.PrunedLaws.{digest_same, walk_each, walk_complete, pruned_prunes, pruned_bare}
-use Rattle.vo_laws.proofs.Exact.{named_stands}
+use Rattle.vo_laws.proofs.PrunedLaws.{digest_same, walk_each, walk_complete, pruned_prunes}
 
 -- Cells of columns that are there are shown where they are to be.
 
@@ -66,8 +52,8 @@ row_complete : (columns : List ℕ) (values : List Value) → AreBelow (length v
 row_complete [] values below = refl
 row_complete (c ∷ columns) values below =
     none_hidden (c ∷ columns) (Cells (shown_cells (c ∷ columns) 0 (whole_cells values)))
-        (λ x i. shown_there (c ∷ columns) 0 values x (each_of (λ y. y < length values) (c ∷ columns) below x i)
-            (subst (λ z. has_column (c ∷ columns) z ≡ true) (from_none x) (any_in (λ y. y == x) (c ∷ columns) x i (eq-eqb x x refl))))
+    (λ x i. shown_there (c ∷ columns) 0 values x (each_of (λ y. y < length values) (c ∷ columns) below x i)
+    (subst (λ z. has_column (c ∷ columns) z ≡ true) (from_none x) (any_in (λ y. y == x) (c ∷ columns) x i (eq-eqb x x refl))))
   where
     from_none : (x : ℕ) → x ≡ 0 + x
     from_none x = omega arith
@@ -89,15 +75,16 @@ HasCells n row = length row.cells ≡ n
 entries_complete : (n : ℕ) (needs : List Need) (rows : List Row) → AreBounded n needs → AllByRecursion (HasCells n) rows
     → AllByRecursion (λ (e : PartEntry). hides_any (named needs e.key) (shown_entry needs e).row ≡ false) (map whole_entry rows)
 entries_complete n needs [] all cells = tt
-entries_complete n needs (row ∷ rows) all cells =
-    ( row_complete (named needs row.key) row.cells (subst (λ k. AreBelow k (named needs row.key)) (sym cells.0) (named_below n needs row.key all))
-    , entries_complete n needs rows all cells.1 )
+entries_complete n needs (row ∷ rows) all cells = (
+  row_complete (named needs row.key) row.cells (subst (λ k. AreBelow k (named needs row.key)) (sym cells.0) (named_below n needs row.key all)),
+  entries_complete n needs rows all cells.1,
+)
 
 pub pruned_complete : (n : ℕ) (needs : List Need) (t : RowTree) (rows : List Row) → StandsFor t rows → AreBounded n needs → AllByRecursion (HasCells n) rows
     → is_missing needs (pruned needs t) ≡ false
 pruned_complete n needs t rows stands all cells =
     walk_complete (walk_for needs) (going_in needs) (fewest_in_root row_family t) stands.tree.height None None t stands.tree.shape
-        (subst (AllByRecursion (λ (e : PartEntry). hides_any (named needs e.key) (shown_entry needs e).row ≡ false)) (sym stands.rows_are) (entries_complete n needs rows all cells))
+    (subst (AllByRecursion (λ (e : PartEntry). hides_any (named needs e.key) (shown_entry needs e).row ≡ false)) (sym stands.rows_are) (entries_complete n needs rows all cells))
 
 -- Shape.
 
@@ -109,7 +96,7 @@ cells_shape (c ∷ columns) [] shown column e = absurd (cc)
 cells_shape (c ∷ columns) (v ∷ values) shown column e =
     let p = and_parts (same_kind c.kind (kind_of v)) (are_of_kinds columns values) e in
     and_from (shows_kind c.kind (shown_cell shown column (Shown v))) (cells_fit columns (shown_cells shown (column + 1) (whole_cells values)))
-        (step (has_column shown column) p.0) (cells_shape columns values shown (column + 1) p.1)
+    (step (has_column shown column) p.0) (cells_shape columns values shown (column + 1) p.1)
   where
     step : (b : Bool) → same_kind c.kind (kind_of v) ≡ true → shows_kind c.kind (cond b (Shown v) (Hidden (cell_digest column (Shown v)))) ≡ true
     step true f = f
@@ -126,9 +113,10 @@ row_shape schema columns values e = step (is_any columns)
 entries_shape : (schema : Schema) (needs : List Need) (rows : List Row) → AllByRecursion (HasKinds schema) rows
     → AllByRecursion (λ (e : PartEntry). entry_fits schema (shown_entry needs e) ≡ true) (map whole_entry rows)
 entries_shape schema needs [] all = tt
-entries_shape schema needs (row ∷ rows) all =
-    ( and_from (is_key_of (key_kind schema) row.key) (row_fits schema (shown_row (named needs row.key) (whole_row row.cells))) all.0.key (row_shape schema (named needs row.key) row.cells all.0.cells)
-    , entries_shape schema needs rows all.1 )
+entries_shape schema needs (row ∷ rows) all = (
+  and_from (is_key_of (key_kind schema) row.key) (row_fits schema (shown_row (named needs row.key) (whole_row row.cells))) all.0.key (row_shape schema (named needs row.key) row.cells all.0.cells),
+  entries_shape schema needs rows all.1,
+)
 
 all_of : {A : Type 0} (test : A → Bool) (xs : List A) → AllByRecursion (λ x. test x ≡ true) xs → list_all test xs ≡ true
 all_of test [] all = refl
@@ -138,8 +126,8 @@ pub pruned_shape : (schema : Schema) (needs : List Need) (t : RowTree) (rows : L
     → has_shape schema (pruned needs t) ≡ true
 pruned_shape schema needs t rows stands kinds =
     all_of (entry_fits schema) (entries (pruned needs t))
-        (walk_each (walk_for needs) (λ (e : PartEntry). entry_fits schema e ≡ true) (going_in needs) t
-            (subst (AllByRecursion (λ (e : PartEntry). entry_fits schema (shown_entry needs e) ≡ true)) (sym stands.rows_are) (entries_shape schema needs rows kinds)))
+    (walk_each (walk_for needs) (λ (e : PartEntry). entry_fits schema e ≡ true) (going_in needs) t
+    (subst (AllByRecursion (λ (e : PartEntry). entry_fits schema (shown_entry needs e) ≡ true)) (sym stands.rows_are) (entries_shape schema needs rows kinds)))
 
 -- Tables of catalogs by name.
 
@@ -154,10 +142,14 @@ pub record IsGood (name : List ℕ) (needs : List Need) (stored : List Stored) :
 
 abbrev IsGoodBy : List Need → Bool → Stored → List ℕ → List Stored → Type 0
 IsGoodBy needs b s name stored =
-    (has_table_shape (cond b (Some (record { name = s.name; schema = s.schema; rows = length (entries s.tree); root = digest s.tree })) (table_named name (catalog_of stored)),
-        pruned needs (option_map_or (λ (x : Stored). x.tree) (cond b (Some s) (find (λ (x : Stored). bytes_eq x.name name) stored)) (leaf []))) ≡ true)
-    × (root_fault (cond b (Some (record { name = s.name; schema = s.schema; rows = length (entries s.tree); root = digest s.tree })) (table_named name (catalog_of stored)),
-        pruned needs (option_map_or (λ (x : Stored). x.tree) (cond b (Some s) (find (λ (x : Stored). bytes_eq x.name name) stored)) (leaf []))) ≡ None)
+    (has_table_shape (
+      cond b (Some (record { name = s.name; schema = s.schema; rows = length (entries s.tree); root = digest s.tree })) (table_named name (catalog_of stored)),
+      pruned needs (option_map_or (λ (x : Stored). x.tree) (cond b (Some s) (find (λ (x : Stored). bytes_eq x.name name) stored)) (leaf [])),
+    ) ≡ true)
+    × (root_fault (
+      cond b (Some (record { name = s.name; schema = s.schema; rows = length (entries s.tree); root = digest s.tree })) (table_named name (catalog_of stored)),
+      pruned needs (option_map_or (λ (x : Stored). x.tree) (cond b (Some s) (find (λ (x : Stored). bytes_eq x.name name) stored)) (leaf [])),
+    ) ≡ None)
 
 pub good : (name : List ℕ) (needs : List Need) (stored : List Stored) (tables : List Table) → StandForTables stored tables → AllByRecursion FitsTable tables → IsGood name needs stored
 good name needs [] [] zs fits = record { shape = refl; root = refl }
@@ -168,7 +160,8 @@ good name needs (s ∷ stored) (t ∷ tables) zs fits =
     record { shape = i.0; root = i.1 }
   where
     good_step : (b : Bool) → IsGood name needs stored → IsGoodBy needs b s name stored
-    good_step true rest =
-        ( pruned_shape s.schema needs s.tree t.rows zs.0.stands (subst (λ z. AllByRecursion (HasKinds z) t.rows) (sym zs.0.schema) fits.0.kinds)
-        , root_right needs s (length (entries s.tree)) )
+    good_step true rest = (
+      pruned_shape s.schema needs s.tree t.rows zs.0.stands (subst (λ z. AllByRecursion (HasKinds z) t.rows) (sym zs.0.schema) fits.0.kinds),
+      root_right needs s (length (entries s.tree)),
+    )
     good_step false rest = (rest.shape, rest.root)

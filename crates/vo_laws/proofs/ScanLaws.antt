@@ -23,7 +23,7 @@ use Rattle.vo_spec.specs.Scans.{is_above, is_below, in_interval, is_empty_interv
 use Rattle.vo_spec.specs.Pruned.{walk_for, misses, misses_in, going_in, going_on, is_any, named, hides_any, is_missing}
 use Rattle.vo_spec.specs.Standing.{is_from, is_before, is_up_to, is_between, is_within, IsNode, AreNodes, IsTree, fewest_in_root}
 use Rattle.vo_spec.specs.Inserts.{half}
-use Rattle.vo_laws.proofs.KeyOrder.{key_lt_back, key_le_le, key_lt_le, key_lt_lt}
+use Rattle.vo_laws.proofs.KeyOrder.{key_lt_back, key_le_le, key_lt_le}
 use Rattle.vo_laws.proofs.ListLaws.{IsIn, each_of, each_both, each_weaker, none_any, in_filter, in_flat_map}
 
 -- What the one gives, so does the other.

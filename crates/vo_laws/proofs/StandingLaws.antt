@@ -1,12 +1,11 @@
 -- Trees stand for tables: what commands and batches make of the trees stands for what they make of the
 -- tables, and both refuse the same commands.
-use Rattle.std.proofs.Common.{◌≡◌, ℕ, zero, suc, ◌+◌, ◌<◌, ◌≤◌, Bool, true, false, cond, List, [], ◌∷◌, ◌++◌, Option, Some, None, Result, Ok, Err, length, map, refl, sym, ap, ◌∙◌, subst, arith}
-use Rattle.std.specs.Prelude.{◌||◌, ◌&&◌, not, filter, find, fold, bytes_eq}
+use Rattle.std.proofs.Common.{◌≡◌, ℕ, ◌+◌, Bool, true, false, cond, List, [], ◌∷◌, Option, Some, None, Result, Ok, Err, map, refl, sym, ap, ◌∙◌, subst, arith}
+use Rattle.std.specs.Prelude.{◌||◌, not, fold, bytes_eq}
 use Rattle.std.specs.Option.{option_map_or}
 use Rattle.std.specs.Result.{result_unwrap_or}
-use Rattle.std.specs.List.{list_any, list_all, AllByRecursion, AllZip}
+use Rattle.std.specs.List.{list_all, AllByRecursion}
 use Rattle.std.proofs.lemmas.Bool.{and_parts}
-use Rattle.std.proofs.lemmas.List.{length-map}
 use Rattle.std.proofs.lemmas.Slice.Eq.{bytes_eq-Decides}
 use Rattle.vo_spec.specs.declared.values.Value.{Value}
 use Rattle.vo_spec.specs.declared.values.Row.{Row}
@@ -18,24 +17,22 @@ use Rattle.vo_spec.specs.declared.tables.CommandFault.{CommandFault}
 use Rattle.vo_spec.specs.declared.tables.CommandFault.TheVariants as command
 use Rattle.vo_spec.specs.declared.trees.UpdateFault.{UpdateFault}
 use Rattle.vo_spec.specs.declared.trees.UpdateFault.TheVariants.{DuplicateKey, NoRow, Missing, Memory}
-use Rattle.vo_spec.specs.declared.cells.PartEntry.{PartEntry}
 use Rattle.vo_spec.specs.Firsts.{unless, and_then}
 use Rattle.vo_spec.specs.Values.{key_lt, IsKeyOf}
-use Rattle.vo_spec.specs.Tables.{Heading, heading_of, column_number, row_of, has_row, put_row, table_named, put_table, with_rows, refusal, changed, apply, numbered, apply_from, apply_batch, after_batch, tables_after}
+use Rattle.vo_spec.specs.Tables.{heading_of, column_number, row_of, has_row, put_row, table_named, put_table, with_rows, refusal, changed, apply, numbered, apply_from, apply_batch, after_batch, tables_after}
 use Rattle.vo_spec.specs.Batches.{FitsCommand, FitsBatch}
 use Rattle.vo_spec.specs.Records.{FitsSchema}
 use Rattle.vo_spec.specs.Cells.{whole_entry}
 use Rattle.vo_spec.specs.Parts.{leaf, entries}
 use Rattle.vo_spec.specs.Trees.{RowTree, row_family}
 use Rattle.vo_spec.specs.Inserts.{has_key, put_entry, inserted}
-use Rattle.vo_spec.specs.Standing.{AreRising, IsTree, StandsFor}
+use Rattle.vo_spec.specs.Standing.{AreRising, StandsFor}
 use Rattle.vo_spec.specs.Checks.{key_kind}
-use Rattle.vo_spec.specs.Honest.{Stored, StandsForTable, StandForTables, is_open_command, AreOpen, stored_heading, put_stored, row_refusal, tree_after, with_tree, behind_stored, change_tree, changed_trees, work, work_all, after_work, honest_trees}
+use Rattle.vo_spec.specs.Honest.{Stored, StandsForTable, StandForTables, is_open_command, AreOpen, stored_heading, put_stored, with_tree, behind_stored, change_tree, changed_trees, work, work_all, after_work, honest_trees}
 use Rattle.vo_laws.proofs.ListLaws.{zip_filter}
-use Rattle.vo_laws.proofs.Growing.{keys_in}
 use Rattle.vo_laws.proofs.Grown.{TreeGrows, tree_grows}
 use Rattle.vo_laws.proofs.Exact.{one_heading, nothing_stands}
-use Rattle.vo_laws.proofs.CommandLaws.{IsInsertable, insertable, key_inserted, FitsTable, FitTables, names_of, others_kept, dropped_fit, created_fit, inserted_fit, each_put_row}
+use Rattle.vo_laws.proofs.CommandLaws.{insertable, key_inserted, FitsTable, FitTables, names_of, others_kept, dropped_fit, created_fit, inserted_fit, each_put_row}
 
 -- Of a tree that stands for rows.
 
@@ -45,7 +42,7 @@ whole_put row (r ∷ rows) = step (key_lt row.key r.key) (whole_put row rows)
   where
     step : (b : Bool) → put_entry row_family (whole_entry row) (map whole_entry rows) ≡ map whole_entry (put_row row rows)
         → cond b (whole_entry row ∷ whole_entry r ∷ map whole_entry rows) (whole_entry r ∷ put_entry row_family (whole_entry row) (map whole_entry rows))
-          ≡ map whole_entry (cond b (row ∷ r ∷ rows) (r ∷ put_row row rows))
+        ≡ map whole_entry (cond b (row ∷ r ∷ rows) (r ∷ put_row row rows))
     step true rest = refl
     step false rest = ap (λ z. whole_entry r ∷ z) rest
 
@@ -122,14 +119,14 @@ insert_in_step name values (s ∷ stored) (t ∷ tables) zs rising keys =
     step : (b c : Bool) → b ≡ c → bytes_eq t.name name ≡ c
         → ((u : Table) → cond c (Some t) (table_named name tables) ≡ Some u → IsKeyOf (key_kind u.schema) (row_of u.schema values).key)
         → (((u : Table) → table_named name tables ≡ Some u → IsKeyOf (key_kind u.schema) (row_of u.schema values).key)
-            → InStep (change_tree name (Insert name values) stored) (cond (is_doubled values (table_named name tables)) (Err command.DuplicateKey) (Ok (insert_into name values tables))))
+        → InStep (change_tree name (Insert name values) stored) (cond (is_doubled values (table_named name tables)) (Err command.DuplicateKey) (Ok (insert_into name values tables))))
         → InStep (cond b (with_tree s stored (inserted (whole_entry (row_of s.schema values)) s.tree)) (behind_stored s (change_tree name (Insert name values) stored)))
-            (cond (is_doubled values (cond c (Some t) (table_named name tables))) (Err command.DuplicateKey)
-                (Ok (cond c (record { name = t.name; schema = t.schema; rows = put_row (row_of t.schema values) t.rows }) t ∷ insert_into name values tables)))
+        (cond (is_doubled values (cond c (Some t) (table_named name tables))) (Err command.DuplicateKey)
+        (Ok (cond c (record { name = t.name; schema = t.schema; rows = put_row (row_of t.schema values) t.rows }) t ∷ insert_into name values tables)))
     step true true e f keys rest =
         here_in_step s t stored tables (insert_into name values tables) (row_of t.schema values) (inserted (whole_entry (row_of s.schema values)) s.tree) zs.0 zs.1
-            (others_kept name (λ u. put_row (row_of u.schema values) u.rows) tables (subst (λ n. AllByRecursion (λ k. key_lt n k ≡ true) (names_of tables)) ((bytes_eq-Decides t.name name).0 f) rising.0))
-            (keys t refl) inserts
+        (others_kept name (λ u. put_row (row_of u.schema values) u.rows) tables (subst (λ n. AllByRecursion (λ k. key_lt n k ≡ true) (names_of tables)) ((bytes_eq-Decides t.name name).0 f) rising.0))
+        (keys t refl) inserts
     step true false e f keys rest = absurd (cc)
     step false true e f keys rest = absurd (cc)
     step false false e f keys rest =
@@ -153,7 +150,7 @@ create_in_step s t (r ∷ stored) (u ∷ tables) z zs =
 
 made_stands : (name : List ℕ) (columns : List Column) (key : List ℕ)
     → StandsForTable (record { name = name; schema = record { columns = columns; key = column_number columns key }; tree = leaf [] })
-        (record { name = name; schema = record { columns = columns; key = column_number columns key }; rows = [] })
+    (record { name = name; schema = record { columns = columns; key = column_number columns key }; rows = [] })
 made_stands name columns key = record { name = refl; schema = refl; stands = nothing_stands; keys = tt }
 
 pub stored_headings : (stored : List Stored) (tables : List Table) → StandForTables stored tables → map stored_heading stored ≡ map heading_of tables
@@ -180,7 +177,7 @@ changed_in_step (Drop name) stored tables o fits e zs good =
     zip_filter StandsForTable (λ (s : Stored). not (bytes_eq s.name name)) (λ (t : Table). not (bytes_eq t.name name)) (λ s t z. ap (λ n. not (bytes_eq n name)) z.name) stored tables zs
 changed_in_step (Insert name values) stored tables o fits e zs good =
     insert_in_step name values stored tables zs good.rising
-        (λ t found. key_inserted t values (schema_named name tables good.each t found) fits.1.2 (insertable name values tables e t found))
+    (λ t found. key_inserted t values (schema_named name tables good.each t found) fits.1.2 (insertable name values tables e t found))
 changed_in_step (Update name sets column value) stored tables o fits e zs good = absurd (cc)
 changed_in_step (Delete name column value) stored tables o fits e zs good = absurd (cc)
 
@@ -206,8 +203,8 @@ pub command_in_step : (c : Command) (stored : List Stored) (tables : List Table)
 unfolding work apply
 command_in_step c stored tables o fits zs good =
     subst (λ hs. InStep (and_then (changed_trees c) (unless (refusal c hs) stored)) (and_then (changed c) (unless (refusal c (map heading_of tables)) tables))
-        × FitAfter (and_then (changed c) (unless (refusal c (map heading_of tables)) tables)))
-        (sym (stored_headings stored tables zs)) (step (refusal c (map heading_of tables)) refl)
+    × FitAfter (and_then (changed c) (unless (refusal c (map heading_of tables)) tables)))
+    (sym (stored_headings stored tables zs)) (step (refusal c (map heading_of tables)) refl)
   where
     step : (r : Option CommandFault) → refusal c (map heading_of tables) ≡ r
         → InStep (and_then (changed_trees c) (unless r stored)) (and_then (changed c) (unless r tables)) × FitAfter (and_then (changed c) (unless r tables))

@@ -1,8 +1,8 @@
 -- What an honest owner stores is within the limits of its bytes: trees, catalogs and records.
-use Rattle.std.proofs.Common.{◌≡◌, ℕ, zero, suc, ◌+◌, ◌-◌, ◌^◌, ◌<◌, ◌≤◌, Bool, true, false, cond, List, [], ◌∷◌, Option, Some, None, Result, Ok, Err, length, map, take, drop, refl, sym, ap, ◌∙◌, subst, arith}
-use Rattle.std.specs.Prelude.{◌&&◌, not, filter, fold, bytes_eq, IsTrue}
+use Rattle.std.proofs.Common.{◌≡◌, ℕ, suc, ◌^◌, ◌<◌, ◌≤◌, Bool, true, false, cond, List, [], ◌∷◌, Option, Some, None, Result, Ok, Err, length, map, drop, refl, sym, ap, ◌∙◌, subst, arith}
+use Rattle.std.specs.Prelude.{not, fold, bytes_eq, IsTrue}
 use Rattle.std.specs.Result.{result_unwrap_or}
-use Rattle.std.specs.List.{list_all, AllByRecursion, AllZip}
+use Rattle.std.specs.List.{list_all, AllByRecursion}
 use Rattle.std.proofs.lemmas.Bool.{and_parts, and_from}
 use Rattle.std.proofs.lemmas.List.{length-map, length-take, length-drop}
 use Rattle.sha2.proofs.Facts256.{length-sha256}
@@ -13,25 +13,22 @@ use Rattle.vo_spec.specs.declared.tables.Command.{Command}
 use Rattle.vo_spec.specs.declared.tables.Command.TheVariants.{Create, Drop, Insert, Update, Delete}
 use Rattle.vo_spec.specs.declared.tables.CommandFault.{CommandFault}
 use Rattle.vo_spec.specs.declared.trees.UpdateFault.{UpdateFault}
-use Rattle.vo_spec.specs.declared.cells.PartEntry.{PartEntry}
 use Rattle.vo_spec.specs.declared.records.CatalogTable.{CatalogTable}
-use Rattle.vo_spec.specs.declared.records.Catalog.{Catalog}
 use Rattle.vo_spec.specs.Firsts.{unless, and_then}
 use Rattle.vo_spec.specs.Bytes.{id_at}
 use Rattle.vo_spec.specs.Values.{key_lt}
-use Rattle.vo_spec.specs.Tables.{most_tables, heading_of, row_of, table_named, refusal, apply, apply_from, apply_batch, after_batch, tables_after}
+use Rattle.vo_spec.specs.Tables.{most_tables, heading_of, row_of, table_named, refusal, apply, apply_batch, tables_after}
 use Rattle.vo_spec.specs.Batches.{FitsCommand, FitsBatch}
-use Rattle.vo_spec.specs.Records.{FitsSchema, FitsCatalogTable, FitsCatalog, FitsRecord, are_rising, catalog_digest, catalog_bytes}
+use Rattle.vo_spec.specs.Records.{FitsSchema, FitsCatalogTable, FitsCatalog, FitsRecord, are_rising, catalog_digest}
 use Rattle.vo_spec.specs.Lms.{key_id}
 use Rattle.vo_spec.specs.Names.{FitsName}
 use Rattle.vo_spec.specs.Cells.{whole_entry}
-use Rattle.vo_spec.specs.Parts.{stub, leaf, inner, count, entries, leaf_bytes, inner_head, child_bytes}
+use Rattle.vo_spec.specs.Parts.{stub, leaf, inner, entries, leaf_bytes}
 use Rattle.vo_spec.specs.Trees.{RowTree, row_family, digest}
 use Rattle.vo_spec.specs.Fits.{FitsKey, FitsRow, FitsTree}
 use Rattle.vo_spec.specs.Inserts.{inserted}
-use Rattle.vo_spec.specs.Standing.{AreRising, IsTree, IsNode, fewest_in_root, StandsFor}
-use Rattle.vo_spec.specs.Honest.{Stored, StandsForTable, StandForTables, is_open_command, AreOpen, stored_heading, put_stored, with_tree, behind_stored, change_tree, changed_trees, work, work_all, after_work, honest_trees, catalog_of, honest_record}
-use Rattle.vo_laws.proofs.ListLaws.{each_weaker, each_map}
+use Rattle.vo_spec.specs.Standing.{AreRising, IsTree, IsNode, fewest_in_root}
+use Rattle.vo_spec.specs.Honest.{Stored, StandForTables, is_open_command, AreOpen, put_stored, with_tree, behind_stored, change_tree, changed_trees, work, work_all, after_work, honest_trees, catalog_of, honest_record}
 use Rattle.vo_laws.proofs.CommandLaws.{IsInsertable, insertable, FitsTable, FitTables, names_of, each_filter}
 use Rattle.vo_laws.proofs.TreeFits.{Separated, SeparatedTree, KeyFits, tree_separated}
 use Rattle.vo_laws.proofs.TreeLevels.{whole_fits}
@@ -77,7 +74,7 @@ change_separated name values (s ∷ stored) (t ∷ tables) zs fits is all =
         → SeparatedAfter (cond b (with_tree s stored (inserted (whole_entry (row_of s.schema values)) s.tree)) (behind_stored s (change_tree name (Insert name values) stored)))
     step true true e is rest =
         with_separated s stored (inserted (whole_entry (row_of s.schema values)) s.tree) all.1
-            (tree_separated (whole_entry (row_of s.schema values)) s.tree (subst (λ z. FitsKey (row_of z values).key) (sym zs.0.schema) (is t refl).short) keys all.0)
+        (tree_separated (whole_entry (row_of s.schema values)) s.tree (subst (λ z. FitsKey (row_of z values).key) (sym zs.0.schema) (is t refl).short) keys all.0)
     step true false e is rest = absurd (cc)
     step false true e is rest = absurd (cc)
     step false false e is rest = behind_separated s (change_tree name (Insert name values) stored) all.0 (rest is)
@@ -122,14 +119,14 @@ batch_separated (c ∷ cs) stored tables o fits zs good all =
     let open_both = and_parts (is_open_command c) (list_all is_open_command cs) o in
     let i = command_in_step c stored tables open_both.0 fits.0 zs good in
     next_separated cs (work c stored) (apply c tables) i.0 i.1 (work_separated c stored tables open_both.0 zs good all)
-        (λ after others y g a. batch_separated cs after others open_both.1 fits.1 y g a)
+    (λ after others y g a. batch_separated cs after others open_both.1 fits.1 y g a)
 
 all_separated : (batches : List (List Command)) (stored : List Stored) (tables : List Table) → AllByRecursion FitsBatch batches → AreOpen batches
     → StandForTables stored tables → FitTables tables → AreSeparatedIn stored → AreSeparatedIn (fold after_work stored batches)
 all_separated [] stored tables fits o zs good all = all
 all_separated (batch ∷ batches) stored tables fits o zs good all =
     next (work_all batch stored) (apply_batch batch tables) (batch_in_step 0 batch stored tables o.0 fits.0.each zs good) (batch_separated batch stored tables o.0 fits.0.each zs good all)
-        (λ after others y g a. all_separated batches after others fits.1 o.1 y g a)
+    (λ after others y g a. all_separated batches after others fits.1 o.1 y g a)
   where
     next : (r : Result (List Stored) CommandFault) (s : Result (List Table) (ℕ × CommandFault)) → InStepFrom r s → SeparatedAfter r
         → ((after : List Stored) (others : List Table) → StandForTables after others → FitTables others → AreSeparatedIn after → AreSeparatedIn (fold after_work after batches))
@@ -173,14 +170,15 @@ each_catalog_fits [] [] zs fits = tt
 each_catalog_fits [] (t ∷ tables) zs fits = absurd zs
 each_catalog_fits (s ∷ stored) [] zs fits = absurd zs
 each_catalog_fits (s ∷ stored) (t ∷ tables) zs fits =
-    let same : length (entries s.tree) ≡ length t.rows = ap length zs.0.stands.rows_are ∙ length-map t.rows whole_entry in
-    ( record {
+    let same : length (entries s.tree) ≡ length t.rows = ap length zs.0.stands.rows_are ∙ length-map t.rows whole_entry in (
+      record {
         name = subst FitsName (sym zs.0.name) fits.0.name;
         schema = subst FitsSchema (sym zs.0.schema) fits.0.schema;
         rows = omega (arith, fits.0.count);
         root = root_length s.tree zs.0.stands.tree;
-      }
-    , each_catalog_fits stored tables zs.1 fits.1 )
+      },
+      each_catalog_fits stored tables zs.1 fits.1,
+    )
 
 names_same : (stored : List Stored) (tables : List Table) → StandForTables stored tables → map (λ (t : CatalogTable). t.name) (catalog_of stored).tables ≡ names_of tables
 names_same [] [] zs = refl

@@ -1,28 +1,17 @@
 -- Trees within the limits of their bytes: a tree that insertion makes keeps them, and so do its proofs.
-use Rattle.std.proofs.Common.{◌≡◌, ℕ, zero, suc, ◌+◌, ◌-◌, ◌*◌, ◌^◌, ◌<◌, ◌≤◌, max, Bool, true, false, cond, List, [], ◌∷◌, ◌++◌, Option, Some, None, Result, Ok, Err, length, map, take, drop, inl, inr, refl, sym, ap, ◌∙◌, subst, arith}
+use Rattle.std.proofs.Common.{◌≡◌, ℕ, zero, suc, ◌+◌, ◌-◌, ◌≤◌, Bool, true, false, cond, List, [], ◌∷◌, Option, Some, Result, Ok, Err, length, take, drop, refl, arith}
 use Rattle.std.specs.Prelude.{nat_le, slice_get, slice_index_or}
 use Rattle.std.specs.List.{AllByRecursion}
-use Rattle.std.proofs.lemmas.List.{length-append, length-map}
-use Rattle.std.proofs.lemmas.List.Elements.{All-from_recursion, recursion_from_All}
-use Rattle.sha2.proofs.Facts256.{length-sha256}
-use Rattle.vo_spec.specs.declared.values.Value.{Value}
-use Rattle.vo_spec.specs.declared.values.Row.{Row}
-use Rattle.vo_spec.specs.declared.cells.Cell.{Cell}
-use Rattle.vo_spec.specs.declared.cells.Cell.TheVariants.{Shown, Hidden}
-use Rattle.vo_spec.specs.declared.cells.RowPart.{RowPart}
-use Rattle.vo_spec.specs.declared.cells.RowPart.TheVariants.{Digest as Closed, Cells}
+use Rattle.std.proofs.lemmas.List.Elements.{All-from_recursion}
 use Rattle.vo_spec.specs.declared.cells.PartEntry.{PartEntry}
 use Rattle.vo_spec.specs.declared.trees.UpdateFault.{UpdateFault}
-use Rattle.vo_spec.specs.declared.trees.UpdateFault.TheVariants.{DuplicateKey, NoRow, Missing, Memory}
-use Rattle.vo_spec.specs.Values.{key_lt, FitsValue}
-use Rattle.vo_spec.specs.Cells.{whole_cells, whole_entry, row_bytes, row_digest}
-use Rattle.vo_spec.specs.Parts.{Part, Parts, stub, leaf, inner, none, more, count, entries, entries_in, levels, levels_in, leaf_bytes, inner_bytes}
-use Rattle.vo_spec.specs.Trees.{RowTree, RowTrees, row_family, digest}
-use Rattle.vo_spec.specs.Fits.{most_levels, FitsDigest, FitsKey, FitsCell, FitsRowPart, FitsEntry, FitsRow, FitsBy, FitsEach, FitsPart, FitsTree}
-use Rattle.vo_spec.specs.Pruned.{Walk, pruned_by, pruned_in}
+use Rattle.vo_spec.specs.declared.trees.UpdateFault.TheVariants.{DuplicateKey}
+use Rattle.vo_spec.specs.Parts.{stub, leaf, inner, none, more, count, entries, entries_in}
+use Rattle.vo_spec.specs.Trees.{RowTree, RowTrees, row_family}
+use Rattle.vo_spec.specs.Fits.{FitsKey, FitsEntry, FitsEach, FitsPart}
 use Rattle.vo_spec.specs.Inserts.{half, result_map, goes_here, Grown, one, two, Children, take_parts, drop_parts, after_child, has_key, put_entry, first_key, split_leaf, split_inner, put_grown, grow, grow_in, root_of, inserted}
-use Rattle.vo_spec.specs.Standing.{IsNode, AreNodes, IsTree, fewest_in_root, StandsFor}
-use Rattle.vo_laws.proofs.ListLaws.{each_left, each_right, each_both, each_weaker, each_map}
+use Rattle.vo_spec.specs.Standing.{IsNode, AreNodes, fewest_in_root}
+use Rattle.vo_laws.proofs.ListLaws.{each_left, each_right, each_both}
 use Rattle.vo_laws.proofs.Growing.{put_each}
 use Rattle.vo_laws.proofs.Grown.{root_few}
 
@@ -92,9 +81,11 @@ inner_separated (Ok c) s = step (nat_le (count c.parts) 16)
   where
     step : (b : Bool) → SeparatedGrown (Ok (cond b (one (inner c.separators c.parts)) (two (inner (take 7 c.separators) (take_parts 8 c.parts)) (slice_index_or c.separators 7 []) (inner (drop 8 c.separators) (drop_parts 8 c.parts)))))
     step true = s
-    step false =
-        ( (each_taken FitsKey 7 c.separators s.0, parts_taken 8 c.parts s.1), key_there c.separators 7 s.0
-        , (each_dropped FitsKey 8 c.separators s.0, parts_dropped 8 c.parts s.1) )
+    step false = (
+      (each_taken FitsKey 7 c.separators s.0, parts_taken 8 c.parts s.1),
+      key_there c.separators 7 s.0,
+      (each_dropped FitsKey 8 c.separators s.0, parts_dropped 8 c.parts s.1),
+    )
 
 put_separated : (ss : List (List ℕ)) (ps : RowTrees) (r : Result (Grown PartEntry (Unit {0})) UpdateFault) → AllByRecursion FitsKey ss → AreSeparated ps
     → SeparatedGrown r → SeparatedChildren (result_map (put_grown row_family ss ps) r)
@@ -129,9 +120,9 @@ mutual
   nodes_separated e ss none fits all keys s = tt
   nodes_separated e ss (more m p ps) fits all keys s =
       either_separated (goes_here e.key (slice_get ss 0)) (result_map (put_grown row_family ss ps) (grow row_family e p)) (result_map (after_child m p ss) (grow_in row_family e (drop 1 ss) ps))
-          (put_separated ss ps (grow row_family e p) keys s.1 (node_separated e p fits (each_left KeyFits (entries p) (entries_in ps) all) s.0))
-          (after_separated m p ss (grow_in row_family e (drop 1 ss) ps) keys s.0
-              (nodes_separated e (drop 1 ss) ps fits (each_right KeyFits (entries p) (entries_in ps) all) (each_dropped FitsKey 1 ss keys) s.1))
+      (put_separated ss ps (grow row_family e p) keys s.1 (node_separated e p fits (each_left KeyFits (entries p) (entries_in ps) all) s.0))
+      (after_separated m p ss (grow_in row_family e (drop 1 ss) ps) keys s.0
+      (nodes_separated e (drop 1 ss) ps fits (each_right KeyFits (entries p) (entries_in ps) all) (each_dropped FitsKey 1 ss keys) s.1))
 
 -- the tree that insertion makes
 abbrev pub SeparatedTree : Result RowTree UpdateFault → Type 0
@@ -159,15 +150,20 @@ mutual
       → Separated t → AllByRecursion FitsEntry (entries t) → FitsPart t
   node_fits fewest height lower upper (stub d) few n s all = absurd n
   node_fits fewest height lower upper (leaf es) few n s all = (n.2, All-from_recursion FitsEntry es all)
-  node_fits fewest height lower upper (inner ss ps) few n s all =
-      ( omega (arith, n.1), n.2, separators_counted (height - 1) lower upper ss ps n.3, All-from_recursion FitsKey ss s.0
-      , nodes_fit (height - 1) lower upper ss ps n.3 s.1 all )
+  node_fits fewest height lower upper (inner ss ps) few n s all = (
+    omega (arith, n.1),
+    n.2,
+    separators_counted (height - 1) lower upper ss ps n.3,
+    All-from_recursion FitsKey ss s.0,
+    nodes_fit (height - 1) lower upper ss ps n.3 s.1 all,
+  )
 
   pub nodes_fit : (height : ℕ) (lower upper : Option (List ℕ)) (ss : List (List ℕ)) (ps : RowTrees) → AreNodes row_family height lower upper ss ps
       → AreSeparated ps → AllByRecursion FitsEntry (entries_in ps) → FitsEach FitsEntry ps
   nodes_fit height lower upper ss none n s all = tt
   nodes_fit height lower upper [] (more m p none) n s all = (node_fits half height lower upper p (root_few p) n.1 s.0 (each_left FitsEntry (entries p) [] all), tt)
   nodes_fit height lower upper [] (more m p (more o q ps)) n s all = absurd n
-  nodes_fit height lower upper (x ∷ ss) (more m p ps) n s all =
-      ( node_fits half height lower (Some x) p (root_few p) n.2 s.0 (each_left FitsEntry (entries p) (entries_in ps) all)
-      , nodes_fit height (Some x) upper ss ps n.3 s.1 (each_right FitsEntry (entries p) (entries_in ps) all) )
+  nodes_fit height lower upper (x ∷ ss) (more m p ps) n s all = (
+    node_fits half height lower (Some x) p (root_few p) n.2 s.0 (each_left FitsEntry (entries p) (entries_in ps) all),
+    nodes_fit height (Some x) upper ss ps n.3 s.1 (each_right FitsEntry (entries p) (entries_in ps) all),
+  )

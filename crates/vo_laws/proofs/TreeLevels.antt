@@ -1,5 +1,5 @@
 -- Levels of trees: a whole tree of fewer than 2 ^ 32 rows has no more than a reader gives.
-use Rattle.std.proofs.Common.{◌≡◌, ℕ, zero, suc, ◌+◌, ◌-◌, ◌*◌, ◌^◌, ◌<◌, ◌≤◌, max, List, [], ◌∷◌, ◌++◌, Option, Some, None, length, map, inl, inr, refl, sym, ap, ◌∙◌, subst, arith}
+use Rattle.std.proofs.Common.{◌≡◌, ℕ, zero, suc, ◌+◌, ◌-◌, ◌*◌, ◌^◌, ◌<◌, ◌≤◌, List, [], ◌∷◌, Option, Some, None, length, map, inl, inr, refl, sym, ap, ◌∙◌, subst, arith}
 use Rattle.std.specs.List.{AllByRecursion}
 use Rattle.std.proofs.lemmas.List.{length-append, length-map}
 use Rattle.std.proofs.lemmas.List.Elements.{All-from_recursion, recursion_from_All}
@@ -8,15 +8,13 @@ use Rattle.std.proofs.Math.Nat.{mul-le-mul_right}
 use Rattle.vo_spec.specs.declared.values.Value.{Value}
 use Rattle.vo_spec.specs.declared.values.Row.{Row}
 use Rattle.vo_spec.specs.declared.cells.Cell.TheVariants.{Shown}
-use Rattle.vo_spec.specs.declared.cells.PartEntry.{PartEntry}
 use Rattle.vo_spec.specs.Values.{FitsValue}
 use Rattle.vo_spec.specs.Cells.{whole_cells, whole_entry}
 use Rattle.vo_spec.specs.Parts.{stub, leaf, inner, none, more, count, entries, entries_in, levels, levels_in}
 use Rattle.vo_spec.specs.Trees.{RowTree, RowTrees, row_family}
-use Rattle.vo_spec.specs.Fits.{most_levels, FitsCell, FitsEntry, FitsRow, FitsTree}
+use Rattle.vo_spec.specs.Fits.{FitsCell, FitsEntry, FitsRow, FitsTree}
 use Rattle.vo_spec.specs.Inserts.{half}
-use Rattle.vo_spec.specs.Standing.{IsNode, AreNodes, IsTree, fewest_in_root, StandsFor}
-use Rattle.vo_laws.proofs.ListLaws.{each_map}
+use Rattle.vo_spec.specs.Standing.{IsNode, AreNodes, fewest_in_root, StandsFor}
 use Rattle.vo_laws.proofs.TreeFits.{Separated, node_fits}
 
 -- how many entries a node has at least that isn't the root, so many levels above its leaves
@@ -81,9 +79,9 @@ root_low : (fewest height : ℕ) (lower upper : Option (List ℕ)) (t : RowTree)
 root_low fewest height lower upper (stub d) few n lt = absurd n
 root_low fewest height lower upper (leaf es) few n lt = omega (arith, n.0)
 root_low fewest height lower upper (inner ss ps) few n lt = elim (cases_lt 10 height) [
-    | inl high ↦ absurd (too_many high)
-    | inr low ↦ low
-  ]
+  | inl high ↦ absurd (too_many high)
+  | inr low ↦ low
+]
   where
     too_many : 10 < height → ⊥
     too_many high =

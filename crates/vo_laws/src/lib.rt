@@ -15,7 +15,8 @@ ghost use Rattle.vo_spec.specs.Tables.{tables_after};
 ghost use Rattle.vo_spec.specs.Conditions.{Query, FitsQuery};
 ghost use Rattle.vo_spec.specs.Results.{result as result_of};
 ghost use Rattle.vo_spec.specs.Trees.{Prunes};
-ghost use Rattle.vo_spec.specs.Replies.{Reply};
+ghost use Rattle.vo_spec.specs.Journals.{most_signature};
+ghost use Rattle.vo_spec.specs.Replies.{Reply, FitsReply};
 ghost use Rattle.vo_spec.specs.Checks.{answer_to, seen_outcome, missing_fault};
 ghost use Rattle.vo_spec.specs.Honest.{Stored, StandForTables, AreOpen, catalog_of, honest_record, honest_reply, honest_trees, trees_for};
 
@@ -38,6 +39,8 @@ pub fn honest_trees_stand_for_the_tables()
         → FitsCatalog (catalog_of (honest_trees batches)) }
     ensures record_fits { (key : List ℕ) (version : ℕ) (stored : List Stored) → 24 ≤ length key → version < 2 ^ 64
         → FitsRecord (honest_record key version stored) }
+    ensures reply_fits { (batches : List (List Command)) (q : Query) (rec : Record) (signature : List ℕ) → AllByRecursion FitsBatch batches → AreOpen batches
+        → FitsRecord rec → length signature ≤ most_signature → FitsReply (honest_reply q rec signature (honest_trees batches)) }
 {}
 
 /// A client takes the reply of an honest store, and its outcome is the query's result on the plain tables.
@@ -46,5 +49,5 @@ pub fn honest_replies_are_accepted()
         → AllByRecursion FitsBatch batches → AreOpen batches → rec ≡ honest_record key version (honest_trees batches)
         → IsSigned key rec signature → least ≤ rec.version → FitsQuery q
         → answer_to key least q (honest_reply q rec signature (honest_trees batches))
-          ≡ Ok (record { version = rec.version; outcome = result_of q (tables_after batches) }) }
+        ≡ Ok (record { version = rec.version; outcome = result_of q (tables_after batches) }) }
 {}

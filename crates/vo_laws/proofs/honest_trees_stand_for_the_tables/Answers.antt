@@ -2,6 +2,7 @@ use Rattle.vo_spec.specs.Tables.{tables_after}
 use Rattle.vo_spec.specs.Honest.{honest_trees}
 use Rattle.vo_laws.proofs.StandingLaws.{stands}
 use Rattle.vo_laws.proofs.StoredFits.{honest_trees_fit, catalog_fits, record_fits}
+use Rattle.vo_laws.proofs.ReplyFits.{reply_fits}
 use Rattle.vo_laws.proofs.honest_trees_stand_for_the_tables.Goals as goal
 
 pub returns : goal.returns
@@ -10,4 +11,5 @@ returns c = record {
   trees_fit = honest_trees_fit;
   catalog_fits = λ batches fits o. catalog_fits (honest_trees batches) (tables_after batches) (stands batches fits o).0 (stands batches fits o).1;
   record_fits = record_fits;
+  reply_fits = reply_fits;
 }
