@@ -15,6 +15,7 @@ mod sharing;
 mod stored;
 mod tables;
 
+pub use columns::{has_twice, kind_at, kind_of, same_kind};
 pub use fault::{ApplyFault, BatchFault};
 pub use tables::{Tables, apply};
 pub use vo_spec::{
