@@ -5,7 +5,6 @@ use Rattle.std.proofs.lemmas.Bool.{both_ways}
 use Rattle.std.proofs.lemmas.Slice.Eq.{bytes_eq-Decides}
 use Rattle.std.specs.List.{AllByRecursion}
 use Rattle.std.specs.Option.{option_map_or}
-use Rattle.std.specs.Result.{result_map_both}
 use Rattle.std.specs.declared.rc.Rc.{Rc}
 use Rattle.std.specs.declared.alloc.Global.{Global}
 use Rattle.std.proofs.lemmas.List.{map-append, take-map, take-append-drop, drop_all, append_assoc}
@@ -15,16 +14,15 @@ use Rattle.vo_spec.specs.declared.values.Row.{Row}
 use Rattle.vo_spec.specs.declared.tables.Table.{Table}
 use Rattle.vo_spec.specs.declared.tables.SetPart.{SetPart}
 use Rattle.vo_spec.specs.declared.tables.Column.{Column}
-use Rattle.vo_spec.specs.declared.tables.Command.{Command}
 use Rattle.vo_spec.specs.declared.tables.Command.TheVariants.{Create, Drop, Insert, Update, Delete}
 use Rattle.vo_spec.specs.declared.tables.CommandFault.{CommandFault}
 use Rattle.vo_spec.specs.declared.tables.CommandFault.TheVariants.{NoTable, DuplicateKey, NoRow, TableExists, TooManyTables, BadSchema}
 use Rattle.vo_spec.specs.Firsts.{first_of, unless, and_then}
 use Rattle.vo_spec.specs.Values.{key_of, key_lt}
-use Rattle.vo_spec.specs.Tables.{Tests, most_tables, is_bad_schema, Heading, heading_of, heading_named, put_table, create_tests, insert_tests, update_tests, delete_tests, refusal, changed, apply, row_of, has_row, put_row, without_row, changed_row, cell_changes, rows_named, table_named, with_rows}
+use Rattle.vo_spec.specs.Tables.{Tests, most_tables, is_bad_schema, Heading, heading_of, heading_named, put_table, create_tests, insert_tests, update_tests, delete_tests, changed, apply, row_of, has_row, put_row, without_row, changed_row, cell_changes, rows_named}
 use Rattle.table_list.specs.declared.stored.Stored.{Stored}
 use Rattle.table_list.specs.StoredTables.{table_of, tables_in}
-use Rattle.table_list.specs.Named.{table_at, no_table, IsUnlike, Differ, IsAt, IsFound, IsNotAbove, BeginsAbove, new_table, rowed, exchanged, with_new}
+use Rattle.table_list.specs.Named.{table_at, no_table, IsUnlike, Differ, IsAt, IsFound, IsNotAbove, BeginsAbove, new_table, rowed, with_new}
 use Rattle.table_list.proofs.Places.{parted_at, take_more, all_more, all_first, all_last, drop_at as drop_at_place}
 use Rattle.table_list.specs.Changes.{on_tables, put_new, inserted_rows, set_there, updated_rows, drop_there, deleted_rows}
 use Rattle.table_list.proofs.TableLaws.{heading_at, heading_absent, named_at, rows_at, less_at, differ_less, differ_same}
@@ -124,6 +122,9 @@ drop_absent name tables h = rw (heading_absent name tables h) refl
 tables_seen : (xs : List (Rc Stored Global)) → tables_in xs ≡ map table_of (map (λ s. s.value) xs)
 tables_seen [] = refl
 tables_seen (x ∷ xs) = ap (λ (t : List Table). table_of x.value ∷ t) (tables_seen xs)
+
+pub same_tables : (new items : List (Rc Stored Global)) → map (λ s. s.value) new ≡ map (λ s. s.value) items → tables_in new ≡ tables_in items
+same_tables new items e = tables_seen new ∙ ap (map table_of) e ∙ sym (tables_seen items)
 
 pub spliced_tables : (new items : List (Rc Stored Global)) (others : List Stored) (from to : ℕ) → map (λ s. s.value) new ≡ take from (map (λ s. s.value) items) ++ others ++ drop to (map (λ s. s.value) items)
     → tables_in new ≡ take from (tables_in items) ++ map table_of others ++ drop to (tables_in items)

@@ -1,13 +1,13 @@
 -- What a change at a key's place makes of rising rows.
 use Rattle.std.proofs.Common.{◌≡◌, ℕ, zero, suc, ◌+◌, ◌<◌, ◌≤◌, Bool, true, false, cond, List, [], ◌∷◌, ◌++◌, length, take, drop, map, Option, Some, None, refl, sym, ap, subst, ◌∙◌, append_assoc, arith, inl, inr}
-use Rattle.std.specs.Prelude.{bytes_eq, if◌then◌else◌}
+use Rattle.std.specs.Prelude.{if◌then◌else◌}
 use Rattle.std.specs.List.{AllByRecursion}
-use Rattle.std.specs.declared.cmp.Ordering.TheVariants.{Less, Equal, Greater}
+use Rattle.std.specs.declared.cmp.Ordering.TheVariants.{Equal}
 use Rattle.std.proofs.lemmas.Bool.{cases_lt}
 use Rattle.std.proofs.lemmas.List.{take-append-drop}
 use Rattle.vo_spec.specs.declared.values.Row.{Row}
 use Rattle.vo_spec.specs.Values.{key_cmp}
-use Rattle.vo_spec.specs.Tables.{CellChange, has_row, put_row, without_row, changed_row, changed_cells}
+use Rattle.vo_spec.specs.Tables.{CellChange, has_row, put_row, without_row, changed_row}
 use Rattle.table_list.specs.Rising.{IsBelow, IsAbove, Rises, Begins}
 use Rattle.table_list.specs.Chunks.{row_at, recelled}
 use Rattle.table_list.proofs.KeyOrder.{equal_turned, alike}

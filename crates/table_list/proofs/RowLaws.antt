@@ -1,15 +1,13 @@
 -- What commands make of rows that are parted at a key.
-use Rattle.std.proofs.Common.{◌≡◌, ℕ, Bool, true, false, not, cond, List, [], ◌∷◌, ◌++◌, map, filter, refl, sym, ap, subst, ◌∙◌}
-use Rattle.std.specs.Prelude.{bytes_eq}
-use Rattle.std.specs.List.{AllByRecursion, list_any}
+use Rattle.std.proofs.Common.{◌≡◌, ℕ, Bool, true, false, List, [], ◌∷◌, ◌++◌, map, refl, sym, ap, ◌∙◌}
+use Rattle.std.specs.List.{AllByRecursion}
 use Rattle.std.specs.declared.cmp.Ordering.TheVariants.{Less, Equal, Greater}
 use Rattle.vo_spec.specs.declared.values.Row.{Row}
-use Rattle.vo_spec.specs.declared.values.Value.{Value}
-use Rattle.vo_spec.specs.Values.{key_cmp, key_lt}
+use Rattle.vo_spec.specs.Values.{key_cmp}
 use Rattle.vo_spec.specs.Tables.{has_row, put_row, without_row, changed_row, CellChange}
-use Rattle.table_list.specs.Rising.{IsBelow, IsAbove, Rises, Begins, Parts}
+use Rattle.table_list.specs.Rising.{IsBelow, IsAbove, Rises, Begins}
 use Rattle.table_list.proofs.Places.{all_more, all_first, all_last}
-use Rattle.table_list.proofs.KeyOrder.{less_greater, greater_less, equal_turned, less_then, greater_then, equal_then, then_equal, unlike_less, unlike_greater, alike, lt_less, lt_greater}
+use Rattle.table_list.proofs.KeyOrder.{less_greater, greater_less, less_then, greater_then, then_equal, unlike_less, unlike_greater, alike, lt_less, lt_greater}
 
 -- Whether there is the key.
 

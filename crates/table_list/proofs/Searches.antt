@@ -1,5 +1,5 @@
 -- Searching rising rows by halves.
-use Rattle.std.proofs.Common.{◌≡◌, ℕ, zero, suc, ◌+◌, ◌<◌, ◌≤◌, Bool, true, false, List, [], ◌∷◌, ◌++◌, length, take, drop, get_or, refl, sym, ap, subst, ◌∙◌, arith, add-one}
+use Rattle.std.proofs.Common.{◌≡◌, ℕ, ◌+◌, ◌<◌, true, false, List, [], ◌∷◌, ◌++◌, length, take, drop, refl, sym, subst}
 use Rattle.std.specs.List.{AllByRecursion}
 use Rattle.std.specs.declared.cmp.Ordering.TheVariants.{Less, Equal, Greater}
 use Rattle.vo_spec.specs.declared.values.Row.{Row}
@@ -7,8 +7,7 @@ use Rattle.vo_spec.specs.Values.{key_cmp}
 use Rattle.table_list.specs.Rising.{IsBelow, IsAbove, Rises, Begins}
 use Rattle.table_list.specs.Chunks.{row_at, no_row}
 use Rattle.table_list.proofs.Places.{all_more, parted_at, drop_at, take_more}
-use Rattle.table_list.proofs.KeyOrder.{greater_less, equal_turned}
-use Rattle.table_list.proofs.RowLaws.{all_above, all_above_equal, all_below, all_below_equal, rises_below, rises_above}
+use Rattle.table_list.proofs.RowLaws.{all_above, all_below, all_below_equal, rises_below, rises_above}
 
 -- parted at a place
 

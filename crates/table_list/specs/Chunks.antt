@@ -1,5 +1,5 @@
 -- Rows as they are kept, in short lists one after the other.
-use Rattle.std.specs.Prelude.{ℕ, List, [], ◌∷◌, map, slice_index_or}
+use Rattle.std.specs.Prelude.{ℕ, List, [], map, slice_index_or}
 use Rattle.std.specs.declared.rc.Rc.{Rc}
 use Rattle.std.specs.declared.alloc.Global.{Global}
 use Rattle.vo_spec.specs.declared.values.Row.{Row}

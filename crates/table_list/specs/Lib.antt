@@ -5,3 +5,4 @@ pub mod StoredTables
 pub mod Named
 pub mod Changes
 pub mod Batched
+pub mod BatchReading

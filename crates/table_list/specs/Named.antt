@@ -1,5 +1,5 @@
 -- Tables by their names, which differ.
-use Rattle.std.specs.Prelude.{◌≡◌, ℕ, ◌+◌, ◌<◌, Bool, true, false, List, [], ◌∷◌, ◌++◌, length, take, drop, Option, Some, None, bytes_eq, slice_index_or}
+use Rattle.std.specs.Prelude.{◌≡◌, ℕ, ◌+◌, ◌<◌, true, false, List, [], ◌∷◌, ◌++◌, length, take, drop, Option, Some, None, bytes_eq, slice_index_or}
 use Rattle.std.specs.List.{AllByRecursion}
 use Rattle.vo_spec.specs.declared.values.Row.{Row}
 use Rattle.vo_spec.specs.declared.tables.Column.{Column}

@@ -1,6 +1,7 @@
 //! Why commands and batches are not applied.
 ghost use Rattle.std.specs.Prelude.{◌≡◌};
 ghost use Rattle.table_list.specs.declared.fault.ApplyFault.TheVariants.{Memory};
+ghost use Rattle.table_list.specs.declared.fault.BatchFault.TheVariants.{Memory as BatchMemory};
 
 use std::alloc::{AllocError, AllocFailed};
 use thiserror::Error;
@@ -39,4 +40,12 @@ pub enum BatchFault {
     Command { index: u64, fault: CommandFault },
     #[error("out of memory")]
     Memory,
+}
+
+impl From<AllocError> for BatchFault {
+    ghost from_gives = { λ _ e. e ≡ BatchMemory };
+
+    fn from(_e: AllocError) -> BatchFault {
+        BatchFault::Memory
+    }
 }

@@ -2,6 +2,7 @@
 #![tactic(auto)]
 
 mod applying;
+mod batch_reading;
 mod cells;
 mod changing;
 mod columns;
@@ -17,7 +18,7 @@ mod tables;
 
 pub use columns::{has_twice, kind_at, kind_of, same_kind};
 pub use fault::{ApplyFault, BatchFault};
-pub use tables::{Tables, apply};
+pub use tables::{Tables, apply, apply_batch};
 pub use vo_spec::{
     Batch, Cmp, Column, Command, CommandFault, Cond, Items, Join, Operand, Outcome, QueryFault,
     QueryText, Ref, Schema, SetPart, Source, Table,

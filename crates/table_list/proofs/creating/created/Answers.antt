@@ -2,8 +2,7 @@ use Rattle.std.proofs.Common.{ℕ, List, take, drop, map, length, ◌∙◌, ap,
 use Rattle.std.specs.Prelude.{Ok}
 use Rattle.std.specs.List.{AllByRecursion}
 use Rattle.std.proofs.lemmas.List.{length-map}
-use Rattle.vo_spec.specs.declared.tables.Command.TheVariants.{Create}
-use Rattle.vo_spec.specs.Tables.{heading_of, apply}
+use Rattle.vo_spec.specs.Tables.{heading_of}
 use Rattle.table_list.specs.StoredTables.{table_of, tables_in}
 use Rattle.table_list.specs.Named.{Differ, IsNotAbove, BeginsAbove, new_table}
 use Rattle.table_list.proofs.Applied.{create_refused, create_at, create_new, create_differs, found_some, found_lent, tests_lent, made_between}

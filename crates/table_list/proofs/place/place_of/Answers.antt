@@ -1,4 +1,4 @@
-use Rattle.std.proofs.Common.{◌+◌, ◌-◌, ◌/◌, ◌<◌, ◌≡◌, arith, sym, ◌∙◌, length}
+use Rattle.std.proofs.Common.{◌+◌, ◌-◌, ◌/◌, ◌<◌, ◌≡◌, arith, sym, length}
 use Rattle.std.proofs.lemmas.List.{length-map}
 use Rattle.table_list.specs.Chunks.{rows_in}
 use Rattle.table_list.proofs.Searches.{search_less, search_greater, search_equal}

@@ -1,4 +1,4 @@
-use Rattle.std.proofs.Common.{◌≡◌, ◌-◌, ◌≤◌, length, take, drop}
+use Rattle.std.proofs.Common.{◌-◌, ◌≤◌, length, take, drop}
 use Rattle.std.specs.List.{AllByRecursion}
 use Rattle.table_list.specs.Rising.{IsBelow, IsAbove}
 use Rattle.table_list.specs.Chunks.{rows_in}

@@ -1,5 +1,3 @@
-use Rattle.std.proofs.Common.{arith, length}
-use Rattle.std.proofs.lemmas.List.{length-map}
 use Rattle.vo_spec.specs.Tables.{without_row}
 use Rattle.std.specs.Prelude.{Some}
 use Rattle.table_list.specs.Chunks.{rows_in}
