@@ -1,23 +1,29 @@
--- The calls that a disk in memory has kept, newest first, each write with its bytes at the end of a log.
-use Rattle.std.specs.Prelude.{ℕ, ◌+◌, ◌-◌, List, [], ◌∷◌, ◌++◌, length, take, drop}
+-- The calls that a disk in memory has kept, oldest first, the bytes of all writes in one log.
+use Rattle.std.specs.Prelude.{ℕ, ◌+◌, Bool, true, List, [], ◌∷◌, take, drop, fold, nat_le}
 use Rattle.outside.specs.Drive.{Call, Wrote, Synced, overwritten}
 use Rattle.outside.specs.declared.mem_disk.done.Done.{Done}
 use Rattle.outside.specs.declared.mem_disk.done.Done.TheVariants.{Write, Sync}
 
--- where the bytes of the newest write begin
-abbrev pub log_start : List ℕ → ℕ → ℕ
-log_start log kept = length log - kept
+-- what reads give once this was done
+abbrev pub seen_next : List ℕ → List ℕ → Done → List ℕ
+seen_next log seen (Write at from kept lost) = overwritten at (take kept (drop from log)) seen
+seen_next log seen Sync = seen
 
--- what reads give after these calls
+-- the same call as a crash sees it, by what reads gave
+abbrev pub call_of : List ℕ → Done → Call
+call_of seen (Write at from kept lost) = Wrote at (kept + lost)
+call_of seen Sync = Synced seen
+
+-- what reads give after all of it
 abbrev pub seen_after : List ℕ → List ℕ → List Done → List ℕ
-seen_after first log [] = first
-seen_after first log (Write at kept lost ∷ earlier) =
-    overwritten at (drop (log_start log kept) log) (seen_after first (take (log_start log kept) log) earlier)
-seen_after first log (Sync ∷ earlier) = seen_after first log earlier
+seen_after log seen done = fold (seen_next log) seen done
 
--- the same calls as a crash sees them, oldest first
+-- the calls as a crash sees them
 abbrev pub calls_after : List ℕ → List ℕ → List Done → List Call
-calls_after first log [] = []
-calls_after first log (Write at kept lost ∷ earlier) =
-    calls_after first (take (log_start log kept) log) earlier ++ Wrote at (kept + lost) ∷ []
-calls_after first log (Sync ∷ earlier) = calls_after first log earlier ++ Synced (seen_after first log earlier) ∷ []
+calls_after log seen [] = []
+calls_after log seen (one ∷ done) = call_of seen one ∷ calls_after log (seen_next log seen one) done
+
+-- the bytes of a write lie in a log of this length
+abbrev pub is_within : ℕ → Done → Bool
+is_within len (Write at from kept lost) = nat_le (from + kept) len
+is_within len Sync = true

@@ -1,13 +1,12 @@
 -- What reads give, a crash may leave.
-use Rattle.std.proofs.Common.{rules, suc, ap, ◌∙◌, sym, subst, min, max, ◌≡◌, ℕ, ◌+◌, ◌-◌, ◌<◌, ◌≤◌, ◌==◌, ◌&&◌, ◌||◌, not, ◌⊎◌, inl, inr, cond, Bool, true, false, List, [], ◌∷◌, ◌++◌, length, take, drop, get_or, arith, refl, IsTrue, fold, nat_lt, nat_le}
-use Rattle.std.proofs.lemmas.List.{length-drop, length-take, take_all}
+use Rattle.std.proofs.Common.{◌∙◌, ◌≡◌, ℕ, ◌+◌, ◌<◌, ◌≤◌, ◌==◌, ◌&&◌, ◌||◌, not, ◌⊎◌, inl, inr, cond, Bool, true, false, List, [], ◌∷◌, length, take, drop, arith, refl, IsTrue, fold, nat_lt, nat_le}
+use Rattle.std.proofs.lemmas.List.{length-take, take_all}
 use Rattle.std.proofs.lemmas.Bool.Decides.{nat_tests}
-use Rattle.std.proofs.lemmas.List.Sums.{fold-append}
 use Rattle.outside.specs.declared.room.Room.{Room}
 use Rattle.outside.specs.declared.mem_disk.done.Done.{Done}
 use Rattle.outside.specs.declared.mem_disk.done.Done.TheVariants.{Write, Sync}
-use Rattle.outside.specs.Done.{log_start, seen_after, calls_after}
-use Rattle.outside.specs.Drive.{Call, Wrote, Synced, Drive, Down, down_after, IsImage, MayLeave, overwritten, furthest, has, is_written, range_end}
+use Rattle.outside.specs.Done.{seen_next, call_of, seen_after, calls_after}
+use Rattle.outside.specs.Drive.{Call, Wrote, Down, down_after, IsImage, MayLeave, overwritten, has, is_written}
 use Rattle.outside.specs.OverwrittenLaws.{length-overwritten, get_or-overwritten}
 
 neither : (a b : Bool) → IsTrue (not (a || b)) → IsTrue (not a) × IsTrue (not b)
@@ -46,29 +45,30 @@ after_write down seen piece place count front image = record {
       get_or-overwritten place piece seen k apart inside ∙ image.stays k within parts.1;
 }
 
--- the state at the end of the calls that a disk in memory has kept
-abbrev pub down_of : List ℕ → List Call → Down
-down_of first calls = fold down_after (record { contents = first; ranges = [] }) calls
-
-one_more : (first : List ℕ) (calls : List Call) (call : Call) → down_of first (calls ++ call ∷ []) ≡ down_after (down_of first calls) call
-one_more first calls call = fold-append down_after (record { contents = first; ranges = [] }) calls (call ∷ [])
-
-pub seen-image : (first log : List ℕ) (done : List Done) → IsImage (down_of first (calls_after first log done)) (seen_after first log done)
-seen-image first log [] = record { no_shorter = omega arith; no_longer = omega arith; stays = λ k within free. refl }
-seen-image first log (Write at kept lost ∷ earlier) =
-    let log' : List ℕ = take (log_start log kept) log in
-    let piece : List ℕ = drop (log_start log kept) log in
-    let front : length piece ≤ kept + lost = simp length-drop (omega arith) in
-    rw (one_more first (calls_after first log' earlier) (Wrote at (kept + lost)))
-    (after_write _ _ piece at (kept + lost) front (seen-image first log' earlier))
-seen-image first log (Sync ∷ earlier) =
-    rw (one_more first (calls_after first log earlier) (Synced (seen_after first log earlier)))
+-- each thing that was done keeps what reads give an image
+image-next : (log seen : List ℕ) (down : Down) (one : Done) → IsImage down seen
+    → IsImage (down_after down (call_of seen one)) (seen_next log seen one)
+image-next log seen down (Write at from kept lost) image =
+    let piece : List ℕ = take kept (drop from log) in
+    let front : length piece ≤ kept + lost = simp length-take (omega arith) in
+    after_write down seen piece at (kept + lost) front image
+image-next log seen down Sync image =
     record { no_shorter = omega arith; no_longer = omega arith; stays = λ k within free. refl }
 
+pub image-after : (log seen : List ℕ) (down : Down) (done : List Done) → IsImage down seen
+    → IsImage (fold down_after down (calls_after log seen done)) (seen_after log seen done)
+image-after log seen down [] image = image
+image-after log seen down (one ∷ done) image =
+    image-after log (seen_next log seen one) (down_after down (call_of seen one)) done (image-next log seen down one image)
+
+-- what was put down is an image of itself
+whole : (first : List ℕ) → IsImage (record { contents = first; ranges = [] }) first
+whole first = record { no_shorter = omega arith; no_longer = omega arith; stays = λ k within free. refl }
+
 -- what reads give after the calls that a disk in memory has kept, a crash may leave
-pub may_leave-seen : (first seen log : List ℕ) (done : List Done) (room : Room) → seen ≡ seen_after first log done
-    → MayLeave (record { seen = seen; first = first; calls = calls_after first log done; room = room }) seen
+pub may_leave-seen : (first seen log : List ℕ) (done : List Done) (room : Room) → seen ≡ seen_after log first done
+    → MayLeave (record { seen = seen; first = first; calls = calls_after log first done; room = room }) seen
 may_leave-seen first seen log done room same =
-    let calls : List Call = calls_after first log done in
+    let calls : List Call = calls_after log first done in
     let all : take (length calls) calls ≡ calls = take_all (length calls) calls (omega arith) in
-    rw all (rw same (seen-image first log done))
+    rw all (rw same (image-after log first (record { contents = first; ranges = [] }) done (whole first)))

@@ -1,5 +1,4 @@
 -- A disk that is kept in memory.
-use Rattle.std.specs.Prelude.{reverse}
 use Rattle.outside.specs.Done.{calls_after}
 use Rattle.outside.specs.Drive.{Drive}
 use Rattle.outside.specs.declared.mem_disk.MemDisk.{MemDisk}
@@ -8,7 +7,7 @@ abbrev pub drive_of : {P : Type 0} → MemDisk P → Drive
 drive_of disk = record {
   seen = disk.seen.items;
   first = disk.first.items;
-  calls = calls_after disk.first.items disk.log.items (reverse disk.done.items);
+  calls = calls_after disk.log.items disk.first.items disk.done.items;
   room = disk.room;
 }
 

@@ -17,3 +17,7 @@ misses_of net = net.misses
 
 abbrev pub plan_of : {P : Type 0} → MemNet P → P
 plan_of net = net.failures
+
+-- how many bytes one get takes at most
+abbrev pub most_of : {P : Type 0} → MemNet P → ℕ
+most_of net = net.most

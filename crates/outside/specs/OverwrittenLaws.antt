@@ -1,31 +1,30 @@
 -- What a write leaves of the bytes that it goes over.
-use Rattle.std.proofs.Common.{rules, suc, ap, ◌∙◌, min, ◌≡◌, ℕ, ◌+◌, ◌-◌, ◌<◌, ◌≤◌, ◌==◌, ◌⊎◌, inl, inr, max, cond, Bool, true, false, List, [], ◌∷◌, ◌++◌, length, take, drop, replicate, get_or, arith, refl}
+use Rattle.std.proofs.Common.{rules, suc, ap, ◌∙◌, min, ◌≡◌, ℕ, ◌+◌, ◌-◌, ◌<◌, ◌≤◌, ◌==◌, ◌⊎◌, inl, inr, max, cond, List, [], ◌∷◌, ◌++◌, length, take, drop, replicate, get_or, arith, refl}
 use Rattle.std.proofs.lemmas.List.{places, length-append, length-take, length-drop, length-replicate}
-use Rattle.std.proofs.lemmas.Grind.{common_steps}
-use Rattle.outside.specs.Drive.{gap, overwritten}
+use Rattle.outside.specs.Drive.{overwritten}
 
--- the same with any number of zeros
+-- the same with a gap of any length
 abbrev laid : ℕ → ℕ → List ℕ → List ℕ → List ℕ
-laid zeros place piece seen = (take place seen ++ replicate zeros 0) ++ piece ++ drop (place + length piece) seen
+laid gap place piece seen = (take place seen ++ replicate gap 0) ++ piece ++ drop (place + length piece) seen
 
-length-laid : (zeros place : ℕ) (piece seen : List ℕ)
-    → length (laid zeros place piece seen) ≡ min place (length seen) + zeros + length piece + (length seen - (place + length piece))
-length-laid zeros place piece seen = simp (length-append, length-take, length-drop, length-replicate) refl
+length-laid : (gap place : ℕ) (piece seen : List ℕ)
+    → length (laid gap place piece seen) ≡ min place (length seen) + gap + length piece + (length seen - (place + length piece))
+length-laid gap place piece seen = simp (length-append, length-take, length-drop, length-replicate) refl
 
-laid-before : (zeros place : ℕ) (piece seen : List ℕ) (k : ℕ) → k < place → k < length seen
-    → get_or (laid zeros place piece seen) k 0 ≡ get_or seen k 0
-laid-before zeros place piece seen k before within = search (rules, places)
+laid-before : (gap place : ℕ) (piece seen : List ℕ) (k : ℕ) → k < place → k < length seen
+    → get_or (laid gap place piece seen) k 0 ≡ get_or seen k 0
+laid-before gap place piece seen k before within = search (rules, places)
 
 laid-after : (place : ℕ) (piece seen : List ℕ) (k : ℕ) → place + length piece ≤ k → k < length seen
     → get_or (laid 0 place piece seen) k 0 ≡ get_or seen k 0
 laid-after place piece seen k after within = search (rules, places)
 
--- the zeros before a piece that has bytes
+-- the gap before a piece that has bytes
 some : (n m : ℕ) → cond (suc n == 0) 0 m ≡ m
 some n m = grind arith
 
 gap-some : (place b : ℕ) (bs seen : List ℕ) → overwritten place (b ∷ bs) seen ≡ laid (place - length seen) place (b ∷ bs) seen
-gap-some place b bs seen = ap (λ zeros. laid zeros place (b ∷ bs) seen) (some (length bs) (place - length seen))
+gap-some place b bs seen = ap (λ gap. laid gap place (b ∷ bs) seen) (some (length bs) (place - length seen))
 
 pub length-overwritten : (place : ℕ) (piece seen : List ℕ)
     → length (overwritten place piece seen) ≡ max (length seen) (cond (length piece == 0) 0 (place + length piece))

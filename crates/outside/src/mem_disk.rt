@@ -1,8 +1,9 @@
 //! A disk that is kept in memory, with what was done to it.
-ghost use Rattle.std.specs.Prelude.{◌≡◌, ℕ, ◌+◌, ◌≤◌, ◌↔◌, List, Some, length, take, drop, reverse, vec_len, vec_capacity, IsSome, IfOk, OnOk, OnErr, IsErr};
+ghost use Rattle.std.specs.Prelude.{◌≡◌, ℕ, ◌+◌, ◌≤◌, ◌↔◌, List, Some, length, take, drop, vec_len, vec_capacity, IsSome, IsTrue, IfOk, OnOk, OnErr, IsErr};
+ghost use Rattle.std.specs.List.{list_all};
 ghost use Rattle.outside.specs.declared.room.Room.{Room};
-ghost use Rattle.outside.specs.Done.{seen_after};
-ghost use Rattle.outside.specs.Drive.{HasRoom, NoLess, fresh, overwritten, write_on, write_leaving, sync_now};
+ghost use Rattle.outside.specs.Done.{seen_after, is_within};
+ghost use Rattle.outside.specs.Drive.{HasRoom, NoLess, fresh, now, overwritten, write_on, write_leaving, sync_now};
 ghost use Rattle.outside.specs.Rose.{Rose};
 
 use crate::disk::Disk;
@@ -27,7 +28,8 @@ pub struct MemDisk<P> {
     done: Vec<Done>,
     room: Room,
     failures: P,
-    ghost kept: { seen.items ≡ seen_after first.items log.items (reverse done.items) },
+    ghost kept: { seen.items ≡ seen_after log.items first.items done.items },
+    ghost within: { IsTrue (list_all (is_within (length log.items)) done.items) },
     ghost end: { room.end ≤ vec_capacity seen },
     ghost bytes: { vec_len log + room.bytes ≤ vec_capacity log },
     ghost calls: { vec_len done + room.calls ≤ vec_capacity done },
@@ -62,7 +64,16 @@ impl<P: Failures> MemDisk<P> {
         self.seen.as_slice()
     }
 
+    /// How many writes and syncs were kept: the number of this moment.
+    #[tactic(auto, using(crate::proofs::Logged::calls_length))]
+    pub fn moment(&self) -> usize
+        ensures { result ≡ now (drive_of self.now) }
+    {
+        self.done.len()
+    }
+
     /// Writes a front of a piece, the rest of which is lost.
+    #[tactic(auto, using(crate::proofs::Logged::seen_write, crate::proofs::Logged::calls_write, crate::proofs::Logged::within_write))]
     fn write_front(&mut self, at: u64, front: &[u8], lost: usize)
         requires { HasRoom (at + (length front.now + lost)) (length front.now + lost) 1 (drive_of self.old).room }
         ensures drive { drive_of self.new
@@ -70,9 +81,15 @@ impl<P: Failures> MemDisk<P> {
         ensures plan { plan_of self.new ≡ plan_of self.old }
     {
         overwrite(&mut self.seen, at as usize, front);
+        let (from, kept) = (self.log.len(), front.len());
         self.log.extend_from_slice(front).unwrap();
-        let kept = front.len();
-        self.done.push(Done::Write { at, kept, lost }).unwrap();
+        let write = Done::Write {
+            at,
+            from,
+            kept,
+            lost,
+        };
+        self.done.push(write).unwrap();
         self.room.bytes -= (kept + lost) as u64;
         self.room.calls -= 1;
     }
@@ -86,7 +103,7 @@ impl<P: Failures> Disk for MemDisk<P> {
 
     ghost faults = { λ disk. P.count (plan_of disk) };
 
-    ghost sees = { λ disk. may_leave-seen disk.first.items disk.seen.items disk.log.items (reverse disk.done.items) disk.room disk.kept };
+    ghost sees = { λ disk. may_leave-seen disk.first.items disk.seen.items disk.log.items disk.done.items disk.room disk.kept };
 
     fn len(&mut self) -> Result<u64, Failed>
         ensures len { IfOk result (λ n. n ≡ length (drive_of self.old).seen) }
@@ -144,6 +161,7 @@ impl<P: Failures> Disk for MemDisk<P> {
         }
     }
 
+    #[tactic(auto, using(crate::proofs::Logged::calls_push))]
     fn sync(&mut self) -> Result<(), Failed>
         requires { HasRoom 0 0 1 (drive_of self.old).room }
         ensures ok { OnOk result (drive_of self.new ≡ sync_now (drive_of self.old)) }

@@ -33,7 +33,7 @@ pub struct MemNet<P> {
 }
 
 impl<P: Failures> MemNet<P> {
-    ghost use Rattle.outside.specs.MemNet.{wire_of, misses_of, plan_of};
+    ghost use Rattle.outside.specs.MemNet.{wire_of, misses_of, most_of, plan_of};
     ghost use Rattle.outside.specs.Wire.{waiting};
 
     /// Takes the room for all that the connections need but the bytes put on them.
@@ -62,6 +62,7 @@ impl<P: Failures> MemNet<P> {
         requires { 0 < most }
         ensures wire { wire_of result ≡ wire_of self }
         ensures misses { misses_of result ≡ misses_of self }
+        ensures most { most_of result ≡ most }
         ensures plan { plan_of result ≡ plan_of self }
     {
         self.most = most;
@@ -94,6 +95,7 @@ impl<P: Failures> MemNet<P> {
         ensures misses { CountsMiss (has_next (wire_of self.old)) (misses_of self.old) (misses_of self.new) }
 
         ensures due { IsTrue (has_next (wire_of self.old)) → (IsErr result ↔ IsSome (P.due (plan_of self.old))) }
+        ensures most { most_of self.new ≡ most_of self.old }
         ensures plan { plan_of self.new ≡ P.after (plan_of self.old) }
     {
         let failure = self.failures.next_call();
@@ -115,7 +117,7 @@ impl<P: Failures> MemNet<P> {
 }
 
 impl<P: Failures> Link for MemNet<P> {
-    ghost use Rattle.outside.specs.MemNet.{wire_of, misses_of, plan_of};
+    ghost use Rattle.outside.specs.MemNet.{wire_of, misses_of, most_of, plan_of};
 
     ghost wire = { λ net. Some (wire_of net) };
 
@@ -125,6 +127,7 @@ impl<P: Failures> Link for MemNet<P> {
 
     fn get(&mut self, into: &mut [u8]) -> Result<usize, Failed>
         ensures some { IfOk result (λ n. n ≤ length into.old) }
+        ensures piece { IfOk result (λ n. n ≤ most_of self.old) }
         ensures taken { IfOk result (λ n. Gets n (wire_of self.old).coming into.old into.new) }
         ensures ok { IfOk result (λ n. wire_of self.new ≡ take_from n (wire_of self.old)) }
         ensures err { OnErr result (wire_of self.new ≡ wire_of self.old) }
@@ -136,6 +139,7 @@ impl<P: Failures> Link for MemNet<P> {
         ensures misses { CountsMiss (wire_of self.old).stands (misses_of self.old) (misses_of self.new) }
 
         ensures due { (wire_of self.old).stands ≡ true → (IsErr result ↔ IsSome (P.due (plan_of self.old))) }
+        ensures most { most_of self.new ≡ most_of self.old }
         ensures plan { plan_of self.new ≡ P.after (plan_of self.old) }
     {
         let failure = self.failures.next_call();
@@ -168,6 +172,7 @@ impl<P: Failures> Link for MemNet<P> {
 
         ensures due { (wire_of self.old).stands ≡ true
             → (IsErrOf result PutFault.Failed ↔ IsSome (P.due (plan_of self.old))) }
+        ensures most { most_of self.new ≡ most_of self.old }
         ensures plan { plan_of self.new ≡ P.after (plan_of self.old) }
     {
         let failure = self.failures.next_call();
@@ -190,7 +195,7 @@ impl<P: Failures> Link for MemNet<P> {
 }
 
 impl<P: Failures> Net for MemNet<P> {
-    ghost use Rattle.outside.specs.MemNet.{wire_of, misses_of, plan_of};
+    ghost use Rattle.outside.specs.MemNet.{wire_of, misses_of, most_of, plan_of};
 
     fn connect(&mut self, _addr: &str) -> Result<(), Failed>
         ensures ok { OnOk result (wire_of self.new ≡ open_next (wire_of self.old)) }
@@ -203,6 +208,7 @@ impl<P: Failures> Net for MemNet<P> {
         ensures misses { CountsMiss (has_next (wire_of self.old)) (misses_of self.old) (misses_of self.new) }
 
         ensures due { IsTrue (has_next (wire_of self.old)) → (IsErr result ↔ IsSome (P.due (plan_of self.old))) }
+        ensures most { most_of self.new ≡ most_of self.old }
         ensures plan { plan_of self.new ≡ P.after (plan_of self.old) }
     {
         self.open_next()
@@ -217,6 +223,7 @@ impl<P: Failures> Net for MemNet<P> {
         ensures misses { misses_of self.new ≡ misses_of self.old }
 
         ensures due { IsErr result ↔ IsSome (P.due (plan_of self.old)) }
+        ensures most { most_of self.new ≡ most_of self.old }
         ensures plan { plan_of self.new ≡ P.after (plan_of self.old) }
     {
         match self.failures.next_call() {
@@ -236,6 +243,7 @@ impl<P: Failures> Net for MemNet<P> {
         ensures misses { CountsMiss (has_next (wire_of self.old)) (misses_of self.old) (misses_of self.new) }
 
         ensures due { IsTrue (has_next (wire_of self.old)) → (IsErr result ↔ IsSome (P.due (plan_of self.old))) }
+        ensures most { most_of self.new ≡ most_of self.old }
         ensures plan { plan_of self.new ≡ P.after (plan_of self.old) }
     {
         self.open_next()
@@ -244,6 +252,7 @@ impl<P: Failures> Net for MemNet<P> {
     fn close(&mut self)
         ensures closed { wire_of self.new ≡ shut (wire_of self.old) }
         ensures misses { misses_of self.new ≡ misses_of self.old }
+        ensures most { most_of self.new ≡ most_of self.old }
         ensures plan { plan_of self.new ≡ plan_of self.old }
     {
         let sent = mem::replace(&mut self.sent, Vec::new(self.alloc));

@@ -85,6 +85,7 @@ fn disks(rt: HostRuntime) -> Result<(), Fail> {
     assert_eq!(rt; disk.sync(), Ok(()));
     assert_eq!(rt; disk.len(), Ok(7));
     assert_eq!(rt; disk.seen(), b"aBC\0\0xy".as_slice());
+    assert_eq!(rt; disk.moment(), 3);
     let mut buffer = [0u8; 2];
     assert_eq!(rt; disk.read(2, &mut buffer), Ok(()));
     assert_eq!(rt; buffer, *b"C\0");

@@ -9,14 +9,20 @@ use Rattle.grammar.specs.declared.Stop.{Stop}
 use Rattle.grammar.specs.declared.Stop.TheVariants as stop
 use Rattle.grammar.proofs.Judged.{judged, parsed}
 use Rattle.sql_tokens.specs.declared.lexemes.Lapse.{Lapse}
+use Rattle.sql_tokens.specs.declared.lexemes.Lapse.TheVariants as lapse
+use Rattle.sql_tokens.specs.declared.lexemes.LexFault.{LexFault}
+use Rattle.sql_tokens.specs.declared.lexemes.LexFault.TheVariants as lex
+use Rattle.sql_tokens.proofs.Alone.{tokens_real}
 use Rattle.sql_tokens.specs.declared.lexemes.Lexeme.{Lexeme}
-use Rattle.sql_tokens.specs.Lex.{Token, Placed, tokens_of, token_of, placed_of}
+use Rattle.sql_tokens.specs.Lex.{Token, Placed, tokens_of, token_of, placed_of, Scans}
 use Rattle.sql_text.specs.declared.faults.SqlFault.{SqlFault}
 use Rattle.sql_text.specs.declared.faults.SqlFault.TheVariants as fault
 use Rattle.sql_text.specs.declared.halt.Halt.{Halt}
 use Rattle.sql_text.specs.declared.halt.Halt.TheVariants.{Memory, Fault}
+use Rattle.sql_text.specs.declared.parser.Parser.{Parser}
+use Rattle.sql_text.specs.Faults.{of_tokens}
 use Rattle.sql_text.specs.Tokens.{sql, IsToken}
-use Rattle.sql_text.specs.Parsing.{Finds}
+use Rattle.sql_text.specs.Parsing.{Finds, Reads, left_of}
 use Rattle.sql_text.specs.Queries.{conditions_of}
 use Rattle.sql_text.specs.Texts.{unplaced, IsTextOf, place_of, Breaks, HasFault, Answers, Accepts, ended}
 use Rattle.sql_text.proofs.Good.{is_sql}
@@ -27,13 +33,13 @@ unplaced_is (x ∷ list) = ap (λ z. token_of x ∷ z) (unplaced_is list)
 
 -- one value or fault of the tokens is no other
 same_ok : {A E : Type 0} (x y : A) (r : Result A E) → r ≡ Ok x → r ≡ Ok y → x ≡ y
-same_ok x y r e f = let g : Ok x ≡ Ok y = sym e ∙ f in cc
+same_ok x y r e f = cc
 
 ok_is_no_err : {T A : Type 0} (v : A) (s : Stop) (left : List T) (r : Found T A) → r ≡ (Err s, left) → r ≡ (Ok v, []) → ⊥
-ok_is_no_err v s left r e f = let g : (Err s, left) ≡ (Ok v, []) = sym e ∙ f in let h : Err s ≡ Ok v = ap (λ z. z.0) g in cc
+ok_is_no_err v s left r e f = let h : Err s ≡ Ok v = ap (λ z. z.0) (sym e ∙ f) in cc
 
 same_value : {T A : Type 0} (u v : A) (r : Found T A) → r ≡ (Ok u, []) → r ≡ (Ok v, []) → u ≡ v
-same_value u v r e f = let g : (Ok u, []) ≡ (Ok v, []) = sym e ∙ f in let h : Ok u ≡ Ok v = ap (λ z. z.0) g in cc
+same_value u v r e f = let h : Ok u ≡ Ok v = ap (λ z. z.0) (sym e ∙ f) in cc
 
 module _ {A B : Type 0} (view : B → A) (start : Rule sql A) (good : is_good conditions_of start ≡ true) (most : ℕ) (text : List ℕ) (ps : List Placed) (n : ℕ)
     (fits : length text ≤ most) (scanned : tokens_of text ≡ Ok ps) (real : AllByRecursion IsToken (unplaced ps)) where
@@ -92,3 +98,53 @@ pub drop_placed : (n : ℕ) (list : List Lexeme) → drop n (map placed_of list)
 drop_placed zero list = refl
 drop_placed (suc n) [] = refl
 drop_placed (suc n) (x ∷ list) = drop_placed n list
+
+-- a lapse of the tokens is the text's
+pub lapsed : {A : Type 0} (start : Rule sql A) (most : ℕ) (text : List ℕ) (lapse : LexFault) → length text ≤ most → Scans (tokens_of text) (Err lapse) → HasFault most start text (of_tokens lapse)
+lapsed start most text lex.Memory fits scan = tt
+lapsed start most text (lex.At lapse.Token at) fits scan = (fits, scan)
+lapsed start most text (lex.At lapse.Literal at) fits scan = (fits, scan)
+lapsed start most text (lex.At lapse.Name at) fits scan = (fits, at, scan)
+
+-- the parser from its start to what it left
+pub whole : {A B : Type 0} (view : B → A) (start : Rule sql A) → is_good conditions_of start ≡ true → (most : ℕ) (text bytes : List ℕ) (list left : List Lexeme) (old new : Parser)
+    (found : Result B Halt) (r : Result B SqlFault) → bytes ≡ text → length bytes ≤ most → tokens_of bytes ≡ Ok (map placed_of list)
+    → old.list.now ≡ list → old.place ≡ 0 → old.levels ≡ 32 → Reads view start old found new → new.list.now ≡ old.list.now → left ≡ drop new.place new.list.now
+    → r ≡ ended found (map placed_of left) (length bytes)
+    → Answers view most start text r × ((v : A) → IsTextOf most start text v → Accepts view r v)
+whole {A} {B} view start good most text bytes list left old new found r same fits scan begins at levels reads stays left_is result_is = (
+  subst (Answers view most start text) (sym is_ended) (answers view start good most text ps new.place fits_so scanned real found (drop new.place ps) refl finds),
+  λ v t. subst (λ z. Accepts view z v) (sym is_ended) (accepts view start good most text ps new.place fits_so scanned real found (drop new.place ps) finds v t),
+)
+  where
+    ps : List Placed
+    ps = map placed_of list
+
+    scanned : tokens_of text ≡ Ok ps
+    scanned = subst (λ z. tokens_of z ≡ Ok ps) same scan
+
+    fits_so : length text ≤ most
+    fits_so = subst (λ z. length z ≤ most) same fits
+
+    real : AllByRecursion IsToken (unplaced ps)
+    real = tokens_real text ps scanned
+
+    at_start : left_of old ≡ unplaced ps
+    at_start = ap (λ z. map token_of (drop z old.list.now)) at ∙ ap (map token_of) begins ∙ sym (unplaced_is list)
+
+    here : new.list.now ≡ list
+    here = stays ∙ begins
+
+    at_end : left_of new ≡ unplaced (drop new.place ps)
+    at_end = ap (λ z. map token_of (drop new.place z)) here ∙ sym (unplaced_is (drop new.place list)) ∙ ap unplaced (sym (drop_placed new.place list))
+
+    finds : Finds view (read (reader conditions_of 32) start (unplaced ps)) found (unplaced (drop new.place ps))
+    finds =
+        subst (λ z. Finds view (read (reader conditions_of 32) start (unplaced ps)) found z) at_end
+        (subst (λ z. Finds view (read (reader conditions_of 32) start z) found (left_of new)) at_start
+        (subst (λ z. Finds view (read (reader conditions_of z) start (left_of old)) found (left_of new)) levels reads))
+
+    is_ended : r ≡ ended found (drop new.place ps) (length text)
+    is_ended =
+        result_is ∙ ap (λ z. ended found z (length bytes)) (ap (map placed_of) (left_is ∙ ap (drop new.place) here) ∙ sym (drop_placed new.place list))
+        ∙ ap (λ z. ended found (drop new.place ps) (length z)) same

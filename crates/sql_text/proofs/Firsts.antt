@@ -9,6 +9,7 @@ use Rattle.sql_tokens.specs.Lex.{Token}
 use Rattle.sql_text.specs.Tokens.{sql}
 use Rattle.sql_text.specs.Rules.{before, closed, in_parens, optional, listed, ended}
 use Rattle.sql_text.specs.Queries.{name, literal, reference, source, operator, operand, test, prim, conj, disj, items, join}
+use Rattle.sql_text.specs.Commands.{create, drop_table, insert, update, delete, command}
 
 pub first_name : first name ≡ k.Name ∷ []
 unfolding name
@@ -30,3 +31,40 @@ pub first_join : (left : List Token) → begins sql (first join) left ≡ (begin
 unfolding join optional before
 first_join [] = refl
 first_join (t ∷ left) = or_two (same_kind k.Inner t.kind) (same_kind k.Join t.kind)
+
+-- the kinds that commands begin with
+pub first_create : first create ≡ k.Create ∷ []
+unfolding create before
+first_create = refl
+
+pub first_drop : first drop_table ≡ k.Drop ∷ []
+unfolding drop_table before
+first_drop = refl
+
+pub first_insert : first insert ≡ k.Insert ∷ []
+unfolding insert before
+first_insert = refl
+
+pub first_update : first update ≡ k.Update ∷ []
+unfolding update before
+first_update = refl
+
+pub first_delete : first delete ≡ k.Delete ∷ []
+unfolding delete before
+first_delete = refl
+
+pub ruleset first_commands = (first_create, first_drop, first_insert, first_update, first_delete)
+
+or_five : (a b c d e : Bool) → (a || (b || (c || (d || (e || false))))) ≡ (a || false || (b || false) || (c || false) || (d || false) || (e || false))
+or_five true b c d e = refl
+or_five false true c d e = refl
+or_five false false true d e = refl
+or_five false false false true e = refl
+or_five false false false false true = refl
+or_five false false false false false = refl
+
+pub first_command : (left : List Token) → begins sql (first command) left
+    ≡ (begins sql (k.Create ∷ []) left || begins sql (k.Drop ∷ []) left || begins sql (k.Insert ∷ []) left || begins sql (k.Update ∷ []) left || begins sql (k.Delete ∷ []) left)
+unfolding command create drop_table insert update delete before
+first_command [] = refl
+first_command (t ∷ left) = or_five (same_kind k.Create t.kind) (same_kind k.Drop t.kind) (same_kind k.Insert t.kind) (same_kind k.Update t.kind) (same_kind k.Delete t.kind)

@@ -17,6 +17,10 @@ use Rattle.sql_text.specs.Queries.{conditions_of}
 abbrev pub most_levels : ℕ
 most_levels = 32
 
+-- the text of a query or a batch has at most so many bytes
+abbrev pub most_bytes : ℕ
+most_bytes = 65536
+
 abbrev pub unplaced : List Placed → List Token
 unplaced ps = map (λ p. p.token) ps
 

@@ -1,6 +1,7 @@
 //! SQL texts: read by their grammar, and printed.
 #![tactic(auto)]
 
+mod commands;
 mod conditions;
 mod faults;
 mod halt;
@@ -10,4 +11,7 @@ mod queries;
 mod texts;
 
 pub use faults::SqlFault;
-pub use texts::{TEXT_MAX, parse_query};
+pub use texts::{TEXT_MAX, parse_batch, parse_query};
+
+#[cfg(test)]
+mod tests;

@@ -2,8 +2,10 @@
 ghost use Rattle.std.specs.Prelude.{◌≡◌, drop, map};
 ghost use Rattle.sql_tokens.specs.Lex.{placed_of};
 ghost use Rattle.vo_spec.specs.Conditions.{Query, query_of};
+ghost use Rattle.vo_spec.specs.declared.tables.Batch.{Batch};
 ghost use Rattle.sql_text.specs.Queries.{query};
-ghost use Rattle.sql_text.specs.Texts.{ended, IsTextOf, Answers, Accepts};
+ghost use Rattle.sql_text.specs.Commands.{batch};
+ghost use Rattle.sql_text.specs.Texts.{most_bytes, ended, IsTextOf, Answers, Accepts};
 
 use crate::faults::{SqlFault, of_tokens};
 use crate::halt::Halt;
@@ -11,7 +13,7 @@ use crate::parser::Parser;
 use grammar::Stop;
 use sql_tokens::{Lexeme, tokens};
 use std::alloc::Global;
-use vo_spec::QueryText;
+use vo_spec::{Batch, QueryText};
 
 /// The longest text of a query or a batch, in bytes.
 pub const TEXT_MAX: usize = 65_536;
@@ -63,8 +65,8 @@ fn ended<T: Drop>(found: Result<T, Halt>, left: &[Lexeme<'_>], end: usize) -> Re
 
 /// The query that a text is, or the text's first fault.
 pub fn parse_query(alloc: Global, text: &str) -> Result<QueryText, SqlFault>
-    ensures found { Answers query_of TEXT_MAX query text.now result }
-    ensures only { (q : Query) → IsTextOf TEXT_MAX query text.now q → Accepts query_of result q }
+    ensures found { Answers query_of most_bytes query text.now result }
+    ensures only { (q : Query) → IsTextOf most_bytes query text.now q → Accepts query_of result q }
 {
     let bytes = text.as_bytes();
     if bytes.len() > TEXT_MAX {
@@ -76,5 +78,23 @@ pub fn parse_query(alloc: Global, text: &str) -> Result<QueryText, SqlFault>
     };
     let mut parser = Parser::new(list.as_slice());
     let found = parser.query(alloc);
+    ended(found, parser.left(), bytes.len())
+}
+
+/// The batch that a text is, or the text's first fault.
+pub fn parse_batch(alloc: Global, text: &str) -> Result<Batch, SqlFault>
+    ensures found { Answers (λ x. x) most_bytes batch text.now result }
+    ensures only { (b : Batch) → IsTextOf most_bytes batch text.now b → Accepts (λ x. x) result b }
+{
+    let bytes = text.as_bytes();
+    if bytes.len() > TEXT_MAX {
+        return Err(SqlFault::TooLong);
+    }
+    let list = match tokens(alloc, bytes) {
+        Ok(list) => list,
+        Err(fault) => return Err(of_tokens(fault)),
+    };
+    let mut parser = Parser::new(list.as_slice());
+    let found = parser.batch(alloc);
     ended(found, parser.left(), bytes.len())
 }

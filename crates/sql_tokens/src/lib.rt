@@ -10,3 +10,6 @@ mod words;
 pub use kinds::{KEYWORDS, TokenKind};
 pub use lexemes::{Lapse, LexFault, Lexeme};
 pub use scan::tokens;
+
+#[cfg(test)]
+mod tests;

@@ -1,0 +1,22 @@
+use Rattle.std.proofs.Common.{◌≡◌, ◌-◌, ◌<◌, ◌≤◌, length, map, Some, None}
+use Rattle.sql_tokens.specs.declared.kinds.TokenKind.TheVariants as k
+use Rattle.sql_text.specs.Parsing.{left_of}
+use Rattle.std.specs.Prelude.{Vec}
+use Rattle.std.specs.Global.{Global}
+use Rattle.vo_spec.specs.declared.tables.Column.{Column}
+use Rattle.sql_text.specs.Rules.{before, closed, in_parens, optional, listed, ended}
+use Rattle.sql_text.specs.Queries.{name, literal}
+use Rattle.sql_text.specs.Commands.{column_kind, column, create, drop_table, insert, set_part, update, delete, command}
+use Rattle.sql_text.proofs.Rounds.{with_front}
+use Rattle.sql_text.proofs.Repeats.{many_of}
+use Rattle.sql_text.proofs.parser.Parser.columns.Given as goal
+
+abbrev pub invariant-parts : goal.invariant-parts
+invariant-parts l =
+    (l.self.list.now ≡ l.initial.self.list.now) × (l.self.levels ≡ l.initial.self.levels)
+    × (with_front (map (λ x. x) l.list.items) (many_of (Some (32 - length l.list.items)) (closed column k.Comma) l.self.levels (left_of l.self))
+    ≡ with_front (map (λ x. x) l.initial.list.items) (many_of (Some 31) (closed column k.Comma) l.initial.self.levels (left_of l.initial.self)))
+    × (length l.list.items ≤ 32)
+
+abbrev pub decreases-parts : goal.decreases-parts
+decreases-parts l = length (left_of l.self)
