@@ -6,3 +6,6 @@ pub mod Searches
 pub mod Edits
 pub mod TableLaws
 pub mod Applied
+pub mod ReaderLaws
+pub mod BatchLaws
+pub mod Fitting

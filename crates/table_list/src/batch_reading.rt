@@ -195,3 +195,14 @@ fn batch_of(alloc: Global, bytes: &[u8]) -> Result<Batch, ReadFault>
         commands: List::from_vec(commands),
     })
 }
+
+/// The batch that all the bytes are.
+pub fn read_batch(alloc: Global, bytes: &[u8]) -> Result<Batch, ReadFault>
+    // What is read is spelled so, and keeps the limits.
+    ensures found { IfOk result (λ batch. IsBatch bytes.now batch.commands) }
+
+    // What is spelled so is read, unless memory runs out.
+    ensures only { (commands : List Plain) → IsBatch bytes.now commands → BatchRead result (Some commands) }
+{
+    batch_of(alloc, bytes)
+}

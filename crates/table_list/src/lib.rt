@@ -3,6 +3,7 @@
 
 mod applying;
 mod batch_reading;
+mod batch_writing;
 mod cells;
 mod changing;
 mod columns;
@@ -17,6 +18,8 @@ mod stored;
 mod tables;
 
 pub use columns::{has_twice, kind_at, kind_of, same_kind};
+pub use batch_reading::read_batch;
+pub use batch_writing::batch_bytes;
 pub use fault::{ApplyFault, BatchFault};
 pub use tables::{Tables, apply, apply_batch};
 pub use vo_spec::{
