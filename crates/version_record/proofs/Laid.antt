@@ -1,5 +1,5 @@
 -- Bytes that are written over others from the front on.
-use Rattle.std.proofs.Common.{◌≡◌, ℕ, ◌+◌, List, ◌++◌, length, take, drop, refl, sym, ap, ◌∙◌, append_assoc, subst}
+use Rattle.std.proofs.Common.{◌≡◌, ℕ, ◌+◌, List, ◌++◌, length, take, drop, sym, ap, ◌∙◌}
 use Rattle.std.proofs.Math.Seq.{drop-append-add, take-append_seam}
 
 -- a piece put at a place, behind what stands in front of that place

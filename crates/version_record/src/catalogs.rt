@@ -1,10 +1,11 @@
 //! Catalogs as bytes, and their digests.
-ghost use Rattle.std.specs.Prelude.{◌≡◌, ◌++◌, flat_map, IfOk, OnOk};
+ghost use Rattle.std.specs.Prelude.{◌≡◌, ◌++◌, flat_map, IfOk, OnOk, Some};
 ghost use Rattle.std.specs.List.{AllByRecursion};
-ghost use Rattle.vo_spec.specs.Records.{FitsCatalog, FitsCatalogTable, are_rising, catalog_bytes, catalog_digest, catalog_table_bytes};
+ghost use Rattle.vo_spec.specs.declared.records.Catalog.{Catalog as Plain};
+ghost use Rattle.vo_spec.specs.Records.{IsCatalog, FitsCatalog, FitsCatalogTable, are_rising, catalog_bytes, catalog_digest, catalog_table_bytes};
 ghost use Rattle.vo_spec.specs.Values.{key_lt};
-ghost use Rattle.row_bytes.specs.Fields.{FoundOr, times};
-ghost use Rattle.version_record.specs.Reading.{catalog_at, catalog_table_at, names_of};
+ghost use Rattle.row_bytes.specs.Fields.{FoundOr, times, whole};
+ghost use Rattle.version_record.specs.Reading.{CatalogRead, catalog_at, catalog_table_at, names_of};
 
 use crate::tables::{put_table, take_table};
 use row_bytes::{Cursor, ReadFault};
@@ -72,6 +73,28 @@ pub fn take_catalog(alloc: Global, cursor: &mut Cursor<'_>) -> Result<Catalog, R
     Ok(Catalog {
         tables: List::from_vec(tables),
     })
+}
+
+fn catalog_of(alloc: Global, bytes: &[u8]) -> Result<Catalog, ReadFault>
+    ensures { CatalogRead result (whole (catalog_at bytes.now)) }
+{
+    let mut cursor = Cursor::new(bytes);
+    let catalog = take_catalog(alloc, &mut cursor)?;
+    if !cursor.is_empty() {
+        return Err(ReadFault::BadForm);
+    }
+    Ok(catalog)
+}
+
+/// The catalog that all the bytes are.
+pub fn read_catalog(alloc: Global, bytes: &[u8]) -> Result<Catalog, ReadFault>
+    // What is read is spelled so, and keeps the limits.
+    ensures found { IfOk result (λ catalog. IsCatalog bytes.now catalog) }
+
+    // What is spelled so is read, unless memory runs out.
+    ensures only { (catalog : Plain) → IsCatalog bytes.now catalog → CatalogRead result (Some catalog) }
+{
+    catalog_of(alloc, bytes)
 }
 
 fn take_tables(

@@ -1,5 +1,5 @@
 //! Records, 60 bytes each.
-ghost use Rattle.std.specs.Prelude.{◌≡◌, ◌+◌, ◌≤◌, ◌++◌, length, take, drop, IfSome, IfNone};
+ghost use Rattle.std.specs.Prelude.{◌≡◌, ◌+◌, ◌≤◌, ◌++◌, length, take, drop, IfSome, Some};
 ghost use Rattle.vo_spec.specs.declared.records.Record.{Record as Plain};
 ghost use Rattle.vo_spec.specs.Records.{record_bytes, IsRecord};
 ghost use Rattle.row_bytes.specs.Fields.{Found, whole};
@@ -45,11 +45,21 @@ pub fn take_record(cursor: &mut Cursor<'_>) -> Option<Record>
     })
 }
 
-/// The record that the bytes spell.
-pub fn read_record(bytes: &[u8]) -> Option<Record>
-    ensures exact { result ≡ whole (record_at bytes.now) }
+fn record_of(bytes: &[u8]) -> Option<Record>
+    ensures { result ≡ whole (record_at bytes.now) }
 {
     let mut cursor = Cursor::new(bytes);
     let rec = take_record(&mut cursor)?;
     if cursor.is_empty() { Some(rec) } else { None }
+}
+
+/// The record that all the bytes are.
+pub fn read_record(bytes: &[u8]) -> Option<Record>
+    // What is read is spelled so, and its parts have their lengths.
+    ensures found { IfSome result (λ rec. IsRecord bytes.now rec) }
+
+    // What is spelled so is read.
+    ensures only { (rec : Plain) → IsRecord bytes.now rec → result ≡ Some rec }
+{
+    record_of(bytes)
 }

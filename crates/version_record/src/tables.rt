@@ -4,9 +4,9 @@ ghost use Rattle.vo_spec.specs.Records.{FitsCatalogTable, catalog_table_bytes};
 ghost use Rattle.row_bytes.specs.Fields.{FoundOr};
 ghost use Rattle.version_record.specs.Reading.{schema_at, catalog_table_at, is_schema};
 
-use row_bytes::{Cursor, ReadFault, put_columns, put_short_string, take_columns};
+use row_bytes::{Cursor, ReadFault, take_columns};
 use std::alloc::{AllocError, Global};
-use table_list::{has_twice, kind_at, same_kind};
+use table_list::{has_twice, kind_at, put_columns, put_name, same_kind};
 use vo_spec::{CatalogTable, Digest, Kind, Name, Schema, u64_bytes};
 
 /// What the catalog says of the table that comes next.
@@ -57,7 +57,7 @@ pub fn put_table(out: &mut Vec<u8>, table: &CatalogTable) -> Result<(), AllocErr
     requires { FitsCatalogTable table.now }
     ensures { OnOk result (out.new.items ≡ out.old.items ++ catalog_table_bytes table.now) }
 {
-    put_short_string(out, table.name.as_bytes())?;
+    put_name(out, &table.name)?;
     put_columns(out, table.schema.columns.as_slice())?;
     out.push(table.schema.key)?;
     out.extend_from_slice(&u64_bytes(table.rows))?;
