@@ -10,8 +10,9 @@ use row_bytes::put_value;
 use std::alloc::{AllocError, Global};
 use vo_spec::{Batch, Column, Command, Kind, Name, SetPart, Value, u16_bytes};
 
+/// Puts a name behind its length at the end.
 #[tactic(auto, using(crate::proofs::Fitting::name_is_short))]
-fn put_name(out: &mut Vec<u8>, name: &Name) -> Result<(), AllocError>
+pub fn put_name(out: &mut Vec<u8>, name: &Name) -> Result<(), AllocError>
     requires { FitsName name.now }
     ensures { OnOk result (out.new.items ≡ out.old.items ++ short_string name.now) }
 {
@@ -47,7 +48,8 @@ fn put_set(out: &mut Vec<u8>, part: &SetPart) -> Result<(), AllocError>
     put_value(out, &part.value)
 }
 
-fn put_columns(out: &mut Vec<u8>, columns: &[Column]) -> Result<(), AllocError>
+/// Puts columns at the end, behind how many they are.
+pub fn put_columns(out: &mut Vec<u8>, columns: &[Column]) -> Result<(), AllocError>
     requires { FitCounted FitsColumn columns.now }
     ensures { OnOk result (out.new.items ≡ out.old.items ++ counted column_bytes columns.now) }
 {

@@ -34,7 +34,7 @@ pub(crate) fn is_key(schema: &Schema, name: &[u8]) -> bool
     column_number(schema.columns.as_slice(), name) == schema.key as usize
 }
 
-pub(crate) fn kind_of(value: &Value) -> Kind
+pub fn kind_of(value: &Value) -> Kind
     ensures { result ≡ kind_of value.now }
 {
     match value {
@@ -44,7 +44,7 @@ pub(crate) fn kind_of(value: &Value) -> Kind
     }
 }
 
-pub(crate) fn same_kind(a: Kind, b: Kind) -> bool
+pub fn same_kind(a: Kind, b: Kind) -> bool
     ensures { result ≡ same_kind a b }
 {
     matches!(
@@ -54,7 +54,7 @@ pub(crate) fn same_kind(a: Kind, b: Kind) -> bool
 }
 
 /// The kind of the column of this number, past the end BIGINT.
-pub(crate) fn kind_at(columns: &[Column], number: usize) -> Kind
+pub fn kind_at(columns: &[Column], number: usize) -> Kind
     ensures { result ≡ (column_at columns.now number).kind }
 {
     match columns.get(number) {
@@ -101,7 +101,7 @@ fn is_named(columns: &[Column], name: &[u8]) -> bool
 }
 
 /// Whether two columns have one name.
-pub(crate) fn has_twice(columns: &[Column]) -> bool
+pub fn has_twice(columns: &[Column]) -> bool
     ensures { result ≡ has_twice (map (λ c. c.name) columns.now) }
 {
     for (number, column) in columns.iter().enumerate() {

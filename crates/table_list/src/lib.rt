@@ -18,7 +18,8 @@ mod stored;
 mod tables;
 
 pub use batch_reading::read_batch;
-pub use batch_writing::batch_bytes;
+pub use batch_writing::{batch_bytes, put_columns, put_name};
+pub use columns::{has_twice, kind_at, kind_of, same_kind};
 pub use fault::{ApplyFault, BatchFault};
 pub use tables::{Tables, apply, apply_batch};
 pub use vo_spec::{

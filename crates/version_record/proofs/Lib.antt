@@ -1,0 +1,4 @@
+pub mod CatalogLaws
+pub mod Laid
+pub mod RecordLaws
+pub mod Rising

@@ -1,0 +1,134 @@
+//! Catalogs as bytes, and their digests.
+ghost use Rattle.std.specs.Prelude.{◌≡◌, ◌++◌, flat_map, IfOk, OnOk, Some};
+ghost use Rattle.std.specs.List.{AllByRecursion};
+ghost use Rattle.vo_spec.specs.declared.records.Catalog.{Catalog as Plain};
+ghost use Rattle.vo_spec.specs.Records.{IsCatalog, FitsCatalog, FitsCatalogTable, are_rising, catalog_bytes, catalog_digest, catalog_table_bytes};
+ghost use Rattle.vo_spec.specs.Values.{key_lt};
+ghost use Rattle.row_bytes.specs.Fields.{FoundOr, times, whole};
+ghost use Rattle.version_record.specs.Reading.{CatalogRead, catalog_at, catalog_table_at, names_of};
+
+use crate::tables::{put_table, take_table};
+use row_bytes::{Cursor, ReadFault};
+use std::alloc::{AllocError, Global};
+use tagged_hash::Hasher;
+use vo_spec::{Catalog, CatalogTable, Digest, List, Name, u16_bytes};
+
+/// The one spelling of a catalog.
+pub fn catalog_bytes(alloc: Global, catalog: &Catalog) -> Result<Vec<u8>, AllocError>
+    requires { FitsCatalog catalog.now }
+    ensures { IfOk result (λ bytes. bytes.items ≡ catalog_bytes catalog.now) }
+{
+    let mut bytes = Vec::new(alloc);
+    put_catalog(&mut bytes, catalog)?;
+    Ok(bytes)
+}
+
+/// Puts the bytes of a catalog at the end.
+#[tactic(auto, unfolding(vo_spec::specs::Records::catalog_bytes))]
+pub fn put_catalog(out: &mut Vec<u8>, catalog: &Catalog) -> Result<(), AllocError>
+    requires { FitsCatalog catalog.now }
+    ensures { OnOk result (out.new.items ≡ out.old.items ++ catalog_bytes catalog.now) }
+{
+    let tables = catalog.tables.as_slice();
+    out.extend_from_slice(&u16_bytes(tables.len() as u16))?;
+    put_tables(out, tables)
+}
+
+/// The digest of a catalog: that of its bytes behind `05`.
+#[tactic(auto, unfolding(vo_spec::specs::Records::catalog_digest))]
+pub fn catalog_digest(alloc: Global, catalog: &Catalog) -> Result<Digest, AllocError>
+    requires { FitsCatalog catalog.now }
+    ensures { IfOk result (λ digest. digest ≡ catalog_digest catalog.now) }
+{
+    let bytes = catalog_bytes(alloc, catalog)?;
+    let mut hasher = Hasher::new();
+    hasher.add(&[5]);
+    hasher.add(&bytes);
+    Ok(hasher.end())
+}
+
+fn put_tables(out: &mut Vec<u8>, tables: &[CatalogTable]) -> Result<(), AllocError>
+    requires { AllByRecursion FitsCatalogTable tables.now }
+    ensures { OnOk result (out.new.items ≡ out.old.items ++ flat_map catalog_table_bytes tables.now) }
+{
+    for table in tables {
+        put_table(out, table)?;
+    }
+    Ok(())
+}
+
+/// The catalog that comes next.
+#[tactic(auto, unfolding(crate::specs::Reading::catalog_at))]
+pub fn take_catalog(alloc: Global, cursor: &mut Cursor<'_>) -> Result<Catalog, ReadFault>
+    ensures { FoundOr (λ catalog. catalog) result cursor.new (catalog_at cursor.old) }
+{
+    let count = cursor.take_u16().ok_or(ReadFault::BadForm)?;
+    if count > 64 {
+        return Err(ReadFault::BadForm);
+    }
+    let tables = take_tables(alloc, cursor, count)?;
+    if !are_rising(&tables) {
+        return Err(ReadFault::BadForm);
+    }
+    Ok(Catalog {
+        tables: List::from_vec(tables),
+    })
+}
+
+fn catalog_of(alloc: Global, bytes: &[u8]) -> Result<Catalog, ReadFault>
+    ensures { CatalogRead result (whole (catalog_at bytes.now)) }
+{
+    let mut cursor = Cursor::new(bytes);
+    let catalog = take_catalog(alloc, &mut cursor)?;
+    if !cursor.is_empty() {
+        return Err(ReadFault::BadForm);
+    }
+    Ok(catalog)
+}
+
+/// The catalog that all the bytes are.
+pub fn read_catalog(alloc: Global, bytes: &[u8]) -> Result<Catalog, ReadFault>
+    // What is read is spelled so, and keeps the limits.
+    ensures found { IfOk result (λ catalog. IsCatalog bytes.now catalog) }
+
+    // What is spelled so is read, unless memory runs out.
+    ensures only { (catalog : Plain) → IsCatalog bytes.now catalog → CatalogRead result (Some catalog) }
+{
+    catalog_of(alloc, bytes)
+}
+
+fn take_tables(
+    alloc: Global,
+    cursor: &mut Cursor<'_>,
+    count: u16,
+) -> Result<Vec<CatalogTable>, ReadFault>
+    ensures { FoundOr (λ tables. tables.items) result cursor.new (times catalog_table_at count cursor.old) }
+{
+    let mut tables = Vec::new(alloc);
+    for _ in 0..count {
+        match take_table(alloc, cursor) {
+            Ok(table) => tables.push(table)?,
+            Err(fault) => return Err(fault),
+        }
+    }
+    Ok(tables)
+}
+
+/// Whether each name is below the next.
+fn are_rising(tables: &[CatalogTable]) -> bool
+    ensures { result ≡ are_rising (names_of tables.now) }
+{
+    let Some((first, others)) = tables.split_first() else {
+        return true;
+    };
+    match others.split_first() {
+        Some((second, _)) => is_below(&first.name, &second.name) && are_rising(others),
+        None => true,
+    }
+}
+
+fn is_below(a: &Name, b: &Name) -> bool
+    ensures { result ≡ key_lt a.now b.now }
+{
+    a.as_bytes().cmp(b.as_bytes()).is_lt()
+}

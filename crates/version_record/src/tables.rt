@@ -1,0 +1,65 @@
+//! What a catalog says of one table.
+ghost use Rattle.std.specs.Prelude.{◌≡◌, ◌++◌, OnOk};
+ghost use Rattle.vo_spec.specs.Records.{FitsCatalogTable, catalog_table_bytes};
+ghost use Rattle.row_bytes.specs.Fields.{FoundOr};
+ghost use Rattle.version_record.specs.Reading.{schema_at, catalog_table_at, is_schema};
+
+use row_bytes::{Cursor, ReadFault, take_columns};
+use std::alloc::{AllocError, Global};
+use table_list::{has_twice, kind_at, put_columns, put_name, same_kind};
+use vo_spec::{CatalogTable, Digest, Kind, Name, Schema, u64_bytes};
+
+/// What the catalog says of the table that comes next.
+#[tactic(auto, unfolding(crate::specs::Reading::catalog_table_at))]
+pub fn take_table(alloc: Global, cursor: &mut Cursor<'_>) -> Result<CatalogTable, ReadFault>
+    ensures { FoundOr (λ table. table) result cursor.new (catalog_table_at cursor.old) }
+{
+    let name = cursor.take_name().ok_or(ReadFault::BadForm)?;
+    let schema = take_schema(alloc, cursor)?;
+    let rows = cursor.take_u64().ok_or(ReadFault::BadForm)?;
+    let root = cursor.take_chunk::<32>().ok_or(ReadFault::BadForm)?;
+    if rows >= 1 << 32 {
+        return Err(ReadFault::BadForm);
+    }
+    Ok(CatalogTable {
+        name: Name::from_vec(Vec::from_slice(alloc, name)?),
+        schema,
+        rows,
+        root: Digest::new(*root),
+    })
+}
+
+#[tactic(auto, unfolding(crate::specs::Reading::schema_at))]
+fn take_schema(alloc: Global, cursor: &mut Cursor<'_>) -> Result<Schema, ReadFault>
+    ensures { FoundOr (λ schema. schema) result cursor.new (schema_at cursor.old) }
+{
+    let columns = take_columns(alloc, cursor)?;
+    let key = cursor.take_byte().ok_or(ReadFault::BadForm)?;
+    let schema = Schema { columns, key };
+    if is_schema(&schema) {
+        Ok(schema)
+    } else {
+        Err(ReadFault::BadForm)
+    }
+}
+
+/// Columns of different names, one of them the key, which is no BOOLEAN.
+fn is_schema(schema: &Schema) -> bool
+    ensures { result ≡ is_schema schema.now }
+{
+    let columns = schema.columns.as_slice();
+    let key = schema.key as usize;
+    !has_twice(columns) && key < columns.len() && !same_kind(kind_at(columns, key), Kind::Bool)
+}
+
+/// Puts what the catalog says of a table at the end.
+pub fn put_table(out: &mut Vec<u8>, table: &CatalogTable) -> Result<(), AllocError>
+    requires { FitsCatalogTable table.now }
+    ensures { OnOk result (out.new.items ≡ out.old.items ++ catalog_table_bytes table.now) }
+{
+    put_name(out, &table.name)?;
+    put_columns(out, table.schema.columns.as_slice())?;
+    out.push(table.schema.key)?;
+    out.extend_from_slice(&u64_bytes(table.rows))?;
+    out.extend_from_slice(table.root.as_bytes())
+}
