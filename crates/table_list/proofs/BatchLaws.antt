@@ -148,8 +148,8 @@ command_again (Insert name values) rest fits =
     ∙ next_again values_law (λ vs rest. let made : Option (Command × List ℕ) = Some (Insert name vs, rest) in made) values rest fits.1
 command_again (Update name sets column value) rest fits =
     ap update_at (append_assoc (short_string name ++ counted set_bytes sets ++ short_string column) (value_bytes value) rest
-        ∙ append_assoc (short_string name ++ counted set_bytes sets) (short_string column) (value_bytes value ++ rest)
-        ∙ append_assoc (short_string name) (counted set_bytes sets) (short_string column ++ (value_bytes value ++ rest)))
+    ∙ append_assoc (short_string name ++ counted set_bytes sets) (short_string column) (value_bytes value ++ rest)
+    ∙ append_assoc (short_string name) (counted set_bytes sets) (short_string column ++ (value_bytes value ++ rest)))
     ∙ next_again names_read (λ n. three (Update n) sets_at name_at any_value_at) name (counted set_bytes sets ++ (short_string column ++ (value_bytes value ++ rest))) fits.0
     ∙ next_again many_sets_law (λ ss. two (Update name ss) name_at any_value_at) sets (short_string column ++ (value_bytes value ++ rest)) fits.1
     ∙ next_again names_read (λ k. one (Update name sets k) any_value_at) column (value_bytes value ++ rest) fits.2
@@ -171,11 +171,11 @@ u16_found bytes n rest fits e =
     elim (chosen (ltb (length bytes) 2) None (Some (u16_of (take 2 bytes), drop 2 bytes)) (Some (n, rest)) e) [
       | inl a ↦ absurd (no_some (n, rest) a.1)
       | inr a ↦
-        let long : 2 ≤ length bytes = ltb-false _ _ a.0 in
-        let len : length (take 2 bytes) ≡ 2 = omega (arith, length-take 2 bytes) in
-        let is : (u16_of (take 2 bytes), drop 2 bytes) ≡ (n, rest) = some_is (u16_of (take 2 bytes), drop 2 bytes) (n, rest) a.1 in
-        subst (λ (p : ℕ × List ℕ). Took bytes (u16_bytes p.0) p.1) is
-        (record { parts = sym (take-append-drop 2 bytes) ∙ ap (λ (t : List ℕ). t ++ drop 2 bytes) (sym (u16_same (take 2 bytes) len (IsBytes-take 2 bytes fits))); behind = IsBytes-drop 2 bytes fits })
+          let long : 2 ≤ length bytes = ltb-false _ _ a.0 in
+          let len : length (take 2 bytes) ≡ 2 = omega (arith, length-take 2 bytes) in
+          let is : (u16_of (take 2 bytes), drop 2 bytes) ≡ (n, rest) = some_is (u16_of (take 2 bytes), drop 2 bytes) (n, rest) a.1 in
+          subst (λ (p : ℕ × List ℕ). Took bytes (u16_bytes p.0) p.1) is
+          (record { parts = sym (take-append-drop 2 bytes) ∙ ap (λ (t : List ℕ). t ++ drop 2 bytes) (sym (u16_same (take 2 bytes) len (IsBytes-take 2 bytes fits))); behind = IsBytes-drop 2 bytes fits })
     ]
 
 u16_read : (n : ℕ) (rest : List ℕ) → n < 2 ^ 16 → u16_at (u16_bytes n ++ rest) ≡ Some (n, rest)
@@ -192,9 +192,9 @@ commands_found bytes cs rest fits e =
     let n = u16_found bytes a.0.0 a.0.1 fits a.1 in
     elim (chosen (leb a.0.0 most_commands) (times command_at a.0.0 a.0.1) None (Some (cs, rest)) a.2) [
       | inl b ↦
-        let f = times_found command_at command_bytes FitsCommand commands_law a.0.0 a.0.1 cs rest n.behind b.1 in
-        let few : length cs ≤ most_commands = omega (arith, leb-true a.0.0 most_commands b.0, f.1) in
-        ((took_then bytes (u16_bytes a.0.0) a.0.1 (flat_map command_bytes cs) rest n f.0).parts ∙ ap (λ (k : ℕ). u16_bytes k ++ flat_map command_bytes cs ++ rest) (sym f.1), few, f.2)
+          let f = times_found command_at command_bytes FitsCommand commands_law a.0.0 a.0.1 cs rest n.behind b.1 in
+          let few : length cs ≤ most_commands = omega (arith, leb-true a.0.0 most_commands b.0, f.1) in
+          ((took_then bytes (u16_bytes a.0.0) a.0.1 (flat_map command_bytes cs) rest n f.0).parts ∙ ap (λ (k : ℕ). u16_bytes k ++ flat_map command_bytes cs ++ rest) (sym f.1), few, f.2)
       | inr b ↦ absurd (no_some (cs, rest) b.1)
     ]
 
@@ -208,9 +208,9 @@ unfolding batch_of
 batch_found bytes cs fits e =
     elim (chosen (leb (length bytes) most_batch_bytes) (whole (commands_at bytes)) None (Some cs) e) [
       | inl a ↦
-        let f = commands_found bytes cs [] fits (whole_is (commands_at bytes) cs a.1) in
-        let spelled : bytes ≡ batch_bytes cs = f.0 ∙ append-nil (batch_bytes cs) in
-        record { fits = record { count = f.1; each = f.2; size = subst (λ (t : List ℕ). length t ≤ most_batch_bytes) spelled (leb-true (length bytes) most_batch_bytes a.0) }; spelled = spelled }
+          let f = commands_found bytes cs [] fits (whole_is (commands_at bytes) cs a.1) in
+          let spelled : bytes ≡ batch_bytes cs = f.0 ∙ append-nil (batch_bytes cs) in
+          record { fits = record { count = f.1; each = f.2; size = subst (λ (t : List ℕ). length t ≤ most_batch_bytes) spelled (leb-true (length bytes) most_batch_bytes a.0) }; spelled = spelled }
       | inr a ↦ absurd (no_some cs a.1)
     ]
 

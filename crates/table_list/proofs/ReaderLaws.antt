@@ -60,12 +60,14 @@ short_found (count ∷ bytes) text rest fits e =
     elim (chosen (ltb (length bytes) count) None (Some (take count bytes, drop count bytes)) (Some (text, rest)) e) [
       | inl a ↦ absurd (no_some (text, rest) a.1)
       | inr a ↦
-        let long : count ≤ length bytes = ltb-false _ _ a.0 in
-        let len : length (take count bytes) ≡ count = omega (arith, length-take count bytes) in
-        let is : (take count bytes, drop count bytes) ≡ (text, rest) = some_is (take count bytes, drop count bytes) (text, rest) a.1 in
-        subst (λ (p : List ℕ × List ℕ). Took (count ∷ bytes) (short_string p.0) p.1) is
-        (record { parts = ap (λ (t : List ℕ). count ∷ t) (sym (take-append-drop count bytes)) ∙ ap (λ (n : ℕ). n ∷ take count bytes ++ drop count bytes) (sym len);
-          behind = IsBytes-drop count bytes (IsBytes-rest count bytes fits) })
+          let long : count ≤ length bytes = ltb-false _ _ a.0 in
+          let len : length (take count bytes) ≡ count = omega (arith, length-take count bytes) in
+          let is : (take count bytes, drop count bytes) ≡ (text, rest) = some_is (take count bytes, drop count bytes) (text, rest) a.1 in
+          subst (λ (p : List ℕ × List ℕ). Took (count ∷ bytes) (short_string p.0) p.1) is
+          (record {
+            parts = ap (λ (t : List ℕ). count ∷ t) (sym (take-append-drop count bytes)) ∙ ap (λ (n : ℕ). n ∷ take count bytes ++ drop count bytes) (sym len);
+            behind = IsBytes-drop count bytes (IsBytes-rest count bytes fits);
+          })
     ]
 
 short_again : (text rest : List ℕ) → short_string_at (short_string text ++ rest) ≡ Some (text, rest)

@@ -7,6 +7,7 @@ mod batch_writing;
 mod cells;
 mod changing;
 mod columns;
+mod conditions;
 mod creating;
 mod fault;
 mod place;
@@ -19,6 +20,7 @@ mod tables;
 
 pub use batch_reading::read_batch;
 pub use batch_writing::batch_bytes;
+pub use conditions::{RowValues, compare_values, truth};
 pub use fault::{ApplyFault, BatchFault};
 pub use tables::{Tables, apply, apply_batch};
 pub use vo_spec::{
