@@ -27,3 +27,6 @@ pub use vo_spec::{
     Batch, Cmp, Column, Command, CommandFault, Cond, Items, Join, Operand, Outcome, QueryFault,
     QueryText, Ref, Schema, SetPart, Source, Table,
 };
+
+#[cfg(test)]
+mod tests;
