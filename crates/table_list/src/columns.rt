@@ -2,10 +2,11 @@
 ghost use Rattle.std.specs.Prelude.{◌≡◌, ◌≤◌, length, map, bytes_eq, IfOk};
 ghost use Rattle.std.specs.List.{list_any};
 ghost use Rattle.vo_spec.specs.Tables.{column_at, column_number, has_column, is_key, suits, are_of_kinds, has_twice, is_bad_schema};
-ghost use Rattle.vo_spec.specs.Values.{kind_of, same_kind};
+ghost use Rattle.vo_spec.specs.Lent.{value_of};
+ghost use Rattle.vo_spec.specs.Values.{kind_of, same_kind, type_byte};
 
 use std::alloc::{AllocError, Global};
-use vo_spec::{Column, Kind, List, Name, Schema, Value};
+use vo_spec::{Column, Kind, List, Name, Schema, Value, ValueRef};
 
 /// The number of the column of this name, or else how many there are.
 pub(crate) fn column_number(columns: &[Column], name: &[u8]) -> usize
@@ -41,6 +42,17 @@ pub fn kind_of(value: &Value) -> Kind
         Value::Int(_) => Kind::Int,
         Value::Text(_) => Kind::Text,
         Value::Bool(_) => Kind::Bool,
+    }
+}
+
+/// The byte of the value's kind, by which values of two kinds are compared.
+pub(crate) fn kind_of_ref(value: ValueRef<'_>) -> u8
+    ensures { result ≡ type_byte (kind_of (value_of value.entry)) }
+{
+    match value {
+        ValueRef::Int(_) => 1,
+        ValueRef::Text(_) => 2,
+        ValueRef::Bool(_) => 3,
     }
 }
 
