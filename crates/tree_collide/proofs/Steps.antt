@@ -3,12 +3,14 @@ use Rattle.std.proofs.Common.{◌≡◌, ℕ, zero, suc, ◌+◌, ◌<◌, Optio
 use Rattle.std.proofs.lemmas.List.{drop_more, drop-map, length-map}
 use Rattle.std.specs.List.{AllZip}
 use Rattle.vo_spec.specs.declared.values.Value.{Value}
+use Rattle.vo_spec.specs.declared.values.Row.{Row}
+use Rattle.vo_spec.specs.declared.cells.PartEntry.{PartEntry}
 use Rattle.vo_spec.specs.declared.cells.Cell.{Cell}
 use Rattle.vo_spec.specs.declared.cells.Cell.TheVariants.{Shown}
 use Rattle.vo_spec.specs.Values.{FitsValue}
-use Rattle.vo_spec.specs.Cells.{cell_digest, whole_cells, CellPrunes, CellsPrune}
+use Rattle.vo_spec.specs.Cells.{cell_digest, row_digest, whole_cells, whole_row, whole_entry, CellPrunes, CellsPrune, RowPrunes, EntryPrunes}
 use Rattle.vo_spec.specs.Fits.{FitsCell, FitsCells}
-use Rattle.tree_collide.specs.Agreeing.{SameCells, Agrees}
+use Rattle.tree_collide.specs.Agreeing.{SameCells, SameEntries, Agrees}
 
 pub whole_fit : (vs : List Value) → FitsCells vs → All FitsCell (whole_cells vs)
 whole_fit vs f = each vs f.each where
@@ -61,3 +63,33 @@ module _ (i : ℕ) (cs : List Cell) (vs : List Value) (c : Cell) (v : Value) (al
 pub agrees_by : (found : Option (List ℕ × List ℕ)) (fact other : Type 0) → (fact → other) → (other → fact) → Agrees found fact → Agrees found other
 agrees_by None fact other f g h = f h
 agrees_by (Some x) fact other f g h = (λ o. h.0 (g o), h.1)
+
+-- The same of entries.
+pub record EntriesLeft (es fs : List PartEntry) (all : Type 0) : Type 0 where
+  pub same : SameEntries es fs
+  pub gives : AllZip EntryPrunes es fs → all
+  pub needs : all → AllZip EntryPrunes es fs
+
+module _ (i : ℕ) (es : List PartEntry) (rows : List Row) (e : PartEntry) (row : Row) (all : Type 0) where
+  entry_opened : i < length es → e ≡ get_or es i e → i < length rows → row ≡ get_or rows i row → EntriesLeft (drop i es) (map whole_entry (drop i rows)) all
+      → EntriesLeft (e ∷ drop (i + 1) es) (whole_entry row ∷ map whole_entry (drop (i + 1) rows)) all
+  entry_opened le e_is lr row_is l =
+      let f : drop i es ≡ e ∷ drop (i + 1) es = drop_more es i e le ∙ ap (λ x. x ∷ drop (i + 1) es) (sym e_is) in
+      let g : drop i rows ≡ row ∷ drop (i + 1) rows = drop_more rows i row lr ∙ ap (λ x. x ∷ drop (i + 1) rows) (sym row_is) in
+      let P : List PartEntry → Type 0 = λ xs. EntriesLeft xs (map whole_entry (drop i rows)) all in
+      let Q : List Row → Type 0 = λ ws. EntriesLeft (e ∷ drop (i + 1) es) (map whole_entry ws) all in
+      subst Q g (subst P f l)
+
+  pub entry_here : i < length es → e ≡ get_or es i e → i < length rows → row ≡ get_or rows i row → EntriesLeft (drop i es) (map whole_entry (drop i rows)) all
+      → (e.key ≡ row.key) × (row_digest e.row ≡ row_digest (whole_row row.cells))
+  entry_here le e_is lr row_is l = let s = (entry_opened le e_is lr row_is l).same in (s.0, s.1)
+
+  pub entry_agrees : i < length es → e ≡ get_or es i e → i < length rows → row ≡ get_or rows i row → EntriesLeft (drop i es) (map whole_entry (drop i rows)) all
+      → RowPrunes e.row (whole_row row.cells) → EntriesLeft (drop (i + 1) es) (map whole_entry (drop (i + 1) rows)) all
+  entry_agrees le e_is lr row_is l p =
+      let o = entry_opened le e_is lr row_is l in
+      record { same = o.same.2; gives = λ r. o.gives (record { key = o.same.0; row = p }, r); needs = λ a. (o.needs a).1 }
+
+  pub entry_differs : i < length es → e ≡ get_or es i e → i < length rows → row ≡ get_or rows i row → EntriesLeft (drop i es) (map whole_entry (drop i rows)) all
+      → (RowPrunes e.row (whole_row row.cells) → ⊥) → all → ⊥
+  entry_differs le e_is lr row_is l not a = not (((entry_opened le e_is lr row_is l).needs a).0.row)

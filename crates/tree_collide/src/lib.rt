@@ -3,7 +3,9 @@
 
 mod cells;
 mod comparing;
+mod entries;
 mod rows;
 
+pub use entries::agree_entries;
 pub use rows::agree_row;
 pub use vo_spec::Agreement;
