@@ -1,3 +1,4 @@
 pub mod PartLaws
 pub mod BranchLaws
 pub mod RowLaws
+pub mod NodeLaws

@@ -7,6 +7,7 @@ mod entries;
 mod hashing;
 mod part_digest;
 mod parts;
+mod preimages;
 mod rows;
 mod tree;
 

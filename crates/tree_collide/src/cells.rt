@@ -1,0 +1,94 @@
+//! Cells against values.
+ghost use Rattle.std.specs.Prelude.{◌≡◌, ◌∷◌, ◌++◌, ◌≤◌, length, IfOk, All};
+ghost use Rattle.vo_spec.specs.declared.cells.Cell.TheVariants.{Shown};
+ghost use Rattle.vo_spec.specs.Sha256.{sha256};
+ghost use Rattle.vo_spec.specs.Lent.{value_of};
+ghost use Rattle.vo_spec.specs.Values.{FitsValue};
+ghost use Rattle.vo_spec.specs.Cells.{attribute_bytes, cell_digest, whole_cells, CellPrunes, CellsPrune};
+ghost use Rattle.vo_spec.specs.Fits.{FitsCell, most_cells};
+ghost use Rattle.tree_collide.specs.Agreeing.{Agrees, SameCells};
+
+use crate::comparing::compare;
+use row_bytes::put_value;
+use std::alloc::{AllocError, Global};
+use vo_spec::{Cell, Collision, Value, ValueRef};
+
+/// Whether the cells are these values with some of them hidden.
+pub fn agree_cells(
+    alloc: Global,
+    cells: &[Cell<'_>],
+    values: &[Value],
+) -> Result<Option<Collision>, AllocError>
+    requires most { length values.now ≤ most_cells }
+    requires count { length cells.now ≡ length values.now }
+    requires fit { All FitsCell cells.now }
+    requires values_fit { All FitsValue values.now }
+    requires same { SameCells 0 cells.now (whole_cells values.now) }
+    ensures { IfOk result (λ found. Agrees found (CellsPrune 0 cells.now (whole_cells values.now))) }
+{
+    for (column, cell) in cells.iter().enumerate() {
+        let found = agree_cell(alloc, column as u8, cell, &values[column])?;
+        if found.is_some() {
+            return Ok(found);
+        }
+    }
+    Ok(None)
+}
+
+fn agree_cell(
+    alloc: Global,
+    column: u8,
+    cell: &Cell<'_>,
+    value: &Value,
+) -> Result<Option<Collision>, AllocError>
+    requires fits { FitsCell cell.now }
+    requires value_fits { FitsValue value.now }
+    requires same { cell_digest column cell.now ≡ cell_digest column (Shown value.now) }
+    ensures { IfOk result (λ found. Agrees found (CellPrunes column cell.now (Shown value.now))) }
+{
+    match cell {
+        Cell::Hidden(_) => Ok(None),
+        Cell::Shown(held) => agree_value(alloc, column, held.as_ref(), value),
+    }
+}
+
+fn agree_value(
+    alloc: Global,
+    column: u8,
+    shown: ValueRef<'_>,
+    value: &Value,
+) -> Result<Option<Collision>, AllocError>
+    requires fits { FitsValue (value_of shown) }
+    requires value_fits { FitsValue value.now }
+    requires same { sha256 (attribute_bytes column (value_of shown)) ≡ sha256 (attribute_bytes column value.now) }
+    ensures { IfOk result (λ found. Agrees found (value_of shown.entry ≡ value.now)) }
+{
+    let own = shown.to_value(alloc)?;
+    agree_values(alloc, column, &own, value)
+}
+
+#[tactic(auto, using(crate::proofs::Reading::attribute_same))]
+fn agree_values(
+    alloc: Global,
+    column: u8,
+    shown: &Value,
+    value: &Value,
+) -> Result<Option<Collision>, AllocError>
+    requires fits { FitsValue shown.now }
+    requires value_fits { FitsValue value.now }
+    requires same { sha256 (attribute_bytes column shown.now) ≡ sha256 (attribute_bytes column value.now) }
+    ensures { IfOk result (λ found. Agrees found (shown.now ≡ value.now)) }
+{
+    let first = attribute_preimage(alloc, column, shown)?;
+    let second = attribute_preimage(alloc, column, value)?;
+    Ok(compare(first, second))
+}
+
+fn attribute_preimage(alloc: Global, column: u8, value: &Value) -> Result<Vec<u8>, AllocError>
+    requires { FitsValue value.now }
+    ensures { IfOk result (λ bytes. bytes.items ≡ attribute_bytes column value.now) }
+{
+    let mut out = Vec::from_slice(alloc, &[1, column])?;
+    put_value(&mut out, value)?;
+    Ok(out)
+}

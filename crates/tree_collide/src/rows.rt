@@ -1,0 +1,84 @@
+//! Parts of rows against rows.
+ghost use Rattle.std.specs.Prelude.{◌≡◌, ◌∷◌, ◌++◌, ◌≤◌, length, IfOk, All};
+ghost use Rattle.vo_spec.specs.Sha256.{sha256};
+ghost use Rattle.vo_spec.specs.Cells.{cell_digest, row_bytes as row_bytes_of, row_digest, whole_cells, whole_row, CellsPrune, RowPrunes};
+ghost use Rattle.vo_spec.specs.Fits.{FitsCell, FitsCells, FitsRowPart, most_cells};
+ghost use Rattle.tree_collide.specs.Agreeing.{Agrees};
+
+use crate::cells::agree_cells;
+use crate::comparing::compare;
+use attr_digest::attr_digest;
+use mb_tree::HashedCells;
+use std::alloc::{AllocError, Global};
+use vo_spec::{Cell, Collision, Digest, RowPart, Value};
+
+/// Whether the part is the row with some of its cells, or itself, replaced by their digests.
+pub fn agree_row(
+    alloc: Global,
+    part: &RowPart<'_>,
+    cells: &HashedCells,
+) -> Result<Option<Collision>, AllocError>
+    requires fits { FitsRowPart part.now }
+    requires same { row_digest part.now ≡ row_digest (whole_row cells.now) }
+    ensures { IfOk result (λ found. Agrees found (RowPrunes part.now (whole_row cells.now))) }
+{
+    match part {
+        RowPart::Digest(_) => Ok(None),
+        RowPart::Cells(parts) => agree_open(alloc, parts.as_slice(), cells.values()),
+    }
+}
+
+#[tactic(auto, using(crate::proofs::Reading::row_same, crate::proofs::Keeping::row_bytes_kept, crate::proofs::Steps::whole_fit, crate::proofs::Steps::same_count))]
+fn agree_open(
+    alloc: Global,
+    parts: &[Cell<'_>],
+    values: &[Value],
+) -> Result<Option<Collision>, AllocError>
+    requires count { length parts.now ≤ most_cells }
+    requires fit { All FitsCell parts.now }
+    requires values_fit { FitsCells values.now }
+    requires same { sha256 (row_bytes_of parts.now) ≡ sha256 (row_bytes_of (whole_cells values.now)) }
+    ensures { IfOk result (λ found. Agrees found (CellsPrune 0 parts.now (whole_cells values.now))) }
+{
+    let first = parts_preimage(alloc, parts)?;
+    let second = values_preimage(alloc, values)?;
+    match compare(first, second) {
+        Some(found) => Ok(Some(found)),
+        None => agree_cells(alloc, parts, values),
+    }
+}
+
+#[tactic(auto, using(attr_digest::proofs::Digests::cell_digests_more))]
+fn parts_preimage(alloc: Global, cells: &[Cell<'_>]) -> Result<Vec<u8>, AllocError>
+    requires count { length cells.now ≤ most_cells }
+    requires fit { All FitsCell cells.now }
+    ensures { IfOk result (λ bytes. bytes.items ≡ row_bytes_of cells.now) }
+{
+    let mut out = Vec::from_slice(alloc, &[2, cells.len() as u8])?;
+    for (column, cell) in cells.iter().enumerate() {
+        out.extend_from_slice(digest_of_cell(column as u8, cell).as_bytes())?;
+    }
+    Ok(out)
+}
+
+fn digest_of_cell(column: u8, cell: &Cell<'_>) -> Digest
+    requires { FitsCell cell.now }
+    ensures { result ≡ cell_digest column cell.now }
+{
+    match cell {
+        Cell::Shown(value) => attr_digest(column, value.as_ref()),
+        Cell::Hidden(digest) => *digest,
+    }
+}
+
+#[tactic(auto, using(attr_digest::proofs::Digests::whole_digests_more))]
+fn values_preimage(alloc: Global, values: &[Value]) -> Result<Vec<u8>, AllocError>
+    requires { FitsCells values.now }
+    ensures { IfOk result (λ bytes. bytes.items ≡ row_bytes_of (whole_cells values.now)) }
+{
+    let mut out = Vec::from_slice(alloc, &[2, values.len() as u8])?;
+    for (column, value) in values.iter().enumerate() {
+        out.extend_from_slice(attr_digest(column as u8, value.as_ref()).as_bytes())?;
+    }
+    Ok(out)
+}
