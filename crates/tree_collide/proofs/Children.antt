@@ -1,12 +1,33 @@
 -- One child further.
-use Rattle.std.proofs.Common.{◌≡◌, ℕ, ◌+◌, ◌<◌, List, ◌∷◌, length, get_or, drop, refl, sym, ap, ◌∙◌, subst}
+use Rattle.std.proofs.Common.{◌≡◌, ℕ, ◌+◌, ◌<◌, List, [], ◌∷◌, length, map, true, suc, get_or, drop, refl, sym, ap, ◌∙◌, subst}
 use Rattle.std.proofs.lemmas.List.{drop_more}
-use Rattle.vo_spec.specs.Cells.{EntryPrunes}
 use Rattle.vo_spec.specs.Parts.{more, PrunesEach}
 use Rattle.vo_spec.specs.Trees.{RowTree, RowTrees, digest, row_family, open_parts, Prunes}
 use Rattle.mb_tree.specs.declared.parts.PartTree.{PartTree}
 use Rattle.mb_tree.specs.View.{part_of, parts_of}
-use Rattle.tree_collide.specs.Agreeing.{SameNodes}
+use Rattle.vo_spec.specs.declared.values.Row.{Row}
+use Rattle.vo_spec.specs.declared.cells.PartEntry.{PartEntry}
+use Rattle.vo_spec.specs.Cells.{whole_entry, EntryPrunes}
+use Rattle.mb_tree.specs.declared.branches.Node.{Node}
+use Rattle.mb_tree.specs.declared.branches.Node.TheVariants as node
+use Rattle.mb_tree.specs.Whole.{whole_of}
+use Rattle.tree_collide.specs.Agreeing.{SameEntries, SameNodes, is_open}
+
+pub entry_count : (es : List PartEntry) (rows : List Row) → SameEntries es (map whole_entry rows) → length es ≡ length rows
+entry_count [] [] same = refl
+entry_count [] (r ∷ rows) same = absurd same
+entry_count (e ∷ es) [] same = absurd same
+entry_count (e ∷ es) (r ∷ rows) same = ap suc (entry_count es rows same.2)
+
+pub child_count : (ps : List PartTree) (ts : List RowTree) → SameNodes (parts_of ps) (open_parts ts) → length ps ≡ length ts
+child_count [] [] same = refl
+child_count [] (t ∷ ts) same = absurd same
+child_count (p ∷ ps) [] same = absurd same
+child_count (p ∷ ps) (t ∷ ts) same = ap suc (child_count ps ts same.1)
+
+pub node_open : (n : Node) → is_open (whole_of n) ≡ true
+node_open (node.Leaf entries) = refl
+node_open (node.Inner separators children) = refl
 
 -- what is left to compare, for the fact about all
 pub record NodesLeft (ps qs : RowTrees) (all : Type 0) : Type 0 where

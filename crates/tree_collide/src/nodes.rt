@@ -5,6 +5,7 @@ ghost use Rattle.vo_spec.specs.Parts.{PrunesEach};
 ghost use Rattle.vo_spec.specs.Trees.{digest, Prunes, row_family, open_parts};
 ghost use Rattle.vo_spec.specs.Fits.{FitsPart, FitsEach, FitsEntry};
 ghost use Rattle.mb_tree.specs.View.{part_of, parts_of};
+ghost use Rattle.mb_tree.specs.Whole.{whole_of};
 ghost use Rattle.tree_collide.specs.Agreeing.{Agrees, AgreesAs, IsLike, SameNodes, is_open};
 
 use crate::comparing::compare;
@@ -55,25 +56,27 @@ fn agree_node(
     requires same { digest (part_of part.now) ≡ digest branch.now }
     ensures { IfOk result (λ found. Agrees found (Prunes (part_of part.now) branch.now)) }
 {
+    let node = branch.node();
     let first = part.preimage(alloc)?;
     let second = branch.preimage(alloc)?;
     match compare(first, second) {
         Some(found) => Ok(Some(found)),
-        None => agree_open(alloc, part, branch),
+        None => agree_open(alloc, part, node),
     }
 }
 
 #[cycle(agree)]
+#[tactic(auto, using(crate::proofs::Children::entry_count, crate::proofs::Children::child_count))]
 fn agree_open(
     alloc: Global,
     part: &PartTree<'_>,
-    branch: &Branch,
+    node: &Node,
 ) -> Result<Option<Collision>, AllocError>
     requires fits { FitsPart (part_of part.now) }
-    requires same { IsLike (part_of part.now) branch.now }
-    ensures { IfOk result (λ found. Agrees found (Prunes (part_of part.now) branch.now)) }
+    requires same { IsLike (part_of part.now) (whole_of node.now) }
+    ensures { IfOk result (λ found. Agrees found (Prunes (part_of part.now) (whole_of node.now))) }
 {
-    match (part, branch.node()) {
+    match (part, node) {
         (PartTree::Leaf(parts), Node::Leaf(entries)) => {
             agree_entries(alloc, parts.as_slice(), entries)
         },
