@@ -1,3 +1,4 @@
 pub mod Reading
 pub mod Keeping
 pub mod Steps
+pub mod Children

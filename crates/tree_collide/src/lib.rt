@@ -4,8 +4,8 @@
 mod cells;
 mod comparing;
 mod entries;
+mod nodes;
 mod rows;
 
-pub use entries::agree_entries;
-pub use rows::agree_row;
+pub use nodes::agree;
 pub use vo_spec::Agreement;

@@ -1,0 +1,58 @@
+-- One child further.
+use Rattle.std.proofs.Common.{◌≡◌, ℕ, ◌+◌, ◌<◌, List, [], ◌∷◌, length, map, true, suc, get_or, drop, refl, sym, ap, ◌∙◌, subst}
+use Rattle.std.proofs.lemmas.List.{drop_more}
+use Rattle.vo_spec.specs.Parts.{more, PrunesEach}
+use Rattle.vo_spec.specs.Trees.{RowTree, RowTrees, digest, row_family, open_parts, Prunes}
+use Rattle.mb_tree.specs.declared.parts.PartTree.{PartTree}
+use Rattle.mb_tree.specs.View.{part_of, parts_of}
+use Rattle.vo_spec.specs.declared.values.Row.{Row}
+use Rattle.vo_spec.specs.declared.cells.PartEntry.{PartEntry}
+use Rattle.vo_spec.specs.Cells.{whole_entry, EntryPrunes}
+use Rattle.mb_tree.specs.declared.branches.Node.{Node}
+use Rattle.mb_tree.specs.declared.branches.Node.TheVariants as node
+use Rattle.mb_tree.specs.Whole.{whole_of}
+use Rattle.tree_collide.specs.Agreeing.{SameEntries, SameNodes, is_open}
+
+pub entry_count : (es : List PartEntry) (rows : List Row) → SameEntries es (map whole_entry rows) → length es ≡ length rows
+entry_count [] [] same = refl
+entry_count [] (r ∷ rows) same = absurd same
+entry_count (e ∷ es) [] same = absurd same
+entry_count (e ∷ es) (r ∷ rows) same = ap suc (entry_count es rows same.2)
+
+pub child_count : (ps : List PartTree) (ts : List RowTree) → SameNodes (parts_of ps) (open_parts ts) → length ps ≡ length ts
+child_count [] [] same = refl
+child_count [] (t ∷ ts) same = absurd same
+child_count (p ∷ ps) [] same = absurd same
+child_count (p ∷ ps) (t ∷ ts) same = ap suc (child_count ps ts same.1)
+
+pub node_open : (n : Node) → is_open (whole_of n) ≡ true
+node_open (node.Leaf entries) = refl
+node_open (node.Inner separators children) = refl
+
+-- what is left to compare, for the fact about all
+pub record NodesLeft (ps qs : RowTrees) (all : Type 0) : Type 0 where
+  pub same : SameNodes ps qs
+  pub gives : PrunesEach row_family EntryPrunes ps qs → all
+  pub needs : all → PrunesEach row_family EntryPrunes ps qs
+
+module _ (i : ℕ) (ps : List PartTree) (ts : List RowTree) (p : PartTree) (t : RowTree) (all : Type 0) where
+  opened : i < length ps → p ≡ get_or ps i p → i < length ts → t ≡ get_or ts i t → NodesLeft (parts_of (drop i ps)) (open_parts (drop i ts)) all
+      → NodesLeft (more tt (part_of p) (parts_of (drop (i + 1) ps))) (more tt t (open_parts (drop (i + 1) ts))) all
+  opened lp p_is lt t_is l =
+      let f : drop i ps ≡ p ∷ drop (i + 1) ps = drop_more ps i p lp ∙ ap (λ x. x ∷ drop (i + 1) ps) (sym p_is) in
+      let g : drop i ts ≡ t ∷ drop (i + 1) ts = drop_more ts i t lt ∙ ap (λ x. x ∷ drop (i + 1) ts) (sym t_is) in
+      let P : List PartTree → Type 0 = λ xs. NodesLeft (parts_of xs) (open_parts (drop i ts)) all in
+      let Q : List RowTree → Type 0 = λ xs. NodesLeft (more tt (part_of p) (parts_of (drop (i + 1) ps))) (open_parts xs) all in
+      subst Q g (subst P f l)
+
+  pub child_here : i < length ps → p ≡ get_or ps i p → i < length ts → t ≡ get_or ts i t → NodesLeft (parts_of (drop i ps)) (open_parts (drop i ts)) all → digest (part_of p) ≡ digest t
+  child_here lp p_is lt t_is l = (opened lp p_is lt t_is l).same.0
+
+  pub child_agrees : i < length ps → p ≡ get_or ps i p → i < length ts → t ≡ get_or ts i t → NodesLeft (parts_of (drop i ps)) (open_parts (drop i ts)) all → Prunes (part_of p) t
+      → NodesLeft (parts_of (drop (i + 1) ps)) (open_parts (drop (i + 1) ts)) all
+  child_agrees lp p_is lt t_is l h =
+      let o = opened lp p_is lt t_is l in
+      record { same = o.same.1; gives = λ r. o.gives (refl, h, r); needs = λ a. (o.needs a).2 }
+
+  pub child_differs : i < length ps → p ≡ get_or ps i p → i < length ts → t ≡ get_or ts i t → NodesLeft (parts_of (drop i ps)) (open_parts (drop i ts)) all → (Prunes (part_of p) t → ⊥) → all → ⊥
+  child_differs lp p_is lt t_is l not a = not (((opened lp p_is lt t_is l).needs a).1)

@@ -1,0 +1,112 @@
+//! Nodes of part trees against those of whole trees.
+ghost use Rattle.std.specs.Prelude.{◌≡◌, true, length, IfOk};
+ghost use Rattle.vo_spec.specs.Cells.{EntryPrunes};
+ghost use Rattle.vo_spec.specs.Parts.{PrunesEach};
+ghost use Rattle.vo_spec.specs.Trees.{digest, Prunes, row_family, open_parts};
+ghost use Rattle.vo_spec.specs.Fits.{FitsPart, FitsEach, FitsEntry};
+ghost use Rattle.mb_tree.specs.View.{part_of, parts_of};
+ghost use Rattle.mb_tree.specs.Whole.{whole_of};
+ghost use Rattle.tree_collide.specs.Agreeing.{Agrees, AgreesAs, IsLike, SameNodes, is_open};
+
+use crate::comparing::compare;
+use crate::entries::agree_entries;
+use mb_tree::{Branch, Node, PartTree, Tree};
+use std::alloc::{AllocError, Global};
+use vo_spec::{Agreement, Collision};
+
+/// Whether the part prunes the tree, whose digest is the same; if not, what shows two byte strings of one
+/// digest.
+pub fn agree(alloc: Global, part: &PartTree<'_>, tree: &Tree) -> Result<Agreement, AllocError>
+    requires fits { FitsPart (part_of part.now) }
+    requires same { digest (part_of part.now) ≡ digest tree.now }
+    ensures { IfOk result (λ agreement. AgreesAs agreement (Prunes (part_of part.now) tree.now)) }
+{
+    match agree_branch(alloc, part, tree.root())? {
+        None => Ok(Agreement::Prunes),
+        Some(found) => Ok(Agreement::Collides(found)),
+    }
+}
+
+#[cycle(agree)]
+fn agree_branch(
+    alloc: Global,
+    part: &PartTree<'_>,
+    branch: &Branch,
+) -> Result<Option<Collision>, AllocError>
+    requires fits { FitsPart (part_of part.now) }
+    requires same { digest (part_of part.now) ≡ digest branch.now }
+    ensures { IfOk result (λ found. Agrees found (Prunes (part_of part.now) branch.now)) }
+{
+    match part {
+        PartTree::Stub(_) => Ok(None),
+        PartTree::Leaf(_) => agree_node(alloc, part, branch),
+        PartTree::Inner { .. } => agree_node(alloc, part, branch),
+    }
+}
+
+#[cycle(agree)]
+#[tactic(auto, using(crate::proofs::Reading::like, crate::proofs::Keeping::preimage_kept, crate::proofs::Keeping::open_hash))]
+fn agree_node(
+    alloc: Global,
+    part: &PartTree<'_>,
+    branch: &Branch,
+) -> Result<Option<Collision>, AllocError>
+    requires open { is_open (part_of part.now) ≡ true }
+    requires fits { FitsPart (part_of part.now) }
+    requires same { digest (part_of part.now) ≡ digest branch.now }
+    ensures { IfOk result (λ found. Agrees found (Prunes (part_of part.now) branch.now)) }
+{
+    let node = branch.node();
+    let first = part.preimage(alloc)?;
+    let second = branch.preimage(alloc)?;
+    match compare(first, second) {
+        Some(found) => Ok(Some(found)),
+        None => agree_open(alloc, part, node),
+    }
+}
+
+#[cycle(agree)]
+#[tactic(auto, using(crate::proofs::Children::entry_count, crate::proofs::Children::child_count))]
+fn agree_open(
+    alloc: Global,
+    part: &PartTree<'_>,
+    node: &Node,
+) -> Result<Option<Collision>, AllocError>
+    requires fits { FitsPart (part_of part.now) }
+    requires same { IsLike (part_of part.now) (whole_of node.now) }
+    ensures { IfOk result (λ found. Agrees found (Prunes (part_of part.now) (whole_of node.now))) }
+{
+    match (part, node) {
+        (PartTree::Leaf(parts), Node::Leaf(entries)) => {
+            agree_entries(alloc, parts.as_slice(), entries)
+        },
+        (
+            PartTree::Inner { children, .. },
+            Node::Inner {
+                children: branches,
+                ..
+            },
+        ) => { agree_children(alloc, children.as_slice(), branches) },
+        _ => unreachable!(),
+    }
+}
+
+#[cycle(agree)]
+fn agree_children(
+    alloc: Global,
+    parts: &[PartTree<'_>],
+    branches: &[Branch],
+) -> Result<Option<Collision>, AllocError>
+    requires count { length parts.now ≡ length branches.now }
+    requires fit { FitsEach FitsEntry (parts_of parts.now) }
+    requires same { SameNodes (parts_of parts.now) (open_parts branches.now) }
+    ensures { IfOk result (λ found. Agrees found (PrunesEach row_family EntryPrunes (parts_of parts.now) (open_parts branches.now))) }
+{
+    for (place, part) in parts.iter().enumerate() {
+        let found = agree_branch(alloc, part, &branches[place])?;
+        if found.is_some() {
+            return Ok(found);
+        }
+    }
+    Ok(None)
+}
