@@ -9,3 +9,6 @@ mod rows;
 
 pub use nodes::agree;
 pub use vo_spec::Agreement;
+
+#[cfg(test)]
+mod tests;

@@ -93,10 +93,11 @@ fn spells_a_record_in_60_bytes(rt: HostRuntime) -> Result<(), Fail> {
     assert_eq!(rt; rec.version, 7);
     assert_eq!(rt; *rec.catalog.as_bytes(), BOTH);
     assert_eq!(rt; record_bytes(&rec).as_slice(), bytes.as_slice());
-    assert!(rt; read_record(&bytes[..59]).is_none());
+    let shorter = joined(alloc, &[b"VREC", id, &[0, 0, 0, 0, 0, 0, 7], &BOTH])?;
+    assert!(rt; read_record(&shorter).is_none());
     let longer = joined(alloc, &[&bytes, &[0]])?;
     assert!(rt; read_record(&longer).is_none());
-    let other = joined(alloc, &[b"VRC2", &bytes[4..]])?;
+    let other = joined(alloc, &[b"VRC2", id, &[0, 0, 0, 0, 0, 0, 0, 7], &BOTH])?;
     assert!(rt; read_record(&other).is_none());
     Ok(())
 }
