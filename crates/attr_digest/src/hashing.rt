@@ -90,7 +90,8 @@ fn cells_digest(cells: &[Cell<'_>]) -> Digest
     hasher.end()
 }
 
-fn cell_digest(column: u8, cell: &Cell<'_>) -> Digest
+/// The digest of the cell in this column, numbered as for `attr_digest`.
+pub fn cell_digest(column: u8, cell: &Cell<'_>) -> Digest
     requires { FitsCell cell.now }
     ensures { result ≡ cell_digest_of column cell.now }
 {

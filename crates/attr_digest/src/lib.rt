@@ -4,6 +4,6 @@
 mod hashing;
 mod hiding;
 
-pub use hashing::{add_value, attr_digest, row_digest, whole_row_digest};
+pub use hashing::{add_value, attr_digest, cell_digest, row_digest, whole_row_digest};
 pub use hiding::{hide, hide_cells};
 pub use vo_spec::{Cell, CellValue, RowPart};

@@ -1,16 +1,16 @@
 //! Parts of rows against rows.
 ghost use Rattle.std.specs.Prelude.{◌≡◌, ◌∷◌, ◌++◌, ◌≤◌, length, IfOk, All};
 ghost use Rattle.vo_spec.specs.Sha256.{sha256};
-ghost use Rattle.vo_spec.specs.Cells.{cell_digest, row_bytes as row_bytes_of, row_digest, whole_cells, whole_row, CellsPrune, RowPrunes};
+ghost use Rattle.vo_spec.specs.Cells.{row_bytes as row_bytes_of, row_digest, whole_cells, whole_row, CellsPrune, RowPrunes};
 ghost use Rattle.vo_spec.specs.Fits.{FitsCell, FitsCells, FitsRowPart, most_cells};
 ghost use Rattle.tree_collide.specs.Agreeing.{Agrees};
 
 use crate::cells::agree_cells;
 use crate::comparing::compare;
-use attr_digest::attr_digest;
+use attr_digest::{attr_digest, cell_digest};
 use mb_tree::HashedCells;
 use std::alloc::{AllocError, Global};
-use vo_spec::{Cell, Collision, Digest, RowPart, Value};
+use vo_spec::{Cell, Collision, RowPart, Value};
 
 /// Whether the part is the row with some of its cells, or itself, replaced by their digests.
 pub fn agree_row(
@@ -56,19 +56,9 @@ fn parts_preimage(alloc: Global, cells: &[Cell<'_>]) -> Result<Vec<u8>, AllocErr
 {
     let mut out = Vec::from_slice(alloc, &[2, cells.len() as u8])?;
     for (column, cell) in cells.iter().enumerate() {
-        out.extend_from_slice(digest_of_cell(column as u8, cell).as_bytes())?;
+        out.extend_from_slice(cell_digest(column as u8, cell).as_bytes())?;
     }
     Ok(out)
-}
-
-fn digest_of_cell(column: u8, cell: &Cell<'_>) -> Digest
-    requires { FitsCell cell.now }
-    ensures { result ≡ cell_digest column cell.now }
-{
-    match cell {
-        Cell::Shown(value) => attr_digest(column, value.as_ref()),
-        Cell::Hidden(digest) => *digest,
-    }
 }
 
 #[tactic(auto, using(attr_digest::proofs::Digests::whole_digests_more))]

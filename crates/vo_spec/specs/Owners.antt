@@ -1,6 +1,7 @@
--- Which journals an owner has written: each entry signed by the leaf of its version, its record and its proofs
--- those of the honest trees.
+-- Which journals an owner has written, and which a store takes: each entry signed by the leaf of its version,
+-- and its record that of the honest trees.
 use Rattle.std.specs.Prelude.{◌≡◌, ℕ, ◌<◌, List, [], ◌∷◌, ◌++◌, length, Some, IsOk, IsTrue}
+use Rattle.std.specs.List.{list_all}
 use Rattle.vo_spec.specs.declared.tables.Command.{Command}
 use Rattle.vo_spec.specs.declared.records.Record.{Record}
 use Rattle.vo_spec.specs.declared.records.Entry.{Entry}
@@ -9,19 +10,25 @@ use Rattle.vo_spec.specs.Lms.{leaf_of, lms_valid}
 use Rattle.vo_spec.specs.Records.{record_bytes}
 use Rattle.vo_spec.specs.Journals.{Begins, IsJournal}
 use Rattle.vo_spec.specs.Replies.{proofs_bytes}
-use Rattle.vo_spec.specs.Honest.{honest_trees, honest_proofs, honest_record}
+use Rattle.vo_spec.specs.Honest.{is_open_command, honest_trees, honest_proofs, honest_record}
 
 -- the record is signed under the key by the leaf of its version
 pub record IsSigned (key : List ℕ) (rec : Record) (signature : List ℕ) : Type 0 where
   pub leaf : leaf_of key signature ≡ Some rec.version
   pub valid : IsTrue (lms_valid key (record_bytes rec) signature)
 
--- the entry after these batches, which are as many as its version
-pub record IsHonestEntry (key : List ℕ) (earlier : List (List Command)) (e : Entry) : Type 0 where
+-- The entry after these batches, which are as many as its version, its proofs aside. Owners write no batches yet
+-- but those that make tables, drop them and insert rows.
+pub record IsTakenEntry (key : List ℕ) (earlier : List (List Command)) (e : Entry) : Type 0 where
+  pub written : IsTrue (list_all is_open_command e.batch.commands)
   pub accepted : IsOk (apply_batch e.batch.commands (tables_after earlier))
   pub record_is : e.rec ≡ honest_record key (length earlier) (honest_trees (earlier ++ e.batch.commands ∷ []))
-  pub proofs_are : e.proofs ≡ proofs_bytes (honest_proofs e.batch.commands (honest_trees earlier))
   pub signed : IsSigned key e.rec e.signature
+
+-- and with the proofs of its batch
+pub record IsHonestEntry (key : List ℕ) (earlier : List (List Command)) (e : Entry) : Type 0 where
+  pub taken : IsTakenEntry key earlier e
+  pub proofs_are : e.proofs ≡ proofs_bytes (honest_proofs e.batch.commands (honest_trees earlier))
 
 abbrev pub AreOwnedAfter : List ℕ → List (List Command) → List Entry → Type 0
 AreOwnedAfter key earlier [] = Unit {0}
@@ -32,12 +39,37 @@ unfoldable pub AreOwned : List ℕ → List Entry → Type 0
 AreOwned key [] = Unit {0}
 AreOwned key (e ∷ es) = (e.batch.commands ≡ []) × AreOwnedAfter key [] (e ∷ es)
 
--- The bytes are the journal of these entries, at least one, and they are owned.
-unfoldable pub IsOwned : List ℕ → List ℕ → List Entry → Type 0
-IsOwned key bytes es = IsJournal bytes es × AreOwned key es × (0 < length es)
+abbrev pub AreTakenAfter : List ℕ → List (List Command) → List Entry → Type 0
+AreTakenAfter key earlier [] = Unit {0}
+AreTakenAfter key earlier (e ∷ es) = IsTakenEntry key earlier e × AreTakenAfter key (earlier ++ e.batch.commands ∷ []) es
 
--- The first entry that can't be read, isn't owned, or is wanted and isn't there, has this number.
+-- Entries from version 0 on that a store takes: it looks at no proofs, and of version 0 at the record and the
+-- signature alone.
+unfoldable pub AreTaken : List ℕ → List Entry → Type 0
+AreTaken key [] = Unit {0}
+AreTaken key (e ∷ es) =
+    (e.rec ≡ honest_record key 0 (honest_trees [])) × IsSigned key e.rec e.signature × AreTakenAfter key ([] ∷ []) es
+
+-- The bytes are the journal of these entries, at least one, and they are of this sort.
+abbrev pub IsJournalOf : (List Entry → Type 0) → List ℕ → List Entry → Type 0
+IsJournalOf Are bytes es = IsJournal bytes es × Are es × (0 < length es)
+
+-- The first entry that can't be read, isn't of this sort, or is wanted and isn't there, has this number.
+abbrev pub FailsAt : (List Entry → Type 0) → List ℕ → ℕ → Type 0
+FailsAt Are bytes index = (es : List Entry) × Begins bytes es × Are es × (length es ≡ index)
+    × (IsJournalOf Are bytes es → ⊥)
+    × ((e : Entry) → Begins bytes (es ++ e ∷ []) → Are (es ++ e ∷ []) → ⊥)
+
+-- the journal of an owner of this key, and where bytes fail to be one
+unfoldable pub IsOwned : List ℕ → List ℕ → List Entry → Type 0
+IsOwned key = IsJournalOf (AreOwned key)
+
 unfoldable pub IsBadAt : List ℕ → List ℕ → ℕ → Type 0
-IsBadAt key bytes index = (es : List Entry) × Begins bytes es × AreOwned key es × (length es ≡ index)
-    × (IsOwned key bytes es → ⊥)
-    × ((e : Entry) → Begins bytes (es ++ e ∷ []) → AreOwned key (es ++ e ∷ []) → ⊥)
+IsBadAt key = FailsAt (AreOwned key)
+
+-- a journal that a store of this key takes, and where bytes fail to be one
+unfoldable pub IsLoaded : List ℕ → List ℕ → List Entry → Type 0
+IsLoaded key = IsJournalOf (AreTaken key)
+
+unfoldable pub IsUnloadedAt : List ℕ → List ℕ → ℕ → Type 0
+IsUnloadedAt key = FailsAt (AreTaken key)
