@@ -43,7 +43,7 @@ use Rattle.vo_laws.proofs.JoinLaws.{is_bytes}
 use Rattle.vo_laws.proofs.Exact.{exact, named_stands, same_headings}
 
 -- what is seen of a proof is what is seen of its tree
-seen_same : (ns : List Need) (need : Need) (t : RowTree) → IsIn need ns → is_missing ns (pruned ns t) ≡ false → seen need (pruned ns t) ≡ seen need t
+pub seen_same : (ns : List Need) (need : Need) (t : RowTree) → IsIn need ns → is_missing ns (pruned ns t) ≡ false → seen need (pruned ns t) ≡ seen need t
 seen_same ns need t i full = step (seen need (pruned ns t)) (complete ns need (pruned ns t) i full) (sound need (pruned ns t) t (pruned_prunes ns t))
   where
     step : (o : Option (List SeenRow)) → Shows o → Gives o (seen need t) → o ≡ seen need t

@@ -22,3 +22,9 @@ pub mod NamedFits
 pub mod Complete
 pub mod PrunedFits
 pub mod ReplyFits
+pub mod ProofSizes
+pub mod StepLaws
+pub mod EntryLaws
+pub mod SealedLaws
+pub mod NeedLaws
+pub mod CatalogSpelling

@@ -103,7 +103,7 @@ row_kept columns (Cells cells) fits = step (is_any columns)
     )
     step false = length-sha256 (row_bytes cells)
 
-row_closed : (row : RowPart) → FitsRowPart row → FitsRowPart (Closed (row_digest row))
+pub row_closed : (row : RowPart) → FitsRowPart row → FitsRowPart (Closed (row_digest row))
 row_closed (Closed d) fits = fits
 row_closed (Cells cells) fits = length-sha256 (row_bytes cells)
 

@@ -36,13 +36,13 @@ use Rattle.vo_laws.proofs.StandingLaws.{InStep, FitAfter, stored_headings, comma
 
 -- The separators of what is stored fit.
 
-abbrev SeparatedIn : Stored → Type 0
+abbrev pub SeparatedIn : Stored → Type 0
 SeparatedIn s = Separated s.tree
 
-abbrev AreSeparatedIn : List Stored → Type 0
+abbrev pub AreSeparatedIn : List Stored → Type 0
 AreSeparatedIn = AllByRecursion SeparatedIn
 
-abbrev SeparatedAfter : Result (List Stored) CommandFault → Type 0
+abbrev pub SeparatedAfter : Result (List Stored) CommandFault → Type 0
 SeparatedAfter (Ok stored) = AreSeparatedIn stored
 SeparatedAfter (Err fault) = Unit {0}
 
@@ -95,7 +95,7 @@ changed_separated (Insert name values) stored tables o e zs good all = change_se
 changed_separated (Update name sets column value) stored tables o e zs good all = absurd (cc)
 changed_separated (Delete name column value) stored tables o e zs good all = absurd (cc)
 
-work_separated : (c : Command) (stored : List Stored) (tables : List Table) → is_open_command c ≡ true → StandForTables stored tables → FitTables tables → AreSeparatedIn stored
+pub work_separated : (c : Command) (stored : List Stored) (tables : List Table) → is_open_command c ≡ true → StandForTables stored tables → FitTables tables → AreSeparatedIn stored
     → SeparatedAfter (work c stored)
 unfolding work
 work_separated c stored tables o zs good all =
@@ -112,7 +112,7 @@ next_separated cs (Ok stored) (Ok tables) i good all next = next stored tables i
 next_separated cs (Ok stored) (Err fault) i good all next = absurd i
 next_separated cs (Err fault) s i good all next = tt
 
-batch_separated : (cs : List Command) (stored : List Stored) (tables : List Table) → list_all is_open_command cs ≡ true → AllByRecursion FitsCommand cs
+pub batch_separated : (cs : List Command) (stored : List Stored) (tables : List Table) → list_all is_open_command cs ≡ true → AllByRecursion FitsCommand cs
     → StandForTables stored tables → FitTables tables → AreSeparatedIn stored → SeparatedAfter (work_all cs stored)
 batch_separated [] stored tables o fits zs good all = all
 batch_separated (c ∷ cs) stored tables o fits zs good all =
@@ -141,7 +141,7 @@ honest_separated batches fits o = all_separated batches [] [] fits o tt (record 
 
 -- Trees.
 
-each_tree_fits : (stored : List Stored) (tables : List Table) → StandForTables stored tables → AllByRecursion FitsTable tables → AreSeparatedIn stored
+pub each_tree_fits : (stored : List Stored) (tables : List Table) → StandForTables stored tables → AllByRecursion FitsTable tables → AreSeparatedIn stored
     → AllByRecursion (λ (s : Stored). FitsTree s.tree) stored
 each_tree_fits [] [] zs fits all = tt
 each_tree_fits [] (t ∷ tables) zs fits all = absurd zs

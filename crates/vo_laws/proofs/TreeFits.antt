@@ -39,12 +39,12 @@ SeparatedChildren (Err fault) = Unit {0}
 abbrev pub KeyFits : PartEntry → Type 0
 KeyFits e = FitsKey e.key
 
-each_taken : {A : Type 0} (P : A → Type 0) (n : ℕ) (xs : List A) → AllByRecursion P xs → AllByRecursion P (take n xs)
+pub each_taken : {A : Type 0} (P : A → Type 0) (n : ℕ) (xs : List A) → AllByRecursion P xs → AllByRecursion P (take n xs)
 each_taken P zero xs all = tt
 each_taken P (suc n) [] all = tt
 each_taken P (suc n) (x ∷ xs) all = (all.0, each_taken P n xs all.1)
 
-each_dropped : {A : Type 0} (P : A → Type 0) (n : ℕ) (xs : List A) → AllByRecursion P xs → AllByRecursion P (drop n xs)
+pub each_dropped : {A : Type 0} (P : A → Type 0) (n : ℕ) (xs : List A) → AllByRecursion P xs → AllByRecursion P (drop n xs)
 each_dropped P zero xs all = all
 each_dropped P (suc n) [] all = tt
 each_dropped P (suc n) (x ∷ xs) all = each_dropped P n xs all.1

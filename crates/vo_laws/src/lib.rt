@@ -2,19 +2,29 @@
 //! client sees and what the plain tables say.
 #![tactic(auto)]
 
-ghost use Rattle.std.specs.Prelude.{◌≡◌, ℕ, ◌^◌, ◌≤◌, ◌<◌, List, None, Ok, length};
+pub mod journals;
+
+ghost use Rattle.std.specs.Prelude.{◌≡◌, ◌≢◌, ℕ, ◌^◌, ◌≤◌, ◌<◌, List, [], ◌∷◌, None, Ok, length};
 ghost use Rattle.std.specs.List.{AllByRecursion, AllZip};
+ghost use Rattle.vo_spec.specs.declared.needs.Need.{Need};
+ghost use Rattle.vo_spec.specs.declared.records.Catalog.{Catalog};
 ghost use Rattle.vo_spec.specs.declared.records.Record.{Record};
+ghost use Rattle.vo_spec.specs.declared.values.Row.{Row};
 ghost use Rattle.vo_spec.specs.declared.tables.Command.{Command};
 ghost use Rattle.vo_spec.specs.declared.tables.Table.{Table};
 ghost use Rattle.vo_spec.specs.Batches.{FitsBatch};
 ghost use Rattle.vo_spec.specs.Fits.{FitsTree};
 ghost use Rattle.vo_spec.specs.Owners.{IsSigned};
-ghost use Rattle.vo_spec.specs.Records.{FitsCatalog, FitsRecord};
+ghost use Rattle.vo_spec.specs.Records.{FitsCatalog, FitsRecord, headings, catalog_bytes, catalog_digest};
+ghost use Rattle.vo_spec.specs.Collides.{Collides};
 ghost use Rattle.vo_spec.specs.Tables.{tables_after};
 ghost use Rattle.vo_spec.specs.Conditions.{Query, FitsQuery};
-ghost use Rattle.vo_spec.specs.Results.{result as result_of};
-ghost use Rattle.vo_spec.specs.Trees.{Prunes};
+ghost use Rattle.vo_spec.specs.Results.{Side, sides, result as result_of};
+ghost use Rattle.vo_spec.specs.Needs.{left_need, needs, tree_at};
+ghost use Rattle.vo_spec.specs.Scans.{seen};
+ghost use Rattle.vo_spec.specs.Pruned.{pruned};
+ghost use Rattle.vo_spec.specs.Standing.{StandsFor};
+ghost use Rattle.vo_spec.specs.Trees.{RowTree, Prunes};
 ghost use Rattle.vo_spec.specs.Journals.{most_signature};
 ghost use Rattle.vo_spec.specs.Replies.{Reply, FitsReply};
 ghost use Rattle.vo_spec.specs.Checks.{answer_to, seen_outcome, missing_fault};
@@ -50,4 +60,25 @@ pub fn honest_replies_are_accepted()
         → IsSigned key rec signature → least ≤ rec.version → FitsQuery q
         → answer_to key least q (honest_reply q rec signature (honest_trees batches))
         ≡ Ok (record { version = rec.version; outcome = result_of q (tables_after batches) }) }
+{}
+
+/// A scan of a tree's proof for one need gives what a scan of the whole tree gives, where the rows have the
+/// need's columns; so a store finds a query's needs from the proof for its left need.
+pub fn proofs_show_what_their_need_sees()
+    ensures seen { (cells : ℕ) (need : Need) (t : RowTree) (rows : List Row) → StandsFor t rows → AllByRecursion (λ column. column < cells) need.columns
+        → AllByRecursion (λ (row : Row). length row.cells ≡ cells) rows → seen need (pruned (need ∷ []) t) ≡ seen need t }
+    ensures by_seen { (ss : List Side) (q : Query) (trees : List RowTree) (others : List RowTree)
+        → seen (left_need ss q) (tree_at trees 0) ≡ seen (left_need ss q) (tree_at others 0) → needs ss q trees ≡ needs ss q others }
+    ensures needs { (batches : List (List Command)) (q : Query) (others : List RowTree) → AllByRecursion FitsBatch batches → AreOpen batches
+        → let stored : List Stored = honest_trees batches in
+        let ss : List Side = sides (headings (catalog_of stored)) q in
+        needs ss q (pruned (left_need ss q ∷ []) (tree_at (trees_for q stored) 0) ∷ others) ≡ needs ss q (trees_for q stored) }
+{}
+
+/// Two catalogs that fit and have the same bytes are the same; so two different ones with one digest give two
+/// different strings with one digest.
+pub fn catalogs_are_told_from_their_bytes()
+    ensures told { (a : Catalog) (b : Catalog) → FitsCatalog a → FitsCatalog b → catalog_bytes a ≡ catalog_bytes b → a ≡ b }
+    ensures collide { (a : Catalog) (b : Catalog) → FitsCatalog a → FitsCatalog b → a ≢ b → catalog_digest a ≡ catalog_digest b
+        → Collides (5 ∷ catalog_bytes a) (5 ∷ catalog_bytes b) }
 {}

@@ -1,0 +1,194 @@
+-- What an owner seals: its entries fit their bytes, and are those of an owner where their signatures are valid.
+use Rattle.std.proofs.Common.{◌≡◌, ℕ, ◌+◌, ◌^◌, ◌<◌, ◌≤◌, List, [], ◌∷◌, ◌++◌, Option, Some, None, length, refl, sym, ap, ◌∙◌, subst, append_assoc, arith}
+use Rattle.std.specs.Prelude.{IsOk, IsTrue}
+use Rattle.std.specs.List.{list_all, AllByRecursion}
+use Rattle.std.proofs.lemmas.List.{length-append}
+use Rattle.vo_spec.specs.declared.signatures.OtsType.{OtsType}
+use Rattle.vo_spec.specs.declared.signatures.OtsType.TheVariants.{W1, W2, W4, W8}
+use Rattle.vo_spec.specs.declared.signatures.LmsType.{LmsType}
+use Rattle.vo_spec.specs.declared.signatures.LmsType.TheVariants.{H5, H10, H15, H20, H25}
+use Rattle.vo_spec.specs.declared.tables.Command.{Command}
+use Rattle.vo_spec.specs.declared.records.Entry.{Entry}
+use Rattle.vo_spec.specs.Bytes.{u32_bytes}
+use Rattle.vo_spec.specs.Tables.{apply_batch, tables_after}
+use Rattle.vo_spec.specs.Batches.{FitsBatch}
+use Rattle.vo_spec.specs.OtsSets.{ots_code_of, ots_signature_len}
+use Rattle.vo_spec.specs.LmsSets.{lms_code_of, height_of, leaves_of, lms_signature_len}
+use Rattle.vo_spec.specs.Lms.{public_bytes, key_lms, key_ots, signature_len_by, key_signature_len}
+use Rattle.vo_spec.specs.Secret.{Secret, tree_node, public_of_secret}
+use Rattle.vo_spec.specs.Records.{record_bytes}
+use Rattle.vo_spec.specs.Journals.{most_signature, FitsEntry, batches_of}
+use Rattle.vo_spec.specs.Honest.{is_open_command, AreOpen, honest_trees, honest_record, sealed_entry, sealed_after, sealed}
+use Rattle.vo_spec.specs.Owners.{IsSigned, IsHonestEntry, AreOwnedAfter, AreOwned}
+use Rattle.vo_laws.specs.Sealing.{AreAcceptedAfter, SignsValidly}
+use Rattle.vo_laws.proofs.StoredFits.{record_fits}
+use Rattle.vo_laws.proofs.ProofSizes.{honest_proofs_fit}
+use Rattle.vo_laws.proofs.StepLaws.{no_tables_before, no_commands_fit}
+use Rattle.vo_laws.proofs.ListLaws.{each_both}
+
+-- Signatures are short enough for a journal.
+
+set_short : (lms : LmsType) (ots : OtsType) → lms_signature_len lms ots ≤ most_signature
+set_short lms ots =
+    let chains : ots_signature_len ots ≤ 8516 = by_width ots in
+    let path : height_of lms ≤ 25 = by_height lms in
+    omega arith
+  where
+    by_width : (o : OtsType) → ots_signature_len o ≤ 8516
+    by_width W1 = omega arith
+    by_width W2 = omega arith
+    by_width W4 = omega arith
+    by_width W8 = omega arith
+
+    by_height : (l : LmsType) → height_of l ≤ 25
+    by_height H5 = omega arith
+    by_height H10 = omega arith
+    by_height H15 = omega arith
+    by_height H20 = omega arith
+    by_height H25 = omega arith
+
+pub signatures_short : (key : List ℕ) → key_signature_len key ≤ most_signature
+unfolding key_signature_len
+signatures_short key = step (key_lms key) (key_ots key)
+  where
+    step : (lms : Option LmsType) (ots : Option OtsType) → signature_len_by lms ots ≤ most_signature
+    step (Some lms) (Some ots) = set_short lms ots
+    step (Some lms) None = omega arith
+    step None (Some ots) = omega arith
+    step None None = omega arith
+
+-- Entries fit.
+
+length-u32 : (n : ℕ) → length (u32_bytes n) ≡ 4
+unfolding u32_bytes
+length-u32 n = refl
+
+parts_long : (codes more id root : List ℕ) → length codes ≡ 4 → length more ≡ 4 → length id ≡ 16 → 24 ≤ length (codes ++ more ++ id ++ root)
+parts_long codes more id root four other sixteen = omega (arith, length-append (codes ++ more ++ id) root, length-append (codes ++ more) id, length-append codes more)
+
+bytes_long : (lms : LmsType) (ots : OtsType) (id root : List ℕ) → length id ≡ 16 → 24 ≤ length (public_bytes lms ots id root)
+unfolding public_bytes
+bytes_long lms ots id root sixteen =
+    parts_long (u32_bytes (lms_code_of lms)) (u32_bytes (ots_code_of ots)) id root (length-u32 (lms_code_of lms)) (length-u32 (ots_code_of ots)) sixteen
+
+key_long : (secret : Secret) → length secret.id ≡ 16 → 24 ≤ length (public_of_secret secret)
+unfolding public_of_secret
+key_long secret sixteen = bytes_long secret.lms secret.ots secret.id (tree_node secret 1) sixteen
+
+pub sealed_entry_fits : (secret : Secret) (earlier : List (List Command)) (batch : List Command) → length secret.id ≡ 16
+    → AllByRecursion FitsBatch earlier → AreOpen earlier → FitsBatch batch → IsTrue (list_all is_open_command batch) → length earlier < 2 ^ 64
+    → length (sealed_entry secret earlier batch).signature ≤ most_signature → FitsEntry (sealed_entry secret earlier batch)
+unfolding sealed_entry
+sealed_entry_fits secret earlier batch sixteen fits o batch_fits batch_open few short = record {
+  batch = batch_fits;
+  proofs = (honest_proofs_fit earlier batch fits o batch_fits batch_open).size;
+  rec = record_fits (public_of_secret secret) (length earlier) (honest_trees (earlier ++ batch ∷ [])) (key_long secret sixteen) few;
+  signature = short;
+}
+
+-- Entries are those of an owner.
+
+pub sealed_entry_is_honest : (secret : Secret) (earlier : List (List Command)) (batch : List Command) → IsTrue (list_all is_open_command batch)
+    → IsOk (apply_batch batch (tables_after earlier)) → IsSigned (public_of_secret secret) (sealed_entry secret earlier batch).rec (sealed_entry secret earlier batch).signature
+    → IsHonestEntry (public_of_secret secret) earlier (sealed_entry secret earlier batch)
+unfolding sealed_entry
+sealed_entry_is_honest secret earlier batch o accepted signed = record {
+  taken = record { written = o; accepted = accepted; record_is = refl; signed = signed };
+  proofs_are = refl;
+}
+
+abbrev pub Signed : Secret → Entry → Type 0
+Signed secret e = IsSigned (public_of_secret secret) e.rec e.signature
+
+commands_are : (secret : Secret) (earlier : List (List Command)) (batch : List Command) → (sealed_entry secret earlier batch).batch.commands ≡ batch
+unfolding sealed_entry
+commands_are secret earlier batch = refl
+
+owned_after : (secret : Secret) (earlier batches : List (List Command)) → AreOpen batches → AreAcceptedAfter earlier batches
+    → AllByRecursion (Signed secret) (sealed_after secret earlier batches) → AreOwnedAfter (public_of_secret secret) earlier (sealed_after secret earlier batches)
+owned_after secret earlier [] o accepted signed = tt
+owned_after secret earlier (batch ∷ batches) o accepted signed = (
+  sealed_entry_is_honest secret earlier batch o.0 accepted.0 signed.0,
+  subst (λ b. AreOwnedAfter (public_of_secret secret) (earlier ++ b ∷ []) (sealed_after secret (earlier ++ batch ∷ []) batches)) (sym (commands_are secret earlier batch))
+      (owned_after secret (earlier ++ batch ∷ []) batches o.1 accepted.1 signed.1),
+)
+
+-- batches that are accepted are so behind a batch of no commands too
+accepted_behind : (earlier batches : List (List Command)) → AreAcceptedAfter earlier batches → AreAcceptedAfter ([] ∷ earlier) batches
+accepted_behind earlier [] accepted = tt
+accepted_behind earlier (batch ∷ batches) accepted = (
+  subst (λ ts. IsOk (apply_batch batch ts)) (sym (no_tables_before earlier)) accepted.0,
+  accepted_behind (earlier ++ batch ∷ []) batches accepted.1,
+)
+
+pub sealed_are_owned : (secret : Secret) (batches : List (List Command)) → AreOpen batches → AreAcceptedAfter [] batches
+    → AllByRecursion (λ (e : Entry). IsSigned (public_of_secret secret) e.rec e.signature) (sealed secret batches) → AreOwned (public_of_secret secret) (sealed secret batches)
+unfolding sealed AreOwned
+sealed_are_owned secret batches o accepted signed =
+    (commands_are secret [] [], owned_after secret [] ([] ∷ batches) (refl, o) (refl, accepted_behind [] batches accepted) signed)
+
+entry_signed : (secret : Secret) (earlier : List (List Command)) (batch : List Command) → SignsValidly secret → length earlier < leaves_of secret.lms → Signed secret (sealed_entry secret earlier batch)
+unfolding sealed_entry honest_record
+entry_signed secret earlier batch valid there =
+    let v = valid (length earlier) (record_bytes (honest_record (public_of_secret secret) (length earlier) (honest_trees (earlier ++ batch ∷ [])))) there in
+    record { leaf = v.1; valid = v.0 }
+
+signed_each : (secret : Secret) (earlier batches : List (List Command)) → SignsValidly secret → length earlier + length batches ≤ leaves_of secret.lms
+    → AllByRecursion (Signed secret) (sealed_after secret earlier batches)
+signed_each secret earlier [] valid few = tt
+signed_each secret earlier (batch ∷ batches) valid few = (
+  entry_signed secret earlier batch valid (omega arith),
+  signed_each secret (earlier ++ batch ∷ []) batches valid (omega (arith, length-append earlier (batch ∷ []))),
+)
+
+pub sealed_are_signed : (secret : Secret) (batches : List (List Command)) → SignsValidly secret → length batches < leaves_of secret.lms
+    → AllByRecursion (λ (e : Entry). IsSigned (public_of_secret secret) e.rec e.signature) (sealed secret batches)
+unfolding sealed
+sealed_are_signed secret batches valid few = signed_each secret [] ([] ∷ batches) valid (omega arith)
+
+-- A journal of one more batch.
+
+grown_after : (secret : Secret) (earlier batches : List (List Command)) (batch : List Command)
+    → sealed_after secret earlier (batches ++ batch ∷ []) ≡ sealed_after secret earlier batches ++ sealed_entry secret (earlier ++ batches) batch ∷ []
+grown_after secret earlier [] batch = ap (λ bs. sealed_entry secret bs batch ∷ []) (sym (nothing_behind earlier))
+  where
+    nothing_behind : (bs : List (List Command)) → bs ++ [] ≡ bs
+    nothing_behind [] = refl
+    nothing_behind (b ∷ bs) = ap (λ z. b ∷ z) (nothing_behind bs)
+grown_after secret earlier (b ∷ batches) batch =
+    ap (λ es. sealed_entry secret earlier b ∷ es) (grown_after secret (earlier ++ b ∷ []) batches batch
+    ∙ ap (λ bs. sealed_after secret (earlier ++ b ∷ []) batches ++ sealed_entry secret bs batch ∷ []) (append_assoc earlier (b ∷ []) batches))
+
+pub sealed_grows : (secret : Secret) (batches : List (List Command)) (batch : List Command)
+    → sealed secret (batches ++ batch ∷ []) ≡ sealed secret batches ++ sealed_entry secret ([] ∷ batches) batch ∷ []
+unfolding sealed
+sealed_grows secret batches batch = grown_after secret [] ([] ∷ batches) batch
+
+batches_after : (secret : Secret) (earlier batches : List (List Command)) → batches_of (sealed_after secret earlier batches) ≡ batches
+batches_after secret earlier [] = refl
+batches_after secret earlier (batch ∷ batches) = rw (commands_are secret earlier batch, batches_after secret (earlier ++ batch ∷ []) batches) refl
+
+pub batches_sealed : (secret : Secret) (batches : List (List Command)) → batches_of (sealed secret batches) ≡ [] ∷ batches
+unfolding sealed
+batches_sealed secret batches = batches_after secret [] ([] ∷ batches)
+
+-- Its entries fit, where the signatures do.
+
+abbrev ShortlySigned : Entry → Type 0
+ShortlySigned e = length e.signature ≤ most_signature
+
+fit_after : (secret : Secret) (earlier batches : List (List Command)) → length secret.id ≡ 16 → AllByRecursion FitsBatch earlier → AreOpen earlier
+    → AllByRecursion FitsBatch batches → AreOpen batches → length earlier + length batches ≤ 2 ^ 64
+    → AllByRecursion ShortlySigned (sealed_after secret earlier batches) → AllByRecursion FitsEntry (sealed_after secret earlier batches)
+fit_after secret earlier [] sixteen earlier_fit earlier_open fits o few short = tt
+fit_after secret earlier (batch ∷ batches) sixteen earlier_fit earlier_open fits o few short = (
+  sealed_entry_fits secret earlier batch sixteen earlier_fit earlier_open fits.0 o.0 (omega arith) short.0,
+  fit_after secret (earlier ++ batch ∷ []) batches sixteen (each_both FitsBatch earlier (batch ∷ []) earlier_fit (fits.0, tt))
+      (each_both (λ b. IsTrue (list_all is_open_command b)) earlier (batch ∷ []) earlier_open (o.0, tt)) fits.1 o.1
+      (omega (arith, length-append earlier (batch ∷ []))) short.1,
+)
+
+pub sealed_fit : (secret : Secret) (batches : List (List Command)) → length secret.id ≡ 16 → AllByRecursion FitsBatch batches → AreOpen batches → length batches < 2 ^ 64
+    → AllByRecursion (λ (e : Entry). length e.signature ≤ most_signature) (sealed secret batches) → AllByRecursion FitsEntry (sealed secret batches)
+unfolding sealed
+sealed_fit secret batches sixteen fits o few short = fit_after secret [] ([] ∷ batches) sixteen tt tt (no_commands_fit, fits) (refl, o) (omega arith) short
