@@ -32,7 +32,7 @@ unplaced_is [] = refl
 unplaced_is (x ∷ list) = ap (λ z. token_of x ∷ z) (unplaced_is list)
 
 -- one value or fault of the tokens is no other
-same_ok : {A E : Type 0} (x y : A) (r : Result A E) → r ≡ Ok x → r ≡ Ok y → x ≡ y
+pub same_ok : {A E : Type 0} (x y : A) (r : Result A E) → r ≡ Ok x → r ≡ Ok y → x ≡ y
 same_ok x y r e f = cc
 
 ok_is_no_err : {T A : Type 0} (v : A) (s : Stop) (left : List T) (r : Found T A) → r ≡ (Err s, left) → r ≡ (Ok v, []) → ⊥

@@ -4,3 +4,11 @@ pub mod Conds
 pub mod Repeats
 pub mod Good
 pub mod Answered
+pub mod LongBatches
+pub mod Places
+pub mod Made
+pub mod TokenFits
+pub mod TokenSounds
+pub mod TokenEnds
+pub mod BatchFits
+pub mod QueryFits

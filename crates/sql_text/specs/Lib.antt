@@ -1,7 +1,10 @@
 pub mod Tokens
 pub mod Rules
 pub mod Queries
+pub mod WholeTables
 pub mod Commands
 pub mod Parsing
 pub mod Texts
+pub mod Scripts
+pub mod Fits
 pub mod Faults

@@ -10,11 +10,12 @@ ghost use Rattle.vo_spec.specs.declared.values.Value.{Value};
 ghost use Rattle.vo_spec.specs.declared.tables.Column.{Column};
 ghost use Rattle.vo_spec.specs.declared.tables.SetPart.{SetPart};
 ghost use Rattle.vo_spec.specs.declared.tables.Command.{Command};
+ghost use Rattle.vo_spec.specs.declared.tables.Batch.{Batch};
 ghost use Rattle.sql_text.specs.Tokens.{sql};
 ghost use Rattle.sql_text.specs.Parsing.{left_of, Reads};
 ghost use Rattle.sql_text.specs.Rules.{before, closed, in_parens, optional, listed, ended};
 ghost use Rattle.sql_text.specs.Queries.{name, literal};
-ghost use Rattle.sql_text.specs.Commands.{column_kind, column, create, drop_table, insert, set_part, update, delete, command, batch};
+ghost use Rattle.sql_text.specs.Commands.{column_kind, column, create, drop_table, insert, set_part, update, delete, command, batch, script};
 
 use crate::halt::Halt;
 use crate::parser::Parser;
@@ -329,5 +330,31 @@ impl<'a> Parser<'a> {
     {
         let commands = List::from_vec(self.commands(alloc)?);
         Ok(Batch { commands })
+    }
+
+    /// A batch, its COMMIT and the semicolon behind that.
+    #[tactic(auto, unfolding(crate::specs::Rules::closed))]
+    fn committed_batch(&mut self, alloc: Global) -> Result<Batch, Halt>
+        ensures value { Reads (λ x. x) (closed (closed batch k.Commit) k.Semicolon) self.old result self.new }
+        ensures levels { self.new.levels ≡ self.old.levels }
+        ensures list { self.new.list.now ≡ self.old.list.now }
+    {
+        let batch = self.batch(alloc)?;
+        self.want(TokenKind::Commit)?;
+        self.want(TokenKind::Semicolon)?;
+        Ok(batch)
+    }
+
+    /// Any number of batches.
+    pub fn script(&mut self, alloc: Global) -> Result<Vec<Batch>, Halt>
+        ensures value { Reads (λ (v : Vec Batch Global). v.items) script self.old result self.new }
+        ensures levels { self.new.levels ≡ self.old.levels }
+        ensures list { self.new.list.now ≡ self.old.list.now }
+    {
+        let mut list = Vec::new(alloc);
+        'parts: while self.sees_command() {
+            list.push(self.committed_batch(alloc)?)?;
+        }
+        Ok(list)
     }
 }

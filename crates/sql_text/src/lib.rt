@@ -8,10 +8,14 @@ mod halt;
 mod names;
 mod parser;
 mod queries;
+mod scripts;
 mod texts;
+mod whole_tables;
 
 pub use faults::SqlFault;
+pub use scripts::{SCRIPT_MAX, parse_script};
 pub use texts::{TEXT_MAX, parse_batch, parse_query};
+pub use whole_tables::parse_whole_table;
 
 #[cfg(test)]
 mod tests;

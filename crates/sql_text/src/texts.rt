@@ -1,11 +1,12 @@
 //! Whole texts.
-ghost use Rattle.std.specs.Prelude.{◌≡◌, drop, map};
+ghost use Rattle.std.specs.Prelude.{◌≡◌, drop, map, IfOk};
 ghost use Rattle.sql_tokens.specs.Lex.{placed_of};
-ghost use Rattle.vo_spec.specs.Conditions.{Query, query_of};
+ghost use Rattle.vo_spec.specs.Conditions.{Query, query_of, FitsQuery};
 ghost use Rattle.vo_spec.specs.declared.tables.Batch.{Batch};
 ghost use Rattle.sql_text.specs.Queries.{query};
 ghost use Rattle.sql_text.specs.Commands.{batch};
 ghost use Rattle.sql_text.specs.Texts.{most_bytes, ended, IsTextOf, Answers, Accepts};
+ghost use Rattle.sql_text.specs.Fits.{FitCommands};
 
 use crate::faults::{SqlFault, of_tokens};
 use crate::halt::Halt;
@@ -23,7 +24,7 @@ const LEVELS_MAX: usize = 32;
 
 impl<'a> Parser<'a> {
     /// A parser at the first of these tokens.
-    fn new(list: &'a [Lexeme<'a>]) -> Parser<'a>
+    pub fn new(list: &'a [Lexeme<'a>]) -> Parser<'a>
         ensures list { result.list.now ≡ list.now }
         ensures place { result.place ≡ 0 }
         ensures levels { result.levels ≡ 32 }
@@ -37,7 +38,7 @@ impl<'a> Parser<'a> {
 
     /// The tokens that are left.
     #[tactic(auto, using(crate::proofs::Answered::drop_all))]
-    fn left(&self) -> &'a [Lexeme<'a>]
+    pub fn left(&self) -> &'a [Lexeme<'a>]
         ensures { result.now ≡ drop self.now.place self.now.list.now }
     {
         let (_, left) = self.list.split_at(self.place.min(self.list.len()));
@@ -46,7 +47,11 @@ impl<'a> Parser<'a> {
 }
 
 /// The answer by what the parser found: a text has no tokens behind its value.
-fn ended<T: Drop>(found: Result<T, Halt>, left: &[Lexeme<'_>], end: usize) -> Result<T, SqlFault>
+pub fn ended<T: Drop>(
+    found: Result<T, Halt>,
+    left: &[Lexeme<'_>],
+    end: usize,
+) -> Result<T, SqlFault>
     ensures { result ≡ ended found (map placed_of left.now) end }
 {
     let place = match left.first() {
@@ -67,6 +72,7 @@ fn ended<T: Drop>(found: Result<T, Halt>, left: &[Lexeme<'_>], end: usize) -> Re
 pub fn parse_query(alloc: Global, text: &str) -> Result<QueryText, SqlFault>
     ensures found { Answers query_of most_bytes query text.now result }
     ensures only { (q : Query) → IsTextOf most_bytes query text.now q → Accepts query_of result q }
+    ensures fits { IfOk result (λ q. FitsQuery (query_of q)) }
 {
     let bytes = text.as_bytes();
     if bytes.len() > TEXT_MAX {
@@ -85,6 +91,7 @@ pub fn parse_query(alloc: Global, text: &str) -> Result<QueryText, SqlFault>
 pub fn parse_batch(alloc: Global, text: &str) -> Result<Batch, SqlFault>
     ensures found { Answers (λ x. x) most_bytes batch text.now result }
     ensures only { (b : Batch) → IsTextOf most_bytes batch text.now b → Accepts (λ x. x) result b }
+    ensures fits { IfOk result (λ b. FitCommands b.commands) }
 {
     let bytes = text.as_bytes();
     if bytes.len() > TEXT_MAX {

@@ -2,9 +2,11 @@ use Rattle.std.proofs.Common.{sym, ap, ◌∙◌, subst, arith, ◌≤◌, lengt
 use Rattle.std.specs.Prelude.{Err}
 use Rattle.sql_tokens.specs.Lex.{tokens_of, Scans}
 use Rattle.sql_text.specs.Commands.{batch}
-use Rattle.sql_text.specs.Texts.{Answers, HasFault}
+use Rattle.sql_text.specs.Texts.{HasFault}
 use Rattle.sql_text.proofs.Good.{batch_good}
 use Rattle.sql_text.proofs.Answered.{lapsed, whole}
+use Rattle.sql_text.proofs.TokenEnds.{utf8_tokens}
+use Rattle.sql_text.proofs.BatchFits.{answer_batch_fits}
 use Rattle.sql_text.proofs.texts.parse_batch.Goals as goal
 
 pub returns-in-Err-clause-found : goal.returns-in-Err-clause-found
@@ -26,3 +28,6 @@ returns-clause-only c =
     (whole (λ x. x) batch batch_good 65536 c.args.text.now c.as_bytes-bytes.result.now c.in-Ok.list.items c.left.result.now c.new-parser.result c.batch-found.new.self c.batch-found.result c.ended.result
     c.as_bytes-bytes.ensures.value fits c.in-Ok.ensures (c.new-parser.ensures.list ∙ c.as_slice.ensures.value) c.new-parser.ensures.place c.new-parser.ensures.levels
     c.batch-found.ensures.value c.batch-found.ensures.list c.left.ensures c.ended.ensures).1
+
+pub returns-clause-fits : goal.returns-clause-fits
+returns-clause-fits c = answer_batch_fits 65536 c.args.text.now c.ended.result (returns-clause-found c) (utf8_tokens c.args.text.now c.utf8.text)

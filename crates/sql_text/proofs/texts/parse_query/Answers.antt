@@ -3,9 +3,10 @@ use Rattle.std.specs.Prelude.{Err}
 use Rattle.sql_tokens.specs.Lex.{tokens_of, Scans}
 use Rattle.vo_spec.specs.Conditions.{query_of}
 use Rattle.sql_text.specs.Queries.{query}
-use Rattle.sql_text.specs.Texts.{Answers, HasFault}
+use Rattle.sql_text.specs.Texts.{HasFault}
 use Rattle.sql_text.proofs.Good.{query_good}
 use Rattle.sql_text.proofs.Answered.{lapsed, whole}
+use Rattle.sql_text.proofs.QueryFits.{answer_fits}
 use Rattle.sql_text.proofs.texts.parse_query.Goals as goal
 
 pub returns-in-Err-clause-found : goal.returns-in-Err-clause-found
@@ -27,3 +28,6 @@ returns-clause-only c =
     (whole query_of query query_good 65536 c.args.text.now c.as_bytes-bytes.result.now c.in-Ok.list.items c.left.result.now c.new-parser.result c.query-found.new.self c.query-found.result c.ended.result
     c.as_bytes-bytes.ensures.value fits c.in-Ok.ensures (c.new-parser.ensures.list ∙ c.as_slice.ensures.value) c.new-parser.ensures.place c.new-parser.ensures.levels
     c.query-found.ensures.value c.query-found.ensures.list c.left.ensures c.ended.ensures).1
+
+pub returns-clause-fits : goal.returns-clause-fits
+returns-clause-fits c = answer_fits 65536 c.args.text.now c.ended.result (returns-clause-found c)

@@ -1,0 +1,29 @@
+use Rattle.std.proofs.Common.{sym, ap, ◌∙◌, subst, arith, ◌≤◌, length}
+use Rattle.std.specs.Prelude.{Err}
+use Rattle.sql_tokens.specs.Lex.{tokens_of, Scans}
+use Rattle.vo_spec.specs.Conditions.{query_of}
+use Rattle.sql_text.specs.WholeTables.{whole_table}
+use Rattle.sql_text.specs.Texts.{Answers, HasFault}
+use Rattle.sql_text.proofs.Good.{whole_table_good}
+use Rattle.sql_text.proofs.Answered.{lapsed, whole}
+use Rattle.sql_text.proofs.whole_tables.parse_whole_table.Goals as goal
+
+pub returns-in-Err-clause-found : goal.returns-in-Err-clause-found
+returns-in-Err-clause-found c =
+    let fits : length c.args.text.now ≤ 65536 = omega (arith, ap length c.as_bytes-bytes.ensures.value) in
+    subst (HasFault 65536 whole_table c.args.text.now) (sym c.of_tokens.ensures)
+    (lapsed whole_table 65536 c.args.text.now c.in-Err.fault fits (subst (λ z. Scans (tokens_of z) (Err c.in-Err.fault)) c.as_bytes-bytes.ensures.value c.in-Err.ensures))
+
+pub returns-clause-found : goal.returns-clause-found
+returns-clause-found c =
+    let fits : length c.as_bytes-bytes.result.now ≤ 65536 = omega arith in
+    (whole query_of whole_table whole_table_good 65536 c.args.text.now c.as_bytes-bytes.result.now c.in-Ok.list.items c.left.result.now c.new-parser.result c.whole_table-found.new.self c.whole_table-found.result c.ended.result
+    c.as_bytes-bytes.ensures.value fits c.in-Ok.ensures (c.new-parser.ensures.list ∙ c.as_slice.ensures.value) c.new-parser.ensures.place c.new-parser.ensures.levels
+    c.whole_table-found.ensures.value c.whole_table-found.ensures.list c.left.ensures c.ended.ensures).0
+
+pub returns-clause-only : goal.returns-clause-only
+returns-clause-only c =
+    let fits : length c.as_bytes-bytes.result.now ≤ 65536 = omega arith in
+    (whole query_of whole_table whole_table_good 65536 c.args.text.now c.as_bytes-bytes.result.now c.in-Ok.list.items c.left.result.now c.new-parser.result c.whole_table-found.new.self c.whole_table-found.result c.ended.result
+    c.as_bytes-bytes.ensures.value fits c.in-Ok.ensures (c.new-parser.ensures.list ∙ c.as_slice.ensures.value) c.new-parser.ensures.place c.new-parser.ensures.levels
+    c.whole_table-found.ensures.value c.whole_table-found.ensures.list c.left.ensures c.ended.ensures).1
