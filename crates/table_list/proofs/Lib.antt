@@ -9,3 +9,8 @@ pub mod Applied
 pub mod ReaderLaws
 pub mod BatchLaws
 pub mod Fitting
+pub mod FirstLaws
+pub mod Passing
+pub mod ShownLaws
+pub mod PlainLaws
+pub mod ResultLaws

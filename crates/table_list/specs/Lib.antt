@@ -6,3 +6,9 @@ pub mod Named
 pub mod Changes
 pub mod Batched
 pub mod BatchReading
+pub mod Sided
+pub mod Binding
+pub mod Shown
+pub mod KeyWidths
+pub mod Answers
+pub mod PlainLines

@@ -4,7 +4,7 @@ ghost use Rattle.std.specs.List.{AllByRecursion, flat_map};
 ghost use Rattle.vo_spec.specs.Bytes.{short_string};
 ghost use Rattle.vo_spec.specs.Names.{FitsName};
 ghost use Rattle.vo_spec.specs.Values.{value_bytes, type_byte, FitsValue};
-ghost use Rattle.vo_spec.specs.Batches.{counted, column_bytes, set_bytes, command_bytes, batch_bytes, FitCounted, FitsColumn, FitsSet, FitsCommand, FitsBatch};
+ghost use Rattle.vo_spec.specs.Batches.{counted, column_bytes, set_bytes, command_bytes, batch_bytes, FitCounted, FitsColumn, FitsSet, FitsCommand, most_commands};
 
 use row_bytes::put_value;
 use std::alloc::{AllocError, Global};
@@ -128,10 +128,11 @@ fn put_command(out: &mut Vec<u8>, command: &Command) -> Result<(), AllocError>
     }
 }
 
-/// The batch's bytes.
+/// The batch's bytes, be they within the limit of a batch or not.
 #[tactic(auto, unfolding(vo_spec::specs::Batches::batch_bytes))]
 pub fn batch_bytes(alloc: Global, batch: &Batch) -> Result<Vec<u8>, AllocError>
-    requires { FitsBatch batch.now.commands }
+    requires count { length batch.now.commands ≤ most_commands }
+    requires each { AllByRecursion FitsCommand batch.now.commands }
     ensures { IfOk result (λ bytes. bytes.items ≡ batch_bytes batch.now.commands) }
 {
     let mut out = Vec::new(alloc);

@@ -8,7 +8,7 @@ use std::alloc::{AllocError, Global};
 use vo_spec::{List, Schema, SetPart, Value};
 
 /// The place of a column's cell, its number among those that aren't the key.
-pub(crate) fn cell_number(key: usize, column: usize) -> usize
+pub fn cell_number(key: usize, column: usize) -> usize
     ensures { result ≡ cell_number key column }
 {
     if column < key {

@@ -13,7 +13,8 @@ use row_bytes::{copy_onto, key_of};
 use std::alloc::{AllocError, Global};
 use vo_spec::{CommandFault, Key, List, Name, Row, Schema, SetPart, Value};
 
-fn key_at(alloc: Global, values: &[Value], number: usize) -> Result<Key, AllocError>
+/// The key of the value of this number, past the end that of FALSE.
+pub fn key_at(alloc: Global, values: &[Value], number: usize) -> Result<Key, AllocError>
     ensures { IfOk result (λ key. key ≡ key_of (value_at values.now number)) }
 {
     match values.get(number) {
@@ -36,7 +37,8 @@ fn others(alloc: Global, values: &[Value], number: usize) -> Result<List<Value>,
     Ok(List::from_vec(cells))
 }
 
-fn row_of(alloc: Global, schema: &Schema, values: &[Value]) -> Result<Row, AllocError>
+/// The row of a full list of values.
+pub fn row_of(alloc: Global, schema: &Schema, values: &[Value]) -> Result<Row, AllocError>
     ensures { IfOk result (λ row. row ≡ row_of schema.now values.now) }
 {
     let number = schema.key as usize;

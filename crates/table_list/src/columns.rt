@@ -9,7 +9,7 @@ use std::alloc::{AllocError, Global};
 use vo_spec::{Column, Kind, List, Name, Schema, Value, ValueRef};
 
 /// The number of the column of this name, or else how many there are.
-pub(crate) fn column_number(columns: &[Column], name: &[u8]) -> usize
+pub fn column_number(columns: &[Column], name: &[u8]) -> usize
     ensures number { result ≡ column_number columns.now name.now }
     ensures bound { result ≤ length columns.now }
 {
@@ -75,6 +75,16 @@ pub fn kind_at(columns: &[Column], number: usize) -> Kind
     }
 }
 
+/// The name of the column of this number, past the end nothing.
+pub(crate) fn name_at(columns: &[Column], number: usize) -> &[u8]
+    ensures { result.now ≡ (column_at columns.now number).name }
+{
+    match columns.get(number) {
+        Some(column) => column.name.as_bytes(),
+        None => &[],
+    }
+}
+
 /// Whether the value is of the kind of the column of this name.
 pub(crate) fn suits(columns: &[Column], name: &[u8], value: &Value) -> bool
     ensures { result ≡ suits columns.now name.now value.now }
@@ -134,7 +144,7 @@ pub(crate) fn is_bad_schema(columns: &[Column], key: &[u8]) -> bool
 }
 
 /// The columns, each copied.
-pub(crate) fn copy_columns(alloc: Global, columns: &[Column]) -> Result<List<Column>, AllocError>
+pub fn copy_columns(alloc: Global, columns: &[Column]) -> Result<List<Column>, AllocError>
     ensures { IfOk result (λ copy. copy ≡ columns.now) }
 {
     let mut copy = Vec::with_capacity(alloc, columns.len())?;
@@ -147,7 +157,7 @@ pub(crate) fn copy_columns(alloc: Global, columns: &[Column]) -> Result<List<Col
     Ok(List::from_vec(copy))
 }
 
-pub(crate) fn copy_name(alloc: Global, name: &Name) -> Result<Name, AllocError>
+pub fn copy_name(alloc: Global, name: &Name) -> Result<Name, AllocError>
     ensures { IfOk result (λ copy. copy ≡ name.now) }
 {
     Ok(Name::from_vec(Vec::from_slice(alloc, name.as_bytes())?))

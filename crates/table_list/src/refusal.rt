@@ -125,7 +125,7 @@ pub(crate) fn delete_fault(
 
 /// The first of a command's tests that holds, but for those that need the rows. `found` is the table that
 /// the command names, where it is there, and `tables` how many tables there are.
-pub fn refusal(
+pub fn first_refusal(
     command: &Command,
     found: Option<HeadingRef<'_>>,
     tables: usize,

@@ -1,0 +1,15 @@
+//! Rows as the value of each column.
+ghost use Rattle.std.specs.Prelude.{◌≡◌, ℕ};
+ghost use Rattle.vo_spec.specs.declared.values.Value.{Value as Plain};
+ghost use Rattle.vo_spec.specs.Lent.{value_of};
+
+use vo_spec::ValueRef;
+
+/// A row of one source, as the value of each column.
+pub trait Line {
+    ghost line: { Self → ℕ → Plain };
+
+    /// The value of the column of this number.
+    fn field(&self, column: usize) -> ValueRef<'_>
+        ensures { value_of result ≡ line self.now column };
+}
