@@ -5,6 +5,7 @@ mod branch_digest;
 mod branches;
 mod entries;
 mod hashing;
+mod lending;
 mod part_digest;
 mod parts;
 mod preimages;
@@ -13,6 +14,7 @@ mod tree;
 
 pub use branches::{Branch, Node};
 pub use entries::{HashedCells, TreeEntry};
+pub use lending::lend_keys;
 pub use parts::{Nodes, PartTree};
 pub use tree::Tree;
 pub use vo_spec::{Agreement, KeyPart, PartEntry, ScanFault, Twins, UpdateFault};

@@ -1,3 +1,4 @@
 pub mod KeyLists
 pub mod Putting
 pub mod Splitting
+pub mod OpenPaths

@@ -1,2 +1,3 @@
 pub mod Changing
 pub mod Placing
+pub mod Closing

@@ -6,7 +6,9 @@ mod grown;
 mod inserting;
 mod leaves;
 mod nodes;
+mod proving;
 mod sharing;
 
 pub use inserting::insert;
+pub use proving::insert_proof;
 pub use vo_spec::UpdateFault;

@@ -11,7 +11,7 @@ ghost use Rattle.range_proof.specs.Lending.{lent_need};
 use crate::going::{going_in, going_on};
 use crate::naming::named;
 use attr_digest::hide_cells;
-use mb_tree::{Branch, Node, Nodes, PartTree, Tree, TreeEntry};
+use mb_tree::{Branch, Node, Nodes, PartTree, Tree, TreeEntry, lend_keys};
 use std::alloc::{AllocError, Global};
 use std::rc::Rc;
 use vo_spec::{Key, KeyPart, List, Need, PartEntry, RowPart};
@@ -82,16 +82,6 @@ fn separator_at(separators: &[Rc<Key>], place: usize) -> Option<&[u8]>
         Some(separator) => Some(separator.as_ref().as_bytes()),
         None => None,
     }
-}
-
-fn lend_keys<'b>(alloc: Global, keys: &'b [Rc<Key>]) -> Result<List<KeyPart<'b>>, AllocError>
-    ensures { IfOk result (λ lent. lent ≡ map value_of keys.now) }
-{
-    let mut lent = Vec::with_capacity(alloc, keys.len())?;
-    for key in keys {
-        lent.push(KeyPart::lent(key.as_ref().as_bytes()))?;
-    }
-    Ok(List::from_vec(lent))
 }
 
 fn prune_entries<'b>(

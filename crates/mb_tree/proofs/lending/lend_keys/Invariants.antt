@@ -1,6 +1,6 @@
 use Rattle.std.proofs.Common.{◌≡◌, map, take}
 use Rattle.mb_tree.specs.Whole.{value_of}
-use Rattle.range_proof.proofs.pruning.lend_keys.Given as goal
+use Rattle.mb_tree.proofs.lending.lend_keys.Given as goal
 
 -- the keys so far
 abbrev pub invariant-loop-key : goal.invariant-loop-key

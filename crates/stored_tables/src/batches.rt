@@ -1,0 +1,90 @@
+//! What batches make of tables.
+ghost use Rattle.std.specs.Prelude.{◌≡◌, ◌≤◌, IsTrue, List, Ok, length, IfOk};
+ghost use Rattle.std.specs.List.{AllByRecursion, list_all};
+ghost use Rattle.vo_spec.specs.Batches.{FitsCommand};
+ghost use Rattle.vo_spec.specs.declared.tables.Table.{Table as PlainTable};
+ghost use Rattle.vo_spec.specs.Honest.{StandForTables, is_open_command, work_all};
+ghost use Rattle.table_list.specs.Batched.{BatchGives};
+ghost use Rattle.stored_tables.specs.View.{stored_in};
+ghost use Rattle.stored_tables.specs.Standing.{IsStanding};
+ghost use Rattle.vo_spec.specs.Tables.{apply_batch as apply_plain};
+ghost use Rattle.vo_laws.proofs.CommandLaws.{FitTables};
+ghost use Rattle.stored_tables.specs.Working.{work_from};
+ghost use Rattle.stored_tables.specs.Plain.{GivesPlain};
+
+use crate::table::StoredTable;
+use crate::working::worked;
+use std::alloc::{AllocError, Global};
+use std::rc::Rc;
+use table_list::{ApplyFault, BatchFault, spliced};
+use vo_spec::{Batch, Command};
+
+/// Whether each command makes a table, drops one or inserts a row.
+pub fn is_open(batch: &Batch) -> bool
+    ensures { result ≡ list_all is_open_command batch.now.commands }
+{
+    for command in batch.commands.as_slice() {
+        if matches!(command, Command::Update { .. } | Command::Delete { .. }) {
+            return false;
+        }
+    }
+    true
+}
+
+/// The same tables once more.
+pub(crate) fn shared(
+    alloc: Global,
+    tables: &[Rc<StoredTable>],
+) -> Result<Vec<Rc<StoredTable>>, AllocError>
+    requires { IsStanding (stored_in tables.now) }
+    ensures same { IfOk result (λ new. stored_in new.items ≡ stored_in tables.now) }
+    ensures standing { IfOk result (λ new. IsStanding (stored_in new.items)) }
+{
+    Ok(spliced(alloc, tables, 0, 0, &[])?)
+}
+
+/// The tables after a list of commands.
+fn worked_in_turn(
+    alloc: Global,
+    tables: &[Rc<StoredTable>],
+    commands: &[Command],
+) -> Result<Vec<Rc<StoredTable>>, BatchFault>
+    requires standing { IsStanding (stored_in tables.now) }
+    requires fits { AllByRecursion FitsCommand commands.now }
+    requires kept { IsTrue (list_all is_open_command commands.now) }
+    requires count { length commands.now ≤ 1000 }
+    ensures answer { BatchGives (λ new. stored_in new.items) result (work_from 0 commands.now (stored_in tables.now)) }
+    ensures standing { IfOk result (λ new. IsStanding (stored_in new.items)) }
+{
+    let mut new = shared(alloc, tables)?;
+    for (index, command) in commands.iter().enumerate() {
+        match worked(alloc, new.as_slice(), command) {
+            Ok(next) => new = next,
+            Err(ApplyFault::Refused(fault)) => {
+                let index = index as u64;
+                return Err(BatchFault::Command { index, fault });
+            },
+            Err(ApplyFault::Memory) => return Err(BatchFault::Memory),
+        }
+    }
+    Ok(new)
+}
+
+/// The tables after a batch, and what that says of the plain tables for which they stand.
+pub(crate) fn worked_batch(
+    alloc: Global,
+    tables: &[Rc<StoredTable>],
+    commands: &[Command],
+) -> Result<Vec<Rc<StoredTable>>, BatchFault>
+    requires standing { IsStanding (stored_in tables.now) }
+    requires fits { AllByRecursion FitsCommand commands.now }
+    requires kept { IsTrue (list_all is_open_command commands.now) }
+    requires count { length commands.now ≤ 1000 }
+    ensures answer { BatchGives (λ new. stored_in new.items) result (work_from 0 commands.now (stored_in tables.now)) }
+    ensures standing { IfOk result (λ new. IsStanding (stored_in new.items)) }
+    ensures done { IfOk result (λ new. work_all commands.now (stored_in tables.now) ≡ Ok (stored_in new.items)) }
+    ensures plain { (plain : List PlainTable) → StandForTables (stored_in tables.now) plain → FitTables plain
+        → GivesPlain (λ new. stored_in new.items) result (apply_plain commands.now plain) }
+{
+    worked_in_turn(alloc, tables, commands)
+}

@@ -1,0 +1,110 @@
+//! Tables with one of them new, changed or dropped.
+ghost use Rattle.std.specs.Prelude.{◌≡◌, ◌<◌, ◌≤◌, ◌^◌, ◌-◌, ◌+◌, ◌++◌, ◌∷◌, [], not, bytes_eq, length, take, drop, filter, IfOk};
+ghost use Rattle.vo_spec.specs.declared.tables.Command.TheVariants.{Insert};
+ghost use Rattle.vo_spec.specs.Tables.{column_number, row_of as row_from};
+ghost use Rattle.vo_spec.specs.Fits.{FitsRow};
+ghost use Rattle.vo_spec.specs.Parts.{leaf, entries};
+ghost use Rattle.vo_spec.specs.Honest.{put_stored};
+ghost use Rattle.table_list.specs.Changes.{Gives};
+ghost use Rattle.stored_tables.specs.View.{stored_in, stored_of};
+ghost use Rattle.stored_tables.specs.Working.{made_stored, table_after};
+
+use crate::placing::place_for;
+use crate::table::{StoredTable, copy_schema};
+use mb_tree::Tree;
+use mb_update::{UpdateFault, insert};
+use std::alloc::{AllocError, Global};
+use std::rc::Rc;
+use table_list::{ApplyFault, column_number, copy_columns, copy_name, row_of, spliced};
+use vo_spec::{Column, CommandFault, Name, Schema, Value};
+
+/// The table that a CREATE makes.
+pub(crate) fn new_table(
+    alloc: Global,
+    name: &Name,
+    columns: &[Column],
+    key: &Name,
+) -> Result<StoredTable, AllocError>
+    requires { length columns.now ≤ 32 }
+    ensures { IfOk result (λ table. stored_of table ≡ made_stored name.now columns.now key.now) }
+{
+    let number = column_number(columns, key.as_bytes()) as u8;
+    Ok(StoredTable {
+        name: copy_name(alloc, name)?,
+        schema: Schema {
+            columns: copy_columns(alloc, columns)?,
+            key: number,
+        },
+        tree: Tree::new(alloc)?,
+    })
+}
+
+/// The tables with a new one.
+pub(crate) fn with_table(
+    alloc: Global,
+    tables: &[Rc<StoredTable>],
+    table: StoredTable,
+) -> Result<Vec<Rc<StoredTable>>, AllocError>
+    ensures { IfOk result (λ new. stored_in new.items ≡ put_stored (stored_of table) (stored_in tables.now)) }
+{
+    let at = place_for(tables, &table);
+    let table = [Rc::new(alloc, table)?];
+    Ok(spliced(alloc, tables, at, at, &table)?)
+}
+
+/// The tables but for those of this name.
+pub(crate) fn without_table(
+    alloc: Global,
+    tables: &[Rc<StoredTable>],
+    name: &[u8],
+) -> Result<Vec<Rc<StoredTable>>, AllocError>
+    ensures { IfOk result (λ new. stored_in new.items ≡ filter (λ s. not (bytes_eq s.name name.now)) (stored_in tables.now)) }
+{
+    let mut others = Vec::new(alloc);
+    for table in tables {
+        if table.name.as_bytes() != name {
+            others.push(table.clone()?)?;
+        }
+    }
+    Ok(others)
+}
+
+/// The tables with another in the place of one.
+pub(crate) fn exchanged(
+    alloc: Global,
+    tables: &[Rc<StoredTable>],
+    at: usize,
+    table: StoredTable,
+) -> Result<Vec<Rc<StoredTable>>, AllocError>
+    requires { at < length tables.now }
+    ensures { IfOk result (λ new. stored_in new.items
+        ≡ take at (stored_in tables.now) ++ stored_of table ∷ drop (at + 1) (stored_in tables.now)) }
+{
+    let table = [Rc::new(alloc, table)?];
+    Ok(spliced(alloc, tables, at, at + 1, &table)?)
+}
+
+/// The table with a row of these values.
+pub(crate) fn with_row(
+    alloc: Global,
+    table: &StoredTable,
+    values: &[Value],
+) -> Result<StoredTable, ApplyFault>
+    requires fits { FitsRow (row_from table.now.schema values.now) }
+    requires room { length (entries table.now.tree) < 2 ^ 32 - 1 }
+    ensures { Gives stored_of result (table_after (Insert [] values.now) (stored_of table.now)) }
+{
+    let row = row_of(alloc, &table.schema, values)?;
+    match insert(alloc, &table.tree, &row) {
+        Ok(tree) => Ok(StoredTable {
+            name: copy_name(alloc, &table.name)?,
+            schema: copy_schema(alloc, &table.schema)?,
+            tree,
+        }),
+        Err(UpdateFault::DuplicateKey) => Err(ApplyFault::Refused(CommandFault::DuplicateKey)),
+        Err(UpdateFault::Memory) => Err(ApplyFault::Memory),
+        Err(UpdateFault::NoRow | UpdateFault::Missing) => Err(ApplyFault::Refused(
+            CommandFault::NoRow,
+        )),
+    }
+}

@@ -1,0 +1,22 @@
+//! The tables of an owner or a store, each as its whole tree, and what commands and batches make of them.
+#![tactic(auto)]
+
+mod batches;
+mod catalogs;
+mod changing;
+mod command_proofs;
+mod placing;
+mod plain;
+mod refusing;
+mod table;
+mod tables;
+mod working;
+
+pub use batches::is_open;
+pub use table::StoredTable;
+pub use table_list::{ApplyFault, BatchFault};
+pub use tables::StoredTables;
+pub use vo_spec::{Batch, Catalog, Command, CommandFault, Table};
+
+#[cfg(test)]
+mod tests;

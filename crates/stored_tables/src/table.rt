@@ -1,0 +1,47 @@
+//! A table as its tree.
+ghost use Rattle.std.specs.Prelude.{◌≡◌, IfOk};
+ghost use Rattle.vo_spec.specs.Fits.{FitsPart};
+ghost use Rattle.vo_spec.specs.Honest.{stored_heading};
+ghost use Rattle.table_list.specs.Headings.{heading_seen};
+ghost use Rattle.stored_tables.specs.View.{stored_of};
+
+use mb_tree::Tree;
+use std::alloc::{AllocError, Global};
+use table_list::{HeadingRef, copy_columns};
+use vo_spec::{Name, Schema};
+
+/// A table of rows, which its tree has.
+#[derive(Drop)]
+pub struct StoredTable {
+    pub name: Name,
+    pub schema: Schema,
+    pub tree: Tree,
+}
+
+impl StoredTable {
+    /// The nodes of the tree are within their limits.
+    pub(crate) fn see_limits(&self)
+        ensures { FitsPart self.now.tree }
+    {
+        let _digest = self.tree.root().node_digest();
+    }
+
+    pub(crate) fn heading(&self) -> HeadingRef<'_>
+        ensures { heading_seen result ≡ stored_heading (stored_of self.now) }
+    {
+        HeadingRef {
+            name: self.name.as_bytes(),
+            schema: &self.schema,
+            count: self.tree.row_count(),
+        }
+    }
+}
+
+pub(crate) fn copy_schema(alloc: Global, schema: &Schema) -> Result<Schema, AllocError>
+    ensures { IfOk result (λ copy. copy ≡ schema.now) }
+{
+    Ok(Schema {
+        columns: copy_columns(alloc, schema.columns.as_slice())?,
+        key: schema.key,
+    })
+}

@@ -1,0 +1,94 @@
+//! What commands make of tables.
+ghost use Rattle.std.specs.Prelude.{◌≡◌, ◌≤◌, IsTrue, None, length, map, IfOk};
+ghost use Rattle.vo_spec.specs.declared.tables.Command.TheVariants.{Create, Insert};
+ghost use Rattle.vo_spec.specs.Tables.{refusal};
+ghost use Rattle.vo_spec.specs.Batches.{FitsCommand};
+ghost use Rattle.vo_spec.specs.Honest.{changed_trees, is_open_command, stored_heading, work};
+ghost use Rattle.table_list.specs.Changes.{Gives};
+ghost use Rattle.stored_tables.specs.View.{stored_in};
+ghost use Rattle.stored_tables.specs.Standing.{IsStanding};
+
+use crate::changing::{exchanged, new_table, with_row, with_table, without_table};
+use crate::placing::place_of;
+use crate::refusing::fault_of;
+use crate::table::StoredTable;
+use std::alloc::Global;
+use std::rc::Rc;
+use table_list::ApplyFault;
+use vo_spec::{Column, Command, Name, Value};
+
+fn created(
+    alloc: Global,
+    tables: &[Rc<StoredTable>],
+    name: &Name,
+    columns: &[Column],
+    key: &Name,
+) -> Result<Vec<Rc<StoredTable>>, ApplyFault>
+    requires { length columns.now ≤ 32 }
+    ensures { Gives (λ new. stored_in new.items) result (changed_trees (Create name.now columns.now key.now) (stored_in tables.now)) }
+{
+    let table = new_table(alloc, name, columns, key)?;
+    Ok(with_table(alloc, tables, table)?)
+}
+
+fn inserted(
+    alloc: Global,
+    tables: &[Rc<StoredTable>],
+    name: &Name,
+    values: &[Value],
+) -> Result<Vec<Rc<StoredTable>>, ApplyFault>
+    requires standing { IsStanding (stored_in tables.now) }
+    requires fits { FitsCommand (Insert name.now values.now) }
+    requires allowed { refusal (Insert name.now values.now) (map stored_heading (stored_in tables.now)) ≡ None }
+    ensures { Gives (λ new. stored_in new.items) result (changed_trees (Insert name.now values.now) (stored_in tables.now)) }
+{
+    match place_of(tables, name.as_bytes()) {
+        None => unreachable!(),
+        Some(place) => match with_row(alloc, place.table, values) {
+            Ok(table) => Ok(exchanged(alloc, tables, place.at, table)?),
+            Err(fault) => Err(fault),
+        },
+    }
+}
+
+/// The tables after a command that isn't refused without a look at the rows.
+#[tactic(auto, unfolding(vo_spec::specs::Batches::FitsCommand))]
+fn changed(
+    alloc: Global,
+    tables: &[Rc<StoredTable>],
+    command: &Command,
+) -> Result<Vec<Rc<StoredTable>>, ApplyFault>
+    requires standing { IsStanding (stored_in tables.now) }
+    requires fits { FitsCommand command.now }
+    requires kept { IsTrue (is_open_command command.now) }
+    requires allowed { refusal command.now (map stored_heading (stored_in tables.now)) ≡ None }
+    ensures { Gives (λ new. stored_in new.items) result (changed_trees command.now (stored_in tables.now)) }
+{
+    match command {
+        Command::Create { name, columns, key } => {
+            created(alloc, tables, name, columns.as_slice(), key)
+        },
+        Command::Drop { name } => Ok(without_table(alloc, tables, name.as_bytes())?),
+        Command::Insert { name, values } => inserted(alloc, tables, name, values.as_slice()),
+        Command::Update { .. } | Command::Delete { .. } => unreachable!(),
+    }
+}
+
+/// The tables after a command.
+#[tactic(auto, using(crate::proofs::WorkLaws::work_allowed, crate::proofs::WorkLaws::work_refused))]
+pub(crate) fn worked(
+    alloc: Global,
+    tables: &[Rc<StoredTable>],
+    command: &Command,
+) -> Result<Vec<Rc<StoredTable>>, ApplyFault>
+    requires standing { IsStanding (stored_in tables.now) }
+    requires fits { FitsCommand command.now }
+    requires kept { IsTrue (is_open_command command.now) }
+    ensures answer { Gives (λ new. stored_in new.items) result (work command.now (stored_in tables.now)) }
+    ensures standing { IfOk result (λ new. IsStanding (stored_in new.items)) }
+{
+    match fault_of(tables, command) {
+        Some(fault) => Err(ApplyFault::Refused(fault)),
+        None => changed(alloc, tables, command),
+    }
+}
