@@ -1,0 +1,173 @@
+-- Fields that are read are spelled so, and what is spelled so is read: blocks, keys, counts, and things behind a byte.
+use Rattle.std.proofs.Common.{◌≡◌, ℕ, ◌^◌, ◌<◌, ◌≤◌, false, ◌&&◌, cond, eqb, leb, ltb, List, [], ◌∷◌, ◌++◌, length, take, drop, Option, Some, None, refl, sym, ap, subst, ◌∙◌, append_assoc, arith, inl, inr}
+use Rattle.std.specs.List.{AllByRecursion, flat_map}
+use Rattle.std.proofs.lemmas.Bool.{eqb-true, ltb-false, le-ltb, leb-true, le-leb}
+use Rattle.std.proofs.lemmas.Nat.{be_bytes_4, from_be_bytes-to_be_bytes_4}
+use Rattle.std.proofs.lemmas.List.{take_at, drop_at, take-append-drop, length-append, length-take}
+use Rattle.vo_spec.specs.Bytes.{IsBytes, u16_bytes, u32_bytes, u32_of, string, block}
+use Rattle.vo_spec.specs.Fits.{FitsKey}
+use Rattle.vo_spec.specs.Tables.{most_key}
+use Rattle.vo_spec.specs.Batches.{counted}
+use Rattle.row_bytes.specs.Reading.{byte_at, bytes_at, u16_at, u32_at}
+use Rattle.row_bytes.specs.Fields.{◌>>=◌, where_true, string_at, block_at, times}
+use Rattle.row_bytes.proofs.Readers.{IsBytes-rest, IsBytes-take, IsBytes-drop, chosen}
+use Rattle.table_list.specs.BatchReading.{Reader, one}
+use Rattle.table_list.proofs.ReaderLaws.{Took, IsReader, some_is, bound, tested, took_then, all_true, no_some, next_found, next_again, times_found, times_again}
+use Rattle.table_list.proofs.BatchLaws.{one_found, u16_found, u16_read}
+use Rattle.version_record.proofs.RecordLaws.{bytes_read}
+use Rattle.vo_format.specs.Reading.{count_within, key_at}
+
+-- Numbers of four bytes.
+
+u32_same : (bytes : List ℕ) → length bytes ≡ 4 → IsBytes bytes → u32_bytes (u32_of bytes) ≡ bytes
+unfolding u32_bytes u32_of
+u32_same bytes len fits = be_bytes_4 bytes _ len fits refl
+
+u32_back : (n : ℕ) → n < 2 ^ 32 → u32_of (u32_bytes n) ≡ n
+unfolding u32_bytes u32_of
+u32_back n lt = from_be_bytes-to_be_bytes_4 n lt
+
+u32_length : (n : ℕ) → length (u32_bytes n) ≡ 4
+unfolding u32_bytes
+u32_length n = refl
+
+u32_found : (bytes : List ℕ) (n : ℕ) (rest : List ℕ) → IsBytes bytes → u32_at bytes ≡ Some (n, rest) → Took bytes (u32_bytes n) rest
+unfolding u32_at
+u32_found bytes n rest fits e =
+    elim (chosen (ltb (length bytes) 4) None (Some (u32_of (take 4 bytes), drop 4 bytes)) (Some (n, rest)) e) [
+      | inl a ↦ absurd (no_some (n, rest) a.1)
+      | inr a ↦
+          let long : 4 ≤ length bytes = ltb-false _ _ a.0 in
+          let len : length (take 4 bytes) ≡ 4 = omega (arith, length-take 4 bytes) in
+          let is : (u32_of (take 4 bytes), drop 4 bytes) ≡ (n, rest) = some_is (u32_of (take 4 bytes), drop 4 bytes) (n, rest) a.1 in
+          subst (λ (p : ℕ × List ℕ). Took bytes (u32_bytes p.0) p.1) is
+          (record { parts = sym (take-append-drop 4 bytes) ∙ ap (λ (t : List ℕ). t ++ drop 4 bytes) (sym (u32_same (take 4 bytes) len (IsBytes-take 4 bytes fits))); behind = IsBytes-drop 4 bytes fits })
+    ]
+
+u32_read : (n : ℕ) (rest : List ℕ) → n < 2 ^ 32 → u32_at (u32_bytes n ++ rest) ≡ Some (n, rest)
+unfolding u32_at
+u32_read n rest lt =
+    let len = u32_length n in
+    let long : ltb (length (u32_bytes n ++ rest)) 4 ≡ false = le-ltb _ _ (omega (arith, length-append (u32_bytes n) rest)) in
+    rw (long, take_at (u32_bytes n) rest 4 len, drop_at (u32_bytes n) rest 4 len, u32_back n lt) refl
+
+-- Bytes behind their length.
+
+pub IsBytes-front : (xs ys : List ℕ) → IsBytes (xs ++ ys) → IsBytes xs
+IsBytes-front xs ys fits = subst IsBytes (take_at xs ys (length xs) refl) (IsBytes-take (length xs) (xs ++ ys) fits)
+
+pub block_found : (bytes text rest : List ℕ) → IsBytes bytes → block_at bytes ≡ Some (text, rest) → Took bytes (block text) rest × IsBytes text
+unfolding block_at
+block_found bytes text rest fits e =
+    let a = bound (u32_at bytes) (λ count. bytes_at count.0 count.1) (text, rest) e in
+    let n = u32_found bytes a.0.0 a.0.1 fits a.1 in
+    let t = (bytes_read a.0.0).found a.0.1 text rest n.behind a.2 in
+    let all : Took bytes (u32_bytes a.0.0 ++ text) rest = took_then bytes (u32_bytes a.0.0) a.0.1 text rest n t.0 in
+    (subst (λ (k : ℕ). Took bytes (u32_bytes k ++ text) rest) (sym t.1) all, IsBytes-front text rest (subst IsBytes t.0.parts n.behind))
+
+pub block_again : (text rest : List ℕ) → length text < 2 ^ 32 → block_at (block text ++ rest) ≡ Some (text, rest)
+unfolding block_at
+block_again text rest lt =
+    ap block_at (append_assoc (u32_bytes (length text)) text rest)
+    ∙ rw (u32_read (length text) (text ++ rest) lt) ((bytes_read (length text)).again text rest refl)
+
+string_found : (bytes text rest : List ℕ) → IsBytes bytes → string_at bytes ≡ Some (text, rest) → Took bytes (string text) rest
+unfolding string_at
+string_found bytes text rest fits e =
+    let a = bound (u16_at bytes) (λ count. bytes_at count.0 count.1) (text, rest) e in
+    let n = u16_found bytes a.0.0 a.0.1 fits a.1 in
+    let t = (bytes_read a.0.0).found a.0.1 text rest n.behind a.2 in
+    let all : Took bytes (u16_bytes a.0.0 ++ text) rest = took_then bytes (u16_bytes a.0.0) a.0.1 text rest n t.0 in
+    subst (λ (k : ℕ). Took bytes (u16_bytes k ++ text) rest) (sym t.1) all
+
+string_again : (text rest : List ℕ) → length text < 2 ^ 16 → string_at (string text ++ rest) ≡ Some (text, rest)
+unfolding string_at
+string_again text rest lt =
+    ap string_at (append_assoc (u16_bytes (length text)) text rest)
+    ∙ rw (u16_read (length text) (text ++ rest) lt) ((bytes_read (length text)).again text rest refl)
+
+key_found : (bytes key rest : List ℕ) → IsBytes bytes → key_at bytes ≡ Some (key, rest) → Took bytes (string key) rest × FitsKey key
+unfolding key_at
+key_found bytes key rest fits e =
+    let b = bound (string_at bytes) (λ key. where_true (leb (length key.0) most_key) key) (key, rest) e in
+    let t = tested (leb (length b.0.0) most_key) b.0 (key, rest) b.2 in
+    subst (λ (p : List ℕ × List ℕ). Took bytes (string p.0) p.1 × FitsKey p.0) t.1
+    (string_found bytes b.0.0 b.0.1 fits b.1, leb-true (length b.0.0) most_key t.0)
+
+key_again : (key rest : List ℕ) → FitsKey key → key_at (string key ++ rest) ≡ Some (key, rest)
+unfolding key_at
+key_again key rest fits = rw (string_again key rest (omega (arith, fits)), le-leb (length key) most_key fits) refl
+
+pub keys_read : IsReader key_at string FitsKey
+keys_read = record { found = key_found; again = key_again }
+
+-- How many things there are, and so many of them.
+
+abbrev pub one_byte : ℕ → List ℕ
+one_byte byte = byte ∷ []
+
+abbrev pub IsWithin : ℕ → ℕ → ℕ → Type 0
+IsWithin least most n = (least ≤ n) × (n ≤ most)
+
+count_found : (least most : ℕ) (bytes : List ℕ) (n : ℕ) (rest : List ℕ) → IsBytes bytes → count_within least most bytes ≡ Some (n, rest) → Took bytes (one_byte n) rest × IsWithin least most n
+unfolding byte_at
+count_found least most [] n rest fits e = absurd cc
+count_found least most (first ∷ bytes) n rest fits e =
+    let t = tested (leb least first && leb first most) (first, bytes) (n, rest) e in
+    let both = all_true (leb least first) (leb first most) t.0 in
+    subst (λ (p : ℕ × List ℕ). Took (first ∷ bytes) (one_byte p.0) p.1 × IsWithin least most p.0) t.1
+    (record { parts = refl; behind = IsBytes-rest first bytes fits }, (leb-true least first both.0, leb-true first most both.1))
+
+count_again : (least most n : ℕ) (rest : List ℕ) → IsWithin least most n → count_within least most (one_byte n ++ rest) ≡ Some (n, rest)
+unfolding byte_at
+count_again least most n rest fits = rw (le-leb least n fits.0, le-leb n most fits.1) refl
+
+pub counts_read : (least most : ℕ) → IsReader (count_within least most) one_byte (IsWithin least most)
+counts_read least most = record { found = count_found least most; again = count_again least most }
+
+module _ {A : Type 0} (read : Reader A) (spelling : A → List ℕ) (Fits : A → Type 0) (law : IsReader read spelling Fits) (most : ℕ) where
+  abbrev pub few_at : Reader (List A)
+  few_at bytes = count_within 0 most bytes >>= λ count. times read count.0 count.1
+
+  abbrev pub AreFew : List A → Type 0
+  AreFew xs = (length xs ≤ most) × AllByRecursion Fits xs
+
+  few_found : (bytes : List ℕ) (xs : List A) (rest : List ℕ) → IsBytes bytes → few_at bytes ≡ Some (xs, rest) → Took bytes (counted spelling xs) rest × AreFew xs
+  few_found bytes xs rest fits e =
+      let a = next_found (counts_read 0 most) (λ count. times read count) bytes (xs, rest) fits e in
+      let f = times_found read spelling Fits law a.0 a.1 xs rest a.2.behind a.4 in
+      let all : Took bytes (a.0 ∷ flat_map spelling xs) rest = took_then bytes (one_byte a.0) a.1 (flat_map spelling xs) rest a.2 f.0 in
+      (subst (λ (k : ℕ). Took bytes (k ∷ flat_map spelling xs) rest) (sym f.1) all, (subst (λ (k : ℕ). k ≤ most) (sym f.1) a.3.1, f.2))
+
+  few_again : (xs : List A) (rest : List ℕ) → AreFew xs → few_at (counted spelling xs ++ rest) ≡ Some (xs, rest)
+  few_again xs rest fits =
+      next_again (counts_read 0 most) (λ count. times read count) (length xs) (flat_map spelling xs ++ rest) (omega arith, fits.0)
+      ∙ times_again read spelling Fits law xs rest fits.1
+
+  pub few_read : IsReader few_at (counted spelling) AreFew
+  few_read = record { found = few_found; again = few_again }
+
+-- Things behind a byte that says what they are.
+
+pub behind_byte : (byte : ℕ) (bytes text rest : List ℕ) → Took bytes text rest → Took (byte ∷ bytes) (byte ∷ text) rest
+behind_byte byte bytes text rest t = record { parts = ap (λ (x : List ℕ). byte ∷ x) t.parts; behind = t.behind }
+
+pub tagged_found : {A X : Type 0} {read : Reader A} {spelling : A → List ℕ} {Fits : A → Type 0} → IsReader read spelling Fits → (make : A → X) (form : X → List ℕ) (FitsX : X → Type 0) (byte : ℕ)
+    → ((x : A) → form (make x) ≡ byte ∷ spelling x) → ((x : A) → Fits x → FitsX (make x))
+    → (bytes : List ℕ) (y : X) (rest : List ℕ) → IsBytes bytes → one make read bytes ≡ Some (y, rest) → Took (byte ∷ bytes) (form y) rest × FitsX y
+tagged_found {A = A} {X = X} {spelling = spelling} law make form FitsX byte spelled keeps bytes y rest fits e =
+    let a = one_found law make bytes (y, rest) fits e in
+    let t : Took (byte ∷ bytes) (form (make a.0)) a.1 =
+    subst (λ (w : List ℕ). Took (byte ∷ bytes) w a.1) (sym (spelled a.0)) (behind_byte byte bytes (spelling a.0) a.1 a.2) in
+    subst (λ (p : X × List ℕ). Took (byte ∷ bytes) (form p.0) p.1 × FitsX p.0) a.4 (t, keeps a.0 a.3)
+
+pub tagged_again : {A X : Type 0} {read : Reader A} {spelling : A → List ℕ} {Fits : A → Type 0} → IsReader read spelling Fits → (make : A → X) (x : A) (rest : List ℕ) → Fits x
+    → one make read (spelling x ++ rest) ≡ Some (make x, rest)
+tagged_again {X = X} law make x rest fits = next_again law (λ x rest. let made : Option (X × List ℕ) = Some (make x, rest) in made) x rest fits
+
+pub pick : {Y : Type 0} (P : ℕ → Type 0) (byte n : ℕ) (o others : Option Y) (y : Y) → cond (eqb byte n) o others ≡ Some y → (o ≡ Some y → P n) → (others ≡ Some y → P byte) → P byte
+pick P byte n o others y e this less =
+    elim (chosen (eqb byte n) o others (Some y) e) [
+      | inl a ↦ subst P (sym (eqb-true byte n a.0)) (this a.1)
+      | inr a ↦ less a.1
+    ]

@@ -1,0 +1,83 @@
+//! The proofs that go with a batch: a tree for each command that changes rows.
+ghost use Rattle.std.specs.Prelude.{◌≡◌, ◌++◌, List, Some, IfOk, OnOk, Err, map, codes};
+ghost use Rattle.vo_spec.specs.Bytes.{u16_bytes};
+ghost use Rattle.vo_spec.specs.Trees.{RowTree};
+ghost use Rattle.vo_spec.specs.Replies.{AreProofs, FitsProofs, proofs_bytes};
+ghost use Rattle.row_bytes.specs.Fields.{FoundOr};
+ghost use Rattle.row_bytes.specs.declared.read_fault.ReadFault.TheVariants.{BadForm};
+ghost use Rattle.mb_tree.specs.View.{part_of};
+ghost use Rattle.vo_format.specs.Reading.{proofs_at, proofs_of};
+ghost use Rattle.vo_format.specs.View.{ReadsAs, trees_of};
+
+use crate::tree_reading::take_trees;
+use crate::tree_writing::put_trees;
+use mb_tree::PartTree;
+use row_bytes::{Cursor, ReadFault};
+use std::alloc::{AllocError, Global};
+use vo_spec::u16_bytes;
+
+#[tactic(auto, unfolding(crate::specs::Reading::proofs_at))]
+fn take_proofs<'b>(alloc: Global, cursor: &mut Cursor<'b>) -> Result<Vec<PartTree<'b>>, ReadFault>
+    ensures { FoundOr trees_of result cursor.new (proofs_at cursor.old) }
+{
+    cursor.take_word(b"VOU1").ok_or(ReadFault::BadForm)?;
+    let count = cursor.take_u16().ok_or(ReadFault::BadForm)?;
+    if count > 1000 {
+        return Err(ReadFault::BadForm);
+    }
+    take_trees(alloc, cursor, count)
+}
+
+#[tactic(auto, unfolding(crate::specs::Reading::proofs_of))]
+fn proofs_in<'b>(alloc: Global, bytes: &'b [u8]) -> Result<Vec<PartTree<'b>>, ReadFault>
+    ensures { ReadsAs trees_of result (proofs_of bytes.now) }
+{
+    if bytes.len() > 134_217_728 {
+        return Err(ReadFault::BadForm);
+    }
+    let mut cursor = Cursor::new(bytes);
+    match take_proofs(alloc, &mut cursor) {
+        Ok(trees) => {
+            if cursor.is_empty() {
+                Ok(trees)
+            } else {
+                Err(ReadFault::BadForm)
+            }
+        }
+        Err(fault) => Err(fault),
+    }
+}
+
+/// The proofs that all the bytes are.
+pub fn read_proofs<'b>(alloc: Global, bytes: &'b [u8]) -> Result<Vec<PartTree<'b>>, ReadFault>
+    // What is read is spelled so, and keeps the limits.
+    ensures found { IfOk result (λ trees. AreProofs bytes.now (trees_of trees)) }
+
+    // What is refused are no proofs.
+    ensures bad { result ≡ Err BadForm → (trees : List RowTree) → AreProofs bytes.now trees → ⊥ }
+
+    // What is spelled so is read, unless memory runs out.
+    ensures only { (trees : List RowTree) → AreProofs bytes.now trees → ReadsAs trees_of result (Some trees) }
+{
+    proofs_in(alloc, bytes)
+}
+
+/// Begins the proofs of so many commands: their trees are to follow.
+pub fn begin_proofs(out: &mut Vec<u8>, count: u16) -> Result<(), AllocError>
+    ensures { OnOk result (out.new.items ≡ out.old.items ++ codes "VOU1" ++ u16_bytes count) }
+{
+    out.extend_from_slice(b"VOU1")?;
+    out.extend_from_slice(&u16_bytes(count))
+}
+
+/// The one spelling of proofs.
+#[tactic(auto, unfolding(vo_spec::specs::Replies::proofs_bytes))]
+pub fn write_proofs(alloc: Global, trees: &[PartTree<'_>]) -> Result<Vec<u8>, AllocError>
+    requires { FitsProofs (map part_of trees.now) }
+    ensures { IfOk result (λ bytes. bytes.items ≡ proofs_bytes (map part_of trees.now)) }
+{
+    let mut out = Vec::new(alloc);
+    begin_proofs(&mut out, trees.len() as u16)?;
+    put_trees(&mut out, trees)?;
+    Ok(out)
+}

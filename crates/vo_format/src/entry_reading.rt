@@ -1,0 +1,126 @@
+//! Reading the entries of leaves: keys, and rows as a digest or as cells.
+ghost use Rattle.std.specs.Prelude.{◌≡◌};
+ghost use Rattle.vo_spec.specs.declared.cells.Cell.TheVariants.{Shown};
+ghost use Rattle.vo_spec.specs.declared.cells.RowPart.TheVariants.{Cells, Digest as Closed};
+ghost use Rattle.row_bytes.specs.Reading.{bytes_at};
+ghost use Rattle.row_bytes.specs.Fields.{Found, FoundOr, times};
+ghost use Rattle.table_list.specs.BatchReading.{any_value_at, one};
+ghost use Rattle.vo_format.specs.Reading.{cell_at, cells_at, count_within, entry_at, key_at, row_at};
+
+use row_bytes::{Cursor, ReadFault, take_value};
+use std::alloc::Global;
+use vo_spec::{Cell, CellValue, Digest, KeyPart, List, PartEntry, RowPart};
+
+/// How many things come next, within these limits.
+pub fn take_count(cursor: &mut Cursor<'_>, least: u8, most: u8) -> Option<u8>
+    ensures { Found (λ count. count) result cursor.new (count_within least most cursor.old) }
+{
+    let count = cursor.take_byte()?;
+    if least <= count && count <= most {
+        Some(count)
+    } else {
+        None
+    }
+}
+
+/// The digest that comes next.
+pub fn take_digest(cursor: &mut Cursor<'_>) -> Option<Digest>
+    ensures { Found (λ digest. digest) result cursor.new (bytes_at 32 cursor.old) }
+{
+    let bytes = cursor.take_chunk::<32>()?;
+    Some(Digest::new(*bytes))
+}
+
+/// The key or separator that comes next, lent.
+#[tactic(auto, unfolding(crate::specs::Reading::key_at))]
+pub fn take_key<'b>(cursor: &mut Cursor<'b>) -> Option<KeyPart<'b>>
+    ensures { Found (λ key. key) result cursor.new (key_at cursor.old) }
+{
+    let key = cursor.take_string()?;
+    if key.len() <= 255 {
+        Some(KeyPart::lent(key))
+    } else {
+        None
+    }
+}
+
+#[tactic(auto, unfolding(table_list::specs::BatchReading::any_value_at))]
+fn take_shown<'b>(cursor: &mut Cursor<'b>) -> Option<Cell<'b>>
+    ensures { Found (λ cell. cell) result cursor.new (one Shown any_value_at cursor.old) }
+{
+    match take_value(cursor) {
+        Ok(value) => Some(Cell::Shown(CellValue::lent(value))),
+        Err(_) => None,
+    }
+}
+
+#[tactic(auto, unfolding(crate::specs::Reading::cell_at, row_bytes::specs::Reading::byte_at))]
+fn take_cell<'b>(cursor: &mut Cursor<'b>) -> Option<Cell<'b>>
+    ensures { Found (λ cell. cell) result cursor.new (cell_at cursor.old) }
+{
+    match cursor.take_byte()? {
+        0 => Some(Cell::Hidden(take_digest(cursor)?)),
+        1 => take_shown(cursor),
+        _ => None,
+    }
+}
+
+fn each_cell<'b>(
+    alloc: Global,
+    cursor: &mut Cursor<'b>,
+    count: u8,
+) -> Result<Vec<Cell<'b>>, ReadFault>
+    ensures { FoundOr (λ cells. cells.items) result cursor.new (times cell_at count cursor.old) }
+{
+    let mut cells = Vec::new(alloc);
+    for _ in 0..count {
+        match take_cell(cursor) {
+            Some(cell) => cells.push(cell)?,
+            None => return Err(ReadFault::BadForm),
+        }
+    }
+    Ok(cells)
+}
+
+#[tactic(auto, unfolding(crate::specs::Reading::cells_at))]
+fn take_cells<'b>(alloc: Global, cursor: &mut Cursor<'b>) -> Result<RowPart<'b>, ReadFault>
+    ensures { FoundOr (λ row. row) result cursor.new (one Cells cells_at cursor.old) }
+{
+    let count = take_count(cursor, 0, 31).ok_or(ReadFault::BadForm)?;
+    match each_cell(alloc, cursor, count) {
+        Ok(cells) => Ok(RowPart::Cells(List::from_vec(cells))),
+        Err(fault) => Err(fault),
+    }
+}
+
+fn take_closed<'b>(cursor: &mut Cursor<'b>) -> Result<RowPart<'b>, ReadFault>
+    ensures { FoundOr (λ row. row) result cursor.new (one Closed (bytes_at 32) cursor.old) }
+{
+    match take_digest(cursor) {
+        Some(digest) => Ok(RowPart::Digest(digest)),
+        None => Err(ReadFault::BadForm),
+    }
+}
+
+#[tactic(auto, unfolding(crate::specs::Reading::row_at, row_bytes::specs::Reading::byte_at))]
+fn take_row<'b>(alloc: Global, cursor: &mut Cursor<'b>) -> Result<RowPart<'b>, ReadFault>
+    ensures { FoundOr (λ row. row) result cursor.new (row_at cursor.old) }
+{
+    match cursor.take_byte() {
+        Some(0) => take_closed(cursor),
+        Some(1) => take_cells(alloc, cursor),
+        _ => Err(ReadFault::BadForm),
+    }
+}
+
+/// The entry that comes next.
+#[tactic(auto, unfolding(crate::specs::Reading::entry_at))]
+pub fn take_entry<'b>(alloc: Global, cursor: &mut Cursor<'b>) -> Result<PartEntry<'b>, ReadFault>
+    ensures { FoundOr (λ entry. entry) result cursor.new (entry_at cursor.old) }
+{
+    let key = take_key(cursor).ok_or(ReadFault::BadForm)?;
+    match take_row(alloc, cursor) {
+        Ok(row) => Ok(PartEntry { key, row }),
+        Err(fault) => Err(fault),
+    }
+}

@@ -1,0 +1,104 @@
+//! Writing the entries of leaves.
+ghost use Rattle.std.specs.Prelude.{◌≡◌, ◌++◌, ◌≤◌, [], ◌∷◌, length, flat_map, OnOk, All};
+ghost use Rattle.vo_spec.specs.declared.values.Value.TheVariants.{Int, Text};
+ghost use Rattle.vo_spec.specs.Bytes.{string};
+ghost use Rattle.vo_spec.specs.Values.{value_bytes, FitsValue};
+ghost use Rattle.vo_spec.specs.Lent.{value_of};
+ghost use Rattle.vo_spec.specs.Fits.{FitsCell, FitsEntry, FitsKey, FitsRowPart, most_cells};
+ghost use Rattle.vo_spec.specs.TreeBytes.{cell_form, entry_form, row_form};
+
+use std::alloc::AllocError;
+use vo_spec::{Cell, Digest, PartEntry, RowPart, ValueRef, u16_bytes, u64_bytes};
+
+/// Puts a digest at the end.
+pub fn put_digest(out: &mut Vec<u8>, digest: Digest) -> Result<(), AllocError>
+    ensures { OnOk result (out.new.items ≡ out.old.items ++ digest) }
+{
+    out.extend_from_slice(digest.as_bytes())
+}
+
+/// Puts a key or a separator behind its length at the end.
+pub fn put_key(out: &mut Vec<u8>, key: &[u8]) -> Result<(), AllocError>
+    requires { FitsKey key.now }
+    ensures { OnOk result (out.new.items ≡ out.old.items ++ string key.now) }
+{
+    out.extend_from_slice(&u16_bytes(key.len() as u16))?;
+    out.extend_from_slice(key)
+}
+
+fn put_int(out: &mut Vec<u8>, number: i64) -> Result<(), AllocError>
+    ensures { OnOk result (out.new.items ≡ out.old.items ++ value_bytes (Int number)) }
+{
+    out.push(1)?;
+    out.extend_from_slice(&u64_bytes(number.cast_unsigned()))
+}
+
+fn put_text(out: &mut Vec<u8>, text: &[u8]) -> Result<(), AllocError>
+    requires { length text.now ≤ 1024 }
+    ensures { OnOk result (out.new.items ≡ out.old.items ++ value_bytes (Text text.now)) }
+{
+    out.push(2)?;
+    out.extend_from_slice(&u16_bytes(text.len() as u16))?;
+    out.extend_from_slice(text)
+}
+
+fn put_shown(out: &mut Vec<u8>, value: ValueRef<'_>) -> Result<(), AllocError>
+    requires { FitsValue (value_of value) }
+    ensures { OnOk result (out.new.items ≡ out.old.items ++ value_bytes (value_of value.entry)) }
+{
+    match value {
+        ValueRef::Int(number) => put_int(out, number),
+        ValueRef::Text(text) => put_text(out, text),
+        ValueRef::Bool(truth) => out.extend_from_slice(&[3, u8::from(truth)]),
+    }
+}
+
+fn put_cell(out: &mut Vec<u8>, cell: &Cell<'_>) -> Result<(), AllocError>
+    requires { FitsCell cell.now }
+    ensures { OnOk result (out.new.items ≡ out.old.items ++ cell_form cell.now) }
+{
+    match cell {
+        Cell::Hidden(digest) => {
+            out.push(0)?;
+            put_digest(out, *digest)
+        }
+        Cell::Shown(value) => {
+            out.push(1)?;
+            put_shown(out, value.as_ref())
+        }
+    }
+}
+
+fn put_cells(out: &mut Vec<u8>, cells: &[Cell<'_>]) -> Result<(), AllocError>
+    requires count { length cells.now ≤ most_cells }
+    requires fits { All FitsCell cells.now }
+    ensures { OnOk result (out.new.items ≡ out.old.items ++ 1 ∷ length cells.now ∷ flat_map cell_form cells.now) }
+{
+    out.extend_from_slice(&[1, cells.len() as u8])?;
+    for cell in cells {
+        put_cell(out, cell)?;
+    }
+    Ok(())
+}
+
+fn put_row(out: &mut Vec<u8>, row: &RowPart<'_>) -> Result<(), AllocError>
+    requires { FitsRowPart row.now }
+    ensures { OnOk result (out.new.items ≡ out.old.items ++ row_form row.now) }
+{
+    match row {
+        RowPart::Digest(digest) => {
+            out.push(0)?;
+            put_digest(out, *digest)
+        }
+        RowPart::Cells(cells) => put_cells(out, cells.as_slice()),
+    }
+}
+
+/// Puts an entry at the end.
+pub fn put_entry(out: &mut Vec<u8>, entry: &PartEntry<'_>) -> Result<(), AllocError>
+    requires { FitsEntry entry.now }
+    ensures { OnOk result (out.new.items ≡ out.old.items ++ entry_form entry.now) }
+{
+    put_key(out, entry.key.as_bytes())?;
+    put_row(out, &entry.row)
+}

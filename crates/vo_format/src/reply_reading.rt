@@ -1,0 +1,101 @@
+//! Reading replies.
+ghost use Rattle.std.specs.Prelude.{◌≡◌, Some, IfOk, Err};
+ghost use Rattle.vo_spec.specs.Replies.{IsReply, IsNoReply, Reply as Plain};
+ghost use Rattle.row_bytes.specs.Fields.{Found, FoundOr, whole};
+ghost use Rattle.row_bytes.specs.declared.read_fault.ReadFault.TheVariants.{BadForm};
+ghost use Rattle.vo_format.specs.Reading.{signature_at, catalog_block_at, counted_trees_at, reply_at};
+ghost use Rattle.vo_format.specs.View.{ReadsAs, reply_of, trees_of};
+
+use crate::reply::Reply;
+use crate::tree_reading::take_trees;
+use mb_tree::PartTree;
+use row_bytes::{Cursor, ReadFault};
+use std::alloc::Global;
+use version_record::{take_catalog, take_record};
+use vo_spec::Catalog;
+
+#[tactic(auto, unfolding(crate::specs::Reading::signature_at))]
+fn take_signature<'b>(cursor: &mut Cursor<'b>) -> Option<&'b [u8]>
+    ensures { Found (λ signature. signature.now) result cursor.new (signature_at cursor.old) }
+{
+    let signature = cursor.take_block()?;
+    if signature.len() <= 65536 {
+        Some(signature)
+    } else {
+        None
+    }
+}
+
+/// The catalog behind its length. Nothing is left over inside.
+#[tactic(auto, unfolding(crate::specs::Reading::catalog_block_at))]
+fn take_catalog_block(alloc: Global, cursor: &mut Cursor<'_>) -> Result<Catalog, ReadFault>
+    ensures { FoundOr (λ catalog. catalog) result cursor.new (catalog_block_at cursor.old) }
+{
+    let block = cursor.take_block().ok_or(ReadFault::BadForm)?;
+    let mut inside = Cursor::new(block);
+    let catalog = take_catalog(alloc, &mut inside)?;
+    if !inside.is_empty() {
+        return Err(ReadFault::BadForm);
+    }
+    Ok(catalog)
+}
+
+#[tactic(auto, unfolding(crate::specs::Reading::counted_trees_at))]
+fn take_counted_trees<'b>(
+    alloc: Global,
+    cursor: &mut Cursor<'b>,
+) -> Result<Vec<PartTree<'b>>, ReadFault>
+    ensures { FoundOr trees_of result cursor.new (counted_trees_at cursor.old) }
+{
+    let count = cursor.take_byte().ok_or(ReadFault::BadForm)?;
+    take_trees(alloc, cursor, u16::from(count))
+}
+
+#[tactic(auto, unfolding(crate::specs::Reading::reply_at))]
+fn take_reply<'b>(alloc: Global, cursor: &mut Cursor<'b>) -> Result<Reply<'b>, ReadFault>
+    ensures { FoundOr reply_of result cursor.new (reply_at cursor.old) }
+{
+    cursor.take_word(b"VOR1").ok_or(ReadFault::BadForm)?;
+    let rec = take_record(cursor).ok_or(ReadFault::BadForm)?;
+    let signature = take_signature(cursor).ok_or(ReadFault::BadForm)?;
+    let catalog = take_catalog_block(alloc, cursor)?;
+    match take_counted_trees(alloc, cursor) {
+        Ok(trees) => Ok(Reply {
+            rec,
+            signature,
+            catalog,
+            trees,
+        }),
+        Err(fault) => Err(fault),
+    }
+}
+
+fn reply_in<'b>(alloc: Global, bytes: &'b [u8]) -> Result<Reply<'b>, ReadFault>
+    ensures { ReadsAs reply_of result (whole (reply_at bytes.now)) }
+{
+    let mut cursor = Cursor::new(bytes);
+    match take_reply(alloc, &mut cursor) {
+        Ok(reply) => {
+            if cursor.is_empty() {
+                Ok(reply)
+            } else {
+                Err(ReadFault::BadForm)
+            }
+        }
+        Err(fault) => Err(fault),
+    }
+}
+
+/// The reply that all the bytes are.
+pub fn read_reply<'b>(alloc: Global, bytes: &'b [u8]) -> Result<Reply<'b>, ReadFault>
+    // What is read is spelled so, and keeps the limits.
+    ensures found { IfOk result (λ reply. IsReply bytes.now (reply_of reply)) }
+
+    // What is no reply, is none.
+    ensures bad { result ≡ Err BadForm → IsNoReply bytes.now }
+
+    // What is spelled so is read, unless memory runs out.
+    ensures only { (reply : Plain) → IsReply bytes.now reply → ReadsAs reply_of result (Some reply) }
+{
+    reply_in(alloc, bytes)
+}

@@ -1,0 +1,190 @@
+//! Reading trees, never deeper than a tree may be.
+ghost use Rattle.std.specs.Prelude.{◌≡◌, ℕ, List, ◌-◌, ◌++◌, Some, IfOk};
+ghost use Rattle.vo_spec.specs.Bytes.{IsBytes};
+ghost use Rattle.vo_spec.specs.Fits.{FitsTree, most_levels};
+ghost use Rattle.vo_spec.specs.Parts.{stub};
+ghost use Rattle.vo_spec.specs.Trees.{RowTree};
+ghost use Rattle.vo_spec.specs.TreeBytes.{tree_bytes};
+ghost use Rattle.row_bytes.specs.Reading.{bytes_at};
+ghost use Rattle.row_bytes.specs.Fields.{FoundOr, times};
+ghost use Rattle.table_list.specs.BatchReading.{one};
+ghost use Rattle.mb_tree.specs.View.{part_of};
+ghost use Rattle.vo_format.specs.Reading.{entry_at, inner_at, key_at, leaf_at, node_at, tree_at};
+ghost use Rattle.vo_format.specs.View.{trees_of};
+
+use crate::entry_reading::{take_count, take_digest, take_entry, take_key};
+use mb_tree::{Nodes, PartTree};
+use row_bytes::{Cursor, ReadFault};
+use std::alloc::Global;
+use vo_spec::{KeyPart, List, PartEntry};
+
+/// The tree that comes next, of at most 11 levels. It is lent by the bytes.
+pub fn take_tree<'b>(alloc: Global, cursor: &mut Cursor<'b>) -> Result<PartTree<'b>, ReadFault>
+    // What is taken is spelled so, and keeps the limits.
+    ensures found { IfOk result (λ tree. FitsTree (part_of tree) × (cursor.old ≡ tree_bytes (part_of tree) ++ cursor.new)) }
+
+    // What is spelled so is taken, unless memory runs out.
+    ensures only { (tree : RowTree) (rest : List ℕ) → FitsTree tree → cursor.old ≡ tree_bytes tree ++ rest
+        → FoundOr part_of result cursor.new (Some (tree, rest)) }
+
+    // What reading gives, unless memory runs out.
+    ensures exact { FoundOr part_of result cursor.new (tree_at most_levels cursor.old) }
+{
+    are_bytes(cursor.rest());
+    take_levels(alloc, cursor, 11)
+}
+
+/// A slice of bytes holds bytes.
+fn are_bytes(bytes: &[u8])
+    ensures { IsBytes bytes.now }
+{
+    let _count = bytes.len();
+}
+
+/// The tree that comes next, of at most so many levels.
+#[cycle(take_levels)]
+fn take_levels<'b>(
+    alloc: Global,
+    cursor: &mut Cursor<'b>,
+    levels: u8,
+) -> Result<PartTree<'b>, ReadFault>
+    ensures { FoundOr part_of result cursor.new (tree_at levels cursor.old) }
+{
+    if levels == 0 {
+        return Err(ReadFault::BadForm);
+    }
+    take_node(alloc, cursor, levels - 1)
+}
+
+/// The node that comes next, whose children have at most so many levels.
+#[tactic(auto, unfolding(crate::specs::Reading::node_at, row_bytes::specs::Reading::byte_at))]
+#[cycle(take_levels)]
+fn take_node<'b>(
+    alloc: Global,
+    cursor: &mut Cursor<'b>,
+    levels: u8,
+) -> Result<PartTree<'b>, ReadFault>
+    ensures { FoundOr part_of result cursor.new (node_at (tree_at levels) cursor.old) }
+{
+    match cursor.take_byte() {
+        Some(0) => take_stub(cursor),
+        Some(1) => take_leaf(alloc, cursor),
+        Some(2) => take_inner(alloc, cursor, levels),
+        _ => Err(ReadFault::BadForm),
+    }
+}
+
+fn take_stub<'b>(cursor: &mut Cursor<'b>) -> Result<PartTree<'b>, ReadFault>
+    ensures { FoundOr part_of result cursor.new (one stub (bytes_at 32) cursor.old) }
+{
+    match take_digest(cursor) {
+        Some(digest) => Ok(PartTree::Stub(digest)),
+        None => Err(ReadFault::BadForm),
+    }
+}
+
+#[tactic(auto, unfolding(crate::specs::Reading::leaf_at))]
+fn take_leaf<'b>(alloc: Global, cursor: &mut Cursor<'b>) -> Result<PartTree<'b>, ReadFault>
+    ensures { FoundOr part_of result cursor.new (leaf_at cursor.old) }
+{
+    let count = take_count(cursor, 0, 16).ok_or(ReadFault::BadForm)?;
+    match each_entry(alloc, cursor, count) {
+        Ok(entries) => Ok(PartTree::Leaf(List::from_vec(entries))),
+        Err(fault) => Err(fault),
+    }
+}
+
+fn each_entry<'b>(
+    alloc: Global,
+    cursor: &mut Cursor<'b>,
+    count: u8,
+) -> Result<Vec<PartEntry<'b>>, ReadFault>
+    ensures { FoundOr (λ entries. entries.items) result cursor.new (times entry_at count cursor.old) }
+{
+    let mut entries = Vec::new(alloc);
+    for _ in 0..count {
+        match take_entry(alloc, cursor) {
+            Ok(entry) => entries.push(entry)?,
+            Err(fault) => return Err(fault),
+        }
+    }
+    Ok(entries)
+}
+
+/// An inner node whose children have at most so many levels.
+#[tactic(auto, unfolding(crate::specs::Reading::inner_at))]
+#[cycle(take_levels)]
+fn take_inner<'b>(
+    alloc: Global,
+    cursor: &mut Cursor<'b>,
+    levels: u8,
+) -> Result<PartTree<'b>, ReadFault>
+    ensures { FoundOr part_of result cursor.new (inner_at (tree_at levels) cursor.old) }
+{
+    let count = take_count(cursor, 2, 16).ok_or(ReadFault::BadForm)?;
+    let separators = match each_key(alloc, cursor, count - 1) {
+        Ok(separators) => List::from_vec(separators),
+        Err(fault) => return Err(fault),
+    };
+    match each_child(alloc, cursor, levels, count) {
+        Ok(children) => Ok(PartTree::Inner {
+            separators,
+            children: Nodes::from_vec(children),
+        }),
+        Err(fault) => Err(fault),
+    }
+}
+
+fn each_key<'b>(
+    alloc: Global,
+    cursor: &mut Cursor<'b>,
+    count: u8,
+) -> Result<Vec<KeyPart<'b>>, ReadFault>
+    ensures { FoundOr (λ keys. keys.items) result cursor.new (times key_at count cursor.old) }
+{
+    let mut keys = Vec::new(alloc);
+    for _ in 0..count {
+        match take_key(cursor) {
+            Some(key) => keys.push(key)?,
+            None => return Err(ReadFault::BadForm),
+        }
+    }
+    Ok(keys)
+}
+
+#[cycle(take_levels)]
+fn each_child<'b>(
+    alloc: Global,
+    cursor: &mut Cursor<'b>,
+    levels: u8,
+    count: u8,
+) -> Result<Vec<PartTree<'b>>, ReadFault>
+    ensures { FoundOr trees_of result cursor.new (times (tree_at levels) count cursor.old) }
+{
+    let mut children = Vec::new(alloc);
+    for _ in 0..count {
+        match take_levels(alloc, cursor, levels) {
+            Ok(child) => children.push(child)?,
+            Err(fault) => return Err(fault),
+        }
+    }
+    Ok(children)
+}
+
+/// Trees that come next, so many of them.
+pub fn take_trees<'b>(
+    alloc: Global,
+    cursor: &mut Cursor<'b>,
+    count: u16,
+) -> Result<Vec<PartTree<'b>>, ReadFault>
+    ensures { FoundOr trees_of result cursor.new (times (tree_at most_levels) count cursor.old) }
+{
+    let mut trees = Vec::new(alloc);
+    for _ in 0..count {
+        match take_tree(alloc, cursor) {
+            Ok(tree) => trees.push(tree)?,
+            Err(fault) => return Err(fault),
+        }
+    }
+    Ok(trees)
+}

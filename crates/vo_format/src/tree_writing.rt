@@ -1,0 +1,94 @@
+//! Writing trees.
+ghost use Rattle.std.specs.Prelude.{◌≡◌, ◌++◌, ◌≤◌, ◌∷◌, length, map, flat_map, OnOk, All};
+ghost use Rattle.std.specs.List.{AllByRecursion};
+ghost use Rattle.vo_spec.specs.Bytes.{string};
+ghost use Rattle.vo_spec.specs.Parts.{inner};
+ghost use Rattle.vo_spec.specs.Fits.{FitsPart, FitsEach, FitsEntry, FitsKey, FitsTree, most_in_node};
+ghost use Rattle.vo_spec.specs.TreeBytes.{entry_form, tree_bytes};
+ghost use Rattle.mb_tree.specs.View.{part_of, parts_of};
+
+use crate::entry_writing::{put_digest, put_entry, put_key};
+use mb_tree::PartTree;
+use std::alloc::AllocError;
+use vo_spec::{KeyPart, PartEntry};
+
+/// Puts a tree at the end.
+#[tactic(auto, using(mb_tree::proofs::PartLaws::count_parts_of))]
+#[cycle(put_tree)]
+pub fn put_tree(out: &mut Vec<u8>, tree: &PartTree<'_>) -> Result<(), AllocError>
+    requires { FitsPart (part_of tree.now) }
+    ensures { OnOk result (out.new.items ≡ out.old.items ++ tree_bytes (part_of tree.now)) }
+{
+    match tree {
+        PartTree::Stub(digest) => {
+            out.push(0)?;
+            put_digest(out, *digest)
+        }
+        PartTree::Leaf(entries) => put_leaf(out, entries.as_slice()),
+        PartTree::Inner {
+            separators,
+            children,
+        } => put_inner(out, separators.as_slice(), children.as_slice()),
+    }
+}
+
+fn put_leaf(out: &mut Vec<u8>, entries: &[PartEntry<'_>]) -> Result<(), AllocError>
+    requires count { length entries.now ≤ most_in_node }
+    requires fits { All FitsEntry entries.now }
+    ensures { OnOk result (out.new.items ≡ out.old.items ++ 1 ∷ length entries.now ∷ flat_map entry_form entries.now) }
+{
+    out.extend_from_slice(&[1, entries.len() as u8])?;
+    for entry in entries {
+        put_entry(out, entry)?;
+    }
+    Ok(())
+}
+
+#[tactic(auto, using(mb_tree::proofs::PartLaws::count_parts_of, crate::proofs::Forms::bytes_parts_of))]
+#[cycle(put_tree)]
+fn put_inner(
+    out: &mut Vec<u8>,
+    separators: &[KeyPart<'_>],
+    children: &[PartTree<'_>],
+) -> Result<(), AllocError>
+    requires count { length children.now ≤ most_in_node }
+    requires keys { All FitsKey separators.now }
+    requires fits { FitsEach FitsEntry (parts_of children.now) }
+    ensures { OnOk result (out.new.items ≡ out.old.items ++ tree_bytes (inner separators.now (parts_of children.now))) }
+{
+    out.extend_from_slice(&[2, children.len() as u8])?;
+    put_separators(out, separators)?;
+    put_children(out, children)
+}
+
+fn put_separators(out: &mut Vec<u8>, separators: &[KeyPart<'_>]) -> Result<(), AllocError>
+    requires { All FitsKey separators.now }
+    ensures { OnOk result (out.new.items ≡ out.old.items ++ flat_map string separators.now) }
+{
+    for separator in separators {
+        put_key(out, separator.as_bytes())?;
+    }
+    Ok(())
+}
+
+#[cycle(put_tree)]
+fn put_children(out: &mut Vec<u8>, children: &[PartTree<'_>]) -> Result<(), AllocError>
+    requires { FitsEach FitsEntry (parts_of children.now) }
+    ensures { OnOk result (out.new.items ≡ out.old.items ++ flat_map tree_bytes (map part_of children.now)) }
+{
+    for child in children {
+        put_tree(out, child)?;
+    }
+    Ok(())
+}
+
+/// Puts trees at the end, one after another.
+pub fn put_trees(out: &mut Vec<u8>, trees: &[PartTree<'_>]) -> Result<(), AllocError>
+    requires { AllByRecursion FitsTree (map part_of trees.now) }
+    ensures { OnOk result (out.new.items ≡ out.old.items ++ flat_map tree_bytes (map part_of trees.now)) }
+{
+    for tree in trees {
+        put_tree(out, tree)?;
+    }
+    Ok(())
+}
