@@ -1,0 +1,36 @@
+-- What a call that reads a whole batch tells of the batch in a block.
+use Rattle.std.proofs.Common.{◌≡◌, ℕ, List, Option, Some, None, Result, Ok, Err, refl, sym, ap, ◌∙◌, inl, inr, ◌⊎◌}
+use Rattle.std.specs.Prelude.{IfOk}
+use Rattle.vo_spec.specs.declared.tables.Batch.{Batch}
+use Rattle.vo_spec.specs.declared.tables.Command.{Command}
+use Rattle.vo_spec.specs.Bytes.{IsBytes}
+use Rattle.vo_spec.specs.Batches.{IsBatch}
+use Rattle.row_bytes.specs.declared.read_fault.ReadFault.{ReadFault}
+use Rattle.row_bytes.specs.declared.read_fault.ReadFault.TheVariants.{BadForm, Memory}
+use Rattle.row_bytes.specs.Fields.{block_at, FoundOr}
+use Rattle.table_list.specs.BatchReading.{batch_of, BatchRead}
+use Rattle.table_list.proofs.ReaderLaws.{no_some}
+use Rattle.table_list.proofs.BatchLaws.{batch_found, batch_again}
+use Rattle.owner_state.specs.Reading.{batch_at}
+
+-- something, or nothing
+pub some_or_none : {A : Type 0} (o : Option A) → (o ≡ None) ⊎ ((x : A) × (o ≡ Some x))
+some_or_none None = inl refl
+some_or_none (Some x) = inr (x, refl)
+
+pub batch_is_read : (text : List ℕ) (r : Result Batch ReadFault) → IsBytes text → IfOk r (λ batch. IsBatch text batch.commands)
+    → ((cs : List Command) → IsBatch text cs → BatchRead r (Some cs)) → BatchRead r (batch_of text)
+batch_is_read text (Ok batch) fits found only = ap batch_of found.spelled ∙ batch_again batch.commands found.fits
+batch_is_read text (Err BadForm) fits found only =
+    elim (some_or_none (batch_of text)) [
+      | inl e ↦ e
+      | inr x ↦ absurd (no_some x.0 (sym (only x.0 (batch_found text x.0 fits x.1))))
+    ]
+batch_is_read text (Err Memory) fits found only = tt
+
+pub batch_taken : (bytes text rest : List ℕ) (r : Result Batch ReadFault) → block_at bytes ≡ Some (text, rest) → BatchRead r (batch_of text)
+    → FoundOr (λ (batch : Batch). batch.commands) r rest (batch_at bytes)
+unfolding batch_at
+batch_taken bytes text rest (Ok batch) e read = rw (e, read) refl
+batch_taken bytes text rest (Err BadForm) e read = rw (e, read) refl
+batch_taken bytes text rest (Err Memory) e read = tt

@@ -1,0 +1,159 @@
+-- An entry behind trees, and behind the batches that made these.
+use Rattle.std.proofs.Math.Seq.{take-nil}
+use Rattle.std.proofs.Common.{◌≡◌, ℕ, suc, ◌+◌, ◌<◌, add-one, List, [], ◌∷◌, ◌++◌, length, take, drop, Option, Some, None, IsTrue, refl, sym, ap, ◌∙◌, subst, arith}
+use Rattle.std.specs.Prelude.{◌↔◌, IsOk, IfSome}
+use Rattle.std.specs.List.{AllByRecursion, list_all}
+use Rattle.std.proofs.lemmas.List.{length-map, map-append}
+use Rattle.vo_spec.specs.declared.tables.Command.{Command}
+use Rattle.vo_spec.specs.declared.records.Entry.{Entry}
+use Rattle.vo_spec.specs.Batches.{FitsBatch}
+use Rattle.vo_spec.specs.Journals.{FitsEntry, batches_of}
+use Rattle.vo_spec.specs.Replies.{FitsProofs, proofs_bytes}
+use Rattle.vo_spec.specs.Owners.{IsTakenEntry, IsHonestEntry, AreOwned, AreTaken}
+use Rattle.vo_spec.specs.Honest.{Stored, AreOpen, is_open_command, after_work, work_all, honest_proofs, honest_record, honest_trees}
+use Rattle.vo_laws.proofs.StepLaws.{trees_follow, no_commands_fit, no_trees_before, both_take}
+use Rattle.vo_laws.proofs.EntryLaws.{owned_first, owned_grows, owned_open, taken_first, taken_grows, are_open, batches_fit, all_fit}
+use Rattle.vo_laws.proofs.ProofSizes.{honest_proofs_fit}
+use Rattle.owner_state.specs.Standing.{IsRecorded, IsTakenOn, IsHonestOn}
+use Rattle.owner_state.specs.Walking.{GoesOn}
+
+-- Batches that fit and are open, and the trees that they make.
+pub record Made (earlier : List (List Command)) (stored : List Stored) : Type 0 where
+  pub fit : AllByRecursion FitsBatch earlier
+  pub are_open : AreOpen earlier
+  pub trees : stored ≡ honest_trees earlier
+
+pub taken_is : (key : List ℕ) (earlier : List (List Command)) (stored : List Stored) (e : Entry) → Made earlier stored → FitsBatch e.batch.commands
+    → IsTakenOn key (length earlier) stored e ↔ IsTakenEntry key earlier e
+taken_is key earlier stored e m fits = (there, back)
+  where
+    behind : after_work stored e.batch.commands ≡ honest_trees (earlier ++ e.batch.commands ∷ [])
+    behind = ap (λ (ss : List Stored). after_work ss e.batch.commands) m.trees ∙ sym (trees_follow earlier e.batch.commands)
+
+    there : IsTakenOn key (length earlier) stored e → IsTakenEntry key earlier e
+    there t = record {
+      written = t.written;
+      accepted = (both_take earlier e.batch.commands m.fit m.are_open fits t.written).0 (subst (λ (ss : List Stored). IsOk (work_all e.batch.commands ss)) m.trees t.accepted);
+      record_is = t.recorded.record_is ∙ ap (honest_record key (length earlier)) behind;
+      signed = t.recorded.signed;
+    }
+
+    back : IsTakenEntry key earlier e → IsTakenOn key (length earlier) stored e
+    back t = record {
+      written = t.written;
+      accepted = subst (λ (ss : List Stored). IsOk (work_all e.batch.commands ss)) (sym m.trees) ((both_take earlier e.batch.commands m.fit m.are_open fits t.written).1 t.accepted);
+      recorded = record { record_is = t.record_is ∙ ap (honest_record key (length earlier)) (sym behind); signed = t.signed };
+    }
+
+pub honest_is : (key : List ℕ) (earlier : List (List Command)) (stored : List Stored) (e : Entry) → Made earlier stored → FitsBatch e.batch.commands
+    → IsHonestOn key (length earlier) stored e ↔ IsHonestEntry key earlier e
+honest_is key earlier stored e m fits = (
+  (λ h. record {
+    taken = (taken_is key earlier stored e m fits).0 h.taken;
+    proofs_are = subst (λ (ss : List Stored). e.proofs ≡ proofs_bytes (honest_proofs e.batch.commands ss)) m.trees h.proofs_are;
+  }),
+  (λ h. record {
+    taken = (taken_is key earlier stored e m fits).1 h.taken;
+    proofs_are = subst (λ (ss : List Stored). e.proofs ≡ proofs_bytes (honest_proofs e.batch.commands ss)) (sym m.trees) h.proofs_are;
+  }),
+)
+
+pub goes_on : (P Q : Type 0) (stored other : List Stored) → (P ↔ Q) → stored ≡ other → (found : Option (List Stored)) → GoesOn P stored found → GoesOn Q other found
+goes_on P Q stored other same e None g = λ q. g (same.1 q)
+goes_on P Q stored other same e (Some ss) g = (same.0 g.0, g.1 ∙ e)
+
+batches_more : (es : List Entry) (e : Entry) → batches_of (es ++ e ∷ []) ≡ batches_of es ++ e.batch.commands ∷ []
+batches_more es e = map-append (λ (x : Entry). x.batch.commands) es (e ∷ [])
+
+-- Journals that a store takes.
+
+taken_more : (key : List ℕ) (x : Entry) (xs : List Entry) (stored : List Stored) (e : Entry) (found : Option (List Stored)) → AllByRecursion FitsEntry (x ∷ xs) → FitsEntry e
+    → AreTaken key (x ∷ xs) → stored ≡ honest_trees (batches_of xs) → GoesOn (IsTakenOn key (length (x ∷ xs)) stored e) (after_work stored e.batch.commands) found
+    → GoesOn (AreTaken key ((x ∷ xs) ++ e ∷ [])) (honest_trees (batches_of (xs ++ e ∷ []))) found
+taken_more key x xs stored e found fit fits taken trees g =
+    let earlier : List (List Command) = [] ∷ batches_of xs in
+    let long : length (x ∷ xs) ≡ length earlier = ap (λ (n : ℕ). suc n) (sym (length-map xs (λ (y : Entry). y.batch.commands))) in
+    let made : Made earlier stored = record {
+      fit = (no_commands_fit, fit_behind);
+      are_open = (refl, are_open key (x ∷ xs) taken);
+      trees = trees ∙ sym (no_trees_before (batches_of xs));
+    } in
+    let is = taken_is key earlier stored e made fits.batch in
+    let grows = taken_grows key (x ∷ xs) e (omega arith) in
+    goes_on (IsTakenOn key (length (x ∷ xs)) stored e) (AreTaken key ((x ∷ xs) ++ e ∷ [])) (after_work stored e.batch.commands) (honest_trees (batches_of (xs ++ e ∷ []))) (
+      (λ t. grows.1 (taken, is.0 (subst (λ (n : ℕ). IsTakenOn key n stored e) long t))),
+      (λ a. subst (λ (n : ℕ). IsTakenOn key n stored e) (sym long) (is.1 (grows.0 a).1)),
+    )
+    (ap (λ (ss : List Stored). after_work ss e.batch.commands) trees ∙ sym (trees_follow (batches_of xs) e.batch.commands) ∙ ap honest_trees (sym (batches_more xs e)))
+    found g
+  where
+    fit_behind : AllByRecursion FitsBatch (batches_of xs)
+    fit_behind = all_fit (x ∷ xs) fit
+
+pub taken_behind : (key : List ℕ) (es : List Entry) (stored : List Stored) (e : Entry) (found : Option (List Stored)) → 0 < length es → AllByRecursion FitsEntry es → FitsEntry e
+    → AreTaken key es → stored ≡ honest_trees (batches_of (drop 1 es)) → GoesOn (IsTakenOn key (length es) stored e) (after_work stored e.batch.commands) found
+    → GoesOn (AreTaken key (es ++ e ∷ [])) (honest_trees (batches_of (drop 1 (es ++ e ∷ [])))) found
+taken_behind key [] stored e found some fit fits taken trees g = absurd (omega arith)
+taken_behind key (x ∷ xs) stored e found some fit fits taken trees g = taken_more key x xs stored e found fit fits taken trees g
+
+pub taken_at_first : (key : List ℕ) (es : List Entry) (stored : List Stored) (e : Entry) (found : Option (List Stored)) → length es ≡ 0 → stored ≡ honest_trees (batches_of (drop 1 es))
+    → GoesOn (IsRecorded key 0 stored e) stored found → GoesOn (AreTaken key (es ++ e ∷ [])) (honest_trees (batches_of (drop 1 (es ++ e ∷ [])))) found
+taken_at_first key [] stored e found none trees g =
+    goes_on (IsRecorded key 0 stored e) (AreTaken key (e ∷ [])) stored (honest_trees []) (
+      (λ r. (taken_first key e).1 (r.record_is ∙ ap (honest_record key 0) trees, r.signed)),
+      (λ a. let t = (taken_first key e).0 a in record { record_is = t.0 ∙ ap (honest_record key 0) (sym trees); signed = t.1 }),
+    )
+    trees found g
+taken_at_first key (x ∷ xs) stored e found none trees g = absurd (omega arith)
+
+-- Journals of an owner.
+
+owned_made : (key : List ℕ) (es : List Entry) (stored : List Stored) → AllByRecursion FitsEntry es → AreOwned key es → stored ≡ honest_trees (batches_of es) → Made (batches_of es) stored
+owned_made key es stored fit owned trees = record { fit = batches_fit es fit; are_open = owned_open key es owned; trees = trees }
+
+pub owned_proofs_fit : (key : List ℕ) (es : List Entry) (stored : List Stored) (e : Entry) → AllByRecursion FitsEntry es → FitsEntry e → AreOwned key es → stored ≡ honest_trees (batches_of es)
+    → IsTrue (list_all is_open_command e.batch.commands) → FitsProofs (honest_proofs e.batch.commands stored)
+owned_proofs_fit key es stored e fit fits owned trees written =
+    subst (λ (ss : List Stored). FitsProofs (honest_proofs e.batch.commands ss)) (sym trees)
+    (honest_proofs_fit (batches_of es) e.batch.commands (batches_fit es fit) (owned_open key es owned) fits.batch written)
+
+owned_trees : (es : List Entry) (stored : List Stored) (e : Entry) → stored ≡ honest_trees (batches_of es) → after_work stored e.batch.commands ≡ honest_trees (batches_of (es ++ e ∷ []))
+owned_trees es stored e trees =
+    ap (λ (ss : List Stored). after_work ss e.batch.commands) trees ∙ sym (trees_follow (batches_of es) e.batch.commands) ∙ ap honest_trees (sym (batches_more es e))
+
+pub owned_behind : (key : List ℕ) (es : List Entry) (stored : List Stored) (e : Entry) (found : Option (List Stored)) → 0 < length es → AllByRecursion FitsEntry es → FitsEntry e
+    → AreOwned key es → stored ≡ honest_trees (batches_of es) → GoesOn (IsHonestOn key (length es) stored e) (after_work stored e.batch.commands) found
+    → GoesOn (AreOwned key (es ++ e ∷ [])) (honest_trees (batches_of (es ++ e ∷ []))) found
+owned_behind key es stored e found some fit fits owned trees g =
+    let long : length es ≡ length (batches_of es) = sym (length-map es (λ (y : Entry). y.batch.commands)) in
+    let is = honest_is key (batches_of es) stored e (owned_made key es stored fit owned trees) fits.batch in
+    let grows = owned_grows key es e some in
+    goes_on (IsHonestOn key (length es) stored e) (AreOwned key (es ++ e ∷ [])) (after_work stored e.batch.commands) (honest_trees (batches_of (es ++ e ∷ []))) (
+      (λ h. grows.1 (owned, is.0 (subst (λ (n : ℕ). IsHonestOn key n stored e) long h))),
+      (λ a. subst (λ (n : ℕ). IsHonestOn key n stored e) (sym long) (is.1 (grows.0 a).1)),
+    )
+    (owned_trees es stored e trees) found g
+
+pub owned_at_first : (key : List ℕ) (es : List Entry) (stored : List Stored) (e : Entry) (found : Option (List Stored)) → length es ≡ 0 → FitsEntry e → stored ≡ honest_trees (batches_of es)
+    → GoesOn ((e.batch.commands ≡ []) × IsHonestOn key 0 stored e) (after_work stored e.batch.commands) found
+    → GoesOn (AreOwned key (es ++ e ∷ [])) (honest_trees (batches_of (es ++ e ∷ []))) found
+owned_at_first key [] stored e found none fits trees g =
+    let is = honest_is key [] stored e (record { fit = tt; are_open = tt; trees = trees }) fits.batch in
+    goes_on ((e.batch.commands ≡ []) × IsHonestOn key 0 stored e) (AreOwned key (e ∷ [])) (after_work stored e.batch.commands) (honest_trees (batches_of (e ∷ [])))
+    ((λ h. (owned_first key e).1 (h.0, is.0 h.1)), (λ a. let h = (owned_first key e).0 a in (h.0, is.1 h.1)))
+    (owned_trees [] stored e trees) found g
+owned_at_first key (x ∷ xs) stored e found none fits trees g = absurd (omega arith)
+
+-- The trees of a version are those after its batches, the first left out, which has no commands.
+kept_at : (key : List ℕ) (version : ℕ) (es : List Entry) → AreOwned key es → honest_trees (batches_of (take (version + 1) es)) ≡ honest_trees (batches_of (take version (drop 1 es)))
+unfolding AreOwned
+kept_at key version [] owned = ap (λ (xs : List Entry). honest_trees (batches_of xs)) (take-nil (version + 1) ∙ sym (take-nil version))
+kept_at key version (x ∷ xs) owned =
+    ap (λ (n : ℕ). honest_trees (batches_of (take n (x ∷ xs)))) (add-one version)
+    ∙ ap (λ (batch : List Command). honest_trees (batch ∷ batches_of (take version xs))) owned.0
+    ∙ no_trees_before (batches_of (take version xs))
+
+pub kept_tables : (key : List ℕ) (version : ℕ) (es : List Entry) (kept : Option (List Stored)) → AreOwned key es → IfSome kept (λ (ss : List Stored). ss ≡ honest_trees (batches_of (take (version + 1) es)))
+    → IfSome kept (λ (ss : List Stored). ss ≡ honest_trees (batches_of (take version (drop 1 es))))
+kept_tables key version es None owned is = tt
+kept_tables key version es (Some ss) owned is = is ∙ kept_at key version es owned

@@ -1,0 +1,11 @@
+pub mod BatchTaken
+pub mod BlockLaws
+pub mod EntryLaws
+pub mod JournalLaws
+pub mod SlotLaws
+pub mod BatchSteps
+pub mod InsertCounts
+pub mod WorkTurns
+pub mod EntrySteps
+pub mod SealSteps
+pub mod FirstVersion

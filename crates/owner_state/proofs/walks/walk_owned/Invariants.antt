@@ -1,0 +1,15 @@
+use Rattle.std.proofs.Common.{◌≡◌, ◌+◌, ◌<◌, take}
+use Rattle.std.specs.Prelude.{IfSome, IsSome}
+use Rattle.vo_spec.specs.Journals.{batches_of}
+use Rattle.vo_spec.specs.Owners.{AreOwned}
+use Rattle.vo_spec.specs.Honest.{honest_trees}
+use Rattle.owner_state.proofs.walks.walk_owned.Given as goal
+
+-- the entries so far are an owner's, and these are the tables behind them; those of the version are kept once it is there
+abbrev pub invariant-loop-index : goal.invariant-loop-index
+invariant-loop-index l = record {
+  owned : AreOwned l.key (take l.index l.entries);
+  trees : l.tables ≡ honest_trees (batches_of (take l.index l.entries));
+  kept : IfSome l.kept (λ tables. tables ≡ honest_trees (batches_of (take (l.version + 1) l.entries)));
+  there : l.version < l.index → IsSome l.kept;
+}

@@ -1,0 +1,142 @@
+//! Whether an entry may stand behind trees.
+ghost use Rattle.std.specs.Prelude.{◌≡◌, [], IfOk, IsOk, IsTrue};
+ghost use Rattle.std.specs.List.{list_all};
+ghost use Rattle.vo_spec.specs.Batches.{FitsBatch};
+ghost use Rattle.vo_spec.specs.Replies.{FitsProofs};
+ghost use Rattle.vo_spec.specs.Honest.{after_work, honest_proofs, is_open_command, work_all};
+ghost use Rattle.owner_state.specs.Standing.{IsHonestOn, IsProvedOn, IsRecorded, IsTakenOn};
+ghost use Rattle.owner_state.specs.Walking.{GoesOn};
+
+use crate::batch_working::{AfterBatch, worked};
+use crate::recording::is_recorded;
+use lms_sign::PublicKey;
+use std::alloc::{AllocError, Global};
+use stored_tables::{BatchFault, StoredTables, is_open};
+use vo_spec::{Batch, Entry};
+
+/// The tables behind an entry of no matter which batch, if its record is that of these tables as version 0.
+pub(crate) fn recorded_first(
+    alloc: Global,
+    key: &PublicKey,
+    tables: StoredTables,
+    entry: &Entry,
+) -> Result<Option<StoredTables>, AllocError>
+    ensures { IfOk result (λ after. GoesOn (IsRecorded key.now 0 tables entry.now) tables after) }
+{
+    if is_recorded(alloc, key, 0, &tables, entry)? {
+        Ok(Some(tables))
+    } else {
+        Ok(None)
+    }
+}
+
+/// The tables behind an entry that a store takes as this version.
+pub(crate) fn taken_on(
+    alloc: Global,
+    key: &PublicKey,
+    version: u64,
+    tables: StoredTables,
+    entry: &Entry,
+) -> Result<Option<StoredTables>, AllocError>
+    requires { FitsBatch entry.now.batch.commands }
+    ensures { IfOk result (λ after. GoesOn (IsTakenOn key.now version tables entry.now) (after_work tables entry.now.batch.commands) after) }
+{
+    if !is_open(&entry.batch) {
+        return Ok(None);
+    }
+    match after_open(alloc, tables, &entry.batch)? {
+        Some(after) => {
+            if is_recorded(alloc, key, version, &after, entry)? {
+                Ok(Some(after))
+            } else {
+                Ok(None)
+            }
+        }
+        None => Ok(None),
+    }
+}
+
+/// The tables behind a batch, if it is accepted.
+fn after_open(
+    alloc: Global,
+    mut tables: StoredTables,
+    batch: &Batch,
+) -> Result<Option<StoredTables>, AllocError>
+    requires fits { FitsBatch batch.now.commands }
+    requires written { IsTrue (list_all is_open_command batch.now.commands) }
+    ensures { IfOk result (λ after. GoesOn (IsOk (work_all batch.now.commands tables)) (after_work tables batch.now.commands) after) }
+{
+    match tables.apply_batch(alloc, batch) {
+        Ok(()) => Ok(Some(tables)),
+        Err(BatchFault::Command { .. }) => Ok(None),
+        Err(BatchFault::Memory) => Err(AllocError),
+    }
+}
+
+/// The tables behind an entry that an owner has written as this version.
+pub(crate) fn honest_on(
+    alloc: Global,
+    key: &PublicKey,
+    version: u64,
+    tables: StoredTables,
+    entry: &Entry,
+) -> Result<Option<StoredTables>, AllocError>
+    requires fits { FitsBatch entry.now.batch.commands }
+    requires proofs { IsTrue (list_all is_open_command entry.now.batch.commands) → FitsProofs (honest_proofs entry.now.batch.commands tables) }
+    ensures { IfOk result (λ after. GoesOn (IsHonestOn key.now version tables entry.now) (after_work tables entry.now.batch.commands) after) }
+{
+    if !is_open(&entry.batch) {
+        return Ok(None);
+    }
+    match proved_open(alloc, tables, entry)? {
+        Some(after) => {
+            if is_recorded(alloc, key, version, &after, entry)? {
+                Ok(Some(after))
+            } else {
+                Ok(None)
+            }
+        }
+        None => Ok(None),
+    }
+}
+
+/// The tables behind an entry that an owner has written as version 0, which has no commands.
+pub(crate) fn honest_first(
+    alloc: Global,
+    key: &PublicKey,
+    tables: StoredTables,
+    entry: &Entry,
+) -> Result<Option<StoredTables>, AllocError>
+    requires fits { FitsBatch entry.now.batch.commands }
+    requires proofs { IsTrue (list_all is_open_command entry.now.batch.commands) → FitsProofs (honest_proofs entry.now.batch.commands tables) }
+    ensures { IfOk result (λ after. GoesOn ((entry.now.batch.commands ≡ []) × IsHonestOn key.now 0 tables entry.now) (after_work tables entry.now.batch.commands) after) }
+{
+    if !entry.batch.commands.is_empty() {
+        return Ok(None);
+    }
+    honest_on(alloc, key, 0, tables, entry)
+}
+
+/// The tables behind an entry's batch, if it is accepted and the entry has its proofs.
+fn proved_open(
+    alloc: Global,
+    tables: StoredTables,
+    entry: &Entry,
+) -> Result<Option<StoredTables>, AllocError>
+    requires fits { FitsBatch entry.now.batch.commands }
+    requires written { IsTrue (list_all is_open_command entry.now.batch.commands) }
+    requires proofs { FitsProofs (honest_proofs entry.now.batch.commands tables) }
+    ensures { IfOk result (λ after. GoesOn (IsProvedOn tables entry.now) (after_work tables entry.now.batch.commands) after) }
+{
+    match worked(alloc, tables, entry.batch.commands.as_slice()) {
+        Ok(AfterBatch { tables, proofs }) => {
+            if proofs.as_slice() == entry.proofs.as_slice() {
+                Ok(Some(tables))
+            } else {
+                Ok(None)
+            }
+        }
+        Err(BatchFault::Command { .. }) => Ok(None),
+        Err(BatchFault::Memory) => Err(AllocError),
+    }
+}

@@ -1,0 +1,87 @@
+//! Reading entries.
+ghost use Rattle.std.specs.Prelude.{◌≡◌, ℕ};
+ghost use Rattle.row_bytes.specs.Fields.{Found, FoundOr};
+ghost use Rattle.table_list.specs.BatchReading.{batch_of, BatchRead};
+ghost use Rattle.owner_state.specs.Reading.{limited_at, batch_at, entry_at, entry_of, slot_at, EntryRead};
+
+use row_bytes::{Cursor, ReadFault};
+use std::alloc::Global;
+use table_list::read_batch;
+use version_record::take_record;
+use vo_spec::{Batch, Entry, List};
+
+const MOST_PROOFS: usize = 134_217_728;
+
+const MOST_SIGNATURE: usize = 65_536;
+
+/// The entry of the slot that comes next, if that slot is open and its entry whole.
+#[tactic(auto, unfolding(crate::specs::Reading::slot_at, row_bytes::specs::Reading::byte_at))]
+pub fn take_slot(alloc: Global, cursor: &mut Cursor<'_>) -> Result<Entry, ReadFault>
+    ensures { FoundOr (λ entry. entry) result cursor.new (slot_at cursor.old) }
+{
+    match cursor.take_byte() {
+        Some(1) => {
+            let block = cursor.take_block().ok_or(ReadFault::BadForm)?;
+            read_entry(alloc, block)
+        }
+        _ => Err(ReadFault::BadForm),
+    }
+}
+
+/// The entry that all the bytes are.
+#[tactic(auto, unfolding(crate::specs::Reading::entry_of))]
+fn read_entry(alloc: Global, bytes: &[u8]) -> Result<Entry, ReadFault>
+    ensures { EntryRead result (entry_of bytes.now) }
+{
+    let mut cursor = Cursor::new(bytes);
+    let entry = take_entry(alloc, &mut cursor)?;
+    if !cursor.is_empty() {
+        return Err(ReadFault::BadForm);
+    }
+    Ok(entry)
+}
+
+#[tactic(auto, unfolding(crate::specs::Reading::entry_at))]
+fn take_entry(alloc: Global, cursor: &mut Cursor<'_>) -> Result<Entry, ReadFault>
+    ensures { FoundOr (λ entry. entry) result cursor.new (entry_at cursor.old) }
+{
+    cursor.take_word(b"VOE1").ok_or(ReadFault::BadForm)?;
+    let batch = take_batch(alloc, cursor)?;
+    let proofs = take_limited(alloc, cursor, MOST_PROOFS)?;
+    let rec = take_record(cursor).ok_or(ReadFault::BadForm)?;
+    let signature = take_limited(alloc, cursor, MOST_SIGNATURE)?;
+    Ok(Entry {
+        batch,
+        proofs,
+        rec,
+        signature,
+    })
+}
+
+#[tactic(auto, unfolding(crate::specs::Reading::batch_at))]
+fn take_batch(alloc: Global, cursor: &mut Cursor<'_>) -> Result<Batch, ReadFault>
+    ensures { FoundOr (λ batch. batch.commands) result cursor.new (batch_at cursor.old) }
+{
+    match cursor.take_block() {
+        Some(block) => batch_of(alloc, block),
+        None => Err(ReadFault::BadForm),
+    }
+}
+
+fn batch_of(alloc: Global, bytes: &[u8]) -> Result<Batch, ReadFault>
+    ensures { BatchRead result (batch_of bytes.now) }
+{
+    read_batch(alloc, bytes)
+}
+
+/// Bytes behind their length, at most so many.
+#[tactic(auto, unfolding(crate::specs::Reading::limited_at))]
+fn take_limited(alloc: Global, cursor: &mut Cursor<'_>, most: usize) -> Result<List<u8>, ReadFault>
+    ensures { FoundOr (λ bytes. bytes) result cursor.new (limited_at most cursor.old) }
+{
+    let block = cursor.take_block().ok_or(ReadFault::BadForm)?;
+    if block.len() > most {
+        return Err(ReadFault::BadForm);
+    }
+    Ok(List::from_vec(Vec::from_slice(alloc, block)?))
+}

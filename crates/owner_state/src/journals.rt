@@ -1,0 +1,117 @@
+//! Journals whose entries an owner has written, or a store takes.
+ghost use Rattle.std.specs.Prelude.{◌≡◌, ◌↔◌, ◌<◌, ℕ, List, Err, IfOk, IfSome, IsSome, IsTrue, drop, length, take};
+ghost use Rattle.vo_spec.specs.Journals.{batches_of};
+ghost use Rattle.vo_spec.specs.Honest.{honest_trees};
+ghost use Rattle.vo_spec.specs.Owners.{IsBadAt, IsLoaded, IsOwned, IsUnloadedAt};
+ghost use Rattle.owner_state.specs.Walking.{IsWhole};
+
+use crate::slot_reading::{Ending, Slots, read_slots};
+use crate::walks::{walk_owned, walk_taken};
+use lms_sign::PublicKey;
+use std::alloc::{AllocError, Global};
+use stored_tables::StoredTables;
+use thiserror::Error;
+use vo_spec::{Entry, List};
+
+/// Why bytes are no such journal.
+#[derive(Clone, Copy, Debug, PartialEq, Eq, Error)]
+pub enum JournalFault {
+    /// The first entry that can't be read, isn't of the sort, or is wanted and isn't there, has this number.
+    #[error("a bad journal")]
+    BadAt { index: u64 },
+    #[error("out of memory")]
+    Memory,
+}
+
+impl From<AllocError> for JournalFault {
+    ghost use Rattle.std.specs.Prelude.{◌≡◌};
+    ghost use Rattle.owner_state.specs.declared.journals.JournalFault.TheVariants.{Memory};
+
+    ghost from_gives = { λ _ fault. fault ≡ Memory };
+
+    fn from(_error: AllocError) -> JournalFault {
+        JournalFault::Memory
+    }
+}
+
+/// An owner's journal, and its tables at the version that was asked for.
+#[derive(Drop)]
+pub struct OwnedJournal {
+    pub entries: List<Entry>,
+    /// None where the journal has no such version.
+    pub tables: Option<StoredTables>,
+}
+
+/// A journal that a store takes, and its tables after the last entry.
+#[derive(Drop)]
+pub struct TakenJournal {
+    pub entries: List<Entry>,
+    pub tables: StoredTables,
+}
+
+/// Reads the journal of an owner of the key.
+pub fn read_owned(
+    alloc: Global,
+    key: &PublicKey,
+    journal: &[u8],
+    version: u64,
+) -> Result<OwnedJournal, JournalFault>
+    ensures owned { IfOk result (λ read. IsOwned key.now journal.now read.entries) }
+    ensures tables { IfOk result (λ read. IfSome read.tables (λ tables. tables ≡ honest_trees (batches_of (take version (drop 1 read.entries))))) }
+    ensures there { IfOk result (λ read. version < length read.entries → IsSome read.tables) }
+    ensures bad { (index : ℕ) → result ≡ Err (JournalFault.BadAt index) → IsBadAt key.now journal.now index }
+{
+    let slots = read_slots(alloc, journal)?;
+    match walk_owned(alloc, key, slots.entries.as_slice(), version) {
+        Ok(tables) => {
+            if !is_whole(&slots) {
+                return Err(end_fault(&slots));
+            }
+            let entries = slots.entries;
+            Ok(OwnedJournal { entries, tables })
+        }
+        Err(fault) => Err(fault),
+    }
+}
+
+/// Reads a journal that a store of the key takes.
+pub fn read_taken(
+    alloc: Global,
+    key: &PublicKey,
+    journal: &[u8],
+) -> Result<TakenJournal, JournalFault>
+    ensures taken { IfOk result (λ read. IsLoaded key.now journal.now read.entries) }
+    ensures tables { IfOk result (λ read. read.tables ≡ honest_trees (batches_of (drop 1 read.entries))) }
+    ensures bad { (index : ℕ) → result ≡ Err (JournalFault.BadAt index) → IsUnloadedAt key.now journal.now index }
+{
+    let slots = read_slots(alloc, journal)?;
+    match walk_taken(alloc, key, slots.entries.as_slice()) {
+        Ok(tables) => {
+            if !is_whole(&slots) {
+                return Err(end_fault(&slots));
+            }
+            let entries = slots.entries;
+            Ok(TakenJournal { entries, tables })
+        }
+        Err(fault) => Err(fault),
+    }
+}
+
+/// Whether a journal has entries, and a closed gate behind them.
+fn is_whole(slots: &Slots) -> bool
+    ensures { IsTrue result ↔ IsWhole slots.now.entries slots.now.ending }
+{
+    match slots.ending {
+        Ending::Closed => !slots.entries.is_empty(),
+        Ending::Damaged { .. } => false,
+    }
+}
+
+/// The entry behind the last one is wanted, and isn't there.
+fn end_fault(slots: &Slots) -> JournalFault
+    ensures { result ≡ JournalFault.BadAt (length slots.now.entries) }
+{
+    JournalFault::BadAt {
+        index: slots.entries.len() as u64,
+    }
+}

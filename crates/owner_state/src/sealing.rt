@@ -1,0 +1,95 @@
+//! Sealing: the journal of an owner's batches.
+ghost use Rattle.std.specs.Prelude.{◌≡◌, ◌≢◌, [], ◌∷◌, IfOk, IfErr, IsTrue, None, Some, flat_map};
+ghost use Rattle.std.specs.List.{list_all};
+ghost use Rattle.vo_spec.specs.LmsSets.{leaves_of};
+ghost use Rattle.vo_spec.specs.Secret.{public_of_secret};
+ghost use Rattle.vo_spec.specs.Journals.{journal_bytes, slot};
+ghost use Rattle.vo_spec.specs.Honest.{is_open_command, sealed};
+ghost use Rattle.owner_state.specs.Standing.{entry_on};
+ghost use Rattle.owner_state.specs.Sealing.{commands_of, seal_fault, FitEach};
+
+use crate::next_version::{Sealed, seal_next};
+use lms_sign::{PublicKey, SecretKey};
+use std::alloc::{AllocError, Global};
+use stored_tables::StoredTables;
+use thiserror::Error;
+use vo_spec::{Batch, CommandFault, List};
+
+/// Why batches are not sealed.
+#[derive(Clone, Copy, Debug, PartialEq, Eq, Error)]
+pub enum SealFault {
+    /// The key has no leaf left for another version.
+    #[error("a spent key")]
+    KeySpent,
+    /// The command of this number in its batch is refused.
+    #[error("a refused command")]
+    Command { index: u64, fault: CommandFault },
+    #[error("out of memory")]
+    Memory,
+}
+
+impl From<AllocError> for SealFault {
+    ghost use Rattle.std.specs.Prelude.{◌≡◌};
+    ghost use Rattle.owner_state.specs.declared.sealing.SealFault.TheVariants.{Memory};
+
+    ghost from_gives = { λ _ fault. fault ≡ Memory };
+
+    fn from(_error: AllocError) -> SealFault {
+        SealFault::Memory
+    }
+}
+
+/// The journal of these batches, a version for each, behind version 0, which has no commands.
+pub fn seal(alloc: Global, key: &SecretKey, batches: List<Batch>) -> Result<Vec<u8>, SealFault>
+    requires fit { FitEach batches }
+    requires written { IsTrue (list_all (list_all is_open_command) (commands_of batches)) }
+    ensures journal { IfOk result (λ journal. journal.items ≡ journal_bytes (sealed key.now (commands_of batches))) }
+    ensures sealed { IfOk result (λ _. seal_fault (leaves_of key.now.lms) ([] ∷ []) (commands_of batches) ≡ None) }
+    ensures fault { IfErr result (λ fault. fault ≢ SealFault.Memory
+        → seal_fault (leaves_of key.now.lms) ([] ∷ []) (commands_of batches) ≡ Some fault) }
+{
+    match seal_each(alloc, key, batches) {
+        Ok(mut journal) => {
+            journal.extend_from_slice(&[0])?;
+            Ok(journal)
+        }
+        Err(fault) => Err(fault),
+    }
+}
+
+fn seal_each(alloc: Global, key: &SecretKey, batches: List<Batch>) -> Result<Vec<u8>, SealFault>
+    requires fit { FitEach batches }
+    requires written { IsTrue (list_all (list_all is_open_command) (commands_of batches)) }
+    ensures slots { IfOk result (λ slots. slots.items ≡ flat_map slot (sealed key.now (commands_of batches))) }
+    ensures sealed { IfOk result (λ _. seal_fault (leaves_of key.now.lms) ([] ∷ []) (commands_of batches) ≡ None) }
+    ensures fault { IfErr result (λ fault. fault ≢ SealFault.Memory
+        → seal_fault (leaves_of key.now.lms) ([] ∷ []) (commands_of batches) ≡ Some fault) }
+{
+    let public = key.public();
+    let mut sealed = seal_first(alloc, key, &public)?;
+    let mut version = 0;
+    for batch in batches.into_vec() {
+        version += 1;
+        match seal_next(alloc, key, &public, version, sealed, batch) {
+            Ok(next) => sealed = next,
+            Err(fault) => return Err(fault),
+        }
+    }
+    Ok(sealed.slots)
+}
+
+fn seal_first(alloc: Global, key: &SecretKey, public: &PublicKey) -> Result<Sealed, SealFault>
+    requires { public.now ≡ public_of_secret key.now }
+    ensures tables { IfOk result (λ first. first.tables ≡ []) }
+    ensures slots { IfOk result (λ first. first.slots.items ≡ slot (entry_on key.now 0 [] [])) }
+    ensures fault { IfErr result (λ fault. fault ≡ SealFault.Memory) }
+{
+    let empty = Batch {
+        commands: List::new(alloc),
+    };
+    let none = Sealed {
+        tables: StoredTables::new(alloc),
+        slots: Vec::new(alloc),
+    };
+    seal_next(alloc, key, public, 0, none, empty)
+}

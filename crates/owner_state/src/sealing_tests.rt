@@ -1,0 +1,126 @@
+//! A script sealed: its journal as an independent implementation writes it, and what is read of it.
+ghost use Rattle.std.specs.Prelude.{IfOk, OnOk, IsTrue};
+ghost use Rattle.std.specs.List.{list_all};
+ghost use Rattle.vo_spec.specs.Batches.{FitsBatch};
+ghost use Rattle.vo_spec.specs.Honest.{is_open_command};
+ghost use Rattle.owner_state.specs.Sealing.{commands_of, FitEach};
+
+use super::*;
+use lms_sign::{OtsType, SecretKey};
+use row_bytes::ReadFault;
+use std::alloc::{AllocError, Global};
+use std::test::*;
+use stored_tables::is_open;
+use table_list::read_batch;
+use tagged_hash::digest_of;
+use vo_spec::{Batch, List};
+
+const ID: [u8; 16] = [0, 1, 2, 3, 4, 5, 6, 7, 8, 9, 10, 11, 12, 13, 14, 15];
+
+const SEED: [u8; 32] = [
+    16, 17, 18, 19, 20, 21, 22, 23, 24, 25, 26, 27, 28, 29, 30, 31, 32, 33, 34, 35, 36, 37, 38, 39,
+    40, 41, 42, 43, 44, 45, 46, 47,
+];
+
+/// CREATE TABLE t (id BIGINT, name TEXT, PRIMARY KEY (id)), and the rows (1, 'ann') and (3, 'bob'), a batch each.
+const SCRIPT: [&[u8]; 3] = [
+    b"\x00\x01\x01\x01t\x02\x02id\x01\x04name\x02\x02id",
+    b"\x00\x01\x03\x01t\x02\x01\x00\x00\x00\x00\x00\x00\x00\x01\x02\x00\x03ann",
+    b"\x00\x01\x03\x01t\x02\x01\x00\x00\x00\x00\x00\x00\x00\x03\x02\x00\x03bob",
+];
+
+/// The digest of its journal.
+const JOURNAL: [u8; 32] = [
+    0x97, 0x3e, 0x93, 0xf0, 0xed, 0xe1, 0xdb, 0x94, 0x6e, 0xef, 0x47, 0xff, 0xcb, 0x75, 0xcc, 0x55,
+    0x2b, 0x21, 0x8b, 0x6f, 0x2e, 0x10, 0xf2, 0x4f, 0x90, 0x84, 0x9a, 0xdb, 0x13, 0x9a, 0x20, 0x50,
+];
+
+/// The batches that have these bytes, those left out that change or delete rows.
+fn script(alloc: Global, texts: &[&[u8]]) -> Result<List<Batch>, AllocError>
+    ensures fit { IfOk result (λ batches. FitEach batches) }
+    ensures written { IfOk result (λ batches. IsTrue (list_all (list_all is_open_command) (commands_of batches))) }
+{
+    let mut batches = List::new(alloc);
+    for text in texts {
+        match read_batch(alloc, text) {
+            Ok(batch) => put_open(&mut batches, batch)?,
+            Err(ReadFault::BadForm) => {}
+            Err(ReadFault::Memory) => return Err(AllocError),
+        }
+    }
+    Ok(batches)
+}
+
+fn put_open(batches: &mut List<Batch>, batch: Batch) -> Result<(), AllocError>
+    requires fits { FitsBatch batch.commands }
+    requires fit { FitEach batches.old }
+    requires written { IsTrue (list_all (list_all is_open_command) (commands_of batches.old)) }
+    ensures fit { OnOk result (FitEach batches.new) }
+    ensures written { OnOk result (IsTrue (list_all (list_all is_open_command) (commands_of batches.new))) }
+{
+    if is_open(&batch) {
+        batches.push(batch)?;
+    }
+    Ok(())
+}
+
+#[test]
+fn seals_a_script(rt: HostRuntime) -> Result<(), Fail> {
+    let alloc = rt.alloc();
+    let key = SecretKey::make(alloc, ID, SEED, OtsType::W8, 5)?;
+    let journal = seal(alloc, &key, script(alloc, &SCRIPT)?)?;
+    assert_eq!(rt; journal.len(), 5627);
+    assert_eq!(rt; *digest_of(&journal).as_bytes(), JOURNAL);
+    let public = key.public();
+    for version in 0..6 {
+        let owned = read_owned(alloc, &public, &journal, version)?;
+        assert_eq!(rt; owned.entries.len(), 4);
+        assert_eq!(rt; owned.tables.is_some(), version < 4);
+    }
+    assert_eq!(rt; read_taken(alloc, &public, &journal)?.entries.len(), 4);
+    Ok(())
+}
+
+#[test]
+fn finds_the_first_bad_entry(rt: HostRuntime) -> Result<(), Fail> {
+    let alloc = rt.alloc();
+    let key = SecretKey::make(alloc, ID, SEED, OtsType::W8, 5)?;
+    let public = key.public();
+    // how far before the end a byte is changed, and the entry that is bad then to the owner and to a store
+    let edits = [
+        (1330, Some(3), Some(3)), // the last catalog's digest
+        (1390, Some(3), None), // the last proofs
+        (2744, Some(2), Some(2)), // a signature
+        (1, Some(4), Some(4)), // the closing gate
+    ];
+    for (back, owned, taken) in edits {
+        let mut journal = seal(alloc, &key, script(alloc, &SCRIPT)?)?;
+        let count = journal.len();
+        if let Some(byte) = journal.iter_mut().rev().nth(back - 1) {
+            *byte ^= 1;
+        }
+        let owner = read_owned(alloc, &public, &journal, 0).err();
+        assert_eq!(rt;
+            owner,
+            owned.map(|index| JournalFault::BadAt { index }),
+            "at {back} of {count}"
+        );
+        let store = read_taken(alloc, &public, &journal).err();
+        assert_eq!(rt;
+            store,
+            taken.map(|index| JournalFault::BadAt { index }),
+            "at {back} of {count}"
+        );
+    }
+    Ok(())
+}
+
+#[test]
+fn spends_a_key(rt: HostRuntime) -> Result<(), Fail> {
+    let alloc = rt.alloc();
+    let key = SecretKey::make(alloc, ID, SEED, OtsType::W8, 5)?;
+    let none: [&[u8]; 32] = [&[0, 0]; 32];
+    let fault = seal(alloc, &key, script(alloc, &none)?).err();
+    assert_eq!(rt; fault, Some(SealFault::KeySpent));
+    Ok(())
+}
