@@ -1,0 +1,4 @@
+pub mod AnswerSteps
+pub mod FewColumns
+pub mod MissingLaws
+pub mod RunLaws

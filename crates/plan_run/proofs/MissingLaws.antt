@@ -1,0 +1,75 @@
+-- A tree that doesn't show what a need asks for misses something.
+use Rattle.std.proofs.Common.{◌≡◌, ℕ, suc, Bool, true, false, cond, List, [], ◌∷◌, Option, Some, None, length, map, inl, inr, refl, sym, ap, ◌∙◌, subst, arith}
+use Rattle.std.specs.Prelude.{◌==◌, ◌||◌, ◌⊎◌, zip, flat_map, is_none, option_map, option_to_list}
+use Rattle.std.specs.List.{list_any}
+use Rattle.std.proofs.lemmas.Bool.{both_ways, or_left, or_right}
+use Rattle.vo_spec.specs.declared.needs.Need.{Need}
+use Rattle.vo_spec.specs.declared.needs.SeenRow.{SeenRow}
+use Rattle.vo_spec.specs.declared.queries.Join.{Join}
+use Rattle.vo_spec.specs.Conditions.{Query}
+use Rattle.vo_spec.specs.Results.{Side, Line, side_at, sources}
+use Rattle.vo_spec.specs.Trees.{RowTree}
+use Rattle.vo_spec.specs.Scans.{seen}
+use Rattle.vo_spec.specs.Pruned.{is_missing}
+use Rattle.vo_spec.specs.Needs.{left_need, right_need, right_needs, seen_lefts, same_table, tables_used, tree_at, right_tree}
+use Rattle.vo_laws.proofs.ListLaws.{IsIn}
+use Rattle.vo_laws.proofs.ScanLaws.{Shows, complete}
+use Rattle.plan_run.specs.Running.{HasSources, is_unseen, is_any_missing, needs_of}
+
+shown_seen : {A : Type 0} (o : Option A) → Shows o → is_none o ≡ false
+shown_seen None s = absurd s
+shown_seen (Some x) s = refl
+
+any_from : {A : Type 0} (test : A → Bool) (xs : List A) → ((x : A) → IsIn x xs → test x ≡ false) → list_any test xs ≡ false
+any_from test [] f = refl
+any_from test (x ∷ xs) f = rw (f x (inl refl)) (any_from test xs (λ y i. f y (inr i)))
+
+pub unseen_misses : (ns : List Need) (p : RowTree) → list_any (is_unseen p) ns ≡ true → is_missing ns p ≡ true
+unseen_misses ns p u = step (is_missing ns p) refl
+  where
+    step : (b : Bool) → is_missing ns p ≡ b → b ≡ true
+    step true e = refl
+    step false e =
+        let all_seen : list_any (is_unseen p) ns ≡ false = any_from (is_unseen p) ns (λ n i. shown_seen (seen n p) (complete ns n p i e)) in
+        absurd (both_ways (list_any (is_unseen p) ns) all_seen u)
+
+module _ (first second : List ℕ) (left : Need) (rights : List Need) where
+  abbrev names_by : Bool → List (List ℕ)
+  names_by b = cond b (first ∷ []) (first ∷ second ∷ [])
+
+  abbrev needs_by : Bool → List (List Need)
+  needs_by b = cond (length (names_by b) == 1) ((left ∷ rights) ∷ []) ((left ∷ []) ∷ rights ∷ [])
+
+  abbrev any_missing : Bool → List RowTree → Bool
+  any_missing b ts = list_any (λ (t : List Need × RowTree). is_missing t.0 t.1) (zip (needs_by b) ts)
+
+  left_by : (b : Bool) (ts : List RowTree) → length ts ≡ length (names_by b) → is_unseen (tree_at ts 0) left ≡ true → any_missing b ts ≡ true
+  left_by true [] e u = absurd (omega arith)
+  left_by false [] e u = absurd (omega arith)
+  left_by true (t ∷ ts) e u = or_left _ _ (unseen_misses (left ∷ rights) t (or_left (is_unseen t left) (list_any (is_unseen t) rights) u))
+  left_by false (t ∷ ts) e u = or_left _ _ (unseen_misses (left ∷ []) t (or_left (is_unseen t left) false u))
+
+  right_by : (b : Bool) (ts : List RowTree) → length ts ≡ length (names_by b) → list_any (is_unseen (cond b (tree_at ts 0) (tree_at ts 1))) rights ≡ true → any_missing b ts ≡ true
+  right_by true [] e u = absurd (omega arith)
+  right_by false [] e u = absurd (omega arith)
+  right_by false (t ∷ []) e u = absurd (omega arith)
+  right_by true (t ∷ ts) e u = or_left _ _ (unseen_misses (left ∷ rights) t (or_right (is_unseen t left) (list_any (is_unseen t) rights) u))
+  right_by false (t ∷ r ∷ ts) e u = or_right _ _ (or_left _ _ (unseen_misses rights r u))
+
+module _ (ss : List Side) (q : Query) (ts : List RowTree) where
+  pub left_missing : length ts ≡ length (tables_used ss) → is_unseen (tree_at ts 0) (left_need ss q) ≡ true → is_any_missing ss q ts ≡ true
+  left_missing e u = left_by (side_at ss 0).table (side_at ss 1).table (left_need ss q) (right_needs ss q ts) (length ss == 1 || same_table ss) ts e u
+
+pub right_missing : (ss : List Side) (q : Query) (ts : List RowTree) → length ts ≡ length (tables_used ss) → HasSources ss q
+    → list_any (is_unseen (right_tree ss ts)) (needs_of ss q (seen_lefts ss q ts)) ≡ true → is_any_missing ss q ts ≡ true
+right_missing ss q ts e has u = step q.join refl u
+  where
+    joined : (j : Join) → q.join ≡ Some j → is_any_missing ss q ts ≡ true
+    joined j is =
+        let two : (length ss == 1) ≡ false = ap (λ n. n == 1) (has ∙ ap (λ o. length (q.left ∷ option_to_list (option_map (λ (k : Join). k.right) o))) is) in
+        right_by (side_at ss 0).table (side_at ss 1).table (left_need ss q) (right_needs ss q ts) (length ss == 1 || same_table ss) ts e
+        (subst (λ b. list_any (is_unseen (cond (b || same_table ss) (tree_at ts 0) (tree_at ts 1))) (right_needs ss q ts) ≡ true) (sym two) u)
+
+    step : (o : Option Join) → q.join ≡ o → list_any (is_unseen (right_tree ss ts)) (flat_map (λ j. map (right_need ss q j) (seen_lefts ss q ts)) (option_to_list o)) ≡ true → is_any_missing ss q ts ≡ true
+    step None is u = absurd (cc)
+    step (Some j) is u = joined j is

@@ -1,0 +1,16 @@
+//! What the trees of a reply show for a query, and what the query needs of each of them.
+#![tactic(auto)]
+
+mod keys;
+mod lines;
+mod needing;
+mod pairs;
+mod ran;
+mod running;
+mod seeing;
+mod showing;
+mod shown;
+
+pub use needing::right_needs;
+pub use ran::Ran;
+pub use running::run_plan;

@@ -1,0 +1,57 @@
+//! What a run gives: the answer's rows, and the needs of each tree.
+ghost use Rattle.std.specs.Prelude.{◌≡◌, IfOk};
+ghost use Rattle.table_list.specs.Sided.{sides_seen};
+ghost use Rattle.plan_run.specs.Running.{RanOf, grouped as groups};
+
+use crate::shown::Shown;
+use query_plan::has_one_tree;
+use std::alloc::{AllocError, Global};
+use table_list::Sides;
+use vo_spec::{List, Need, ScanFault, Value};
+
+/// What the trees show for a query.
+#[derive(Debug, Drop)]
+pub struct Ran {
+    /// The rows of the answer.
+    pub rows: List<List<Value>>,
+    /// The needs of each tree, in the order of the trees.
+    pub needs: List<List<Need>>,
+}
+
+/// The needs of each tree: of a table joined with itself, both in one.
+fn grouped(
+    alloc: Global,
+    sides: &Sides<'_>,
+    left: Need,
+    mut rights: Vec<Need>,
+) -> Result<List<List<Need>>, AllocError>
+    ensures { IfOk result (λ needs. needs ≡ groups (sides_seen sides.now) left rights.items) }
+{
+    let mut groups = Vec::new(alloc);
+    let mut first = Vec::new(alloc);
+    first.push(left)?;
+    if has_one_tree(sides) {
+        first.append(&mut rights)?;
+        groups.push(List::from_vec(first))?;
+    } else {
+        groups.push(List::from_vec(first))?;
+        groups.push(List::from_vec(rights))?;
+    }
+    Ok(List::from_vec(groups))
+}
+
+/// What was shown, with the needs of each tree.
+pub(crate) fn ran_of(
+    alloc: Global,
+    sides: &Sides<'_>,
+    need: Need,
+    shown: Shown,
+) -> Result<Ran, ScanFault>
+    ensures { RanOf result (sides_seen sides.now) need shown }
+{
+    let Shown { rows, needs } = shown;
+    Ok(Ran {
+        rows: List::from_vec(rows),
+        needs: grouped(alloc, sides, need, needs)?,
+    })
+}

@@ -1,0 +1,4 @@
+pub mod Catalogs
+pub mod Lefts
+pub mod Named
+pub mod Used
