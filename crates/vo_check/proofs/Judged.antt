@@ -1,0 +1,182 @@
+-- The tests of a reply, one after another.
+use Rattle.std.proofs.Common.{◌≡◌, ℕ, zero, suc, ◌≤◌, ◌==◌, Bool, true, false, if◌then◌else◌, List, [], ◌∷◌, length, map, Option, Some, None, option_map, option_to_list, is_some, Result, Ok, Err, bytes_eq, refl, sym, ap, ◌∙◌, ◌⊎◌, inl, inr, arith}
+use Rattle.std.proofs.lemmas.Bool.{eqb-true}
+use Rattle.std.specs.Option.{option_map_or}
+use Rattle.std.specs.List.{AllByRecursion}
+use Rattle.vo_spec.specs.declared.checks.CheckFault.{CheckFault}
+use Rattle.vo_spec.specs.declared.checks.CheckFault.TheVariants.{Memory}
+use Rattle.vo_spec.specs.declared.tables.Schema.{Schema}
+use Rattle.vo_spec.specs.declared.records.Catalog.{Catalog}
+use Rattle.vo_spec.specs.declared.records.CatalogTable.{CatalogTable}
+use Rattle.vo_spec.specs.declared.queries.Source.{Source}
+use Rattle.vo_spec.specs.declared.queries.QueryFault.{QueryFault}
+use Rattle.vo_spec.specs.declared.queries.Outcome.{Outcome}
+use Rattle.vo_spec.specs.declared.queries.Outcome.TheVariants.{Wrong}
+use Rattle.vo_spec.specs.Firsts.{first_some, unless}
+use Rattle.vo_spec.specs.Batches.{most_columns}
+use Rattle.vo_spec.specs.Conditions.{Query}
+use Rattle.vo_spec.specs.Tables.{Heading, heading_named}
+use Rattle.vo_spec.specs.Records.{FitsCatalog, FitsCatalogTable, headings}
+use Rattle.vo_spec.specs.Replies.{Reply}
+use Rattle.vo_spec.specs.Results.{Side, no_schema, side_of, sides, schema_at, binding_fault, header, outcome, answer_rows}
+use Rattle.vo_spec.specs.Needs.{tables_used, seen_lefts, seen_rights}
+use Rattle.vo_spec.specs.Checks.{key_fault, leaf_fault, signature_fault, age_fault, catalog_fault, count_fault, trees_of, shape_fault, root_fault, missing_fault, surplus_fault, reply_fault, seen_outcome}
+use Rattle.vo_check.specs.Testing.{Gives, Passes, paired, number_fault, shapes_fault, trees_fault, missed_fault, excess_fault, needs_fault}
+use Rattle.vo_check.specs.Judging.{needed_by, shown_rows, record_fault, proof_fault}
+
+-- Columns of the sources of a query to a catalog that fits.
+
+abbrev FewColumns : Schema → Type 0
+FewColumns schema = length schema.columns ≤ most_columns
+
+abbrev schema_in : Option Heading → Schema
+schema_in h = option_map_or (λ (h : Heading). h.schema) h no_schema
+
+pick_fits : (b : Bool) (h : Heading) (rest : Option Heading) → FewColumns h.schema → FewColumns (schema_in rest) → FewColumns (schema_in (if b then Some h else rest))
+pick_fits true h rest f g = f
+pick_fits false h rest f g = g
+
+heading_fits : (name : List ℕ) (tables : List CatalogTable) → AllByRecursion FitsCatalogTable tables → FewColumns (schema_in (heading_named name (headings (record { tables = tables }))))
+heading_fits name [] fits = omega arith
+heading_fits name (t ∷ tables) fits =
+    pick_fits (bytes_eq t.name name) (record { name = t.name; schema = t.schema; count = t.rows }) (heading_named name (headings (record { tables = tables })))
+    fits.0.schema.columns.1 (heading_fits name tables fits.1)
+
+sides_fit : (c : Catalog) → FitsCatalog c → (ss : List Source) (i : ℕ) → FewColumns (schema_at (map (side_of (headings c)) ss) i)
+sides_fit c fits [] i = omega arith
+sides_fit c fits (s ∷ ss) zero = heading_fits s.table c.tables fits.each
+sides_fit c fits (s ∷ ss) (suc i) = sides_fit c fits ss i
+
+pub columns_fit : (c : Catalog) → FitsCatalog c → (q : Query) (i : ℕ) → length (schema_at (sides (headings c) q) i).columns ≤ most_columns
+columns_fit c fits q i = sides_fit c fits (q.left ∷ option_to_list (option_map (λ j. j.right) q.join)) i
+
+-- Lists of faults in groups.
+
+alone : {F : Type 0} (o : Option F) → first_some (o ∷ []) ≡ o
+alone None = refl
+alone (Some f) = refl
+
+none_more : {F : Type 0} (o : Option F) → first_some (o ∷ None ∷ []) ≡ o
+none_more None = refl
+none_more (Some f) = refl
+
+three_two : {F : Type 0} (a b c d e : Option F) → first_some (a ∷ b ∷ c ∷ d ∷ e ∷ []) ≡ first_some (first_some (a ∷ b ∷ c ∷ []) ∷ first_some (d ∷ e ∷ []) ∷ [])
+three_two (Some f) b c d e = refl
+three_two None (Some f) c d e = refl
+three_two None None (Some f) d e = refl
+three_two None None None (Some f) e = refl
+three_two None None None None (Some f) = refl
+three_two None None None None None = refl
+
+four_one : {F : Type 0} (a b c d e : Option F) (rest : List (Option F))
+    → first_some (a ∷ b ∷ c ∷ d ∷ e ∷ rest) ≡ first_some (first_some (a ∷ b ∷ c ∷ d ∷ []) ∷ e ∷ first_some rest ∷ [])
+four_one (Some f) b c d e rest = refl
+four_one None (Some f) c d e rest = refl
+four_one None None (Some f) d e rest = refl
+four_one None None None (Some f) e rest = refl
+four_one None None None None (Some f) rest = refl
+four_one None None None None None rest = sym (alone (first_some rest))
+
+first_if : (b : Bool) (f : CheckFault) (rest : List (Option CheckFault)) → first_some ((if b then None else Some f) ∷ rest) ≡ None → b ≡ true
+first_if true f rest e = refl
+first_if false f rest e = absurd cc
+
+-- The tests of trees.
+
+pub has_trees : (wanted : List (List ℕ)) (r : Reply) → trees_fault wanted r ≡ None → length wanted ≡ length r.trees
+has_trees wanted r e = sym (eqb-true (length r.trees) (length wanted) (first_if (length r.trees == length wanted) _ _ e))
+
+-- by whether the query is wrong
+abbrev proof_by : Bool → List Side → Query → Reply → Option CheckFault
+proof_by b ss q r =
+    let wanted = if b then [] else tables_used ss in
+    let needed = if b then [] else needed_by ss q r in
+    first_some
+    (number_fault wanted r
+    ∷ shapes_fault (paired wanted r)
+    ∷ first_some (map root_fault (paired wanted r))
+    ∷ missed_fault needed
+    ∷ excess_fault needed
+    ∷ [])
+
+proof_is : (q : Query) (r : Reply) (b : Bool) → is_some (binding_fault (headings r.catalog) q) ≡ b → proof_fault q r ≡ proof_by b (sides (headings r.catalog) q) q r
+unfolding proof_fault
+proof_is q r b e = ap (λ (b : Bool). proof_by b (sides (headings r.catalog) q) q r) e
+
+module _ (q : Query) (r : Reply) where
+  abbrev faults : Option QueryFault
+  faults = binding_fault (headings r.catalog) q
+
+  abbrev ss : List Side
+  ss = sides (headings r.catalog) q
+
+  bound_parts : faults ≡ None → proof_fault q r ≡ first_some (trees_fault (tables_used ss) r ∷ needs_fault (needed_by ss q r) ∷ [])
+  bound_parts e =
+      proof_is q r false (ap is_some e)
+      ∙ three_two (number_fault (tables_used ss) r) (shapes_fault (paired (tables_used ss) r)) (first_some (map root_fault (paired (tables_used ss) r)))
+      (missed_fault (needed_by ss q r)) (excess_fault (needed_by ss q r))
+
+  bound_outcome : faults ≡ None → seen_outcome q r.catalog r.trees ≡ shown_rows ss q r
+  unfolding seen_outcome
+  bound_outcome e = ap (λ f. outcome f (header ss q.items) (answer_rows ss q (seen_lefts ss q r.trees) (seen_rights ss q r.trees))) e
+
+  wrong_parts : (f : QueryFault) → faults ≡ Some f → proof_fault q r ≡ trees_fault [] r
+  wrong_parts f e =
+      proof_is q r true (ap is_some e)
+      ∙ three_two (number_fault [] r) (shapes_fault (paired [] r)) (first_some (map root_fault (paired [] r))) None None
+      ∙ none_more (trees_fault [] r)
+
+  wrong_outcome : (f : QueryFault) → faults ≡ Some f → seen_outcome q r.catalog r.trees ≡ Wrong f
+  unfolding seen_outcome
+  wrong_outcome f e = ap (λ f. outcome f (header ss q.items) (answer_rows ss q (seen_lefts ss q r.trees) (seen_rights ss q r.trees))) e
+
+  -- a reply whose trees are refused, and one whose needs are judged
+  pub bound_refused : (held : List Side) → held ≡ ss → faults ≡ None → (fault : CheckFault) → Passes (Err fault) (trees_fault (tables_used held) r)
+      → Passes (Err fault) (proof_fault q r)
+  bound_refused held is e fault (inl memory) = inl memory
+  bound_refused held is e fault (inr found) =
+      let known : trees_fault (tables_used ss) r ≡ Some fault = rw is at found in
+      inr (bound_parts e ∙ rw known refl)
+
+  bound_gives_at : faults ≡ None → trees_fault (tables_used ss) r ≡ None
+      → (result : Result Outcome CheckFault) → Gives result (needs_fault (needed_by ss q r)) (shown_rows ss q r)
+      → Gives result (proof_fault q r) (seen_outcome q r.catalog r.trees)
+  bound_gives_at e none result given =
+      let parts : proof_fault q r ≡ needs_fault (needed_by ss q r) = bound_parts e ∙ rw none (alone (needs_fault (needed_by ss q r))) in
+      rw (parts, bound_outcome e) given
+
+  pub bound_gives : (held : List Side) → held ≡ ss → faults ≡ None → trees_fault (tables_used held) r ≡ None
+      → (result : Result Outcome CheckFault) → Gives result (needs_fault (needed_by held q r)) (shown_rows held q r)
+      → Gives result (proof_fault q r) (seen_outcome q r.catalog r.trees)
+  bound_gives held is e none result given = bound_gives_at e (rw is at none) result (rw is at given)
+
+  pub wrong_refused : (f : QueryFault) → faults ≡ Some f → (fault : CheckFault) → Passes (Err fault) (trees_fault [] r) → Passes (Err fault) (proof_fault q r)
+  wrong_refused f e fault (inl memory) = inl memory
+  wrong_refused f e fault (inr found) = inr (wrong_parts f e ∙ found)
+
+  pub wrong_gives : (f : QueryFault) → faults ≡ Some f → trees_fault [] r ≡ None → Gives (Ok (Wrong f)) (proof_fault q r) (seen_outcome q r.catalog r.trees)
+  wrong_gives f e none = (wrong_parts f e ∙ none, sym (wrong_outcome f e))
+
+-- All tests.
+
+module _ (key : List ℕ) (least : ℕ) (q : Query) (r : Reply) where
+  reply_parts : reply_fault key least q r ≡ first_some (record_fault key least r ∷ catalog_fault r ∷ proof_fault q r ∷ [])
+  unfolding reply_fault proof_fault
+  reply_parts = four_one (key_fault key r) (leaf_fault key r) (signature_fault key r) (age_fault least r) (catalog_fault r)
+      (count_fault q r ∷ shape_fault q r ∷ first_some (map root_fault (trees_of q r)) ∷ missing_fault q r ∷ surplus_fault q r ∷ [])
+
+  pub refused_record : (fault : CheckFault) → Some fault ≡ record_fault key least r → reply_fault key least q r ≡ Some fault
+  refused_record fault e = reply_parts ∙ rw (sym e) refl
+
+  pub refused_catalog : (fault : CheckFault) → None ≡ record_fault key least r → Passes (Err fault) (catalog_fault r) → Passes (Err fault) (reply_fault key least q r)
+  refused_catalog fault none (inl memory) = inl memory
+  refused_catalog fault none (inr found) = inr (reply_parts ∙ rw (sym none, found) refl)
+
+  pub left_to_trees : None ≡ record_fault key least r → catalog_fault r ≡ None → reply_fault key least q r ≡ proof_fault q r
+  left_to_trees none passed = reply_parts ∙ rw (sym none, passed) (alone (proof_fault q r))
+
+pub answered : {A : Type 0} (result : Result A CheckFault) (found : Option CheckFault) (value : A) → Gives result found value
+    → (result ≡ Err Memory) ⊎ (result ≡ unless found value)
+answered (Ok x) found value given = inr (rw (given.0, given.1) refl)
+answered (Err fault) found value (inl memory) = inl (ap Err memory)
+answered (Err fault) found value (inr e) = inr (rw e refl)

@@ -1,0 +1,159 @@
+//! What a reply, once read, answers a query.
+ghost use Rattle.std.specs.Prelude.{◌≡◌, ◌≤◌, ◌⊎◌, length};
+ghost use Rattle.vo_spec.specs.Conditions.{query_of};
+ghost use Rattle.vo_spec.specs.Records.{headings};
+ghost use Rattle.vo_spec.specs.Replies.{FitsReply};
+ghost use Rattle.vo_spec.specs.Results.{schema_at, sides as sides_of, binding_fault};
+ghost use Rattle.vo_spec.specs.Needs.{tables_used};
+ghost use Rattle.vo_spec.specs.Checks.{reply_fault, seen_outcome, answer_to};
+ghost use Rattle.vo_spec.specs.Batches.{most_columns};
+ghost use Rattle.table_list.specs.Sided.{sides_seen};
+ghost use Rattle.plan_run.specs.Running.{HasSources};
+ghost use Rattle.vo_format.specs.View.{reply_of};
+ghost use Rattle.vo_check.specs.Testing.{Gives, needs_fault};
+ghost use Rattle.vo_check.specs.Judging.{needed_by, shown_rows, proof_fault};
+
+use crate::catalog_fault::test_catalog;
+use crate::need_faults::test_needs;
+use crate::record_faults::record_fault;
+use crate::tree_faults::test_trees;
+use lms_sign::PublicKey;
+use plan_run::run_plan;
+use query_plan::{CatalogSchemas, tables_used};
+use std::alloc::Global;
+use table_list::{BindFault, Sides, bind, header};
+use vo_format::Reply;
+use vo_spec::{Answer, CheckFault, Outcome, QueryFault, QueryText, ScanFault};
+
+/// The rows that the trees show, which have all that the query needs and nothing else.
+fn judge_needs(
+    alloc: Global,
+    sides: &Sides<'_>,
+    query: &QueryText,
+    reply: &Reply<'_>,
+) -> Result<Outcome, CheckFault>
+    requires sources { HasSources (sides_seen sides.now) (query_of query.now) }
+    requires left { length (schema_at (sides_seen sides.now) 0).columns ≤ most_columns }
+    requires right { length (schema_at (sides_seen sides.now) 1).columns ≤ most_columns }
+    requires count { length (tables_used (sides_seen sides.now)) ≡ length reply.now.trees.items }
+    ensures { let ss = sides_seen sides.now in let q = query_of query.now in let r = reply_of reply.now in
+        Gives result (needs_fault (needed_by ss q r)) (shown_rows ss q r) }
+{
+    let ran = match run_plan(alloc, sides, query, &reply.trees) {
+        Ok(ran) => ran,
+        Err(ScanFault::Missing) => return Err(CheckFault::Missing),
+        Err(ScanFault::Memory) => return Err(CheckFault::Memory),
+    };
+    match test_needs(alloc, &reply.trees, ran.needs.as_slice()) {
+        Ok(()) => {},
+        Err(fault) => return Err(fault),
+    }
+    match header(alloc, sides, &query.items) {
+        Ok(header) => Ok(Outcome::Rows {
+            header,
+            rows: ran.rows,
+        }),
+        Err(_) => Err(CheckFault::Memory),
+    }
+}
+
+/// The outcome of a query that binds to these sources.
+#[tactic(auto, using(crate::proofs::Judged::has_trees))]
+fn judge_bound(
+    alloc: Global,
+    sides: &Sides<'_>,
+    query: &QueryText,
+    reply: &Reply<'_>,
+) -> Result<Outcome, CheckFault>
+    requires fits { FitsReply (reply_of reply.now) }
+    requires bound { sides_seen sides.now ≡ sides_of (headings reply.now.catalog) (query_of query.now) }
+    requires right { binding_fault (headings reply.now.catalog) (query_of query.now) ≡ None }
+    ensures { let q = query_of query.now in let r = reply_of reply.now in
+        Gives result (proof_fault q r) (seen_outcome q r.catalog r.trees) }
+{
+    let Ok(names) = tables_used(alloc, sides) else {
+        return Err(CheckFault::Memory);
+    };
+    match test_trees(alloc, &names, reply) {
+        Ok(()) => judge_needs(alloc, sides, query, reply),
+        Err(fault) => Err(fault),
+    }
+}
+
+/// The outcome of a query that does not bind, which wants no trees.
+fn judge_wrong(
+    alloc: Global,
+    fault: QueryFault,
+    query: &QueryText,
+    reply: &Reply<'_>,
+) -> Result<Outcome, CheckFault>
+    requires fits { FitsReply (reply_of reply.now) }
+    requires wrong { binding_fault (headings reply.now.catalog) (query_of query.now) ≡ Some fault }
+    ensures { let q = query_of query.now in let r = reply_of reply.now in
+        Gives result (proof_fault q r) (seen_outcome q r.catalog r.trees) }
+{
+    match test_trees(alloc, &[], reply) {
+        Ok(()) => Ok(Outcome::Wrong(fault)),
+        Err(fault) => Err(fault),
+    }
+}
+
+/// The outcome by what the trees show, where they pass their tests.
+fn judge_trees(alloc: Global, query: &QueryText, reply: &Reply<'_>) -> Result<Outcome, CheckFault>
+    requires { FitsReply (reply_of reply.now) }
+    ensures { let q = query_of query.now in let r = reply_of reply.now in
+        Gives result (proof_fault q r) (seen_outcome q r.catalog r.trees) }
+{
+    let schemas = CatalogSchemas {
+        catalog: &reply.catalog,
+    };
+    match bind(alloc, &schemas, query) {
+        Ok(sides) => judge_bound(alloc, &sides, query, reply),
+        Err(BindFault::Wrong(fault)) => judge_wrong(alloc, fault, query, reply),
+        Err(BindFault::Memory) => Err(CheckFault::Memory),
+    }
+}
+
+/// The tests in their order, the cheap ones first: the record, the catalog, the trees.
+fn answer_of(
+    alloc: Global,
+    key: &PublicKey,
+    least: u64,
+    query: &QueryText,
+    reply: &Reply<'_>,
+) -> Result<Answer, CheckFault>
+    requires { FitsReply (reply_of reply.now) }
+    ensures { let q = query_of query.now in let r = reply_of reply.now in
+        Gives result (reply_fault key.now least q r) (record { version = r.rec.version; outcome = seen_outcome q r.catalog r.trees }) }
+{
+    if let Some(fault) = record_fault(key, least, reply) {
+        return Err(fault);
+    }
+    match test_catalog(alloc, reply) {
+        Ok(()) => {},
+        Err(fault) => return Err(fault),
+    }
+    match judge_trees(alloc, query, reply) {
+        Ok(outcome) => Ok(Answer {
+            version: reply.rec.version,
+            outcome,
+        }),
+        Err(fault) => Err(fault),
+    }
+}
+
+/// What a client of this key, who takes no version below `least`, says of the reply to the query: its answer,
+/// or the first test that refuses it.
+#[tactic(auto, unfolding(vo_spec::specs::Checks::answer_to))]
+pub fn judge(
+    alloc: Global,
+    key: &PublicKey,
+    least: u64,
+    query: &QueryText,
+    reply: &Reply<'_>,
+) -> Result<Answer, CheckFault>
+    requires { FitsReply (reply_of reply.now) }
+    ensures { (result ≡ Err CheckFault.Memory) ⊎ (result ≡ answer_to key.now least (query_of query.now) (reply_of reply.now)) }
+{
+    answer_of(alloc, key, least, query, reply)
+}

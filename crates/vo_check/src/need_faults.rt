@@ -1,0 +1,34 @@
+//! The tests of a reply's trees by what the query needs of them.
+ghost use Rattle.std.specs.Prelude.{◌≡◌, map, length, zip};
+ghost use Rattle.mb_tree.specs.View.{part_of};
+ghost use Rattle.vo_check.specs.Testing.{Passes, needs_fault};
+
+use mb_tree::PartTree;
+use range_proof::is_canonical;
+use std::alloc::Global;
+use vo_spec::{CheckFault, List, Need, ScanFault};
+
+/// Refuses trees that miss something of their needs, and then those that have more. There is a list of
+/// needs for each tree.
+pub(crate) fn test_needs(
+    alloc: Global,
+    trees: &[PartTree<'_>],
+    needs: &[List<Need>],
+) -> Result<(), CheckFault>
+    requires { length needs.now ≡ length trees.now }
+    ensures { Passes result (needs_fault (zip needs.now (map part_of trees.now))) }
+{
+    let mut are_bare = true;
+    for (place, tree) in trees.iter().enumerate() {
+        match is_canonical(alloc, tree, needs[place].as_slice()) {
+            Ok(is_bare) => are_bare = are_bare && is_bare,
+            Err(ScanFault::Missing) => return Err(CheckFault::Missing),
+            Err(ScanFault::Memory) => return Err(CheckFault::Memory),
+        }
+    }
+    if are_bare {
+        Ok(())
+    } else {
+        Err(CheckFault::Surplus)
+    }
+}

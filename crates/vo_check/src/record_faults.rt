@@ -1,0 +1,83 @@
+//! The tests of a reply's record: whose it is, how it is signed, and how old it is.
+ghost use Rattle.std.specs.Prelude.{◌≡◌};
+ghost use Rattle.vo_spec.specs.Lms.{leaf_of};
+ghost use Rattle.vo_spec.specs.Checks.{key_fault, leaf_fault, signature_fault, age_fault};
+ghost use Rattle.vo_format.specs.View.{reply_of};
+ghost use Rattle.vo_check.specs.Judging.{record_fault};
+
+use lms_sign::{PublicKey, verify};
+use version_record::record_bytes;
+use vo_format::Reply;
+use vo_spec::CheckFault;
+
+fn key_fault(key: &PublicKey, reply: &Reply<'_>) -> Option<CheckFault>
+    ensures { result ≡ key_fault key.now (reply_of reply.now) }
+{
+    let want = key.id();
+    if reply.rec.id == *want {
+        return None;
+    }
+    Some(CheckFault::WrongKey {
+        want: *want,
+        got: reply.rec.id,
+    })
+}
+
+/// The leaf that the signature names.
+#[tactic(auto, unfolding(vo_spec::specs::Lms::leaf_of))]
+fn leaf_named(key: &PublicKey, signature: &[u8]) -> Option<u32>
+    ensures { result ≡ leaf_of key.now signature.now }
+{
+    match key.leaf_of(signature) {
+        Some(q) => Some(q as u32),
+        None => None,
+    }
+}
+
+/// A signature too short to name a leaf passes here.
+fn leaf_fault(key: &PublicKey, reply: &Reply<'_>) -> Option<CheckFault>
+    ensures { result ≡ leaf_fault key.now (reply_of reply.now) }
+{
+    let version = reply.rec.version;
+    match leaf_named(key, reply.signature) {
+        Some(q) if u64::from(q) != version => Some(CheckFault::WrongLeaf { version, q }),
+        _ => None,
+    }
+}
+
+fn signature_fault(key: &PublicKey, reply: &Reply<'_>) -> Option<CheckFault>
+    ensures { result ≡ signature_fault key.now (reply_of reply.now) }
+{
+    if verify(key, &record_bytes(&reply.rec), reply.signature) {
+        None
+    } else {
+        Some(CheckFault::BadSignature)
+    }
+}
+
+fn age_fault(least: u64, reply: &Reply<'_>) -> Option<CheckFault>
+    ensures { result ≡ age_fault least (reply_of reply.now) }
+{
+    let got = reply.rec.version;
+    if got < least {
+        Some(CheckFault::Stale { least, got })
+    } else {
+        None
+    }
+}
+
+/// The first of these tests that refuses the reply.
+pub(crate) fn record_fault(key: &PublicKey, least: u64, reply: &Reply<'_>) -> Option<CheckFault>
+    ensures { result ≡ record_fault key.now least (reply_of reply.now) }
+{
+    if let Some(fault) = key_fault(key, reply) {
+        return Some(fault);
+    }
+    if let Some(fault) = leaf_fault(key, reply) {
+        return Some(fault);
+    }
+    if let Some(fault) = signature_fault(key, reply) {
+        return Some(fault);
+    }
+    age_fault(least, reply)
+}

@@ -1,0 +1,122 @@
+//! Whether a tree is of its table's schema.
+ghost use Rattle.std.specs.Prelude.{◌≡◌, remove};
+ghost use Rattle.std.specs.List.{list_all};
+ghost use Rattle.vo_spec.specs.Lent.{value_of};
+ghost use Rattle.vo_spec.specs.Values.{kind_of};
+ghost use Rattle.vo_spec.specs.Parts.{entries_in};
+ghost use Rattle.vo_spec.specs.Checks.{is_key_of, key_kind, shows_kind, cells_fit, row_fits, entry_fits, has_shape};
+ghost use Rattle.mb_tree.specs.View.{part_of, parts_of};
+
+use mb_tree::PartTree;
+use row_bytes::value_of_key;
+use table_list::{kind_at, same_kind};
+use vo_spec::{Cell, Column, Kind, PartEntry, RowPart, Schema, ValueRef};
+
+/// Whether the keys of the tree's leaves are keys of the schema, its rows have the schema's cells, and those
+/// that are shown are of their columns' kinds.
+#[cycle(shape)]
+pub(crate) fn has_shape(schema: &Schema, tree: &PartTree<'_>) -> bool
+    ensures { result ≡ has_shape schema.now (part_of tree.now) }
+{
+    match tree {
+        PartTree::Stub(_) => true,
+        PartTree::Leaf(entries) => entries_fit(schema, entries.as_slice()),
+        PartTree::Inner { children, .. } => have_shape(schema, children.as_slice()),
+    }
+}
+
+#[cycle(shape)]
+fn have_shape(schema: &Schema, children: &[PartTree<'_>]) -> bool
+    ensures { result ≡ list_all (entry_fits schema.now) (entries_in (parts_of children.now)) }
+{
+    for child in children {
+        if !has_shape(schema, child) {
+            return false;
+        }
+    }
+    true
+}
+
+fn entries_fit(schema: &Schema, entries: &[PartEntry<'_>]) -> bool
+    ensures { result ≡ list_all (entry_fits schema.now) entries.now }
+{
+    entries.iter().all(|entry| entry_fits(schema, entry))
+}
+
+fn entry_fits(schema: &Schema, entry: &PartEntry<'_>) -> bool
+    ensures { result ≡ entry_fits schema.now entry.now }
+{
+    is_key_of(key_kind(schema), entry.key.as_bytes()) && row_fits(schema, &entry.row)
+}
+
+fn key_kind(schema: &Schema) -> Kind
+    ensures { result ≡ key_kind schema.now }
+{
+    kind_at(schema.columns.as_slice(), schema.key as usize)
+}
+
+fn is_key_of(kind: Kind, key: &[u8]) -> bool
+    ensures { result ≡ is_key_of kind key.now }
+{
+    value_of_key(kind, key).is_ok()
+}
+
+fn row_fits(schema: &Schema, row: &RowPart<'_>) -> bool
+    ensures { result ≡ row_fits schema.now row.now }
+{
+    match row {
+        RowPart::Digest(_) => true,
+        RowPart::Cells(cells) => row_cells_fit(schema, cells.as_slice()),
+    }
+}
+
+/// Whether the cells are those of the columns but the key.
+#[tactic(auto, using(crate::proofs::CellLaws::parted_fit, crate::proofs::CellLaws::short_of_columns, crate::proofs::CellLaws::no_column_removed))]
+fn row_cells_fit(schema: &Schema, cells: &[Cell<'_>]) -> bool
+    ensures { result ≡ cells_fit (remove schema.now.columns schema.now.key) cells.now }
+{
+    let columns = schema.columns.as_slice();
+    let key = schema.key as usize;
+    if columns.len() <= key {
+        return cells_fit(columns, cells);
+    }
+    if cells.len() < key {
+        return false;
+    }
+    cells_fit(&columns[..key], &cells[..key]) && cells_fit(&columns[key + 1..], &cells[key..])
+}
+
+/// Whether there is a cell for each column, those that are shown of its kind.
+#[tactic(auto, using(crate::proofs::CellLaws::unlike_lengths))]
+fn cells_fit(columns: &[Column], cells: &[Cell<'_>]) -> bool
+    ensures { result ≡ cells_fit columns.now cells.now }
+{
+    if columns.len() != cells.len() {
+        return false;
+    }
+    for (number, column) in columns.iter().enumerate() {
+        if !shows_kind(column.kind, &cells[number]) {
+            return false;
+        }
+    }
+    true
+}
+
+fn shows_kind(kind: Kind, cell: &Cell<'_>) -> bool
+    ensures { result ≡ shows_kind kind cell.now }
+{
+    match cell {
+        Cell::Shown(value) => same_kind(kind, kind_of(value.as_ref())),
+        Cell::Hidden(_) => true,
+    }
+}
+
+fn kind_of(value: ValueRef<'_>) -> Kind
+    ensures { result ≡ kind_of (value_of value.entry) }
+{
+    match value {
+        ValueRef::Int(_) => Kind::Int,
+        ValueRef::Text(_) => Kind::Text,
+        ValueRef::Bool(_) => Kind::Bool,
+    }
+}

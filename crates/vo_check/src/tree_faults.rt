@@ -1,0 +1,109 @@
+//! The tests of a reply's trees: how many there are, their shape and their roots.
+ghost use Rattle.std.specs.Prelude.{◌≡◌, map, IfOk};
+ghost use Rattle.std.specs.List.{AllByRecursion, list_all};
+ghost use Rattle.vo_spec.specs.Firsts.{first_some};
+ghost use Rattle.vo_spec.specs.Fits.{FitsTree};
+ghost use Rattle.vo_spec.specs.Checks.{has_table_shape, root_fault};
+ghost use Rattle.vo_format.specs.View.{reply_of, trees_of};
+ghost use Rattle.query_plan.specs.Used.{lent_name};
+ghost use Rattle.vo_check.specs.Testing.{Passes, tree_in, tree_seen, number_fault, shapes_fault, trees_fault};
+
+use crate::pairing::pair_trees;
+use crate::shape::has_shape;
+use crate::table_tree::TableTree;
+use std::alloc::{AllocError, Global};
+use vo_format::Reply;
+use vo_spec::{CheckFault, Name};
+
+fn number_fault(names: &[&Name], reply: &Reply<'_>) -> Option<CheckFault>
+    ensures { result ≡ number_fault (map lent_name names.now) (reply_of reply.now) }
+{
+    let want = names.len();
+    let got = reply.trees.len();
+    if got == want {
+        return None;
+    }
+    Some(CheckFault::WrongTrees {
+        want: want as u64,
+        got: got as u64,
+    })
+}
+
+fn has_table_shape(tree: &TableTree<'_, '_>) -> bool
+    ensures { result ≡ has_table_shape (tree_seen tree.now) }
+{
+    match tree.table {
+        Some(table) => has_shape(&table.schema, tree.tree),
+        None => true,
+    }
+}
+
+fn have_table_shapes(trees: &[TableTree<'_, '_>]) -> bool
+    ensures { result ≡ list_all has_table_shape (map tree_seen trees.now) }
+{
+    for tree in trees {
+        if !has_table_shape(tree) {
+            return false;
+        }
+    }
+    true
+}
+
+fn copy_name(alloc: Global, name: &Name) -> Result<Name, AllocError>
+    ensures { IfOk result (λ copy. copy ≡ name.now) }
+{
+    Ok(Name::from_vec(Vec::from_slice(alloc, name.as_bytes())?))
+}
+
+/// Refuses another tree than the one of the catalog's root.
+fn test_root(alloc: Global, tree: &TableTree<'_, '_>) -> Result<(), CheckFault>
+    requires { FitsTree (tree_in tree.now) }
+    ensures { Passes result (root_fault (tree_seen tree.now)) }
+{
+    let Some(table) = tree.table else {
+        return Ok(());
+    };
+    let want = table.root;
+    let got = tree.tree.node_digest();
+    if want == got {
+        return Ok(());
+    }
+    match copy_name(alloc, &table.name) {
+        Ok(table) => Err(CheckFault::WrongRoot { table, want, got }),
+        Err(_) => Err(CheckFault::Memory),
+    }
+}
+
+fn test_roots(alloc: Global, trees: &[TableTree<'_, '_>]) -> Result<(), CheckFault>
+    requires { AllByRecursion FitsTree (map tree_in trees.now) }
+    ensures { Passes result (first_some (map root_fault (map tree_seen trees.now))) }
+{
+    for tree in trees {
+        match test_root(alloc, tree) {
+            Ok(()) => {}
+            Err(fault) => return Err(fault),
+        }
+    }
+    Ok(())
+}
+
+/// Refuses a reply that has not a tree for each of these tables, each of its schema and its root.
+pub(crate) fn test_trees(
+    alloc: Global,
+    names: &[&Name],
+    reply: &Reply<'_>,
+) -> Result<(), CheckFault>
+    requires { AllByRecursion FitsTree (trees_of reply.now.trees) }
+    ensures { Passes result (trees_fault (map lent_name names.now) (reply_of reply.now)) }
+{
+    if let Some(fault) = number_fault(names, reply) {
+        return Err(fault);
+    }
+    let Ok(trees) = pair_trees(alloc, names, reply) else {
+        return Err(CheckFault::Memory);
+    };
+    if !have_table_shapes(&trees) {
+        return Err(CheckFault::WrongShape);
+    }
+    test_roots(alloc, &trees)
+}
