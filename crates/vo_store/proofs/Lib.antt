@@ -1,0 +1,2 @@
+mod ProofLaws
+mod ReplyLaws

@@ -1,0 +1,230 @@
+-- The proofs of a query by the left table's own proof, which shows all that the query needs of that table.
+use Rattle.std.proofs.Common.{◌≡◌, ℕ, zero, suc, ◌+◌, ◌<◌, ◌≤◌, Bool, true, false, cond, List, [], ◌∷◌, ◌++◌, Option, Some, None, length, map, inl, refl, sym, ap, ◌∙◌, subst, arith}
+use Rattle.std.specs.Prelude.{◌||◌, ◌==◌, find, is_some, bytes_eq, option_map, option_to_list}
+use Rattle.std.specs.Option.{option_map_or}
+use Rattle.std.proofs.lemmas.Bool.{or_left, or_right, or_from}
+use Rattle.std.proofs.lemmas.List.{length-map}
+use Rattle.vo_spec.specs.declared.tables.Table.{Table}
+use Rattle.vo_spec.specs.declared.needs.Need.{Need}
+use Rattle.vo_spec.specs.declared.queries.Join.{Join}
+use Rattle.vo_spec.specs.declared.queries.Source.{Source}
+use Rattle.vo_spec.specs.declared.queries.QueryFault.{QueryFault}
+use Rattle.vo_spec.specs.Firsts.{first_some}
+use Rattle.vo_spec.specs.Batches.{most_columns}
+use Rattle.vo_spec.specs.Conditions.{comparisons, Query}
+use Rattle.vo_spec.specs.Tables.{Heading, heading_of, heading_named, rows_named}
+use Rattle.vo_spec.specs.Records.{headings}
+use Rattle.vo_spec.specs.Results.{Side, side_at, schema_at, side_of, sides, sources, missing_table, same_alias, ref_fault, query_refs, join_fault, kind_fault, binding_fault}
+use Rattle.vo_spec.specs.Parts.{entries}
+use Rattle.vo_spec.specs.Trees.{RowTree}
+use Rattle.vo_spec.specs.Scans.{seen}
+use Rattle.vo_spec.specs.Pruned.{is_missing, pruned}
+use Rattle.vo_spec.specs.Needs.{left_need, right_need, right_needs, seen_lefts, same_table, tables_used, tree_at}
+use Rattle.vo_spec.specs.Honest.{Stored, catalog_of, stored_tree, pruned_each}
+use Rattle.vo_laws.proofs.NamedFits.{cells_of, named_fits, named_cells_below}
+use Rattle.vo_laws.proofs.ReplyTrees.{pruned_complete}
+use Rattle.vo_laws.proofs.ScanLaws.{Shows, complete}
+use Rattle.vo_laws.proofs.StoredFits.{catalog_fits}
+use Rattle.vo_laws.proofs.Exact.{named_stands, same_headings}
+use Rattle.vo_laws.proofs.NeedLaws.{needs_of_left}
+use Rattle.table_list.specs.Sided.{side_seen, sides_seen}
+use Rattle.table_list.specs.declared.sides.Side.{Side as HeldSide}
+use Rattle.table_list.specs.declared.sides.Sides.{Sides}
+use Rattle.stored_tables.specs.Standing.{IsStanding}
+use Rattle.plan_run.proofs.FewColumns.{few_columns}
+use Rattle.vo_store.specs.Proving.{HasTable, proofs_of}
+
+-- Tables of a catalog are those of the trees.
+
+abbrev is_there : List ℕ → List Stored → Bool
+is_there name stored = is_some (find (λ (s : Stored). bytes_eq s.name name) stored)
+
+same_names : (name : List ℕ) (stored : List Stored) → is_some (heading_named name (headings (catalog_of stored))) ≡ is_there name stored
+same_names name [] = refl
+same_names name (s ∷ stored) = step (bytes_eq s.name name) (same_names name stored)
+  where
+    step : (b : Bool) → is_some (heading_named name (headings (catalog_of stored))) ≡ is_there name stored
+        → is_some (cond b (Some (record { name = s.name; schema = s.schema; count = length (entries s.tree) })) (heading_named name (headings (catalog_of stored))))
+        ≡ is_some (cond b (Some s) (find (λ (x : Stored). bytes_eq x.name name) stored))
+    step true e = refl
+    step false e = e
+
+module _ (stored : List Stored) where
+  abbrev hs : List Heading
+  hs = headings (catalog_of stored)
+
+  passed : (b : Bool) (fault : QueryFault) (rest : List (Option QueryFault)) → first_some (cond b None (Some fault) ∷ rest) ≡ None → (b ≡ true) × (first_some rest ≡ None)
+  passed true fault rest e = (refl, e)
+  passed false fault rest e = absurd (cc)
+
+  each_there : (ss : List Source) → first_some (map (missing_table hs) ss) ≡ None → (i : ℕ) → i < length ss → HasTable stored (side_at (map (side_of hs) ss) i).table
+  each_there [] e i lt = absurd (omega arith)
+  each_there (s ∷ ss) e zero lt = sym (same_names s.table stored) ∙ (passed (is_some (heading_named s.table hs)) _ (map (missing_table hs) ss) e).0
+  each_there (s ∷ ss) e (suc i) lt = each_there ss (passed (is_some (heading_named s.table hs)) _ (map (missing_table hs) ss) e).1 i (omega arith)
+
+  front : (xs ys : List (Option QueryFault)) → first_some (xs ++ ys) ≡ None → first_some xs ≡ None
+  front [] ys e = refl
+  front (None ∷ xs) ys e = front xs ys e
+  front (Some fault ∷ xs) ys e = e
+
+  -- a query that binds is of tables that are there
+  pub side_there : (q : Query) → binding_fault hs q ≡ None → (i : ℕ) → i < length (sides hs q) → HasTable stored (side_at (sides hs q) i).table
+  side_there q e i lt =
+      let ss : List Side = sides hs q in
+      let tables = map (missing_table hs) (sources q) in
+      let aliases = tables ++ same_alias (sources q) ∷ [] in
+      let refs = aliases ++ map (ref_fault ss) (query_refs q) in
+      let joins = refs ++ map (join_fault ss) (option_to_list q.join) in
+      let kinds = map (kind_fault ss) (option_map_or comparisons q.condition []) in
+      each_there (sources q) (front tables _ (front aliases _ (front refs _ (front joins kinds e)))) i (omega (arith, length-map (sources q) (side_of hs)))
+
+-- a query of one source needs nothing of a right tree
+pub alone : (hs : List Heading) (q : Query) (ts : List RowTree) → length (sides hs q) ≡ 1 → right_needs (sides hs q) q ts ≡ []
+alone hs q ts e = step q.join refl
+  where
+    step : (o : Option Join) → q.join ≡ o → right_needs (sides hs q) q ts ≡ []
+    step None is = rw is refl
+    step (Some j) is =
+        let two : length (sides hs q) ≡ 2 = ap (λ (o : Option Join). length (map (side_of hs) (q.left ∷ option_to_list (option_map (λ (k : Join). k.right) o)))) is in
+        absurd (omega (arith, two, e))
+
+-- sides by the right one, if there is one
+abbrev pub beside : HeldSide → Option HeldSide → List Side
+beside left right = side_seen left ∷ option_to_list (option_map side_seen right)
+
+module _ (stored : List Stored) (standing : IsStanding stored) (q : Query) where
+  abbrev ss : List Side
+  ss = sides (headings (catalog_of stored)) q
+
+  abbrev need : Need
+  need = left_need ss q
+
+  abbrev tree : ℕ → RowTree
+  tree i = stored_tree stored (side_at ss i).table
+
+  -- the left table's own proof
+  abbrev first : RowTree
+  first = pruned (need ∷ []) (tree 0)
+
+  pub narrow : (i : ℕ) → length (schema_at ss i).columns ≤ most_columns
+  narrow i = few_columns (catalog_of stored) (catalog_fits stored standing.tables standing.stand standing.fit) q i
+
+  abbrev IsComplete : List Heading → Type 0
+  IsComplete hs = is_missing (left_need (sides hs q) q ∷ []) (pruned (left_need (sides hs q) q ∷ []) (stored_tree stored q.left.table)) ≡ false
+
+  whole_complete : IsComplete (map heading_of standing.tables)
+  whole_complete =
+      let held : List Side = sides (map heading_of standing.tables) q in
+      let rows = rows_named q.left.table standing.tables in
+      let fits = named_fits q.left.table standing.tables standing.fit.each in
+      pruned_complete (cells_of (schema_at held 0)) (left_need held q ∷ []) (stored_tree stored q.left.table) rows
+      (named_stands q.left.table stored standing.tables standing.stand) (named_cells_below held q 0 rows fits, tt) fits.cells
+
+  first_complete : is_missing (need ∷ []) first ≡ false
+  first_complete = subst IsComplete (sym (same_headings stored standing.tables standing.stand)) whole_complete
+
+  pub first_shown : seen need first ≡ None → ⊥
+  first_shown e = subst Shows e (complete (need ∷ []) need first (inl refl) first_complete)
+
+  -- The proofs, by how many trees the query uses.
+
+  abbrev names : Bool → List (List ℕ)
+  names b = cond b ((side_at ss 0).table ∷ []) ((side_at ss 0).table ∷ (side_at ss 1).table ∷ [])
+
+  abbrev rights : List (List ℕ) → List Need
+  rights ns = right_needs ss q (pruned (need ∷ []) (tree_at (map (stored_tree stored) ns) 0) ∷ [])
+
+  -- by the names of the trees that the needs go by, and of those that the reply has
+  abbrev proofs_by : Bool → List (List ℕ) → List RowTree
+  proofs_by b ns =
+      pruned_each (cond (length (names b) == 1) ((need ∷ rights ns) ∷ []) ((need ∷ []) ∷ rights ns ∷ [])) (map (stored_tree stored) ns)
+
+  abbrev is_one : Bool
+  is_one = length ss == 1 || same_table ss
+
+  by_first : proofs_of q stored ≡ proofs_by is_one (cond (is_some (binding_fault (headings (catalog_of stored)) q)) [] (names is_one))
+  by_first = ap (λ nss. pruned_each nss (map (stored_tree stored) (cond (is_some (binding_fault (headings (catalog_of stored)) q)) [] (names is_one))))
+      (sym (needs_of_left stored standing.tables standing.stand standing.fit q []))
+
+  bound_proofs : binding_fault (headings (catalog_of stored)) q ≡ None → proofs_of q stored ≡ proofs_by is_one (names is_one)
+  bound_proofs e = by_first ∙ ap (λ (o : Option QueryFault). proofs_by is_one (cond (is_some o) [] (names is_one))) e
+
+  pub one_proof : binding_fault (headings (catalog_of stored)) q ≡ None → is_one ≡ true → proofs_of q stored ≡ pruned (need ∷ right_needs ss q (first ∷ [])) (tree 0) ∷ []
+  one_proof e one = bound_proofs e ∙ ap (λ b. proofs_by b (names b)) one
+
+  pub two_proofs : binding_fault (headings (catalog_of stored)) q ≡ None → is_one ≡ false → proofs_of q stored ≡ first ∷ pruned (right_needs ss q (first ∷ [])) (tree 1) ∷ []
+  two_proofs e two = bound_proofs e ∙ ap (λ b. proofs_by b (names b)) two
+
+  none_each : (nss : List (List Need)) → pruned_each nss [] ≡ []
+  none_each [] = refl
+  none_each (ns ∷ nss) = refl
+
+  pub no_proofs : (fault : QueryFault) → binding_fault (headings (catalog_of stored)) q ≡ Some fault → proofs_of q stored ≡ []
+  no_proofs fault e =
+      by_first ∙ ap (λ (o : Option QueryFault). proofs_by is_one (cond (is_some o) [] (names is_one))) e ∙ none_each _
+
+  -- The same of sides that are held.
+
+  pub narrow_by : (held : List Side) → held ≡ ss → (i : ℕ) → length (schema_at held i).columns ≤ most_columns
+  narrow_by held is i = subst (λ sides. length (schema_at sides i).columns ≤ most_columns) (sym is) (narrow i)
+
+  pub shown_by : (held : List Side) → held ≡ ss → (n : Need) → n ≡ left_need held q → (proof : RowTree) → proof ≡ pruned (n ∷ []) (stored_tree stored (side_at held 0).table)
+      → seen (left_need held q) proof ≡ None → ⊥
+  shown_by held is n n_is proof proof_is e =
+      let same : seen (left_need held q) (pruned (left_need held q ∷ []) (stored_tree stored (side_at held 0).table)) ≡ None =
+      sym (ap (seen (left_need held q)) (proof_is ∙ ap (λ m. pruned (m ∷ []) (stored_tree stored (side_at held 0).table)) n_is)) ∙ e in
+      first_shown (subst (λ sides. seen (left_need sides q) (pruned (left_need sides q ∷ []) (stored_tree stored (side_at sides 0).table)) ≡ None) is same)
+
+  there_by : (held : List Side) → held ≡ ss → binding_fault (headings (catalog_of stored)) q ≡ None → (i : ℕ) → i < length held → HasTable stored (side_at held i).table
+  there_by held is e i lt =
+      let within : i < length ss = subst (λ sides. i < length sides) is lt in
+      subst (λ sides. HasTable stored (side_at sides i).table) (sym is) (side_there stored q e i within)
+
+  pub left_there : (held : Sides) → sides_seen held ≡ ss → binding_fault (headings (catalog_of stored)) q ≡ None → HasTable stored held.left.table.now
+  left_there held is e = there_by (sides_seen held) is e 0 (omega arith)
+
+  pub right_there : (held : Sides) → sides_seen held ≡ ss → binding_fault (headings (catalog_of stored)) q ≡ None
+      → (right : HeldSide) → held.right ≡ Some right → HasTable stored right.table.now
+  right_there held is e right joined =
+      there_by (beside held.left (Some right)) (subst (λ r. beside held.left r ≡ ss) joined is) e 1 (omega arith)
+
+  module _ (held : List Side) (is : held ≡ ss) (e : binding_fault (headings (catalog_of stored)) q ≡ None) where
+    same_tree : (i : ℕ) (t : RowTree) → t ≡ stored_tree stored (side_at held i).table → t ≡ tree i
+    same_tree i t t_is = t_is ∙ ap (λ sides. stored_tree stored (side_at sides i).table) is
+
+    same_need : (n : Need) → n ≡ left_need held q → n ≡ need
+    same_need n n_is = n_is ∙ ap (λ sides. left_need sides q) is
+
+    pub alone_by : length held ≡ 1 → (n : Need) → n ≡ left_need held q → (t : RowTree) → t ≡ stored_tree stored (side_at held 0).table
+        → proofs_of q stored ≡ pruned (n ∷ []) t ∷ []
+    alone_by one n n_is t t_is =
+        let single : length ss ≡ 1 = ap length (sym is) ∙ one in
+        one_proof e (or_left (length ss == 1) (same_table ss) (ap (λ k. k == 1) single))
+        ∙ ap (λ ns. pruned (need ∷ ns) (tree 0) ∷ []) (alone (headings (catalog_of stored)) q (first ∷ []) single)
+        ∙ ap (λ m. pruned (m ∷ []) (tree 0) ∷ []) (sym (same_need n n_is))
+        ∙ ap (λ x. pruned (n ∷ []) x ∷ []) (sym (same_tree 0 t t_is))
+
+    module _ (n : Need) (n_is : n ≡ left_need held q) (proof : RowTree) (proof_is : proof ≡ pruned (n ∷ []) (stored_tree stored (side_at held 0).table))
+        (rights : List Need) (rights_are : rights ≡ right_needs held q (proof ∷ [])) where
+      same_proof : proof ≡ first
+      same_proof =
+          proof_is
+          ∙ ap (λ m. pruned (m ∷ []) (stored_tree stored (side_at held 0).table)) (same_need n n_is)
+          ∙ ap (λ sides. pruned (need ∷ []) (stored_tree stored (side_at sides 0).table)) is
+
+      same_rights : rights ≡ right_needs ss q (first ∷ [])
+      same_rights = rights_are ∙ ap (λ p. right_needs held q (p ∷ [])) same_proof ∙ ap (λ sides. right_needs sides q (first ∷ [])) is
+
+      pub same_by : same_table held ≡ true → (t : RowTree) → t ≡ stored_tree stored (side_at held 0).table → proofs_of q stored ≡ pruned (n ∷ rights) t ∷ []
+      same_by same t t_is =
+          one_proof e (or_right (length ss == 1) (same_table ss) (ap same_table (sym is) ∙ same))
+          ∙ ap (λ ns. pruned (need ∷ ns) (tree 0) ∷ []) (sym same_rights)
+          ∙ ap (λ m. pruned (m ∷ rights) (tree 0) ∷ []) (sym (same_need n n_is))
+          ∙ ap (λ x. pruned (n ∷ rights) x ∷ []) (sym (same_tree 0 t t_is))
+
+      pub two_by : length held ≡ 2 → same_table held ≡ false → (t : RowTree) → t ≡ stored_tree stored (side_at held 1).table → proofs_of q stored ≡ proof ∷ pruned rights t ∷ []
+      two_by two same t t_is =
+          two_proofs e (or_from (length ss == 1) (same_table ss) (ap (λ k. k == 1) (ap length (sym is) ∙ two)) (ap same_table (sym is) ∙ same))
+          ∙ ap (λ p. p ∷ pruned (right_needs ss q (first ∷ [])) (tree 1) ∷ []) (sym same_proof)
+          ∙ ap (λ ns. proof ∷ pruned ns (tree 1) ∷ []) (sym same_rights)
+          ∙ ap (λ x. proof ∷ pruned rights x ∷ []) (sym (same_tree 1 t t_is))

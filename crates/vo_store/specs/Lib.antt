@@ -1,0 +1,4 @@
+pub mod Proving
+pub mod Replying
+pub mod Taking
+pub mod Writing
