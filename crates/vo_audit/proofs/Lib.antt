@@ -1,0 +1,7 @@
+pub mod NumberLaws
+pub mod AcceptedLaws
+pub mod JournalLaws
+pub mod WantedLaws
+pub mod ResultLaws
+pub mod FindingLaws
+pub mod VerdictLaws

@@ -1,0 +1,96 @@
+-- What the steps of an audit find.
+use Rattle.std.specs.Prelude.{◌≡◌, ◌≢◌, ◌≤◌, ◌<◌, ◌⊎◌, ℕ, List, length, take, drop, map, Option, Some, None, Result, Ok, Err, IfSome, IsSome}
+use Rattle.std.specs.List.{AllByRecursion, AllZip}
+use Rattle.vo_spec.specs.declared.queries.Ref.{Ref}
+use Rattle.vo_spec.specs.declared.queries.Operand.{Operand}
+use Rattle.vo_spec.specs.declared.tables.Table.{Table}
+use Rattle.vo_spec.specs.declared.records.Record.{Record}
+use Rattle.vo_spec.specs.declared.records.Entry.{Entry}
+use Rattle.vo_spec.specs.declared.checks.Answer.{Answer}
+use Rattle.vo_spec.specs.declared.checks.CheckFault.{CheckFault}
+use Rattle.vo_spec.specs.declared.checks.CheckFault.TheVariants as check
+use Rattle.vo_spec.specs.declared.checks.AuditFault.{AuditFault}
+use Rattle.vo_spec.specs.declared.checks.AuditFault.TheVariants.{BadJournal, Refused, Memory}
+use Rattle.vo_spec.specs.declared.checks.Verdict.{Verdict}
+use Rattle.vo_spec.specs.declared.checks.Verdict.TheVariants.{Unsigned, Exact, Collides as Collide}
+use Rattle.vo_spec.specs.Collides.{Collides}
+use Rattle.vo_spec.specs.Firsts.{first_some}
+use Rattle.vo_spec.specs.Conditions.{Query, FitsOperand}
+use Rattle.vo_spec.specs.Results.{result}
+use Rattle.vo_spec.specs.Records.{catalog_digest}
+use Rattle.vo_spec.specs.Journals.{Holds, batches_of, tables_at}
+use Rattle.vo_spec.specs.Trees.{Prunes}
+use Rattle.vo_spec.specs.Replies.{Reply, IsReply, most_reply}
+use Rattle.vo_spec.specs.Checks.{CheckOf, tables_wanted, trees_of, root_fault, missing_fault, seen_outcome, answer_to}
+use Rattle.vo_spec.specs.Honest.{Stored, StandForTables, catalog_of, honest_trees, trees_for}
+use Rattle.vo_spec.specs.Audits.{IsVerdict}
+use Rattle.vo_format.specs.declared.reply.Reply.{Reply as ReadReply}
+use Rattle.vo_format.specs.View.{reply_of}
+use Rattle.owner_state.specs.declared.journals.OwnedJournal.{OwnedJournal}
+
+-- two different byte strings of one digest are found, or the fact holds
+abbrev pub Finds : Option (List ℕ × List ℕ) → Type 0 → Type 0
+Finds None fact = fact
+Finds (Some found) fact = Collides found.0 found.1
+
+-- the numbers that comparisons compare with are of 64 bits
+abbrev pub FitComparisons : List (Ref × Operand) → Type 0
+FitComparisons = AllByRecursion (λ (c : Ref × Operand). FitsOperand c.1)
+
+-- Replies.
+
+-- the bytes are this reply, within the limit; or any client refuses them so, unless memory ran out
+abbrev pub ReadsReply : List ℕ → Result ReadReply CheckFault → Type 0
+ReadsReply bytes (Ok reply) = (length bytes ≤ most_reply) × IsReply bytes (reply_of reply)
+ReadsReply bytes (Err fault) = (fault ≡ check.Memory) ⊎ ((key : List ℕ) (q : Query) → CheckOf key 0 q bytes (Err fault))
+
+abbrev pub version_of : Result ReadReply CheckFault → ℕ
+version_of (Ok reply) = reply.rec.version
+version_of (Err fault) = 0
+
+abbrev pub audit_fault : CheckFault → AuditFault
+audit_fault check.Memory = Memory
+audit_fault fault = Refused fault
+
+-- tests of an accepted reply, and its answer
+pub record HasPassed (q : Query) (r : Reply) : Type 0 where
+  pub catalog : r.rec.catalog ≡ catalog_digest r.catalog
+  pub count : length r.trees ≡ length (tables_wanted q r.catalog)
+  pub roots : first_some (map root_fault (trees_of q r)) ≡ None
+  pub complete : missing_fault q r ≡ None
+
+abbrev pub seen_answer : Query → Reply → Answer
+seen_answer q r = record { version = r.rec.version; outcome = seen_outcome q r.catalog r.trees }
+
+-- the reply shows parts of these tables' trees
+pub record IsPartOf (q : Query) (r : Reply) (stored : List Stored) : Type 0 where
+  pub catalog : r.catalog ≡ catalog_of stored
+  pub trees : AllZip Prunes r.trees (trees_for q stored)
+
+-- Journals.
+
+abbrev pub stored_at : ℕ → List Entry → List Stored
+stored_at version es = honest_trees (batches_of (take version (drop 1 es)))
+
+-- an owner's journal, read with the tables of this version
+pub record IsReadAt (version : ℕ) (owned : OwnedJournal) : Type 0 where
+  pub some : 0 < length owned.entries
+  pub signed : (rec : Record) → Holds owned.entries rec → rec.catalog ≡ catalog_digest (catalog_of (stored_at rec.version owned.entries))
+  pub stand : StandForTables (stored_at version owned.entries) (tables_at version owned.entries)
+  pub tables : IfSome owned.tables (λ tables. tables ≡ stored_at version owned.entries)
+  pub there : version < length owned.entries → IsSome owned.tables
+
+-- Verdicts.
+
+-- the verdict where the journal holds the record, by the tables of its version
+abbrev pub IsHeldVerdict : List Table → Query → Answer → Verdict → Type 0
+IsHeldVerdict tables q answer (Unsigned rec signature last) = ⊥
+IsHeldVerdict tables q answer (Exact version) = (answer.outcome ≡ result q tables) × (version ≡ answer.version)
+IsHeldVerdict tables q answer (Collide found) = (answer.outcome ≢ result q tables) × Collides found.0 found.1
+
+-- what an audit says of a reply that was read, by the entries of a journal that was
+abbrev pub AuditsReply : List ℕ → List Entry → Query → Reply → Result Verdict AuditFault → Type 0
+AuditsReply key es q r (Err (BadJournal index)) = ⊥
+AuditsReply key es q r (Err (Refused fault)) = answer_to key 0 q r ≡ Err fault
+AuditsReply key es q r (Err Memory) = Unit {0}
+AuditsReply key es q r (Ok verdict) = (answer : Answer) × (answer_to key 0 q r ≡ Ok answer) × IsVerdict es q r answer verdict

@@ -1,0 +1,81 @@
+//! The audit of a reply: its reading, the journal, the client's check, and the verdict, in this order.
+ghost use Rattle.std.specs.Prelude.{◌≡◌, ◌⊎◌, Err};
+ghost use Rattle.vo_spec.specs.Conditions.{query_of};
+ghost use Rattle.vo_spec.specs.Replies.{FitsReply};
+ghost use Rattle.vo_spec.specs.Audits.{AuditOf};
+ghost use Rattle.vo_format.specs.View.{reply_of};
+ghost use Rattle.vo_audit.specs.Auditing.{IsReadAt, AuditsReply, audit_fault, version_of};
+
+use crate::reading::read_within;
+use crate::verdicts::verdict_on;
+use lms_sign::PublicKey;
+use owner_state::{JournalFault, OwnedJournal, read_owned};
+use std::alloc::Global;
+use vo_check::judge;
+use vo_format::Reply;
+use vo_spec::{AuditFault, CheckFault, QueryText, Verdict};
+
+/// The version whose tables are wanted of the journal.
+fn version_of(read: &Result<Reply<'_>, CheckFault>) -> u64
+    ensures { result ≡ version_of read.now }
+{
+    match read {
+        Ok(reply) => reply.rec.version,
+        Err(_) => 0,
+    }
+}
+
+fn audit_fault(fault: CheckFault) -> AuditFault
+    ensures { result ≡ audit_fault fault }
+{
+    match fault {
+        CheckFault::Memory => AuditFault::Memory,
+        fault => AuditFault::Refused(fault),
+    }
+}
+
+/// The verdict on a reply that was read, by a journal that was.
+fn audit_reply(
+    alloc: Global,
+    key: &PublicKey,
+    owned: &OwnedJournal,
+    query: &QueryText,
+    reply: &Reply<'_>,
+) -> Result<Verdict, AuditFault>
+    requires read { IsReadAt reply.now.rec.version owned.now }
+    requires fits { FitsReply (reply_of reply.now) }
+    ensures { AuditsReply key.now owned.now.entries (query_of query.now) (reply_of reply.now) result }
+{
+    let answer = match judge(alloc, key, 0, query, reply) {
+        Ok(answer) => answer,
+        Err(fault) => return Err(audit_fault(fault)),
+    };
+    match verdict_on(alloc, owned, query, reply, &answer) {
+        Ok(verdict) => Ok(verdict),
+        Err(_) => Err(AuditFault::Memory),
+    }
+}
+
+/// The verdict on the bytes as a reply to the query, by the bytes as the journal of the key's owner. A bad
+/// journal is told before anything of the reply.
+pub fn audit(
+    alloc: Global,
+    key: &PublicKey,
+    journal: &[u8],
+    query: &QueryText,
+    reply: &[u8],
+) -> Result<Verdict, AuditFault>
+    ensures { (result ≡ Err AuditFault.Memory) ⊎ AuditOf key.now journal.now (query_of query.now) reply.now result }
+{
+    let read = read_within(alloc, reply);
+    match read_owned(alloc, key, journal, version_of(&read)) {
+        Ok(owned) => {
+            match read {
+                Ok(reply) => audit_reply(alloc, key, &owned, query, &reply),
+                Err(fault) => Err(audit_fault(fault)),
+            }
+        },
+        Err(JournalFault::BadAt { index }) => Err(AuditFault::BadJournal { index }),
+        Err(JournalFault::Memory) => Err(AuditFault::Memory),
+    }
+}

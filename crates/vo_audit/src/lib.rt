@@ -1,0 +1,17 @@
+//! The auditor, who has the owner's journal: what it says of replies.
+#![tactic(auto)]
+
+mod auditing;
+mod evidence;
+mod holding;
+mod numbers;
+mod plain_result;
+mod reading;
+mod tree_evidence;
+mod verdicts;
+
+pub use auditing::audit;
+pub use vo_spec::{AuditFault, QueryText, Verdict};
+
+#[cfg(test)]
+mod tests;
