@@ -1,6 +1,6 @@
 -- How a run ends, from what its work answered and from what was put.
-use Rattle.std.specs.Prelude.{◌≡◌, ℕ, List, Option, Some, None, IfSome, refl}
-use mathlib.Core.Logic.{inl, inr, ◌⊎◌}
+use Rattle.std.specs.Prelude.{ℕ, List, Option, Some, None, IfSome, refl}
+use mathlib.Core.Logic.{inl, inr}
 use Rattle.vo_cli.specs.Lines.{Said}
 use Rattle.vo_cli.specs.Dues.{Due, Fits, Ends, Writes, outside_failed}
 

@@ -1,2 +1,5 @@
 pub mod Endings
 pub mod Steps
+pub mod TextSteps
+pub mod FileSteps
+pub mod CommandSteps

@@ -1,6 +1,5 @@
 -- Work on a file, after it was taken.
-use Rattle.std.specs.Prelude.{◌≡◌, ℕ, List, Option, Some, None, IfSome, Result, Ok, Err, Vec}
-use Rattle.std.specs.declared.alloc.Global.{Global}
+use Rattle.std.specs.Prelude.{◌≡◌, ℕ, List, Option, Some, None, IfSome, Result, Ok, Err}
 use Rattle.std.proofs.Common.{◌∙◌}
 use Rattle.outside.specs.Shelf.{Files}
 use Rattle.vo_spec.specs.Secret.{Secret}

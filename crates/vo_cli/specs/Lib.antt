@@ -1,4 +1,5 @@
 pub mod Lines
 pub mod Words
+pub mod Texts
 pub mod Reports
 pub mod Dues

@@ -1,11 +1,9 @@
 -- What the program says: a status, and lines of text.
-use Rattle.std.specs.Prelude.{ℕ, ℤ, List, [], ◌∷◌, ◌++◌, map, flat_map, length, codes, decimal, ◌==◌, if◌then◌else◌, Bool, true, false, Option, Some, None, Result, Ok, Err}
-use Rattle.std.specs.Option.{option_map_or}
+use Rattle.std.specs.Prelude.{ℕ, List, [], ◌∷◌, ◌++◌, map, flat_map, length, codes, decimal, ◌==◌, if◌then◌else◌, true, false, Result, Ok, Err}
 use Rattle.std.specs.Fmt.{signed_decimal}
 use Rattle.hex.specs.Hex.{encode_lower}
 use Rattle.vo_spec.specs.declared.values.Value.{Value}
 use Rattle.vo_spec.specs.declared.values.Value.TheVariants.{Int, Text, Bool as Truth}
-use Rattle.vo_spec.specs.declared.queries.Ref.{Ref}
 use Rattle.vo_spec.specs.declared.queries.QueryFault.{QueryFault}
 use Rattle.vo_spec.specs.declared.queries.QueryFault.TheVariants as query
 use Rattle.vo_spec.specs.declared.queries.Outcome.{Outcome}
@@ -20,7 +18,7 @@ use Rattle.vo_spec.specs.declared.checks.Verdict.TheVariants.{Unsigned, Exact, C
 use Rattle.vo_spec.specs.declared.checks.AuditFault.{AuditFault}
 use Rattle.vo_spec.specs.declared.checks.AuditFault.TheVariants as audit
 use Rattle.vo_spec.specs.Records.{record_bytes}
-use Rattle.vo_spec.specs.Results.{ref_title, qualifier_of}
+use Rattle.vo_spec.specs.Results.{ref_title}
 
 pub record Said : Type 0 where
   pub status : ℕ

@@ -1,12 +1,12 @@
 -- Reports as what the program says.
-use Rattle.std.specs.Prelude.{◌≡◌, ℕ, Result, Ok, Err}
+use Rattle.std.specs.Prelude.{◌≡◌, ℕ, Bool, true, false, Result, Ok, Err}
 use Rattle.vo_cli.specs.declared.report.Status.{Status}
 use Rattle.vo_cli.specs.declared.report.Status.TheVariants.{Done, RefusedReply, RefusedInput, Collision, Unsigned, BadJournal, RefusedCommand}
 use Rattle.vo_cli.specs.declared.report.Report.{Report}
 use Rattle.vo_cli.specs.declared.report.Stop.{Stop}
 use Rattle.vo_cli.specs.declared.report.Stop.TheVariants.{Says, Outside, Memory}
 use Rattle.vo_cli.specs.Lines.{Said}
-use Rattle.vo_cli.specs.Dues.{Due, Exactly, Fits as Meets}
+use Rattle.vo_cli.specs.Dues.{Due, Exactly, Fits as Meets, refused_text}
 
 abbrev pub status_code : Status → ℕ
 status_code Done = 0
@@ -33,3 +33,20 @@ GoesOn {B = B} view due (Ok taken) = (rest : B → Due) → due rest ≡ rest (v
 GoesOn {B = B} view due (Err (Says report)) = (rest : B → Due) → due rest ≡ Exactly (said_of report)
 GoesOn view due (Err Outside) = Unit {0}
 GoesOn view due (Err Memory) = Unit {0}
+
+-- The text is this; or it is nothing of the sort, and that is said.
+abbrev pub ReadsText : {A B : Type 0} → (A → B) → (B → Type 0) → Result A Stop → Type 0
+ReadsText view Is (Ok taken) = Is (view taken)
+ReadsText {B = B} view Is (Err (Says report)) = ((b : B) → Is b → ⊥) × (said_of report ≡ refused_text)
+ReadsText view Is (Err Outside) = ⊥
+ReadsText view Is (Err Memory) = Unit {0}
+
+abbrev pub IsRefusedText : Stop → Type 0
+IsRefusedText (Says report) = said_of report ≡ refused_text
+IsRefusedText Outside = ⊥
+IsRefusedText Memory = ⊥
+
+-- after a fault of a text: it is refused, unless memory ended
+abbrev pub StopsBy : Bool → Stop → Type 0
+StopsBy true stop = stop ≡ Memory
+StopsBy false stop = IsRefusedText stop

@@ -3,13 +3,13 @@ ghost use Rattle.std.specs.Prelude.{◌≡◌, ◌==◌, ℕ, ◌≤◌, length,
 ghost use Rattle.outside.specs.Miss.{CountsMiss};
 ghost use Rattle.outside.specs.Rose.{Rose};
 ghost use Rattle.vo_words.specs.Height.{number_of};
-ghost use Rattle.vo_cli.specs.Dues.{with_file, with_seed, with_secret, seed_limit};
+ghost use Rattle.vo_cli.specs.Dues.{with_file, with_seed, with_secret, seed_limit, with_key, with_public, is_public_key};
 ghost use Rattle.vo_cli.specs.Reports.{GoesOn};
 
 use crate::printed::Word;
 use crate::refusals::refusal;
 use crate::report::{Status, Stop};
-use lms_sign::{OtsType, SecretKey};
+use lms_sign::{OtsType, PublicKey, SecretKey};
 use outside::{Shelf, TakeFault};
 use std::alloc::Global;
 use vo_words::Height;
@@ -81,5 +81,32 @@ fn parts_of(bytes: &[u8]) -> Option<(&[u8; 16], &[u8; 32])>
         Some((id, seed))
     } else {
         None
+    }
+}
+
+/// The public key of a key file.
+pub fn take_key<F: Shelf>(alloc: Global, files: &mut F, name: &str) -> Result<PublicKey, Stop>
+    ensures told { IfSome (F.contents files.old)
+        (λ told. GoesOn (λ key. key) (with_key told name.now) result) }
+    ensures kept { F.contents files.new ≡ F.contents files.old }
+    ensures counts { F.faults files.old ≤ F.faults files.new }
+    ensures cause { IsErrOf result Stop.Outside → Rose (F.faults files.old) (F.faults files.new) }
+    ensures misses { IfSome (F.contents files.old)
+        (λ told. CountsMiss (is_some (told name.now)) (F.misses files.old) (F.misses files.new)) }
+{
+    let bytes = take_file(alloc, files, name, 64)?;
+    public_key(alloc, &bytes)
+}
+
+fn public_key(alloc: Global, bytes: &[u8]) -> Result<PublicKey, Stop>
+    ensures told { GoesOn (λ key. key) (λ rest. with_public rest bytes.now) result }
+    ensures inside { IsErrOf result Stop.Outside → ⊥ }
+{
+    match PublicKey::read(bytes) {
+        Ok(key) => Ok(key),
+        Err(_) => {
+            let words = [Word::Phrase("key file")];
+            Err(Stop::Says(refusal(alloc, Status::RefusedInput, &words)?))
+        }
     }
 }

@@ -1,16 +1,22 @@
 //! The program: an owner, a store, clients and auditors of outsourced tables.
 #![tactic(auto)]
 
+mod answer;
 mod answers;
+mod audit;
+mod check;
 mod files;
 mod keygen;
 mod lines;
 mod printed;
 mod refusals;
 mod report;
+mod seal;
 #[cfg(test)]
 mod tests;
+mod texts;
 mod top;
+mod verdicts;
 
 use outside_real::{FolderFiles, JournalFile, StandardOutput, Tcp};
 use std::env;

@@ -3,13 +3,17 @@ ghost use Rattle.std.specs.Prelude.{◌≡◌, ◌≢◌, ◌⊎◌, ℕ, ◌≤
 ghost use Rattle.outside.specs.Rose.{Rose};
 ghost use Rattle.vo_words.specs.Asked.{asked_by};
 ghost use Rattle.vo_words.specs.Request.{asked};
-ghost use Rattle.vo_cli.specs.Dues.{due_to, Ends, Writes, HoldsEach, file_words};
+ghost use Rattle.vo_cli.specs.Dues.{due_to, command_due, Ends, Writes, HoldsEach, asked_files, file_words};
 ghost use Rattle.vo_cli.specs.Reports.{Answers, said_of};
 
+use crate::answer::answer;
+use crate::audit::audit;
+use crate::check::check;
 use crate::keygen::keygen;
 use crate::printed::Word;
 use crate::refusals::refusal;
 use crate::report::{Report, Status, Stop};
+use crate::seal::seal;
 use outside::{Disk, Net, PutFault, Shelf, Sink};
 use std::alloc::Global;
 use vo_words::{Request, read_words};
@@ -56,8 +60,39 @@ fn work<F: Shelf>(alloc: Global, words: &[String], files: &mut F) -> Result<Repo
         HoldsEach told (file_words (asked_by (map string_bytes words.now))) → F.misses files.new ≡ F.misses files.old) }
 {
     match read_words(alloc, words)? {
-        Some(Request::Keygen { seed, height }) => keygen(alloc, files, seed, height),
-        _ => Ok(refusal(alloc, Status::RefusedInput, &[Word::Phrase("words")])?),
+        Some(request) => command(alloc, request, files),
+        None => Ok(refusal(alloc, Status::RefusedInput, &[Word::Phrase("words")])?),
+    }
+}
+
+/// What a command comes to.
+fn command<F: Shelf>(alloc: Global, request: Request<'_>, files: &mut F) -> Result<Report, Stop>
+    ensures told { IfSome (F.contents files.old) (λ told. Answers (command_due (asked request.entry) told) result) }
+    ensures kept { F.contents files.new ≡ F.contents files.old }
+    ensures counts { F.faults files.old ≤ F.faults files.new }
+    ensures cause { IsErrOf result Stop.Outside → Rose (F.faults files.old) (F.faults files.new) }
+    ensures misses { IfSome (F.contents files.old) (λ told.
+        HoldsEach told (asked_files (asked request.entry)) → F.misses files.new ≡ F.misses files.old) }
+{
+    match request {
+        Request::Keygen { seed, height } => keygen(alloc, files, seed, height),
+        Request::Seal {
+            seed,
+            script,
+            height,
+        } => seal(alloc, files, seed, script, height),
+        Request::Answer {
+            key,
+            journal,
+            query,
+        } => answer(alloc, files, key, journal, query),
+        Request::Check { key, query, reply } => check(alloc, files, key, query, reply),
+        Request::Audit {
+            key,
+            journal,
+            query,
+            reply,
+        } => audit(alloc, files, key, journal, query, reply),
     }
 }
 
