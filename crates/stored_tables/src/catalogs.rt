@@ -6,14 +6,13 @@ ghost use Rattle.stored_tables.specs.View.{stored_in, stored_of};
 use crate::table::{StoredTable, copy_schema};
 use std::alloc::{AllocError, Global};
 use std::rc::Rc;
-use table_list::copy_name;
 use vo_spec::CatalogTable;
 
 fn catalog_table(alloc: Global, table: &StoredTable) -> Result<CatalogTable, AllocError>
     ensures { IfOk result (λ made. made ≡ catalog_table (stored_of table.now)) }
 {
     Ok(CatalogTable {
-        name: copy_name(alloc, &table.name)?,
+        name: table.name.copy(alloc)?,
         schema: copy_schema(alloc, &table.schema)?,
         rows: table.tree.row_count(),
         root: table.tree.node_digest(),

@@ -15,7 +15,7 @@ use mb_tree::Tree;
 use mb_update::{UpdateFault, insert};
 use std::alloc::{AllocError, Global};
 use std::rc::Rc;
-use table_list::{ApplyFault, column_number, copy_columns, copy_name, row_of, spliced};
+use table_list::{ApplyFault, column_number, copy_columns, row_of, spliced};
 use vo_spec::{Column, CommandFault, Name, Schema, Value};
 
 /// The table that a CREATE makes.
@@ -30,7 +30,7 @@ pub(crate) fn new_table(
 {
     let number = column_number(columns, key.as_bytes()) as u8;
     Ok(StoredTable {
-        name: copy_name(alloc, name)?,
+        name: name.copy(alloc)?,
         schema: Schema {
             columns: copy_columns(alloc, columns)?,
             key: number,
@@ -97,7 +97,7 @@ pub(crate) fn with_row(
     let row = row_of(alloc, &table.schema, values)?;
     match insert(alloc, &table.tree, &row) {
         Ok(tree) => Ok(StoredTable {
-            name: copy_name(alloc, &table.name)?,
+            name: table.name.copy(alloc)?,
             schema: copy_schema(alloc, &table.schema)?,
             tree,
         }),

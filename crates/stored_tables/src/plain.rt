@@ -6,14 +6,13 @@ ghost use Rattle.stored_tables.specs.Plain.{plain_table};
 use crate::table::{StoredTable, copy_schema};
 use std::alloc::{AllocError, Global};
 use std::rc::Rc;
-use table_list::copy_name;
 use vo_spec::Table;
 
 fn plain_table(alloc: Global, table: &StoredTable) -> Result<Table, AllocError>
     ensures { IfOk result (λ plain. plain ≡ plain_table (stored_of table.now)) }
 {
     Ok(Table {
-        name: copy_name(alloc, &table.name)?,
+        name: table.name.copy(alloc)?,
         schema: copy_schema(alloc, &table.schema)?,
         rows: table.tree.rows(alloc)?,
     })

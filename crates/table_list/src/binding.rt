@@ -7,7 +7,6 @@ ghost use Rattle.table_list.specs.Sided.{side_seen, sides_seen};
 ghost use Rattle.table_list.specs.Binding.{Passes, shown_refs, kind_tests, name_tests};
 
 use crate::bind_fault::BindFault;
-use crate::columns::copy_name;
 use crate::comparisons::test_comparisons;
 use crate::joins::test_join;
 use crate::references::{test_condition_refs, test_items, test_join_refs};
@@ -31,7 +30,7 @@ fn find_side<'q, S: Schemas>(
             schema,
         }),
         None => {
-            let fault = QueryFault::NoTable(copy_name(alloc, &source.table)?);
+            let fault = QueryFault::NoTable(source.table.copy(alloc)?);
             Err(BindFault::Wrong(fault))
         }
     }
@@ -68,7 +67,7 @@ fn test_alias(alloc: Global, query: &QueryText) -> Result<(), BindFault>
         Some(join) if query.left.alias.as_bytes() == join.right.alias.as_bytes() => {
             let fault = QueryFault::Ambiguous(Ref {
                 qualifier: None,
-                column: copy_name(alloc, &query.left.alias)?,
+                column: query.left.alias.copy(alloc)?,
             });
             Err(BindFault::Wrong(fault))
         }

@@ -150,15 +150,10 @@ pub fn copy_columns(alloc: Global, columns: &[Column]) -> Result<List<Column>, A
     let mut copy = Vec::with_capacity(alloc, columns.len())?;
     for column in columns {
         copy.push(Column {
-            name: copy_name(alloc, &column.name)?,
+            name: column.name.copy(alloc)?,
             kind: column.kind,
         })?;
     }
     Ok(List::from_vec(copy))
 }
 
-pub fn copy_name(alloc: Global, name: &Name) -> Result<Name, AllocError>
-    ensures { IfOk result (λ copy. copy ≡ name.now) }
-{
-    Ok(Name::from_vec(Vec::from_slice(alloc, name.as_bytes())?))
-}

@@ -7,7 +7,7 @@ ghost use Rattle.table_list.specs.StoredTables.{table_of, tables_in};
 ghost use Rattle.table_list.specs.Named.{Differ, IsNotAbove, BeginsAbove, new_table};
 ghost use Rattle.table_list.specs.Changes.{Gives};
 
-use crate::columns::{column_number, copy_columns, copy_name};
+use crate::columns::{column_number, copy_columns};
 use crate::fault::ApplyFault;
 use crate::refusal::create_fault;
 use crate::rows::Rows;
@@ -42,7 +42,7 @@ fn new_table(
 {
     let number = column_number(columns, key.as_bytes()) as u8;
     let head = Head {
-        name: copy_name(alloc, name)?,
+        name: name.copy(alloc)?,
         schema: Schema {
             columns: copy_columns(alloc, columns)?,
             key: number,

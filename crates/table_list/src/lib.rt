@@ -41,7 +41,7 @@ pub use bind_fault::BindFault;
 pub use binding::bind;
 pub use cells::cell_number;
 pub use changing::{key_at, row_of};
-pub use columns::{column_number, copy_columns, copy_name, has_twice, kind_at, kind_of, same_kind};
+pub use columns::{column_number, copy_columns, has_twice, kind_at, kind_of, same_kind};
 pub use conditions::{RowValues, compare_values, truth};
 pub use fault::{ApplyFault, BatchFault};
 pub use headers::header;

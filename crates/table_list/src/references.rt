@@ -8,7 +8,6 @@ ghost use Rattle.table_list.specs.Sided.{sides_seen};
 ghost use Rattle.table_list.specs.Binding.{Passes};
 
 use crate::bind_fault::BindFault;
-use crate::columns::copy_name;
 use crate::sides::Sides;
 use std::alloc::{AllocError, Global};
 use vo_spec::{Cond, Items, Join, Name, Operand, QueryFault, Ref};
@@ -17,12 +16,12 @@ fn copy_ref(alloc: Global, reference: &Ref) -> Result<Ref, AllocError>
     ensures { IfOk result (λ copy. copy ≡ reference.now) }
 {
     let qualifier = match &reference.qualifier {
-        Some(qualifier) => Some(copy_name(alloc, qualifier)?),
+        Some(qualifier) => Some(qualifier.copy(alloc)?),
         None => None,
     };
     Ok(Ref {
         qualifier,
-        column: copy_name(alloc, &reference.column)?,
+        column: reference.column.copy(alloc)?,
     })
 }
 
@@ -30,7 +29,7 @@ fn qualifier_of(alloc: Global, reference: &Ref) -> Result<Name, AllocError>
     ensures { IfOk result (λ name. name ≡ qualifier_of reference.now) }
 {
     match &reference.qualifier {
-        Some(qualifier) => copy_name(alloc, qualifier),
+        Some(qualifier) => qualifier.copy(alloc),
         None => Ok(Name::from_vec(Vec::new(alloc))),
     }
 }

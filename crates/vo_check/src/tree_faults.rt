@@ -49,11 +49,6 @@ fn have_table_shapes(trees: &[TableTree<'_, '_>]) -> bool
     true
 }
 
-fn copy_name(alloc: Global, name: &Name) -> Result<Name, AllocError>
-    ensures { IfOk result (λ copy. copy ≡ name.now) }
-{
-    Ok(Name::from_vec(Vec::from_slice(alloc, name.as_bytes())?))
-}
 
 /// Refuses another tree than the one of the catalog's root.
 fn test_root(alloc: Global, tree: &TableTree<'_, '_>) -> Result<(), CheckFault>
@@ -68,7 +63,7 @@ fn test_root(alloc: Global, tree: &TableTree<'_, '_>) -> Result<(), CheckFault>
     if want == got {
         return Ok(());
     }
-    match copy_name(alloc, &table.name) {
+    match table.name.copy(alloc) {
         Ok(table) => Err(CheckFault::WrongRoot { table, want, got }),
         Err(_) => Err(CheckFault::Memory),
     }

@@ -18,7 +18,10 @@ use row_bytes::{Cursor, ReadFault};
 use std::alloc::Global;
 use vo_spec::{KeyPart, List, PartEntry};
 
-/// The tree that comes next, of at most 11 levels. It is lent by the bytes.
+/// How many levels a tree that is read has at most: one, while a table's rows fit in one leaf.
+const MOST_LEVELS: u8 = 1;
+
+/// The tree that comes next, of at most [`MOST_LEVELS`] levels. It is lent by the bytes.
 pub fn take_tree<'b>(alloc: Global, cursor: &mut Cursor<'b>) -> Result<PartTree<'b>, ReadFault>
     // What is taken is spelled so, and keeps the limits.
     ensures found { IfOk result (λ tree. FitsTree (part_of tree) × (cursor.old ≡ tree_bytes (part_of tree) ++ cursor.new)) }
@@ -31,7 +34,7 @@ pub fn take_tree<'b>(alloc: Global, cursor: &mut Cursor<'b>) -> Result<PartTree<
     ensures exact { FoundOr part_of result cursor.new (tree_at most_levels cursor.old) }
 {
     are_bytes(cursor.rest());
-    take_levels(alloc, cursor, 11)
+    take_levels(alloc, cursor, MOST_LEVELS)
 }
 
 /// A slice of bytes holds bytes.
