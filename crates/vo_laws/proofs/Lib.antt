@@ -15,6 +15,7 @@ pub mod CommandLaws
 pub mod StandingLaws
 pub mod TreeFits
 pub mod TreeLevels
+pub mod LowTrees
 pub mod StoredFits
 pub mod PrunedLaws
 pub mod ReplyTrees
