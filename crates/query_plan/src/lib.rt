@@ -11,7 +11,10 @@ mod used;
 
 pub use catalogs::CatalogSchemas;
 pub use left_condition::meets_left;
-pub use needs::{left_need, right_need};
+pub use needs::{is_narrow, left_need, right_need};
 pub use table_list::{BindFault, Line, Place, Schemas, Side, Sides, bind, header};
 pub use used::{has_one_tree, same_table, tables_used};
 pub use vo_spec::{Catalog, Interval, Need, QueryText};
+
+#[cfg(test)]
+mod tests;

@@ -1,5 +1,5 @@
 //! The needs of a query, of the left tree and for a left row of the right one.
-ghost use Rattle.std.specs.Prelude.{◌≡◌, ◌≤◌, length, IfOk};
+ghost use Rattle.std.specs.Prelude.{◌≡◌, ◌≤◌, ◌↔◌, length, IfOk, IsTrue};
 ghost use Rattle.vo_spec.specs.Batches.{most_columns};
 ghost use Rattle.vo_spec.specs.Conditions.{query_of};
 ghost use Rattle.vo_spec.specs.Results.{schema_at};
@@ -14,6 +14,16 @@ use row_bytes::own_value;
 use std::alloc::{AllocError, Global};
 use table_list::{Line, Sides, join_places};
 use vo_spec::{Cmp, Join, Need, QueryText, Value};
+
+/// Whether the source of this number has no more columns than a table may have.
+pub fn is_narrow(sides: &Sides<'_>, side: usize) -> bool
+    ensures { IsTrue result ↔ (length (schema_at (sides_seen sides.now) side).columns ≤ most_columns) }
+{
+    match sides.schema_at(side) {
+        Some(schema) => schema.columns.len() <= 32,
+        None => true,
+    }
+}
 
 /// What the query needs of the left tree.
 pub fn left_need(alloc: Global, sides: &Sides<'_>, query: &QueryText) -> Result<Need, AllocError>

@@ -78,7 +78,7 @@ memory_or_refused fault = inr refl
 
 -- why bytes are refused unread is told where the journal is an owner's
 pub told_unread : (key journal bytes : List ℕ) (es : List Entry) (q : Query) (fault : CheckFault) (answer : Result Verdict AuditFault) → IsOwned key journal es
-    → (fault ≡ check.Memory) ⊎ ((key : List ℕ) (q : Query) → CheckOf key 0 q bytes (Err fault)) → answer ≡ Err (audit_fault fault)
+    → (fault ≡ check.Memory) ⊎ ((key : List ℕ) (least : ℕ) (q : Query) → CheckOf key least q bytes (Err fault)) → answer ≡ Err (audit_fault fault)
     → (answer ≡ Err Memory) ⊎ AuditOf key journal q bytes answer
 unfolding AuditOf
 told_unread key journal bytes es q fault answer owned (inl out) is = inl (is ∙ ap (λ (f : CheckFault). Err (audit_fault f)) out)
@@ -86,7 +86,7 @@ told_unread key journal bytes es q fault answer owned (inr refused) is = step (m
   where
     step : (audit_fault fault ≡ Memory) ⊎ (audit_fault fault ≡ Refused fault) → (answer ≡ Err Memory) ⊎ AuditOf key journal q bytes answer
     step (inl e) = inl (is ∙ ap (λ (f : AuditFault). Err f) e)
-    step (inr e) = inr (subst (AuditOf key journal q bytes) (sym (is ∙ ap (λ (f : AuditFault). Err f) e)) (es, owned, refused key q))
+    step (inr e) = inr (subst (AuditOf key journal q bytes) (sym (is ∙ ap (λ (f : AuditFault). Err f) e)) (es, owned, refused key 0 q))
 
 pub told_bad : (key journal bytes : List ℕ) (q : Query) (index : ℕ) (answer : Result Verdict AuditFault) → IsBadAt key journal index → answer ≡ Err (BadJournal index)
     → (answer ≡ Err Memory) ⊎ AuditOf key journal q bytes answer

@@ -1,5 +1,5 @@
 -- What the steps of an audit find.
-use Rattle.std.specs.Prelude.{◌≡◌, ◌≢◌, ◌≤◌, ◌<◌, ◌⊎◌, ℕ, List, length, take, drop, map, Option, Some, None, Result, Ok, Err, IfSome, IsSome}
+use Rattle.std.specs.Prelude.{◌≡◌, ◌≢◌, ◌<◌, ℕ, List, length, take, drop, map, Option, Some, None, Result, Ok, Err, IfSome, IsSome}
 use Rattle.std.specs.List.{AllByRecursion, AllZip}
 use Rattle.vo_spec.specs.declared.queries.Ref.{Ref}
 use Rattle.vo_spec.specs.declared.queries.Operand.{Operand}
@@ -20,12 +20,11 @@ use Rattle.vo_spec.specs.Results.{result}
 use Rattle.vo_spec.specs.Records.{catalog_digest}
 use Rattle.vo_spec.specs.Journals.{Holds, batches_of, tables_at}
 use Rattle.vo_spec.specs.Trees.{Prunes}
-use Rattle.vo_spec.specs.Replies.{Reply, IsReply, most_reply}
-use Rattle.vo_spec.specs.Checks.{CheckOf, tables_wanted, trees_of, root_fault, missing_fault, seen_outcome, answer_to}
+use Rattle.vo_spec.specs.Replies.{Reply}
+use Rattle.vo_spec.specs.Checks.{tables_wanted, trees_of, root_fault, missing_fault, seen_outcome, answer_to}
 use Rattle.vo_spec.specs.Honest.{Stored, StandForTables, catalog_of, honest_trees, trees_for}
 use Rattle.vo_spec.specs.Audits.{IsVerdict}
 use Rattle.vo_format.specs.declared.reply.Reply.{Reply as ReadReply}
-use Rattle.vo_format.specs.View.{reply_of}
 use Rattle.owner_state.specs.declared.journals.OwnedJournal.{OwnedJournal}
 
 -- two different byte strings of one digest are found, or the fact holds
@@ -38,11 +37,6 @@ abbrev pub FitComparisons : List (Ref × Operand) → Type 0
 FitComparisons = AllByRecursion (λ (c : Ref × Operand). FitsOperand c.1)
 
 -- Replies.
-
--- the bytes are this reply, within the limit; or any client refuses them so, unless memory ran out
-abbrev pub ReadsReply : List ℕ → Result ReadReply CheckFault → Type 0
-ReadsReply bytes (Ok reply) = (length bytes ≤ most_reply) × IsReply bytes (reply_of reply)
-ReadsReply bytes (Err fault) = (fault ≡ check.Memory) ⊎ ((key : List ℕ) (q : Query) → CheckOf key 0 q bytes (Err fault))
 
 abbrev pub version_of : Result ReadReply CheckFault → ℕ
 version_of (Ok reply) = reply.rec.version

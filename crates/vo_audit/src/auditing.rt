@@ -6,12 +6,11 @@ ghost use Rattle.vo_spec.specs.Audits.{AuditOf};
 ghost use Rattle.vo_format.specs.View.{reply_of};
 ghost use Rattle.vo_audit.specs.Auditing.{IsReadAt, AuditsReply, audit_fault, version_of};
 
-use crate::reading::read_within;
 use crate::verdicts::verdict_on;
 use lms_sign::PublicKey;
 use owner_state::{JournalFault, OwnedJournal, read_owned};
 use std::alloc::Global;
-use vo_check::judge;
+use vo_check::{judge, read_within};
 use vo_format::Reply;
 use vo_spec::{AuditFault, CheckFault, QueryText, Verdict};
 

@@ -6,7 +6,6 @@ mod evidence;
 mod holding;
 mod numbers;
 mod plain_result;
-mod reading;
 mod tree_evidence;
 mod verdicts;
 

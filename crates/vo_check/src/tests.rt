@@ -202,9 +202,10 @@ fn refuses_other_replies(rt: HostRuntime) -> Result<(), Fail> {
         panic!(rt; "the key");
     };
     let query = query(alloc, Items::All)?;
-    let changes: [(u16, u16, &[u8], u8); 9] = [
-        // the last byte cut
+    let changes: [(u16, u16, &[u8], u8); 10] = [
+        // the last byte cut, and a byte more
         (1460, 1, &[], 2),
+        (1460, 1, b"bb", 2),
         // another identifier in the record, another leaf, and a bit of the signature
         (8, 1, &[1], 3),
         (71, 1, &[2], 4),
