@@ -12,3 +12,8 @@ pub mod TokenSounds
 pub mod TokenEnds
 pub mod BatchFits
 pub mod QueryFits
+pub mod PrintTexts
+pub mod PrintTokens
+pub mod PrintSizes
+pub mod PrintSpells
+pub mod PrintBatches
