@@ -17,3 +17,4 @@ pub mod PrintTokens
 pub mod PrintSizes
 pub mod PrintSpells
 pub mod PrintBatches
+pub mod PrintUtf8

@@ -44,7 +44,7 @@ all_small : holds_below is_small_word 128 ≡ true
 unfolding holds_below
 all_small = refl
 
-name_small : (b : ℕ) → is_name_byte b ≡ true → b < 128
+pub name_small : (b : ℕ) → is_name_byte b ≡ true → b < 128
 name_small b e = grind (arith, nat_tests)
 
 name_byte : (b : ℕ) → is_name_byte b ≡ true → (is_word_byte b && to_ascii_lowercase b == b && (is_digit b || is_letter b)) ≡ true

@@ -250,7 +250,7 @@ all_at : (bs : List ℕ) → ((i : ℕ) → i < length bs → 128 ≤ get_or bs 
 all_at [] f = tt
 all_at (b ∷ bs) f = (f 0 (omega arith), all_at bs (λ i h. f (suc i) (omega arith)))
 
-high_char : (c : ℕ) → 128 ≤ c → AllByRecursion (λ b. 128 ≤ b) (encode c)
+pub high_char : (c : ℕ) → 128 ≤ c → AllByRecursion (λ b. 128 ≤ b) (encode c)
 high_char c h = all_at (encode c) (λ i inside. by_byte i inside (nat_lt (get_or (encode c) i 0) 128) refl)
   where
     by_byte : (i : ℕ) → i < length (encode c) → (b : Bool) → nat_lt (get_or (encode c) i 0) 128 ≡ b → 128 ≤ get_or (encode c) i 0
@@ -260,7 +260,7 @@ high_char c h = all_at (encode c) (λ i inside. by_byte i inside (nat_lt (get_or
         absurd (omega (arith, same))
     by_byte i inside false e = grind (arith, nat_tests)
 
-utf8_cons : (c : ℕ) (bs : List ℕ) → c < 128 → IsUtf8 bs → IsUtf8 (c ∷ bs)
+pub utf8_cons : (c : ℕ) (bs : List ℕ) → c < 128 → IsUtf8 bs → IsUtf8 (c ∷ bs)
 utf8_cons c bs h u = IsUtf8-append (c ∷ []) bs (IsUtf8-from_ascii (c ∷ []) (IsAscii-cons c [] h IsAscii-nil)) u
 
 singles_utf8 : (s : Bool) (cs : List ℕ) → scalars cs ≡ true → IsUtf8 (single_quotes s (encodes cs))

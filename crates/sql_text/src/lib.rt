@@ -23,4 +23,6 @@ pub use texts::{TEXT_MAX, parse_batch, parse_query};
 pub use whole_tables::parse_whole_table;
 
 #[cfg(test)]
+mod printing_tests;
+#[cfg(test)]
 mod tests;

@@ -1,5 +1,6 @@
 //! Printing batches.
 ghost use Rattle.std.specs.Prelude.{◌≡◌, [], ◌∷◌, ◌++◌, IfOk, OnOk};
+ghost use Rattle.std.specs.Str.{IsUtf8};
 ghost use Rattle.sql_text.specs.Commands.{batch as batch_rule};
 ghost use Rattle.sql_text.specs.Texts.{most_bytes, IsTextOf};
 ghost use Rattle.sql_text.specs.Spellable.{SpellableBatch};
@@ -155,6 +156,7 @@ impl Print for Command {
 pub fn print_batch(alloc: Global, batch: &Batch) -> Result<Vec<u8>, AllocError>
     ensures printed { IfOk result (λ text. text.items ≡ batch_text batch.now.commands) }
     ensures reads { SpellableBatch batch.now.commands → IfOk result (λ text. IsTextOf most_bytes batch_rule text.items batch.now) }
+    ensures utf8 { SpellableBatch batch.now.commands → IfOk result (λ text. IsUtf8 text.items) }
 {
     let mut out = Vec::new(alloc);
     print_terminated(

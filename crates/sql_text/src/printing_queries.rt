@@ -1,6 +1,7 @@
 //! Printing queries.
 ghost use Rattle.std.specs.Prelude.{◌≡◌, [], ◌∷◌, ◌++◌, drop, map, option_map, IfOk, OnOk};
 ghost use Rattle.std.specs.Option.{option_map_or};
+ghost use Rattle.std.specs.Str.{IsUtf8};
 ghost use Rattle.vo_spec.specs.Conditions.{condition_of, conditions, query_of};
 ghost use Rattle.sql_text.specs.Queries.{query as query_rule};
 ghost use Rattle.sql_text.specs.Texts.{most_bytes, IsTextOf};
@@ -189,6 +190,7 @@ impl Print for QueryText {
 pub fn print_query(alloc: Global, query: &QueryText) -> Result<Vec<u8>, AllocError>
     ensures printed { IfOk result (λ text. text.items ≡ query_text (query_of query.now)) }
     ensures reads { SpellableQuery (query_of query.now) → IfOk result (λ text. IsTextOf most_bytes query_rule text.items (query_of query.now)) }
+    ensures utf8 { SpellableQuery (query_of query.now) → IfOk result (λ text. IsUtf8 text.items) }
 {
     let mut out = Vec::new(alloc);
     query.print(alloc, &mut out)?;

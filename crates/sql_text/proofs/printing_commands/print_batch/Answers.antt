@@ -1,7 +1,9 @@
 use Rattle.std.proofs.Common.{sym, subst}
+use Rattle.std.specs.Str.{IsUtf8}
 use Rattle.sql_text.specs.Commands.{batch}
 use Rattle.sql_text.specs.Texts.{IsTextOf}
 use Rattle.sql_text.proofs.PrintBatches.{batch_printed, batch_reads}
+use Rattle.sql_text.proofs.PrintUtf8.{batch_utf8}
 use Rattle.sql_text.proofs.printing_commands.print_batch.Goals as goal
 
 pub returns-clause-printed : goal.returns-clause-printed
@@ -11,3 +13,6 @@ returns-clause-printed c =
 
 pub returns-clause-reads : goal.returns-clause-reads
 returns-clause-reads c h = subst (λ z. IsTextOf 65536 batch z c.args.batch.now) (sym (returns-clause-printed c)) (batch_reads c.args.batch.now h)
+
+pub returns-clause-utf8 : goal.returns-clause-utf8
+returns-clause-utf8 c h = subst IsUtf8 (sym (returns-clause-printed c)) (batch_utf8 c.args.batch.now.commands h)
