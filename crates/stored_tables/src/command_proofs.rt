@@ -46,7 +46,6 @@ fn proof_of_insert<'t>(
     match place_of(tables, name.as_bytes()) {
         None => Ok(None),
         Some(place) => {
-            place.table.see_limits();
             let key = key_at(alloc, values, place.table.schema.key as usize)?;
             Ok(Some(insert_proof(alloc, &place.table.tree, key.as_bytes())?))
         },

@@ -50,10 +50,7 @@ pub(crate) fn table_of<'t>(tables: &'t [Rc<StoredTable>], name: &[u8]) -> Option
     ensures fits { IfSome result (λ table. FitsTree (lent_stored table).tree) }
 {
     match place_of(tables, name) {
-        Some(place) => {
-            place.table.see_limits();
-            Some(place.table)
-        },
+        Some(place) => Some(place.table),
         None => None,
     }
 }

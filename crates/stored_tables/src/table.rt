@@ -1,6 +1,5 @@
 //! A table as its tree.
 ghost use Rattle.std.specs.Prelude.{◌≡◌, IfOk};
-ghost use Rattle.vo_spec.specs.Fits.{FitsPart};
 ghost use Rattle.vo_spec.specs.Honest.{stored_heading};
 ghost use Rattle.table_list.specs.Headings.{heading_seen};
 ghost use Rattle.stored_tables.specs.View.{stored_of};
@@ -19,13 +18,6 @@ pub struct StoredTable {
 }
 
 impl StoredTable {
-    /// The nodes of the tree are within their limits.
-    pub(crate) fn see_limits(&self)
-        ensures { FitsPart self.now.tree }
-    {
-        let _digest = self.tree.root().node_digest();
-    }
-
     pub(crate) fn heading(&self) -> HeadingRef<'_>
         ensures { heading_seen result ≡ stored_heading (stored_of self.now) }
     {

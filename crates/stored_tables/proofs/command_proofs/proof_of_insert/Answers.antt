@@ -22,5 +22,5 @@ returns-in_ok-insert_proof-in-Some-clause-honest c =
 pub returns-in_ok-insert_proof-in-Some-clause-fits : goal.returns-in_ok-insert_proof-in-Some-clause-fits
 returns-in_ok-insert_proof-in-Some-clause-fits c =
     let s = lent_stored c.in-Some.place.table in
-    let tree = fits_at _ (stored_in c.args.tables.now) c.in-Some.place.at s c.requires c.in-Some.ensures c.see_limits.ensures in
+    let tree = fits_at _ (stored_in c.args.tables.now) c.in-Some.place.at s c.requires c.in-Some.ensures in
     (subst FitsTree (sym c.in_ok-insert_proof-in-Some.ensures) (insert_proof_fits c.as_bytes-in-Some.result.now s.tree tree), tt)

@@ -12,4 +12,4 @@ returns-in-None-clause-found c = sym (find_nowhere c.args.name.now (stored_in c.
 
 pub returns-in-Some-clause-fits : goal.returns-in-Some-clause-fits
 returns-in-Some-clause-fits c =
-    fits_at c.args.name.now (stored_in c.args.tables.now) c.in-Some.place.at (lent_stored c.in-Some.place.table) c.requires c.in-Some.ensures c.see_limits.ensures
+    fits_at c.args.name.now (stored_in c.args.tables.now) c.in-Some.place.at (lent_stored c.in-Some.place.table) c.requires c.in-Some.ensures
