@@ -75,7 +75,8 @@ pub fn take_catalog(alloc: Global, cursor: &mut Cursor<'_>) -> Result<Catalog, R
     })
 }
 
-fn catalog_of(alloc: Global, bytes: &[u8]) -> Result<Catalog, ReadFault>
+/// The catalog that all the bytes are, by what reading gives.
+pub fn catalog_in(alloc: Global, bytes: &[u8]) -> Result<Catalog, ReadFault>
     ensures { CatalogRead result (whole (catalog_at bytes.now)) }
 {
     let mut cursor = Cursor::new(bytes);
@@ -94,7 +95,7 @@ pub fn read_catalog(alloc: Global, bytes: &[u8]) -> Result<Catalog, ReadFault>
     // What is spelled so is read, unless memory runs out.
     ensures only { (catalog : Plain) → IsCatalog bytes.now catalog → CatalogRead result (Some catalog) }
 {
-    catalog_of(alloc, bytes)
+    catalog_in(alloc, bytes)
 }
 
 fn take_tables(

@@ -11,7 +11,7 @@ use crate::tree_reading::take_trees;
 use mb_tree::PartTree;
 use row_bytes::{Cursor, ReadFault};
 use std::alloc::Global;
-use version_record::{take_catalog, take_record};
+use version_record::{catalog_in, take_record};
 use vo_spec::Catalog;
 
 #[tactic(auto, unfolding(crate::specs::Reading::signature_at))]
@@ -32,12 +32,7 @@ fn take_catalog_block(alloc: Global, cursor: &mut Cursor<'_>) -> Result<Catalog,
     ensures { FoundOr (λ catalog. catalog) result cursor.new (catalog_block_at cursor.old) }
 {
     let block = cursor.take_block().ok_or(ReadFault::BadForm)?;
-    let mut inside = Cursor::new(block);
-    let catalog = take_catalog(alloc, &mut inside)?;
-    if !inside.is_empty() {
-        return Err(ReadFault::BadForm);
-    }
-    Ok(catalog)
+    catalog_in(alloc, block)
 }
 
 #[tactic(auto, unfolding(crate::specs::Reading::counted_trees_at))]
