@@ -3,7 +3,7 @@ use crate::line::{Call, read_line};
 use sql_text::{SqlFault, parse_batch, parse_query, parse_script, print_batch, print_query};
 use std::alloc::Global;
 use std::io;
-use table_list::{BatchFault, Tables, apply_batch};
+use table_list::{BatchFault, Outcome, Tables, apply_batch, result};
 
 /// The answer to a line.
 pub fn answer(alloc: Global, tables: &mut Tables, line: &str) -> io::Result<String> {
@@ -19,6 +19,7 @@ fn called(alloc: Global, tables: &mut Tables, call: Call, text: &str) -> io::Res
         Call::Batch => format!(in alloc; "{:?}", parse_batch(alloc, text))?,
         Call::Script => format!(in alloc; "{:?}", parse_script(alloc, text))?,
         Call::Apply => format!(in alloc; "{:?}", applied(alloc, tables, text))?,
+        Call::Result => format!(in alloc; "{:?}", asked(alloc, tables, text))?,
         Call::PrintQuery => printed_query(alloc, text)?,
         Call::PrintBatch => printed_batch(alloc, text)?,
         Call::Clear => {
@@ -67,4 +68,13 @@ fn applied(
         }
     }
     Ok(faults)
+}
+
+/// What the query of a text gives on the tables.
+fn asked(alloc: Global, tables: &Tables, text: &str) -> Result<Outcome, SqlFault> {
+    let query = parse_query(alloc, text)?;
+    match result(alloc, tables, &query) {
+        Ok(outcome) => Ok(outcome),
+        Err(_) => Err(SqlFault::Memory),
+    }
 }

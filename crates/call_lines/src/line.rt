@@ -11,6 +11,7 @@ pub enum Call {
     PrintQuery,
     PrintBatch,
     Apply,
+    Result,
     Clear,
     Length,
 }
@@ -35,6 +36,7 @@ fn call_of(word: &str) -> Option<Call> {
         "print_query" => Some(Call::PrintQuery),
         "print_batch" => Some(Call::PrintBatch),
         "apply" => Some(Call::Apply),
+        "result" => Some(Call::Result),
         "clear" => Some(Call::Clear),
         "length" => Some(Call::Length),
         _ => None,
