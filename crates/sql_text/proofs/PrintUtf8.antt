@@ -1,6 +1,6 @@
 -- Printed texts are UTF-8 where the names and texts in them are.
-use Rattle.std.proofs.Common.{◌≡◌, ℕ, zero, suc, ◌≤◌, ◌<◌, ◌^◌, Bool, true, false, cond, List, [], ◌∷◌, ◌++◌, length, drop, Option, Some, None, ℤ, pos, negsuc, refl, sym, ap, ◌∙◌, subst, arith, w64}
-use Rattle.std.specs.Prelude.{◌==◌, nat_lt, ◌&&◌, flat_map, FitsSigned, IfSome}
+use Rattle.std.proofs.Common.{◌≡◌, ℕ, ◌≤◌, ◌<◌, Bool, true, false, cond, List, [], ◌∷◌, ◌++◌, drop, Option, Some, None, ℤ, pos, negsuc, refl, sym, ap, ◌∙◌, subst, arith, w64}
+use Rattle.std.specs.Prelude.{◌==◌, nat_lt, flat_map, FitsSigned, IfSome}
 use Rattle.std.specs.Option.{option_map_or}
 use Rattle.std.specs.List.{AllByRecursion, list_all}
 use Rattle.std.specs.Str.{IsUtf8, IsAscii}
@@ -32,7 +32,7 @@ use Rattle.vo_spec.specs.declared.tables.Column.{Column}
 use Rattle.vo_spec.specs.declared.tables.SetPart.{SetPart}
 use Rattle.vo_spec.specs.declared.tables.Command.{Command}
 use Rattle.vo_spec.specs.declared.tables.Command.TheVariants as command_of
-use Rattle.vo_spec.specs.Names.{is_name_byte, FitsName}
+use Rattle.vo_spec.specs.Names.{is_name_byte}
 use Rattle.vo_spec.specs.Values.{FitsValue}
 use Rattle.vo_spec.specs.Conditions.{Condition, Conditions, every, some, negated, none, more, Query}
 use Rattle.vo_spec.specs.Conditions

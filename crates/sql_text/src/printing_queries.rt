@@ -58,7 +58,7 @@ impl Print for Operand {
     }
 }
 
-/// Prints a part of a NOT, an AND or an OR, in parentheses where they take it apart otherwise.
+/// Prints a part of a NOT, an AND or an OR, in parentheses where its parts would be read as those of another.
 #[cycle(print_part)]
 fn print_part(
     alloc: Global,
