@@ -26,6 +26,7 @@ fn called(alloc: Global, tables: &mut Tables, call: Call, text: &str) -> io::Res
             *tables = Tables::new(alloc);
             "cleared".to_string(alloc)?
         }
+        Call::Count => format!(in alloc; "{:?}", batch_count(alloc, text))?,
         Call::Length => format!(in alloc; "{}", text.len())?,
     })
 }
@@ -51,6 +52,11 @@ fn shown(alloc: Global, text: Vec<u8>) -> io::Result<String> {
         Ok(text) => Ok(text),
         Err(_) => Ok("no text".to_string(alloc)?),
     }
+}
+
+/// How many batches a script has.
+fn batch_count(alloc: Global, script: &str) -> Result<usize, SqlFault> {
+    Ok(parse_script(alloc, script)?.len())
 }
 
 /// What becomes of each batch of a script.

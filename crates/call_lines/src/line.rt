@@ -13,6 +13,7 @@ pub enum Call {
     Apply,
     Result,
     Clear,
+    Count,
     Length,
 }
 
@@ -38,6 +39,7 @@ fn call_of(word: &str) -> Option<Call> {
         "apply" => Some(Call::Apply),
         "result" => Some(Call::Result),
         "clear" => Some(Call::Clear),
+        "count" => Some(Call::Count),
         "length" => Some(Call::Length),
         _ => None,
     }

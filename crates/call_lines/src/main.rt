@@ -2,7 +2,7 @@
 //!
 //! A line is a word and a text in hexadecimal: `query`, `batch` and `script` read the text, `print_query` and
 //! `print_batch` print what they read; `apply` applies the batches of a script to the tables, `result` asks them a
-//! query, and `clear` has none again; `length` only takes the text.
+//! query, and `clear` has none again; `count` counts the batches of a script, and `length` the bytes of a text.
 #![tactic(auto)]
 
 mod calls;
