@@ -1,4 +1,3 @@
 pub mod AnswerSteps
-pub mod FewColumns
 pub mod MissingLaws
 pub mod RunLaws

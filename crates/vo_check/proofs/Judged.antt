@@ -1,54 +1,20 @@
 -- The tests of a reply, one after another.
-use Rattle.std.proofs.Common.{◌≡◌, ℕ, zero, suc, ◌≤◌, ◌==◌, Bool, true, false, if◌then◌else◌, List, [], ◌∷◌, length, map, Option, Some, None, option_map, option_to_list, is_some, Result, Ok, Err, bytes_eq, refl, sym, ap, ◌∙◌, ◌⊎◌, inl, inr, arith}
+use Rattle.std.proofs.Common.{◌≡◌, ℕ, ◌==◌, Bool, true, false, if◌then◌else◌, List, [], ◌∷◌, length, map, Option, Some, None, is_some, Result, Ok, Err, refl, sym, ap, ◌∙◌, ◌⊎◌, inl, inr}
 use Rattle.std.proofs.lemmas.Bool.{eqb-true}
-use Rattle.std.specs.Option.{option_map_or}
-use Rattle.std.specs.List.{AllByRecursion}
 use Rattle.vo_spec.specs.declared.checks.CheckFault.{CheckFault}
 use Rattle.vo_spec.specs.declared.checks.CheckFault.TheVariants.{Memory}
-use Rattle.vo_spec.specs.declared.tables.Schema.{Schema}
-use Rattle.vo_spec.specs.declared.records.Catalog.{Catalog}
-use Rattle.vo_spec.specs.declared.records.CatalogTable.{CatalogTable}
-use Rattle.vo_spec.specs.declared.queries.Source.{Source}
 use Rattle.vo_spec.specs.declared.queries.QueryFault.{QueryFault}
 use Rattle.vo_spec.specs.declared.queries.Outcome.{Outcome}
 use Rattle.vo_spec.specs.declared.queries.Outcome.TheVariants.{Wrong}
 use Rattle.vo_spec.specs.Firsts.{first_some, unless}
-use Rattle.vo_spec.specs.Batches.{most_columns}
 use Rattle.vo_spec.specs.Conditions.{Query}
-use Rattle.vo_spec.specs.Tables.{Heading, heading_named}
-use Rattle.vo_spec.specs.Records.{FitsCatalog, FitsCatalogTable, headings}
+use Rattle.vo_spec.specs.Records.{headings}
 use Rattle.vo_spec.specs.Replies.{Reply}
-use Rattle.vo_spec.specs.Results.{Side, no_schema, side_of, sides, schema_at, binding_fault, header, outcome, answer_rows}
+use Rattle.vo_spec.specs.Results.{Side, sides, binding_fault, header, outcome, answer_rows}
 use Rattle.vo_spec.specs.Needs.{tables_used, seen_lefts, seen_rights}
 use Rattle.vo_spec.specs.Checks.{key_fault, leaf_fault, signature_fault, age_fault, catalog_fault, count_fault, trees_of, shape_fault, root_fault, missing_fault, surplus_fault, reply_fault, seen_outcome}
 use Rattle.vo_check.specs.Testing.{Gives, Passes, paired, number_fault, shapes_fault, trees_fault, missed_fault, excess_fault, needs_fault}
 use Rattle.vo_check.specs.Judging.{needed_by, shown_rows, record_fault, proof_fault}
-
--- Columns of the sources of a query to a catalog that fits.
-
-abbrev FewColumns : Schema → Type 0
-FewColumns schema = length schema.columns ≤ most_columns
-
-abbrev schema_in : Option Heading → Schema
-schema_in h = option_map_or (λ (h : Heading). h.schema) h no_schema
-
-pick_fits : (b : Bool) (h : Heading) (rest : Option Heading) → FewColumns h.schema → FewColumns (schema_in rest) → FewColumns (schema_in (if b then Some h else rest))
-pick_fits true h rest f g = f
-pick_fits false h rest f g = g
-
-heading_fits : (name : List ℕ) (tables : List CatalogTable) → AllByRecursion FitsCatalogTable tables → FewColumns (schema_in (heading_named name (headings (record { tables = tables }))))
-heading_fits name [] fits = omega arith
-heading_fits name (t ∷ tables) fits =
-    pick_fits (bytes_eq t.name name) (record { name = t.name; schema = t.schema; count = t.rows }) (heading_named name (headings (record { tables = tables })))
-    fits.0.schema.columns.1 (heading_fits name tables fits.1)
-
-sides_fit : (c : Catalog) → FitsCatalog c → (ss : List Source) (i : ℕ) → FewColumns (schema_at (map (side_of (headings c)) ss) i)
-sides_fit c fits [] i = omega arith
-sides_fit c fits (s ∷ ss) zero = heading_fits s.table c.tables fits.each
-sides_fit c fits (s ∷ ss) (suc i) = sides_fit c fits ss i
-
-pub columns_fit : (c : Catalog) → FitsCatalog c → (q : Query) (i : ℕ) → length (schema_at (sides (headings c) q) i).columns ≤ most_columns
-columns_fit c fits q i = sides_fit c fits (q.left ∷ option_to_list (option_map (λ j. j.right) q.join)) i
 
 -- Lists of faults in groups.
 

@@ -1,3 +1,4 @@
 pub mod CellLaws
 pub mod LeafLaws
 pub mod Judged
+pub mod Unread

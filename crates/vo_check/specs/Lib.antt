@@ -1,2 +1,3 @@
-pub mod Testing
 pub mod Judging
+pub mod Reading
+pub mod Testing

@@ -4,9 +4,9 @@ ghost use Rattle.vo_spec.specs.Conditions.{query_of};
 ghost use Rattle.vo_spec.specs.Checks.{CheckOf};
 
 use crate::judging::judge;
+use crate::reading::read_within;
 use lms_sign::PublicKey;
 use std::alloc::Global;
-use vo_format::{ReadFault, read_reply};
 use vo_spec::{Answer, CheckFault, QueryText};
 
 /// A client of an owner's tables.
@@ -46,15 +46,9 @@ impl Client {
         ensures key { self.new.key ≡ self.old.key }
         ensures kept { OnErr result (self.new ≡ self.old) }
     {
-        if reply.len() > 67_108_864 {
-            return Err(CheckFault::TooLong {
-                length: reply.len() as u64,
-            });
-        }
-        let reply = match read_reply(alloc, reply) {
+        let reply = match read_within(alloc, reply) {
             Ok(reply) => reply,
-            Err(ReadFault::BadForm) => return Err(CheckFault::BadForm),
-            Err(ReadFault::Memory) => return Err(CheckFault::Memory),
+            Err(fault) => return Err(fault),
         };
         let answer = judge(alloc, &self.key, self.least, query, &reply);
         if let Ok(answer) = &answer {

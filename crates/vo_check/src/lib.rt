@@ -6,6 +6,7 @@ mod client;
 mod judging;
 mod need_faults;
 mod pairing;
+mod reading;
 mod record_faults;
 mod shape;
 mod table_tree;
@@ -13,6 +14,7 @@ mod tree_faults;
 
 pub use client::Client;
 pub use judging::judge;
+pub use reading::read_within;
 pub use vo_spec::{Answer, CheckFault};
 
 #[cfg(test)]

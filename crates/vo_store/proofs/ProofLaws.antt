@@ -31,7 +31,7 @@ use Rattle.table_list.specs.Sided.{side_seen, sides_seen}
 use Rattle.table_list.specs.declared.sides.Side.{Side as HeldSide}
 use Rattle.table_list.specs.declared.sides.Sides.{Sides}
 use Rattle.stored_tables.specs.Standing.{IsStanding}
-use Rattle.plan_run.proofs.FewColumns.{few_columns}
+use Rattle.query_plan.proofs.Narrow.{sides_narrow}
 use Rattle.vo_store.specs.Proving.{HasTable, proofs_of}
 
 -- Tables of a catalog are those of the trees.
@@ -107,7 +107,7 @@ module _ (stored : List Stored) (standing : IsStanding stored) (q : Query) where
   first = pruned (need ∷ []) (tree 0)
 
   pub narrow : (i : ℕ) → length (schema_at ss i).columns ≤ most_columns
-  narrow i = few_columns (catalog_of stored) (catalog_fits stored standing.tables standing.stand standing.fit) q i
+  narrow i = sides_narrow (catalog_of stored) (catalog_fits stored standing.tables standing.stand standing.fit) q i
 
   abbrev IsComplete : List Heading → Type 0
   IsComplete hs = is_missing (left_need (sides hs q) q ∷ []) (pruned (left_need (sides hs q) q ∷ []) (stored_tree stored q.left.table)) ≡ false

@@ -8,7 +8,8 @@ use Rattle.vo_spec.specs.Needs.{tables_used}
 use Rattle.table_list.specs.Sided.{sides_seen}
 use Rattle.query_plan.specs.Used.{lent_name}
 use Rattle.vo_format.specs.View.{reply_of}
-use Rattle.vo_check.proofs.Judged.{columns_fit, bound_gives, bound_refused}
+use Rattle.query_plan.proofs.Narrow.{sides_narrow}
+use Rattle.vo_check.proofs.Judged.{bound_gives, bound_refused}
 use Rattle.vo_check.proofs.judging.judge_bound.Goals as goal
 
 abbrev few_at : List Side → Type 0
@@ -24,11 +25,11 @@ judge_needs-requires-clause-sources c =
 
 pub judge_needs-requires-clause-left : goal.judge_needs-requires-clause-left
 judge_needs-requires-clause-left c =
-    subst few_at (sym c.requires.bound) (columns_fit c.args.reply.now.catalog c.requires.fits.catalog (query_of c.args.query.now) 0)
+    subst few_at (sym c.requires.bound) (sides_narrow c.args.reply.now.catalog c.requires.fits.catalog (query_of c.args.query.now) 0)
 
 pub judge_needs-requires-clause-right : goal.judge_needs-requires-clause-right
 judge_needs-requires-clause-right c =
-    subst few_right (sym c.requires.bound) (columns_fit c.args.reply.now.catalog c.requires.fits.catalog (query_of c.args.query.now) 1)
+    subst few_right (sym c.requires.bound) (sides_narrow c.args.reply.now.catalog c.requires.fits.catalog (query_of c.args.query.now) 1)
 
 pub returns-in-Ok-test_trees : goal.returns-in-Ok-test_trees
 returns-in-Ok-test_trees c =
