@@ -12,3 +12,6 @@ pub mod TokenSounds
 pub mod TokenEnds
 pub mod BatchFits
 pub mod QueryFits
+pub mod Weights
+pub mod BatchSizes
+pub mod BatchLengths
