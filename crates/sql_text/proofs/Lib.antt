@@ -18,3 +18,6 @@ pub mod PrintSizes
 pub mod PrintSpells
 pub mod PrintBatches
 pub mod PrintUtf8
+pub mod Weights
+pub mod BatchSizes
+pub mod BatchLengths
