@@ -12,3 +12,6 @@ mod sharing;
 pub use inserting::insert;
 pub use proving::insert_proof;
 pub use vo_spec::UpdateFault;
+
+#[cfg(test)]
+mod tests;

@@ -12,3 +12,6 @@ pub use judging::is_canonical;
 pub use pruning::prune;
 pub use scanning::scan;
 pub use vo_spec::{Need, SeenRow};
+
+#[cfg(test)]
+mod tests;

@@ -7,6 +7,8 @@ fn takes_and_refuses(rt: HostRuntime) {
     for (bytes, fault) in [
         (b"".as_slice(), FormFault::Short),
         (b"\x02\x00\x01", FormFault::Short),
+        (b"\x01\xff\xff\xff\xff\xff\xff\xff", FormFault::Short),
+        (b"\x02\x04\x01", FormFault::Short),
         (b"\x03\x02", FormFault::Tag),
         (b"\x04", FormFault::Tag),
         (b"\x02\x00\x01\x0a", FormFault::Control),
@@ -45,9 +47,34 @@ fn writes_values(rt: HostRuntime) -> Result<(), Fail> {
     let mut out = Vec::new(rt.alloc());
     put_value(&mut out, &Value::Int(-1))?;
     put_value(&mut out, &Value::Bool(true))?;
+    let text = Text::from_vec(Vec::from_slice(rt.alloc(), b"bob")?);
+    put_value(&mut out, &Value::Text(text))?;
     assert_eq!(rt;
         out.as_slice(),
-        b"\x01\xff\xff\xff\xff\xff\xff\xff\xff\x03\x01".as_slice()
+        b"\x01\xff\xff\xff\xff\xff\xff\xff\xff\x03\x01\x02\x00\x03bob".as_slice()
     );
+    Ok(())
+}
+
+#[test]
+fn copies_values(rt: HostRuntime) -> Result<(), Fail> {
+    let alloc = rt.alloc();
+    let mut values = Vec::new(alloc);
+    copy_onto(alloc, &mut values, &[Value::Int(7)])?;
+    values.push(own_value(alloc, ValueRef::Text(b"bob"))?)?;
+    let copies = copy_values(alloc, values.as_slice())?;
+    assert!(rt; matches!(copies.get(0), Some(Value::Int(7))));
+    assert!(rt; matches!(copies.get(1), Some(Value::Text(text)) if text.as_bytes() == b"bob".as_slice()));
+    assert_eq!(rt; copies.len(), 2);
+    Ok(())
+}
+
+#[test]
+fn takes_columns(rt: HostRuntime) -> Result<(), Fail> {
+    // id BIGINT, name TEXT
+    let mut cursor = Cursor::new(b"\x02\x02id\x01\x04name\x02");
+    let columns = take_columns(rt.alloc(), &mut cursor)?;
+    assert!(rt; cursor.is_empty());
+    assert_eq!(rt; columns.len(), 2);
     Ok(())
 }

@@ -4,7 +4,7 @@ use Rattle.std.specs.Prelude.{IfOk}
 use Rattle.std.specs.List.{AllByRecursion}
 use Rattle.std.specs.Str.{IsUtf8}
 use Rattle.grammar.specs.Rule.{Rule}
-use Rattle.grammar.specs.Text.{NestsIn}
+use Rattle.grammar.specs.Text.{NestsIn, Spells}
 use Rattle.sql_tokens.specs.declared.kinds.TokenKind.{TokenKind}
 use Rattle.sql_tokens.specs.declared.kinds.TokenKind.TheVariants as k
 use Rattle.sql_tokens.specs.Lex.{Token, Placed}
@@ -24,8 +24,9 @@ use Rattle.sql_text.specs.Commands.{column, create, drop_table, insert, set_part
 use Rattle.sql_text.specs.declared.faults.SqlFault.{SqlFault}
 use Rattle.sql_text.specs.Texts.{unplaced, IsTextOf, Answers}
 use Rattle.sql_text.specs.Scripts.{IsScript, AnswersScript}
-use Rattle.sql_text.specs.Fits.{FitCommands}
+use Rattle.sql_text.specs.Fits.{FitCommands, AllFit}
 use Rattle.sql_text.proofs.Made.{Made, made, of_before, of_closed, of_parens, few_listed, few_ended, all_mapped}
+use Rattle.sql_text.proofs.BatchLengths.{IsSmall, text_small, script_small}
 use Rattle.sql_text.proofs.TokenFits.{number_fits}
 use Rattle.sql_text.proofs.TokenSounds.{AreUtf8, IsSound, name_fits, value_fits}
 use Rattle.sql_tokens.proofs.Alone.{tokens_real}
@@ -115,11 +116,22 @@ command_fits c (inr (inr (inl m))) = insert_fits c m
 command_fits c (inr (inr (inr (inl m)))) = update_fits c m
 command_fits c (inr (inr (inr (inr m)))) = delete_fits c m
 
-pub batch_made_fits : (b : Batch) → MadeOf batch b → FitCommands b.commands
+-- one to 1,000 commands, each of which has bytes
+abbrev AreCommands : Batch → Type 0
+AreCommands b = (1 ≤ length b.commands) × (length b.commands ≤ 1000) × AllByRecursion FitsCommand b.commands
+
+batch_made_fits : (b : Batch) → MadeOf batch b → AreCommands b
 unfolding batch
 batch_made_fits b (commands, m, e) =
     let parts = few_ended IsSound (λ _. Unit {0}) 999 command k.Semicolon commands m in
-    subst (λ (z : Batch). FitCommands z.commands) (sym e) (parts.0, parts.1, all_mapped (MadeOf command) FitsCommand commands (λ v h. command_fits v h) parts.2)
+    subst AreCommands (sym e) (parts.0, parts.1, all_mapped (MadeOf command) FitsCommand commands (λ v h. command_fits v h) parts.2)
+
+with_size : (b : Batch) → AreCommands b → IsSmall b → FitCommands b.commands
+with_size b (some, few, each) small = (some, record { count = few; each = each; size = small })
+
+with_sizes : (batches : List Batch) → AllByRecursion AreCommands batches → AllByRecursion IsSmall batches → AllFit batches
+with_sizes [] h k = tt
+with_sizes (b ∷ batches) h k = (with_size b h.0 k.0, with_sizes batches h.1 k.1)
 
 all_sound : (ps : List Placed) → AllByRecursion IsToken (unplaced ps) → AllByRecursion (λ t. IsUtf8 t.text) (unplaced ps) → AllByRecursion IsSound (unplaced ps)
 all_sound [] h k = tt
@@ -130,23 +142,28 @@ no_nested : (levels : ℕ) (n : Nested) (ts : List Token) (c : Condition) → Ne
 no_nested levels n ts c s h = tt
 
 -- the batch of a text fits
-pub batch_fits : (most : ℕ) (text : List ℕ) (b : Batch) → AreUtf8 text → IsTextOf most batch text b → FitCommands b.commands
-batch_fits most text b utf8 (_, ps, scanned, s) =
-    batch_made_fits b (made IsSound (λ _. Unit {0}) (NestsIn conditions_of true 32) (no_nested 32) batch (unplaced ps) b s (all_sound ps (tokens_real text ps scanned) (utf8 ps scanned)))
+pub batch_fits : (text : List ℕ) (b : Batch) → AreUtf8 text → IsTextOf 65536 batch text b → FitCommands b.commands
+batch_fits text b utf8 (few, ps, scanned, s) =
+    with_size b
+    (batch_made_fits b (made IsSound (λ _. Unit {0}) (NestsIn conditions_of true 32) (no_nested 32) batch (unplaced ps) b s (all_sound ps (tokens_real text ps scanned) (utf8 ps scanned))))
+    (text_small text b (few, ps, scanned, s))
 
-pub answer_batch_fits : (most : ℕ) (text : List ℕ) (r : Result Batch SqlFault) → Answers (λ x. x) most batch text r → AreUtf8 text → IfOk r (λ b. FitCommands b.commands)
-answer_batch_fits most text (Ok b) h utf8 = batch_fits most text b utf8 h
-answer_batch_fits most text (Err e) h utf8 = tt
+pub answer_batch_fits : (text : List ℕ) (r : Result Batch SqlFault) → Answers (λ x. x) 65536 batch text r → AreUtf8 text → IfOk r (λ b. FitCommands b.commands)
+answer_batch_fits text (Ok b) h utf8 = batch_fits text b utf8 h
+answer_batch_fits text (Err e) h utf8 = tt
 
--- each batch of a script
-pub script_fits : (text : List ℕ) (batches : List Batch) → AreUtf8 text → IsScript text batches → AllByRecursion (λ (b : Batch). FitCommands b.commands) batches
+each_made : (batches : List Batch) (ts : List Token) → Spells (NestsIn conditions_of true 32) true script ts batches → AllByRecursion IsSound ts → AllByRecursion AreCommands batches
 unfolding script
-script_fits text batches utf8 (_, ps, scanned, s, short) =
-    let m = made IsSound (λ _. Unit {0}) (NestsIn conditions_of true 32) (no_nested 32) script (unplaced ps) batches s (all_sound ps (tokens_real text ps scanned) (utf8 ps scanned)) in
-    all_mapped (MadeOf (closed (closed batch k.Commit) k.Semicolon)) (λ (b : Batch). FitCommands b.commands) batches
+each_made batches ts s sound =
+    let m = made IsSound (λ _. Unit {0}) (NestsIn conditions_of true 32) (no_nested 32) script ts batches s sound in
+    all_mapped (MadeOf (closed (closed batch k.Commit) k.Semicolon)) AreCommands batches
     (λ b h. batch_made_fits b (of_closed IsSound (λ _. Unit {0}) batch k.Commit b (of_closed IsSound (λ _. Unit {0}) (closed batch k.Commit) k.Semicolon b h))) m.1
 
-pub answer_script_fits : {B : Type 0} (view : B → List Batch) (text : List ℕ) (r : Result B SqlFault) → AnswersScript view text r → AreUtf8 text
-    → IfOk r (λ b. AllByRecursion (λ (b : Batch). FitCommands b.commands) (view b))
+-- each batch of a script
+pub script_fits : (text : List ℕ) (batches : List Batch) → AreUtf8 text → IsScript text batches → AllFit batches
+script_fits text batches utf8 (few, ps, scanned, s, short) =
+    with_sizes batches (each_made batches (unplaced ps) s (all_sound ps (tokens_real text ps scanned) (utf8 ps scanned))) (script_small text batches (few, ps, scanned, s, short))
+
+pub answer_script_fits : {B : Type 0} (view : B → List Batch) (text : List ℕ) (r : Result B SqlFault) → AnswersScript view text r → AreUtf8 text → IfOk r (λ b. AllFit (view b))
 answer_script_fits view text (Ok b) h utf8 = script_fits text (view b) utf8 h
 answer_script_fits view text (Err e) h utf8 = tt

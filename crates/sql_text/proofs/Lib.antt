@@ -12,3 +12,12 @@ pub mod TokenSounds
 pub mod TokenEnds
 pub mod BatchFits
 pub mod QueryFits
+pub mod PrintTexts
+pub mod PrintTokens
+pub mod PrintSizes
+pub mod PrintSpells
+pub mod PrintBatches
+pub mod PrintUtf8
+pub mod Weights
+pub mod BatchSizes
+pub mod BatchLengths

@@ -1,5 +1,5 @@
 -- The tokens of a text that is UTF-8 are UTF-8: each ends with an ASCII byte.
-use Rattle.std.proofs.Common.{◌≡◌, ℕ, zero, suc, ◌+◌, ◌-◌, ◌<◌, Bool, true, false, cond, List, [], ◌∷◌, length, take, drop, get_or, Option, Some, None, Result, Ok, Err, ℤ, pos, refl, sym, ap, ◌∙◌, subst, ◌⊎◌, inl, inr, arith}
+use Rattle.std.proofs.Common.{◌≡◌, ℕ, zero, suc, ◌+◌, ◌-◌, ◌≤◌, ◌<◌, Bool, true, false, cond, List, [], ◌∷◌, length, take, drop, get_or, Option, Some, None, Result, Ok, Err, ℤ, pos, refl, sym, ap, ◌∙◌, subst, ◌⊎◌, inl, inr, arith}
 use Rattle.std.specs.Prelude.{slice_index, ◌==◌, nat_le, ◌&&◌}
 use Rattle.std.specs.List.{prefix_len, AllByRecursion}
 use Rattle.std.specs.Char.{is_ascii_digit}
@@ -182,6 +182,15 @@ module _ (z : List ℕ) (t : Token) (some : 0 < length z) where
 
   token_ends : token_at z ≡ Ok t → EndsAt z t.text
   token_ends h = by_letter (pick (is_letter (slice_index z 0)) _ _ (Ok t) (cases z t h))
+
+-- a token has a byte, and lies in the text
+pub token_inside : (b : ℕ) (z : List ℕ) (t : Token) → token_at (b ∷ z) ≡ Ok t → (1 ≤ length t.text) × (length t.text ≤ length (b ∷ z))
+token_inside b z t e = by_end (token_ends (b ∷ z) t (omega arith) e)
+  where
+    by_end : EndsAt (b ∷ z) t.text → (1 ≤ length t.text) × (length t.text ≤ length (b ∷ z))
+    by_end (m, f, inside, small) =
+        let size : length t.text ≡ suc m = omega (arith, ap length f, length-take (suc m) (b ∷ z), inside) in
+        (omega (arith, size), omega (arith, size, inside))
 
 -- the token and what follows it
 split_utf8 : (b : ℕ) (z text : List ℕ) → EndsAt (b ∷ z) text → IsUtf8 (b ∷ z) → IsUtf8 text × IsUtf8 (drop (length text - 1) z)

@@ -25,15 +25,15 @@ use Rattle.sql_text.proofs.TokenFits.{ReadAs, read_as, pick, word_of}
 
 -- a word's bytes in small letters are those of names
 
-holds_below : (p : ℕ → Bool) → ℕ → Bool
+unfoldable pub holds_below : (p : ℕ → Bool) → ℕ → Bool
 holds_below p zero = true
 holds_below p (suc n) = p n && holds_below p n
 
-both : (a b : Bool) → (a && b) ≡ true → (a ≡ true) × (b ≡ true)
+pub both : (a b : Bool) → (a && b) ≡ true → (a ≡ true) × (b ≡ true)
 both true b e = (refl, e)
 both false b e = absurd (cc)
 
-below_holds : (p : ℕ → Bool) (n b : ℕ) → holds_below p n ≡ true → b < n → p b ≡ true
+pub below_holds : (p : ℕ → Bool) (n b : ℕ) → holds_below p n ≡ true → b < n → p b ≡ true
 unfolding holds_below
 below_holds p zero b e h = absurd (omega arith)
 below_holds p (suc n) b e h = let parts = both (p n) (holds_below p n) e in by_place parts.0 (below_holds p n b parts.1) (b == n) refl
@@ -59,14 +59,14 @@ all_start : holds_below starts 128 ≡ true
 unfolding holds_below
 all_start = refl
 
-implied : (a b : Bool) → (not a || b) ≡ true → a ≡ true → b ≡ true
+pub implied : (a b : Bool) → (not a || b) ≡ true → a ≡ true → b ≡ true
 implied true b e f = e
 implied false b e f = absurd (cc)
 
 kept : (b : ℕ) → is_word_byte b ≡ true → is_name_byte (to_ascii_lowercase b) ≡ true
 kept b e = implied (is_word_byte b) _ (below_holds is_kept 128 b all_kept (word_small b e)) e
 
-and_true : (a b : Bool) → a ≡ true → b ≡ true → (a && b) ≡ true
+pub and_true : (a b : Bool) → a ≡ true → b ≡ true → (a && b) ≡ true
 and_true a b e f = rw (e, f) refl
 
 kept_all : (xs : List ℕ) → list_all is_word_byte xs ≡ true → list_all is_name_byte (map to_ascii_lowercase xs) ≡ true
@@ -250,7 +250,7 @@ all_at : (bs : List ℕ) → ((i : ℕ) → i < length bs → 128 ≤ get_or bs 
 all_at [] f = tt
 all_at (b ∷ bs) f = (f 0 (omega arith), all_at bs (λ i h. f (suc i) (omega arith)))
 
-high_char : (c : ℕ) → 128 ≤ c → AllByRecursion (λ b. 128 ≤ b) (encode c)
+pub high_char : (c : ℕ) → 128 ≤ c → AllByRecursion (λ b. 128 ≤ b) (encode c)
 high_char c h = all_at (encode c) (λ i inside. by_byte i inside (nat_lt (get_or (encode c) i 0) 128) refl)
   where
     by_byte : (i : ℕ) → i < length (encode c) → (b : Bool) → nat_lt (get_or (encode c) i 0) 128 ≡ b → 128 ≤ get_or (encode c) i 0
@@ -260,7 +260,7 @@ high_char c h = all_at (encode c) (λ i inside. by_byte i inside (nat_lt (get_or
         absurd (omega (arith, same))
     by_byte i inside false e = grind (arith, nat_tests)
 
-utf8_cons : (c : ℕ) (bs : List ℕ) → c < 128 → IsUtf8 bs → IsUtf8 (c ∷ bs)
+pub utf8_cons : (c : ℕ) (bs : List ℕ) → c < 128 → IsUtf8 bs → IsUtf8 (c ∷ bs)
 utf8_cons c bs h u = IsUtf8-append (c ∷ []) bs (IsUtf8-from_ascii (c ∷ []) (IsAscii-cons c [] h IsAscii-nil)) u
 
 singles_utf8 : (s : Bool) (cs : List ℕ) → scalars cs ≡ true → IsUtf8 (single_quotes s (encodes cs))

@@ -8,3 +8,5 @@ pub mod Texts
 pub mod Scripts
 pub mod Fits
 pub mod Faults
+pub mod Printing
+pub mod Spellable

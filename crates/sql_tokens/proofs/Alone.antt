@@ -26,7 +26,7 @@ run_first : (p : ℕ → Bool) (b : ℕ) (z : List ℕ) → p b ≡ true → tak
 run_first p b z e = rw (e, one-add) refl
 
 -- symbols: the second byte counts for those of two bytes alone
-Stands : ℕ → ℕ → TokenKind → Type 0
+unfoldable pub Stands : ℕ → ℕ → TokenKind → Type 0
 Stands b c kind = ((b == 45) ≡ false) × (((length (spelling kind) ≡ 1) × (symbol b 0 ≡ Some kind)) ⊎ ((length (spelling kind) ≡ 2) × (0 < c)))
 
 stands_at : (b c : ℕ) (kind found : TokenKind) → Some found ≡ Some kind → Stands b c found → Stands b c kind
@@ -84,7 +84,7 @@ stands_as : (n b c : ℕ) (kind : TokenKind) (here others : Option TokenKind) �
 stands_as n b c kind here others at later true e f = subst (λ z. Stands z c kind) (sym (eqb-true b n e)) (at f)
 stands_as n b c kind here others at later false e f = later f
 
-stands : (b c : ℕ) (kind : TokenKind) → symbol b c ≡ Some kind → Stands b c kind
+pub stands : (b c : ℕ) (kind : TokenKind) → symbol b c ≡ Some kind → Stands b c kind
 stands b c kind h =
     stands_one 40 b c kind k.LeftParen _ refl refl refl
     (stands_one 41 b c kind k.RightParen _ refl refl refl
@@ -98,11 +98,11 @@ stands b c kind h =
     (stands_unequal b c kind (b == 33 && c == 61) refl)
     (b == 62) refl) (b == 60) refl) (b == 61) refl) (b == 42) refl) (b == 46) refl) (b == 59) refl) (b == 44) refl) (b == 41) refl) (b == 40) refl h
 
-text_of : Result Token Lapse → List ℕ
+pub text_of : Result Token Lapse → List ℕ
 text_of (Ok t) = t.text
 text_of (Err lapse) = []
 
-named_text : (o : Option TokenKind) (w : List ℕ) (t : Token) → named o w ≡ Ok t → t.text ≡ w
+pub named_text : (o : Option TokenKind) (w : List ℕ) (t : Token) → named o w ≡ Ok t → t.text ≡ w
 unfolding text_of
 named_text (Some kind) w t e = sym (ap text_of e)
 named_text None w t e = by_length (nat_le (length w) 63) e
@@ -111,16 +111,16 @@ named_text None w t e = by_length (nat_le (length w) 63) e
     by_length true f = sym (ap text_of f)
     by_length false f = absurd (cc)
 
-integer_text : (o : Option ℤ) (w : List ℕ) (t : Token) → integer o w ≡ Ok t → t.text ≡ w
+pub integer_text : (o : Option ℤ) (w : List ℕ) (t : Token) → integer o w ≡ Ok t → t.text ≡ w
 unfolding text_of
 integer_text (Some number) w t e = sym (ap text_of e)
 integer_text None w t e = absurd (cc)
 
-symbolic_text : (kind : TokenKind) (z : List ℕ) (t : Token) → symbolic (Some kind) z ≡ Ok t → t.text ≡ take (length (spelling kind)) z
+pub symbolic_text : (kind : TokenKind) (z : List ℕ) (t : Token) → symbolic (Some kind) z ≡ Ok t → t.text ≡ take (length (spelling kind)) z
 unfolding text_of
 symbolic_text kind z t e = sym (ap text_of e)
 
-quoted_text : (len : ℕ) (z : List ℕ) (t : Token) → quoted (Some len) z ≡ Ok t → t.text ≡ take (suc len) z
+pub quoted_text : (len : ℕ) (z : List ℕ) (t : Token) → quoted (Some len) z ≡ Ok t → t.text ≡ take (suc len) z
 unfolding text_of
 quoted_text len z t e = by_fit (fits_text (take (suc len) z)) e
   where
@@ -130,26 +130,26 @@ quoted_text len z t e = by_fit (fits_text (take (suc len) z)) e
 
 -- which token stands first, by the first byte
 
-letter_at : (b : ℕ) (z : List ℕ) → is_letter b ≡ true → token_at (b ∷ z) ≡ (let w = take (prefix_len is_word_byte (b ∷ z)) (b ∷ z) in named (keyword w) w)
+pub letter_at : (b : ℕ) (z : List ℕ) → is_letter b ≡ true → token_at (b ∷ z) ≡ (let w = take (prefix_len is_word_byte (b ∷ z)) (b ∷ z) in named (keyword w) w)
 unfolding token_at
 letter_at b z e = rw e refl
 
-digit_at : (b : ℕ) (z : List ℕ) → is_letter b ≡ false → is_ascii_digit b ≡ true
+pub digit_at : (b : ℕ) (z : List ℕ) → is_letter b ≡ false → is_ascii_digit b ≡ true
     → token_at (b ∷ z) ≡ (let w = take (prefix_len is_ascii_digit (b ∷ z)) (b ∷ z) in integer (integer_value w) w)
 unfolding token_at
 digit_at b z e f = rw (e, f) refl
 
-minus_at : (b : ℕ) (z : List ℕ) → is_letter b ≡ false → is_ascii_digit b ≡ false → (b == 45 && is_ascii_digit (slice_index z 0)) ≡ true
+pub minus_at : (b : ℕ) (z : List ℕ) → is_letter b ≡ false → is_ascii_digit b ≡ false → (b == 45 && is_ascii_digit (slice_index z 0)) ≡ true
     → token_at (b ∷ z) ≡ (let w = take (1 + prefix_len is_ascii_digit z) (b ∷ z) in integer (integer_value w) w)
 unfolding token_at
 minus_at b z e f h = rw (e, f, h) refl
 
-quote_at : (b : ℕ) (z : List ℕ) → is_letter b ≡ false → is_ascii_digit b ≡ false → (b == 45 && is_ascii_digit (slice_index z 0)) ≡ false → (b == 39) ≡ true
+pub quote_at : (b : ℕ) (z : List ℕ) → is_letter b ≡ false → is_ascii_digit b ≡ false → (b == 45 && is_ascii_digit (slice_index z 0)) ≡ false → (b == 39) ≡ true
     → token_at (b ∷ z) ≡ quoted (closing false z) (b ∷ z)
 unfolding token_at
 quote_at b z e f h i = rw (e, f, h, i) refl
 
-symbol_at : (b : ℕ) (z : List ℕ) → is_letter b ≡ false → is_ascii_digit b ≡ false → (b == 45 && is_ascii_digit (slice_index z 0)) ≡ false → (b == 39) ≡ false
+pub symbol_at : (b : ℕ) (z : List ℕ) → is_letter b ≡ false → is_ascii_digit b ≡ false → (b == 45 && is_ascii_digit (slice_index z 0)) ≡ false → (b == 39) ≡ false
     → token_at (b ∷ z) ≡ symbolic (symbol b (slice_index z 0)) (b ∷ z)
 unfolding token_at
 symbol_at b z e f h i = rw (e, f, h, i) refl
@@ -166,14 +166,14 @@ run_token p of b z t e text at h =
     subst (λ y. take (prefix_len p y) y ≡ w) w_is (run_alone p (b ∷ z)) in
     ap token_at (text w found ∙ w_is) ∙ at (take (prefix_len p z) z) ∙ ap of again ∙ found
 
-word_letter : (b : ℕ) → is_letter b ≡ true → is_word_byte b ≡ true
+pub word_letter : (b : ℕ) → is_letter b ≡ true → is_word_byte b ≡ true
 word_letter b e = or_left (is_letter b) (is_ascii_digit b) e
   where
     or_left : (x y : Bool) → x ≡ true → (x || y) ≡ true
     or_left true y f = refl
     or_left false y f = absurd (cc)
 
-both_true : (x y : Bool) → (x && y) ≡ true → (x ≡ true) × (y ≡ true)
+pub both_true : (x y : Bool) → (x && y) ≡ true → (x ≡ true) × (y ≡ true)
 both_true true y e = (refl, e)
 both_true false y e = absurd (cc)
 
@@ -196,11 +196,11 @@ take_none : (n : ℕ) → take {A = ℕ} n [] ≡ []
 take_none zero = refl
 take_none (suc n) = refl
 
-one_more : (o : Option ℕ) (n : ℕ) → option_map suc o ≡ Some (suc n) → o ≡ Some n
+pub one_more : (o : Option ℕ) (n : ℕ) → option_map suc o ≡ Some (suc n) → o ≡ Some n
 one_more (Some m) n e = let h : suc m ≡ suc n = cc in ap Some (omega arith)
 one_more None n e = absurd (cc)
 
-some_more : (o : Option ℕ) → option_map suc o ≡ Some 0 → ⊥
+pub some_more : (o : Option ℕ) → option_map suc o ≡ Some 0 → ⊥
 some_more (Some m) e = let h : suc m ≡ 0 = cc in omega arith
 some_more None e = cc
 
@@ -257,7 +257,7 @@ symbol_token b z t (Some kind) e f q s h = by_length z (stands b (slice_index z 
         ap token_at (symbolic_text kind (b ∷ c ∷ z) t h ∙ two z) ∙ symbol_at b (c ∷ []) e f (no_minus m _) q ∙ ap (λ o. symbolic o (b ∷ c ∷ [])) s
         ∙ ap (λ y. Ok (record { kind = kind; text = y; number = pos 0 })) (two [] ∙ sym (two z)) ∙ h
 
-none_at_end : (t : Token) → token_at [] ≡ Ok t → ⊥
+pub none_at_end : (t : Token) → token_at [] ≡ Ok t → ⊥
 unfolding token_at
 none_at_end t h = cc
 

@@ -25,7 +25,7 @@ skips at zero z = rw add-zero refl
 skips at (suc n) [] = refl
 skips at (suc n) (b ∷ z) = skips (at + 1) n z ∙ ap (λ k. tokens_from k 0 (drop n z)) (omega arith)
 
-blank : (at b : ℕ) (z : List ℕ) → is_blank b ≡ true → tokens_from at 0 (b ∷ z) ≡ tokens_from (at + 1) 0 z
+pub blank : (at b : ℕ) (z : List ℕ) → is_blank b ≡ true → tokens_from at 0 (b ∷ z) ≡ tokens_from (at + 1) 0 z
 unfolding tokens_from
 blank at b z e = rw e refl
 
@@ -37,7 +37,7 @@ behind : (at len b : ℕ) (z : List ℕ) → 1 ≤ len → tokens_from (at + 1) 
 behind at zero b z some = absurd (omega arith)
 behind at (suc n) b z some = rw sub-one (skips (at + 1) n z ∙ ap (λ k. tokens_from k 0 (drop n z)) (omega arith))
 
-goes : (at b : ℕ) (z : List ℕ) (t : Token) → is_blank b ≡ false → token_at (b ∷ z) ≡ Ok t → 1 ≤ length t.text
+pub goes : (at b : ℕ) (z : List ℕ) (t : Token) → is_blank b ≡ false → token_at (b ∷ z) ≡ Ok t → 1 ≤ length t.text
     → tokens_from at 0 (b ∷ z) ≡ followed (record { token = t; at = at }) (tokens_from (at + length t.text) 0 (drop (length t.text) (b ∷ z)))
 unfolding tokens_from
 goes at b z t e f some = rw (e, f) (ap (followed (record { token = t; at = at })) (behind at (length t.text) b z some))

@@ -14,6 +14,9 @@ const ANN: &[u8] = b"\x00\x01\x03\x01t\x02\x01\x00\x00\x00\x00\x00\x00\x00\x01\x
 
 const BOB: &[u8] = b"\x00\x01\x03\x01t\x02\x01\x00\x00\x00\x00\x00\x00\x00\x03\x02\x00\x03bob";
 
+// DROP TABLE t
+const DROP: &[u8] = b"\x00\x01\x02\x01t";
+
 // The digest of the tree of no rows, of ann's, of both, and of the rows 1 to 16, each with 'x'.
 const NO_ROWS: [u8; 32] = [
     0x9b, 0x4f, 0xb2, 0x4e, 0xdd, 0x6d, 0x1d, 0x88, 0x30, 0xe2, 0x72, 0x39, 0x82, 0x63, 0xcd, 0xbf,
@@ -59,6 +62,68 @@ fn apply(
         return Ok(Some(tables.apply_batch(alloc, &batch)));
     }
     Ok(None)
+}
+
+// What the one command of these bytes makes of the tables, where it is open.
+fn apply_one(
+    alloc: Global,
+    tables: &StoredTables,
+    bytes: &[u8],
+) -> Result<Option<Result<StoredTables, ApplyFault>>, Fail> {
+    let batch = read_batch(alloc, bytes)?;
+    if is_open(&batch) {
+        if let [command] = batch.commands.as_slice() {
+            return Ok(Some(tables.apply(alloc, command)));
+        }
+    }
+    Ok(None)
+}
+
+// Why the one command of these bytes is refused without a look at the rows.
+fn refusal_of(
+    alloc: Global,
+    tables: &StoredTables,
+    bytes: &[u8],
+) -> Result<Option<CommandFault>, Fail> {
+    let batch = read_batch(alloc, bytes)?;
+    match batch.commands.as_slice() {
+        [command] => Ok(tables.refusal(command)),
+        _ => Ok(None),
+    }
+}
+
+#[test]
+fn applies_commands_one_by_one(rt: HostRuntime) -> Result<(), Fail> {
+    let mut tables = StoredTables::new(rt.alloc());
+    for (bytes, count) in [(CREATE, 1), (ANN, 1), (DROP, 0)] {
+        let Some(Ok(next)) = apply_one(rt.alloc(), &tables, bytes)? else {
+            panic!(rt; "refused: {bytes:?}");
+        };
+        tables = next;
+        assert_eq!(rt; tables.catalog(rt.alloc())?.tables.len(), count);
+    }
+    Ok(())
+}
+
+#[test]
+fn refuses_by_what_the_catalog_has(rt: HostRuntime) -> Result<(), Fail> {
+    let mut tables = StoredTables::new(rt.alloc());
+    for (bytes, fault) in [
+        (CREATE, None),
+        (ANN, Some(CommandFault::NoTable)),
+        (DROP, Some(CommandFault::NoTable)),
+    ] {
+        assert_eq!(rt; refusal_of(rt.alloc(), &tables, bytes)?, fault);
+    }
+    assert_eq!(rt; apply(rt.alloc(), &mut tables, CREATE)?, Some(Ok(())));
+    for (bytes, fault) in [
+        (CREATE, Some(CommandFault::TableExists)),
+        (ANN, None),
+        (DROP, None),
+    ] {
+        assert_eq!(rt; refusal_of(rt.alloc(), &tables, bytes)?, fault);
+    }
+    Ok(())
 }
 
 #[test]

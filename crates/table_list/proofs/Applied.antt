@@ -1,7 +1,7 @@
 -- What a command makes of tables, by what it makes of its own.
-use Rattle.std.proofs.Common.{◌≡◌, ℕ, ◌+◌, ◌<◌, ◌≤◌, Bool, true, false, cond, leb, List, [], ◌∷◌, ◌++◌, length, take, drop, map, Option, Some, None, Result, Ok, Err, refl, sym, ap, subst, ◌∙◌}
+use Rattle.std.proofs.Common.{◌≡◌, ℕ, ◌+◌, ◌<◌, ◌≤◌, Bool, true, false, not, ◌||◌, cond, leb, List, [], ◌∷◌, ◌++◌, length, take, drop, map, Option, Some, None, Result, Ok, Err, refl, sym, ap, subst, ◌∙◌}
 use Rattle.std.specs.Prelude.{bytes_eq, is_some}
-use Rattle.std.proofs.lemmas.Bool.{both_ways}
+use Rattle.std.proofs.lemmas.Bool.{both_ways, leb-true}
 use Rattle.std.proofs.lemmas.Slice.Eq.{bytes_eq-Decides}
 use Rattle.std.specs.List.{AllByRecursion}
 use Rattle.std.specs.Option.{option_map_or}
@@ -19,8 +19,8 @@ use Rattle.vo_spec.specs.declared.tables.CommandFault.{CommandFault}
 use Rattle.vo_spec.specs.declared.tables.CommandFault.TheVariants.{NoTable, DuplicateKey, NoRow, TableExists, TooManyTables, BadSchema}
 use Rattle.vo_spec.specs.Firsts.{first_of, unless, and_then}
 use Rattle.vo_spec.specs.Values.{key_of, key_lt}
-use Rattle.vo_spec.specs.Tables.{Tests, most_tables, is_bad_schema, Heading, heading_of, heading_named, put_table, create_tests, insert_tests, update_tests, delete_tests, changed, apply, row_of, has_row, put_row, without_row, changed_row, cell_changes, rows_named}
-use Rattle.table_list.specs.declared.stored.Stored.{Stored}
+use Rattle.vo_spec.specs.Tables.{Tests, most_tables, column_number, has_column, has_twice, is_bad_schema, Heading, heading_of, heading_named, put_table, create_tests, insert_tests, update_tests, delete_tests, changed, apply, row_of, has_row, put_row, without_row, changed_row, cell_changes, rows_named}
+use Rattle.table_list.specs.declared.kept.Stored.{Stored}
 use Rattle.table_list.specs.StoredTables.{table_of, tables_in}
 use Rattle.table_list.specs.Named.{table_at, no_table, IsUnlike, Differ, IsAt, IsFound, IsNotAbove, BeginsAbove, new_table, rowed, with_new}
 use Rattle.table_list.proofs.Places.{parted_at, take_more, all_more, all_first, all_last, drop_at as drop_at_place}
@@ -162,6 +162,24 @@ create_at name columns key tables at e b a =
 first_passes : (b : Bool) (fault : CommandFault) (others : Tests) → first_of ((b, fault) ∷ others) ≡ None → b ≡ false
 first_passes true fault others e = absurd cc
 first_passes false fault others e = refl
+
+third_passes : (a b c : Bool) (first second third : CommandFault) → first_of ((a, first) ∷ (b, second) ∷ (c, third) ∷ []) ≡ None → c ≡ false
+third_passes true b c first second third e = absurd cc
+third_passes false true c first second third e = absurd cc
+third_passes false false true first second third e = absurd cc
+third_passes false false false first second third e = refl
+
+good_key : (a b c : Bool) → (a || not b || c) ≡ false → b ≡ true
+good_key a true c e = refl
+good_key true false c e = absurd cc
+good_key false false c e = absurd cc
+
+-- a CREATE that isn't refused names a column as its key
+pub create_keyed : (name : List ℕ) (columns : List Column) (key : List ℕ) (tables : List Table) → first_of (create_tests name columns key (map heading_of tables)) ≡ None → column_number columns key < length columns
+create_keyed name columns key tables e =
+    let headings = map heading_of tables in
+    let good = third_passes (is_some (heading_named name headings)) (leb most_tables (length headings)) (is_bad_schema columns key) TableExists TooManyTables BadSchema e in
+    leb-true _ _ (good_key (has_twice (map (λ (c : Column). c.name) columns)) (has_column columns key) _ good)
 
 some_absent : (name : List ℕ) (tables : List Table) (found : Option ℕ) → IsFound name tables found → is_some (heading_named name (map heading_of tables)) ≡ is_some found
 some_absent name tables None h = ap is_some (heading_absent name tables h)

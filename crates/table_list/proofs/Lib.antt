@@ -14,3 +14,4 @@ pub mod Passing
 pub mod ShownLaws
 pub mod PlainLaws
 pub mod ResultLaws
+pub mod WidthLaws

@@ -1,15 +1,13 @@
 -- Plain tables by name, their headings and their rows.
-use Rattle.std.proofs.Common.{◌≡◌, ℕ, Bool, true, false, cond, List, [], ◌∷◌, map, Option, Some, None, refl, subst}
+use Rattle.std.proofs.Common.{◌≡◌, ℕ, Bool, true, false, cond, List, [], ◌∷◌, map, Option, Some, None, refl}
 use Rattle.std.specs.Prelude.{option_map, bytes_eq}
-use Rattle.std.specs.List.{AllByRecursion}
 use Rattle.vo_spec.specs.declared.values.Kind.{Kind}
 use Rattle.vo_spec.specs.declared.values.Kind.TheVariants as kind
 use Rattle.vo_spec.specs.declared.tables.Table.{Table}
 use Rattle.vo_spec.specs.Bytes.{u64_bytes}
-use Rattle.vo_spec.specs.Values.{IsKeyOf, key_of}
+use Rattle.vo_spec.specs.Values.{IsKeyOf}
 use Rattle.vo_spec.specs.Tables.{Heading, heading_of, heading_named, table_named}
 use Rattle.table_list.specs.KeyWidths.{has_width}
-use Rattle.table_list.specs.PlainLines.{IsKeyed}
 
 pub keys_wide : (k : Kind) (key : List ℕ) → IsKeyOf k key → has_width k key ≡ true
 unfolding u64_bytes
@@ -30,14 +28,3 @@ pub schema_by_name : (name : List ℕ) (tables : List Table) (o : Option Table) 
     → option_map (λ (h : Heading). h.schema) (heading_named name (map heading_of tables)) ≡ option_map (λ (t : Table). t.schema) o
 schema_by_name name tables None e = rw (heading_by_name name tables) (rw e refl)
 schema_by_name name tables (Some t) e = rw (heading_by_name name tables) (rw e refl)
-
-keyed_step : (b : Bool) (u t : Table) (p : Option Table) → (p ≡ Some t → IsKeyed t) → IsKeyed u → cond b (Some u) p ≡ Some t → IsKeyed t
-keyed_step true u t p next h e = subst IsKeyed (some_is u t e) h
-  where
-    some_is : (u t : Table) → Some u ≡ Some t → u ≡ t
-    some_is u t e = cc
-keyed_step false u t p next h e = next e
-
-pub keyed_named : (name : List ℕ) (tables : List Table) (t : Table) → AllByRecursion IsKeyed tables → table_named name tables ≡ Some t → IsKeyed t
-keyed_named name [] t h e = absurd cc
-keyed_named name (u ∷ tables) t h e = keyed_step (bytes_eq u.name name) u t _ (keyed_named name tables t h.1) h.0 e

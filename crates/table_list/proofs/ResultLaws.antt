@@ -1,5 +1,5 @@
 -- Answers left row by left row, and the lines of a query's sources.
-use Rattle.std.proofs.Common.{◌≡◌, ℕ, ◌+◌, ◌<◌, Bool, true, false, cond, List, [], ◌∷◌, ◌++◌, length, map, drop, Option, Some, None, refl, ap, sym, arith, ◌∙◌}
+use Rattle.std.proofs.Common.{◌≡◌, ℕ, ◌+◌, ◌<◌, Bool, true, false, cond, List, [], ◌∷◌, ◌++◌, length, map, drop, Option, Some, None, refl, ap, sym, ◌∙◌}
 use Rattle.std.specs.Prelude.{option_map, option_to_list, filter, flat_map}
 use Rattle.std.specs.Option.{option_map_or}
 use Rattle.std.proofs.Math.ListN.{get_or}
@@ -10,7 +10,7 @@ use Rattle.vo_spec.specs.declared.tables.Schema.{Schema}
 use Rattle.vo_spec.specs.declared.queries.Source.{Source}
 use Rattle.vo_spec.specs.declared.queries.Join.{Join}
 use Rattle.vo_spec.specs.Conditions.{Query}
-use Rattle.vo_spec.specs.Tables.{Heading, heading_of, heading_named, table_named, rows_named}
+use Rattle.vo_spec.specs.Tables.{Heading, heading_of, table_named, rows_named}
 use Rattle.vo_spec.specs.Results.{Side, Line, line_of, lines_at, sides, side_of, no_schema, place_value, shown_places, is_answer, combinations, answer_rows}
 use Rattle.table_list.specs.PlainLines.{lines_named}
 use Rattle.table_list.proofs.PlainLaws.{heading_by_name}

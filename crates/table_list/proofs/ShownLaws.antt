@@ -1,7 +1,7 @@
 -- One more column of a source.
 use Rattle.std.proofs.Common.{◌≡◌, ℕ, ◌+◌, zero, suc, List, [], ◌∷◌, ◌++◌, map, ap, arith, ◌∙◌}
 use Rattle.std.proofs.lemmas.List.{map-append}
-use Rattle.vo_spec.specs.Results.{Place, numbers_from}
+use Rattle.vo_spec.specs.Results.{numbers_from}
 use Rattle.table_list.specs.Shown.{column_of, places_until}
 
 numbers_more : (first n : ℕ) → numbers_from first (suc n) ≡ numbers_from first n ++ (first + n) ∷ []

@@ -37,6 +37,10 @@ named_at name tables at h =
     ap (table_named name) (parted_at tables at no_table h.in_range)
     ∙ named_parted name (take at tables) (table_at tables at) (drop (at + 1) tables) h.before h.named
 
+pub named_absent : (name : List ℕ) (tables : List Table) → Front name tables → table_named name tables ≡ None
+named_absent name [] h = refl
+named_absent name (t ∷ tables) h = rw h.0 (named_absent name tables h.1)
+
 -- Other rows in one table.
 
 others_keep : (name : List ℕ) (rows : Table → List Row) (tables : List Table) → Front name tables → with_rows name rows tables ≡ tables

@@ -3,7 +3,7 @@ use Rattle.std.specs.Prelude.{List, map}
 use Rattle.std.specs.declared.rc.Rc.{Rc}
 use Rattle.std.specs.declared.alloc.Global.{Global}
 use Rattle.vo_spec.specs.declared.tables.Table.{Table}
-use Rattle.table_list.specs.declared.stored.Stored.{Stored}
+use Rattle.table_list.specs.declared.kept.Stored.{Stored}
 
 abbrev pub table_of : Stored → Table
 table_of s = record { name = s.head.value.name; schema = s.head.value.schema; rows = s.rows }

@@ -1,26 +1,29 @@
 //! What commands make of tables.
-ghost use Rattle.std.specs.Prelude.{◌≡◌, ◌<◌, List, Result, length, IfOk};
+ghost use Rattle.std.specs.Prelude.{◌≡◌, ◌<◌, List, Result, length, true, IfOk};
 ghost use Rattle.vo_spec.specs.declared.values.Row.{Row};
 ghost use Rattle.vo_spec.specs.declared.tables.CommandFault.{CommandFault};
 ghost use Rattle.vo_spec.specs.declared.tables.Command.TheVariants.{Create, Drop as DropTable, Insert, Update, Delete};
 ghost use Rattle.vo_spec.specs.Tables.{apply};
 ghost use Rattle.vo_spec.specs.Batches.{FitsCommand};
 ghost use Rattle.table_list.specs.StoredTables.{table_of, tables_in};
-ghost use Rattle.table_list.specs.Named.{Differ, rowed, with_new};
+ghost use Rattle.table_list.specs.Named.{Differ, rowed, table_at, with_new};
 ghost use Rattle.table_list.specs.Changes.{Gives, on_tables};
+ghost use Rattle.table_list.specs.KeyWidths.{have_width};
 
 use crate::changing::{deleted_rows, inserted_rows, updated_rows};
 use crate::creating::created;
 use crate::fault::ApplyFault;
+use crate::kept::Stored;
 use crate::rows::Rows;
 use crate::sharing::spliced;
-use crate::stored::{Stored, find, stored_at};
+use crate::stored::{find, stored_at};
 use std::alloc::{AllocError, Global};
 use std::rc::Rc;
 use vo_spec::{Command, CommandFault, Name, SetPart, Value};
 
 /// The table with other rows.
 fn rowed(table: &Stored, rows: Rows) -> Result<Stored, AllocError>
+    requires { have_width (table_of table.now).schema rows ≡ true }
     ensures { IfOk result (λ new. table_of new ≡ rowed (table_of table.now) rows) }
 {
     Ok(Stored {
@@ -29,7 +32,6 @@ fn rowed(table: &Stored, rows: Rows) -> Result<Stored, AllocError>
     })
 }
 
-/// The tables with other rows in one.
 /// The tables with other rows in one, or the fault.
 fn put_rows(
     alloc: Global,
@@ -39,6 +41,7 @@ fn put_rows(
 ) -> Result<Vec<Rc<Stored>>, ApplyFault>
     requires range { at < length tables.now }
     requires differ { Differ (tables_in tables.now) }
+    requires wide { IfOk rows (λ rows. have_width (table_at (tables_in tables.now) at).schema rows ≡ true) }
     ensures answer { (answer : Result (List Row) CommandFault) → Gives (λ rows. rows) rows answer
         → Gives (λ new. tables_in new.items) result (on_tables (tables_in tables.now) at answer) }
     ensures differ { IfOk result (λ new. Differ (tables_in new.items)) }
@@ -57,6 +60,7 @@ fn exchanged(
 ) -> Result<Vec<Rc<Stored>>, AllocError>
     requires range { at < length tables.now }
     requires differ { Differ (tables_in tables.now) }
+    requires wide { have_width (table_at (tables_in tables.now) at).schema rows ≡ true }
     ensures value { IfOk result (λ new. with_new (tables_in tables.now) at rows ≡ tables_in new.items) }
     ensures differ { IfOk result (λ new. Differ (tables_in new.items)) }
 {

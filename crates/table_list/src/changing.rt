@@ -6,9 +6,9 @@ ghost use Rattle.table_list.specs.StoredTables.{table_of};
 ghost use Rattle.table_list.specs.Changes.{Gives, inserted_rows, updated_rows, deleted_rows};
 
 use crate::fault::ApplyFault;
+use crate::kept::Stored;
 use crate::refusal::{delete_fault, insert_fault, update_fault};
 use crate::rows::{Rows, with_changed, with_row, without_row};
-use crate::stored::Stored;
 use row_bytes::{copy_onto, key_of};
 use std::alloc::{AllocError, Global};
 use vo_spec::{CommandFault, Key, List, Name, Row, Schema, SetPart, Value};

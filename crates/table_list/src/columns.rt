@@ -156,4 +156,3 @@ pub fn copy_columns(alloc: Global, columns: &[Column]) -> Result<List<Column>, A
     }
     Ok(List::from_vec(copy))
 }
-

@@ -1,18 +1,19 @@
 //! New tables.
-ghost use Rattle.std.specs.Prelude.{◌≡◌, ◌≤◌, [], length, take, drop, IfOk};
+ghost use Rattle.std.specs.Prelude.{◌≡◌, ◌<◌, ◌≤◌, [], length, take, drop, IfOk};
 ghost use Rattle.std.specs.List.{AllByRecursion};
 ghost use Rattle.vo_spec.specs.declared.tables.Command.TheVariants.{Create};
-ghost use Rattle.vo_spec.specs.Tables.{apply};
+ghost use Rattle.vo_spec.specs.Tables.{apply, column_number};
 ghost use Rattle.table_list.specs.StoredTables.{table_of, tables_in};
 ghost use Rattle.table_list.specs.Named.{Differ, IsNotAbove, BeginsAbove, new_table};
 ghost use Rattle.table_list.specs.Changes.{Gives};
 
 use crate::columns::{column_number, copy_columns};
 use crate::fault::ApplyFault;
+use crate::kept::{Head, Stored};
 use crate::refusal::create_fault;
 use crate::rows::Rows;
 use crate::sharing::spliced;
-use crate::stored::{Head, Stored, find, name_at};
+use crate::stored::{find, name_at};
 use std::alloc::{AllocError, Global};
 use std::rc::Rc;
 use vo_spec::{Column, Name, Schema};
@@ -37,7 +38,8 @@ fn new_table(
     columns: &[Column],
     key: &Name,
 ) -> Result<Stored, AllocError>
-    requires { length columns.now ≤ 32 }
+    requires count { length columns.now ≤ 32 }
+    requires keyed { column_number columns.now key.now < length columns.now }
     ensures { IfOk result (λ table. table_of table ≡ new_table name.now columns.now key.now) }
 {
     let number = column_number(columns, key.as_bytes()) as u8;

@@ -1,16 +1,27 @@
 //! Plain tables, as a query reads them.
-ghost use Rattle.std.specs.Prelude.{◌≡◌, map, option_map, IfOk, IfSome};
-ghost use Rattle.std.specs.List.{AllByRecursion};
-ghost use Rattle.vo_spec.specs.Values.{IsKeyOf};
+ghost use Rattle.std.specs.Prelude.{◌≡◌, List, map, option_map, true, refl, IfOk};
+ghost use Rattle.std.specs.List.{list_all};
+ghost use Rattle.vo_spec.specs.declared.tables.Table.{Table as Plain};
 ghost use Rattle.vo_spec.specs.Tables.{heading_of, table_named};
-ghost use Rattle.vo_spec.specs.Checks.{key_kind};
 ghost use Rattle.vo_spec.specs.Results.{line_of};
-ghost use Rattle.table_list.specs.PlainLines.{IsKeyed, table_lines, lines_named, row_line};
+ghost use Rattle.table_list.specs.KeyWidths.{have_width};
+ghost use Rattle.table_list.specs.PlainLines.{lines_named, row_line};
 
 use crate::schemas::Schemas;
 use crate::table_rows::TableRow;
 use std::alloc::{AllocError, Global};
 use vo_spec::{Row, Schema, Table};
+
+/// Plain tables, of which a query reads the rows by their table's name.
+pub(crate) trait PlainLines: Schemas {
+    ghost tables: { Self → List Plain };
+
+    /// The rows of the first table of this name.
+    fn lines_named(&self, alloc: Global, name: &[u8]) -> Result<Vec<TableRow<'_>>, AllocError>
+        ensures { IfOk result (λ lines. map row_line lines.items ≡ lines_named name.now (tables self.now)) };
+
+    ghost headings_same: { (t : Self) → Self.headings t ≡ map heading_of (tables t) };
+}
 
 /// The first table of this name.
 fn table_named<'t>(tables: &'t [Table], name: &[u8]) -> Option<&'t Table>
@@ -24,13 +35,15 @@ fn table_named<'t>(tables: &'t [Table], name: &[u8]) -> Option<&'t Table>
     None
 }
 
-/// Plain tables by their names.
+/// A list of plain tables.
 #[derive(Clone, Copy)]
-pub(crate) struct PlainTables<'t> {
+pub(crate) struct TableSlice<'t> {
     pub(crate) tables: &'t [Table],
+    // The keys are of their columns' kinds.
+    ghost wide: { list_all (λ t. have_width t.schema t.rows) tables.now ≡ true },
 }
 
-impl Schemas for PlainTables<'_> {
+impl Schemas for TableSlice<'_> {
     ghost headings = { λ t. map heading_of t.tables.now };
 
     fn schema(&self, name: &[u8]) -> Option<&Schema> {
@@ -41,12 +54,25 @@ impl Schemas for PlainTables<'_> {
     }
 }
 
+impl PlainLines for TableSlice<'_> {
+    ghost tables = { λ t. t.tables.now };
+
+    ghost headings_same = { λ t. refl };
+
+    fn lines_named(&self, alloc: Global, name: &[u8]) -> Result<Vec<TableRow<'_>>, AllocError> {
+        match table_named(self.tables, name) {
+            Some(table) => row_lines(alloc, &table.schema, table.rows.as_slice()),
+            None => Ok(Vec::new(alloc)),
+        }
+    }
+}
+
 fn row_lines<'t>(
     alloc: Global,
     schema: &'t Schema,
     rows: &'t [Row],
 ) -> Result<Vec<TableRow<'t>>, AllocError>
-    requires { AllByRecursion (λ row. IsKeyOf (key_kind schema.now) row.key) rows.now }
+    requires { have_width schema.now rows.now ≡ true }
     ensures { IfOk result (λ lines. map row_line lines.items ≡ map (line_of schema.now) rows.now) }
 {
     let mut lines = Vec::with_capacity(alloc, rows.len())?;
@@ -54,19 +80,4 @@ fn row_lines<'t>(
         lines.push(TableRow { schema, row })?;
     }
     Ok(lines)
-}
-
-/// The rows of the table of this name.
-pub(crate) fn lines_named<'t>(
-    alloc: Global,
-    tables: &'t [Table],
-    name: &[u8],
-) -> Result<Vec<TableRow<'t>>, AllocError>
-    requires { AllByRecursion IsKeyed tables.now }
-    ensures { IfOk result (λ lines. map row_line lines.items ≡ lines_named name.now tables.now) }
-{
-    match table_named(tables, name) {
-        Some(table) => row_lines(alloc, &table.schema, table.rows.as_slice()),
-        None => Ok(Vec::new(alloc)),
-    }
 }

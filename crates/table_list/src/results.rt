@@ -13,8 +13,9 @@ use crate::bind_fault::BindFault;
 use crate::binding::bind;
 use crate::headers::header;
 use crate::lines::Line;
-use crate::plain::{PlainTables, lines_named};
+use crate::plain::{PlainLines, TableSlice};
 use crate::sides::Sides;
+use crate::tables::Tables;
 use std::alloc::{AllocError, Global};
 use vo_spec::{List, Outcome, QueryText, Table, Value};
 
@@ -54,35 +55,34 @@ fn rows_joined<'r, L: Line, R: Line>(
 }
 
 /// The rows that the query answers with.
-fn answer_rows<'r>(
+fn answer_rows<'r, P: PlainLines>(
     alloc: Global,
-    tables: &'r [Table],
+    tables: &'r P,
     sides: &'r Sides<'r>,
     query: &QueryText,
 ) -> Result<List<List<Value>>, AllocError>
-    requires keyed { AllByRecursion IsKeyed tables.now }
-    requires sides { sides_seen sides.now ≡ sides_of (map heading_of tables.now) (query_of query.now) }
-    ensures { IfOk result (λ rows. rows ≡ answer_rows (sides_seen sides.now) (query_of query.now) (lines_at tables.now (sides_seen sides.now) 0) (λ _. lines_at tables.now (sides_seen sides.now) 1)) }
+    requires { sides_seen sides.now ≡ sides_of (map heading_of (P.tables tables.now)) (query_of query.now) }
+    ensures { IfOk result (λ rows. rows ≡ answer_rows (sides_seen sides.now) (query_of query.now) (lines_at (P.tables tables.now) (sides_seen sides.now) 0) (λ _. lines_at (P.tables tables.now) (sides_seen sides.now) 1)) }
 {
-    let lefts = lines_named(alloc, tables, query.left.table.as_bytes())?;
+    let lefts = tables.lines_named(alloc, query.left.table.as_bytes())?;
     match &query.join {
         None => rows_alone(alloc, sides, query, lefts.as_slice()),
         Some(join) => {
-            let rights = lines_named(alloc, tables, join.right.table.as_bytes())?;
+            let rights = tables.lines_named(alloc, join.right.table.as_bytes())?;
             rows_joined(alloc, sides, query, lefts.as_slice(), rights.as_slice())
         }
     }
 }
 
-/// What the query gives on the tables: its rows, or the fault of the first test that it fails.
 #[tactic(auto, unfolding(vo_spec::specs::Results::result))]
-pub fn result_on(alloc: Global, tables: &[Table], query: &QueryText) -> Result<Outcome, AllocError>
-    // Each row's key is one of its column's kind.
-    requires { AllByRecursion IsKeyed tables.now }
-    ensures { IfOk result (λ outcome. outcome ≡ result_of (query_of query.now) tables.now) }
+fn outcome<P: PlainLines>(
+    alloc: Global,
+    tables: &P,
+    query: &QueryText,
+) -> Result<Outcome, AllocError>
+    ensures { IfOk result (λ outcome. outcome ≡ result_of (query_of query.now) (P.tables tables.now)) }
 {
-    let schemas = PlainTables { tables };
-    match bind(alloc, &schemas, query) {
+    match bind(alloc, tables, query) {
         Ok(sides) => Ok(Outcome::Rows {
             header: header(alloc, &sides, &query.items)?,
             rows: answer_rows(alloc, tables, &sides, query)?,
@@ -90,4 +90,20 @@ pub fn result_on(alloc: Global, tables: &[Table], query: &QueryText) -> Result<O
         Err(BindFault::Wrong(fault)) => Ok(Outcome::Wrong(fault)),
         Err(BindFault::Memory) => Err(AllocError),
     }
+}
+
+/// What the query gives on the tables: its rows, or the fault of the first test that it fails.
+pub fn result(alloc: Global, tables: &Tables, query: &QueryText) -> Result<Outcome, AllocError>
+    ensures { IfOk result (λ outcome. outcome ≡ result_of (query_of query.now) tables.now) }
+{
+    outcome(alloc, tables, query)
+}
+
+/// The same on a list of tables.
+pub fn result_on(alloc: Global, tables: &[Table], query: &QueryText) -> Result<Outcome, AllocError>
+    // Each row's key is one of its column's kind.
+    requires { AllByRecursion IsKeyed tables.now }
+    ensures { IfOk result (λ outcome. outcome ≡ result_of (query_of query.now) tables.now) }
+{
+    outcome(alloc, &TableSlice { tables }, query)
 }

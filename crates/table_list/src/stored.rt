@@ -1,27 +1,13 @@
-//! A table as it is kept.
+//! Tables as they are kept, by their names.
 ghost use Rattle.std.specs.Prelude.{◌≡◌, ◌<◌, length};
 ghost use Rattle.vo_spec.specs.Tables.{heading_of};
 ghost use Rattle.table_list.specs.Headings.{heading_seen};
 ghost use Rattle.table_list.specs.StoredTables.{table_of, tables_in};
 ghost use Rattle.table_list.specs.Named.{Differ, IsFound, table_at};
 
+use crate::kept::Stored;
 use crate::refusal::HeadingRef;
-use crate::rows::Rows;
 use std::rc::Rc;
-use vo_spec::{Name, Schema};
-
-/// The part of a table that stays when its rows change.
-#[derive(Drop)]
-pub(crate) struct Head {
-    pub(crate) name: Name,
-    pub(crate) schema: Schema,
-}
-
-#[derive(Drop)]
-pub(crate) struct Stored {
-    pub(crate) head: Rc<Head>,
-    pub(crate) rows: Rows,
-}
 
 impl Stored {
     pub(crate) fn heading(&self) -> HeadingRef<'_>

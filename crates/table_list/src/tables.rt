@@ -10,8 +10,8 @@ ghost use Rattle.table_list.specs.Changes.{Gives};
 
 use crate::applying::applied;
 use crate::fault::{ApplyFault, BatchFault};
+use crate::kept::Stored;
 use crate::sharing::spliced;
-use crate::stored::Stored;
 use std::alloc::{AllocError, Global};
 use std::marker::Model;
 use std::rc::Rc;
@@ -45,6 +45,13 @@ impl Tables {
         Tables {
             tables: Vec::new(alloc),
         }
+    }
+
+    pub(crate) fn as_slice(&self) -> &[Rc<Stored>]
+        ensures value { tables_in result.now ≡ self.now }
+        ensures differ { Differ (tables_in result.now) }
+    {
+        self.tables.as_slice()
     }
 }
 

@@ -1,10 +1,9 @@
 -- What a fault of a text says of it.
-use Rattle.std.proofs.Common.{◌≡◌, Bool, true, false, List, [], ◌∷◌, ℕ, Result, Ok, Err, length, refl, sym, subst}
+use Rattle.std.proofs.Common.{◌≡◌, Bool, true, false, List, [], ◌∷◌, ℕ, Result, Ok, Err, refl, sym, subst}
 use Rattle.std.specs.Prelude.{IsTrue, Vec}
 use Rattle.std.specs.Global.{Global}
 use Rattle.std.specs.List.{list_all}
-use Rattle.std.proofs.lemmas.Bool.{and_parts, and_from, leb-true}
-use Rattle.vo_spec.specs.Batches.{batch_bytes, most_batch_bytes}
+use Rattle.std.proofs.lemmas.Bool.{and_parts, and_from}
 use Rattle.vo_spec.specs.declared.tables.Batch.{Batch}
 use Rattle.sql_text.specs.declared.faults.SqlFault.{SqlFault}
 use Rattle.sql_text.specs.declared.faults.SqlFault.TheVariants as fault
@@ -18,7 +17,7 @@ use Rattle.vo_cli.specs.Reports.{ReadsText, StopsBy, IsRefusedText}
 use Rattle.vo_spec.specs.declared.tables.Command.{Command}
 use Rattle.vo_spec.specs.declared.tables.Command.TheVariants.{Create, Drop, Insert, Update, Delete}
 use Rattle.vo_spec.specs.Honest.{is_open_command}
-use Rattle.vo_cli.specs.Texts.{AreTaken, AreWritten, IsScriptText, is_taken, is_taken_command, is_small, is_want_of_memory}
+use Rattle.vo_cli.specs.Texts.{AreTaken, AreWritten, IsScriptText, is_taken, is_taken_command, is_want_of_memory}
 
 -- it would have been accepted
 pub not_accepted : {A B : Type 0} (view : B → A) (f : SqlFault) (v : A) → is_want_of_memory f ≡ false → Accepts view (Err f) v → ⊥
@@ -54,11 +53,9 @@ script_read text all (Err (Says report)) is only told =
 script_read text all (Err Outside) is only told = told
 script_read text all (Err Memory) is only told = tt
 
-pub each_fits : (batches : List Batch) → AllFit batches → IsTrue (list_all is_small batches) → FitEach batches
-each_fits [] fit small = tt
-each_fits (batch ∷ batches) fit small =
-    let both = and_parts (is_small batch) (list_all is_small batches) small in
-    (record { count = fit.0.1; each = fit.0.2; size = leb-true (length (batch_bytes batch.commands)) most_batch_bytes both.0 }, each_fits batches fit.1 both.1)
+pub each_fits : (batches : List Batch) → AllFit batches → FitEach batches
+each_fits [] fit = tt
+each_fits (batch ∷ batches) fit = (fit.0.1, each_fits batches fit.1)
 
 command_written : (c : Command) → is_taken_command c ≡ true → is_open_command c ≡ true
 command_written (Create name columns key) e = refl

@@ -1,10 +1,9 @@
 -- The texts that the program takes so far: queries of a whole table, and scripts that make tables and insert rows.
-use Rattle.std.specs.Prelude.{◌≡◌, ℕ, Bool, true, false, nat_le, IsTrue, List, length}
+use Rattle.std.specs.Prelude.{◌≡◌, ℕ, Bool, true, false, IsTrue, List}
 use Rattle.std.specs.List.{list_all}
 use Rattle.vo_spec.specs.declared.tables.Command.{Command}
 use Rattle.vo_spec.specs.declared.tables.Command.TheVariants.{Create, Insert}
 use Rattle.vo_spec.specs.declared.tables.Batch.{Batch}
-use Rattle.vo_spec.specs.Batches.{batch_bytes, most_batch_bytes}
 use Rattle.vo_spec.specs.Honest.{is_open_command}
 use Rattle.vo_spec.specs.Conditions.{Query}
 use Rattle.owner_state.specs.Sealing.{commands_of}
@@ -30,15 +29,10 @@ is_taken batch = list_all is_taken_command batch.commands
 abbrev pub AreWritten : List Batch → Type 0
 AreWritten batches = IsTrue (list_all (list_all is_open_command) (commands_of batches))
 
--- a batch that a journal has room for, as all batches of texts within their limits are
-abbrev pub is_small : Batch → Bool
-is_small batch = nat_le (length (batch_bytes batch.commands)) most_batch_bytes
-
 -- the batches, where they are of this sort
 pub record AreTaken (all batches : List Batch) : Type 0 where
   pub same : batches ≡ all
   pub commands : IsTrue (list_all is_taken batches)
-  pub small : IsTrue (list_all is_small batches)
 
 abbrev pub IsScriptText : List ℕ → List Batch → Type 0
 IsScriptText text batches = (all : List Batch) × IsScript text all × AreTaken all batches

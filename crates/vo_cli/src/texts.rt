@@ -6,20 +6,16 @@ ghost use Rattle.std.specs.List.{list_all};
 ghost use Rattle.vo_spec.specs.Conditions.{query_of};
 ghost use Rattle.vo_cli.specs.Reports.{ReadsText, StopsBy, said_of};
 ghost use Rattle.vo_cli.specs.Dues.{refused_text};
-ghost use Rattle.vo_cli.specs.Texts.{IsQueryText, IsScriptText, AreTaken, AreWritten, is_taken_command, is_taken, is_small, is_want_of_memory};
+ghost use Rattle.vo_cli.specs.Texts.{IsQueryText, IsScriptText, AreTaken, AreWritten, is_taken_command, is_taken, is_want_of_memory};
 ghost use Rattle.owner_state.specs.Sealing.{FitEach};
-ghost use Rattle.sql_text.specs.Fits.{AllFit, FitCommands};
+ghost use Rattle.sql_text.specs.Fits.{AllFit};
 
 use crate::printed::Word;
 use crate::refusals::refusal;
 use crate::report::{Report, Status, Stop};
 use sql_text::{SqlFault, parse_script, parse_whole_table};
 use std::alloc::{AllocError, Global};
-use table_list::batch_bytes;
 use vo_spec::{Batch, Command, QueryText};
-
-/// The most bytes that a batch has in a journal.
-const BATCH_MAX: usize = 1_048_576;
 
 /// The query that the text is.
 pub fn query_in(alloc: Global, text: &str) -> Result<QueryText, Stop>
@@ -51,31 +47,11 @@ fn taken(alloc: Global, batches: Vec<Batch>) -> Result<Vec<Batch>, Stop>
     ensures fit { IfOk result (λ (v : Vec Batch Global). FitEach v.items) }
     ensures written { IfOk result (λ (v : Vec Batch Global). AreWritten v.items) }
 {
-    if are_taken(&batches) && are_small(alloc, &batches)? {
+    if are_taken(&batches) {
         Ok(batches)
     } else {
         Err(Stop::Says(no_text(alloc)?))
     }
-}
-
-fn are_small(alloc: Global, batches: &[Batch]) -> Result<bool, AllocError>
-    requires { AllFit batches.now }
-    ensures { IfOk result (λ small. small ≡ list_all is_small batches.now) }
-{
-    for batch in batches {
-        if !is_small(alloc, batch)? {
-            return Ok(false);
-        }
-    }
-    Ok(true)
-}
-
-/// Whether a journal has room for the batch.
-fn is_small(alloc: Global, batch: &Batch) -> Result<bool, AllocError>
-    requires { FitCommands batch.now.commands }
-    ensures { IfOk result (λ small. small ≡ is_small batch.now) }
-{
-    Ok(batch_bytes(alloc, batch)?.len() <= BATCH_MAX)
 }
 
 fn are_taken(batches: &[Batch]) -> bool

@@ -30,4 +30,4 @@ returns-clause-only c =
     c.batch-found.ensures.value c.batch-found.ensures.list c.left.ensures c.ended.ensures).1
 
 pub returns-clause-fits : goal.returns-clause-fits
-returns-clause-fits c = answer_batch_fits 65536 c.args.text.now c.ended.result (returns-clause-found c) (utf8_tokens c.args.text.now c.utf8.text)
+returns-clause-fits c = answer_batch_fits c.args.text.now c.ended.result (returns-clause-found c) (utf8_tokens c.args.text.now c.utf8.text)

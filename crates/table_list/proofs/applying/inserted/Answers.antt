@@ -1,9 +1,11 @@
-use Rattle.std.proofs.Common.{sym, ap, subst, ◌∙◌}
-use Rattle.std.specs.Prelude.{List, Result}
+use Rattle.std.proofs.Common.{◌≡◌, true, sym, ap, subst, ◌∙◌}
+use Rattle.std.specs.Prelude.{List, Result, IfOk}
 use Rattle.vo_spec.specs.declared.tables.Table.{Table}
 use Rattle.vo_spec.specs.declared.tables.CommandFault.{CommandFault}
 use Rattle.table_list.specs.StoredTables.{table_of, tables_in}
 use Rattle.table_list.specs.Changes.{Gives, on_tables, inserted_rows}
+use Rattle.table_list.specs.KeyWidths.{have_width}
+use Rattle.table_list.proofs.WidthLaws.{inserted_keep}
 use Rattle.table_list.proofs.Applied.{insert_at, insert_absent, unlike_lent, at_lent}
 use Rattle.table_list.proofs.applying.inserted.Goals as goal
 
@@ -19,3 +21,9 @@ returns-in-Some-clause-answer c =
     let same = ap (λ (t : Table). on_tables tables c.in-Some.at (inserted_rows c.args.values.now t)) c.stored_at.ensures ∙ sym (insert_at c.args.name.now c.args.values.now tables c.in-Some.at here) in
     subst (λ (answer : Result (List Table) CommandFault). Gives (λ new. tables_in new.items) c.put_rows.result answer) same
     (c.put_rows.ensures.answer (inserted_rows c.args.values.now (table_of c.stored_at.result.now)) c.inserted_rows-rows.ensures)
+
+pub put_rows-requires-clause-wide : goal.put_rows-requires-clause-wide
+put_rows-requires-clause-wide c =
+    let stored = c.stored_at.result.now in
+    subst (λ (t : Table). IfOk c.inserted_rows-rows.result (λ rows. have_width t.schema rows ≡ true)) c.stored_at.ensures
+    (inserted_keep c.args.values.now (table_of stored) c.inserted_rows-rows.result stored.head.value.keyed stored.wide c.inserted_rows-rows.ensures)

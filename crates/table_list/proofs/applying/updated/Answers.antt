@@ -1,9 +1,11 @@
-use Rattle.std.proofs.Common.{sym, ap, subst, ◌∙◌}
-use Rattle.std.specs.Prelude.{List, Result}
+use Rattle.std.proofs.Common.{◌≡◌, true, sym, ap, subst, ◌∙◌}
+use Rattle.std.specs.Prelude.{List, Result, IfOk}
 use Rattle.vo_spec.specs.declared.tables.Table.{Table}
 use Rattle.vo_spec.specs.declared.tables.CommandFault.{CommandFault}
 use Rattle.table_list.specs.StoredTables.{table_of, tables_in}
 use Rattle.table_list.specs.Changes.{Gives, on_tables, updated_rows}
+use Rattle.table_list.specs.KeyWidths.{have_width}
+use Rattle.table_list.proofs.WidthLaws.{updated_keep}
 use Rattle.table_list.proofs.Applied.{update_at, update_absent, unlike_lent, at_lent}
 use Rattle.table_list.proofs.applying.updated.Goals as goal
 
@@ -19,3 +21,9 @@ returns-in-Some-clause-answer c =
     let same = ap (λ (t : Table). on_tables tables c.in-Some.at (updated_rows c.args.sets.now c.args.column.now c.args.value.now t)) c.stored_at-table.ensures ∙ sym (update_at c.args.name.now c.args.sets.now c.args.column.now c.args.value.now tables c.in-Some.at here) in
     subst (λ (answer : Result (List Table) CommandFault). Gives (λ new. tables_in new.items) c.put_rows.result answer) same
     (c.put_rows.ensures.answer (updated_rows c.args.sets.now c.args.column.now c.args.value.now (table_of c.stored_at-table.result.now)) c.updated_rows-rows.ensures)
+
+pub put_rows-requires-clause-wide : goal.put_rows-requires-clause-wide
+put_rows-requires-clause-wide c =
+    let stored = c.stored_at-table.result.now in
+    subst (λ (t : Table). IfOk c.updated_rows-rows.result (λ rows. have_width t.schema rows ≡ true)) c.stored_at-table.ensures
+    (updated_keep c.args.sets.now c.args.column.now c.args.value.now (table_of stored) c.updated_rows-rows.result stored.wide c.updated_rows-rows.ensures)

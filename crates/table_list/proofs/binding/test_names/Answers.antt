@@ -1,10 +1,9 @@
-use Rattle.std.proofs.Common.{[], map}
-use Rattle.std.specs.Option.{option_map_or}
-use Rattle.vo_spec.specs.Conditions.{query_of, condition_refs}
-use Rattle.vo_spec.specs.Results.{ref_fault, item_refs, join_refs, query_refs}
+use Rattle.std.proofs.Common.{map}
+use Rattle.vo_spec.specs.Conditions.{query_of}
+use Rattle.vo_spec.specs.Results.{ref_fault, query_refs}
 use Rattle.table_list.specs.Sided.{sides_seen}
-use Rattle.table_list.specs.Binding.{shown_refs, kind_tests}
-use Rattle.table_list.proofs.Passing.{passes_more, fails_more, passes_mapped, fails_mapped}
+use Rattle.table_list.specs.Binding.{kind_tests}
+use Rattle.table_list.proofs.Passing.{passes_more, fails_more}
 use Rattle.table_list.proofs.binding.test_names.Goals as goal
 
 pub returns-in-Ok : goal.returns-in-Ok

@@ -1,10 +1,10 @@
-use Rattle.std.proofs.Common.{[], map}
+use Rattle.std.proofs.Common.{[]}
 use Rattle.std.specs.Option.{option_map_or}
 use Rattle.vo_spec.specs.Conditions.{query_of, condition_refs}
-use Rattle.vo_spec.specs.Results.{ref_fault, item_refs, join_refs, query_refs}
+use Rattle.vo_spec.specs.Results.{ref_fault}
 use Rattle.table_list.specs.Sided.{sides_seen}
-use Rattle.table_list.specs.Binding.{shown_refs, kind_tests}
-use Rattle.table_list.proofs.Passing.{passes_more, fails_more, passes_mapped, fails_mapped}
+use Rattle.table_list.specs.Binding.{shown_refs}
+use Rattle.table_list.proofs.Passing.{passes_mapped, fails_mapped}
 use Rattle.table_list.proofs.binding.test_references.Goals as goal
 
 pub returns-in-Ok : goal.returns-in-Ok

@@ -1,4 +1,4 @@
-use Rattle.std.proofs.Common.{◌≡◌, [], ◌++◌, map, drop}
+use Rattle.std.proofs.Common.{◌≡◌, ◌++◌, map, drop}
 use Rattle.vo_spec.specs.Conditions.{query_of}
 use Rattle.vo_spec.specs.Results.{answer_rows}
 use Rattle.table_list.specs.Sided.{sides_seen}

@@ -1,5 +1,4 @@
 use Rattle.std.proofs.Common.{◌≡◌, ◌++◌, map}
-use Rattle.vo_spec.specs.Results.{numbers_from}
 use Rattle.table_list.specs.Sided.{place_seen}
 use Rattle.table_list.specs.Shown.{places_until}
 use Rattle.table_list.proofs.shown.push_places.Given as goal

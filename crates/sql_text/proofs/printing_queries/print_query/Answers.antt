@@ -1,0 +1,19 @@
+use Rattle.std.proofs.Common.{sym, subst}
+use Rattle.std.specs.Str.{IsUtf8}
+use Rattle.vo_spec.specs.Conditions.{query_of}
+use Rattle.sql_text.specs.Queries.{query}
+use Rattle.sql_text.specs.Texts.{IsTextOf}
+use Rattle.sql_text.proofs.PrintBatches.{query_printed, query_reads}
+use Rattle.sql_text.proofs.PrintUtf8.{query_utf8}
+use Rattle.sql_text.proofs.printing_queries.print_query.Goals as goal
+
+pub returns-clause-printed : goal.returns-clause-printed
+returns-clause-printed c =
+    query_printed (query_of c.args.query.now) c.new-out.result.items c.print.new.out.items c.without_last_blank.result.items c.new-out.ensures.items c.in_ok-print.ensures c.without_last_blank.ensures
+
+pub returns-clause-reads : goal.returns-clause-reads
+returns-clause-reads c h =
+    subst (λ z. IsTextOf 65536 query z (query_of c.args.query.now)) (sym (returns-clause-printed c)) (query_reads (query_of c.args.query.now) h)
+
+pub returns-clause-utf8 : goal.returns-clause-utf8
+returns-clause-utf8 c h = subst IsUtf8 (sym (returns-clause-printed c)) (query_utf8 (query_of c.args.query.now) h)

@@ -1,0 +1,177 @@
+-- How queries and batches are written: their tokens, with one blank between each two.
+use Rattle.std.specs.Prelude.{ℕ, ◌==◌, Bool, true, false, not, List, [], ◌∷◌, ◌++◌, drop, flat_map, ℤ, pos, if◌then◌else◌}
+use Rattle.std.specs.Fmt.{signed_decimal}
+use Rattle.std.specs.Option.{option_map_or}
+use Rattle.sql_tokens.specs.declared.kinds.TokenKind.{TokenKind}
+use Rattle.sql_tokens.specs.declared.kinds.TokenKind.TheVariants as k
+use Rattle.sql_tokens.specs.Kinds.{spelling, same_kind}
+use Rattle.sql_tokens.specs.Lex.{Token}
+use Rattle.vo_spec.specs.declared.values.Kind.{Kind}
+use Rattle.vo_spec.specs.declared.values.Kind.TheVariants as kind_of
+use Rattle.vo_spec.specs.declared.values.Value.{Value}
+use Rattle.vo_spec.specs.declared.values.Value.TheVariants as value
+use Rattle.vo_spec.specs.declared.queries.Ref.{Ref}
+use Rattle.vo_spec.specs.declared.queries.Source.{Source}
+use Rattle.vo_spec.specs.declared.queries.Join.{Join}
+use Rattle.vo_spec.specs.declared.queries.Items.{Items}
+use Rattle.vo_spec.specs.declared.queries.Items.TheVariants as items_of
+use Rattle.vo_spec.specs.declared.queries.Cmp.{Cmp}
+use Rattle.vo_spec.specs.declared.queries.Cmp.TheVariants as cmp
+use Rattle.vo_spec.specs.declared.queries.Operand.{Operand}
+use Rattle.vo_spec.specs.declared.queries.Operand.TheVariants as operand_of
+use Rattle.vo_spec.specs.declared.tables.Column.{Column}
+use Rattle.vo_spec.specs.declared.tables.SetPart.{SetPart}
+use Rattle.vo_spec.specs.declared.tables.Command.{Command}
+use Rattle.vo_spec.specs.declared.tables.Command.TheVariants as command_of
+use Rattle.vo_spec.specs.Conditions.{Condition, Conditions, every, some, negated, test, none, more, Query}
+
+-- Tokens.
+
+-- a keyword in capital letters, or a symbol
+abbrev pub word : TokenKind → Token
+word kind = record { kind = kind; text = spelling kind; number = pos 0 }
+
+abbrev pub name_token : List ℕ → Token
+name_token name = record { kind = k.Name; text = name; number = pos 0 }
+
+abbrev pub integer_token : ℤ → Token
+integer_token number = record { kind = k.Integer; text = signed_decimal number; number = number }
+
+-- two quotes for one
+abbrev pub quoted_byte : ℕ → List ℕ
+quoted_byte byte = if byte == 39 then 39 ∷ 39 ∷ [] else byte ∷ []
+
+abbrev pub quoted_token : List ℕ → Token
+quoted_token text = record { kind = k.Quoted; text = 39 ∷ flat_map quoted_byte text ++ 39 ∷ []; number = pos 0 }
+
+-- Parts that queries and commands share.
+
+abbrev pub literal_token : Value → Token
+literal_token (value.Int number) = integer_token number
+literal_token (value.Text text) = quoted_token text
+literal_token (value.Bool true) = word k.True
+literal_token (value.Bool false) = word k.False
+
+-- the tokens of each, with this one between each two
+abbrev pub separated : {A : Type 0} → TokenKind → (A → List Token) → List A → List Token
+separated separator tokens [] = []
+separated separator tokens (x ∷ xs) = tokens x ++ flat_map (λ y. word separator ∷ tokens y) xs
+
+-- the tokens of each, with this one behind each
+abbrev pub terminated : {A : Type 0} → TokenKind → (A → List Token) → List A → List Token
+terminated end tokens xs = flat_map (λ x. tokens x ++ word end ∷ []) xs
+
+abbrev pub parens : List Token → List Token
+parens tokens = word k.LeftParen ∷ tokens ++ word k.RightParen ∷ []
+
+-- Queries.
+
+abbrev pub reference_tokens : Ref → List Token
+reference_tokens r = option_map_or (λ q. name_token q ∷ word k.Dot ∷ []) r.qualifier [] ++ name_token r.column ∷ []
+
+abbrev pub source_tokens : Source → List Token
+source_tokens s = name_token s.table ∷ word k.As ∷ name_token s.alias ∷ []
+
+abbrev pub operator : Cmp → TokenKind
+operator cmp.Eq = k.Equal
+operator cmp.Ne = k.NotEqual
+operator cmp.Lt = k.Less
+operator cmp.Le = k.LessEqual
+operator cmp.Gt = k.Greater
+operator cmp.Ge = k.GreaterEqual
+
+abbrev pub operand_tokens : Operand → List Token
+operand_tokens (operand_of.Ref r) = reference_tokens r
+operand_tokens (operand_of.Literal v) = literal_token v ∷ []
+
+-- whether parentheses stand round a condition that is a part of AND, OR or NOT
+abbrev pub is_enclosed : TokenKind → Condition → Bool
+is_enclosed in_word (every cs) = not (same_kind in_word k.Or)
+is_enclosed in_word (some cs) = true
+is_enclosed in_word (negated c) = false
+is_enclosed in_word (test left op right) = false
+
+abbrev pub enclosed : Bool → List Token → List Token
+enclosed true tokens = parens tokens
+enclosed false tokens = tokens
+
+abbrev mutual
+  pub condition_tokens : Condition → List Token
+  condition_tokens (every cs) = drop 1 (parts_tokens k.And cs)
+  condition_tokens (some cs) = drop 1 (parts_tokens k.Or cs)
+  condition_tokens (negated c) = word k.Not ∷ enclosed (is_enclosed k.Not c) (condition_tokens c)
+  condition_tokens (test left op right) = reference_tokens left ++ word (operator op) ∷ operand_tokens right
+
+  -- each part behind this word
+  pub parts_tokens : TokenKind → Conditions → List Token
+  parts_tokens before none = []
+  parts_tokens before (more c cs) = word before ∷ enclosed (is_enclosed before c) (condition_tokens c) ++ parts_tokens before cs
+
+abbrev pub items_tokens : Items → List Token
+items_tokens items_of.All = word k.Star ∷ []
+items_tokens (items_of.Refs refs) = separated k.Comma reference_tokens refs
+
+abbrev pub join_tokens : Join → List Token
+join_tokens j = word k.Join ∷ source_tokens j.right ++ word k.On ∷ reference_tokens j.left_ref ++ word k.Equal ∷ reference_tokens j.right_ref
+
+abbrev pub where_tokens : Condition → List Token
+where_tokens c = word k.Where ∷ condition_tokens c
+
+abbrev pub query_tokens : Query → List Token
+query_tokens q =
+    word k.Select ∷ items_tokens q.items ++ word k.From ∷ source_tokens q.left
+    ++ option_map_or join_tokens q.join [] ++ option_map_or where_tokens q.condition []
+
+-- Commands.
+
+abbrev pub kind_word : Kind → TokenKind
+kind_word kind_of.Int = k.Bigint
+kind_word kind_of.Text = k.Text
+kind_word kind_of.Bool = k.Boolean
+
+abbrev pub column_tokens : Column → List Token
+column_tokens c = name_token c.name ∷ word (kind_word c.kind) ∷ []
+
+abbrev pub set_tokens : SetPart → List Token
+set_tokens s = name_token s.column ∷ word k.Equal ∷ literal_token s.value ∷ []
+
+abbrev pub key_tokens : List ℕ → List Token
+key_tokens key = word k.Primary ∷ word k.Key ∷ parens (name_token key ∷ [])
+
+abbrev pub columns_tokens : List Column → List ℕ → List Token
+columns_tokens columns key = terminated k.Comma column_tokens columns ++ key_tokens key
+
+abbrev pub command_tokens : Command → List Token
+command_tokens (command_of.Create name columns key) =
+    word k.Create ∷ word k.Table ∷ name_token name ∷ parens (columns_tokens columns key)
+command_tokens (command_of.Drop name) = word k.Drop ∷ word k.Table ∷ name_token name ∷ []
+command_tokens (command_of.Insert name values) =
+    word k.Insert ∷ word k.Into ∷ name_token name ∷ word k.Values ∷ parens (separated k.Comma (λ v. literal_token v ∷ []) values)
+command_tokens (command_of.Update name sets column value) =
+    word k.Update ∷ name_token name ∷ word k.Set ∷ separated k.Comma set_tokens sets
+    ++ word k.Where ∷ set_tokens (record { column = column; value = value })
+command_tokens (command_of.Delete name column value) =
+    word k.Delete ∷ word k.From ∷ name_token name ∷ word k.Where ∷ set_tokens (record { column = column; value = value })
+
+abbrev pub batch_tokens : List Command → List Token
+batch_tokens commands = terminated k.Semicolon command_tokens commands
+
+-- Texts.
+
+-- the tokens' texts, with one blank between each two
+abbrev pub spaced : List Token → List ℕ
+spaced [] = []
+spaced (t ∷ []) = t.text
+spaced (t ∷ u ∷ ts) = t.text ++ 32 ∷ spaced (u ∷ ts)
+
+-- the tokens' texts, with a blank behind each
+abbrev pub written : List Token → List ℕ
+written ts = flat_map (λ t. t.text ++ 32 ∷ []) ts
+
+-- the texts that queries and batches are printed as
+
+unfoldable pub query_text : Query → List ℕ
+query_text q = spaced (query_tokens q)
+
+unfoldable pub batch_text : List Command → List ℕ
+batch_text commands = spaced (batch_tokens commands)

@@ -1,0 +1,198 @@
+//! Printing queries.
+ghost use Rattle.std.specs.Prelude.{◌≡◌, [], ◌∷◌, ◌++◌, drop, map, option_map, IfOk, OnOk};
+ghost use Rattle.std.specs.Option.{option_map_or};
+ghost use Rattle.std.specs.Str.{IsUtf8};
+ghost use Rattle.vo_spec.specs.Conditions.{condition_of, conditions, query_of};
+ghost use Rattle.sql_text.specs.Queries.{query as query_rule};
+ghost use Rattle.sql_text.specs.Texts.{most_bytes, IsTextOf};
+ghost use Rattle.sql_text.specs.Spellable.{SpellableQuery};
+ghost use Rattle.sql_text.specs.Printing.{source_tokens, operator, operand_tokens, is_enclosed, enclosed, condition_tokens, parts_tokens, items_tokens, join_tokens, where_tokens, query_tokens, query_text, written};
+
+use crate::printing::{Print, print_separated, put_word, without_last_blank};
+use sql_tokens::TokenKind;
+use std::alloc::{AllocError, Global};
+use vo_spec::{Cmp, Cond, Items, Join, Operand, QueryText, Source};
+
+impl Print for Source {
+    ghost tokens = { source_tokens };
+
+    fn print(&self, alloc: Global, out: &mut Vec<u8>) -> Result<(), AllocError> {
+        self.table.print(alloc, out)?;
+        put_word(out, TokenKind::As)?;
+        self.alias.print(alloc, out)
+    }
+}
+
+impl Print for Items {
+    ghost tokens = { items_tokens };
+
+    fn print(&self, alloc: Global, out: &mut Vec<u8>) -> Result<(), AllocError> {
+        match self {
+            Items::All => put_word(out, TokenKind::Star),
+            Items::Refs(refs) => print_separated(alloc, out, refs.as_slice(), TokenKind::Comma),
+        }
+    }
+}
+
+fn operator(cmp: Cmp) -> TokenKind
+    ensures { result ≡ operator cmp }
+{
+    match cmp {
+        Cmp::Eq => TokenKind::Equal,
+        Cmp::Ne => TokenKind::NotEqual,
+        Cmp::Lt => TokenKind::Less,
+        Cmp::Le => TokenKind::LessEqual,
+        Cmp::Gt => TokenKind::Greater,
+        Cmp::Ge => TokenKind::GreaterEqual,
+    }
+}
+
+impl Print for Operand {
+    ghost tokens = { operand_tokens };
+
+    fn print(&self, alloc: Global, out: &mut Vec<u8>) -> Result<(), AllocError> {
+        match self {
+            Operand::Ref(reference) => reference.print(alloc, out),
+            Operand::Literal(value) => value.print(alloc, out),
+        }
+    }
+}
+
+/// Prints a part of a NOT, an AND or an OR, in parentheses where its parts would be read as those of another.
+#[cycle(print_part)]
+fn print_part(
+    alloc: Global,
+    out: &mut Vec<u8>,
+    part: &Cond,
+    in_word: TokenKind,
+) -> Result<(), AllocError>
+    ensures { OnOk result (out.new.items ≡ out.old.items
+        ++ written (enclosed (is_enclosed in_word (condition_of part.now)) (condition_tokens (condition_of part.now)))) }
+{
+    match part {
+        Cond::All(parts) if in_word.is(TokenKind::Or) => {
+            print_parts(alloc, out, parts.as_slice(), TokenKind::And)
+        }
+        Cond::All(parts) => {
+            put_word(out, TokenKind::LeftParen)?;
+            print_parts(alloc, out, parts.as_slice(), TokenKind::And)?;
+            put_word(out, TokenKind::RightParen)
+        }
+        Cond::Any(parts) => {
+            put_word(out, TokenKind::LeftParen)?;
+            print_parts(alloc, out, parts.as_slice(), TokenKind::Or)?;
+            put_word(out, TokenKind::RightParen)
+        }
+        Cond::Not(part) => {
+            put_word(out, TokenKind::Not)?;
+            print_part(alloc, out, part, TokenKind::Not)
+        }
+        Cond::Test { left, op, right } => {
+            left.print(alloc, out)?;
+            put_word(out, operator(*op))?;
+            right.print(alloc, out)
+        }
+    }
+}
+
+/// Prints the parts of an AND or an OR.
+#[cycle(print_part)]
+fn print_parts(
+    alloc: Global,
+    out: &mut Vec<u8>,
+    parts: &[Cond],
+    word: TokenKind,
+) -> Result<(), AllocError>
+    ensures { OnOk result (out.new.items ≡ out.old.items ++ written (drop 1 (parts_tokens word (conditions (map condition_of parts.now))))) }
+{
+    if let Some((first, others)) = parts.split_first() {
+        print_part(alloc, out, first, word)?;
+        print_other_parts(alloc, out, others, word)?;
+    }
+    Ok(())
+}
+
+/// Prints each part behind its AND or OR.
+#[cycle(print_part)]
+fn print_other_parts(
+    alloc: Global,
+    out: &mut Vec<u8>,
+    others: &[Cond],
+    word: TokenKind,
+) -> Result<(), AllocError>
+    ensures { OnOk result (out.new.items ≡ out.old.items ++ written (parts_tokens word (conditions (map condition_of others.now)))) }
+{
+    for part in others {
+        put_word(out, word)?;
+        print_part(alloc, out, part, word)?;
+    }
+    Ok(())
+}
+
+/// Prints a whole condition.
+fn print_condition(alloc: Global, out: &mut Vec<u8>, cond: &Cond) -> Result<(), AllocError>
+    ensures { OnOk result (out.new.items ≡ out.old.items ++ written (condition_tokens (condition_of cond.now))) }
+{
+    match cond {
+        Cond::Any(parts) => print_parts(alloc, out, parts.as_slice(), TokenKind::Or),
+        cond => print_part(alloc, out, cond, TokenKind::Or),
+    }
+}
+
+impl Print for Join {
+    ghost tokens = { join_tokens };
+
+    fn print(&self, alloc: Global, out: &mut Vec<u8>) -> Result<(), AllocError> {
+        put_word(out, TokenKind::Join)?;
+        self.right.print(alloc, out)?;
+        put_word(out, TokenKind::On)?;
+        self.left_ref.print(alloc, out)?;
+        put_word(out, TokenKind::Equal)?;
+        self.right_ref.print(alloc, out)
+    }
+}
+
+fn print_join(alloc: Global, out: &mut Vec<u8>, join: &Option<Join>) -> Result<(), AllocError>
+    ensures { OnOk result (out.new.items ≡ out.old.items ++ written (option_map_or join_tokens join.now [])) }
+{
+    match join {
+        Some(join) => join.print(alloc, out),
+        None => Ok(()),
+    }
+}
+
+fn print_where(alloc: Global, out: &mut Vec<u8>, cond: &Option<Cond>) -> Result<(), AllocError>
+    ensures { OnOk result (out.new.items ≡ out.old.items ++ written (option_map_or where_tokens (option_map condition_of cond.now) [])) }
+{
+    match cond {
+        Some(cond) => {
+            put_word(out, TokenKind::Where)?;
+            print_condition(alloc, out, cond)
+        }
+        None => Ok(()),
+    }
+}
+
+impl Print for QueryText {
+    ghost tokens = { λ query. query_tokens (query_of query) };
+
+    fn print(&self, alloc: Global, out: &mut Vec<u8>) -> Result<(), AllocError> {
+        put_word(out, TokenKind::Select)?;
+        self.items.print(alloc, out)?;
+        put_word(out, TokenKind::From)?;
+        self.left.print(alloc, out)?;
+        print_join(alloc, out, &self.join)?;
+        print_where(alloc, out, &self.cond)
+    }
+}
+
+/// The query's text: its tokens with one blank between each two.
+pub fn print_query(alloc: Global, query: &QueryText) -> Result<Vec<u8>, AllocError>
+    ensures printed { IfOk result (λ text. text.items ≡ query_text (query_of query.now)) }
+    ensures reads { SpellableQuery (query_of query.now) → IfOk result (λ text. IsTextOf most_bytes query_rule text.items (query_of query.now)) }
+    ensures utf8 { SpellableQuery (query_of query.now) → IfOk result (λ text. IsUtf8 text.items) }
+{
+    let mut out = Vec::new(alloc);
+    query.print(alloc, &mut out)?;
+    Ok(without_last_blank(out))
+}
