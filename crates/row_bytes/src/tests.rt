@@ -64,7 +64,9 @@ fn copies_values(rt: HostRuntime) -> Result<(), Fail> {
     values.push(own_value(alloc, ValueRef::Text(b"bob"))?)?;
     let copies = copy_values(alloc, values.as_slice())?;
     assert!(rt; matches!(copies.get(0), Some(Value::Int(7))));
-    assert!(rt; matches!(copies.get(1), Some(Value::Text(text)) if text.as_bytes() == b"bob".as_slice()));
+    assert!(rt;
+        matches!(copies.get(1), Some(Value::Text(text)) if text.as_bytes() == b"bob".as_slice())
+    );
     assert_eq!(rt; copies.len(), 2);
     Ok(())
 }

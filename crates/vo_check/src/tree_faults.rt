@@ -49,7 +49,6 @@ fn have_table_shapes(trees: &[TableTree<'_, '_>]) -> bool
     true
 }
 
-
 /// Refuses another tree than the one of the catalog's root.
 fn test_root(alloc: Global, tree: &TableTree<'_, '_>) -> Result<(), CheckFault>
     requires { FitsTree (tree_in tree.now) }
