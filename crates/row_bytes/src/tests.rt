@@ -47,8 +47,9 @@ fn writes_values(rt: HostRuntime) -> Result<(), Fail> {
     let mut out = Vec::new(rt.alloc());
     put_value(&mut out, &Value::Int(-1))?;
     put_value(&mut out, &Value::Bool(true))?;
-    let text = Text::from_vec(Vec::from_slice(rt.alloc(), b"bob")?);
-    put_value(&mut out, &Value::Text(text))?;
+    if let Ok(bob) = take_value(&mut Cursor::new(b"\x02\x00\x03bob")) {
+        put_value(&mut out, &own_value(rt.alloc(), bob)?)?;
+    }
     assert_eq!(rt;
         out.as_slice(),
         b"\x01\xff\xff\xff\xff\xff\xff\xff\xff\x03\x01\x02\x00\x03bob".as_slice()
