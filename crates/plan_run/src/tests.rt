@@ -107,7 +107,8 @@ fn written(alloc: Global, ran: &Ran) -> Result<Vec<u8>, AllocError> {
         put_texts(&mut bytes, row.as_slice())?;
     }
     for needs in ran.needs.as_slice() {
-        bytes.push(b'0'.wrapping_add(needs.len() as u8))?;
+        let count = u8::try_from(needs.len()).unwrap_or(u8::MAX);
+        bytes.push(b'0'.wrapping_add(count))?;
     }
     Ok(bytes)
 }
