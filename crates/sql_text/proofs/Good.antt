@@ -10,7 +10,6 @@ use Rattle.sql_tokens.proofs.KindLemmas.{same_kind_true, same_kind_self, some_to
 use Rattle.sql_text.specs.Tokens.{sql, Nested, whole, primary}
 use Rattle.sql_text.specs.Rules.{before, closed, in_parens, optional, listed, ended}
 use Rattle.sql_text.specs.Queries.{name, literal, reference, source, operator, operand, test, prim, conj, disj, conditions_of, items, join, query}
-use Rattle.sql_text.specs.WholeTables.{whole_table}
 use Rattle.sql_text.specs.Commands.{column_kind, column, create, drop_table, insert, set_part, update, delete, command, batch, script}
 
 pub is_sql : IsLanguage sql
@@ -23,10 +22,6 @@ is_sql = record { same_true = same_kind_true; same_self = same_kind_self; some_t
 pub query_good : is_good conditions_of query ≡ true
 unfolding name literal reference source operator operand test prim conj disj conditions_of items join query before closed in_parens optional listed ended
 query_good = refl
-
-pub whole_table_good : is_good conditions_of whole_table ≡ true
-unfolding name literal reference source operator operand test prim conj disj conditions_of before closed in_parens optional listed ended whole_table
-whole_table_good = refl
 
 pub batch_good : is_good conditions_of batch ≡ true
 unfolding name literal reference source operator operand test prim conj disj conditions_of before closed in_parens optional listed ended column_kind column create drop_table insert set_part update delete command batch

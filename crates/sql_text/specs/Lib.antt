@@ -1,7 +1,6 @@
 pub mod Tokens
 pub mod Rules
 pub mod Queries
-pub mod WholeTables
 pub mod Commands
 pub mod Parsing
 pub mod Texts

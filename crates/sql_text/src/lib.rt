@@ -13,14 +13,12 @@ mod printing_queries;
 mod queries;
 mod scripts;
 mod texts;
-mod whole_tables;
 
 pub use faults::SqlFault;
 pub use printing_commands::print_batch;
 pub use printing_queries::print_query;
 pub use scripts::{SCRIPT_MAX, parse_script};
 pub use texts::{TEXT_MAX, parse_batch, parse_query};
-pub use whole_tables::parse_whole_table;
 
 #[cfg(test)]
 mod printing_tests;

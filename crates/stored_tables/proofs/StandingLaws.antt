@@ -17,7 +17,7 @@ use Rattle.vo_spec.specs.Tables.{heading_of, refusal, row_of, table_named, apply
 use Rattle.vo_spec.specs.Honest.{Stored, StandsForTable, StandForTables, is_open_command, stored_heading, work}
 use Rattle.vo_laws.proofs.CommandLaws.{FitsTable, insertable, row_fits}
 use Rattle.vo_laws.proofs.StandingLaws.{InStep, FitAfter, command_in_step, stored_headings}
-use Rattle.vo_laws.proofs.StoredFits.{LimitedAfter, work_limited}
+use Rattle.vo_laws.proofs.StoredFits.{SeparatedAfter, work_separated}
 use Rattle.table_list.specs.Changes.{Gives}
 use Rattle.table_list.specs.declared.fault.ApplyFault.{ApplyFault}
 use Rattle.stored_tables.specs.Standing.{IsStanding}
@@ -25,15 +25,15 @@ use Rattle.stored_tables.specs.Placing.{is_named, IsUnlike, IsAt}
 use Rattle.stored_tables.proofs.ListLaws.{parted_at}
 
 pub nothing_standing : IsStanding []
-nothing_standing = record { tables = []; stand = tt; fit = record { each = tt; rising = tt; count = omega arith }; limited = tt }
+nothing_standing = record { tables = []; stand = tt; fit = record { each = tt; rising = tt; count = omega arith }; separated = tt }
 
 pub kept_standing : (c : Command) (stored new : List Stored) → is_open_command c ≡ true → FitsCommand c → IsStanding stored → work c stored ≡ Ok new → IsStanding new
 kept_standing c stored new o fits s e =
     let i = command_in_step c stored s.tables o fits s.stand s.fit in
-    step (work c stored) (apply c s.tables) e i.0 i.1 (work_limited c stored s.tables o s.stand s.fit s.limited)
+    step (work c stored) (apply c s.tables) e i.0 i.1 (work_separated c stored s.tables o s.stand s.fit s.separated)
   where
-    step : (r : Result (List Stored) CommandFault) (a : Result (List Table) CommandFault) → r ≡ Ok new → InStep r a → FitAfter a → LimitedAfter r → IsStanding new
-    step (Ok after) (Ok tables) e i f l = let same : after ≡ new = cc in subst IsStanding same (record { tables = tables; stand = i; fit = f; limited = l })
+    step : (r : Result (List Stored) CommandFault) (a : Result (List Table) CommandFault) → r ≡ Ok new → InStep r a → FitAfter a → SeparatedAfter r → IsStanding new
+    step (Ok after) (Ok tables) e i f l = let same : after ≡ new = cc in subst IsStanding same (record { tables = tables; stand = i; fit = f; separated = l })
     step (Ok after) (Err fault) e i f l = absurd i
     step (Err fault) (Ok tables) e i f l = absurd i
     step (Err fault) (Err other) e i f l = absurd (cc)

@@ -3,10 +3,10 @@ use Rattle.std.specs.Prelude.{List}
 use Rattle.vo_spec.specs.declared.tables.Table.{Table}
 use Rattle.vo_spec.specs.Honest.{Stored, StandForTables}
 use Rattle.vo_laws.proofs.CommandLaws.{FitTables}
-use Rattle.vo_laws.proofs.StoredFits.{AreLimited}
+use Rattle.vo_laws.proofs.StoredFits.{AreSeparatedIn}
 
 pub record IsStanding (stored : List Stored) : Type 0 where
   pub tables : List Table
   pub stand : StandForTables stored tables
   pub fit : FitTables tables
-  pub limited : AreLimited stored
+  pub separated : AreSeparatedIn stored

@@ -17,7 +17,7 @@ const BOB: &[u8] = b"\x00\x01\x03\x01t\x02\x01\x00\x00\x00\x00\x00\x00\x00\x03\x
 // DROP TABLE t
 const DROP: &[u8] = b"\x00\x01\x02\x01t";
 
-// The digest of the tree of no rows, of ann's, of both, and of the rows 1 to 16, each with 'x'.
+// The digest of the tree of no rows, of ann's, of both, and of the rows 1 to 16 and 1 to 17, each with 'x'.
 const NO_ROWS: [u8; 32] = [
     0x9b, 0x4f, 0xb2, 0x4e, 0xdd, 0x6d, 0x1d, 0x88, 0x30, 0xe2, 0x72, 0x39, 0x82, 0x63, 0xcd, 0xbf,
     0x02, 0x6b, 0x97, 0x39, 0x2c, 0xc3, 0x53, 0x87, 0xb9, 0x91, 0xdc, 0x02, 0x48, 0xa6, 0x28, 0xf9,
@@ -36,6 +36,11 @@ const TWO_ROWS: [u8; 32] = [
 const FULL: [u8; 32] = [
     0xd0, 0x91, 0xc8, 0x74, 0xb7, 0xca, 0x3a, 0xaf, 0x36, 0xb7, 0x89, 0xa7, 0x54, 0x0e, 0xbf, 0x82,
     0x93, 0xc3, 0xac, 0x35, 0xc4, 0xb7, 0x94, 0x5c, 0x17, 0x62, 0x9a, 0x49, 0xd7, 0x6e, 0xef, 0xdb,
+];
+
+const TWO_LEAVES: [u8; 32] = [
+    0x0e, 0x5e, 0xae, 0xa3, 0xf5, 0x18, 0xad, 0x95, 0xcc, 0x97, 0x8c, 0xf8, 0xaa, 0x7b, 0x84, 0xb8,
+    0xf0, 0xde, 0x28, 0xb3, 0x16, 0x56, 0x24, 0x51, 0x86, 0x1d, 0x79, 0xb9, 0x34, 0x95, 0x3e, 0x68,
 ];
 
 // The digest of ann's row.
@@ -173,26 +178,23 @@ fn opens_the_path_of_an_insert(rt: HostRuntime) -> Result<(), Fail> {
 }
 
 #[test]
-fn fills_a_table(rt: HostRuntime) -> Result<(), Fail> {
-    let mut tables = StoredTables::new(rt.alloc());
-    assert_eq!(rt; apply(rt.alloc(), &mut tables, CREATE)?, Some(Ok(())));
-    for key in 1..17 {
-        assert_eq!(rt;
-            apply(rt.alloc(), &mut tables, &insert_of(key))?,
-            Some(Ok(()))
-        );
-    }
-    let full = Err(BatchFault::Command {
-        index: 0,
-        fault: CommandFault::TableFull,
-    });
-    assert_eq!(rt; apply(rt.alloc(), &mut tables, &insert_of(17))?, Some(full));
-    let Some(table) = tables.find(b"t") else {
-        panic!(rt; "no table");
-    };
-    assert_eq!(rt; *table.tree.node_digest().as_bytes(), FULL);
-    for plain in tables.tables(rt.alloc())?.as_slice() {
-        assert_eq!(rt; plain.rows.len(), 16);
+fn splits_a_full_leaf(rt: HostRuntime) -> Result<(), Fail> {
+    for (end, digest) in [(17, FULL), (18, TWO_LEAVES)] {
+        let mut tables = StoredTables::new(rt.alloc());
+        assert_eq!(rt; apply(rt.alloc(), &mut tables, CREATE)?, Some(Ok(())));
+        for key in 1..end {
+            assert_eq!(rt;
+                apply(rt.alloc(), &mut tables, &insert_of(key))?,
+                Some(Ok(()))
+            );
+        }
+        let Some(table) = tables.find(b"t") else {
+            panic!(rt; "no table");
+        };
+        assert_eq!(rt; *table.tree.node_digest().as_bytes(), digest);
+        for plain in tables.tables(rt.alloc())?.as_slice() {
+            assert_eq!(rt; plain.rows.len(), usize::from(end) - 1);
+        }
     }
     Ok(())
 }

@@ -1,14 +1,14 @@
 -- What a change at a key's place makes of rising rows.
-use Rattle.std.proofs.Common.{◌≡◌, ℕ, zero, suc, ◌+◌, ◌<◌, ◌≤◌, Bool, true, false, cond, List, [], ◌∷◌, ◌++◌, length, take, drop, map, Option, Some, None, refl, sym, ap, subst, ◌∙◌, append_assoc, arith, inl, inr}
+use Rattle.std.proofs.Common.{◌≡◌, ℕ, zero, suc, ◌+◌, ◌-◌, ◌<◌, ◌≤◌, Bool, true, false, cond, List, [], ◌∷◌, ◌++◌, length, take, drop, map, Option, Some, None, refl, sym, ap, subst, ◌∙◌, append_assoc, arith, inl, inr}
 use Rattle.std.specs.Prelude.{if◌then◌else◌}
 use Rattle.std.specs.List.{AllByRecursion}
 use Rattle.std.specs.declared.cmp.Ordering.TheVariants.{Equal}
 use Rattle.std.proofs.lemmas.Bool.{cases_lt}
-use Rattle.std.proofs.lemmas.List.{take-append-drop}
+use Rattle.std.proofs.lemmas.List.{take-append-drop, length-append, length-take-le, length-drop}
 use Rattle.vo_spec.specs.declared.values.Row.{Row}
 use Rattle.vo_spec.specs.Values.{key_cmp}
 use Rattle.vo_spec.specs.Tables.{CellChange, has_row, put_row, without_row, changed_row}
-use Rattle.table_list.specs.Rising.{IsBelow, IsAbove, Rises, Begins}
+use Rattle.table_list.specs.Rising.{IsBelow, IsAbove, Rises, Begins, Found}
 use Rattle.table_list.specs.Chunks.{row_at, recelled}
 use Rattle.table_list.proofs.KeyOrder.{equal_turned, alike}
 use Rattle.table_list.proofs.RowLaws.{has_parts, put_parts, without_parts, changed_parts, all_above_equal, all_below_equal, rises_above, rises_put, rises_without}
@@ -97,11 +97,6 @@ row_changed_rises key changes rows at h p =
 
 -- What a call that looked for the key made.
 
--- it found whether the key is there, and where
-pub record Found (key : List ℕ) (found : Bool) (rows : List Row) (at : ℕ) : Type 0 where
-  pub below : AllByRecursion (IsBelow key) (take at rows)
-  pub begins : Begins key found (drop at rows)
-
 placed : (key : List ℕ) (found : Bool) (rows : List Row) (at : ℕ) (b : Bool) → Found key found rows at → found ≡ b → Placed key b rows at
 placed key found rows at b f e = (f.below, subst (λ (x : Bool). Begins key x (drop at rows)) e f.begins)
 
@@ -148,6 +143,12 @@ made_changed_rises key changes new found rows made at h f e n m =
 pub place_in_range : (key : List ℕ) (found : Bool) (rows : List Row) (at : ℕ) → Found key found rows at → found ≡ true → at < length rows
 place_in_range key found rows at f e = (here key rows at (placed key found rows at true f e).1).0
 
--- the same, of a key that is lent
-pub found_of : (lent key : List ℕ) (found : Bool) (rows : List Row) (at : ℕ) → lent ≡ key → AllByRecursion (IsBelow lent) (take at rows) → Begins lent found (drop at rows) → Found key found rows at
-found_of lent key found rows at e b g = subst (λ (k : List ℕ). Found k found rows at) e (record { below = b; begins = g })
+-- how many rows there are then
+pub made_length : (rows others made : List Row) (from to : ℕ) → from ≤ to → to ≤ length rows → made ≡ take from rows ++ others ++ drop to rows → length made + (to - from) ≡ length rows + length others
+made_length rows others made from to le end e =
+    let whole = length-append (take from rows ++ others) (drop to rows) in
+    let front = length-append (take from rows) others in
+    let taken = length-take-le from rows (omega arith) in
+    let left = length-drop to rows in
+    let same : length made ≡ length (take from rows ++ others ++ drop to rows) = ap length e in
+    omega (arith, whole, front, taken, left, same)

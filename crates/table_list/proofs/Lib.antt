@@ -4,6 +4,9 @@ pub mod KeyOrder
 pub mod RowLaws
 pub mod Searches
 pub mod Edits
+pub mod ChunkLaws
+pub mod Spots
+pub mod SpotEdits
 pub mod TableLaws
 pub mod Applied
 pub mod ReaderLaws

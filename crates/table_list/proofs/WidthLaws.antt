@@ -1,5 +1,5 @@
 -- Commands keep the widths of keys.
-use Rattle.std.proofs.Common.{◌≡◌, ℕ, zero, suc, ◌<◌, Bool, true, false, not, cond, List, [], ◌∷◌, length, map, get_or, Option, Some, None, Result, Ok, Err, refl, sym, ap, subst, ◌∙◌, arith}
+use Rattle.std.proofs.Common.{◌≡◌, ℕ, zero, suc, ◌<◌, Bool, true, false, not, cond, List, [], ◌∷◌, ◌++◌, length, map, get_or, Option, Some, None, Result, Ok, Err, refl, sym, ap, subst, ◌∙◌, arith}
 use Rattle.std.specs.Prelude.{◌==◌, nat_lt, nat_le, bytes_eq, IfOk}
 use Rattle.std.specs.List.{list_all, AllByRecursion}
 use Rattle.std.specs.declared.rc.Rc.{Rc}
@@ -22,7 +22,7 @@ use Rattle.vo_spec.specs.Values.{kind_of, same_kind, key_of, key_lt, IsKeyOf}
 use Rattle.vo_spec.specs.Checks.{key_kind}
 use Rattle.vo_spec.specs.Tables.{Tests, most_key, most_rows, table_named, heading_of, insert_tests, update_tests, delete_tests, are_of_kinds, column_at, value_at, row_of, put_row, without_row, CellChange, changed_cells, changed_row, cell_changes, has_row}
 use Rattle.table_list.specs.declared.fault.ApplyFault.{ApplyFault}
-use Rattle.table_list.specs.Chunks.{rows_in}
+use Rattle.table_list.specs.Chunks.{rows_in, joined, chunk_at}
 use Rattle.table_list.specs.KeyWidths.{has_width, have_width}
 use Rattle.table_list.specs.PlainLines.{IsKeyed}
 use Rattle.table_list.specs.Changes.{Gives, put_new, inserted_rows, set_there, updated_rows, drop_there, deleted_rows}
@@ -66,6 +66,21 @@ changed_wide k key changes [] h = refl
 changed_wide k key changes (r ∷ rows) h =
     let parts = and_parts _ _ h in
     and_from _ _ (ap (has_width k) (changed_key key changes r) ∙ parts.0) (changed_wide k key changes rows parts.1)
+
+-- Chunks.
+
+wide_front : (k : Kind) (xs ys : List Row) → Wide k (xs ++ ys) ≡ true → Wide k xs ≡ true
+wide_front k [] ys h = refl
+wide_front k (x ∷ xs) ys h = and_from _ _ (and_parts _ _ h).0 (wide_front k xs ys (and_parts _ _ h).1)
+
+wide_back : (k : Kind) (xs ys : List Row) → Wide k (xs ++ ys) ≡ true → Wide k ys ≡ true
+wide_back k [] ys h = h
+wide_back k (x ∷ xs) ys h = wide_back k xs ys (and_parts _ _ h).1
+
+pub chunk_wide : (k : Kind) (chunks : List (List Row)) (n : ℕ) → Wide k (joined chunks) ≡ true → Wide k (chunk_at chunks n) ≡ true
+chunk_wide k [] n h = refl
+chunk_wide k (c ∷ chunks) zero h = wide_front k c (joined chunks) h
+chunk_wide k (c ∷ chunks) (suc n) h = chunk_wide k chunks n (wide_back k c (joined chunks) h)
 
 -- The key of a value of its column's kind.
 

@@ -1,5 +1,5 @@
 -- Rows by strictly rising key, and a key's place among them.
-use Rattle.std.specs.Prelude.{◌≡◌, ℕ, Bool, true, false, List, [], ◌∷◌, ◌++◌}
+use Rattle.std.specs.Prelude.{◌≡◌, ℕ, Bool, true, false, List, [], ◌∷◌, take, drop}
 use Rattle.std.specs.List.{AllByRecursion}
 use Rattle.std.specs.declared.cmp.Ordering.TheVariants.{Less, Equal, Greater}
 use Rattle.vo_spec.specs.declared.values.Row.{Row}
@@ -22,8 +22,7 @@ Begins key found [] = found ≡ false
 Begins key true (r ∷ rows) = key_cmp r.key key ≡ Equal
 Begins key false (r ∷ rows) = AllByRecursion (IsAbove key) (r ∷ rows)
 
--- rows parted at a key: those before it are below it, and those after it begin with its row, or are above it
-pub record Parts (key : List ℕ) (found : Bool) (before after rows : List Row) : Type 0 where
-  pub whole : rows ≡ before ++ after
-  pub below : AllByRecursion (IsBelow key) before
-  pub begins : Begins key found after
+-- a search for a key came to this place, and found whether it is there
+pub record Found (key : List ℕ) (found : Bool) (rows : List Row) (at : ℕ) : Type 0 where
+  pub below : AllByRecursion (IsBelow key) (take at rows)
+  pub begins : Begins key found (drop at rows)

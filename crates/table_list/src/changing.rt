@@ -8,7 +8,7 @@ ghost use Rattle.table_list.specs.Changes.{Gives, inserted_rows, updated_rows, d
 use crate::fault::ApplyFault;
 use crate::kept::Stored;
 use crate::refusal::{delete_fault, insert_fault, update_fault};
-use crate::rows::{Rows, with_changed, with_row, without_row};
+use crate::rows::Rows;
 use row_bytes::{copy_onto, key_of};
 use std::alloc::{AllocError, Global};
 use vo_spec::{CommandFault, Key, List, Name, Row, Schema, SetPart, Value};
@@ -60,9 +60,9 @@ pub(crate) fn inserted_rows(
         return Err(ApplyFault::Refused(fault));
     }
     let row = row_of(alloc, &table.head.schema, values)?;
-    match with_row(alloc, table.rows.as_slice(), row)? {
+    match table.rows.with_row(alloc, row)? {
         None => Err(ApplyFault::Refused(CommandFault::DuplicateKey)),
-        Some(rows) => Ok(Rows::from_vec(rows)),
+        Some(rows) => Ok(rows),
     }
 }
 
@@ -80,15 +80,13 @@ pub(crate) fn updated_rows(
         return Err(ApplyFault::Refused(fault));
     }
     let key = key_of(alloc, value)?;
-    match with_changed(
-        alloc,
-        table.rows.as_slice(),
-        &table.head.schema,
-        sets,
-        key.as_bytes(),
-    )? {
+    let schema = &table.head.schema;
+    match table
+        .rows
+        .with_changed(alloc, schema, sets, key.as_bytes())?
+    {
         None => Err(ApplyFault::Refused(CommandFault::NoRow)),
-        Some(rows) => Ok(Rows::from_vec(rows)),
+        Some(rows) => Ok(rows),
     }
 }
 
@@ -105,8 +103,8 @@ pub(crate) fn deleted_rows(
         return Err(ApplyFault::Refused(fault));
     }
     let key = key_of(alloc, value)?;
-    match without_row(alloc, table.rows.as_slice(), key.as_bytes())? {
+    match table.rows.without_row(alloc, key.as_bytes())? {
         None => Err(ApplyFault::Refused(CommandFault::NoRow)),
-        Some(rows) => Ok(Rows::from_vec(rows)),
+        Some(rows) => Ok(rows),
     }
 }

@@ -13,7 +13,7 @@ use vo_spec::{Column, Command, CommandFault, Name, Schema, SetPart, Value};
 const MOST_TABLES: usize = 64;
 
 /// How many rows a table may have.
-const MOST_ROWS: u64 = 16;
+const MOST_ROWS: u64 = 4_294_967_295;
 
 /// How many bytes a stored key may have.
 const MOST_KEY: usize = 255;

@@ -1,12 +1,13 @@
 //! The tables that commands change, as a query reads them.
-ghost use Rattle.std.specs.Prelude.{◌≡◌, map, true, refl, IfOk};
+ghost use Rattle.std.specs.Prelude.{◌≡◌, ◌++◌, map, true, refl, IfOk, OnOk};
 ghost use Rattle.vo_spec.specs.Tables.{heading_of};
 ghost use Rattle.vo_spec.specs.Results.{line_of};
-ghost use Rattle.table_list.specs.Chunks.{rows_in};
+ghost use Rattle.table_list.specs.Chunks.{rows_in, chunks_in, joined};
 ghost use Rattle.table_list.specs.KeyWidths.{have_width};
 ghost use Rattle.table_list.specs.PlainLines.{row_line, table_lines};
 ghost use Rattle.table_list.specs.StoredTables.{table_of};
 
+use crate::chunk::Chunk;
 use crate::kept::Stored;
 use crate::plain::PlainLines;
 use crate::schemas::Schemas;
@@ -17,17 +18,32 @@ use std::alloc::{AllocError, Global};
 use std::rc::Rc;
 use vo_spec::{Row, Schema};
 
+/// Puts the rows of a chunk at the end.
+fn push_rows<'t>(
+    lines: &mut Vec<TableRow<'t>>,
+    schema: &'t Schema,
+    rows: &'t [Rc<Row>],
+) -> Result<(), AllocError>
+    requires { have_width schema.now (rows_in rows.now) ≡ true }
+    ensures { OnOk result (map row_line lines.new.items ≡ map row_line lines.old.items ++ map (line_of schema.now) (rows_in rows.now)) }
+{
+    for row in rows {
+        lines.push(TableRow { schema, row })?;
+    }
+    Ok(())
+}
+
 fn shared_lines<'t>(
     alloc: Global,
     schema: &'t Schema,
-    rows: &'t [Rc<Row>],
+    chunks: &'t [Rc<Chunk>],
 ) -> Result<Vec<TableRow<'t>>, AllocError>
-    requires { have_width schema.now (rows_in rows.now) ≡ true }
-    ensures { IfOk result (λ lines. map row_line lines.items ≡ map (line_of schema.now) (rows_in rows.now)) }
+    requires { have_width schema.now (joined (chunks_in chunks.now)) ≡ true }
+    ensures { IfOk result (λ lines. map row_line lines.items ≡ map (line_of schema.now) (joined (chunks_in chunks.now))) }
 {
-    let mut lines = Vec::with_capacity(alloc, rows.len())?;
-    for row in rows {
-        lines.push(TableRow { schema, row })?;
+    let mut lines = Vec::new(alloc);
+    for chunk in chunks {
+        push_rows(&mut lines, schema, chunk.as_slice())?;
     }
     Ok(lines)
 }
@@ -35,7 +51,7 @@ fn shared_lines<'t>(
 fn lines_in(alloc: Global, table: &Stored) -> Result<Vec<TableRow<'_>>, AllocError>
     ensures { IfOk result (λ lines. map row_line lines.items ≡ table_lines (table_of table.now)) }
 {
-    shared_lines(alloc, &table.head.schema, table.rows.as_slice())
+    shared_lines(alloc, &table.head.schema, table.rows.as_chunks())
 }
 
 impl Schemas for Tables {

@@ -11,7 +11,7 @@ use Rattle.vo_cli.specs.declared.report.Stop.TheVariants.{Says, Outside, Memory}
 use Rattle.vo_cli.specs.Reports.{Answers, GoesOn, ReadsText}
 use Rattle.vo_spec.specs.declared.tables.Batch.{Batch}
 use Rattle.vo_spec.specs.Secret.{Secret}
-use Rattle.vo_cli.specs.Texts.{IsQueryText, IsScriptText}
+use Rattle.vo_cli.specs.Texts.{IsQueryText, IsRefusedQuery, IsScriptText, IsRefusedScript}
 use Rattle.vo_cli.specs.Dues.{Due, Exactly, OfQuery, OfScript, with_text, with_seed, seal_said, script_due, seal_due, script_limit, Checks, Audits, Replies, HoldsEach, with_key, with_file, check_due, audit_due, answer_due, reply_limit, journal_limit}
 
 -- what was taken of a file answers for the file
@@ -32,7 +32,7 @@ of_query text q rest (Err Outside) is a = tt
 of_query text q rest (Err Memory) is a = tt
 
 -- and a stop at a text
-pub of_no_query : {A : Type 0} (view : A → Query) (text : List ℕ) (stop : Stop) (rest : Query → Due) → ReadsText view (IsQueryText text) (Err stop) → Answers (OfQuery text rest) (Err stop)
+pub of_no_query : {A : Type 0} (view : A → Query) (text : List ℕ) (stop : Stop) (rest : Query → Due) → ReadsText view (IsQueryText text) (IsRefusedQuery text) (Err stop) → Answers (OfQuery text rest) (Err stop)
 of_no_query view text (Says report) rest reads = inr (reads.0, reads.1)
 of_no_query view text Outside rest reads = tt
 of_no_query view text Memory rest reads = tt
@@ -46,27 +46,27 @@ FileIs name limit bytes told = (rest : List ℕ → Due) → with_file told name
 abbrev FileStops : List ℕ → ℕ → Stop → Files → Type 0
 FileStops name limit stop told = GoesOn {A = List ℕ} (λ bytes. bytes) (with_file told name limit) (Err stop)
 
-module _ (name query reply key : List ℕ) (q : Query) (is : IsQueryText query q) where
+module _ (name query reply key : List ℕ) (least : ℕ) (q : Query) (is : IsQueryText query q) where
   pub check_told : (o p : Option Files) (bytes : List ℕ) (r : Result Report Stop) → p ≡ o → IfSome o (KeyIs name key) → IfSome p (FileIs reply reply_limit bytes)
-      → Answers (Checks key q bytes) r → IfSome o (λ told. Answers (check_due name query reply told) r)
+      → Answers (Checks key least q bytes) r → IfSome o (λ told. Answers (check_due name query reply least told) r)
   check_told o p bytes r same k f a = step o k (subst (λ z. IfSome z (FileIs reply reply_limit bytes)) same f)
     where
-      step : (o : Option Files) → IfSome o (KeyIs name key) → IfSome o (FileIs reply reply_limit bytes) → IfSome o (λ told. Answers (check_due name query reply told) r)
+      step : (o : Option Files) → IfSome o (KeyIs name key) → IfSome o (FileIs reply reply_limit bytes) → IfSome o (λ told. Answers (check_due name query reply least told) r)
       step None k f = tt
       step (Some told) k f =
-          of_file (with_key told name) key (λ x. OfQuery query (λ y. with_file told reply reply_limit (λ z. Checks x y z))) r k
-          (of_query query q (λ y. with_file told reply reply_limit (λ z. Checks key y z)) r is (of_file (with_file told reply reply_limit) bytes (λ z. Checks key q z) r f a))
+          of_file (with_key told name) key (λ x. OfQuery query (λ y. with_file told reply reply_limit (λ z. Checks x least y z))) r k
+          (of_query query q (λ y. with_file told reply reply_limit (λ z. Checks key least y z)) r is (of_file (with_file told reply reply_limit) bytes (λ z. Checks key least q z) r f a))
 
   pub check_stops : (o p : Option Files) (stop : Stop) → p ≡ o → IfSome o (KeyIs name key) → IfSome p (FileStops reply reply_limit stop)
-      → IfSome o (λ told. Answers (check_due name query reply told) (Err stop))
+      → IfSome o (λ told. Answers (check_due name query reply least told) (Err stop))
   check_stops o p stop same k f = step o k (subst (λ z. IfSome z (FileStops reply reply_limit stop)) same f)
     where
-      step : (o : Option Files) → IfSome o (KeyIs name key) → IfSome o (FileStops reply reply_limit stop) → IfSome o (λ told. Answers (check_due name query reply told) (Err stop))
+      step : (o : Option Files) → IfSome o (KeyIs name key) → IfSome o (FileStops reply reply_limit stop) → IfSome o (λ told. Answers (check_due name query reply least told) (Err stop))
       step None k f = tt
       step (Some told) k f =
-          of_file (with_key told name) key (λ x. OfQuery query (λ y. with_file told reply reply_limit (λ z. Checks x y z))) (Err stop) k
-          (of_query query q (λ y. with_file told reply reply_limit (λ z. Checks key y z)) (Err stop) is
-          (of_stop (λ bytes. bytes) (with_file told reply reply_limit) stop (λ z. Checks key q z) f))
+          of_file (with_key told name) key (λ x. OfQuery query (λ y. with_file told reply reply_limit (λ z. Checks x least y z))) (Err stop) k
+          (of_query query q (λ y. with_file told reply reply_limit (λ z. Checks key least y z)) (Err stop) is
+          (of_stop (λ bytes. bytes) (with_file told reply reply_limit) stop (λ z. Checks key least q z) f))
 
 module _ (name journal query reply key held : List ℕ) (q : Query) (is : IsQueryText query q) where
   abbrev after_journal : Files → List ℕ → List ℕ → Due
@@ -120,7 +120,7 @@ of_script text batches rest (Err (Says report)) is a = inl (batches, is, a)
 of_script text batches rest (Err Outside) is a = tt
 of_script text batches rest (Err Memory) is a = tt
 
-of_no_script : {A : Type 0} (view : A → List Batch) (text : List ℕ) (stop : Stop) (rest : List Batch → Due) → ReadsText view (IsScriptText text) (Err stop) → Answers (OfScript text rest) (Err stop)
+of_no_script : {A : Type 0} (view : A → List Batch) (text : List ℕ) (stop : Stop) (rest : List Batch → Due) → ReadsText view (IsScriptText text) (IsRefusedScript text) (Err stop) → Answers (OfScript text rest) (Err stop)
 of_no_script view text (Says report) rest reads = inr (reads.0, reads.1)
 of_no_script view text Outside rest reads = tt
 of_no_script view text Memory rest reads = tt
@@ -134,7 +134,7 @@ script_told secret bytes text batches r goes is a =
     of_file (λ rest. with_text rest bytes) text (λ t. OfScript t (λ b. Exactly (seal_said secret b))) r goes
     (of_script text batches (λ b. Exactly (seal_said secret b)) r is a)
 
-pub script_stops : {A : Type 0} (view : A → List Batch) (secret : Secret) (bytes text : List ℕ) (stop : Stop) → TextIs bytes text → ReadsText view (IsScriptText text) (Err stop)
+pub script_stops : {A : Type 0} (view : A → List Batch) (secret : Secret) (bytes text : List ℕ) (stop : Stop) → TextIs bytes text → ReadsText view (IsScriptText text) (IsRefusedScript text) (Err stop)
     → Answers (script_due secret bytes) (Err stop)
 script_stops view secret bytes text stop goes reads =
     of_file (λ rest. with_text rest bytes) text (λ t. OfScript t (λ b. Exactly (seal_said secret b))) (Err stop) goes

@@ -26,7 +26,7 @@ use Rattle.owner_state.specs.declared.sealing.SealFault.TheVariants as seal
 use Rattle.owner_state.specs.Sealing.{commands_of, seal_fault}
 use Rattle.vo_words.specs.Asked.{Asked, Keygen, Seal, Answer, Check, Audit}
 use Rattle.vo_cli.specs.Lines.{Said, line, done, refused, refused_input, check_said, audit_said, bad_journal, command_said, key_spent}
-use Rattle.vo_cli.specs.Texts.{IsQueryText, IsScriptText}
+use Rattle.vo_cli.specs.Texts.{IsQueryText, IsRefusedQuery, IsScriptText, IsRefusedScript}
 
 -- These lines; or what is due of the query or the script that a text is; or what fits, where the definition is
 -- a relation: the reply to a query by a journal, and what a client or an auditor says of one.
@@ -35,12 +35,8 @@ pub data Due : Type 0 where
   OfQuery : (text : List ℕ) (rest : Query → Due) → Due
   OfScript : (text : List ℕ) (rest : List Batch → Due) → Due
   Replies : (key journal : List ℕ) (q : Query) → Due
-  Checks : (key : List ℕ) (q : Query) (reply : List ℕ) → Due
+  Checks : (key : List ℕ) (least : ℕ) (q : Query) (reply : List ℕ) → Due
   Audits : (key journal : List ℕ) (q : Query) (reply : List ℕ) → Due
-
--- a text that is no query or no script
-abbrev pub refused_text : Said
-refused_text = refused_input (codes "sql syntax" ∷ decimal 0 ∷ [])
 
 -- the reply of a store, where it isn't over the limit
 abbrev pub reply_said : List ℕ → Said
@@ -56,12 +52,12 @@ IsReplied key journal q said =
 abbrev pub Fits : Due → Said → Type 0
 Fits (Exactly due) said = said ≡ due
 Fits (OfQuery text rest) said =
-    ((q : Query) × IsQueryText text q × Fits (rest q) said) ⊎ (((q : Query) → IsQueryText text q → ⊥) × (said ≡ refused_text))
+    ((q : Query) × IsQueryText text q × Fits (rest q) said) ⊎ (((q : Query) → IsQueryText text q → ⊥) × IsRefusedQuery text said)
 Fits (OfScript text rest) said =
     ((batches : List Batch) × IsScriptText text batches × Fits (rest batches) said)
-    ⊎ (((batches : List Batch) → IsScriptText text batches → ⊥) × (said ≡ refused_text))
+    ⊎ (((batches : List Batch) → IsScriptText text batches → ⊥) × IsRefusedScript text said)
 Fits (Replies key journal q) said = IsReplied key journal q said
-Fits (Checks key q reply) said = (answer : Result Accepted CheckFault) × CheckOf key 0 q reply answer × (said ≡ check_said answer)
+Fits (Checks key least q reply) said = (answer : Result Accepted CheckFault) × CheckOf key least q reply answer × (said ≡ check_said answer)
 Fits (Audits key journal q reply) said =
     (answer : Result Verdict AuditFault) × AuditOf key journal q reply answer × (said ≡ audit_said answer)
 
@@ -150,9 +146,9 @@ abbrev pub answer_due : List ℕ → List ℕ → List ℕ → Files → Due
 answer_due key journal query files =
     with_key files key (λ k. with_file files journal journal_limit (λ j. OfQuery query (λ q. Replies k j q)))
 
-abbrev pub check_due : List ℕ → List ℕ → List ℕ → Files → Due
-check_due key query reply files =
-    with_key files key (λ k. OfQuery query (λ q. with_file files reply reply_limit (λ r. Checks k q r)))
+abbrev pub check_due : List ℕ → List ℕ → List ℕ → ℕ → Files → Due
+check_due key query reply least files =
+    with_key files key (λ k. OfQuery query (λ q. with_file files reply reply_limit (λ r. Checks k least q r)))
 
 abbrev pub audit_due : List ℕ → List ℕ → List ℕ → List ℕ → Files → Due
 audit_due key journal query reply files =
@@ -163,7 +159,7 @@ abbrev pub command_due : Asked → Files → Due
 command_due (Keygen seed height) = keygen_due seed height
 command_due (Seal seed script height) = seal_due seed script height
 command_due (Answer key journal query) = answer_due key journal query
-command_due (Check key query reply) = check_due key query reply
+command_due (Check key query reply least) = check_due key query reply least
 command_due (Audit key journal query reply) = audit_due key journal query reply
 
 -- what the words ask for, where the files are told
@@ -191,7 +187,7 @@ abbrev pub asked_files : Asked → List (List ℕ)
 asked_files (Keygen seed height) = seed ∷ []
 asked_files (Seal seed script height) = seed ∷ script ∷ []
 asked_files (Answer key journal query) = key ∷ journal ∷ []
-asked_files (Check key query reply) = key ∷ reply ∷ []
+asked_files (Check key query reply least) = key ∷ reply ∷ []
 asked_files (Audit key journal query reply) = key ∷ journal ∷ reply ∷ []
 
 abbrev pub file_words : Option Asked → List (List ℕ)

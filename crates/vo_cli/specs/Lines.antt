@@ -17,6 +17,8 @@ use Rattle.vo_spec.specs.declared.checks.Verdict.{Verdict}
 use Rattle.vo_spec.specs.declared.checks.Verdict.TheVariants.{Unsigned, Exact, Collides}
 use Rattle.vo_spec.specs.declared.checks.AuditFault.{AuditFault}
 use Rattle.vo_spec.specs.declared.checks.AuditFault.TheVariants as audit
+use Rattle.sql_text.specs.declared.faults.SqlFault.{SqlFault}
+use Rattle.sql_text.specs.declared.faults.SqlFault.TheVariants as sql
 use Rattle.vo_spec.specs.Records.{record_bytes}
 use Rattle.vo_spec.specs.Results.{ref_title}
 
@@ -98,6 +100,26 @@ fault_words check.Memory = []
 abbrev pub check_said : Result Answer CheckFault → Said
 check_said (Ok answer) = done (version_line answer.version ++ outcome_lines answer.outcome)
 check_said (Err fault) = refused 1 (fault_words fault)
+
+-- Refusals of texts.
+
+abbrev pub sql_words : SqlFault → List (List ℕ)
+sql_words sql.TooLong = codes "sql too long" ∷ []
+sql_words (sql.Token at) = codes "sql token" ∷ decimal at ∷ []
+sql_words (sql.Syntax at) = codes "sql syntax" ∷ decimal at ∷ []
+sql_words (sql.Literal at) = codes "sql literal" ∷ decimal at ∷ []
+sql_words sql.Nesting = codes "sql nesting" ∷ []
+sql_words sql.Name = codes "sql name" ∷ []
+sql_words sql.TooMany = codes "sql too many" ∷ []
+sql_words sql.Memory = []
+
+-- of want of memory nothing is said here either
+abbrev pub sql_said : SqlFault → Said
+sql_said fault = refused_input (sql_words fault)
+
+-- a script with a command that scripts may not have so far
+abbrev pub not_taken : Said
+not_taken = sql_said (sql.Syntax 0)
 
 -- Verdicts of `audit`.
 

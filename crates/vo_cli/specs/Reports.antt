@@ -6,7 +6,7 @@ use Rattle.vo_cli.specs.declared.report.Report.{Report}
 use Rattle.vo_cli.specs.declared.report.Stop.{Stop}
 use Rattle.vo_cli.specs.declared.report.Stop.TheVariants.{Says, Outside, Memory}
 use Rattle.vo_cli.specs.Lines.{Said}
-use Rattle.vo_cli.specs.Dues.{Due, Exactly, Fits as Meets, refused_text}
+use Rattle.vo_cli.specs.Dues.{Due, Exactly, Fits as Meets}
 
 abbrev pub status_code : Status → ℕ
 status_code Done = 0
@@ -34,19 +34,20 @@ GoesOn {B = B} view due (Err (Says report)) = (rest : B → Due) → due rest �
 GoesOn view due (Err Outside) = Unit {0}
 GoesOn view due (Err Memory) = Unit {0}
 
--- The text is this; or it is nothing of the sort, and that is said.
-abbrev pub ReadsText : {A B : Type 0} → (A → B) → (B → Type 0) → Result A Stop → Type 0
-ReadsText view Is (Ok taken) = Is (view taken)
-ReadsText {B = B} view Is (Err (Says report)) = ((b : B) → Is b → ⊥) × (said_of report ≡ refused_text)
-ReadsText view Is (Err Outside) = ⊥
-ReadsText view Is (Err Memory) = Unit {0}
+-- The text is this; or it is nothing of the sort, and why is said.
+abbrev pub ReadsText : {A B : Type 0} → (A → B) → (B → Type 0) → (Said → Type 0) → Result A Stop → Type 0
+ReadsText view Is IsRefused (Ok taken) = Is (view taken)
+ReadsText {B = B} view Is IsRefused (Err (Says report)) = ((b : B) → Is b → ⊥) × IsRefused (said_of report)
+ReadsText view Is IsRefused (Err Outside) = ⊥
+ReadsText view Is IsRefused (Err Memory) = Unit {0}
 
-abbrev pub IsRefusedText : Stop → Type 0
-IsRefusedText (Says report) = said_of report ≡ refused_text
-IsRefusedText Outside = ⊥
-IsRefusedText Memory = ⊥
+-- these lines are said
+abbrev pub SaysSo : Said → Stop → Type 0
+SaysSo said (Says report) = said_of report ≡ said
+SaysSo said Outside = ⊥
+SaysSo said Memory = ⊥
 
--- after a fault of a text: it is refused, unless memory ended
-abbrev pub StopsBy : Bool → Stop → Type 0
-StopsBy true stop = stop ≡ Memory
-StopsBy false stop = IsRefusedText stop
+-- after a fault of a text: this is said, unless memory ended
+abbrev pub StopsBy : Bool → Said → Stop → Type 0
+StopsBy true said stop = stop ≡ Memory
+StopsBy false said stop = SaysSo said stop

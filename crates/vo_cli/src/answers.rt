@@ -1,15 +1,14 @@
-//! What `check` says of a reply: the answer, or why it is refused.
-ghost use Rattle.std.specs.Prelude.{◌≡◌, ◌≢◌, [], ◌∷◌, ◌++◌, map, flat_map, codes, IfOk, OnOk};
-ghost use Rattle.vo_cli.specs.Lines.{check_said, outcome_lines, version_line, fault_words, words_line, refused, columns_line, literal};
+//! What `check` says of a reply that it accepts: the answer.
+ghost use Rattle.std.specs.Prelude.{◌≡◌, [], ◌∷◌, ◌++◌, map, flat_map, codes, IfOk, OnOk};
+ghost use Rattle.vo_cli.specs.Lines.{check_said, outcome_lines, version_line, words_line, columns_line, literal};
 ghost use Rattle.vo_cli.specs.Reports.{said_of};
 ghost use Rattle.vo_spec.specs.Results.{ref_title};
 
 use crate::lines::{push_columns, push_words};
 use crate::printed::Word;
-use crate::refusals::refusal;
 use crate::report::{Report, Status};
 use std::alloc::{AllocError, Global};
-use vo_spec::{Answer, CheckFault, List, Outcome, QueryFault, Ref, Value};
+use vo_spec::{Answer, List, Outcome, QueryFault, Ref, Value};
 
 /// The answer: its version, and then the header and a line for each row, or what is wrong with the query.
 pub fn answer_report(alloc: Global, answer: &Answer) -> Result<Report, AllocError>
@@ -99,94 +98,4 @@ fn title_of(alloc: Global, reference: &Ref) -> Result<Vec<u8>, AllocError>
     }
     title.extend_from_slice(reference.column.as_bytes())?;
     Ok(title)
-}
-
-/// Why a reply is refused. Want of memory is no refusal.
-pub fn refused_reply(alloc: Global, fault: &CheckFault) -> Result<Report, AllocError>
-    requires { fault.now ≢ CheckFault.Memory }
-    ensures { IfOk result (λ report. said_of report ≡ refused 1 (fault_words fault.now)) }
-{
-    match fault {
-        CheckFault::TooLong { length } => refusal(
-            alloc,
-            Status::RefusedReply,
-            &[Word::Phrase("too long"), Word::Number(*length)],
-        ),
-        CheckFault::BadForm => refusal(alloc, Status::RefusedReply, &[Word::Phrase("bad form")]),
-        CheckFault::WrongKey { want, got } => refusal(
-            alloc,
-            Status::RefusedReply,
-            &[
-                Word::Phrase("wrong key"),
-                Word::Hexadecimal(want),
-                Word::Hexadecimal(got),
-            ],
-        ),
-        CheckFault::WrongLeaf { version, q } => {
-            refusal(
-                alloc,
-                Status::RefusedReply,
-                &[
-                    Word::Phrase("wrong leaf"),
-                    Word::Number(*version),
-                    Word::Number(*q as u64),
-                ],
-            )
-        }
-        CheckFault::BadSignature => refusal(
-            alloc,
-            Status::RefusedReply,
-            &[Word::Phrase("bad signature")],
-        ),
-        CheckFault::Stale { least, got } => {
-            refusal(
-                alloc,
-                Status::RefusedReply,
-                &[
-                    Word::Phrase("stale"),
-                    Word::Number(*least),
-                    Word::Number(*got),
-                ],
-            )
-        }
-        CheckFault::WrongCatalog { want, got } => {
-            refusal(
-                alloc,
-                Status::RefusedReply,
-                &[
-                    Word::Phrase("wrong catalog"),
-                    Word::Hexadecimal(want.as_bytes()),
-                    Word::Hexadecimal(got.as_bytes()),
-                ],
-            )
-        }
-        CheckFault::WrongTrees { want, got } => {
-            refusal(
-                alloc,
-                Status::RefusedReply,
-                &[
-                    Word::Phrase("wrong trees"),
-                    Word::Number(*want),
-                    Word::Number(*got),
-                ],
-            )
-        }
-        CheckFault::WrongShape => refusal(
-            alloc,
-            Status::RefusedReply,
-            &[Word::Phrase("wrong shape")],
-        ),
-        CheckFault::WrongRoot { table, want, got } => {
-            let words = [
-                Word::Phrase("wrong root"),
-                Word::Name(table.as_bytes()),
-                Word::Hexadecimal(want.as_bytes()),
-                Word::Hexadecimal(got.as_bytes()),
-            ];
-            refusal(alloc, Status::RefusedReply, &words)
-        }
-        CheckFault::Missing => refusal(alloc, Status::RefusedReply, &[Word::Phrase("missing")]),
-        CheckFault::Surplus => refusal(alloc, Status::RefusedReply, &[Word::Phrase("surplus")]),
-        CheckFault::Memory => unreachable!(),
-    }
 }

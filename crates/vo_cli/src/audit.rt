@@ -5,10 +5,10 @@ ghost use Rattle.vo_spec.specs.Conditions.{query_of};
 ghost use Rattle.vo_cli.specs.Dues.{HoldsEach, audit_due, Audits};
 ghost use Rattle.vo_cli.specs.Reports.{Answers};
 
-use crate::answers::refused_reply;
 use crate::check::REPLY_LIMIT;
 use crate::files::{take_file, take_key};
 use crate::refusals::bad_entry;
+use crate::refused_replies::refused_reply;
 use crate::report::{Report, Stop};
 use crate::texts::query_in;
 use crate::verdicts::verdict_report;

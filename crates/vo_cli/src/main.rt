@@ -10,6 +10,8 @@ mod keygen;
 mod lines;
 mod printed;
 mod refusals;
+mod refused_replies;
+mod refused_texts;
 mod report;
 mod seal;
 #[cfg(test)]

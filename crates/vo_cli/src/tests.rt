@@ -5,6 +5,7 @@ mod folder;
 mod journals;
 mod keys;
 mod paths;
+mod queries;
 mod replies;
 mod scripts;
 mod sealed;

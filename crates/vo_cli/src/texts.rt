@@ -1,27 +1,25 @@
 //! The query and the script that a text is.
 ghost use Rattle.std.specs.Prelude.{◌≡◌, IfOk, Vec};
 ghost use Rattle.std.specs.Global.{Global};
-ghost use Rattle.vo_spec.specs.declared.tables.Batch.{Batch};
 ghost use Rattle.std.specs.List.{list_all};
 ghost use Rattle.vo_spec.specs.Conditions.{query_of};
-ghost use Rattle.vo_cli.specs.Reports.{ReadsText, StopsBy, said_of};
-ghost use Rattle.vo_cli.specs.Dues.{refused_text};
-ghost use Rattle.vo_cli.specs.Texts.{IsQueryText, IsScriptText, AreTaken, AreWritten, is_taken_command, is_taken, is_want_of_memory};
+ghost use Rattle.vo_spec.specs.declared.tables.Batch.{Batch};
 ghost use Rattle.owner_state.specs.Sealing.{FitEach};
 ghost use Rattle.sql_text.specs.Fits.{AllFit};
+ghost use Rattle.vo_cli.specs.Reports.{ReadsText};
+ghost use Rattle.vo_cli.specs.Texts.{IsQueryText, IsRefusedQuery, IsScriptText, IsRefusedScript, AreTaken, AreNotTaken, AreWritten, is_taken, is_taken_command};
 
-use crate::printed::Word;
-use crate::refusals::refusal;
-use crate::report::{Report, Status, Stop};
-use sql_text::{SqlFault, parse_script, parse_whole_table};
-use std::alloc::{AllocError, Global};
+use crate::refused_texts::{refused_text, stop_by};
+use crate::report::Stop;
+use sql_text::{SqlFault, parse_query, parse_script};
+use std::alloc::Global;
 use vo_spec::{Batch, Command, QueryText};
 
 /// The query that the text is.
 pub fn query_in(alloc: Global, text: &str) -> Result<QueryText, Stop>
-    ensures { ReadsText query_of (IsQueryText text.now) result }
+    ensures { ReadsText query_of (IsQueryText text.now) (IsRefusedQuery text.now) result }
 {
-    match parse_whole_table(alloc, text) {
+    match parse_query(alloc, text) {
         Ok(query) => Ok(query),
         Err(fault) => Err(stop_by(alloc, fault)?),
     }
@@ -29,7 +27,7 @@ pub fn query_in(alloc: Global, text: &str) -> Result<QueryText, Stop>
 
 /// The batches of the script that the text is.
 pub fn batches_in(alloc: Global, text: &str) -> Result<Vec<Batch>, Stop>
-    ensures told { ReadsText (λ (v : Vec Batch Global). v.items) (IsScriptText text.now) result }
+    ensures told { ReadsText (λ (v : Vec Batch Global). v.items) (IsScriptText text.now) (IsRefusedScript text.now) result }
     ensures fit { IfOk result (λ (v : Vec Batch Global). FitEach v.items) }
     ensures written { IfOk result (λ (v : Vec Batch Global). AreWritten v.items) }
 {
@@ -43,14 +41,14 @@ pub fn batches_in(alloc: Global, text: &str) -> Result<Vec<Batch>, Stop>
 #[tactic(auto, using(crate::proofs::TextSteps::each_fits, crate::proofs::TextSteps::taken_written))]
 fn taken(alloc: Global, batches: Vec<Batch>) -> Result<Vec<Batch>, Stop>
     requires { AllFit batches.items }
-    ensures told { ReadsText (λ (v : Vec Batch Global). v.items) (AreTaken batches.items) result }
+    ensures told { ReadsText (λ (v : Vec Batch Global). v.items) (AreTaken batches.items) (AreNotTaken batches.items) result }
     ensures fit { IfOk result (λ (v : Vec Batch Global). FitEach v.items) }
     ensures written { IfOk result (λ (v : Vec Batch Global). AreWritten v.items) }
 {
     if are_taken(&batches) {
         Ok(batches)
     } else {
-        Err(Stop::Says(no_text(alloc)?))
+        Err(Stop::Says(refused_text(alloc, SqlFault::Syntax { at: 0 })?))
     }
 }
 
@@ -71,28 +69,4 @@ fn is_taken_command(command: &Command) -> bool
     ensures { result ≡ is_taken_command command.now }
 {
     matches!(command, Command::Create { .. } | Command::Insert { .. })
-}
-
-/// Why there is nothing to go on with after a fault of a text.
-fn stop_by(alloc: Global, fault: SqlFault) -> Result<Stop, AllocError>
-    ensures { IfOk result (λ stop. StopsBy (is_want_of_memory fault) stop) }
-{
-    if is_want_of_memory(fault) {
-        Ok(Stop::Memory)
-    } else {
-        Ok(Stop::Says(no_text(alloc)?))
-    }
-}
-
-fn is_want_of_memory(fault: SqlFault) -> bool
-    ensures { result ≡ is_want_of_memory fault }
-{
-    matches!(fault, SqlFault::Memory)
-}
-
-fn no_text(alloc: Global) -> Result<Report, AllocError>
-    ensures { IfOk result (λ report. said_of report ≡ refused_text) }
-{
-    let words = [Word::Phrase("sql syntax"), Word::Number(0)];
-    refusal(alloc, Status::RefusedInput, &words)
 }

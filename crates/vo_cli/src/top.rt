@@ -86,7 +86,12 @@ fn command<F: Shelf>(alloc: Global, request: Request<'_>, files: &mut F) -> Resu
             journal,
             query,
         } => answer(alloc, files, key, journal, query),
-        Request::Check { key, query, reply } => check(alloc, files, key, query, reply),
+        Request::Check {
+            key,
+            query,
+            reply,
+            least,
+        } => check(alloc, files, key, query, reply, least),
         Request::Audit {
             key,
             journal,

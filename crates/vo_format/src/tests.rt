@@ -13,9 +13,6 @@ const HIDDEN: &[u8] =
 
 const STUB: &[u8] = b"\x00gggggggggggggggggggggggggggggggg";
 
-// An inner node of two leaves without rows, which is bad form while trees have one level.
-const INNER: &[u8] = b"\x02\x02\x00\x00\x01\x00\x01\x00";
-
 const RECORD: &[u8] =
     b"VREC0123456789abcdef\x00\x00\x00\x00\x00\x00\x00\x03cccccccccccccccccccccccccccccccc";
 
@@ -30,7 +27,7 @@ fn joined(alloc: Global, pieces: &[&[u8]]) -> Result<Vec<u8>, AllocError> {
     Ok(bytes)
 }
 
-/// A tree of so many levels of inner nodes above its leaves.
+/// A tree of so many levels above one.
 fn nested(alloc: Global, levels: u8) -> Result<Vec<u8>, AllocError> {
     let mut bytes = Vec::new(alloc);
     for _ in 0..levels {
@@ -46,15 +43,23 @@ fn nested(alloc: Global, levels: u8) -> Result<Vec<u8>, AllocError> {
 #[test]
 fn spells_a_tree_in_one_way(rt: HostRuntime) -> Result<(), Fail> {
     let alloc = rt.alloc();
-    for bytes in [b"\x01\x00".as_slice(), STUB, ROWS, HIDDEN] {
-        let mut cursor = Cursor::new(bytes);
+    let trees: [&[&[u8]]; 5] = [
+        &[b"\x01\x00"],
+        &[STUB],
+        &[ROWS],
+        &[HIDDEN],
+        &[b"\x02\x02\x00\x01g", STUB, HIDDEN],
+    ];
+    for pieces in trees {
+        let bytes = joined(alloc, pieces)?;
+        let mut cursor = Cursor::new(&bytes);
         let Ok(tree) = take_tree(alloc, &mut cursor) else {
             panic!(rt; "the tree {bytes:?}");
         };
         assert!(rt; cursor.is_empty());
         let mut out = Vec::new(alloc);
         put_tree(&mut out, &tree)?;
-        assert_eq!(rt; out.as_slice(), bytes);
+        assert_eq!(rt; out.as_slice(), bytes.as_slice());
     }
     Ok(())
 }
@@ -62,7 +67,7 @@ fn spells_a_tree_in_one_way(rt: HostRuntime) -> Result<(), Fail> {
 #[test]
 fn refuses_other_trees(rt: HostRuntime) -> Result<(), Fail> {
     let alloc = rt.alloc();
-    let wrong: [&[&[u8]]; 12] = [
+    let wrong: [&[&[u8]]; 11] = [
         // no byte, no such node, row or cell, and a digest a byte too short
         &[],
         &[b"\x03\x00"],
@@ -76,9 +81,8 @@ fn refuses_other_trees(rt: HostRuntime) -> Result<(), Fail> {
         &[b"\x01\x11"],
         &[b"\x01\x01\x00\x01k\x01\x20"],
         &[b"\x01\x01\x01\x00"],
-        // inner nodes
-        &[INNER],
-        &[b"\x02\x02\x00\x01g", STUB, HIDDEN],
+        // one child
+        &[b"\x02\x01", STUB],
     ];
     for pieces in wrong {
         let bytes = joined(alloc, pieces)?;
@@ -89,10 +93,10 @@ fn refuses_other_trees(rt: HostRuntime) -> Result<(), Fail> {
 }
 
 #[test]
-fn reads_one_level(rt: HostRuntime) -> Result<(), Fail> {
+fn reads_eleven_levels(rt: HostRuntime) -> Result<(), Fail> {
     let alloc = rt.alloc();
-    for (above, good) in [(0, true), (1, false), (10, false), (200, false)] {
-        let bytes = nested(alloc, above)?;
+    for (levels, good) in [(10, true), (11, false), (200, false)] {
+        let bytes = nested(alloc, levels)?;
         let read = take_tree(alloc, &mut Cursor::new(&bytes));
         assert_eq!(rt; read.is_ok(), good);
     }
@@ -118,12 +122,11 @@ fn spells_a_reply_in_one_way(rt: HostRuntime) -> Result<(), Fail> {
     assert_eq!(rt; reply.signature, b"sig".as_slice());
     assert_eq!(rt; reply.trees.len(), 2);
     assert_eq!(rt; write_reply(alloc, &reply)?.as_slice(), bytes.as_slice());
-    // cut at the end, a byte more, a tree too many, and an inner node
-    let wrong: [&[&[u8]]; 4] = [
+    // cut at the end, a byte more, and a tree too many
+    let wrong: [&[&[u8]]; 3] = [
         &[b"\x02", ROWS],
         &[b"\x01", ROWS, b"\x00"],
         &[b"\x00", ROWS],
-        &[b"\x01", INNER],
     ];
     for pieces in wrong {
         let behind = joined(alloc, pieces)?;
@@ -179,12 +182,11 @@ fn spells_proofs_in_one_way(rt: HostRuntime) -> Result<(), Fail> {
     let mut out = Vec::new(alloc);
     begin_proofs(&mut out, 2)?;
     assert_eq!(rt; out.as_slice(), b"VOU1\x00\x02".as_slice());
-    let wrong: [&[&[u8]]; 5] = [
+    let wrong: [&[&[u8]]; 4] = [
         &[b"VOU2\x00\x00"],
         &[b"VOU1\x00\x01", ROWS, b"\x00"],
         &[b"VOU1\x00\x02", ROWS],
         &[b"VOU1\x03\xe9"],
-        &[b"VOU1\x00\x01", INNER],
     ];
     for pieces in wrong {
         let bytes = joined(alloc, pieces)?;

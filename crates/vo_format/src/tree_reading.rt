@@ -18,8 +18,8 @@ use row_bytes::{Cursor, ReadFault};
 use std::alloc::Global;
 use vo_spec::{KeyPart, List, PartEntry};
 
-/// How many levels a tree that is read has at most: one, while a table's rows fit in one leaf.
-const MOST_LEVELS: u8 = 1;
+/// How many levels a tree that is read has at most.
+const MOST_LEVELS: u8 = 11;
 
 /// The tree that comes next, of at most [`MOST_LEVELS`] levels. It is lent by the bytes.
 pub fn take_tree<'b>(alloc: Global, cursor: &mut Cursor<'b>) -> Result<PartTree<'b>, ReadFault>

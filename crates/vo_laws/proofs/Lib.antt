@@ -15,7 +15,6 @@ pub mod CommandLaws
 pub mod StandingLaws
 pub mod TreeFits
 pub mod TreeLevels
-pub mod LowTrees
 pub mod StoredFits
 pub mod PrunedLaws
 pub mod ReplyTrees

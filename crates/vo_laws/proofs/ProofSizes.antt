@@ -29,7 +29,7 @@ use Rattle.vo_spec.specs.Honest.{Stored, StandForTables, is_open_command, AreOpe
 use Rattle.vo_laws.proofs.ListLaws.{each_both, each_weaker}
 use Rattle.vo_laws.proofs.CommandLaws.{FitTables}
 use Rattle.vo_laws.proofs.StandingLaws.{InStep, FitAfter, command_in_step, stands}
-use Rattle.vo_laws.proofs.StoredFits.{AreLimited, LimitedAfter, work_limited, honest_limited, each_tree_fits}
+use Rattle.vo_laws.proofs.StoredFits.{AreSeparatedIn, SeparatedAfter, work_separated, honest_separated, each_tree_fits}
 use Rattle.vo_laws.proofs.PrunedFits.{row_closed, insert_proof_fits}
 
 -- Lengths of pieces.
@@ -171,14 +171,14 @@ few_proofs (c ∷ cs) stored = step (is_some (refusal c (map stored_heading stor
     step false (Err fault) rest = omega (arith, length-append (command_proof c stored) [], command_few c stored)
 
 small_proofs : (cs : List Command) (stored : List Stored) (tables : List Table) → list_all is_open_command cs ≡ true → AllByRecursion FitsCommand cs
-    → StandForTables stored tables → FitTables tables → AreLimited stored → AllByRecursion IsSmall (honest_proofs cs stored)
+    → StandForTables stored tables → FitTables tables → AreSeparatedIn stored → AllByRecursion IsSmall (honest_proofs cs stored)
 small_proofs [] stored tables o fits zs good all = tt
 small_proofs (c ∷ cs) stored tables o fits zs good all =
     let open_both = and_parts (is_open_command c) (list_all is_open_command cs) o in
     let i = command_in_step c stored tables open_both.0 fits.0 zs good in
     step (is_some (refusal c (map stored_heading stored)))
     (command_small c stored open_both.0 (each_tree_fits stored tables zs good.each all))
-    (next (work c stored) (apply c tables) i.0 i.1 (work_limited c stored tables open_both.0 zs good all)
+    (next (work c stored) (apply c tables) i.0 i.1 (work_separated c stored tables open_both.0 zs good all)
     (λ after others y g a. small_proofs cs after others open_both.1 fits.1 y g a))
   where
     step : (b : Bool) → AllByRecursion IsSmall (command_proof c stored) → AllByRecursion IsSmall (behind cs (work c stored))
@@ -186,8 +186,8 @@ small_proofs (c ∷ cs) stored tables o fits zs good all =
     step true here rest = tt
     step false here rest = each_both IsSmall (command_proof c stored) (behind cs (work c stored)) here rest
 
-    next : (r : Result (List Stored) CommandFault) (s : Result (List Table) CommandFault) → InStep r s → FitAfter s → LimitedAfter r
-        → ((after : List Stored) (others : List Table) → StandForTables after others → FitTables others → AreLimited after → AllByRecursion IsSmall (honest_proofs cs after))
+    next : (r : Result (List Stored) CommandFault) (s : Result (List Table) CommandFault) → InStep r s → FitAfter s → SeparatedAfter r
+        → ((after : List Stored) (others : List Table) → StandForTables after others → FitTables others → AreSeparatedIn after → AllByRecursion IsSmall (honest_proofs cs after))
         → AllByRecursion IsSmall (behind cs r)
     next (Ok after) (Ok others) i g a f = f after others i g a
     next (Ok after) (Err fault) i g a f = absurd i
@@ -210,4 +210,4 @@ honest_proofs_fit earlier batch fits o batch_fits batch_open =
     let s = stands earlier fits o in
     let few : length (honest_proofs batch (honest_trees earlier)) ≤ length batch = few_proofs batch (honest_trees earlier) in
     proofs_fit (honest_proofs batch (honest_trees earlier)) (omega (arith, batch_fits.count))
-    (small_proofs batch (honest_trees earlier) (tables_after earlier) batch_open batch_fits.each s.0 s.1 (honest_limited earlier fits o))
+    (small_proofs batch (honest_trees earlier) (tables_after earlier) batch_open batch_fits.each s.0 s.1 (honest_separated earlier fits o))

@@ -28,140 +28,131 @@ use Rattle.vo_spec.specs.Trees.{RowTree, row_family, digest}
 use Rattle.vo_spec.specs.Fits.{FitsKey, FitsRow, FitsTree}
 use Rattle.vo_spec.specs.Inserts.{inserted}
 use Rattle.vo_spec.specs.Standing.{AreRising, IsTree, IsNode, fewest_in_root}
-use Rattle.vo_spec.specs.Honest.{Stored, StandsForTable, StandForTables, is_open_command, AreOpen, put_stored, with_tree, behind_stored, change_tree, changed_trees, work, work_all, after_work, honest_trees, catalog_of, honest_record}
+use Rattle.vo_spec.specs.Honest.{Stored, StandForTables, is_open_command, AreOpen, put_stored, with_tree, behind_stored, change_tree, changed_trees, work, work_all, after_work, honest_trees, catalog_of, honest_record}
 use Rattle.vo_laws.proofs.CommandLaws.{IsInsertable, insertable, FitsTable, FitTables, names_of, each_filter}
 use Rattle.vo_laws.proofs.TreeFits.{Separated, SeparatedTree, KeyFits, tree_separated}
 use Rattle.vo_laws.proofs.TreeLevels.{whole_fits}
-use Rattle.vo_laws.proofs.LowTrees.{IsLow, LowTree, low_levels, tree_low}
 use Rattle.vo_laws.proofs.StandingLaws.{InStep, FitAfter, stored_headings, command_in_step, batch_in_step, InStepFrom, stands}
 
--- What insertion keeps of a stored tree beside its shape: its separators fit, and it is low.
+-- The separators of what is stored fit.
 
-pub record IsLimited (s : Stored) : Type 0 where
-  pub separated : Separated s.tree
-  pub low : IsLow s.tree
+abbrev pub SeparatedIn : Stored → Type 0
+SeparatedIn s = Separated s.tree
 
-abbrev pub AreLimited : List Stored → Type 0
-AreLimited = AllByRecursion IsLimited
+abbrev pub AreSeparatedIn : List Stored → Type 0
+AreSeparatedIn = AllByRecursion SeparatedIn
 
-abbrev pub LimitedAfter : Result (List Stored) CommandFault → Type 0
-LimitedAfter (Ok stored) = AreLimited stored
-LimitedAfter (Err fault) = Unit {0}
+abbrev pub SeparatedAfter : Result (List Stored) CommandFault → Type 0
+SeparatedAfter (Ok stored) = AreSeparatedIn stored
+SeparatedAfter (Err fault) = Unit {0}
 
-with_limited : (s : Stored) (stored : List Stored) (r : Result RowTree UpdateFault) → AreLimited stored → SeparatedTree r → LowTree r → LimitedAfter (with_tree s stored r)
-with_limited s stored (Ok t) all separated low = (record { separated = separated; low = low }, all)
-with_limited s stored (Err fault) all separated low = tt
+with_separated : (s : Stored) (stored : List Stored) (r : Result RowTree UpdateFault) → AreSeparatedIn stored → SeparatedTree r → SeparatedAfter (with_tree s stored r)
+with_separated s stored (Ok t) all here = (here, all)
+with_separated s stored (Err fault) all here = tt
 
-behind_limited : (s : Stored) (r : Result (List Stored) CommandFault) → IsLimited s → LimitedAfter r → LimitedAfter (behind_stored s r)
-behind_limited s (Ok stored) here all = (here, all)
-behind_limited s (Err fault) here all = tt
+behind_separated : (s : Stored) (r : Result (List Stored) CommandFault) → SeparatedIn s → SeparatedAfter r → SeparatedAfter (behind_stored s r)
+behind_separated s (Ok stored) here all = (here, all)
+behind_separated s (Err fault) here all = tt
 
 keys_fit : (rows : List Row) → AllByRecursion FitsRow rows → AllByRecursion KeyFits (map whole_entry rows)
 keys_fit [] all = tt
 keys_fit (row ∷ rows) all = (all.0.key, keys_fit rows all.1)
 
--- of a table with room for a row
-table_limited : (s : Stored) (t : Table) (values : List Value) → StandsForTable s t → FitsTable t → IsInsertable t values → IsLimited s → (stored : List Stored) → AreLimited stored
-    → LimitedAfter (with_tree s stored (inserted (whole_entry (row_of s.schema values)) s.tree))
-table_limited s t values z fits is here stored all =
-    let count : length (entries s.tree) ≡ length t.rows = ap length z.stands.rows_are ∙ length-map t.rows whole_entry in
-    let room : length t.rows < 16 = is.room in
-    let keys : AllByRecursion KeyFits (entries s.tree) = subst (AllByRecursion KeyFits) (sym z.stands.rows_are) (keys_fit t.rows fits.rows) in
-    let short : FitsKey (row_of s.schema values).key = subst (λ x. FitsKey (row_of x values).key) (sym z.schema) is.short in
-    with_limited s stored (inserted (whole_entry (row_of s.schema values)) s.tree) all
-    (tree_separated (whole_entry (row_of s.schema values)) s.tree short keys here.separated)
-    (tree_low (whole_entry (row_of s.schema values)) s.tree (omega arith) here.low)
-
-change_limited : (name : List ℕ) (values : List Value) (stored : List Stored) (tables : List Table) → StandForTables stored tables → AllByRecursion FitsTable tables
-    → ((t : Table) → table_named name tables ≡ Some t → IsInsertable t values) → AreLimited stored → LimitedAfter (change_tree name (Insert name values) stored)
-change_limited name values [] [] zs fits is all = tt
-change_limited name values [] (t ∷ tables) zs fits is all = absurd zs
-change_limited name values (s ∷ stored) [] zs fits is all = absurd zs
-change_limited name values (s ∷ stored) (t ∷ tables) zs fits is all =
-    step (bytes_eq s.name name) (bytes_eq t.name name) (ap (λ n. bytes_eq n name) zs.0.name) is (λ f. change_limited name values stored tables zs.1 fits.1 f all.1)
+change_separated : (name : List ℕ) (values : List Value) (stored : List Stored) (tables : List Table) → StandForTables stored tables → AllByRecursion FitsTable tables
+    → ((t : Table) → table_named name tables ≡ Some t → IsInsertable t values) → AreSeparatedIn stored → SeparatedAfter (change_tree name (Insert name values) stored)
+change_separated name values [] [] zs fits is all = tt
+change_separated name values [] (t ∷ tables) zs fits is all = absurd zs
+change_separated name values (s ∷ stored) [] zs fits is all = absurd zs
+change_separated name values (s ∷ stored) (t ∷ tables) zs fits is all =
+    step (bytes_eq s.name name) (bytes_eq t.name name) (ap (λ n. bytes_eq n name) zs.0.name) is (λ f. change_separated name values stored tables zs.1 fits.1 f all.1)
   where
+    keys : AllByRecursion KeyFits (entries s.tree)
+    keys = subst (AllByRecursion KeyFits) (sym zs.0.stands.rows_are) (keys_fit t.rows fits.0.rows)
+
     step : (b c : Bool) → b ≡ c → ((u : Table) → cond c (Some t) (table_named name tables) ≡ Some u → IsInsertable u values)
-        → (((u : Table) → table_named name tables ≡ Some u → IsInsertable u values) → LimitedAfter (change_tree name (Insert name values) stored))
-        → LimitedAfter (cond b (with_tree s stored (inserted (whole_entry (row_of s.schema values)) s.tree)) (behind_stored s (change_tree name (Insert name values) stored)))
-    step true true e is rest = table_limited s t values zs.0 fits.0 (is t refl) all.0 stored all.1
+        → (((u : Table) → table_named name tables ≡ Some u → IsInsertable u values) → SeparatedAfter (change_tree name (Insert name values) stored))
+        → SeparatedAfter (cond b (with_tree s stored (inserted (whole_entry (row_of s.schema values)) s.tree)) (behind_stored s (change_tree name (Insert name values) stored)))
+    step true true e is rest =
+        with_separated s stored (inserted (whole_entry (row_of s.schema values)) s.tree) all.1
+        (tree_separated (whole_entry (row_of s.schema values)) s.tree (subst (λ z. FitsKey (row_of z values).key) (sym zs.0.schema) (is t refl).short) keys all.0)
     step true false e is rest = absurd (cc)
     step false true e is rest = absurd (cc)
-    step false false e is rest = behind_limited s (change_tree name (Insert name values) stored) all.0 (rest is)
+    step false false e is rest = behind_separated s (change_tree name (Insert name values) stored) all.0 (rest is)
 
-put_limited : (s : Stored) (stored : List Stored) → IsLimited s → AreLimited stored → AreLimited (put_stored s stored)
-put_limited s [] here all = (here, tt)
-put_limited s (r ∷ stored) here all = step (key_lt s.name r.name) (put_limited s stored here all.1)
+put_separated : (s : Stored) (stored : List Stored) → SeparatedIn s → AreSeparatedIn stored → AreSeparatedIn (put_stored s stored)
+put_separated s [] here all = (here, tt)
+put_separated s (r ∷ stored) here all = step (key_lt s.name r.name) (put_separated s stored here all.1)
   where
-    step : (b : Bool) → AreLimited (put_stored s stored) → AreLimited (cond b (s ∷ r ∷ stored) (r ∷ put_stored s stored))
+    step : (b : Bool) → AreSeparatedIn (put_stored s stored) → AreSeparatedIn (cond b (s ∷ r ∷ stored) (r ∷ put_stored s stored))
     step true rest = (here, all)
     step false rest = (all.0, rest)
 
-changed_limited : (c : Command) (stored : List Stored) (tables : List Table) → is_open_command c ≡ true → refusal c (map heading_of tables) ≡ None → StandForTables stored tables
-    → FitTables tables → AreLimited stored → LimitedAfter (changed_trees c stored)
-changed_limited (Create name columns key) stored tables o e zs good all = put_limited _ stored (record { separated = tt; low = tt }) all
-changed_limited (Drop name) stored tables o e zs good all = each_filter IsLimited (λ (s : Stored). not (bytes_eq s.name name)) stored all
-changed_limited (Insert name values) stored tables o e zs good all = change_limited name values stored tables zs good.each (insertable name values tables e) all
-changed_limited (Update name sets column value) stored tables o e zs good all = absurd (cc)
-changed_limited (Delete name column value) stored tables o e zs good all = absurd (cc)
+changed_separated : (c : Command) (stored : List Stored) (tables : List Table) → is_open_command c ≡ true → refusal c (map heading_of tables) ≡ None → StandForTables stored tables
+    → FitTables tables → AreSeparatedIn stored → SeparatedAfter (changed_trees c stored)
+changed_separated (Create name columns key) stored tables o e zs good all = put_separated _ stored tt all
+changed_separated (Drop name) stored tables o e zs good all = each_filter SeparatedIn (λ (s : Stored). not (bytes_eq s.name name)) stored all
+changed_separated (Insert name values) stored tables o e zs good all = change_separated name values stored tables zs good.each (insertable name values tables e) all
+changed_separated (Update name sets column value) stored tables o e zs good all = absurd (cc)
+changed_separated (Delete name column value) stored tables o e zs good all = absurd (cc)
 
-pub work_limited : (c : Command) (stored : List Stored) (tables : List Table) → is_open_command c ≡ true → StandForTables stored tables → FitTables tables → AreLimited stored
-    → LimitedAfter (work c stored)
+pub work_separated : (c : Command) (stored : List Stored) (tables : List Table) → is_open_command c ≡ true → StandForTables stored tables → FitTables tables → AreSeparatedIn stored
+    → SeparatedAfter (work c stored)
 unfolding work
-work_limited c stored tables o zs good all =
-    subst (λ hs. LimitedAfter (and_then (changed_trees c) (unless (refusal c hs) stored))) (sym (stored_headings stored tables zs)) (step (refusal c (map heading_of tables)) refl)
+work_separated c stored tables o zs good all =
+    subst (λ hs. SeparatedAfter (and_then (changed_trees c) (unless (refusal c hs) stored))) (sym (stored_headings stored tables zs)) (step (refusal c (map heading_of tables)) refl)
   where
-    step : (r : Option CommandFault) → refusal c (map heading_of tables) ≡ r → LimitedAfter (and_then (changed_trees c) (unless r stored))
-    step None e = changed_limited c stored tables o e zs good all
+    step : (r : Option CommandFault) → refusal c (map heading_of tables) ≡ r → SeparatedAfter (and_then (changed_trees c) (unless r stored))
+    step None e = changed_separated c stored tables o e zs good all
     step (Some fault) e = tt
 
-next_limited : (cs : List Command) (r : Result (List Stored) CommandFault) (s : Result (List Table) CommandFault) → InStep r s → FitAfter s → LimitedAfter r
-    → ((stored : List Stored) (tables : List Table) → StandForTables stored tables → FitTables tables → AreLimited stored → LimitedAfter (work_all cs stored))
-    → LimitedAfter (and_then (work_all cs) r)
-next_limited cs (Ok stored) (Ok tables) i good all next = next stored tables i good all
-next_limited cs (Ok stored) (Err fault) i good all next = absurd i
-next_limited cs (Err fault) s i good all next = tt
+next_separated : (cs : List Command) (r : Result (List Stored) CommandFault) (s : Result (List Table) CommandFault) → InStep r s → FitAfter s → SeparatedAfter r
+    → ((stored : List Stored) (tables : List Table) → StandForTables stored tables → FitTables tables → AreSeparatedIn stored → SeparatedAfter (work_all cs stored))
+    → SeparatedAfter (and_then (work_all cs) r)
+next_separated cs (Ok stored) (Ok tables) i good all next = next stored tables i good all
+next_separated cs (Ok stored) (Err fault) i good all next = absurd i
+next_separated cs (Err fault) s i good all next = tt
 
-pub batch_limited : (cs : List Command) (stored : List Stored) (tables : List Table) → list_all is_open_command cs ≡ true → AllByRecursion FitsCommand cs
-    → StandForTables stored tables → FitTables tables → AreLimited stored → LimitedAfter (work_all cs stored)
-batch_limited [] stored tables o fits zs good all = all
-batch_limited (c ∷ cs) stored tables o fits zs good all =
+pub batch_separated : (cs : List Command) (stored : List Stored) (tables : List Table) → list_all is_open_command cs ≡ true → AllByRecursion FitsCommand cs
+    → StandForTables stored tables → FitTables tables → AreSeparatedIn stored → SeparatedAfter (work_all cs stored)
+batch_separated [] stored tables o fits zs good all = all
+batch_separated (c ∷ cs) stored tables o fits zs good all =
     let open_both = and_parts (is_open_command c) (list_all is_open_command cs) o in
     let i = command_in_step c stored tables open_both.0 fits.0 zs good in
-    next_limited cs (work c stored) (apply c tables) i.0 i.1 (work_limited c stored tables open_both.0 zs good all)
-    (λ after others y g a. batch_limited cs after others open_both.1 fits.1 y g a)
+    next_separated cs (work c stored) (apply c tables) i.0 i.1 (work_separated c stored tables open_both.0 zs good all)
+    (λ after others y g a. batch_separated cs after others open_both.1 fits.1 y g a)
 
-all_limited : (batches : List (List Command)) (stored : List Stored) (tables : List Table) → AllByRecursion FitsBatch batches → AreOpen batches
-    → StandForTables stored tables → FitTables tables → AreLimited stored → AreLimited (fold after_work stored batches)
-all_limited [] stored tables fits o zs good all = all
-all_limited (batch ∷ batches) stored tables fits o zs good all =
-    next (work_all batch stored) (apply_batch batch tables) (batch_in_step 0 batch stored tables o.0 fits.0.each zs good) (batch_limited batch stored tables o.0 fits.0.each zs good all)
-    (λ after others y g a. all_limited batches after others fits.1 o.1 y g a)
+all_separated : (batches : List (List Command)) (stored : List Stored) (tables : List Table) → AllByRecursion FitsBatch batches → AreOpen batches
+    → StandForTables stored tables → FitTables tables → AreSeparatedIn stored → AreSeparatedIn (fold after_work stored batches)
+all_separated [] stored tables fits o zs good all = all
+all_separated (batch ∷ batches) stored tables fits o zs good all =
+    next (work_all batch stored) (apply_batch batch tables) (batch_in_step 0 batch stored tables o.0 fits.0.each zs good) (batch_separated batch stored tables o.0 fits.0.each zs good all)
+    (λ after others y g a. all_separated batches after others fits.1 o.1 y g a)
   where
-    next : (r : Result (List Stored) CommandFault) (s : Result (List Table) (ℕ × CommandFault)) → InStepFrom r s → LimitedAfter r
-        → ((after : List Stored) (others : List Table) → StandForTables after others → FitTables others → AreLimited after → AreLimited (fold after_work after batches))
-        → AreLimited (fold after_work (result_unwrap_or r stored) batches)
+    next : (r : Result (List Stored) CommandFault) (s : Result (List Table) (ℕ × CommandFault)) → InStepFrom r s → SeparatedAfter r
+        → ((after : List Stored) (others : List Table) → StandForTables after others → FitTables others → AreSeparatedIn after → AreSeparatedIn (fold after_work after batches))
+        → AreSeparatedIn (fold after_work (result_unwrap_or r stored) batches)
     next (Ok after) (Ok others) i a f = f after others i.0 i.1 a
     next (Ok after) (Err fault) i a f = absurd i
     next (Err fault) s i a f = f stored tables zs good all
 
-pub honest_limited : (batches : List (List Command)) → AllByRecursion FitsBatch batches → AreOpen batches → AllByRecursion IsLimited (honest_trees batches)
+pub honest_separated : (batches : List (List Command)) → AllByRecursion FitsBatch batches → AreOpen batches → AllByRecursion SeparatedIn (honest_trees batches)
 unfolding honest_trees
-honest_limited batches fits o = all_limited batches [] [] fits o tt (record { each = tt; rising = tt; count = omega arith }) tt
+honest_separated batches fits o = all_separated batches [] [] fits o tt (record { each = tt; rising = tt; count = omega arith }) tt
 
 -- Trees.
 
-pub each_tree_fits : (stored : List Stored) (tables : List Table) → StandForTables stored tables → AllByRecursion FitsTable tables → AreLimited stored
+pub each_tree_fits : (stored : List Stored) (tables : List Table) → StandForTables stored tables → AllByRecursion FitsTable tables → AreSeparatedIn stored
     → AllByRecursion (λ (s : Stored). FitsTree s.tree) stored
 each_tree_fits [] [] zs fits all = tt
 each_tree_fits [] (t ∷ tables) zs fits all = absurd zs
 each_tree_fits (s ∷ stored) [] zs fits all = absurd zs
 each_tree_fits (s ∷ stored) (t ∷ tables) zs fits all =
-    (whole_fits s.tree t.rows zs.0.stands all.0.separated (low_levels s.tree all.0.low) fits.0.rows, each_tree_fits stored tables zs.1 fits.1 all.1)
+    (whole_fits s.tree t.rows zs.0.stands all.0 fits.0.rows (omega (arith, fits.0.count)), each_tree_fits stored tables zs.1 fits.1 all.1)
 
 pub honest_trees_fit : (batches : List (List Command)) → AllByRecursion FitsBatch batches → AreOpen batches → AllByRecursion (λ (s : Stored). FitsTree s.tree) (honest_trees batches)
 honest_trees_fit batches fits o =
     let i = stands batches fits o in
-    each_tree_fits (honest_trees batches) (tables_after batches) i.0 i.1.each (honest_limited batches fits o)
+    each_tree_fits (honest_trees batches) (tables_after batches) i.0 i.1.each (honest_separated batches fits o)
 
 -- Catalogs.
 

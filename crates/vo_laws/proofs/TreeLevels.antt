@@ -1,4 +1,4 @@
--- Levels of trees: a whole tree of fewer than 2 ^ 32 rows has at most 11; and one of few levels is within the limits of a tree.
+-- Levels of trees: a whole tree of fewer than 2 ^ 32 rows has no more than a reader gives.
 use Rattle.std.proofs.Common.{◌≡◌, ℕ, zero, suc, ◌+◌, ◌-◌, ◌*◌, ◌^◌, ◌<◌, ◌≤◌, List, [], ◌∷◌, Option, Some, None, length, map, inl, inr, refl, sym, ap, ◌∙◌, subst, arith}
 use Rattle.std.specs.List.{AllByRecursion}
 use Rattle.std.proofs.lemmas.List.{length-append, length-map}
@@ -12,7 +12,7 @@ use Rattle.vo_spec.specs.Values.{FitsValue}
 use Rattle.vo_spec.specs.Cells.{whole_cells, whole_entry}
 use Rattle.vo_spec.specs.Parts.{stub, leaf, inner, none, more, count, entries, entries_in, levels, levels_in}
 use Rattle.vo_spec.specs.Trees.{RowTree, RowTrees, row_family}
-use Rattle.vo_spec.specs.Fits.{most_levels, FitsCell, FitsEntry, FitsRow, FitsTree}
+use Rattle.vo_spec.specs.Fits.{FitsCell, FitsEntry, FitsRow, FitsTree}
 use Rattle.vo_spec.specs.Inserts.{half}
 use Rattle.vo_spec.specs.Standing.{IsNode, AreNodes, fewest_in_root, StandsFor}
 use Rattle.vo_laws.proofs.TreeFits.{Separated, node_fits}
@@ -108,17 +108,13 @@ each_entry_fits : (rows : List Row) → AllByRecursion FitsRow rows → AllByRec
 each_entry_fits [] all = tt
 each_entry_fits (row ∷ rows) all = (entry_fits row all.0, each_entry_fits rows all.1)
 
--- A whole tree of fewer than 2 ^ 32 rows has at most 11 levels.
-pub whole_levels : (t : RowTree) (rows : List Row) → StandsFor t rows → length rows < 2 ^ 32 → levels t ≤ 11
-whole_levels t rows stands few =
+-- A whole tree of rows that fit, with separators that fit, is within the limits of a tree.
+pub whole_fits : (t : RowTree) (rows : List Row) → StandsFor t rows → Separated t → AllByRecursion FitsRow rows → length rows < 2 ^ 32 → FitsTree t
+whole_fits t rows stands separated fits few =
     let same : length (entries t) ≡ length rows = ap length stands.rows_are ∙ length-map rows whole_entry in
     let low : stands.tree.height ≤ 10 = root_low (fewest_in_root row_family t) stands.tree.height None None t (omega arith) stands.tree.shape (omega arith) in
-    omega (arith, node_levels (fewest_in_root row_family t) stands.tree.height None None t stands.tree.shape)
-
--- A whole tree of rows that fit, with separators that fit and with few levels, is within the limits of a tree.
-pub whole_fits : (t : RowTree) (rows : List Row) → StandsFor t rows → Separated t → levels t ≤ most_levels → AllByRecursion FitsRow rows → FitsTree t
-whole_fits t rows stands separated low fits = record {
-  nodes = node_fits (fewest_in_root row_family t) stands.tree.height None None t (omega arith) stands.tree.shape separated
-      (subst (AllByRecursion FitsEntry) (sym stands.rows_are) (each_entry_fits rows fits));
-  depth = low;
-}
+    record {
+      nodes = node_fits (fewest_in_root row_family t) stands.tree.height None None t (omega arith) stands.tree.shape separated
+          (subst (AllByRecursion FitsEntry) (sym stands.rows_are) (each_entry_fits rows fits));
+      depth = omega (arith, node_levels (fewest_in_root row_family t) stands.tree.height None None t stands.tree.shape);
+    }

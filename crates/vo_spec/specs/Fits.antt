@@ -12,7 +12,7 @@ use Rattle.vo_spec.specs.Tables.{most_key}
 use Rattle.vo_spec.specs.Parts.{Part, Parts, stub, leaf, inner, none, more, count, levels}
 use Rattle.vo_spec.specs.Trees.{RowTree}
 
--- how many cells a row has at most, entries or children a node has, and levels a tree that is read has: one, while a table's rows fit in one leaf
+-- how many cells a row has at most, entries or children a node has, and levels a tree that is read has
 abbrev pub most_cells : ℕ
 most_cells = 31
 
@@ -20,7 +20,7 @@ abbrev pub most_in_node : ℕ
 most_in_node = 16
 
 abbrev pub most_levels : ℕ
-most_levels = 1
+most_levels = 11
 
 abbrev pub FitsDigest : List ℕ → Type 0
 FitsDigest digest = length digest ≡ 32

@@ -23,7 +23,7 @@ abbrev pub most_tables : ℕ
 most_tables = 64
 
 abbrev pub most_rows : ℕ
-most_rows = 16
+most_rows = 4294967295
 
 abbrev pub most_key : ℕ
 most_key = 255

@@ -15,7 +15,7 @@ use Rattle.vo_spec.specs.Honest.{Stored, catalog_of, honest_trees, honest_reply,
 use Rattle.vo_laws.proofs.EntryLaws.{all_fit, are_open}
 use Rattle.vo_laws.proofs.ReplyFits.{reply_fits}
 use Rattle.vo_laws.proofs.StandingLaws.{stands}
-use Rattle.vo_laws.proofs.StoredFits.{honest_limited}
+use Rattle.vo_laws.proofs.StoredFits.{honest_separated}
 use Rattle.stored_tables.specs.Standing.{IsStanding}
 use Rattle.vo_store.specs.Proving.{proofs_of}
 use Rattle.vo_store.specs.Taking.{IsTaken}
@@ -48,7 +48,7 @@ module _ (es : List Entry) (stored : List Stored) (taken : IsTaken es stored) wh
   taken_standing =
       let fits = all_fit es taken.fit in
       let s = stands batches fits taken.written in
-      subst IsStanding (sym taken.trees_are) (record { tables = tables_after batches; stand = s.0; fit = s.1; limited = honest_limited batches fits taken.written })
+      subst IsStanding (sym taken.trees_are) (record { tables = tables_after batches; stand = s.0; fit = s.1; separated = honest_separated batches fits taken.written })
 
   module _ (q : Query) (e : Entry) (found : slice_get es (length es - 1) ≡ Some e) where
     pub honest : honest_reply q e.rec e.signature stored ≡ record { rec = e.rec; signature = e.signature; catalog = catalog_of stored; trees = proofs_of q stored }

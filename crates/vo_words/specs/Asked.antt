@@ -5,13 +5,14 @@ use Rattle.std.specs.Str.{bytes_eq}
 use Rattle.clap.specs.Words.{Row, Text, first_of, fault_of, subcommand_of}
 use Rattle.clap.specs.Kinds.{Kinds}
 use Rattle.vo_words.specs.Commands.{program_app}
+use Rattle.vo_words.specs.Numbers.{written_number}
 
 -- a command and its words, files by their names
 pub data Asked : Type 0 where
   Keygen : (seed : Text) (height : ℕ) → Asked
   Seal : (seed script : Text) (height : ℕ) → Asked
   Answer : (key journal query : Text) → Asked
-  Check : (key query reply : Text) → Asked
+  Check : (key query reply : Text) (least : ℕ) → Asked
   Audit : (key journal query reply : Text) → Asked
 
 -- a height is 5 or 10, in digits
@@ -23,6 +24,10 @@ height_number text =
 -- 5 where none is given
 abbrev pub given_height : List Row → Option ℕ
 given_height rows = option_map_or height_number (first_of (codes "height") rows) (Some 5)
+
+-- a version is written in digits, and 0 where none is given
+abbrev pub given_least : List Row → Option ℕ
+given_least rows = option_map_or written_number (first_of (codes "least") rows) (Some 0)
 
 -- the rest, with the word of that name
 abbrev pub with_word : Text → List Row → (Text → Option Asked) → Option Asked
@@ -41,7 +46,7 @@ answer_asked rows = with_word (codes "key") rows (λ key. with_word (codes "jour
 
 abbrev pub check_asked : List Row → Option Asked
 check_asked rows = with_word (codes "key") rows (λ key. with_word (codes "query") rows (λ query.
-    with_word (codes "reply") rows (λ reply. Some (Check key query reply))))
+    with_word (codes "reply") rows (λ reply. option_map (Check key query reply) (given_least rows))))
 
 abbrev pub audit_asked : List Row → Option Asked
 audit_asked rows = with_word (codes "key") rows (λ key. with_word (codes "journal") rows (λ journal.

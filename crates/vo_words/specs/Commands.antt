@@ -27,7 +27,7 @@ answer_app = command_of (codes "answer")
 
 abbrev pub check_app : App
 check_app = command_of (codes "check")
-    (word_rule (codes "key") ∷ word_rule (codes "query") ∷ word_rule (codes "reply") ∷ [])
+    (word_rule (codes "key") ∷ word_rule (codes "query") ∷ word_rule (codes "reply") ∷ option_rule (codes "least") ∷ [])
 
 abbrev pub audit_app : App
 audit_app = command_of (codes "audit")

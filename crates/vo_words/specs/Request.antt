@@ -9,5 +9,5 @@ abbrev pub asked : Request → Asked
 asked (Keygen seed height) = is.Keygen seed.now (number_of height)
 asked (Seal seed script height) = is.Seal seed.now script.now (number_of height)
 asked (Answer key journal query) = is.Answer key.now journal.now query.now
-asked (Check key query reply) = is.Check key.now query.now reply.now
+asked (Check key query reply least) = is.Check key.now query.now reply.now least
 asked (Audit key journal query reply) = is.Audit key.now journal.now query.now reply.now

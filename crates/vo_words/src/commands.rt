@@ -74,7 +74,8 @@ fn check<'a>(alloc: Global) -> Result<Command<'a>, AllocError>
     let command = Command::new(alloc, "check");
     let command = add_word(alloc, command, "key")?;
     let command = add_word(alloc, command, "query")?;
-    add_word(alloc, command, "reply")
+    let command = add_word(alloc, command, "reply")?;
+    add_option(alloc, command, "least")
 }
 
 fn audit<'a>(alloc: Global) -> Result<Command<'a>, AllocError>

@@ -5,6 +5,7 @@
 #![tactic(auto)]
 
 mod commands;
+mod numbers;
 mod read;
 mod request;
 #[cfg(test)]

@@ -1,11 +1,12 @@
 //! The words, read by the commands.
 ghost use Rattle.std.specs.Prelude.{◌≡◌, map, option_map, string_bytes, IfOk, IsTrue, ◌↔◌};
 ghost use Rattle.clap.specs.Words.{kind_of, found_of, rows_of, first_of, subcommand_rows_of};
-ghost use Rattle.vo_words.specs.Asked.{asked_by, asked_in, keygen_asked, seal_asked, answer_asked, check_asked, audit_asked, given_height, height_number};
+ghost use Rattle.vo_words.specs.Asked.{asked_by, asked_in, keygen_asked, seal_asked, answer_asked, check_asked, audit_asked, given_height, given_least, height_number};
 ghost use Rattle.vo_words.specs.Height.{number_of};
 ghost use Rattle.vo_words.specs.Request.{asked};
 
 use crate::commands::program;
+use crate::numbers::number_in;
 use crate::request::{Height, Request};
 use clap::error::ErrorKind;
 use clap::{ArgMatches, Error};
@@ -93,7 +94,13 @@ fn check_request<'a>(used: &ArgMatches<'a>) -> Option<Request<'a>>
     let key = text_of(used, "key")?;
     let query = text_of(used, "query")?;
     let reply = text_of(used, "reply")?;
-    Some(Request::Check { key, query, reply })
+    let least = least_of(used)?;
+    Some(Request::Check {
+        key,
+        query,
+        reply,
+        least,
+    })
 }
 
 fn audit_request<'a>(used: &ArgMatches<'a>) -> Option<Request<'a>>
@@ -124,6 +131,15 @@ fn height_of(used: &ArgMatches<'_>) -> Option<Height>
     match text_of(used, "height") {
         None => Some(Height::Five),
         Some(text) => height_in(text),
+    }
+}
+
+fn least_of(used: &ArgMatches<'_>) -> Option<u64>
+    ensures { result ≡ given_least (rows_of (found_of used.now)) }
+{
+    match text_of(used, "least") {
+        None => Some(0),
+        Some(text) => number_in(text),
     }
 }
 

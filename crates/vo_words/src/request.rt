@@ -38,10 +38,12 @@ pub enum Request<'a> {
         journal: &'a str,
         query: &'a str,
     },
+    /// The client accepts no version below `least`.
     Check {
         key: &'a str,
         query: &'a str,
         reply: &'a str,
+        least: u64,
     },
     Audit {
         key: &'a str,

@@ -3,7 +3,7 @@ use crate::{Height, Request, read_words};
 use std::alloc::{AllocError, Global};
 use std::test::Fail;
 
-static CASES: [(&str, &str); 51] = [
+static CASES: [(&str, &str); 65] = [
     ("vo_cli", "None"),
     ("vo_cli|keygen", "None"),
     (
@@ -68,9 +68,32 @@ static CASES: [(&str, &str); 51] = [
     ("vo_cli|answer|p|j|q|--at|1", "None"),
     (
         "vo_cli|check|p|q|r",
-        "Some(Check { key: \"p\", query: \"q\", reply: \"r\" })",
+        "Some(Check { key: \"p\", query: \"q\", reply: \"r\", least: 0 })",
     ),
-    ("vo_cli|check|p|q|r|--least|1", "None"),
+    (
+        "vo_cli|check|p|q|r|--least|1",
+        "Some(Check { key: \"p\", query: \"q\", reply: \"r\", least: 1 })",
+    ),
+    (
+        "vo_cli|check|--least=0|p|q|r",
+        "Some(Check { key: \"p\", query: \"q\", reply: \"r\", least: 0 })",
+    ),
+    (
+        "vo_cli|check|p|--least|18446744073709551615|q|r",
+        "Some(Check { key: \"p\", query: \"q\", reply: \"r\", least: 18446744073709551615 })",
+    ),
+    ("vo_cli|check|p|q|r|--least|18446744073709551616", "None"),
+    ("vo_cli|check|p|q|r|--least|100000000000000000000", "None"),
+    ("vo_cli|check|p|q|r|--least|01", "None"),
+    ("vo_cli|check|p|q|r|--least|00", "None"),
+    ("vo_cli|check|p|q|r|--least|+1", "None"),
+    ("vo_cli|check|p|q|r|--least|-1", "None"),
+    ("vo_cli|check|p|q|r|--least|1a", "None"),
+    ("vo_cli|check|p|q|r|--least=", "None"),
+    ("vo_cli|check|p|q|r|--least", "None"),
+    ("vo_cli|check|p|q|r|--least|1|--least|1", "None"),
+    ("vo_cli|answer|p|j|q|--least|1", "None"),
+    ("vo_cli|audit|p|j|q|r|--least|1", "None"),
     ("vo_cli|check|p|q|r|--height|5", "None"),
     (
         "vo_cli|audit|p|j|q|r",

@@ -68,6 +68,24 @@ fn are_refused(rt: HostRuntime) -> Result<(), Fail> {
     Ok(())
 }
 
+// The least version that the client takes, and what it says of version 3.
+static LEASTS: [(u64, u8, &str); 3] = [
+    (0, 0, "version 3\nid,name\n1,'ann'\n3,'bob'\n"),
+    (3, 0, "version 3\nid,name\n1,'ann'\n3,'bob'\n"),
+    (4, 1, "refused: stale 4 3\n"),
+];
+
+#[test]
+fn are_not_older_than_the_client_takes(rt: HostRuntime) -> Result<(), Fail> {
+    let alloc = rt.alloc();
+    let folder = Folder::answered(alloc)?;
+    for (least, status, text) in LEASTS {
+        let line = format!(in alloc; "vo_cli|check|key|SELECT * FROM t|reply|--least|{least}")?;
+        folder.says(&rt, alloc, &line, status, text)?;
+    }
+    Ok(())
+}
+
 #[test]
 fn answer_one_query(rt: HostRuntime) -> Result<(), Fail> {
     let alloc = rt.alloc();

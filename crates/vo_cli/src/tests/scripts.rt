@@ -54,22 +54,31 @@ static REFUSED_COMMANDS: [(&str, &str); 11] = [
 ];
 
 // Bytes that are no script.
-static NO_SCRIPTS: [(&[u8], &str); 7] = [
+static NO_SCRIPTS: [(&[u8], &str); 9] = [
     (b"CREATE TABLE t\xff", "refused: not text\n"),
     (b"\xc3", "refused: not text\n"),
     (b"COMMIT;", "refused: sql syntax 0\n"),
     (b"SELECT * FROM t", "refused: sql syntax 0\n"),
-    // what the program doesn't take so far
+    // no COMMIT, no token, a number of more than 64 bits, a long name
     (
         b"CREATE TABLE t (id BIGINT, PRIMARY KEY (id));",
-        "refused: sql syntax 0\n",
-    ),
-    (
-        b"CREATE TABLE t (id BIGINT, PRIMARY KEY (id)); COMMIT; DROP TABLE t; COMMIT;",
-        "refused: sql syntax 0\n",
+        "refused: sql syntax 45\n",
     ),
     (
         b"CREATE TABLE t (id BIGINT, PRIMARY KEY (id)); COMMIT; #",
+        "refused: sql token 54\n",
+    ),
+    (
+        b"CREATE TABLE t (id BIGINT, PRIMARY KEY (id)); COMMIT; INSERT INTO t VALUES (9223372036854775808); COMMIT;",
+        "refused: sql literal 76\n",
+    ),
+    (
+        b"INSERT INTO nnnnnnnnnnnnnnnnnnnnnnnnnnnnnnnnnnnnnnnnnnnnnnnnnnnnnnnnnnnnnnnn VALUES (1); COMMIT;",
+        "refused: sql name\n",
+    ),
+    // what the program doesn't take so far
+    (
+        b"CREATE TABLE t (id BIGINT, PRIMARY KEY (id)); COMMIT; DROP TABLE t; COMMIT;",
         "refused: sql syntax 0\n",
     ),
 ];

@@ -1,7 +1,8 @@
 use Rattle.std.specs.Prelude.{Vec}
 use Rattle.std.specs.Global.{Global}
 use Rattle.vo_spec.specs.declared.tables.Batch.{Batch}
-use Rattle.vo_cli.specs.Texts.{IsScriptText}
+use Rattle.std.proofs.Common.{refl, inl}
+use Rattle.vo_cli.specs.Texts.{IsScriptText, IsRefusedScript}
 use Rattle.vo_cli.proofs.TextSteps.{not_accepted, not_read, script_read}
 use Rattle.vo_cli.proofs.texts.batches_in.Goals as goal
 
@@ -11,6 +12,6 @@ returns-in-Ok-clause-told c =
 
 pub returns-in_ok-stop_by-in-Err-clause-told : goal.returns-in_ok-stop_by-in-Err-clause-told
 returns-in_ok-stop_by-in-Err-clause-told c =
-    not_read (λ (v : Vec Batch Global). v.items) (IsScriptText c.args.text.now) c.in-Err.fault c.in_ok-stop_by-in-Err.field-0
+    not_read (λ (v : Vec Batch Global). v.items) (IsScriptText c.args.text.now) (IsRefusedScript c.args.text.now) c.in-Err.fault c.in_ok-stop_by-in-Err.field-0
     (λ e batches script. not_accepted (λ (v : Vec Batch Global). v.items) c.in-Err.fault script.0 e (c.in-Err.ensures.only script.0 script.1))
-    c.in_ok-stop_by-in-Err.ensures
+    (λ e. inl (c.in-Err.fault, e, c.in-Err.ensures.found, refl)) c.in_ok-stop_by-in-Err.ensures

@@ -1,0 +1,93 @@
+"""What the work on tables and keys takes in blocks of SHA-256, and what a run of a program takes in instructions."""
+import hashlib
+import os
+import re
+import subprocess
+import tempfile
+
+TOP = os.path.dirname(os.path.dirname(os.path.abspath(__file__)))
+SEED = os.path.join(TOP, "examples/seed")
+PROGRAM = os.path.join(TOP, "crates/vo_cli/out/vo_cli")
+CHAINS = 34  # of a one-time key of 8-bit digits
+
+
+def blocks(length):
+    """How many blocks of SHA-256 a string of so many bytes takes."""
+    return (length + 8) // 64 + 1
+
+
+ONE_TIME_KEY = CHAINS * 256 + blocks(22 + 32 * CHAINS)  # seeds and chains, and the key
+LEAF, INNER = blocks(22 + 32), blocks(22 + 64)
+
+
+def key_blocks(height):
+    """A whole tree of one-time keys."""
+    leaves = 2 ** height
+    return leaves * (ONE_TIME_KEY + LEAF) + (leaves - 1) * INNER
+
+
+def digits(identifier, signature, record):
+    """The digits that a one-time signature signs, those of the checksum last."""
+    q, c = signature[0:4], signature[8:40]
+    hashed = hashlib.sha256(identifier + q + b"\x81\x81" + c + record).digest()
+    checksum = sum(255 - digit for digit in hashed)
+    return list(hashed) + [checksum >> 8, checksum & 255]
+
+
+def sign_blocks(identifier, signature, record):
+    """The randomizer, the message, and each chain from its seed to its digit."""
+    return 1 + blocks(54 + len(record)) + sum(1 + d for d in digits(identifier, signature, record))
+
+
+def verify_blocks(identifier, signature, record, height=5):
+    """The message, each chain from its digit to its end, the candidate key, and the path."""
+    chains = sum(255 - d for d in digits(identifier, signature, record))
+    return blocks(54 + len(record)) + chains + blocks(22 + 32 * CHAINS) + LEAF + height * INNER
+
+
+def row_blocks(cells):
+    """Each cell of up to 50 bytes, and the row."""
+    return cells + blocks(2 + 32 * cells)
+
+
+def leaf_blocks(rows):
+    """A leaf of rows with keys of 8 bytes."""
+    return blocks(2 + 42 * rows)
+
+
+def split_entry(entry):
+    """An entry's batch, record and signature."""
+    at = 4
+    batch = int.from_bytes(entry[at:at + 4], "big")
+    at += 4 + batch
+    proofs = int.from_bytes(entry[at:at + 4], "big")
+    at += 4 + proofs
+    return entry[at:at + 60], entry[at + 64:]
+
+
+def journal_entries(journal):
+    entries, at = [], 0
+    while journal[at] == 1:
+        length = int.from_bytes(journal[at + 1:at + 5], "big")
+        entries.append(journal[at + 5:at + 5 + length])
+        at += 5 + length
+    return entries
+
+
+def instructions(words, given=b""):
+    """All instructions of a run, with this for its input."""
+    with tempfile.NamedTemporaryFile() as counts:
+        subprocess.run(["valgrind", "--tool=callgrind", f"--callgrind-out-file={counts.name}", *words],
+                       input=given, stdout=subprocess.DEVNULL, stderr=subprocess.DEVNULL, check=True)
+        text = open(counts.name, encoding="utf-8", errors="replace").read()
+    return int(re.search(r"^(?:summary|totals): (\d+)", text, re.M).group(1))
+
+
+def per_block(program):
+    """Instructions of one block, all of key making by its blocks."""
+    return instructions([program, "keygen", SEED]) / key_blocks(5)
+
+
+def report(name, total, needed, block):
+    print(f"{name}: {total:,} instructions, {needed:,} blocks needed, "
+          f"{total / (needed * block):.2f} times their cost")

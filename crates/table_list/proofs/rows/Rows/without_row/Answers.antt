@@ -1,0 +1,22 @@
+use Rattle.std.specs.Prelude.{Some}
+use Rattle.vo_spec.specs.Tables.{without_row}
+use Rattle.table_list.specs.Chunks.{chunks_in, joined}
+use Rattle.table_list.proofs.SpotEdits.{nowhere, one_less}
+use Rattle.table_list.proofs.rows.Rows.without_row.Goals as goal
+
+pub returns-then-not-spot : goal.returns-then-not-spot
+returns-then-not-spot c =
+    let spot = c.spot_of-spot in
+    nowhere c.args.key.now spot.result.found (chunks_in c.as_chunks-chunks.result.now) spot.result.chunk spot.result.at c.args.self.now (Some (without_row c.args.key.now c.args.self.now)) c.as_chunks-chunks.ensures.value spot.ensures.spot c.if-not-spot.true
+
+pub returns : goal.returns
+returns c =
+    let spot = c.spot_of-spot in
+    (one_less c.args.key.now spot.result.found (chunks_in c.as_chunks-chunks.result.now) spot.result.chunk spot.result.at c.len.result c.args.self.now (joined (chunks_in c.in_ok-replaced.field-0.items))
+    c.as_chunks-chunks.ensures.value c.as_chunks-chunks.ensures.rises c.len.ensures spot.ensures.spot c.if-not-spot.false c.in_ok-replaced.ensures).0
+
+pub invariant_of-result : goal.invariant_of-result
+invariant_of-result c =
+    let spot = c.spot_of-spot in
+    (one_less c.args.key.now spot.result.found (chunks_in c.as_chunks-chunks.result.now) spot.result.chunk spot.result.at c.len.result c.args.self.now (joined (chunks_in c.in_ok-replaced.field-0.items))
+    c.as_chunks-chunks.ensures.value c.as_chunks-chunks.ensures.rises c.len.ensures spot.ensures.spot c.if-not-spot.false c.in_ok-replaced.ensures).1
