@@ -81,9 +81,10 @@ ready name values stored at s standing fits e is =
     let plain = plain_at name stored at s standing is in
     let allowed : refusal (Insert name values) (map heading_of standing.tables) ≡ None =
     ap (refusal (Insert name values)) (sym (stored_headings stored standing.tables standing.stand)) ∙ e in
-    let row : FitsRow (row_of plain.table.schema values) = row_fits plain.table values plain.fits.schema fits.1 (insertable name values standing.tables allowed plain.table plain.found) in
+    let insertion = insertable name values standing.tables allowed plain.table plain.found in
+    let row : FitsRow (row_of plain.table.schema values) = row_fits plain.table values plain.fits.schema fits.1 insertion in
     let same : length (entries s.tree) ≡ length plain.table.rows = ap length plain.stands.stands.rows_are ∙ length-map plain.table.rows whole_entry in
-    let few : length plain.table.rows ≤ 16 = plain.fits.count in
+    let few : length plain.table.rows < 2 ^ 32 - 1 = insertion.room in
     record { fits = subst (λ (z : Schema). FitsRow (row_of z values)) (sym plain.stands.schema) row; room = omega arith }
 
 -- what a call gives of a command goes on to stand
