@@ -20,7 +20,7 @@ use Rattle.vo_spec.specs.Fits.{FitsPart, FitsKey, most_in_node}
 use Rattle.mb_tree.specs.declared.branches.Node.{Node}
 use Rattle.mb_tree.specs.declared.branches.Node.TheVariants.{Inner}
 use Rattle.mb_tree.specs.Whole.{value_of, whole_of}
-use Rattle.mb_update.specs.Changing.{Grows}
+use Rattle.mb_update.specs.Changing.{ChangesTo, Grows}
 use Rattle.mb_update.specs.Placing.{placed, children_of}
 use Rattle.mb_update.proofs.KeyLists.{Keys}
 
@@ -144,6 +144,12 @@ fault_on DuplicateKey r s h on = on DuplicateKey h
 fault_on NoRow r s h on = on NoRow h
 fault_on Missing r s h on = on Missing h
 fault_on Memory r s h on = tt
+
+pub fault_to : {A B : Type 0} (seen : A → B) (fault : UpdateFault) (r s : Result B UpdateFault) → ChangesTo seen (Err fault) r → ((f : UpdateFault) → r ≡ Err f → s ≡ Err f) → ChangesTo seen (Err fault) s
+fault_to seen DuplicateKey r s h on = on DuplicateKey h
+fault_to seen NoRow r s h on = on NoRow h
+fault_to seen Missing r s h on = on Missing h
+fault_to seen Memory r s h on = tt
 
 -- What an inner node of a whole tree keeps to.
 pub record Limits (t : RowTree) (ks : Keys) (ts : List RowTree) : Type 0 where

@@ -1,3 +1,4 @@
 pub mod Changing
 pub mod Placing
 pub mod Closing
+pub mod Proving

@@ -19,7 +19,11 @@ use vo_spec::{Key, UpdateFault};
 /// What comes in the branch's place with the entry in it.
 #[tactic(auto, using(mb_tree::proofs::BranchLaws::count_open_parts))]
 #[cycle(grow)]
-pub fn grow(alloc: Global, branch: &Branch, entry: &TreeEntry) -> Result<Grown, UpdateFault>
+pub fn grow(
+    alloc: Global,
+    branch: &Branch,
+    entry: &TreeEntry,
+) -> Result<Grown<Branch, Rc<Key>>, UpdateFault>
     ensures { Grows result (grow_tree row_family (whole_entry entry.now) branch.now) }
 {
     match branch.node() {
@@ -37,7 +41,7 @@ fn grow_inner(
     separators: &[Rc<Key>],
     children: &[Branch],
     entry: &TreeEntry,
-) -> Result<Grown, UpdateFault>
+) -> Result<Grown<Branch, Rc<Key>>, UpdateFault>
     requires least { 2 ≤ length children.now }
     requires most { length children.now ≤ most_in_node }
     requires between { length separators.now + 1 ≡ length children.now }

@@ -20,7 +20,7 @@ pub fn grow_leaf(
     alloc: Global,
     entries: &[TreeEntry],
     entry: &TreeEntry,
-) -> Result<Grown, UpdateFault>
+) -> Result<Grown<Branch, Rc<Key>>, UpdateFault>
     requires { length entries.now ≤ most_in_node }
     ensures { Grows result (grow row_family (whole_entry entry.now) (leaf (map whole_entry entries.now))) }
 {
@@ -80,7 +80,7 @@ fn with_entry(
     Ok(all)
 }
 
-fn split_leaf(alloc: Global, entries: Vec<TreeEntry>) -> Result<Grown, AllocError>
+fn split_leaf(alloc: Global, entries: Vec<TreeEntry>) -> Result<Grown<Branch, Rc<Key>>, AllocError>
     requires { length entries.items ≤ most_in_node + 1 }
     ensures { IfOk result (λ grown. IsGrown grown (split row_family (map whole_entry entries.items))) }
 {

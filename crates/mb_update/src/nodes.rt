@@ -38,8 +38,8 @@ pub fn put_grown(
     separators: &[Rc<Key>],
     children: &[Branch],
     place: usize,
-    grown: Grown,
-) -> Result<Grown, AllocError>
+    grown: Grown<Branch, Rc<Key>>,
+) -> Result<Grown<Branch, Rc<Key>>, AllocError>
     requires at { place < length children.now }
     requires least { 2 ≤ length children.now }
     requires most { length children.now ≤ most_in_node }
@@ -134,7 +134,7 @@ fn split_inner(
     alloc: Global,
     separators: Vec<Rc<Key>>,
     children: Vec<Branch>,
-) -> Result<Grown, AllocError>
+) -> Result<Grown<Branch, Rc<Key>>, AllocError>
     requires least { 2 ≤ length children.items }
     requires most { length children.items ≤ most_in_node + 1 }
     requires between { length separators.items + 1 ≡ length children.items }
