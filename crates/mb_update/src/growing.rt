@@ -10,7 +10,8 @@ ghost use Rattle.mb_update.specs.Changing.{Grows};
 
 use crate::grown::Grown;
 use crate::leaves::grow_leaf;
-use crate::nodes::{child_for, put_grown};
+use crate::nodes::put_grown;
+use crate::places::place_for;
 use mb_tree::{Branch, Node, TreeEntry};
 use std::alloc::Global;
 use std::rc::Rc;
@@ -48,7 +49,7 @@ fn grow_inner(
     requires keys { All FitsKey (map value_of separators.now) }
     ensures { Grows result (grow_tree row_family (whole_entry entry.now) (inner (map value_of separators.now) (open_parts children.now))) }
 {
-    let place = child_for(separators, entry.key().as_bytes());
+    let place = place_for(separators, entry.key().as_bytes());
     match grow(alloc, &children[place], entry) {
         Ok(grown) => Ok(put_grown(alloc, separators, children, place, grown)?),
         Err(fault) => Err(fault),

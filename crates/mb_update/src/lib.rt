@@ -4,6 +4,7 @@
 mod copying;
 mod growing;
 mod grown;
+mod halving;
 mod inserting;
 mod judging;
 mod leaves;

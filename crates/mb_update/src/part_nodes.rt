@@ -9,6 +9,7 @@ ghost use Rattle.mb_update.specs.Changing.{grown_part};
 ghost use Rattle.mb_update.specs.Placing.{placed, children_of};
 
 use crate::grown::Grown;
+use crate::halving::halve;
 use crate::splicing::{all_again, spliced};
 use mb_tree::{Nodes, PartTree};
 use std::alloc::{AllocError, Global};
@@ -54,14 +55,10 @@ fn split_inner<'b>(
     if children.len() <= 16 {
         return Ok(Grown::One(inner_of(separators, children)));
     }
-    let mut left = children;
-    let right = left.split_off(8)?;
-    let mut before = separators;
-    let after = before.split_off(8)?;
-    match before.pop() {
-        Some(key) => Ok(Grown::Two(inner_of(before, left), key, inner_of(after, right))),
-        None => unreachable!(),
-    }
+    let halves = halve(separators, children)?;
+    let left = inner_of(halves.before, halves.left);
+    let right = inner_of(halves.after, halves.right);
+    Ok(Grown::Two(left, halves.key, right))
 }
 
 fn inner_of<'b>(separators: Vec<KeyPart<'b>>, children: Vec<PartTree<'b>>) -> PartTree<'b>

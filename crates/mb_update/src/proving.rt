@@ -9,8 +9,8 @@ ghost use Rattle.mb_tree.specs.View.{part_of};
 ghost use Rattle.mb_update.specs.Closing.{closed_tree};
 ghost use Rattle.mb_update.specs.Proving.{update_proof};
 
-use crate::nodes::child_for;
 use crate::ops::Op;
+use crate::places::place_for;
 use mb_tree::{Branch, Node, Nodes, PartTree, Tree, TreeEntry, lend_keys};
 use std::alloc::{AllocError, Global};
 use std::rc::Rc;
@@ -68,7 +68,7 @@ fn open_child<'b>(
     ensures { IfOk result (λ parts. parts
         ≡ pruned_in (walk_to key.now) row_family true None (map value_of separators.now) (open_parts children.now)) }
 {
-    let place = child_for(separators, key);
+    let place = place_for(separators, key);
     let mut parts = Vec::with_capacity(alloc, children.len())?;
     close_branches(&children[..place], &mut parts)?;
     parts.push(open_to(alloc, &children[place], key)?)?;
