@@ -5,3 +5,5 @@ pub mod OpenPaths
 pub mod JudgedPaths
 pub mod KeyPlaces
 pub mod PartNodes
+pub mod PrunedInserts
+pub mod GrownFits

@@ -1,6 +1,7 @@
 //! Changes of trees.
 #![tactic(auto)]
 
+mod agreeing;
 mod copying;
 mod growing;
 mod grown;
@@ -20,6 +21,7 @@ mod sharing;
 mod splicing;
 mod updates;
 
+pub use agreeing::insertions_agree;
 pub use judging::is_update_proof;
 pub use ops::Op;
 pub use proving::{insert_proof, prune_update};

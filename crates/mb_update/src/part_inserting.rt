@@ -1,10 +1,11 @@
 //! Insertion into a part of a tree.
 ghost use Rattle.std.specs.Prelude.{◌≡◌, IfOk};
+ghost use Rattle.vo_spec.specs.Cells.{whole_entry};
 ghost use Rattle.vo_spec.specs.Trees.{row_family};
-ghost use Rattle.vo_spec.specs.Fits.{FitsPart};
-ghost use Rattle.vo_spec.specs.Inserts.{root_of as root_of_grown};
+ghost use Rattle.vo_spec.specs.Fits.{FitsPart, FitsRow};
+ghost use Rattle.vo_spec.specs.Inserts.{inserted, root_of as root_of_grown};
 ghost use Rattle.mb_tree.specs.View.{part_of};
-ghost use Rattle.mb_update.specs.Changing.{grown_part};
+ghost use Rattle.mb_update.specs.Changing.{ChangesTo, grown_part};
 
 use crate::grown::Grown;
 use crate::part_growing::grow;
@@ -23,7 +24,12 @@ impl<'b> Updates for PartTree<'b> {
     ghost CanInsert = { λ tree. FitsPart (part_of tree) };
 
     /// The new tree is a copy, and shows every cell of the row.
-    fn insert(&self, alloc: Global, row: &Row) -> Result<PartTree<'b>, UpdateFault> {
+    fn insert(&self, alloc: Global, row: &Row) -> Result<PartTree<'b>, UpdateFault>
+        requires fits { FitsRow row.now }
+        requires room { FitsPart (part_of self.now) }
+        ensures change { ChangesTo part_of result (inserted (whole_entry row.now) (part_of self.now)) }
+        ensures within { IfOk result (λ change. FitsPart (part_of change)) }
+    {
         match grow(alloc, self, row) {
             Ok(grown) => Ok(root_of(alloc, grown)?),
             Err(fault) => Err(fault),
