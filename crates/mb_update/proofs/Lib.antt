@@ -2,3 +2,8 @@ pub mod KeyLists
 pub mod Putting
 pub mod Splitting
 pub mod OpenPaths
+pub mod JudgedPaths
+pub mod KeyPlaces
+pub mod PartNodes
+pub mod PrunedInserts
+pub mod GrownFits

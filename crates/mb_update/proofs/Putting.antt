@@ -82,11 +82,11 @@ pub record Mapped {A B : Type 0} (f : A → B) (r : Result A UpdateFault) (b : B
   pub ok : r ≡ Ok value
   pub made : b ≡ f value
 
-mapped : {A B : Type 0} (f : A → B) (r : Result A UpdateFault) (b : B) → result_map f r ≡ Ok b → Mapped f r b
+pub mapped : {A B : Type 0} (f : A → B) (r : Result A UpdateFault) (b : B) → result_map f r ≡ Ok b → Mapped f r b
 mapped f (Ok a) b h = record { value = a; ok = refl; made = cc }
 mapped f (Err fault) b h = absurd (cc)
 
-chosen : {A R : Type 0} (b : Bool) (x y : Result A UpdateFault) (a : A) → cond b x y ≡ Ok a → (x ≡ Ok a → R) → (y ≡ Ok a → R) → R
+pub chosen : {A R : Type 0} (b : Bool) (x y : Result A UpdateFault) (a : A) → cond b x y ≡ Ok a → (x ≡ Ok a → R) → (y ≡ Ok a → R) → R
 chosen true x y a h f g = f h
 chosen false x y a h f g = g h
 

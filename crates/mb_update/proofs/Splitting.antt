@@ -1,6 +1,6 @@
 -- Nodes that grow, by lists of their children.
-use Rattle.std.proofs.Common.{◌≡◌, ℕ, zero, suc, ◌+◌, ◌<◌, ◌≤◌, Bool, true, false, cond, not, nat_le, List, [], ◌∷◌, ◌++◌, length, map, take, drop, get_or, Result, Ok, Err, refl, sym, ap, ◌∙◌, subst, arith, add-one, All}
-use Rattle.std.proofs.lemmas.List.{take-map, drop-map, length-map, get_or-map, drop_more}
+use Rattle.std.proofs.Common.{◌≡◌, ℕ, zero, suc, ◌+◌, ◌<◌, ◌≤◌, Bool, true, false, cond, not, nat_le, List, [], ◌∷◌, ◌++◌, length, map, take, drop, get_or, Result, Ok, Err, refl, sym, ap, ◌∙◌, subst, arith, add-one, All, length-drop}
+use Rattle.std.proofs.lemmas.List.{take-map, drop-map, length-map, get_or-map, drop_more, length-take-le}
 use Rattle.std.proofs.lemmas.Bool.Decides.{nat_tests}
 use Rattle.std.specs.List.{position_or_len}
 use Rattle.vo_spec.specs.declared.values.Row.{Row}
@@ -20,9 +20,10 @@ use Rattle.vo_spec.specs.Fits.{FitsPart, FitsKey, most_in_node}
 use Rattle.mb_tree.specs.declared.branches.Node.{Node}
 use Rattle.mb_tree.specs.declared.branches.Node.TheVariants.{Inner}
 use Rattle.mb_tree.specs.Whole.{value_of, whole_of}
-use Rattle.mb_update.specs.Changing.{Grows}
-use Rattle.mb_update.specs.Placing.{placed, children_of}
-use Rattle.mb_update.proofs.KeyLists.{Keys}
+use Rattle.mb_update.specs.Changing.{ChangesTo, Grows}
+use Rattle.mb_update.specs.Placing.{placed, children_of, AreHalves}
+use Rattle.mb_update.specs.declared.halving.Halves.{Halves}
+use Rattle.mb_update.proofs.KeyLists.{Keys, HalvedKeys}
 
 above : (n : ℕ) → 16 < n → nat_le n 16 ≡ false
 above n h = grind (arith, nat_tests)
@@ -69,6 +70,23 @@ node_split ss ts h =
     let many : nat_le (count (open_parts ts)) 16 ≡ false = above _ (omega arith) in
     ap (λ b. cond b (one (inner ss (open_parts ts))) (two (inner (take 7 ss) (take_parts 8 (open_parts ts))) (get_or ss 7 []) (inner (drop 8 ss) (drop_parts 8 (open_parts ts))))) many
     ∙ rw (take_open 8 ts, drop_open 8 ts) refl
+
+-- the halves of a node of 17 children
+pub record HalvedCounts {S : Type 0} (ts : List RowTree) (h : Halves S RowTree) : Type 0 where
+  pub first : length h.left.items ≡ 8
+  pub last : length h.right.items + 8 ≡ length ts
+
+pub halved_counts : {S : Type 0} {ss : List S} (ts : List RowTree) (h : Halves S RowTree) → 8 ≤ length ts → AreHalves h ss ts → HalvedCounts ts h
+halved_counts ts h many halved = record {
+  first = omega (arith, ap length halved.first, length-take-le 8 ts many);
+  last = omega (arith, ap length halved.last, length-drop 8 ts);
+}
+
+pub branch_split : (ks : Keys) (ts : List RowTree) (h : Halves (Rc (List ℕ) Global) RowTree) (left right : RowTree) → 16 < length ts → HalvedKeys ks h → AreHalves h ks ts
+    → left ≡ inner (map value_of h.before.items) (open_parts h.left.items) → right ≡ inner (map value_of h.after.items) (open_parts h.right.items)
+    → split_inner row_family (children_of (map value_of ks) ts) ≡ two left h.key.value right
+branch_split ks ts h left right many k halved is_left is_right =
+    node_split (map value_of ks) ts many ∙ rw (k.cut.before, k.cut.between, is_left, is_right, k.after, halved.first, halved.last) refl
 
 -- The child to which the search goes, and what becomes of the node.
 
@@ -144,6 +162,12 @@ fault_on DuplicateKey r s h on = on DuplicateKey h
 fault_on NoRow r s h on = on NoRow h
 fault_on Missing r s h on = on Missing h
 fault_on Memory r s h on = tt
+
+pub fault_to : {A B : Type 0} (seen : A → B) (fault : UpdateFault) (r s : Result B UpdateFault) → ChangesTo seen (Err fault) r → ((f : UpdateFault) → r ≡ Err f → s ≡ Err f) → ChangesTo seen (Err fault) s
+fault_to seen DuplicateKey r s h on = on DuplicateKey h
+fault_to seen NoRow r s h on = on NoRow h
+fault_to seen Missing r s h on = on Missing h
+fault_to seen Memory r s h on = tt
 
 -- What an inner node of a whole tree keeps to.
 pub record Limits (t : RowTree) (ks : Keys) (ts : List RowTree) : Type 0 where

@@ -1,3 +1,5 @@
 pub mod Changing
 pub mod Placing
 pub mod Closing
+pub mod Proving
+pub mod Agreeing

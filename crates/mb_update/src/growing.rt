@@ -10,7 +10,8 @@ ghost use Rattle.mb_update.specs.Changing.{Grows};
 
 use crate::grown::Grown;
 use crate::leaves::grow_leaf;
-use crate::nodes::{child_for, put_grown};
+use crate::nodes::put_grown;
+use crate::places::place_for;
 use mb_tree::{Branch, Node, TreeEntry};
 use std::alloc::Global;
 use std::rc::Rc;
@@ -19,7 +20,11 @@ use vo_spec::{Key, UpdateFault};
 /// What comes in the branch's place with the entry in it.
 #[tactic(auto, using(mb_tree::proofs::BranchLaws::count_open_parts))]
 #[cycle(grow)]
-pub fn grow(alloc: Global, branch: &Branch, entry: &TreeEntry) -> Result<Grown, UpdateFault>
+pub fn grow(
+    alloc: Global,
+    branch: &Branch,
+    entry: &TreeEntry,
+) -> Result<Grown<Branch, Rc<Key>>, UpdateFault>
     ensures { Grows result (grow_tree row_family (whole_entry entry.now) branch.now) }
 {
     match branch.node() {
@@ -37,14 +42,14 @@ fn grow_inner(
     separators: &[Rc<Key>],
     children: &[Branch],
     entry: &TreeEntry,
-) -> Result<Grown, UpdateFault>
+) -> Result<Grown<Branch, Rc<Key>>, UpdateFault>
     requires least { 2 ≤ length children.now }
     requires most { length children.now ≤ most_in_node }
     requires between { length separators.now + 1 ≡ length children.now }
     requires keys { All FitsKey (map value_of separators.now) }
     ensures { Grows result (grow_tree row_family (whole_entry entry.now) (inner (map value_of separators.now) (open_parts children.now))) }
 {
-    let place = child_for(separators, entry.key().as_bytes());
+    let place = place_for(separators, entry.key().as_bytes());
     match grow(alloc, &children[place], entry) {
         Ok(grown) => Ok(put_grown(alloc, separators, children, place, grown)?),
         Err(fault) => Err(fault),

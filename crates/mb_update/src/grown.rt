@@ -1,11 +1,8 @@
-//! What comes in a branch's place after an insertion.
-use mb_tree::Branch;
-use std::rc::Rc;
-use vo_spec::Key;
+//! What comes in a node's place after an insertion.
 
-/// A branch, or two with the separator between them.
+/// A node, or two with the separator between them.
 #[derive(Drop)]
-pub enum Grown {
-    One(Branch),
-    Two(Branch, Rc<Key>, Branch),
+pub enum Grown<N, S> {
+    One(N),
+    Two(N, S, N),
 }

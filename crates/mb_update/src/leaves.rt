@@ -9,7 +9,8 @@ ghost use Rattle.vo_spec.specs.Inserts.{grow, has_key as has_entry, put_entry, s
 ghost use Rattle.mb_update.specs.Changing.{Grows, IsGrown};
 
 use crate::grown::Grown;
-use crate::sharing::share_entries;
+use crate::places::{has_key, place_for};
+use crate::splicing::spliced;
 use mb_tree::{Branch, TreeEntry};
 use std::alloc::{AllocError, Global};
 use std::rc::Rc;
@@ -20,7 +21,7 @@ pub fn grow_leaf(
     alloc: Global,
     entries: &[TreeEntry],
     entry: &TreeEntry,
-) -> Result<Grown, UpdateFault>
+) -> Result<Grown<Branch, Rc<Key>>, UpdateFault>
     requires { length entries.now ≤ most_in_node }
     ensures { Grows result (grow row_family (whole_entry entry.now) (leaf (map whole_entry entries.now))) }
 {
@@ -29,38 +30,6 @@ pub fn grow_leaf(
     }
     let all = with_entry(alloc, entries, entry)?;
     Ok(split_leaf(alloc, all)?)
-}
-
-fn has_key(entries: &[TreeEntry], key: &[u8]) -> bool
-    ensures { result ≡ has_entry row_family key.now (map whole_entry entries.now) }
-{
-    for entry in entries {
-        if entry.key().as_bytes() == key {
-            return true;
-        }
-    }
-    false
-}
-
-/// How many entries stand before the first of a greater key.
-fn place_for(entries: &[TreeEntry], entry: &TreeEntry) -> usize
-    ensures within { result ≤ length entries.now }
-    ensures place { put_entry row_family (whole_entry entry.now) (map whole_entry entries.now)
-        ≡ map whole_entry (insert entries.now result entry.now) }
-{
-    for (place, other) in entries.iter().enumerate() {
-        if key_lt(entry.key().as_bytes(), other.key().as_bytes()) {
-            return place;
-        }
-    }
-    entries.len()
-}
-
-/// Whether the first is less.
-pub fn key_lt(a: &[u8], b: &[u8]) -> bool
-    ensures { result ≡ is_less a.now b.now }
-{
-    a.cmp(b).is_lt()
 }
 
 fn with_entry(
@@ -72,34 +41,25 @@ fn with_entry(
     ensures value { IfOk result (λ all. map whole_entry all.items ≡ put_entry row_family (whole_entry entry.now) (map whole_entry entries.now)) }
     ensures count { IfOk result (λ all. length all.items ≡ length entries.now + 1) }
 {
-    let place = place_for(entries, entry);
-    let mut all = Vec::with_capacity(alloc, entries.len() + 1)?;
-    share_entries(&entries[..place], &mut all)?;
-    all.push(entry.share()?)?;
-    share_entries(&entries[place..], &mut all)?;
+    let place = place_for(entries, entry.key().as_bytes());
+    let new = vec![in alloc; entry.share()?]?;
+    let all = spliced(alloc, entries, place, place, new)?;
     Ok(all)
 }
 
-fn split_leaf(alloc: Global, entries: Vec<TreeEntry>) -> Result<Grown, AllocError>
+fn split_leaf(alloc: Global, entries: Vec<TreeEntry>) -> Result<Grown<Branch, Rc<Key>>, AllocError>
     requires { length entries.items ≤ most_in_node + 1 }
     ensures { IfOk result (λ grown. IsGrown grown (split row_family (map whole_entry entries.items))) }
 {
     if entries.len() <= 16 {
         return Ok(Grown::One(Branch::leaf(alloc, entries)?));
     }
-    let left = leaf_of(alloc, &entries[..8])?;
-    let right = leaf_of(alloc, &entries[8..])?;
-    let key = key_of(&entries[8])?;
+    let mut left = entries;
+    let right = left.split_off(8)?;
+    let key = key_of(&right[0])?;
+    let left = Branch::leaf(alloc, left)?;
+    let right = Branch::leaf(alloc, right)?;
     Ok(Grown::Two(left, key, right))
-}
-
-fn leaf_of(alloc: Global, entries: &[TreeEntry]) -> Result<Branch, AllocError>
-    requires { length entries.now ≤ most_in_node }
-    ensures { IfOk result (λ branch. branch ≡ leaf (map whole_entry entries.now)) }
-{
-    let mut shared = Vec::with_capacity(alloc, entries.len())?;
-    share_entries(entries, &mut shared)?;
-    Branch::leaf(alloc, shared)
 }
 
 fn key_of(entry: &TreeEntry) -> Result<Rc<Key>, AllocError>

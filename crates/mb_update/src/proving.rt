@@ -1,4 +1,4 @@
-//! What of a tree must be open for an insertion.
+//! What of a tree must be open for a change.
 ghost use Rattle.std.specs.Prelude.{◌≡◌, ◌+◌, ◌++◌, true, None, length, map, IfOk, OnOk};
 ghost use Rattle.vo_spec.specs.Cells.{whole_entry};
 ghost use Rattle.vo_spec.specs.Pruned.{pruned_by, pruned_in};
@@ -7,12 +7,23 @@ ghost use Rattle.vo_spec.specs.Inserts.{closed_entry, insert_proof as proof_for,
 ghost use Rattle.mb_tree.specs.Whole.{value_of};
 ghost use Rattle.mb_tree.specs.View.{part_of};
 ghost use Rattle.mb_update.specs.Closing.{closed_tree};
+ghost use Rattle.mb_update.specs.Proving.{update_proof};
 
-use crate::nodes::child_for;
+use crate::ops::Op;
+use crate::places::place_for;
 use mb_tree::{Branch, Node, Nodes, PartTree, Tree, TreeEntry, lend_keys};
 use std::alloc::{AllocError, Global};
 use std::rc::Rc;
 use vo_spec::{Key, KeyPart, List, PartEntry, RowPart};
+
+/// The proof of the change: what of the tree it looks at, and no more.
+pub fn prune_update<'b>(alloc: Global, tree: &'b Tree, op: &Op) -> Result<PartTree<'b>, AllocError>
+    ensures { IfOk result (λ part. part_of part ≡ update_proof op.now tree.now) }
+{
+    match op {
+        Op::Insert { row } => insert_proof(alloc, tree, row.key.as_bytes()),
+    }
+}
 
 /// The part of the tree that an insertion of this key looks at. Its keys are lent by the tree.
 pub fn insert_proof<'b>(
@@ -57,7 +68,7 @@ fn open_child<'b>(
     ensures { IfOk result (λ parts. parts
         ≡ pruned_in (walk_to key.now) row_family true None (map value_of separators.now) (open_parts children.now)) }
 {
-    let place = child_for(separators, key);
+    let place = place_for(separators, key);
     let mut parts = Vec::with_capacity(alloc, children.len())?;
     close_branches(&children[..place], &mut parts)?;
     parts.push(open_to(alloc, &children[place], key)?)?;

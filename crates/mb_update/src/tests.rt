@@ -76,7 +76,7 @@ fn with_row(alloc: Global, tree: &Tree, number: u16) -> Result<Option<Tree>, Upd
     if tree.row_count() >= 1000 {
         return Ok(None);
     }
-    Ok(Some(insert(alloc, tree, &row)?))
+    Ok(Some(tree.insert(alloc, &row)?))
 }
 
 fn after(number: u16, step: u16) -> u16 {

@@ -12,7 +12,7 @@ ghost use Rattle.stored_tables.specs.Working.{made_stored, table_after};
 use crate::placing::place_for;
 use crate::table::{StoredTable, copy_schema};
 use mb_tree::Tree;
-use mb_update::{UpdateFault, insert};
+use mb_update::{UpdateFault, Updates};
 use std::alloc::{AllocError, Global};
 use std::rc::Rc;
 use table_list::{ApplyFault, column_number, copy_columns, row_of, spliced};
@@ -95,7 +95,7 @@ pub(crate) fn with_row(
     ensures { Gives stored_of result (table_after (Insert [] values.now) (stored_of table.now)) }
 {
     let row = row_of(alloc, &table.schema, values)?;
-    match insert(alloc, &table.tree, &row) {
+    match table.tree.insert(alloc, &row) {
         Ok(tree) => Ok(StoredTable {
             name: table.name.copy(alloc)?,
             schema: copy_schema(alloc, &table.schema)?,

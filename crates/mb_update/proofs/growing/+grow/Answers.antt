@@ -7,6 +7,7 @@ use Rattle.mb_tree.specs.Whole.{value_of}
 use Rattle.mb_tree.proofs.RowLaws.{branch_falls}
 use Rattle.mb_update.specs.Changing.{Grows, FitsGrown, grown_of}
 use Rattle.mb_update.proofs.KeyLists.{count_keys}
+use Rattle.mb_update.proofs.KeyPlaces.{place_keys}
 use Rattle.mb_update.proofs.Splitting.{node_limits, grown_inner, fault_inner, fault_on}
 use Rattle.mb_update.proofs.growing.+grow.Goals as goal
 
@@ -18,7 +19,7 @@ grow-grow_inner-requires t c =
 
 pub grow_inner-grow-requires : goal.grow_inner-grow-requires
 grow_inner-grow-requires t c =
-    let at : c.child_for-place.result < length c.args.children.now = omega arith in
+    let at : c.place_for-place.result < length c.args.children.now = omega arith in
     let falls : levels c.index-children-place.result ≤ levels_in (open_parts c.args.children.now) = branch_falls _ _ _ at c.index-children-place.is in
     (omega arith, tt)
 
@@ -28,7 +29,7 @@ grow_inner-returns-in_ok-put_grown-in-Ok t c =
     let ss = map value_of c.args.separators.now in
     let between : length ss + 1 ≡ length c.args.children.now = omega (arith, count_keys c.args.separators.now, c.requires.between) in (
       c.in_ok-put_grown-in-Ok.ensures.fits,
-      grown_inner (whole_entry c.args.entry.now) ss c.args.children.now c.child_for-place.result _ c.index-children-place.result (grown_of c.in-Ok.grown) _ between c.child_for-place.ensures.place (c.as_bytes.ensures ∙ c.key.ensures.value) c.index-children-place.is told.1 c.in_ok-put_grown-in-Ok.ensures.same,
+      grown_inner (whole_entry c.args.entry.now) ss c.args.children.now c.place_for-place.result _ c.index-children-place.result (grown_of c.in-Ok.grown) _ between (c.place_for-place.ensures.place ∙ place_keys c.as_bytes.result.now c.args.separators.now) (c.as_bytes.ensures ∙ c.key.ensures.value) c.index-children-place.is told.1 c.in_ok-put_grown-in-Ok.ensures.same,
     )
 
 pub grow_inner-returns-in-Err : goal.grow_inner-returns-in-Err
@@ -36,4 +37,4 @@ grow_inner-returns-in-Err t c =
     let ss = map value_of c.args.separators.now in
     let between : length ss + 1 ≡ length c.args.children.now = omega (arith, count_keys c.args.separators.now, c.requires.between) in
     fault_on c.in-Err.fault (grow row_family (whole_entry c.args.entry.now) c.index-children-place.result) _ c.in-Err.ensures
-    (λ f faults. fault_inner (whole_entry c.args.entry.now) ss c.args.children.now c.child_for-place.result _ c.index-children-place.result f between c.child_for-place.ensures.place (c.as_bytes.ensures ∙ c.key.ensures.value) c.index-children-place.is faults)
+    (λ f faults. fault_inner (whole_entry c.args.entry.now) ss c.args.children.now c.place_for-place.result _ c.index-children-place.result f between (c.place_for-place.ensures.place ∙ place_keys c.as_bytes.result.now c.args.separators.now) (c.as_bytes.ensures ∙ c.key.ensures.value) c.index-children-place.is faults)

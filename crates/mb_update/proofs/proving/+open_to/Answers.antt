@@ -6,6 +6,7 @@ use Rattle.mb_tree.specs.Whole.{value_of}
 use Rattle.mb_tree.specs.View.{part_of}
 use Rattle.mb_tree.proofs.RowLaws.{branch_falls}
 use Rattle.mb_update.proofs.KeyLists.{count_keys}
+use Rattle.mb_update.proofs.KeyPlaces.{place_keys}
 use Rattle.mb_update.proofs.Splitting.{node_limits}
 use Rattle.mb_update.proofs.OpenPaths.{open_at, child_open}
 use Rattle.mb_update.proofs.proving.+open_to.Goals as goal
@@ -18,7 +19,7 @@ open_to-open_child-requires t c =
 
 pub open_child-open_to-requires : goal.open_child-open_to-requires
 open_child-open_to-requires t c =
-    let at : c.child_for-place.result < length c.args.children.now = omega arith in
+    let at : c.place_for-place.result < length c.args.children.now = omega arith in
     let falls : levels c.index-children-place.result ≤ levels_in (open_parts c.args.children.now) = branch_falls _ _ _ at c.index-children-place.is in
     (omega arith, tt)
 
@@ -28,6 +29,6 @@ open_child-returns t c =
     let ss = map value_of c.args.separators.now in
     let between : length ss + 1 ≡ length ts = omega (arith, count_keys c.args.separators.now, c.requires.between) in
     let first = rw c.in_ok-parts.ensures.items at c.in_ok-close_branches.ensures in
-    let all : map part_of _ ≡ open_at c.child_for-place.result c.args.key.now c.index-children-place.result ts =
+    let all : map part_of _ ≡ open_at c.place_for-place.result c.args.key.now c.index-children-place.result ts =
     rw (c.in_ok-close_branches-2.ensures, c.in_ok-push.ensures.items, map_push, first, c.in_ok-open_to.ensures) (simp (append_assoc, take_rest)) in
-    c.from_vec.ensures ∙ ap open_parts all ∙ sym (child_open c.args.key.now ss ts c.child_for-place.result c.index-children-place.result between c.child_for-place.ensures.place c.index-children-place.is)
+    c.from_vec.ensures ∙ ap open_parts all ∙ sym (child_open c.args.key.now ss ts c.place_for-place.result c.index-children-place.result between (c.place_for-place.ensures.place ∙ place_keys c.args.key.now c.args.separators.now) c.index-children-place.is)

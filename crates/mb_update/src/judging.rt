@@ -1,0 +1,92 @@
+//! Whether a part of a tree is the proof of a change.
+ghost use Rattle.std.specs.Prelude.{◌≡◌, ◌<◌, true, not, None, map, length};
+ghost use Rattle.std.specs.List.{list_any};
+ghost use Rattle.vo_spec.specs.Pruned.{misses_in, goes_beyond_in};
+ghost use Rattle.vo_spec.specs.Inserts.{insert_misses, insert_goes_beyond, walk_to};
+ghost use Rattle.mb_tree.specs.View.{part_of, parts_of};
+ghost use Rattle.mb_update.specs.Closing.{is_open, beside, shows_cells};
+ghost use Rattle.mb_update.specs.Proving.{update_misses, update_goes_beyond, told};
+
+use crate::ops::Op;
+use crate::places::place_for;
+use mb_tree::PartTree;
+use vo_spec::{KeyPart, PartEntry, RowPart, ScanFault};
+
+/// Whether the part is the proof of the change, as far as it alone can tell: with nothing missing, true
+/// exactly where nothing is open that the change doesn't look at. It takes no memory.
+pub fn is_update_proof(tree: &PartTree<'_>, op: &Op) -> Result<bool, ScanFault>
+    ensures { result ≡ told (update_misses op.now (part_of tree.now)) (not (update_goes_beyond op.now (part_of tree.now))) }
+{
+    match op {
+        Op::Insert { row } => match open_beyond(tree, row.key.as_bytes()) {
+            Ok(beyond) => Ok(!beyond),
+            Err(fault) => Err(fault),
+        },
+    }
+}
+
+/// Whether anything is open but the path to the key's leaf, or a row of the leaf stands as cells.
+#[cycle(open_beyond)]
+fn open_beyond(tree: &PartTree<'_>, key: &[u8]) -> Result<bool, ScanFault>
+    ensures { result ≡ told (insert_misses key.now (part_of tree.now)) (insert_goes_beyond key.now (part_of tree.now)) }
+{
+    match tree {
+        PartTree::Stub(_) => Err(ScanFault::Missing),
+        PartTree::Leaf(entries) => Ok(any_cells(entries.as_slice())),
+        PartTree::Inner {
+            separators,
+            children,
+        } => children_beyond(separators.as_slice(), children.as_slice(), key),
+    }
+}
+
+#[cycle(open_beyond)]
+fn children_beyond(
+    separators: &[KeyPart<'_>],
+    children: &[PartTree<'_>],
+    key: &[u8],
+) -> Result<bool, ScanFault>
+    ensures { let walk = walk_to key.now in let ps = parts_of children.now in
+        result ≡ told (misses_in walk true None separators.now ps) (goes_beyond_in walk true None separators.now ps) }
+{
+    let place = place_for(separators, key);
+    if place >= children.len() {
+        return Ok(any_open(children));
+    }
+    let beside = open_beside(children, place);
+    match open_beyond(&children[place], key) {
+        Ok(beyond) => Ok(beyond || beside),
+        Err(fault) => Err(fault),
+    }
+}
+
+/// Whether a child of another number is open.
+fn open_beside(children: &[PartTree<'_>], place: usize) -> bool
+    requires { place < length children.now }
+    ensures { result ≡ beside place (map part_of children.now) }
+{
+    any_open(&children[..place]) || any_open(&children[place + 1..])
+}
+
+fn any_open(trees: &[PartTree<'_>]) -> bool
+    ensures { result ≡ list_any is_open (map part_of trees.now) }
+{
+    for tree in trees {
+        match tree {
+            PartTree::Stub(_) => {},
+            PartTree::Leaf(_) | PartTree::Inner { .. } => return true,
+        }
+    }
+    false
+}
+
+fn any_cells(entries: &[PartEntry<'_>]) -> bool
+    ensures { result ≡ list_any shows_cells entries.now }
+{
+    for entry in entries {
+        if let RowPart::Cells(_) = &entry.row {
+            return true;
+        }
+    }
+    false
+}

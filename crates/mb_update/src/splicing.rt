@@ -1,0 +1,53 @@
+//! Lists with some of their items exchanged for others.
+ghost use Rattle.std.specs.Prelude.{◌≡◌, ◌≤◌, ◌++◌, length, take, drop, IfOk, OnOk};
+
+use std::alloc::{AllocError, Global};
+
+/// What can be had once more, shared or copied.
+pub trait Again: Sized {
+    fn again(&self, alloc: Global) -> Result<Self, AllocError>
+        ensures { IfOk result (λ same. same ≡ self.now) };
+}
+
+/// Puts these items at the end once more.
+pub fn put_again<T: Again + Drop>(
+    alloc: Global,
+    from: &[T],
+    into: &mut Vec<T>,
+) -> Result<(), AllocError>
+    ensures { OnOk result (into.new.items ≡ into.old.items ++ from.now) }
+{
+    for item in from {
+        into.push(item.again(alloc)?)?;
+    }
+    Ok(())
+}
+
+/// These items once more.
+pub fn all_again<T: Again + Drop>(alloc: Global, items: &[T]) -> Result<Vec<T>, AllocError>
+    ensures { IfOk result (λ same. same.items ≡ items.now) }
+{
+    let mut same = Vec::with_capacity(alloc, items.len())?;
+    put_again(alloc, items, &mut same)?;
+    Ok(same)
+}
+
+/// The items with those from `from` up to `to` exchanged for others.
+pub fn spliced<T: Again + Drop>(
+    alloc: Global,
+    items: &[T],
+    from: usize,
+    to: usize,
+    others: Vec<T>,
+) -> Result<Vec<T>, AllocError>
+    requires order { from ≤ to }
+    requires end { to ≤ length items.now }
+    ensures { IfOk result (λ new. new.items ≡ take from items.now ++ others.items ++ drop to items.now) }
+{
+    let mut others = others;
+    let mut new = Vec::new(alloc);
+    put_again(alloc, &items[..from], &mut new)?;
+    new.append(&mut others)?;
+    put_again(alloc, &items[to..], &mut new)?;
+    Ok(new)
+}
