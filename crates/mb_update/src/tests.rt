@@ -7,7 +7,9 @@ use super::*;
 use mb_tree::{PartTree, Tree};
 use std::alloc::{AllocError, Global};
 use std::test::*;
-use vo_spec::{Key, List, Row, RowPart, Text, Value};
+use vo_spec::{Key, List, Row, RowPart, ScanFault, Text, Value};
+
+mod parts;
 
 // The digests of the leaves of the rows 1 to 8 and 9 to 17, each with 'x', and of the tree of both.
 const LEFT: [u8; 32] = [
@@ -97,6 +99,13 @@ fn tree_of(alloc: Global, start: u16, step: u16, count: u16) -> Result<Option<Tr
     Ok(Some(tree))
 }
 
+/// The insertion of the row of this number.
+fn op_of(alloc: Global, number: u16) -> Result<Op, AllocError> {
+    Ok(Op::Insert {
+        row: row_of(alloc, number)?,
+    })
+}
+
 /// How many rows the leaf has, if it is one whose rows are all digests.
 fn closed_rows(part: &PartTree<'_>) -> Option<usize> {
     let PartTree::Leaf(entries) = part else {
@@ -152,9 +161,11 @@ fn opens_a_leaf_with_its_rows_as_digests(rt: HostRuntime) -> Result<(), Fail> {
     let alloc = rt.alloc();
     let mut tree = Tree::new(alloc)?;
     for number in 1..18 {
-        let key = row_of(alloc, number)?.key;
-        let rows = closed_rows(&insert_proof(alloc, &tree, key.as_bytes())?);
-        assert_eq!(rt; rows, Some(usize::from(number) - 1));
+        let op = op_of(alloc, number)?;
+        let proof = prune_update(alloc, &tree, &op)?;
+        assert_eq!(rt; closed_rows(&proof), Some(usize::from(number) - 1));
+        assert_eq!(rt; is_update_proof(&proof, &op), Ok(true));
+        drop(proof);
         let Some(grown) = with_row(alloc, &tree, number)? else {
             panic!(rt; "no room");
         };
@@ -170,14 +181,19 @@ fn opens_the_path_to_a_leaf_alone(rt: HostRuntime) -> Result<(), Fail> {
     let Some(tree) = tree_of(alloc, 0, 1, 17)? else {
         panic!(rt; "no room");
     };
-    for (number, open, rows, other) in [
-        (0, 0, 8, RIGHT),
-        (8, 0, 8, RIGHT),
-        (9, 1, 9, LEFT),
-        (20, 1, 9, LEFT),
+    for (number, elsewhere, open, rows, other) in [
+        (0, 9, 0, 8, RIGHT),
+        (8, 300, 0, 8, RIGHT),
+        (9, 8, 1, 9, LEFT),
+        (20, 0, 1, 9, LEFT),
     ] {
-        let key = row_of(alloc, number)?.key;
-        let PartTree::Inner { children, .. } = insert_proof(alloc, &tree, key.as_bytes())? else {
+        let op = op_of(alloc, number)?;
+        let proof = prune_update(alloc, &tree, &op)?;
+        assert_eq!(rt; is_update_proof(&proof, &op), Ok(true));
+        let elsewhere = op_of(alloc, elsewhere)?;
+        let missing = Err(ScanFault::Missing);
+        assert_eq!(rt; is_update_proof(&proof, &elsewhere), missing);
+        let PartTree::Inner { children, .. } = &proof else {
             panic!(rt; "no inner node");
         };
         assert_eq!(rt; children.as_slice().len(), 2);
