@@ -11,6 +11,12 @@ pub mod JoinLaws
 pub mod Exact
 pub mod Growing
 pub mod Grown
+pub mod Settling
+pub mod Shrinking
+pub mod Without
+pub mod Shrunk
+pub mod Edited
+pub mod StandingTrees
 pub mod CommandLaws
 pub mod StandingLaws
 pub mod TreeFits

@@ -1,7 +1,7 @@
 -- Trees stand for tables: what commands and batches make of the trees stands for what they make of the
 -- tables, and both refuse the same commands.
 use Rattle.std.proofs.Common.{◌≡◌, ℕ, ◌+◌, Bool, true, false, cond, List, [], ◌∷◌, Option, Some, None, Result, Ok, Err, map, refl, sym, ap, ◌∙◌, subst, arith}
-use Rattle.std.specs.Prelude.{◌||◌, not, fold, bytes_eq}
+use Rattle.std.specs.Prelude.{not, fold, bytes_eq}
 use Rattle.std.specs.Option.{option_map_or}
 use Rattle.std.specs.Result.{result_unwrap_or}
 use Rattle.std.specs.List.{list_all, AllByRecursion}
@@ -23,53 +23,16 @@ use Rattle.vo_spec.specs.Tables.{heading_of, column_number, row_of, has_row, put
 use Rattle.vo_spec.specs.Batches.{FitsCommand, FitsBatch}
 use Rattle.vo_spec.specs.Records.{FitsSchema}
 use Rattle.vo_spec.specs.Cells.{whole_entry}
-use Rattle.vo_spec.specs.Parts.{leaf, entries}
-use Rattle.vo_spec.specs.Trees.{RowTree, row_family}
-use Rattle.vo_spec.specs.Inserts.{has_key, put_entry, inserted}
-use Rattle.vo_spec.specs.Standing.{AreRising, StandsFor}
+use Rattle.vo_spec.specs.Parts.{leaf}
+use Rattle.vo_spec.specs.Trees.{RowTree}
+use Rattle.vo_spec.specs.Inserts.{inserted}
+use Rattle.vo_spec.specs.Standing.{AreRising}
 use Rattle.vo_spec.specs.Checks.{key_kind}
 use Rattle.vo_spec.specs.Honest.{Stored, StandsForTable, StandForTables, is_open_command, AreOpen, stored_heading, put_stored, with_tree, behind_stored, change_tree, changed_trees, work, work_all, after_work, honest_trees}
 use Rattle.vo_laws.proofs.ListLaws.{zip_filter}
-use Rattle.vo_laws.proofs.Grown.{TreeGrows, tree_grows}
+use Rattle.vo_laws.proofs.StandingTrees.{Inserts, inserted_stands}
 use Rattle.vo_laws.proofs.Exact.{one_heading, nothing_stands}
 use Rattle.vo_laws.proofs.CommandLaws.{insertable, key_inserted, FitsTable, FitTables, names_of, others_kept, dropped_fit, created_fit, inserted_fit, each_put_row}
-
--- Of a tree that stands for rows.
-
-whole_put : (row : Row) (rows : List Row) → put_entry row_family (whole_entry row) (map whole_entry rows) ≡ map whole_entry (put_row row rows)
-whole_put row [] = refl
-whole_put row (r ∷ rows) = step (key_lt row.key r.key) (whole_put row rows)
-  where
-    step : (b : Bool) → put_entry row_family (whole_entry row) (map whole_entry rows) ≡ map whole_entry (put_row row rows)
-        → cond b (whole_entry row ∷ whole_entry r ∷ map whole_entry rows) (whole_entry r ∷ put_entry row_family (whole_entry row) (map whole_entry rows))
-        ≡ map whole_entry (cond b (row ∷ r ∷ rows) (r ∷ put_row row rows))
-    step true rest = refl
-    step false rest = ap (λ z. whole_entry r ∷ z) rest
-
-whole_has : (key : List ℕ) (rows : List Row) → has_key row_family key (map whole_entry rows) ≡ has_row key rows
-whole_has key [] = refl
-whole_has key (r ∷ rows) = ap (λ b. bytes_eq r.key key || b) (whole_has key rows)
-
--- what an insertion gives of a tree that stands for these rows
-abbrev pub Inserts : Row → List Row → Result RowTree UpdateFault → Type 0
-Inserts row rows (Ok t) = (has_row row.key rows ≡ false) × StandsFor t (put_row row rows)
-Inserts row rows (Err DuplicateKey) = has_row row.key rows ≡ true
-Inserts row rows (Err NoRow) = ⊥
-Inserts row rows (Err Missing) = ⊥
-Inserts row rows (Err Memory) = ⊥
-
-pub inserted_stands : (row : Row) (t : RowTree) (rows : List Row) → StandsFor t rows → Inserts row rows (inserted (whole_entry row) t)
-inserted_stands row t rows stands = step (inserted (whole_entry row) t) (tree_grows (whole_entry row) t stands.tree)
-  where
-    has : has_key row_family row.key (entries t) ≡ has_row row.key rows
-    has = ap (has_key row_family row.key) stands.rows_are ∙ whole_has row.key rows
-
-    step : (r : Result RowTree UpdateFault) → TreeGrows (whole_entry row) (entries t) r → Inserts row rows r
-    step (Ok u) g = (sym has ∙ g.0, record { tree = g.1; rows_are = g.2 ∙ ap (put_entry row_family (whole_entry row)) stands.rows_are ∙ whole_put row rows })
-    step (Err DuplicateKey) g = sym has ∙ g
-    step (Err NoRow) g = absurd g
-    step (Err Missing) g = absurd g
-    step (Err Memory) g = absurd g
 
 -- Both go on in step, or both refuse for one reason.
 abbrev pub InStep : Result (List Stored) CommandFault → Result (List Table) CommandFault → Type 0

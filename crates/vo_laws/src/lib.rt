@@ -2,6 +2,7 @@
 //! client sees and what the plain tables say.
 #![tactic(auto)]
 
+pub mod changes;
 pub mod journals;
 
 ghost use Rattle.std.specs.Prelude.{◌≡◌, ◌≢◌, ℕ, ◌^◌, ◌≤◌, ◌<◌, List, [], ◌∷◌, None, Ok, length};
