@@ -18,6 +18,7 @@ pub mod Shrunk
 pub mod Edited
 pub mod StandingTrees
 pub mod CommandLaws
+pub mod TableChanges
 pub mod StandingLaws
 pub mod TreeFits
 pub mod TreeLevels
