@@ -21,6 +21,7 @@ pub mod CommandLaws
 pub mod TableChanges
 pub mod StandingLaws
 pub mod TreeFits
+pub mod ChangedFits
 pub mod TreeLevels
 pub mod StoredFits
 pub mod PrunedLaws
@@ -29,6 +30,8 @@ pub mod NamedFits
 pub mod Complete
 pub mod PrunedFits
 pub mod ReplyFits
+pub mod ByteLengths
+pub mod ChangeProofs
 pub mod ProofSizes
 pub mod StepLaws
 pub mod EntryLaws
