@@ -19,6 +19,7 @@ pub mod Edited
 pub mod StandingTrees
 pub mod CommandLaws
 pub mod TableChanges
+pub mod TableSteps
 pub mod StandingLaws
 pub mod TreeFits
 pub mod ChangedFits
