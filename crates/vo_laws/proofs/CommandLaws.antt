@@ -1,6 +1,6 @@
 -- Commands on plain tables: what a command that isn't refused keeps of them, and the facts of a row that is
 -- inserted.
-use Rattle.std.proofs.Common.{◌≡◌, ℕ, zero, suc, ◌+◌, ◌<◌, ◌≤◌, Bool, true, false, cond, List, [], ◌∷◌, Option, Some, None, length, map, take, drop, inl, inr, refl, sym, ap, ◌∙◌, subst, arith}
+use Rattle.std.proofs.Common.{◌≡◌, ℕ, zero, suc, ◌+◌, ◌<◌, ◌≤◌, Bool, true, false, cond, List, [], ◌∷◌, Option, Some, None, length, map, take, drop, inl, inr, refl, sym, ap, ◌∙◌, arith}
 use Rattle.std.specs.Prelude.{◌||◌, ◌==◌, not, nat_le, filter, remove, option_map, bytes_eq, is_some}
 use Rattle.std.specs.Option.{option_map_or}
 use Rattle.std.specs.List.{AllByRecursion}
@@ -22,7 +22,7 @@ use Rattle.vo_spec.specs.declared.tables.CommandFault.{CommandFault}
 use Rattle.vo_spec.specs.declared.tables.CommandFault.TheVariants.{TableExists, NoTable, BadSchema, TooManyTables}
 use Rattle.vo_spec.specs.Firsts.{first_of}
 use Rattle.vo_spec.specs.Values.{kind_of, same_kind, key_of, key_lt, FitsValue, IsInRange, IsKeyOf, is_text}
-use Rattle.vo_spec.specs.Tables.{most_tables, most_rows, most_key, value_at, column_at, column_number, has_column, has_twice, are_of_kinds, Heading, heading_of, heading_named, is_bad_schema, insert_tests, on_table, refusal, row_of, put_row, table_named, put_table, with_rows}
+use Rattle.vo_spec.specs.Tables.{most_tables, most_rows, most_key, value_at, column_at, column_number, has_column, has_twice, are_of_kinds, Heading, heading_of, heading_named, is_bad_schema, insert_tests, on_table, refusal, row_of, put_row, table_named, put_table}
 use Rattle.vo_spec.specs.Names.{FitsName}
 use Rattle.vo_spec.specs.Batches.{FitCounted, FitsCommand}
 use Rattle.vo_spec.specs.Records.{FitsSchema}
@@ -33,7 +33,6 @@ use Rattle.vo_laws.proofs.KeyOrder.{same_key, key_lt_lt}
 use Rattle.vo_laws.proofs.ListLaws.{each_weaker, each_both, each_map, each_mapped}
 use Rattle.vo_laws.proofs.ValueOrder.{number_length}
 use Rattle.vo_laws.proofs.ConditionLaws.{same_kind_is}
-use Rattle.vo_laws.proofs.Growing.{other_back}
 
 pub not_false : (b : Bool) → not b ≡ false → b ≡ true
 not_false true e = refl
@@ -151,7 +150,7 @@ is_key kind.Text (Text s) e other fits short = and_from (nat_le (length s) 255) 
 is_key kind.Text (Truth b) e other fits short = absurd (cc)
 is_key kind.Bool v e other fits short = absurd (cc)
 
-row_has_kinds : (t : Table) (values : List Value) → FitsSchema t.schema → AllByRecursion FitsValue values → IsInsertable t values
+pub row_has_kinds : (t : Table) (values : List Value) → FitsSchema t.schema → AllByRecursion FitsValue values → IsInsertable t values
     → HasKinds t.schema (row_of t.schema values)
 row_has_kinds t values schema fits is = record {
   key = is_key (key_kind t.schema) (value_at values t.schema.key)
@@ -298,7 +297,7 @@ each_put_row P row (r ∷ rows) p all = step (key_lt row.key r.key) (each_put_ro
     step true rest = (p, (all.0, all.1))
     step false rest = (all.0, rest)
 
-put_row_length : (row : Row) (rows : List Row) → length (put_row row rows) ≡ suc (length rows)
+pub put_row_length : (row : Row) (rows : List Row) → length (put_row row rows) ≡ suc (length rows)
 put_row_length row [] = refl
 put_row_length row (r ∷ rows) = step (key_lt row.key r.key) (put_row_length row rows)
   where
@@ -330,65 +329,3 @@ row_fits t values schema fits is =
             (each_both FitsValue (take t.schema.key values) (drop (suc t.schema.key) values) (each_taken t.schema.key values fits.2) (each_dropped (suc t.schema.key) values fits.2));
       };
     }
-
-names_kept : (name : List ℕ) (rows : Table → List Row) (tables : List Table) → names_of (with_rows name rows tables) ≡ names_of tables
-names_kept name rows [] = refl
-names_kept name rows (t ∷ tables) = step (bytes_eq t.name name) (names_kept name rows tables)
-  where
-    step : (b : Bool) → names_of (with_rows name rows tables) ≡ names_of tables
-        → (cond b (record { name = t.name; schema = t.schema; rows = rows t }) t).name ∷ names_of (with_rows name rows tables) ≡ t.name ∷ names_of tables
-    step true rest = ap (λ z. t.name ∷ z) rest
-    step false rest = ap (λ z. t.name ∷ z) rest
-
--- where names rise, no table behind one has its name, and none of another name is changed
-pub others_kept : (name : List ℕ) (rows : Table → List Row) (tables : List Table) → AllByRecursion (λ k. key_lt name k ≡ true) (names_of tables) → with_rows name rows tables ≡ tables
-others_kept name rows [] all = refl
-others_kept name rows (t ∷ tables) all = rw (other_back t.name name all.0, others_kept name rows tables all.1) refl
-
--- where the table of this name fits with its other rows, all tables do
-each_changed : (name : List ℕ) (rows : Table → List Row) (tables : List Table)
-    → ((t : Table) → table_named name tables ≡ Some t → FitsTable t → FitsTable (record { name = t.name; schema = t.schema; rows = rows t }))
-    → AllByRecursion FitsTable tables → AreRising (names_of tables) → AllByRecursion FitsTable (with_rows name rows tables)
-each_changed name rows [] fits all rising = tt
-each_changed name rows (t ∷ tables) fits all rising = step (bytes_eq t.name name) refl fits (each_changed name rows tables)
-  where
-    step : (b : Bool) → bytes_eq t.name name ≡ b
-        → ((u : Table) → cond b (Some t) (table_named name tables) ≡ Some u → FitsTable u → FitsTable (record { name = u.name; schema = u.schema; rows = rows u }))
-        → (((u : Table) → table_named name tables ≡ Some u → FitsTable u → FitsTable (record { name = u.name; schema = u.schema; rows = rows u }))
-        → AllByRecursion FitsTable tables → AreRising (names_of tables) → AllByRecursion FitsTable (with_rows name rows tables))
-        → AllByRecursion FitsTable (cond b (record { name = t.name; schema = t.schema; rows = rows t }) t ∷ with_rows name rows tables)
-    step true f fits rest =
-        let name_is : t.name ≡ name = (bytes_eq-Decides t.name name).0 f in (
-          fits t refl all.0,
-          subst (AllByRecursion FitsTable) (sym (others_kept name rows tables (subst (λ n. AllByRecursion (λ k. key_lt n k ≡ true) (names_of tables)) name_is rising.0))) all.1,
-        )
-    step false f fits rest = (all.0, rest fits all.1 rising.1)
-
-pub rows_changed_fit : (name : List ℕ) (rows : Table → List Row) (tables : List Table)
-    → ((t : Table) → table_named name tables ≡ Some t → FitsTable t → FitsTable (record { name = t.name; schema = t.schema; rows = rows t }))
-    → FitTables tables → FitTables (with_rows name rows tables)
-rows_changed_fit name rows tables fits before = record {
-  each = each_changed name rows tables fits before.each before.rising;
-  rising = subst AreRising (sym (names_kept name rows tables)) before.rising;
-  count = omega (arith, length-map tables (λ (t : Table). cond (bytes_eq t.name name) (record { name = t.name; schema = t.schema; rows = rows t }) t), before.count);
-}
-
-table_inserted : (values : List Value) (t : Table) → FitCounted FitsValue values → IsInsertable t values → FitsTable t
-    → FitsTable (record { name = t.name; schema = t.schema; rows = put_row (row_of t.schema values) t.rows })
-table_inserted values t fits is before =
-    let longer : length (put_row (row_of t.schema values) t.rows) ≡ suc (length t.rows) = put_row_length (row_of t.schema values) t.rows in
-    let room : length t.rows < most_rows = is.room in
-    record {
-      name = before.name;
-      schema = before.schema;
-      rows = each_put_row FitsRow (row_of t.schema values) t.rows (row_fits t values before.schema fits is) before.rows;
-      kinds = each_put_row (HasKinds t.schema) (row_of t.schema values) t.rows (row_has_kinds t values before.schema fits.2 is) before.kinds;
-      count = omega arith;
-    }
-
-pub inserted_fit : (name : List ℕ) (values : List Value) (tables : List Table) → FitsCommand (Insert name values)
-    → refusal (Insert name values) (map heading_of tables) ≡ None → FitTables tables
-    → FitTables (with_rows name (λ t. put_row (row_of t.schema values) t.rows) tables)
-unfolding FitsCommand
-inserted_fit name values tables fits e before =
-    rows_changed_fit name (λ t. put_row (row_of t.schema values) t.rows) tables (λ t found is. table_inserted values t fits.1 (insertable name values tables e t found) is) before

@@ -21,8 +21,8 @@ use Rattle.vo_laws.proofs.ListLaws.{zip_filter}
 pub use Rattle.vo_laws.proofs.TableSteps.{InStep}
 use Rattle.vo_laws.proofs.TableSteps.{is_doubled, create_in_step, made_stands, insert_in_step, update_in_step, delete_in_step}
 use Rattle.vo_laws.proofs.Exact.{one_heading}
-use Rattle.vo_laws.proofs.CommandLaws.{table_there, insertable, key_inserted, FitsTable, FitTables, dropped_fit, created_fit, rows_changed_fit, inserted_fit}
-use Rattle.vo_laws.proofs.TableChanges.{updatable, updated_table_fits, removed_table_fits}
+use Rattle.vo_laws.proofs.CommandLaws.{table_there, insertable, key_inserted, FitsTable, FitTables, dropped_fit, created_fit}
+use Rattle.vo_laws.proofs.TableChanges.{rows_changed_fit, inserted_fit, updatable, updated_table_fits, removed_table_fits}
 
 pub stored_headings : (stored : List Stored) (tables : List Table) → StandForTables stored tables → map stored_heading stored ≡ map heading_of tables
 stored_headings [] [] z = refl

@@ -1,8 +1,9 @@
--- Rows of a plain table that are changed or removed: the table keeps its limits.
+-- Rows of a plain table that are put, changed or removed: the tables keep their limits.
 use Rattle.std.proofs.Common.{◌≡◌, ℕ, zero, suc, ◌-◌, ◌<◌, ◌≤◌, Bool, true, false, cond, List, [], ◌∷◌, Some, None, length, map, refl, sym, ap, ◌∙◌, subst, arith}
 use Rattle.std.specs.Prelude.{◌&&◌, ◌==◌, not, nat_lt, remove, bytes_eq, slice_set}
 use Rattle.std.specs.List.{list_any, list_all, AllByRecursion}
 use Rattle.std.proofs.lemmas.Bool.{and_parts, or_parts, and_from, both_ways, eq-eqb, ltb-true, ltb-false}
+use Rattle.std.proofs.lemmas.Slice.Eq.{bytes_eq-Decides}
 use Rattle.std.proofs.lemmas.List.{length-map, length-set}
 use Rattle.std.proofs.lemmas.List.Elements.{All-from_recursion, recursion_from_All}
 use Rattle.vo_spec.specs.declared.values.Value.{Value}
@@ -11,13 +12,79 @@ use Rattle.vo_spec.specs.declared.tables.Column.{Column}
 use Rattle.vo_spec.specs.declared.tables.Schema.{Schema}
 use Rattle.vo_spec.specs.declared.tables.Table.{Table}
 use Rattle.vo_spec.specs.declared.tables.SetPart.{SetPart}
-use Rattle.vo_spec.specs.declared.tables.Command.TheVariants.{Update}
-use Rattle.vo_spec.specs.Values.{kind_of, same_kind, FitsValue}
-use Rattle.vo_spec.specs.Tables.{column_at, column_number, cell_number, has_twice, are_of_kinds, heading_of, is_key, suits, update_tests, refusal, CellChange, changed_cells, changed_row, cell_changes, without_row, table_named}
-use Rattle.vo_spec.specs.Batches.{FitsSet}
+use Rattle.vo_spec.specs.declared.tables.Command.TheVariants.{Insert, Update}
+use Rattle.vo_spec.specs.Values.{kind_of, same_kind, key_lt, FitsValue}
+use Rattle.vo_spec.specs.Tables.{most_rows, column_at, column_number, cell_number, has_twice, are_of_kinds, heading_of, is_key, suits, update_tests, refusal, row_of, put_row, with_rows, CellChange, changed_cells, changed_row, cell_changes, without_row, table_named}
+use Rattle.vo_spec.specs.Batches.{FitCounted, FitsSet, FitsCommand}
 use Rattle.vo_spec.specs.Fits.{FitsRow}
+use Rattle.vo_spec.specs.Standing.{AreRising}
 use Rattle.vo_laws.proofs.ListLaws.{each_weaker, each_map, none_any}
-use Rattle.vo_laws.proofs.CommandLaws.{not_false, tests_fail, HasKinds, FitsTable, each_filter, filter_shorter}
+use Rattle.vo_laws.proofs.Growing.{other_back}
+use Rattle.vo_laws.proofs.CommandLaws.{not_false, tests_fail, IsInsertable, insertable, HasKinds, row_has_kinds, FitsTable, names_of, FitTables, each_filter, filter_shorter, each_put_row, put_row_length, row_fits}
+
+-- The rows of one table.
+
+names_kept : (name : List ℕ) (rows : Table → List Row) (tables : List Table) → names_of (with_rows name rows tables) ≡ names_of tables
+names_kept name rows [] = refl
+names_kept name rows (t ∷ tables) = step (bytes_eq t.name name) (names_kept name rows tables)
+  where
+    step : (b : Bool) → names_of (with_rows name rows tables) ≡ names_of tables
+        → (cond b (record { name = t.name; schema = t.schema; rows = rows t }) t).name ∷ names_of (with_rows name rows tables) ≡ t.name ∷ names_of tables
+    step true rest = ap (λ z. t.name ∷ z) rest
+    step false rest = ap (λ z. t.name ∷ z) rest
+
+-- where names rise, no table behind one has its name, and none of another name is changed
+pub others_kept : (name : List ℕ) (rows : Table → List Row) (tables : List Table) → AllByRecursion (λ k. key_lt name k ≡ true) (names_of tables) → with_rows name rows tables ≡ tables
+others_kept name rows [] all = refl
+others_kept name rows (t ∷ tables) all = rw (other_back t.name name all.0, others_kept name rows tables all.1) refl
+
+-- where the table of this name fits with its other rows, all tables do
+each_changed : (name : List ℕ) (rows : Table → List Row) (tables : List Table)
+    → ((t : Table) → table_named name tables ≡ Some t → FitsTable t → FitsTable (record { name = t.name; schema = t.schema; rows = rows t }))
+    → AllByRecursion FitsTable tables → AreRising (names_of tables) → AllByRecursion FitsTable (with_rows name rows tables)
+each_changed name rows [] fits all rising = tt
+each_changed name rows (t ∷ tables) fits all rising = step (bytes_eq t.name name) refl fits (each_changed name rows tables)
+  where
+    step : (b : Bool) → bytes_eq t.name name ≡ b
+        → ((u : Table) → cond b (Some t) (table_named name tables) ≡ Some u → FitsTable u → FitsTable (record { name = u.name; schema = u.schema; rows = rows u }))
+        → (((u : Table) → table_named name tables ≡ Some u → FitsTable u → FitsTable (record { name = u.name; schema = u.schema; rows = rows u }))
+        → AllByRecursion FitsTable tables → AreRising (names_of tables) → AllByRecursion FitsTable (with_rows name rows tables))
+        → AllByRecursion FitsTable (cond b (record { name = t.name; schema = t.schema; rows = rows t }) t ∷ with_rows name rows tables)
+    step true f fits rest =
+        let name_is : t.name ≡ name = (bytes_eq-Decides t.name name).0 f in (
+          fits t refl all.0,
+          subst (AllByRecursion FitsTable) (sym (others_kept name rows tables (subst (λ n. AllByRecursion (λ k. key_lt n k ≡ true) (names_of tables)) name_is rising.0))) all.1,
+        )
+    step false f fits rest = (all.0, rest fits all.1 rising.1)
+
+pub rows_changed_fit : (name : List ℕ) (rows : Table → List Row) (tables : List Table)
+    → ((t : Table) → table_named name tables ≡ Some t → FitsTable t → FitsTable (record { name = t.name; schema = t.schema; rows = rows t }))
+    → FitTables tables → FitTables (with_rows name rows tables)
+rows_changed_fit name rows tables fits before = record {
+  each = each_changed name rows tables fits before.each before.rising;
+  rising = subst AreRising (sym (names_kept name rows tables)) before.rising;
+  count = omega (arith, length-map tables (λ (t : Table). cond (bytes_eq t.name name) (record { name = t.name; schema = t.schema; rows = rows t }) t), before.count);
+}
+
+table_inserted : (values : List Value) (t : Table) → FitCounted FitsValue values → IsInsertable t values → FitsTable t
+    → FitsTable (record { name = t.name; schema = t.schema; rows = put_row (row_of t.schema values) t.rows })
+table_inserted values t fits is before =
+    let longer : length (put_row (row_of t.schema values) t.rows) ≡ suc (length t.rows) = put_row_length (row_of t.schema values) t.rows in
+    let room : length t.rows < most_rows = is.room in
+    record {
+      name = before.name;
+      schema = before.schema;
+      rows = each_put_row FitsRow (row_of t.schema values) t.rows (row_fits t values before.schema fits is) before.rows;
+      kinds = each_put_row (HasKinds t.schema) (row_of t.schema values) t.rows (row_has_kinds t values before.schema fits.2 is) before.kinds;
+      count = omega arith;
+    }
+
+pub inserted_fit : (name : List ℕ) (values : List Value) (tables : List Table) → FitsCommand (Insert name values)
+    → refusal (Insert name values) (map heading_of tables) ≡ None → FitTables tables
+    → FitTables (with_rows name (λ t. put_row (row_of t.schema values) t.rows) tables)
+unfolding FitsCommand
+inserted_fit name values tables fits e before =
+    rows_changed_fit name (λ t. put_row (row_of t.schema values) t.rows) tables (λ t found is. table_inserted values t fits.1 (insertable name values tables e t found) is) before
 
 -- What is known of an update that no heading refuses.
 
@@ -112,8 +179,8 @@ cells_kinds schema (s ∷ sets) cells is e =
     (kinds_set (remove schema.columns schema.key) cells (cell_number schema.key number) s.value e
     (ap (λ (c : Column). same_kind c.kind (kind_of s.value)) (cell_column schema.columns schema.key number other) ∙ is.0.1))
 
-row_fits : (schema : Schema) (key : List ℕ) (sets : List SetPart) → AllByRecursion FitsSet sets → (row : Row) → FitsRow row → FitsRow (changed_row key (cell_changes schema sets) row)
-row_fits schema key sets fits row is = step (bytes_eq row.key key)
+changed_row_fits : (schema : Schema) (key : List ℕ) (sets : List SetPart) → AllByRecursion FitsSet sets → (row : Row) → FitsRow row → FitsRow (changed_row key (cell_changes schema sets) row)
+changed_row_fits schema key sets fits row is = step (bytes_eq row.key key)
   where
     step : (b : Bool) → FitsRow (cond b (record { key = row.key; cells = changed_cells (cell_changes schema sets) row.cells }) row)
     step true = record {
@@ -125,9 +192,9 @@ row_fits schema key sets fits row is = step (bytes_eq row.key key)
     }
     step false = is
 
-row_kinds : (schema : Schema) (key : List ℕ) (sets : List SetPart) → AllByRecursion (SetFits schema) sets → (row : Row) → HasKinds schema row
+changed_row_kinds : (schema : Schema) (key : List ℕ) (sets : List SetPart) → AllByRecursion (SetFits schema) sets → (row : Row) → HasKinds schema row
     → HasKinds schema (changed_row key (cell_changes schema sets) row)
-row_kinds schema key sets suit row is = step (bytes_eq row.key key)
+changed_row_kinds schema key sets suit row is = step (bytes_eq row.key key)
   where
     step : (b : Bool) → HasKinds schema (cond b (record { key = row.key; cells = changed_cells (cell_changes schema sets) row.cells }) row)
     step true = record { key = is.key; cells = cells_kinds schema sets row.cells suit is.cells }
@@ -141,9 +208,9 @@ updated_table_fits key sets t fits suit is = record {
   name = is.name;
   schema = is.schema;
   rows = each_map FitsRow (changed_row key (cell_changes t.schema sets)) t.rows
-      (each_weaker FitsRow (λ row. FitsRow (changed_row key (cell_changes t.schema sets) row)) (row_fits t.schema key sets fits) t.rows is.rows);
+      (each_weaker FitsRow (λ row. FitsRow (changed_row key (cell_changes t.schema sets) row)) (changed_row_fits t.schema key sets fits) t.rows is.rows);
   kinds = each_map (HasKinds t.schema) (changed_row key (cell_changes t.schema sets)) t.rows
-      (each_weaker (HasKinds t.schema) (λ row. HasKinds t.schema (changed_row key (cell_changes t.schema sets) row)) (row_kinds t.schema key sets suit) t.rows is.kinds);
+      (each_weaker (HasKinds t.schema) (λ row. HasKinds t.schema (changed_row key (cell_changes t.schema sets) row)) (changed_row_kinds t.schema key sets suit) t.rows is.kinds);
   count = omega (arith, length-map t.rows (changed_row key (cell_changes t.schema sets)), is.count);
 }
 

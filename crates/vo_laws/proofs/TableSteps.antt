@@ -32,7 +32,8 @@ use Rattle.vo_laws.proofs.ListLaws.{each_weaker, each_map}
 use Rattle.vo_laws.specs.Changing.{Changes}
 use Rattle.vo_laws.proofs.StandingTrees.{Inserts, inserted_stands, removed_stands, replaced_stands}
 use Rattle.vo_laws.proofs.Exact.{nothing_stands}
-use Rattle.vo_laws.proofs.CommandLaws.{names_of, others_kept, each_filter, each_put_row}
+use Rattle.vo_laws.proofs.CommandLaws.{names_of, each_filter, each_put_row}
+use Rattle.vo_laws.proofs.TableChanges.{others_kept}
 
 -- Both go on in step, or both refuse for one reason.
 abbrev pub InStep : Result (List Stored) CommandFault → Result (List Table) CommandFault → Type 0

@@ -90,7 +90,7 @@ pub fn journals_grow_by_entries()
 {}
 
 /// Each entry that a store takes holds the record of the honest trees after the batches of its version, signed;
-/// these batches fit and are open, so the trees stand for that version's tables.
+/// these batches are open and fit, and the trees stand for that version's tables.
 pub fn journals_hold_honest_records()
     ensures record_is { (key : List ℕ) (es : List Entry) (version : ℕ) (e : Entry) → AreTaken key es → slice_get es version ≡ Some e
         → e.rec ≡ honest_record key version (honest_trees (batches_of (take version (drop 1 es)))) }
