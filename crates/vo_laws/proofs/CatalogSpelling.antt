@@ -17,7 +17,7 @@ use Rattle.vo_spec.specs.Batches.{counted, column_bytes}
 use Rattle.vo_spec.specs.Records.{catalog_table_bytes, catalog_bytes, catalog_digest, FitsCatalogTable, FitsCatalog}
 use Rattle.vo_laws.proofs.ConditionLaws.{same_kind_is}
 use Rattle.vo_laws.proofs.ValueOrder.{number_length}
-use Rattle.vo_laws.proofs.ProofSizes.{length-u16}
+use Rattle.vo_laws.proofs.ByteLengths.{length-u16}
 
 -- Pieces before anything more.
 

@@ -1,7 +1,7 @@
 -- Commands on plain tables: what a command that isn't refused keeps of them, and the facts of a row that is
 -- inserted.
-use Rattle.std.proofs.Common.{◌≡◌, ℕ, zero, suc, ◌+◌, ◌<◌, ◌≤◌, Bool, true, false, cond, List, [], ◌∷◌, Some, None, length, map, take, drop, inl, inr, refl, sym, ap, ◌∙◌, subst, arith}
-use Rattle.std.specs.Prelude.{◌||◌, ◌==◌, not, nat_lt, nat_le, filter, remove, option_map, bytes_eq, is_some}
+use Rattle.std.proofs.Common.{◌≡◌, ℕ, zero, suc, ◌+◌, ◌<◌, ◌≤◌, Bool, true, false, cond, List, [], ◌∷◌, Option, Some, None, length, map, take, drop, inl, inr, refl, sym, ap, ◌∙◌, arith}
+use Rattle.std.specs.Prelude.{◌||◌, ◌==◌, not, nat_le, filter, remove, option_map, bytes_eq, is_some}
 use Rattle.std.specs.Option.{option_map_or}
 use Rattle.std.specs.List.{AllByRecursion}
 use Rattle.std.proofs.lemmas.Bool.{and_parts, or_parts, both_ways, cases_Bool, not-true, not_from_false, eqb-true, ltb-true, ltb-false, leb-false, and_from, eq-eqb, le-leb}
@@ -19,10 +19,10 @@ use Rattle.vo_spec.specs.declared.tables.Schema.{Schema}
 use Rattle.vo_spec.specs.declared.tables.Table.{Table}
 use Rattle.vo_spec.specs.declared.tables.Command.TheVariants.{Create, Insert}
 use Rattle.vo_spec.specs.declared.tables.CommandFault.{CommandFault}
-use Rattle.vo_spec.specs.declared.tables.CommandFault.TheVariants.{TableExists, NoTable, BadSchema, Arity, TypeMismatch, TableFull, TooManyTables, KeyTooLong}
+use Rattle.vo_spec.specs.declared.tables.CommandFault.TheVariants.{TableExists, NoTable, BadSchema, TooManyTables}
 use Rattle.vo_spec.specs.Firsts.{first_of}
 use Rattle.vo_spec.specs.Values.{kind_of, same_kind, key_of, key_lt, FitsValue, IsInRange, IsKeyOf, is_text}
-use Rattle.vo_spec.specs.Tables.{most_tables, most_rows, most_key, value_at, column_at, column_number, has_column, has_twice, are_of_kinds, Heading, heading_of, heading_named, is_bad_schema, refusal, row_of, put_row, table_named, put_table, with_rows}
+use Rattle.vo_spec.specs.Tables.{most_tables, most_rows, most_key, value_at, column_at, column_number, has_column, has_twice, are_of_kinds, Heading, heading_of, heading_named, is_bad_schema, insert_tests, on_table, refusal, row_of, put_row, table_named, put_table}
 use Rattle.vo_spec.specs.Names.{FitsName}
 use Rattle.vo_spec.specs.Batches.{FitCounted, FitsCommand}
 use Rattle.vo_spec.specs.Records.{FitsSchema}
@@ -33,7 +33,10 @@ use Rattle.vo_laws.proofs.KeyOrder.{same_key, key_lt_lt}
 use Rattle.vo_laws.proofs.ListLaws.{each_weaker, each_both, each_map, each_mapped}
 use Rattle.vo_laws.proofs.ValueOrder.{number_length}
 use Rattle.vo_laws.proofs.ConditionLaws.{same_kind_is}
-use Rattle.vo_laws.proofs.Growing.{other_back}
+
+pub not_false : (b : Bool) → not b ≡ false → b ≡ true
+not_false true e = refl
+not_false false e = absurd (cc)
 
 -- None of the tests holds where none gives a fault.
 none_holds : {F : Type 0} (tests : List (Bool × F)) → first_of tests ≡ None → AllByRecursion (λ (t : Bool × F). t.0 ≡ false) tests
@@ -61,29 +64,31 @@ pub record IsInsertable (t : Table) (values : List Value) : Type 0 where
   pub short : length (key_of (value_at values t.schema.key)) ≤ most_key
   pub room : length t.rows < most_rows
 
+-- the table of a command that no heading refuses is there, and none of the command's tests on it holds
+pub table_there : (name : List ℕ) (tests : Heading → List (Bool × CommandFault)) (tables : List Table) → on_table name (map heading_of tables) tests ≡ None
+    → is_some (table_named name tables) ≡ true
+table_there name tests tables e = step (table_named name tables) (ap (λ o. option_map_or (λ h. first_of (tests h)) o (Some NoTable)) (sym (heading_found name tables)) ∙ e)
+  where
+    step : (o : Option Table) → option_map_or (λ h. first_of (tests h)) (option_map heading_of o) (Some NoTable) ≡ None → is_some o ≡ true
+    step (Some t) f = refl
+    step None f = absurd (cc)
+
+pub tests_fail : (name : List ℕ) (tests : Heading → List (Bool × CommandFault)) (tables : List Table) → on_table name (map heading_of tables) tests ≡ None
+    → (t : Table) → table_named name tables ≡ Some t → AllByRecursion (λ (x : Bool × CommandFault). x.0 ≡ false) (tests (heading_of t))
+tests_fail name tests tables e t found =
+    let here : heading_named name (map heading_of tables) ≡ Some (heading_of t) = heading_found name tables ∙ ap (option_map heading_of) found in
+    none_holds (tests (heading_of t)) (ap (λ o. option_map_or (λ h. first_of (tests h)) o (Some NoTable)) (sym here) ∙ e)
+
 pub insertable : (name : List ℕ) (values : List Value) (tables : List Table) → refusal (Insert name values) (map heading_of tables) ≡ None
     → (t : Table) → table_named name tables ≡ Some t → IsInsertable t values
 insertable name values tables e t found =
-    let here : heading_named name (map heading_of tables) ≡ Some (heading_of t) = heading_found name tables ∙ ap (option_map heading_of) found in
-    let tests = none_holds (tests_of (heading_of t)) (ap (λ o. option_map_or (λ h. first_of (tests_of h)) o (Some NoTable)) (sym here) ∙ e) in
+    let tests = tests_fail name (insert_tests values) tables e t found in
     record {
       arity = eqb-true (length values) (length t.schema.columns) (not_false (length values == length t.schema.columns) tests.0);
       kinds = not_false (are_of_kinds t.schema.columns values) tests.1.0;
       short = ltb-false most_key (length (key_of (value_at values t.schema.key))) tests.1.1.0;
       room = leb-false most_rows (length t.rows) tests.1.1.1.0;
     }
-  where
-    not_false : (b : Bool) → not b ≡ false → b ≡ true
-    not_false true f = refl
-    not_false false f = absurd (cc)
-
-    tests_of : Heading → List (Bool × CommandFault)
-    tests_of h =
-        (not (length values == length h.schema.columns), Arity)
-        ∷ (not (are_of_kinds h.schema.columns values), TypeMismatch)
-        ∷ (nat_lt most_key (length (key_of (value_at values h.schema.key))), KeyTooLong)
-        ∷ (nat_le most_rows h.count, TableFull)
-        ∷ []
 
 kind_there : (columns : List Column) (values : List Value) (i : ℕ) → are_of_kinds columns values ≡ true → i < length columns
     → same_kind (column_at columns i).kind (kind_of (value_at values i)) ≡ true
@@ -145,7 +150,7 @@ is_key kind.Text (Text s) e other fits short = and_from (nat_le (length s) 255) 
 is_key kind.Text (Truth b) e other fits short = absurd (cc)
 is_key kind.Bool v e other fits short = absurd (cc)
 
-row_has_kinds : (t : Table) (values : List Value) → FitsSchema t.schema → AllByRecursion FitsValue values → IsInsertable t values
+pub row_has_kinds : (t : Table) (values : List Value) → FitsSchema t.schema → AllByRecursion FitsValue values → IsInsertable t values
     → HasKinds t.schema (row_of t.schema values)
 row_has_kinds t values schema fits is = record {
   key = is_key (key_kind t.schema) (value_at values t.schema.key)
@@ -191,11 +196,11 @@ filter_rises test (t ∷ tables) r = step (test t) (filter_rises test tables r.1
     )
     step false rest = rest
 
-filter_shorter : (test : Table → Bool) (tables : List Table) → length (filter test tables) ≤ length tables
+pub filter_shorter : {A : Type 0} (test : A → Bool) (xs : List A) → length (filter test xs) ≤ length xs
 filter_shorter test [] = omega arith
-filter_shorter test (t ∷ tables) = step (test t) (filter_shorter test tables)
+filter_shorter {A} test (x ∷ xs) = step (test x) (filter_shorter test xs)
   where
-    step : (b : Bool) → length (filter test tables) ≤ length tables → length (cond b (t ∷ filter test tables) (filter test tables)) ≤ suc (length tables)
+    step : (b : Bool) → length (filter test xs) ≤ length xs → length (cond b (x ∷ filter test xs) (filter test xs)) ≤ suc (length xs)
     step true rest = omega arith
     step false rest = omega arith
 
@@ -271,7 +276,7 @@ created_fit name columns key tables fits e before =
             schema = record {
               columns = fits.1;
               once = not_from_false (has_twice (map (λ (c : Column). c.name) columns)) names.0;
-              key_in = ltb-true (column_number columns key) (length columns) (there (has_column columns key) names.1);
+              key_in = ltb-true (column_number columns key) (length columns) (not_false (has_column columns key) names.1);
               key_kind = not_from_false (same_kind (column_at columns (column_number columns key)).kind kind.Bool) schema.1;
             };
             rows = tt;
@@ -281,10 +286,6 @@ created_fit name columns key tables fits e before =
       rising = put_table_rises made tables (named_nowhere name tables tests.0) before.rising;
       count = omega (arith, length-map tables heading_of);
     }
-  where
-    there : (b : Bool) → not b ≡ false → b ≡ true
-    there true f = refl
-    there false f = absurd (cc)
 
 -- A row is put into a table.
 
@@ -296,7 +297,7 @@ each_put_row P row (r ∷ rows) p all = step (key_lt row.key r.key) (each_put_ro
     step true rest = (p, (all.0, all.1))
     step false rest = (all.0, rest)
 
-put_row_length : (row : Row) (rows : List Row) → length (put_row row rows) ≡ suc (length rows)
+pub put_row_length : (row : Row) (rows : List Row) → length (put_row row rows) ≡ suc (length rows)
 put_row_length row [] = refl
 put_row_length row (r ∷ rows) = step (key_lt row.key r.key) (put_row_length row rows)
   where
@@ -328,52 +329,3 @@ row_fits t values schema fits is =
             (each_both FitsValue (take t.schema.key values) (drop (suc t.schema.key) values) (each_taken t.schema.key values fits.2) (each_dropped (suc t.schema.key) values fits.2));
       };
     }
-
-names_kept : (name : List ℕ) (rows : Table → List Row) (tables : List Table) → names_of (with_rows name rows tables) ≡ names_of tables
-names_kept name rows [] = refl
-names_kept name rows (t ∷ tables) = step (bytes_eq t.name name) (names_kept name rows tables)
-  where
-    step : (b : Bool) → names_of (with_rows name rows tables) ≡ names_of tables
-        → (cond b (record { name = t.name; schema = t.schema; rows = rows t }) t).name ∷ names_of (with_rows name rows tables) ≡ t.name ∷ names_of tables
-    step true rest = ap (λ z. t.name ∷ z) rest
-    step false rest = ap (λ z. t.name ∷ z) rest
-
--- where names rise, no table behind one has its name, and none of another name is changed
-pub others_kept : (name : List ℕ) (rows : Table → List Row) (tables : List Table) → AllByRecursion (λ k. key_lt name k ≡ true) (names_of tables) → with_rows name rows tables ≡ tables
-others_kept name rows [] all = refl
-others_kept name rows (t ∷ tables) all = rw (other_back t.name name all.0, others_kept name rows tables all.1) refl
-
-each_changed : (name : List ℕ) (values : List Value) (tables : List Table) → FitCounted FitsValue values → ((t : Table) → table_named name tables ≡ Some t → IsInsertable t values)
-    → AllByRecursion FitsTable tables → AreRising (names_of tables) → AllByRecursion FitsTable (with_rows name (λ t. put_row (row_of t.schema values) t.rows) tables)
-each_changed name values [] fits is all rising = tt
-each_changed name values (t ∷ tables) fits is all rising = step (bytes_eq t.name name) refl is (each_changed name values tables fits)
-  where
-    step : (b : Bool) → bytes_eq t.name name ≡ b → ((u : Table) → cond b (Some t) (table_named name tables) ≡ Some u → IsInsertable u values)
-        → (((u : Table) → table_named name tables ≡ Some u → IsInsertable u values) → AllByRecursion FitsTable tables → AreRising (names_of tables)
-        → AllByRecursion FitsTable (with_rows name (λ u. put_row (row_of u.schema values) u.rows) tables))
-        → AllByRecursion FitsTable (cond b (record { name = t.name; schema = t.schema; rows = put_row (row_of t.schema values) t.rows }) t ∷ with_rows name (λ u. put_row (row_of u.schema values) u.rows) tables)
-    step true f is rest =
-        let here : IsInsertable t values = is t refl in
-        let longer : length (put_row (row_of t.schema values) t.rows) ≡ suc (length t.rows) = put_row_length (row_of t.schema values) t.rows in
-        let room : length t.rows < most_rows = here.room in
-        let name_is : t.name ≡ name = (bytes_eq-Decides t.name name).0 f in (
-          record {
-            name = all.0.name;
-            schema = all.0.schema;
-            rows = each_put_row FitsRow (row_of t.schema values) t.rows (row_fits t values all.0.schema fits here) all.0.rows;
-            kinds = each_put_row (HasKinds t.schema) (row_of t.schema values) t.rows (row_has_kinds t values all.0.schema fits.2 here) all.0.kinds;
-            count = omega arith;
-          },
-          subst (AllByRecursion FitsTable) (sym (others_kept name (λ u. put_row (row_of u.schema values) u.rows) tables (subst (λ n. AllByRecursion (λ k. key_lt n k ≡ true) (names_of tables)) name_is rising.0))) all.1,
-        )
-    step false f is rest = (all.0, rest is all.1 rising.1)
-
-pub inserted_fit : (name : List ℕ) (values : List Value) (tables : List Table) → FitsCommand (Insert name values)
-    → refusal (Insert name values) (map heading_of tables) ≡ None → FitTables tables
-    → FitTables (with_rows name (λ t. put_row (row_of t.schema values) t.rows) tables)
-unfolding FitsCommand
-inserted_fit name values tables fits e before = record {
-  each = each_changed name values tables fits.1 (insertable name values tables e) before.each before.rising;
-  rising = subst AreRising (sym (names_kept name (λ t. put_row (row_of t.schema values) t.rows) tables)) before.rising;
-  count = omega (arith, length-map tables (λ (t : Table). cond (bytes_eq t.name name) (record { name = t.name; schema = t.schema; rows = put_row (row_of t.schema values) t.rows }) t), before.count);
-}

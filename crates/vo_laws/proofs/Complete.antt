@@ -31,7 +31,7 @@ use Rattle.vo_spec.specs.Checks.{table_named, has_table_shape, root_fault, trees
 use Rattle.vo_spec.specs.Replies.{Reply}
 use Rattle.vo_spec.specs.Lms.{key_id, lms_valid}
 use Rattle.vo_spec.specs.Owners.{IsSigned}
-use Rattle.vo_spec.specs.Honest.{Stored, StandForTables, catalog_of, stored_tree, pruned_each, honest_reply, honest_trees, honest_record, AreOpen}
+use Rattle.vo_spec.specs.Honest.{Stored, StandForTables, catalog_of, stored_tree, pruned_each, honest_reply, honest_trees, honest_record}
 use Rattle.vo_laws.proofs.StandingLaws.{stands}
 use Rattle.vo_laws.proofs.ListLaws.{IsIn, each_both}
 use Rattle.vo_laws.proofs.ScanLaws.{Gives, Shows, sound, complete}
@@ -295,11 +295,11 @@ module _ (stored : List Stored) (tables : List Table) (stand : StandForTables st
 -- The reply of a store that holds the trees after these batches: a client takes it, with the query's result on
 -- the tables after them.
 pub honest_answer : (batches : List (List Command)) (key : List ℕ) (version least : ℕ) (q : Query) (rec : Record) (signature : List ℕ)
-    → AllByRecursion FitsBatch batches → AreOpen batches → rec ≡ honest_record key version (honest_trees batches) → IsSigned key rec signature
+    → AllByRecursion FitsBatch batches → rec ≡ honest_record key version (honest_trees batches) → IsSigned key rec signature
     → least ≤ rec.version → FitsQuery q
     → answer_to key least q (honest_reply q rec signature (honest_trees batches)) ≡ Ok (record { version = rec.version; outcome = result q (tables_after batches) })
 unfolding honest_record
-honest_answer batches key version least q rec signature fits o is signed recent query_fits =
-    let s = stands batches fits o in
+honest_answer batches key version least q rec signature fits is signed recent query_fits =
+    let s = stands batches fits in
     answered (honest_trees batches) (tables_after batches) s.0 s.1 key least q rec signature
     (ap (λ (r : Record). r.id) is) (ap (λ (r : Record). r.catalog) is) signed recent query_fits

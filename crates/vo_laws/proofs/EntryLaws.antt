@@ -217,4 +217,4 @@ open_at key v es all = each_open v (drop 1 es) (are_open key es all)
 pub stand_at : (key : List ℕ) (v : ℕ) (es : List Entry) → AreTaken key es → AllByRecursion FitsEntry es
     → StandForTables (honest_trees (batches_of (take v (drop 1 es)))) (tables_at v es)
 unfolding tables_at
-stand_at key v es all fits = (stands (batches_of (take v (drop 1 es))) (fit_at v es fits) (open_at key v es all)).0
+stand_at key v es all fits = (stands (batches_of (take v (drop 1 es))) (fit_at v es fits)).0

@@ -74,7 +74,7 @@ any_append test (x ∷ xs) ys = step (test x) (any_append test xs ys)
     step true rest = refl
     step false rest = rest
 
-other_key : (a b : List ℕ) → key_lt a b ≡ true → bytes_eq a b ≡ false
+pub other_key : (a b : List ℕ) → key_lt a b ≡ true → bytes_eq a b ≡ false
 other_key a b e = step (bytes_eq a b) refl
   where
     step : (c : Bool) → bytes_eq a b ≡ c → c ≡ false
@@ -88,11 +88,11 @@ other_back a b e = step (bytes_eq a b) refl
     step true f = absurd (both_ways (key_lt b a) (subst (λ z. key_lt z a ≡ false) ((bytes_eq-Decides a b).0 f) (key_lt_itself a)) e)
     step false f = refl
 
-none_above : (key : List ℕ) (fs : List PartEntry) → AllByRecursion (Above key) fs → has_key row_family key fs ≡ false
+pub none_above : (key : List ℕ) (fs : List PartEntry) → AllByRecursion (Above key) fs → has_key row_family key fs ≡ false
 none_above key [] all = refl
 none_above key (f ∷ fs) all = rw (other_back f.key key all.0) (none_above key fs all.1)
 
-none_below : (key : List ℕ) (fs : List PartEntry) → AllByRecursion (Below key) fs → has_key row_family key fs ≡ false
+pub none_below : (key : List ℕ) (fs : List PartEntry) → AllByRecursion (Below key) fs → has_key row_family key fs ≡ false
 none_below key [] all = refl
 none_below key (f ∷ fs) all = rw (other_key f.key key all.0) (none_below key fs all.1)
 
@@ -160,13 +160,13 @@ IsGrown fewest height lower upper (two left key right) =
 
 -- A leaf is split.
 
-halves_grown : (fewest height : ℕ) (lower upper : Option (List ℕ)) (xs ys : List PartEntry) → height ≡ 0 → length xs ≡ 8 → 8 ≤ length ys → length ys ≤ 16
+pub halves_grown : (fewest height : ℕ) (lower upper : Option (List ℕ)) (xs ys : List PartEntry) → height ≡ 0 → 8 ≤ length xs → length xs ≤ 16 → 8 ≤ length ys → length ys ≤ 16
     → AllByRecursion (Between lower upper) (xs ++ ys) → AreRising (keys_in (xs ++ ys))
     → IsGrown fewest height lower upper (two (leaf xs) (first_key row_family ys) (leaf ys))
-halves_grown fewest height lower upper xs [] low left few many all rising = absurd (omega arith)
-halves_grown fewest height lower upper xs (y ∷ ys) low left few many all rising = (
+halves_grown fewest height lower upper xs [] low left_few left_many few many all rising = absurd (omega arith)
+halves_grown fewest height lower upper xs (y ∷ ys) low left_few left_many few many all rising = (
   within,
-  (low, omega arith, omega arith, lefts xs (each_left (Between lower upper) xs (y ∷ ys) all) (rising_before xs y ys rising)),
+  (low, left_few, left_many, lefts xs (each_left (Between lower upper) xs (y ∷ ys) all) (rising_before xs y ys rising)),
   (low, few, many, rights),
 )
   where
@@ -212,7 +212,7 @@ leaf_grown fewest height lower upper es low few many all rising = step (nat_le (
         let large : 16 < length es = leb-false (length es) 16 e in
         let left : length (take 8 es) ≡ 8 = omega (arith, length-take 8 es) in
         let right : length (drop 8 es) ≡ 9 = omega (arith, length-drop 8 es) in (
-          halves_grown fewest height lower upper (take 8 es) (drop 8 es) low left (omega arith) (omega arith)
+          halves_grown fewest height lower upper (take 8 es) (drop 8 es) low (omega arith) (omega arith) (omega arith) (omega arith)
               (subst (AllByRecursion (Between lower upper)) (sym whole) all) (subst (λ zs. AreRising (keys_in zs)) (sym whole) rising),
           whole,
         )
@@ -227,15 +227,15 @@ drop_none : (ps : RowTrees) → drop_parts 0 ps ≡ ps
 drop_none none = refl
 drop_none (more m p ps) = refl
 
-record AreSplit (k height : ℕ) (lower upper : Option (List ℕ)) (ss : List (List ℕ)) (ps : RowTrees) : Type 0 where
-  within : is_within lower upper (slice_index_or ss k []) ≡ true
-  left : AreNodes row_family height lower (Some (slice_index_or ss k [])) (take k ss) (take_parts (suc k) ps)
-  right : AreNodes row_family height (Some (slice_index_or ss k [])) upper (drop (suc k) ss) (drop_parts (suc k) ps)
-  left_count : count (take_parts (suc k) ps) ≡ suc k
-  right_count : count (drop_parts (suc k) ps) + suc k ≡ count ps
-  whole : entries_in (take_parts (suc k) ps) ++ entries_in (drop_parts (suc k) ps) ≡ entries_in ps
+pub record AreSplit (k height : ℕ) (lower upper : Option (List ℕ)) (ss : List (List ℕ)) (ps : RowTrees) : Type 0 where
+  pub within : is_within lower upper (slice_index_or ss k []) ≡ true
+  pub left : AreNodes row_family height lower (Some (slice_index_or ss k [])) (take k ss) (take_parts (suc k) ps)
+  pub right : AreNodes row_family height (Some (slice_index_or ss k [])) upper (drop (suc k) ss) (drop_parts (suc k) ps)
+  pub left_count : count (take_parts (suc k) ps) ≡ suc k
+  pub right_count : count (drop_parts (suc k) ps) + suc k ≡ count ps
+  pub whole : entries_in (take_parts (suc k) ps) ++ entries_in (drop_parts (suc k) ps) ≡ entries_in ps
 
-narrower : (lower upper : Option (List ℕ)) (s z : List ℕ) → is_within lower upper s ≡ true → is_within (Some s) upper z ≡ true
+pub narrower : (lower upper : Option (List ℕ)) (s z : List ℕ) → is_within lower upper s ≡ true → is_within (Some s) upper z ≡ true
     → (is_within lower upper z ≡ true) × (is_within lower (Some z) s ≡ true)
 narrower lower upper s z a b =
     let p = and_parts (is_from lower s) (is_up_to upper s) a in
@@ -246,7 +246,7 @@ narrower lower upper s z a b =
     higher None f g = refl
     higher (Some l) f g = not_from_false (key_lt z l) (key_le_le l s z (not-true (key_lt s l) f) (not-true (key_lt z s) g))
 
-nodes_split : (k height : ℕ) (lower upper : Option (List ℕ)) (ss : List (List ℕ)) (ps : RowTrees) → suc k < count ps
+pub nodes_split : (k height : ℕ) (lower upper : Option (List ℕ)) (ss : List (List ℕ)) (ps : RowTrees) → suc k < count ps
     → AreNodes row_family height lower upper ss ps → AreSplit k height lower upper ss ps
 nodes_split k height lower upper ss none lt n = absurd n
 nodes_split k height lower upper [] (more m p none) lt n = absurd (omega arith)

@@ -45,7 +45,7 @@ last_grows e height lower upper es (Err NoRow) g = absurd g
 last_grows e height lower upper es (Err Missing) g = absurd g
 last_grows e height lower upper es (Err Memory) g = absurd g
 
-wider : (lower upper : Option (List ℕ)) (s key : List ℕ) → is_within lower upper s ≡ true → is_within lower (Some s) key ≡ true → is_within lower upper key ≡ true
+pub wider : (lower upper : Option (List ℕ)) (s key : List ℕ) → is_within lower upper s ≡ true → is_within lower (Some s) key ≡ true → is_within lower upper key ≡ true
 wider lower upper s key a b =
     let p = and_parts (is_from lower s) (is_up_to upper s) a in
     let q = and_parts (is_from lower key) (not (key_lt s key)) b in
@@ -56,7 +56,7 @@ wider lower upper s key a b =
     up_to (Some u) f g = not_from_false (key_lt u key) (key_le_le key s u (not-true (key_lt s key) g) (not-true (key_lt u s) f))
 
 -- behind a new separator
-behind : (lower upper : Option (List ℕ)) (s key : List ℕ) → is_within lower upper s ≡ true → is_within lower (Some s) key ≡ true → is_within (Some key) upper s ≡ true
+pub behind : (lower upper : Option (List ℕ)) (s key : List ℕ) → is_within lower upper s ≡ true → is_within lower (Some s) key ≡ true → is_within (Some key) upper s ≡ true
 behind lower upper s key a b =
     and_from (not (key_lt s key)) (is_up_to upper s) (and_parts (is_from lower key) (not (key_lt s key)) b).1 (and_parts (is_from lower s) (is_up_to upper s) a).1
 
@@ -135,12 +135,12 @@ leaf_grows e fewest height lower upper es node rising here = step (has_key row_f
         (put_each (Between lower upper) e es here node.3) (put_rises e es h rising) in
         (h, i.0, i.1)
 
-each_above : (key s : List ℕ) (upper : Option (List ℕ)) (fs : List PartEntry) → key_lt key s ≡ true → AllByRecursion (Between (Some s) upper) fs → AllByRecursion (Above key) fs
+pub each_above : (key s : List ℕ) (upper : Option (List ℕ)) (fs : List PartEntry) → key_lt key s ≡ true → AllByRecursion (Between (Some s) upper) fs → AllByRecursion (Above key) fs
 each_above key s upper [] lt all = tt
 each_above key s upper (f ∷ fs) lt all =
     (key_lt_le key s f.key lt (not-true (key_lt f.key s) (and_parts (not (key_lt f.key s)) (is_before upper f.key) all.0).0), each_above key s upper fs lt all.1)
 
-each_below : (key s : List ℕ) (lower : Option (List ℕ)) (fs : List PartEntry) → key_lt key s ≡ false → AllByRecursion (Between lower (Some s)) fs → AllByRecursion (Below key) fs
+pub each_below : (key s : List ℕ) (lower : Option (List ℕ)) (fs : List PartEntry) → key_lt key s ≡ false → AllByRecursion (Between lower (Some s)) fs → AllByRecursion (Below key) fs
 each_below key s lower [] ge all = tt
 each_below key s lower (f ∷ fs) ge all =
     (key_lt_le f.key s key (and_parts (is_from lower f.key) (key_lt f.key s) all.0).1 ge, each_below key s lower fs ge all.1)
@@ -202,7 +202,7 @@ mutual
 
 -- A root.
 
-fewer : (few fewest height : ℕ) (lower upper : Option (List ℕ)) (t : RowTree) → few ≤ fewest → IsNode row_family fewest height lower upper t → IsNode row_family few height lower upper t
+pub fewer : (few fewest height : ℕ) (lower upper : Option (List ℕ)) (t : RowTree) → few ≤ fewest → IsNode row_family fewest height lower upper t → IsNode row_family few height lower upper t
 fewer few fewest height lower upper (stub d) le node = absurd node
 fewer few fewest height lower upper (leaf es) le node = (node.0, omega (arith, node.1), node.2, node.3)
 fewer few fewest height lower upper (inner ss ps) le node = (node.0, omega (arith, node.1), node.2, node.3)

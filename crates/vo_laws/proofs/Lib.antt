@@ -11,9 +11,18 @@ pub mod JoinLaws
 pub mod Exact
 pub mod Growing
 pub mod Grown
+pub mod Settling
+pub mod Shrinking
+pub mod Without
+pub mod Shrunk
+pub mod Edited
+pub mod StandingTrees
 pub mod CommandLaws
+pub mod TableChanges
+pub mod TableSteps
 pub mod StandingLaws
 pub mod TreeFits
+pub mod ChangedFits
 pub mod TreeLevels
 pub mod StoredFits
 pub mod PrunedLaws
@@ -22,6 +31,8 @@ pub mod NamedFits
 pub mod Complete
 pub mod PrunedFits
 pub mod ReplyFits
+pub mod ByteLengths
+pub mod ChangeProofs
 pub mod ProofSizes
 pub mod StepLaws
 pub mod EntryLaws

@@ -19,7 +19,7 @@ use Rattle.vo_spec.specs.Scans.{is_empty_interval, seen}
 use Rattle.vo_spec.specs.Pruned.{pruned}
 use Rattle.vo_spec.specs.Standing.{StandsFor}
 use Rattle.vo_spec.specs.Needs.{left_need, right_need, meets_left, seen_line, needs, tables_used, same_table, tree_at}
-use Rattle.vo_spec.specs.Honest.{Stored, StandForTables, AreOpen, catalog_of, stored_tree, trees_for, honest_trees}
+use Rattle.vo_spec.specs.Honest.{Stored, StandForTables, catalog_of, stored_tree, trees_for, honest_trees}
 use Rattle.vo_laws.proofs.CommandLaws.{FitTables}
 use Rattle.vo_laws.proofs.StandingLaws.{stands}
 use Rattle.vo_laws.proofs.NamedFits.{cells_of, named_fits, named_cells_below}
@@ -94,10 +94,10 @@ module _ (stored : List Stored) (tables : List Table) (stand : StandForTables st
   needs_of_left others = needs_by_seen (sides (headings (catalog_of stored)) q) q (pruned (need ∷ []) (tree_at (trees_for q stored) 0) ∷ others) (trees_for q stored) first_seen
 
 -- From the proof of the left tree for the left need, whatever trees stand behind it, come the needs of the whole trees.
-pub needs_from_proof : (batches : List (List Command)) (q : Query) (others : List RowTree) → AllByRecursion FitsBatch batches → AreOpen batches
+pub needs_from_proof : (batches : List (List Command)) (q : Query) (others : List RowTree) → AllByRecursion FitsBatch batches
     → let stored : List Stored = honest_trees batches in
     let ss : List Side = sides (headings (catalog_of stored)) q in
     needs ss q (pruned (left_need ss q ∷ []) (tree_at (trees_for q stored) 0) ∷ others) ≡ needs ss q (trees_for q stored)
-needs_from_proof batches q others fits o =
-    let s = stands batches fits o in
+needs_from_proof batches q others fits =
+    let s = stands batches fits in
     needs_of_left (honest_trees batches) (tables_after batches) s.0 s.1 q others

@@ -1,14 +1,12 @@
 -- The proofs of an insertion and of a batch are within the limits of their bytes: of each tree one path is open.
-use Rattle.std.proofs.Common.{◌≡◌, ℕ, suc, ◌+◌, ◌*◌, ◌≤◌, Bool, true, false, cond, List, [], ◌∷◌, ◌++◌, Option, Some, None, Result, Ok, Err, length, map, refl, arith}
-use Rattle.std.specs.Prelude.{not, find, flat_map, is_some, slice_get, drop, bytes_eq, IsTrue}
+use Rattle.std.proofs.Common.{◌≡◌, ℕ, suc, ◌+◌, ◌*◌, ◌≤◌, Bool, true, false, cond, List, [], ◌∷◌, ◌++◌, Option, Some, None, Result, Ok, Err, length, map, arith}
+use Rattle.std.specs.Prelude.{not, find, flat_map, is_some, slice_get, drop, bytes_eq}
 use Rattle.std.specs.Option.{option_map_or}
 use Rattle.std.specs.Result.{result_unwrap_or}
-use Rattle.std.specs.List.{list_all, AllByRecursion}
-use Rattle.std.proofs.lemmas.Bool.{and_parts}
+use Rattle.std.specs.List.{AllByRecursion}
 use Rattle.std.proofs.lemmas.List.{length-append, length-map}
 use Rattle.std.proofs.lemmas.List.Elements.{recursion_from_All}
 use Rattle.sha2.proofs.Facts256.{length-sha256}
-use Rattle.vo_spec.specs.declared.cells.PartEntry.{PartEntry}
 use Rattle.vo_spec.specs.declared.tables.Table.{Table}
 use Rattle.vo_spec.specs.declared.tables.Command.{Command}
 use Rattle.vo_spec.specs.declared.tables.Command.TheVariants.{Create, Drop, Insert, Update, Delete}
@@ -17,49 +15,22 @@ use Rattle.vo_spec.specs.Bytes.{u16_bytes, string}
 use Rattle.vo_spec.specs.Values.{key_of}
 use Rattle.vo_spec.specs.Tables.{value_at, refusal, apply, tables_after}
 use Rattle.vo_spec.specs.Batches.{most_commands, FitsCommand, FitsBatch}
-use Rattle.vo_spec.specs.Cells.{row_digest}
 use Rattle.vo_spec.specs.Parts.{stub, leaf, inner, none, more, count, levels, levels_in, leaf_bytes, inner_bytes}
 use Rattle.vo_spec.specs.Trees.{RowTree, RowTrees, row_family}
 use Rattle.vo_spec.specs.Fits.{FitsKey, FitsEntry, FitsEach, FitsPart, FitsTree}
 use Rattle.vo_spec.specs.Pruned.{pruned_by, pruned_in}
 use Rattle.vo_spec.specs.Inserts.{result_map, goes_here, closed_entry, walk_to, insert_proof}
+use Rattle.vo_spec.specs.Removes.{replace_proof, remove_proof}
 use Rattle.vo_spec.specs.TreeBytes.{entry_form, row_spelling, tree_bytes, trees_bytes_by}
 use Rattle.vo_spec.specs.Replies.{proofs_bytes, FitsProofs}
-use Rattle.vo_spec.specs.Honest.{Stored, StandForTables, is_open_command, AreOpen, stored_heading, work, proof_on, table_of, command_proof, honest_proofs, honest_trees}
+use Rattle.vo_spec.specs.Honest.{Stored, StandForTables, stored_heading, work, proof_on, table_of, command_proof, honest_proofs, honest_trees}
 use Rattle.vo_laws.proofs.ListLaws.{each_both, each_weaker}
 use Rattle.vo_laws.proofs.CommandLaws.{FitTables}
 use Rattle.vo_laws.proofs.StandingLaws.{InStep, FitAfter, command_in_step, stands}
 use Rattle.vo_laws.proofs.StoredFits.{AreSeparatedIn, SeparatedAfter, work_separated, honest_separated, each_tree_fits}
-use Rattle.vo_laws.proofs.PrunedFits.{row_closed, insert_proof_fits}
-
--- Lengths of pieces.
-
-pub length-u16 : (n : ℕ) → length (u16_bytes n) ≡ 2
-unfolding u16_bytes
-length-u16 n = refl
-
-flat_within : {A : Type 0} (f : A → List ℕ) (n : ℕ) (xs : List A) → AllByRecursion (λ x. length (f x) ≤ n) xs → length (flat_map f xs) ≤ length xs * n
-flat_within f n [] all = omega arith
-flat_within f n (x ∷ xs) all =
-    let here : length (f x) ≤ n = all.0 in
-    let rest : length (flat_map f xs) ≤ length xs * n = flat_within f n xs all.1 in
-    omega (arith, length-append (f x) (flat_map f xs))
-
-length-string : (bytes : List ℕ) → length (string bytes) ≡ 2 + length bytes
-length-string bytes = omega (arith, length-append (u16_bytes (length bytes)) bytes, length-u16 (length bytes))
-
-keys_within : (ss : List (List ℕ)) → AllByRecursion FitsKey ss → AllByRecursion (λ s. length (string s) ≤ 257) ss
-keys_within ss all = each_weaker FitsKey (λ s. length (string s) ≤ 257) (λ s fits. omega (arith, length-string s, fits)) ss all
-
-entry_within : (e : PartEntry) → FitsEntry e → length (entry_form (closed_entry e)) ≤ 290
-entry_within e fits =
-    let short : length e.key ≤ 255 = fits.key in
-    let closed : length (row_digest e.row) ≡ 32 = row_closed e.row fits.row in
-    omega (arith, length-append (string e.key) (0 ∷ row_digest e.row), length-string e.key)
-
-entries_within : (es : List PartEntry) → AllByRecursion FitsEntry es → AllByRecursion (λ (e : PartEntry). length (entry_form e) ≤ 290) (map closed_entry es)
-entries_within [] all = tt
-entries_within (e ∷ es) all = (entry_within e all.0, entries_within es all.1)
+use Rattle.vo_laws.proofs.PrunedFits.{insert_proof_fits}
+use Rattle.vo_laws.proofs.ByteLengths.{length-u16, flat_within, keys_within, entries_within}
+use Rattle.vo_laws.proofs.ChangeProofs.{replace_proof_fits, replace_proof_size, remove_proof_fits, remove_proof_size}
 
 -- The proof of an insertion: a node off the path is a digest, one on it has at most one child open.
 
@@ -116,7 +87,7 @@ insert_proof_size key t fits = open_size key t fits.nodes
 -- The proofs of a batch.
 
 abbrev most_tree : ℕ
-most_tree = 61974
+most_tree = 123948
 
 abbrev IsSmall : RowTree → Type 0
 IsSmall t = FitsTree t × (length (tree_bytes t) ≤ most_tree)
@@ -127,12 +98,18 @@ StoredFits s = FitsTree s.tree
 insert_small : (key : List ℕ) (t : RowTree) → FitsTree t → IsSmall (insert_proof key t)
 insert_small key t fits = (insert_proof_fits key t fits, omega (arith, insert_proof_size key t fits, fits.depth))
 
-one_small : (c : Command) (s : Stored) → is_open_command c ≡ true → StoredFits s → AllByRecursion IsSmall (proof_on c s)
-one_small (Create name columns key) s o fits = tt
-one_small (Drop name) s o fits = tt
-one_small (Insert name values) s o fits = (insert_small (key_of (value_at values s.schema.key)) s.tree fits, tt)
-one_small (Update name sets column value) s o fits = absurd (cc)
-one_small (Delete name column value) s o fits = absurd (cc)
+replace_small : (key : List ℕ) (t : RowTree) → FitsTree t → IsSmall (replace_proof key t)
+replace_small key t fits = (replace_proof_fits key t fits, omega (arith, replace_proof_size key t fits, fits.depth))
+
+remove_small : (key : List ℕ) (t : RowTree) → FitsTree t → IsSmall (remove_proof key t)
+remove_small key t fits = (remove_proof_fits key t fits, omega (arith, remove_proof_size key t fits, fits.depth))
+
+one_small : (c : Command) (s : Stored) → StoredFits s → AllByRecursion IsSmall (proof_on c s)
+one_small (Create name columns key) s fits = tt
+one_small (Drop name) s fits = tt
+one_small (Insert name values) s fits = (insert_small (key_of (value_at values s.schema.key)) s.tree fits, tt)
+one_small (Update name sets column value) s fits = (replace_small (key_of value) s.tree fits, tt)
+one_small (Delete name column value) s fits = (remove_small (key_of value) s.tree fits, tt)
 
 one_at_most : (c : Command) (s : Stored) → length (proof_on c s) ≤ 1
 one_at_most (Create name columns key) s = omega arith
@@ -141,13 +118,13 @@ one_at_most (Insert name values) s = omega arith
 one_at_most (Update name sets column value) s = omega arith
 one_at_most (Delete name column value) s = omega arith
 
-command_small : (c : Command) (stored : List Stored) → is_open_command c ≡ true → AllByRecursion StoredFits stored → AllByRecursion IsSmall (command_proof c stored)
-command_small c [] o all = tt
-command_small c (s ∷ stored) o all = step (bytes_eq s.name (table_of c)) (command_small c stored o all.1)
+command_small : (c : Command) (stored : List Stored) → AllByRecursion StoredFits stored → AllByRecursion IsSmall (command_proof c stored)
+command_small c [] all = tt
+command_small c (s ∷ stored) all = step (bytes_eq s.name (table_of c)) (command_small c stored all.1)
   where
     step : (b : Bool) → AllByRecursion IsSmall (command_proof c stored)
         → AllByRecursion IsSmall (option_map_or (proof_on c) (cond b (Some s) (find (λ (x : Stored). bytes_eq x.name (table_of c)) stored)) [])
-    step true rest = one_small c s o all.0
+    step true rest = one_small c s all.0
     step false rest = rest
 
 command_few : (c : Command) (stored : List Stored) → length (command_proof c stored) ≤ 1
@@ -170,16 +147,15 @@ few_proofs (c ∷ cs) stored = step (is_some (refusal c (map stored_heading stor
     step false (Ok after) rest = omega (arith, length-append (command_proof c stored) (honest_proofs cs after), command_few c stored, rest after)
     step false (Err fault) rest = omega (arith, length-append (command_proof c stored) [], command_few c stored)
 
-small_proofs : (cs : List Command) (stored : List Stored) (tables : List Table) → list_all is_open_command cs ≡ true → AllByRecursion FitsCommand cs
+small_proofs : (cs : List Command) (stored : List Stored) (tables : List Table) → AllByRecursion FitsCommand cs
     → StandForTables stored tables → FitTables tables → AreSeparatedIn stored → AllByRecursion IsSmall (honest_proofs cs stored)
-small_proofs [] stored tables o fits zs good all = tt
-small_proofs (c ∷ cs) stored tables o fits zs good all =
-    let open_both = and_parts (is_open_command c) (list_all is_open_command cs) o in
-    let i = command_in_step c stored tables open_both.0 fits.0 zs good in
+small_proofs [] stored tables fits zs good all = tt
+small_proofs (c ∷ cs) stored tables fits zs good all =
+    let i = command_in_step c stored tables fits.0 zs good in
     step (is_some (refusal c (map stored_heading stored)))
-    (command_small c stored open_both.0 (each_tree_fits stored tables zs good.each all))
-    (next (work c stored) (apply c tables) i.0 i.1 (work_separated c stored tables open_both.0 zs good all)
-    (λ after others y g a. small_proofs cs after others open_both.1 fits.1 y g a))
+    (command_small c stored (each_tree_fits stored tables zs good.each all))
+    (next (work c stored) (apply c tables) i.0 i.1 (work_separated c stored tables zs good all)
+    (λ after others y g a. small_proofs cs after others fits.1 y g a))
   where
     step : (b : Bool) → AllByRecursion IsSmall (command_proof c stored) → AllByRecursion IsSmall (behind cs (work c stored))
         → AllByRecursion IsSmall (cond b [] (command_proof c stored ++ behind cs (work c stored)))
@@ -204,10 +180,10 @@ proofs_fit trees few all =
     }
 
 -- The proofs of a batch on the trees after these others.
-pub honest_proofs_fit : (earlier : List (List Command)) (batch : List Command) → AllByRecursion FitsBatch earlier → AreOpen earlier → FitsBatch batch
-    → IsTrue (list_all is_open_command batch) → FitsProofs (honest_proofs batch (honest_trees earlier))
-honest_proofs_fit earlier batch fits o batch_fits batch_open =
-    let s = stands earlier fits o in
+pub honest_proofs_fit : (earlier : List (List Command)) (batch : List Command) → AllByRecursion FitsBatch earlier → FitsBatch batch
+    → FitsProofs (honest_proofs batch (honest_trees earlier))
+honest_proofs_fit earlier batch fits batch_fits =
+    let s = stands earlier fits in
     let few : length (honest_proofs batch (honest_trees earlier)) ≤ length batch = few_proofs batch (honest_trees earlier) in
     proofs_fit (honest_proofs batch (honest_trees earlier)) (omega (arith, batch_fits.count))
-    (small_proofs batch (honest_trees earlier) (tables_after earlier) batch_open batch_fits.each s.0 s.1 (honest_separated earlier fits o))
+    (small_proofs batch (honest_trees earlier) (tables_after earlier) batch_fits.each s.0 s.1 (honest_separated earlier fits))

@@ -20,7 +20,7 @@ use Rattle.vo_spec.specs.Needs.{tables_used, same_table, needs}
 use Rattle.vo_spec.specs.Checks.{tables_wanted}
 use Rattle.vo_spec.specs.Replies.{FitsReply}
 use Rattle.vo_spec.specs.Tables.{tables_after}
-use Rattle.vo_spec.specs.Honest.{Stored, AreOpen, catalog_of, stored_tree, trees_for, pruned_each, honest_reply, honest_trees}
+use Rattle.vo_spec.specs.Honest.{Stored, catalog_of, stored_tree, trees_for, pruned_each, honest_reply, honest_trees}
 use Rattle.vo_laws.proofs.StandingLaws.{stands}
 use Rattle.vo_laws.proofs.StoredFits.{honest_trees_fit, catalog_fits}
 use Rattle.vo_laws.proofs.PrunedFits.{pruned_fits}
@@ -66,12 +66,12 @@ few_wanted q stored = step (is_some (binding_fault (headings (catalog_of stored)
     step false = two_at_most (sides (headings (catalog_of stored)) q)
 
 -- The reply to a query, of a store that holds the trees after these batches.
-pub reply_fits : (batches : List (List Command)) (q : Query) (rec : Record) (signature : List ℕ) → AllByRecursion FitsBatch batches → AreOpen batches
+pub reply_fits : (batches : List (List Command)) (q : Query) (rec : Record) (signature : List ℕ) → AllByRecursion FitsBatch batches
     → FitsRecord rec → length signature ≤ most_signature → FitsReply (honest_reply q rec signature (honest_trees batches))
 unfolding honest_reply
-reply_fits batches q rec signature fits o record_fits short =
+reply_fits batches q rec signature fits record_fits short =
     let stored : List Stored = honest_trees batches in
-    let s = stands batches fits o in
+    let s = stands batches fits in
     let nss : List (List Need) = needs (sides (headings (catalog_of stored)) q) q (trees_for q stored) in
     let few : length (tables_wanted q (catalog_of stored)) ≤ 2 = few_wanted q stored in
     record {
@@ -79,5 +79,5 @@ reply_fits batches q rec signature fits o record_fits short =
       signature = short;
       catalog = catalog_fits stored (tables_after batches) s.0 s.1;
       count = omega (arith, no_more nss (trees_for q stored), length-map (tables_wanted q (catalog_of stored)) (stored_tree stored));
-      trees = each_pruned nss (trees_for q stored) (each_fits (tables_wanted q (catalog_of stored)) stored (honest_trees_fit batches fits o));
+      trees = each_pruned nss (trees_for q stored) (each_fits (tables_wanted q (catalog_of stored)) stored (honest_trees_fit batches fits));
     }

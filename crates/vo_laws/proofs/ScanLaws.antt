@@ -283,11 +283,11 @@ narrower_from (Some l) upper s key e b =
 abbrev pub Between : Option (List ℕ) → Option (List ℕ) → PartEntry → Type 0
 Between lower upper e = is_between lower upper e.key ≡ true
 
-left_between : (lower upper : Option (List ℕ)) (s : List ℕ) → is_within lower upper s ≡ true → (e : PartEntry) → Between lower (Some s) e → Between lower upper e
+pub left_between : (lower upper : Option (List ℕ)) (s : List ℕ) → is_within lower upper s ≡ true → (e : PartEntry) → Between lower (Some s) e → Between lower upper e
 left_between lower upper s b e h = let p = and_parts (is_from lower e.key) (key_lt e.key s) h in
     and_from (is_from lower e.key) (is_before upper e.key) p.0 (narrower_before lower upper s e.key b p.1)
 
-right_between : (lower upper : Option (List ℕ)) (s : List ℕ) → is_within lower upper s ≡ true → (e : PartEntry) → Between (Some s) upper e → Between lower upper e
+pub right_between : (lower upper : Option (List ℕ)) (s : List ℕ) → is_within lower upper s ≡ true → (e : PartEntry) → Between (Some s) upper e → Between lower upper e
 right_between lower upper s b e h = let p = and_parts (not (key_lt e.key s)) (is_before upper e.key) h in
     and_from (is_from lower e.key) (is_before upper e.key) (narrower_from lower upper s e.key b p.0) p.1
 

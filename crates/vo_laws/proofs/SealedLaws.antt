@@ -76,12 +76,12 @@ unfolding public_of_secret
 key_long secret sixteen = bytes_long secret.lms secret.ots secret.id (tree_node secret 1) sixteen
 
 pub sealed_entry_fits : (secret : Secret) (earlier : List (List Command)) (batch : List Command) → length secret.id ≡ 16
-    → AllByRecursion FitsBatch earlier → AreOpen earlier → FitsBatch batch → IsTrue (list_all is_open_command batch) → length earlier < 2 ^ 64
+    → AllByRecursion FitsBatch earlier → FitsBatch batch → length earlier < 2 ^ 64
     → length (sealed_entry secret earlier batch).signature ≤ most_signature → FitsEntry (sealed_entry secret earlier batch)
 unfolding sealed_entry
-sealed_entry_fits secret earlier batch sixteen fits o batch_fits batch_open few short = record {
+sealed_entry_fits secret earlier batch sixteen fits batch_fits few short = record {
   batch = batch_fits;
-  proofs = (honest_proofs_fit earlier batch fits o batch_fits batch_open).size;
+  proofs = (honest_proofs_fit earlier batch fits batch_fits).size;
   rec = record_fits (public_of_secret secret) (length earlier) (honest_trees (earlier ++ batch ∷ [])) (key_long secret sixteen) few;
   signature = short;
 }
@@ -177,18 +177,17 @@ batches_sealed secret batches = batches_after secret [] ([] ∷ batches)
 abbrev ShortlySigned : Entry → Type 0
 ShortlySigned e = length e.signature ≤ most_signature
 
-fit_after : (secret : Secret) (earlier batches : List (List Command)) → length secret.id ≡ 16 → AllByRecursion FitsBatch earlier → AreOpen earlier
-    → AllByRecursion FitsBatch batches → AreOpen batches → length earlier + length batches ≤ 2 ^ 64
+fit_after : (secret : Secret) (earlier batches : List (List Command)) → length secret.id ≡ 16 → AllByRecursion FitsBatch earlier
+    → AllByRecursion FitsBatch batches → length earlier + length batches ≤ 2 ^ 64
     → AllByRecursion ShortlySigned (sealed_after secret earlier batches) → AllByRecursion FitsEntry (sealed_after secret earlier batches)
-fit_after secret earlier [] sixteen earlier_fit earlier_open fits o few short = tt
-fit_after secret earlier (batch ∷ batches) sixteen earlier_fit earlier_open fits o few short = (
-  sealed_entry_fits secret earlier batch sixteen earlier_fit earlier_open fits.0 o.0 (omega arith) short.0,
-  fit_after secret (earlier ++ batch ∷ []) batches sixteen (each_both FitsBatch earlier (batch ∷ []) earlier_fit (fits.0, tt))
-      (each_both (λ b. IsTrue (list_all is_open_command b)) earlier (batch ∷ []) earlier_open (o.0, tt)) fits.1 o.1
+fit_after secret earlier [] sixteen earlier_fit fits few short = tt
+fit_after secret earlier (batch ∷ batches) sixteen earlier_fit fits few short = (
+  sealed_entry_fits secret earlier batch sixteen earlier_fit fits.0 (omega arith) short.0,
+  fit_after secret (earlier ++ batch ∷ []) batches sixteen (each_both FitsBatch earlier (batch ∷ []) earlier_fit (fits.0, tt)) fits.1
       (omega (arith, length-append earlier (batch ∷ []))) short.1,
 )
 
-pub sealed_fit : (secret : Secret) (batches : List (List Command)) → length secret.id ≡ 16 → AllByRecursion FitsBatch batches → AreOpen batches → length batches < 2 ^ 64
+pub sealed_fit : (secret : Secret) (batches : List (List Command)) → length secret.id ≡ 16 → AllByRecursion FitsBatch batches → length batches < 2 ^ 64
     → AllByRecursion (λ (e : Entry). length e.signature ≤ most_signature) (sealed secret batches) → AllByRecursion FitsEntry (sealed secret batches)
 unfolding sealed
-sealed_fit secret batches sixteen fits o few short = fit_after secret [] ([] ∷ batches) sixteen tt tt (no_commands_fit, fits) (refl, o) (omega arith) short
+sealed_fit secret batches sixteen fits few short = fit_after secret [] ([] ∷ batches) sixteen tt (no_commands_fit, fits) (omega arith) short

@@ -1,163 +1,50 @@
 -- Trees stand for tables: what commands and batches make of the trees stands for what they make of the
 -- tables, and both refuse the same commands.
-use Rattle.std.proofs.Common.{◌≡◌, ℕ, ◌+◌, Bool, true, false, cond, List, [], ◌∷◌, Option, Some, None, Result, Ok, Err, map, refl, sym, ap, ◌∙◌, subst, arith}
-use Rattle.std.specs.Prelude.{◌||◌, not, fold, bytes_eq}
-use Rattle.std.specs.Option.{option_map_or}
+use Rattle.std.proofs.Common.{◌≡◌, ℕ, ◌+◌, Bool, true, false, cond, List, [], ◌∷◌, Option, Some, None, Result, Ok, Err, map, refl, sym, ap, subst, arith}
+use Rattle.std.specs.Prelude.{not, fold, bytes_eq}
 use Rattle.std.specs.Result.{result_unwrap_or}
-use Rattle.std.specs.List.{list_all, AllByRecursion}
-use Rattle.std.proofs.lemmas.Bool.{and_parts}
-use Rattle.std.proofs.lemmas.Slice.Eq.{bytes_eq-Decides}
+use Rattle.std.specs.List.{AllByRecursion}
 use Rattle.vo_spec.specs.declared.values.Value.{Value}
-use Rattle.vo_spec.specs.declared.values.Row.{Row}
-use Rattle.vo_spec.specs.declared.tables.Column.{Column}
 use Rattle.vo_spec.specs.declared.tables.Table.{Table}
+use Rattle.vo_spec.specs.declared.tables.SetPart.{SetPart}
 use Rattle.vo_spec.specs.declared.tables.Command.{Command}
 use Rattle.vo_spec.specs.declared.tables.Command.TheVariants.{Create, Drop, Insert, Update, Delete}
 use Rattle.vo_spec.specs.declared.tables.CommandFault.{CommandFault}
 use Rattle.vo_spec.specs.declared.tables.CommandFault.TheVariants as command
-use Rattle.vo_spec.specs.declared.trees.UpdateFault.{UpdateFault}
-use Rattle.vo_spec.specs.declared.trees.UpdateFault.TheVariants.{DuplicateKey, NoRow, Missing, Memory}
 use Rattle.vo_spec.specs.Firsts.{unless, and_then}
-use Rattle.vo_spec.specs.Values.{key_lt, IsKeyOf}
-use Rattle.vo_spec.specs.Tables.{heading_of, column_number, row_of, has_row, put_row, table_named, put_table, with_rows, refusal, changed, apply, numbered, apply_from, apply_batch, after_batch, tables_after}
+use Rattle.vo_spec.specs.Values.{key_of}
+use Rattle.vo_spec.specs.Tables.{heading_of, row_of, has_row, put_row, without_row, changed_row, cell_changes, table_named, rows_named, with_rows, update_tests, delete_tests, refusal, changed, apply, numbered, apply_from, apply_batch, after_batch, tables_after}
 use Rattle.vo_spec.specs.Batches.{FitsCommand, FitsBatch}
 use Rattle.vo_spec.specs.Records.{FitsSchema}
-use Rattle.vo_spec.specs.Cells.{whole_entry}
-use Rattle.vo_spec.specs.Parts.{leaf, entries}
-use Rattle.vo_spec.specs.Trees.{RowTree, row_family}
-use Rattle.vo_spec.specs.Inserts.{has_key, put_entry, inserted}
-use Rattle.vo_spec.specs.Standing.{AreRising, StandsFor}
-use Rattle.vo_spec.specs.Checks.{key_kind}
-use Rattle.vo_spec.specs.Honest.{Stored, StandsForTable, StandForTables, is_open_command, AreOpen, stored_heading, put_stored, with_tree, behind_stored, change_tree, changed_trees, work, work_all, after_work, honest_trees}
+use Rattle.vo_spec.specs.Honest.{Stored, StandsForTable, StandForTables, stored_heading, changed_trees, work, work_all, after_work, honest_trees}
 use Rattle.vo_laws.proofs.ListLaws.{zip_filter}
-use Rattle.vo_laws.proofs.Grown.{TreeGrows, tree_grows}
-use Rattle.vo_laws.proofs.Exact.{one_heading, nothing_stands}
-use Rattle.vo_laws.proofs.CommandLaws.{insertable, key_inserted, FitsTable, FitTables, names_of, others_kept, dropped_fit, created_fit, inserted_fit, each_put_row}
-
--- Of a tree that stands for rows.
-
-whole_put : (row : Row) (rows : List Row) → put_entry row_family (whole_entry row) (map whole_entry rows) ≡ map whole_entry (put_row row rows)
-whole_put row [] = refl
-whole_put row (r ∷ rows) = step (key_lt row.key r.key) (whole_put row rows)
-  where
-    step : (b : Bool) → put_entry row_family (whole_entry row) (map whole_entry rows) ≡ map whole_entry (put_row row rows)
-        → cond b (whole_entry row ∷ whole_entry r ∷ map whole_entry rows) (whole_entry r ∷ put_entry row_family (whole_entry row) (map whole_entry rows))
-        ≡ map whole_entry (cond b (row ∷ r ∷ rows) (r ∷ put_row row rows))
-    step true rest = refl
-    step false rest = ap (λ z. whole_entry r ∷ z) rest
-
-whole_has : (key : List ℕ) (rows : List Row) → has_key row_family key (map whole_entry rows) ≡ has_row key rows
-whole_has key [] = refl
-whole_has key (r ∷ rows) = ap (λ b. bytes_eq r.key key || b) (whole_has key rows)
-
--- what an insertion gives of a tree that stands for these rows
-abbrev pub Inserts : Row → List Row → Result RowTree UpdateFault → Type 0
-Inserts row rows (Ok t) = (has_row row.key rows ≡ false) × StandsFor t (put_row row rows)
-Inserts row rows (Err DuplicateKey) = has_row row.key rows ≡ true
-Inserts row rows (Err NoRow) = ⊥
-Inserts row rows (Err Missing) = ⊥
-Inserts row rows (Err Memory) = ⊥
-
-pub inserted_stands : (row : Row) (t : RowTree) (rows : List Row) → StandsFor t rows → Inserts row rows (inserted (whole_entry row) t)
-inserted_stands row t rows stands = step (inserted (whole_entry row) t) (tree_grows (whole_entry row) t stands.tree)
-  where
-    has : has_key row_family row.key (entries t) ≡ has_row row.key rows
-    has = ap (has_key row_family row.key) stands.rows_are ∙ whole_has row.key rows
-
-    step : (r : Result RowTree UpdateFault) → TreeGrows (whole_entry row) (entries t) r → Inserts row rows r
-    step (Ok u) g = (sym has ∙ g.0, record { tree = g.1; rows_are = g.2 ∙ ap (put_entry row_family (whole_entry row)) stands.rows_are ∙ whole_put row rows })
-    step (Err DuplicateKey) g = sym has ∙ g
-    step (Err NoRow) g = absurd g
-    step (Err Missing) g = absurd g
-    step (Err Memory) g = absurd g
-
--- Both go on in step, or both refuse for one reason.
-abbrev pub InStep : Result (List Stored) CommandFault → Result (List Table) CommandFault → Type 0
-InStep (Ok stored) (Ok tables) = StandForTables stored tables
-InStep (Ok stored) (Err fault) = ⊥
-InStep (Err fault) (Ok tables) = ⊥
-InStep (Err fault) (Err other) = fault ≡ other
-
--- A row goes into the table of this name.
-
-here_in_step : (s : Stored) (t : Table) (stored : List Stored) (tables others : List Table) (row : Row) (r : Result RowTree UpdateFault) → StandsForTable s t
-    → StandForTables stored tables → others ≡ tables → IsKeyOf (key_kind t.schema) row.key → Inserts row t.rows r
-    → InStep (with_tree s stored r) (cond (has_row row.key t.rows) (Err command.DuplicateKey) (Ok (record { name = t.name; schema = t.schema; rows = put_row row t.rows } ∷ others)))
-here_in_step s t stored tables others row (Ok u) z zs e key i =
-    rw (i.0) (record { name = z.name; schema = z.schema; stands = i.1; keys = each_put_row (λ (x : Row). IsKeyOf (key_kind t.schema) x.key) row t.rows key z.keys }, subst (StandForTables stored) (sym e) zs)
-here_in_step s t stored tables others row (Err DuplicateKey) z zs e key i = rw i refl
-here_in_step s t stored tables others row (Err NoRow) z zs e key i = absurd i
-here_in_step s t stored tables others row (Err Missing) z zs e key i = absurd i
-here_in_step s t stored tables others row (Err Memory) z zs e key i = absurd i
-
-behind_in_step : (s : Stored) (t : Table) (r : Result (List Stored) CommandFault) (b : Bool) (tables : List Table) → StandsForTable s t
-    → InStep r (cond b (Err command.DuplicateKey) (Ok tables)) → InStep (behind_stored s r) (cond b (Err command.DuplicateKey) (Ok (t ∷ tables)))
-behind_in_step s t (Ok stored) true tables z i = absurd i
-behind_in_step s t (Ok stored) false tables z i = (z, i)
-behind_in_step s t (Err fault) true tables z i = i
-behind_in_step s t (Err fault) false tables z i = absurd i
-
-abbrev insert_into : List ℕ → List Value → List Table → List Table
-insert_into name values = with_rows name (λ t. put_row (row_of t.schema values) t.rows)
-
-abbrev is_doubled : List Value → Option Table → Bool
-is_doubled values found = option_map_or (λ (t : Table). has_row (row_of t.schema values).key t.rows) found false
-
-insert_in_step : (name : List ℕ) (values : List Value) (stored : List Stored) (tables : List Table) → StandForTables stored tables → AreRising (names_of tables)
-    → ((t : Table) → table_named name tables ≡ Some t → IsKeyOf (key_kind t.schema) (row_of t.schema values).key)
-    → InStep (change_tree name (Insert name values) stored) (cond (is_doubled values (table_named name tables)) (Err command.DuplicateKey) (Ok (insert_into name values tables)))
-insert_in_step name values [] [] zs rising keys = tt
-insert_in_step name values [] (t ∷ tables) zs rising keys = absurd zs
-insert_in_step name values (s ∷ stored) [] zs rising keys = absurd zs
-insert_in_step name values (s ∷ stored) (t ∷ tables) zs rising keys =
-    step (bytes_eq s.name name) (bytes_eq t.name name) (ap (λ n. bytes_eq n name) zs.0.name) refl keys (insert_in_step name values stored tables zs.1 rising.1)
-  where
-    inserts : Inserts (row_of t.schema values) t.rows (inserted (whole_entry (row_of s.schema values)) s.tree)
-    inserts = subst (λ z. Inserts (row_of t.schema values) t.rows (inserted (whole_entry (row_of z values)) s.tree)) (sym zs.0.schema)
-        (inserted_stands (row_of t.schema values) s.tree t.rows zs.0.stands)
-
-    step : (b c : Bool) → b ≡ c → bytes_eq t.name name ≡ c
-        → ((u : Table) → cond c (Some t) (table_named name tables) ≡ Some u → IsKeyOf (key_kind u.schema) (row_of u.schema values).key)
-        → (((u : Table) → table_named name tables ≡ Some u → IsKeyOf (key_kind u.schema) (row_of u.schema values).key)
-        → InStep (change_tree name (Insert name values) stored) (cond (is_doubled values (table_named name tables)) (Err command.DuplicateKey) (Ok (insert_into name values tables))))
-        → InStep (cond b (with_tree s stored (inserted (whole_entry (row_of s.schema values)) s.tree)) (behind_stored s (change_tree name (Insert name values) stored)))
-        (cond (is_doubled values (cond c (Some t) (table_named name tables))) (Err command.DuplicateKey)
-        (Ok (cond c (record { name = t.name; schema = t.schema; rows = put_row (row_of t.schema values) t.rows }) t ∷ insert_into name values tables)))
-    step true true e f keys rest =
-        here_in_step s t stored tables (insert_into name values tables) (row_of t.schema values) (inserted (whole_entry (row_of s.schema values)) s.tree) zs.0 zs.1
-        (others_kept name (λ u. put_row (row_of u.schema values) u.rows) tables (subst (λ n. AllByRecursion (λ k. key_lt n k ≡ true) (names_of tables)) ((bytes_eq-Decides t.name name).0 f) rising.0))
-        (keys t refl) inserts
-    step true false e f keys rest = absurd (cc)
-    step false true e f keys rest = absurd (cc)
-    step false false e f keys rest =
-        behind_in_step s t (change_tree name (Insert name values) stored) (is_doubled values (table_named name tables)) (insert_into name values tables) zs.0 (rest keys)
-
--- A table is made, or dropped.
-
-create_in_step : (s : Stored) (t : Table) (stored : List Stored) (tables : List Table) → StandsForTable s t → StandForTables stored tables → StandForTables (put_stored s stored) (put_table t tables)
-create_in_step s t [] [] z zs = (z, tt)
-create_in_step s t [] (u ∷ tables) z zs = absurd zs
-create_in_step s t (r ∷ stored) [] z zs = absurd zs
-create_in_step s t (r ∷ stored) (u ∷ tables) z zs =
-    step (key_lt s.name r.name) (key_lt t.name u.name) (ap (λ n. key_lt n r.name) z.name ∙ ap (key_lt t.name) zs.0.name) (create_in_step s t stored tables z zs.1)
-  where
-    step : (b c : Bool) → b ≡ c → StandForTables (put_stored s stored) (put_table t tables)
-        → StandForTables (cond b (s ∷ r ∷ stored) (r ∷ put_stored s stored)) (cond c (t ∷ u ∷ tables) (u ∷ put_table t tables))
-    step true true e rest = (z, (zs.0, zs.1))
-    step true false e rest = absurd (cc)
-    step false true e rest = absurd (cc)
-    step false false e rest = (zs.0, rest)
-
-made_stands : (name : List ℕ) (columns : List Column) (key : List ℕ)
-    → StandsForTable (record { name = name; schema = record { columns = columns; key = column_number columns key }; tree = leaf [] })
-    (record { name = name; schema = record { columns = columns; key = column_number columns key }; rows = [] })
-made_stands name columns key = record { name = refl; schema = refl; stands = nothing_stands; keys = tt }
+pub use Rattle.vo_laws.proofs.TableSteps.{InStep}
+use Rattle.vo_laws.proofs.TableSteps.{is_doubled, create_in_step, made_stands, insert_in_step, update_in_step, delete_in_step}
+use Rattle.vo_laws.proofs.Exact.{one_heading}
+use Rattle.vo_laws.proofs.CommandLaws.{table_there, insertable, key_inserted, FitsTable, FitTables, dropped_fit, created_fit}
+use Rattle.vo_laws.proofs.TableChanges.{rows_changed_fit, inserted_fit, updatable, updated_table_fits, removed_table_fits}
 
 pub stored_headings : (stored : List Stored) (tables : List Table) → StandForTables stored tables → map stored_heading stored ≡ map heading_of tables
 stored_headings [] [] z = refl
 stored_headings [] (t ∷ tables) z = absurd z
 stored_headings (s ∷ stored) [] z = absurd z
 stored_headings (s ∷ stored) (t ∷ tables) z = rw (one_heading s t z.0, stored_headings stored tables z.1) refl
+
+abbrev pub FitAfter : Result (List Table) CommandFault → Type 0
+FitAfter (Ok tables) = FitTables tables
+FitAfter (Err fault) = Unit {0}
+
+fit_if : (b : Bool) (tables : List Table) → FitTables tables → FitAfter (cond b (Ok tables) (Err command.NoRow))
+fit_if true tables fits = fits
+fit_if false tables fits = tt
+
+updated_fit : (name : List ℕ) (sets : List SetPart) (column : List ℕ) (value : Value) (tables : List Table) → FitsCommand (Update name sets column value)
+    → refusal (Update name sets column value) (map heading_of tables) ≡ None → FitTables tables
+    → FitTables (with_rows name (λ t. map (changed_row (key_of value) (cell_changes t.schema sets)) t.rows) tables)
+unfolding FitsCommand
+updated_fit name sets column value tables fits e good =
+    rows_changed_fit name (λ t. map (changed_row (key_of value) (cell_changes t.schema sets)) t.rows) tables
+    (λ t found is. updated_table_fits (key_of value) sets t fits.1.2 (updatable name sets column value tables e t found) is) good
 
 -- Commands.
 
@@ -169,46 +56,48 @@ schema_named name (u ∷ ts) all t found = step (bytes_eq u.name name) found (sc
     step true f rest = let same : u ≡ t = cc in subst (λ (x : Table). FitsSchema x.schema) same all.0.schema
     step false f rest = rest f
 
-changed_in_step : (c : Command) (stored : List Stored) (tables : List Table) → is_open_command c ≡ true → FitsCommand c → refusal c (map heading_of tables) ≡ None
+changed_in_step : (c : Command) (stored : List Stored) (tables : List Table) → FitsCommand c → refusal c (map heading_of tables) ≡ None
     → StandForTables stored tables → FitTables tables → InStep (changed_trees c stored) (changed c tables)
 unfolding FitsCommand
-changed_in_step (Create name columns key) stored tables o fits e zs good = create_in_step _ _ stored tables (made_stands name columns key) zs
-changed_in_step (Drop name) stored tables o fits e zs good =
+changed_in_step (Create name columns key) stored tables fits e zs good = create_in_step _ _ stored tables (made_stands name columns key) zs
+changed_in_step (Drop name) stored tables fits e zs good =
     zip_filter StandsForTable (λ (s : Stored). not (bytes_eq s.name name)) (λ (t : Table). not (bytes_eq t.name name)) (λ s t z. ap (λ n. not (bytes_eq n name)) z.name) stored tables zs
-changed_in_step (Insert name values) stored tables o fits e zs good =
+changed_in_step (Insert name values) stored tables fits e zs good =
     insert_in_step name values stored tables zs good.rising
     (λ t found. key_inserted t values (schema_named name tables good.each t found) fits.1.2 (insertable name values tables e t found))
-changed_in_step (Update name sets column value) stored tables o fits e zs good = absurd (cc)
-changed_in_step (Delete name column value) stored tables o fits e zs good = absurd (cc)
+changed_in_step (Update name sets column value) stored tables fits e zs good =
+    update_in_step name sets column value stored tables zs good.rising (table_there name (update_tests sets column value) tables e)
+changed_in_step (Delete name column value) stored tables fits e zs good =
+    delete_in_step name column value stored tables zs good.rising (table_there name (delete_tests column value) tables e)
 
-abbrev pub FitAfter : Result (List Table) CommandFault → Type 0
-FitAfter (Ok tables) = FitTables tables
-FitAfter (Err fault) = Unit {0}
-
-changed_fit : (c : Command) (tables : List Table) → is_open_command c ≡ true → FitsCommand c → refusal c (map heading_of tables) ≡ None → FitTables tables → FitAfter (changed c tables)
-changed_fit (Create name columns key) tables o fits e good = created_fit name columns key tables fits e good
-changed_fit (Drop name) tables o fits e good = dropped_fit (λ (t : Table). not (bytes_eq t.name name)) tables good
-changed_fit (Insert name values) tables o fits e good = step (is_doubled values (table_named name tables))
+changed_fit : (c : Command) (tables : List Table) → FitsCommand c → refusal c (map heading_of tables) ≡ None → FitTables tables → FitAfter (changed c tables)
+changed_fit (Create name columns key) tables fits e good = created_fit name columns key tables fits e good
+changed_fit (Drop name) tables fits e good = dropped_fit (λ (t : Table). not (bytes_eq t.name name)) tables good
+changed_fit (Insert name values) tables fits e good = step (is_doubled values (table_named name tables))
   where
-    step : (b : Bool) → FitAfter (cond b (Err command.DuplicateKey) (Ok (insert_into name values tables)))
+    step : (b : Bool) → FitAfter (cond b (Err command.DuplicateKey) (Ok (with_rows name (λ t. put_row (row_of t.schema values) t.rows) tables)))
     step true = tt
     step false = inserted_fit name values tables fits e good
-changed_fit (Update name sets column value) tables o fits e good = absurd (cc)
-changed_fit (Delete name column value) tables o fits e good = absurd (cc)
+changed_fit (Update name sets column value) tables fits e good =
+    fit_if (has_row (key_of value) (rows_named name tables)) (with_rows name (λ t. map (changed_row (key_of value) (cell_changes t.schema sets)) t.rows) tables)
+    (updated_fit name sets column value tables fits e good)
+changed_fit (Delete name column value) tables fits e good =
+    fit_if (has_row (key_of value) (rows_named name tables)) (with_rows name (λ t. without_row (key_of value) t.rows) tables)
+    (rows_changed_fit name (λ t. without_row (key_of value) t.rows) tables (λ t found is. removed_table_fits (key_of value) t is) good)
 
 -- What the command makes of trees that stand for tables stands for what it makes of the tables; and where it
 -- is refused on the one, it is refused on the other for the same reason.
-pub command_in_step : (c : Command) (stored : List Stored) (tables : List Table) → is_open_command c ≡ true → FitsCommand c → StandForTables stored tables → FitTables tables
+pub command_in_step : (c : Command) (stored : List Stored) (tables : List Table) → FitsCommand c → StandForTables stored tables → FitTables tables
     → InStep (work c stored) (apply c tables) × FitAfter (apply c tables)
 unfolding work apply
-command_in_step c stored tables o fits zs good =
+command_in_step c stored tables fits zs good =
     subst (λ hs. InStep (and_then (changed_trees c) (unless (refusal c hs) stored)) (and_then (changed c) (unless (refusal c (map heading_of tables)) tables))
     × FitAfter (and_then (changed c) (unless (refusal c (map heading_of tables)) tables)))
     (sym (stored_headings stored tables zs)) (step (refusal c (map heading_of tables)) refl)
   where
     step : (r : Option CommandFault) → refusal c (map heading_of tables) ≡ r
         → InStep (and_then (changed_trees c) (unless r stored)) (and_then (changed c) (unless r tables)) × FitAfter (and_then (changed c) (unless r tables))
-    step None e = (changed_in_step c stored tables o fits e zs good, changed_fit c tables o fits e good)
+    step None e = (changed_in_step c stored tables fits e zs good, changed_fit c tables fits e good)
     step (Some fault) e = (refl, tt)
 
 -- Batches.
@@ -227,17 +116,16 @@ next_in_step index cs (Ok stored) (Err fault) i good next = absurd i
 next_in_step index cs (Err fault) (Ok tables) i good next = absurd i
 next_in_step index cs (Err fault) (Err other) i good next = i
 
-pub batch_in_step : (index : ℕ) (cs : List Command) (stored : List Stored) (tables : List Table) → list_all is_open_command cs ≡ true → AllByRecursion FitsCommand cs
+pub batch_in_step : (index : ℕ) (cs : List Command) (stored : List Stored) (tables : List Table) → AllByRecursion FitsCommand cs
     → StandForTables stored tables → FitTables tables → InStepFrom (work_all cs stored) (apply_from index cs tables)
-batch_in_step index [] stored tables o fits zs good = (zs, good)
-batch_in_step index (c ∷ cs) stored tables o fits zs good =
-    let open_both = and_parts (is_open_command c) (list_all is_open_command cs) o in
-    let i = command_in_step c stored tables open_both.0 fits.0 zs good in
-    next_in_step index cs (work c stored) (apply c tables) i.0 i.1 (λ after others y g. batch_in_step (index + 1) cs after others open_both.1 fits.1 y g)
+batch_in_step index [] stored tables fits zs good = (zs, good)
+batch_in_step index (c ∷ cs) stored tables fits zs good =
+    let i = command_in_step c stored tables fits.0 zs good in
+    next_in_step index cs (work c stored) (apply c tables) i.0 i.1 (λ after others y g. batch_in_step (index + 1) cs after others fits.1 y g)
 
-after_in_step : (stored : List Stored) (tables : List Table) (batch : List Command) → list_all is_open_command batch ≡ true → AllByRecursion FitsCommand batch
+after_in_step : (stored : List Stored) (tables : List Table) (batch : List Command) → AllByRecursion FitsCommand batch
     → StandForTables stored tables → FitTables tables → StandForTables (after_work stored batch) (after_batch tables batch) × FitTables (after_batch tables batch)
-after_in_step stored tables batch o fits zs good = step (work_all batch stored) (apply_batch batch tables) (batch_in_step 0 batch stored tables o fits zs good)
+after_in_step stored tables batch fits zs good = step (work_all batch stored) (apply_batch batch tables) (batch_in_step 0 batch stored tables fits zs good)
   where
     step : (r : Result (List Stored) CommandFault) (s : Result (List Table) (ℕ × CommandFault)) → InStepFrom r s
         → StandForTables (result_unwrap_or r stored) (result_unwrap_or s tables) × FitTables (result_unwrap_or s tables)
@@ -246,15 +134,15 @@ after_in_step stored tables batch o fits zs good = step (work_all batch stored) 
     step (Err fault) (Ok others) i = absurd i
     step (Err fault) (Err other) i = (zs, good)
 
-all_in_step : (batches : List (List Command)) (stored : List Stored) (tables : List Table) → AllByRecursion FitsBatch batches → AreOpen batches
+all_in_step : (batches : List (List Command)) (stored : List Stored) (tables : List Table) → AllByRecursion FitsBatch batches
     → StandForTables stored tables → FitTables tables → StandForTables (fold after_work stored batches) (fold after_batch tables batches) × FitTables (fold after_batch tables batches)
-all_in_step [] stored tables fits o zs good = (zs, good)
-all_in_step (batch ∷ batches) stored tables fits o zs good =
-    let i = after_in_step stored tables batch o.0 fits.0.each zs good in
-    all_in_step batches (after_work stored batch) (after_batch tables batch) fits.1 o.1 i.0 i.1
+all_in_step [] stored tables fits zs good = (zs, good)
+all_in_step (batch ∷ batches) stored tables fits zs good =
+    let i = after_in_step stored tables batch fits.0.each zs good in
+    all_in_step batches (after_work stored batch) (after_batch tables batch) fits.1 i.0 i.1
 
 -- The honest trees stand for the tables after the same batches, and the tables fit.
-pub stands : (batches : List (List Command)) → AllByRecursion FitsBatch batches → AreOpen batches
+pub stands : (batches : List (List Command)) → AllByRecursion FitsBatch batches
     → StandForTables (honest_trees batches) (tables_after batches) × FitTables (tables_after batches)
 unfolding honest_trees tables_after
-stands batches fits o = all_in_step batches [] [] fits o tt (record { each = tt; rising = tt; count = omega arith })
+stands batches fits = all_in_step batches [] [] fits tt (record { each = tt; rising = tt; count = omega arith })

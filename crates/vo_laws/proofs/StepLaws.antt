@@ -1,7 +1,7 @@
 -- Trees and tables batch by batch: what one more makes of them, and that both accept it or refuse it.
 use Rattle.std.proofs.Common.{◌≡◌, ℕ, List, [], ◌∷◌, ◌++◌, Result, Ok, Err, refl, ap, ◌∙◌, arith}
-use Rattle.std.specs.Prelude.{◌↔◌, IsOk, IsTrue}
-use Rattle.std.specs.List.{list_all, AllByRecursion}
+use Rattle.std.specs.Prelude.{◌↔◌, IsOk}
+use Rattle.std.specs.List.{AllByRecursion}
 use Rattle.std.proofs.lemmas.List.{length-append}
 use Rattle.std.proofs.lemmas.List.Sums.{fold-append}
 use Rattle.vo_spec.specs.declared.tables.Command.{Command}
@@ -10,8 +10,8 @@ use Rattle.vo_spec.specs.declared.tables.Table.{Table}
 use Rattle.vo_spec.specs.Bytes.{u16_bytes}
 use Rattle.vo_spec.specs.Tables.{apply_batch, after_batch, tables_after}
 use Rattle.vo_spec.specs.Batches.{batch_bytes, FitsBatch}
-use Rattle.vo_spec.specs.Honest.{Stored, is_open_command, AreOpen, work_all, after_work, honest_trees}
-use Rattle.vo_laws.proofs.ProofSizes.{length-u16}
+use Rattle.vo_spec.specs.Honest.{Stored, work_all, after_work, honest_trees}
+use Rattle.vo_laws.proofs.ByteLengths.{length-u16}
 use Rattle.vo_laws.proofs.StandingLaws.{InStepFrom, batch_in_step, stands}
 
 pub trees_follow : (batches : List (List Command)) (batch : List Command) → honest_trees (batches ++ batch ∷ []) ≡ after_work (honest_trees batches) batch
@@ -38,11 +38,11 @@ no_trees_before batches = refl
 
 -- A batch is accepted or refused on both.
 
-in_step : (batches : List (List Command)) (batch : List Command) → AllByRecursion FitsBatch batches → AreOpen batches → FitsBatch batch → IsTrue (list_all is_open_command batch)
+in_step : (batches : List (List Command)) (batch : List Command) → AllByRecursion FitsBatch batches → FitsBatch batch
     → InStepFrom (work_all batch (honest_trees batches)) (apply_batch batch (tables_after batches))
-in_step batches batch fits o batch_fits batch_open =
-    let s = stands batches fits o in
-    batch_in_step 0 batch (honest_trees batches) (tables_after batches) batch_open batch_fits.each s.0 s.1
+in_step batches batch fits batch_fits =
+    let s = stands batches fits in
+    batch_in_step 0 batch (honest_trees batches) (tables_after batches) batch_fits.each s.0 s.1
 
 both_accept : (r : Result (List Stored) CommandFault) (s : Result (List Table) (ℕ × CommandFault)) → InStepFrom r s → IsOk r ↔ IsOk s
 both_accept (Ok stored) (Ok tables) i = (λ ok. refl, λ ok. refl)
@@ -55,11 +55,11 @@ both_refuse r (Ok tables) index fault i e = absurd (cc)
 both_refuse (Ok stored) (Err other) index fault i e = absurd i
 both_refuse (Err first) (Err other) index fault i e = let same : other ≡ (index, fault) = cc in ap Err i ∙ ap (λ (p : ℕ × CommandFault). Err p.1) same
 
-pub both_take : (batches : List (List Command)) (batch : List Command) → AllByRecursion FitsBatch batches → AreOpen batches → FitsBatch batch → IsTrue (list_all is_open_command batch)
+pub both_take : (batches : List (List Command)) (batch : List Command) → AllByRecursion FitsBatch batches → FitsBatch batch
     → IsOk (work_all batch (honest_trees batches)) ↔ IsOk (apply_batch batch (tables_after batches))
-both_take batches batch fits o batch_fits batch_open = both_accept (work_all batch (honest_trees batches)) (apply_batch batch (tables_after batches)) (in_step batches batch fits o batch_fits batch_open)
+both_take batches batch fits batch_fits = both_accept (work_all batch (honest_trees batches)) (apply_batch batch (tables_after batches)) (in_step batches batch fits batch_fits)
 
-pub same_refusal : (batches : List (List Command)) (batch : List Command) (index : ℕ) (fault : CommandFault) → AllByRecursion FitsBatch batches → AreOpen batches → FitsBatch batch
-    → IsTrue (list_all is_open_command batch) → apply_batch batch (tables_after batches) ≡ Err (index, fault) → work_all batch (honest_trees batches) ≡ Err fault
-same_refusal batches batch index fault fits o batch_fits batch_open e =
-    both_refuse (work_all batch (honest_trees batches)) (apply_batch batch (tables_after batches)) index fault (in_step batches batch fits o batch_fits batch_open) e
+pub same_refusal : (batches : List (List Command)) (batch : List Command) (index : ℕ) (fault : CommandFault) → AllByRecursion FitsBatch batches → FitsBatch batch
+    → apply_batch batch (tables_after batches) ≡ Err (index, fault) → work_all batch (honest_trees batches) ≡ Err fault
+same_refusal batches batch index fault fits batch_fits e =
+    both_refuse (work_all batch (honest_trees batches)) (apply_batch batch (tables_after batches)) index fault (in_step batches batch fits batch_fits) e

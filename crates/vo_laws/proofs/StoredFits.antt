@@ -2,11 +2,10 @@
 use Rattle.std.proofs.Common.{◌≡◌, ℕ, suc, ◌^◌, ◌<◌, ◌≤◌, Bool, true, false, cond, List, [], ◌∷◌, Option, Some, None, Result, Ok, Err, length, map, drop, refl, sym, ap, ◌∙◌, subst, arith}
 use Rattle.std.specs.Prelude.{not, fold, bytes_eq, IsTrue}
 use Rattle.std.specs.Result.{result_unwrap_or}
-use Rattle.std.specs.List.{list_all, AllByRecursion}
-use Rattle.std.proofs.lemmas.Bool.{and_parts, and_from}
+use Rattle.std.specs.List.{AllByRecursion}
+use Rattle.std.proofs.lemmas.Bool.{and_from}
 use Rattle.std.proofs.lemmas.List.{length-map, length-take, length-drop}
 use Rattle.sha2.proofs.Facts256.{length-sha256}
-use Rattle.vo_spec.specs.declared.values.Value.{Value}
 use Rattle.vo_spec.specs.declared.values.Row.{Row}
 use Rattle.vo_spec.specs.declared.tables.Table.{Table}
 use Rattle.vo_spec.specs.declared.tables.Command.{Command}
@@ -16,8 +15,8 @@ use Rattle.vo_spec.specs.declared.trees.UpdateFault.{UpdateFault}
 use Rattle.vo_spec.specs.declared.records.CatalogTable.{CatalogTable}
 use Rattle.vo_spec.specs.Firsts.{unless, and_then}
 use Rattle.vo_spec.specs.Bytes.{id_at}
-use Rattle.vo_spec.specs.Values.{key_lt}
-use Rattle.vo_spec.specs.Tables.{most_tables, heading_of, row_of, table_named, refusal, apply, apply_batch, tables_after}
+use Rattle.vo_spec.specs.Values.{key_of, key_lt}
+use Rattle.vo_spec.specs.Tables.{most_tables, heading_of, row_of, cell_changes, table_named, refusal, apply, apply_batch, tables_after}
 use Rattle.vo_spec.specs.Batches.{FitsCommand, FitsBatch}
 use Rattle.vo_spec.specs.Records.{FitsSchema, FitsCatalogTable, FitsCatalog, FitsRecord, are_rising, catalog_digest}
 use Rattle.vo_spec.specs.Lms.{key_id}
@@ -26,11 +25,11 @@ use Rattle.vo_spec.specs.Cells.{whole_entry}
 use Rattle.vo_spec.specs.Parts.{stub, leaf, inner, entries, leaf_bytes}
 use Rattle.vo_spec.specs.Trees.{RowTree, row_family, digest}
 use Rattle.vo_spec.specs.Fits.{FitsKey, FitsRow, FitsTree}
-use Rattle.vo_spec.specs.Inserts.{inserted}
 use Rattle.vo_spec.specs.Standing.{AreRising, IsTree, IsNode, fewest_in_root}
-use Rattle.vo_spec.specs.Honest.{Stored, StandForTables, is_open_command, AreOpen, put_stored, with_tree, behind_stored, change_tree, changed_trees, work, work_all, after_work, honest_trees, catalog_of, honest_record}
-use Rattle.vo_laws.proofs.CommandLaws.{IsInsertable, insertable, FitsTable, FitTables, names_of, each_filter}
+use Rattle.vo_spec.specs.Honest.{Stored, StandForTables, put_stored, tree_after, with_tree, behind_stored, change_tree, changed_trees, work, work_all, after_work, honest_trees, catalog_of, honest_record}
+use Rattle.vo_laws.proofs.CommandLaws.{insertable, FitsTable, FitTables, names_of, each_filter}
 use Rattle.vo_laws.proofs.TreeFits.{Separated, SeparatedTree, KeyFits, tree_separated}
+use Rattle.vo_laws.proofs.ChangedFits.{removed_separated, replaced_separated}
 use Rattle.vo_laws.proofs.TreeLevels.{whole_fits}
 use Rattle.vo_laws.proofs.StandingLaws.{InStep, FitAfter, stored_headings, command_in_step, batch_in_step, InStepFrom, stands}
 
@@ -58,26 +57,27 @@ keys_fit : (rows : List Row) → AllByRecursion FitsRow rows → AllByRecursion 
 keys_fit [] all = tt
 keys_fit (row ∷ rows) all = (all.0.key, keys_fit rows all.1)
 
-change_separated : (name : List ℕ) (values : List Value) (stored : List Stored) (tables : List Table) → StandForTables stored tables → AllByRecursion FitsTable tables
-    → ((t : Table) → table_named name tables ≡ Some t → IsInsertable t values) → AreSeparatedIn stored → SeparatedAfter (change_tree name (Insert name values) stored)
-change_separated name values [] [] zs fits is all = tt
-change_separated name values [] (t ∷ tables) zs fits is all = absurd zs
-change_separated name values (s ∷ stored) [] zs fits is all = absurd zs
-change_separated name values (s ∷ stored) (t ∷ tables) zs fits is all =
-    step (bytes_eq s.name name) (bytes_eq t.name name) (ap (λ n. bytes_eq n name) zs.0.name) is (λ f. change_separated name values stored tables zs.1 fits.1 f all.1)
+change_separated : (c : Command) (name : List ℕ) (stored : List Stored) (tables : List Table) → StandForTables stored tables → AllByRecursion FitsTable tables
+    → ((s : Stored) (t : Table) → table_named name tables ≡ Some t → s.schema ≡ t.schema → AllByRecursion KeyFits (entries s.tree) → SeparatedIn s → SeparatedTree (tree_after c s))
+    → AreSeparatedIn stored → SeparatedAfter (change_tree name c stored)
+change_separated c name [] [] zs fits keep all = tt
+change_separated c name [] (t ∷ tables) zs fits keep all = absurd zs
+change_separated c name (s ∷ stored) [] zs fits keep all = absurd zs
+change_separated c name (s ∷ stored) (t ∷ tables) zs fits keep all =
+    step (bytes_eq s.name name) (bytes_eq t.name name) (ap (λ n. bytes_eq n name) zs.0.name) keep (λ f. change_separated c name stored tables zs.1 fits.1 f all.1)
   where
     keys : AllByRecursion KeyFits (entries s.tree)
     keys = subst (AllByRecursion KeyFits) (sym zs.0.stands.rows_are) (keys_fit t.rows fits.0.rows)
 
-    step : (b c : Bool) → b ≡ c → ((u : Table) → cond c (Some t) (table_named name tables) ≡ Some u → IsInsertable u values)
-        → (((u : Table) → table_named name tables ≡ Some u → IsInsertable u values) → SeparatedAfter (change_tree name (Insert name values) stored))
-        → SeparatedAfter (cond b (with_tree s stored (inserted (whole_entry (row_of s.schema values)) s.tree)) (behind_stored s (change_tree name (Insert name values) stored)))
-    step true true e is rest =
-        with_separated s stored (inserted (whole_entry (row_of s.schema values)) s.tree) all.1
-        (tree_separated (whole_entry (row_of s.schema values)) s.tree (subst (λ z. FitsKey (row_of z values).key) (sym zs.0.schema) (is t refl).short) keys all.0)
-    step true false e is rest = absurd (cc)
-    step false true e is rest = absurd (cc)
-    step false false e is rest = behind_separated s (change_tree name (Insert name values) stored) all.0 (rest is)
+    step : (b d : Bool) → b ≡ d
+        → ((r : Stored) (u : Table) → cond d (Some t) (table_named name tables) ≡ Some u → r.schema ≡ u.schema → AllByRecursion KeyFits (entries r.tree) → SeparatedIn r → SeparatedTree (tree_after c r))
+        → (((r : Stored) (u : Table) → table_named name tables ≡ Some u → r.schema ≡ u.schema → AllByRecursion KeyFits (entries r.tree) → SeparatedIn r → SeparatedTree (tree_after c r))
+        → SeparatedAfter (change_tree name c stored))
+        → SeparatedAfter (cond b (with_tree s stored (tree_after c s)) (behind_stored s (change_tree name c stored)))
+    step true true e keep rest = with_separated s stored (tree_after c s) all.1 (keep s t refl zs.0.schema keys all.0)
+    step true false e keep rest = absurd (cc)
+    step false true e keep rest = absurd (cc)
+    step false false e keep rest = behind_separated s (change_tree name c stored) all.0 (rest keep)
 
 put_separated : (s : Stored) (stored : List Stored) → SeparatedIn s → AreSeparatedIn stored → AreSeparatedIn (put_stored s stored)
 put_separated s [] here all = (here, tt)
@@ -87,22 +87,26 @@ put_separated s (r ∷ stored) here all = step (key_lt s.name r.name) (put_separ
     step true rest = (here, all)
     step false rest = (all.0, rest)
 
-changed_separated : (c : Command) (stored : List Stored) (tables : List Table) → is_open_command c ≡ true → refusal c (map heading_of tables) ≡ None → StandForTables stored tables
+changed_separated : (c : Command) (stored : List Stored) (tables : List Table) → refusal c (map heading_of tables) ≡ None → StandForTables stored tables
     → FitTables tables → AreSeparatedIn stored → SeparatedAfter (changed_trees c stored)
-changed_separated (Create name columns key) stored tables o e zs good all = put_separated _ stored tt all
-changed_separated (Drop name) stored tables o e zs good all = each_filter SeparatedIn (λ (s : Stored). not (bytes_eq s.name name)) stored all
-changed_separated (Insert name values) stored tables o e zs good all = change_separated name values stored tables zs good.each (insertable name values tables e) all
-changed_separated (Update name sets column value) stored tables o e zs good all = absurd (cc)
-changed_separated (Delete name column value) stored tables o e zs good all = absurd (cc)
+changed_separated (Create name columns key) stored tables e zs good all = put_separated _ stored tt all
+changed_separated (Drop name) stored tables e zs good all = each_filter SeparatedIn (λ (s : Stored). not (bytes_eq s.name name)) stored all
+changed_separated (Insert name values) stored tables e zs good all =
+    change_separated (Insert name values) name stored tables zs good.each
+    (λ s t found same keys here. tree_separated (whole_entry (row_of s.schema values)) s.tree (subst (λ z. FitsKey (row_of z values).key) (sym same) (insertable name values tables e t found).short) keys here) all
+changed_separated (Update name sets column value) stored tables e zs good all =
+    change_separated (Update name sets column value) name stored tables zs good.each (λ s t found same keys here. replaced_separated (key_of value) (cell_changes s.schema sets) s.tree here) all
+changed_separated (Delete name column value) stored tables e zs good all =
+    change_separated (Delete name column value) name stored tables zs good.each (λ s t found same keys here. removed_separated (key_of value) s.tree keys here) all
 
-pub work_separated : (c : Command) (stored : List Stored) (tables : List Table) → is_open_command c ≡ true → StandForTables stored tables → FitTables tables → AreSeparatedIn stored
+pub work_separated : (c : Command) (stored : List Stored) (tables : List Table) → StandForTables stored tables → FitTables tables → AreSeparatedIn stored
     → SeparatedAfter (work c stored)
 unfolding work
-work_separated c stored tables o zs good all =
+work_separated c stored tables zs good all =
     subst (λ hs. SeparatedAfter (and_then (changed_trees c) (unless (refusal c hs) stored))) (sym (stored_headings stored tables zs)) (step (refusal c (map heading_of tables)) refl)
   where
     step : (r : Option CommandFault) → refusal c (map heading_of tables) ≡ r → SeparatedAfter (and_then (changed_trees c) (unless r stored))
-    step None e = changed_separated c stored tables o e zs good all
+    step None e = changed_separated c stored tables e zs good all
     step (Some fault) e = tt
 
 next_separated : (cs : List Command) (r : Result (List Stored) CommandFault) (s : Result (List Table) CommandFault) → InStep r s → FitAfter s → SeparatedAfter r
@@ -112,21 +116,20 @@ next_separated cs (Ok stored) (Ok tables) i good all next = next stored tables i
 next_separated cs (Ok stored) (Err fault) i good all next = absurd i
 next_separated cs (Err fault) s i good all next = tt
 
-pub batch_separated : (cs : List Command) (stored : List Stored) (tables : List Table) → list_all is_open_command cs ≡ true → AllByRecursion FitsCommand cs
+pub batch_separated : (cs : List Command) (stored : List Stored) (tables : List Table) → AllByRecursion FitsCommand cs
     → StandForTables stored tables → FitTables tables → AreSeparatedIn stored → SeparatedAfter (work_all cs stored)
-batch_separated [] stored tables o fits zs good all = all
-batch_separated (c ∷ cs) stored tables o fits zs good all =
-    let open_both = and_parts (is_open_command c) (list_all is_open_command cs) o in
-    let i = command_in_step c stored tables open_both.0 fits.0 zs good in
-    next_separated cs (work c stored) (apply c tables) i.0 i.1 (work_separated c stored tables open_both.0 zs good all)
-    (λ after others y g a. batch_separated cs after others open_both.1 fits.1 y g a)
+batch_separated [] stored tables fits zs good all = all
+batch_separated (c ∷ cs) stored tables fits zs good all =
+    let i = command_in_step c stored tables fits.0 zs good in
+    next_separated cs (work c stored) (apply c tables) i.0 i.1 (work_separated c stored tables zs good all)
+    (λ after others y g a. batch_separated cs after others fits.1 y g a)
 
-all_separated : (batches : List (List Command)) (stored : List Stored) (tables : List Table) → AllByRecursion FitsBatch batches → AreOpen batches
+all_separated : (batches : List (List Command)) (stored : List Stored) (tables : List Table) → AllByRecursion FitsBatch batches
     → StandForTables stored tables → FitTables tables → AreSeparatedIn stored → AreSeparatedIn (fold after_work stored batches)
-all_separated [] stored tables fits o zs good all = all
-all_separated (batch ∷ batches) stored tables fits o zs good all =
-    next (work_all batch stored) (apply_batch batch tables) (batch_in_step 0 batch stored tables o.0 fits.0.each zs good) (batch_separated batch stored tables o.0 fits.0.each zs good all)
-    (λ after others y g a. all_separated batches after others fits.1 o.1 y g a)
+all_separated [] stored tables fits zs good all = all
+all_separated (batch ∷ batches) stored tables fits zs good all =
+    next (work_all batch stored) (apply_batch batch tables) (batch_in_step 0 batch stored tables fits.0.each zs good) (batch_separated batch stored tables fits.0.each zs good all)
+    (λ after others y g a. all_separated batches after others fits.1 y g a)
   where
     next : (r : Result (List Stored) CommandFault) (s : Result (List Table) (ℕ × CommandFault)) → InStepFrom r s → SeparatedAfter r
         → ((after : List Stored) (others : List Table) → StandForTables after others → FitTables others → AreSeparatedIn after → AreSeparatedIn (fold after_work after batches))
@@ -135,9 +138,9 @@ all_separated (batch ∷ batches) stored tables fits o zs good all =
     next (Ok after) (Err fault) i a f = absurd i
     next (Err fault) s i a f = f stored tables zs good all
 
-pub honest_separated : (batches : List (List Command)) → AllByRecursion FitsBatch batches → AreOpen batches → AllByRecursion SeparatedIn (honest_trees batches)
+pub honest_separated : (batches : List (List Command)) → AllByRecursion FitsBatch batches → AllByRecursion SeparatedIn (honest_trees batches)
 unfolding honest_trees
-honest_separated batches fits o = all_separated batches [] [] fits o tt (record { each = tt; rising = tt; count = omega arith }) tt
+honest_separated batches fits = all_separated batches [] [] fits tt (record { each = tt; rising = tt; count = omega arith }) tt
 
 -- Trees.
 
@@ -149,10 +152,10 @@ each_tree_fits (s ∷ stored) [] zs fits all = absurd zs
 each_tree_fits (s ∷ stored) (t ∷ tables) zs fits all =
     (whole_fits s.tree t.rows zs.0.stands all.0 fits.0.rows (omega (arith, fits.0.count)), each_tree_fits stored tables zs.1 fits.1 all.1)
 
-pub honest_trees_fit : (batches : List (List Command)) → AllByRecursion FitsBatch batches → AreOpen batches → AllByRecursion (λ (s : Stored). FitsTree s.tree) (honest_trees batches)
-honest_trees_fit batches fits o =
-    let i = stands batches fits o in
-    each_tree_fits (honest_trees batches) (tables_after batches) i.0 i.1.each (honest_separated batches fits o)
+pub honest_trees_fit : (batches : List (List Command)) → AllByRecursion FitsBatch batches → AllByRecursion (λ (s : Stored). FitsTree s.tree) (honest_trees batches)
+honest_trees_fit batches fits =
+    let i = stands batches fits in
+    each_tree_fits (honest_trees batches) (tables_after batches) i.0 i.1.each (honest_separated batches fits)
 
 -- Catalogs.
 

@@ -27,12 +27,12 @@ abbrev mutual
   AreSeparated none = Unit {0}
   AreSeparated (more m p ps) = Separated p × AreSeparated ps
 
-abbrev SeparatedGrown : Result (Grown PartEntry (Unit {0})) UpdateFault → Type 0
+abbrev pub SeparatedGrown : Result (Grown PartEntry (Unit {0})) UpdateFault → Type 0
 SeparatedGrown (Ok (one p)) = Separated p
 SeparatedGrown (Ok (two left key right)) = Separated left × FitsKey key × Separated right
 SeparatedGrown (Err fault) = Unit {0}
 
-abbrev SeparatedChildren : Result (Children PartEntry (Unit {0})) UpdateFault → Type 0
+abbrev pub SeparatedChildren : Result (Children PartEntry (Unit {0})) UpdateFault → Type 0
 SeparatedChildren (Ok c) = AllByRecursion FitsKey c.separators × AreSeparated c.parts
 SeparatedChildren (Err fault) = Unit {0}
 
@@ -49,22 +49,22 @@ each_dropped P zero xs all = all
 each_dropped P (suc n) [] all = tt
 each_dropped P (suc n) (x ∷ xs) all = each_dropped P n xs all.1
 
-key_there : (ss : List (List ℕ)) (i : ℕ) → AllByRecursion FitsKey ss → FitsKey (slice_index_or ss i [])
+pub key_there : (ss : List (List ℕ)) (i : ℕ) → AllByRecursion FitsKey ss → FitsKey (slice_index_or ss i [])
 key_there [] i all = omega arith
 key_there (s ∷ ss) zero all = all.0
 key_there (s ∷ ss) (suc i) all = key_there ss i all.1
 
-parts_taken : (n : ℕ) (ps : RowTrees) → AreSeparated ps → AreSeparated (take_parts n ps)
+pub parts_taken : (n : ℕ) (ps : RowTrees) → AreSeparated ps → AreSeparated (take_parts n ps)
 parts_taken n none all = tt
 parts_taken zero (more m p ps) all = tt
 parts_taken (suc n) (more m p ps) all = (all.0, parts_taken n ps all.1)
 
-parts_dropped : (n : ℕ) (ps : RowTrees) → AreSeparated ps → AreSeparated (drop_parts n ps)
+pub parts_dropped : (n : ℕ) (ps : RowTrees) → AreSeparated ps → AreSeparated (drop_parts n ps)
 parts_dropped n none all = tt
 parts_dropped zero (more m p ps) all = all
 parts_dropped (suc n) (more m p ps) all = parts_dropped n ps all.1
 
-first_fits : (es : List PartEntry) → AllByRecursion KeyFits es → FitsKey (first_key row_family es)
+pub first_fits : (es : List PartEntry) → AllByRecursion KeyFits es → FitsKey (first_key row_family es)
 first_fits [] all = omega arith
 first_fits (e ∷ es) all = all.0
 
@@ -87,18 +87,18 @@ inner_separated (Ok c) s = step (nat_le (count c.parts) 16)
       (each_dropped FitsKey 8 c.separators s.0, parts_dropped 8 c.parts s.1),
     )
 
-put_separated : (ss : List (List ℕ)) (ps : RowTrees) (r : Result (Grown PartEntry (Unit {0})) UpdateFault) → AllByRecursion FitsKey ss → AreSeparated ps
+pub put_separated : (ss : List (List ℕ)) (ps : RowTrees) (r : Result (Grown PartEntry (Unit {0})) UpdateFault) → AllByRecursion FitsKey ss → AreSeparated ps
     → SeparatedGrown r → SeparatedChildren (result_map (put_grown row_family ss ps) r)
 put_separated ss ps (Ok (one p)) all others s = (all, (s, others))
 put_separated ss ps (Ok (two left key right)) all others s = ((s.1, all), (s.0, (s.2, others)))
 put_separated ss ps (Err fault) all others s = tt
 
-after_separated : (m : Unit {0}) (p : RowTree) (ss : List (List ℕ)) (r : Result (Children PartEntry (Unit {0})) UpdateFault) → AllByRecursion FitsKey ss → Separated p
+pub after_separated : (m : Unit {0}) (p : RowTree) (ss : List (List ℕ)) (r : Result (Children PartEntry (Unit {0})) UpdateFault) → AllByRecursion FitsKey ss → Separated p
     → SeparatedChildren r → SeparatedChildren (result_map (after_child m p ss) r)
 after_separated m p ss (Ok c) all here s = (each_both FitsKey (take 1 ss) c.separators (each_taken FitsKey 1 ss all) s.0, (here, s.1))
 after_separated m p ss (Err fault) all here s = tt
 
-either_separated : (b : Bool) (r s : Result (Children PartEntry (Unit {0})) UpdateFault) → SeparatedChildren r → SeparatedChildren s → SeparatedChildren (cond b r s)
+pub either_separated : (b : Bool) (r s : Result (Children PartEntry (Unit {0})) UpdateFault) → SeparatedChildren r → SeparatedChildren s → SeparatedChildren (cond b r s)
 either_separated true r s f g = f
 either_separated false r s f g = g
 

@@ -16,6 +16,7 @@ ghost use Rattle.vo_spec.specs.Secret.{Secret, public_of_secret};
 ghost use Rattle.vo_spec.specs.Trees.{RowTree};
 ghost use Rattle.vo_spec.specs.Parts.{levels};
 ghost use Rattle.vo_spec.specs.Inserts.{insert_proof};
+ghost use Rattle.vo_spec.specs.Removes.{remove_proof, replace_proof};
 ghost use Rattle.vo_spec.specs.TreeBytes.{tree_bytes};
 ghost use Rattle.vo_spec.specs.Journals.{most_signature, FitsEntry, Holds, batches_of, tables_at};
 ghost use Rattle.vo_spec.specs.Replies.{FitsProofs};
@@ -31,19 +32,19 @@ pub fn trees_follow_batches()
     ensures no_commands_fit { FitsBatch [] }
     ensures no_tables_before { (batches : List (List Command)) → tables_after ([] ∷ batches) ≡ tables_after batches }
     ensures no_trees_before { (batches : List (List Command)) → honest_trees ([] ∷ batches) ≡ honest_trees batches }
-    ensures accepted { (batches : List (List Command)) (batch : List Command) → AllByRecursion FitsBatch batches → AreOpen batches
-        → FitsBatch batch → IsTrue (list_all is_open_command batch)
+    ensures accepted { (batches : List (List Command)) (batch : List Command) → AllByRecursion FitsBatch batches → FitsBatch batch
         → IsOk (work_all batch (honest_trees batches)) ↔ IsOk (apply_batch batch (tables_after batches)) }
-    ensures refused { (batches : List (List Command)) (batch : List Command) (index : ℕ) (fault : CommandFault) → AllByRecursion FitsBatch batches → AreOpen batches
-        → FitsBatch batch → IsTrue (list_all is_open_command batch)
+    ensures refused { (batches : List (List Command)) (batch : List Command) (index : ℕ) (fault : CommandFault) → AllByRecursion FitsBatch batches → FitsBatch batch
         → apply_batch batch (tables_after batches) ≡ Err (index, fault) → work_all batch (honest_trees batches) ≡ Err fault }
 {}
 
 /// The proofs that an honest owner makes of a batch fit their bytes.
 pub fn honest_proofs_fit()
     ensures size { (key : List ℕ) (t : RowTree) → FitsTree t → length (tree_bytes (insert_proof key t)) ≤ levels t * 5634 }
-    ensures fit { (earlier : List (List Command)) (batch : List Command) → AllByRecursion FitsBatch earlier → AreOpen earlier
-        → FitsBatch batch → IsTrue (list_all is_open_command batch) → FitsProofs (honest_proofs batch (honest_trees earlier)) }
+    ensures replace_size { (key : List ℕ) (t : RowTree) → FitsTree t → length (tree_bytes (replace_proof key t)) ≤ levels t * 5634 }
+    ensures remove_size { (key : List ℕ) (t : RowTree) → FitsTree t → length (tree_bytes (remove_proof key t)) ≤ levels t * 11268 }
+    ensures fit { (earlier : List (List Command)) (batch : List Command) → AllByRecursion FitsBatch earlier
+        → FitsBatch batch → FitsProofs (honest_proofs batch (honest_trees earlier)) }
 {}
 
 /// What an owner seals fits its bytes, as long as the signature is no longer than a key's are; and it is a
@@ -51,10 +52,10 @@ pub fn honest_proofs_fit()
 pub fn sealed_journals_are_owned()
     ensures signatures_short { (key : List ℕ) → key_signature_len key ≤ most_signature }
     ensures entry_fits { (secret : Secret) (earlier : List (List Command)) (batch : List Command) → length secret.id ≡ 16
-        → AllByRecursion FitsBatch earlier → AreOpen earlier → FitsBatch batch → IsTrue (list_all is_open_command batch)
+        → AllByRecursion FitsBatch earlier → FitsBatch batch
         → length earlier < 2 ^ 64 → length (sealed_entry secret earlier batch).signature ≤ most_signature
         → FitsEntry (sealed_entry secret earlier batch) }
-    ensures entries_fit { (secret : Secret) (batches : List (List Command)) → length secret.id ≡ 16 → AllByRecursion FitsBatch batches → AreOpen batches
+    ensures entries_fit { (secret : Secret) (batches : List (List Command)) → length secret.id ≡ 16 → AllByRecursion FitsBatch batches
         → length batches < 2 ^ 64 → AllByRecursion (λ (e : Entry). length e.signature ≤ most_signature) (sealed secret batches)
         → AllByRecursion FitsEntry (sealed secret batches) }
     ensures entry_is_honest { (secret : Secret) (earlier : List (List Command)) (batch : List Command)
@@ -89,7 +90,7 @@ pub fn journals_grow_by_entries()
 {}
 
 /// Each entry that a store takes holds the record of the honest trees after the batches of its version, signed;
-/// these batches fit and are open, so the trees stand for that version's tables.
+/// these batches are open and fit, and the trees stand for that version's tables.
 pub fn journals_hold_honest_records()
     ensures record_is { (key : List ℕ) (es : List Entry) (version : ℕ) (e : Entry) → AreTaken key es → slice_get es version ≡ Some e
         → e.rec ≡ honest_record key version (honest_trees (batches_of (take version (drop 1 es)))) }

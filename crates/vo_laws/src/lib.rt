@@ -2,6 +2,7 @@
 //! client sees and what the plain tables say.
 #![tactic(auto)]
 
+pub mod changes;
 pub mod journals;
 
 ghost use Rattle.std.specs.Prelude.{◌≡◌, ◌≢◌, ℕ, ◌^◌, ◌≤◌, ◌<◌, List, [], ◌∷◌, None, Ok, length};
@@ -28,7 +29,7 @@ ghost use Rattle.vo_spec.specs.Trees.{RowTree, Prunes};
 ghost use Rattle.vo_spec.specs.Journals.{most_signature};
 ghost use Rattle.vo_spec.specs.Replies.{Reply, FitsReply};
 ghost use Rattle.vo_spec.specs.Checks.{answer_to, seen_outcome, missing_fault};
-ghost use Rattle.vo_spec.specs.Honest.{Stored, StandForTables, AreOpen, catalog_of, honest_record, honest_reply, honest_trees, trees_for};
+ghost use Rattle.vo_spec.specs.Honest.{Stored, StandForTables, catalog_of, honest_record, honest_reply, honest_trees, trees_for};
 
 /// Where each tree of a reply prunes the whole tree of its table, nothing is missing, and the whole trees
 /// stand for plain tables, the outcome that the trees show is the query's result on these tables.
@@ -38,25 +39,25 @@ pub fn complete_proofs_show_the_result()
         → seen_outcome q r.catalog r.trees ≡ result_of q tables }
 {}
 
-/// The trees that an honest owner keeps stand for the plain tables of the same batches, as long as these
-/// only make tables, drop them and insert rows; and trees, catalogs and records fit their bytes.
+/// The trees that an honest owner keeps stand for the plain tables of the same batches, whatever commands these
+/// have; and trees, catalogs and records fit their bytes.
 pub fn honest_trees_stand_for_the_tables()
-    ensures stand { (batches : List (List Command)) → AllByRecursion FitsBatch batches → AreOpen batches
+    ensures stand { (batches : List (List Command)) → AllByRecursion FitsBatch batches
         → StandForTables (honest_trees batches) (tables_after batches) }
-    ensures trees_fit { (batches : List (List Command)) → AllByRecursion FitsBatch batches → AreOpen batches
+    ensures trees_fit { (batches : List (List Command)) → AllByRecursion FitsBatch batches
         → AllByRecursion (λ (s : Stored). FitsTree s.tree) (honest_trees batches) }
-    ensures catalog_fits { (batches : List (List Command)) → AllByRecursion FitsBatch batches → AreOpen batches
+    ensures catalog_fits { (batches : List (List Command)) → AllByRecursion FitsBatch batches
         → FitsCatalog (catalog_of (honest_trees batches)) }
     ensures record_fits { (key : List ℕ) (version : ℕ) (stored : List Stored) → 24 ≤ length key → version < 2 ^ 64
         → FitsRecord (honest_record key version stored) }
-    ensures reply_fits { (batches : List (List Command)) (q : Query) (rec : Record) (signature : List ℕ) → AllByRecursion FitsBatch batches → AreOpen batches
+    ensures reply_fits { (batches : List (List Command)) (q : Query) (rec : Record) (signature : List ℕ) → AllByRecursion FitsBatch batches
         → FitsRecord rec → length signature ≤ most_signature → FitsReply (honest_reply q rec signature (honest_trees batches)) }
 {}
 
 /// A client takes the reply of an honest store, and its outcome is the query's result on the plain tables.
 pub fn honest_replies_are_accepted()
     ensures { (batches : List (List Command)) (key : List ℕ) (version : ℕ) (least : ℕ) (q : Query) (rec : Record) (signature : List ℕ)
-        → AllByRecursion FitsBatch batches → AreOpen batches → rec ≡ honest_record key version (honest_trees batches)
+        → AllByRecursion FitsBatch batches → rec ≡ honest_record key version (honest_trees batches)
         → IsSigned key rec signature → least ≤ rec.version → FitsQuery q
         → answer_to key least q (honest_reply q rec signature (honest_trees batches))
         ≡ Ok (record { version = rec.version; outcome = result_of q (tables_after batches) }) }
@@ -69,7 +70,7 @@ pub fn proofs_show_what_their_need_sees()
         → AllByRecursion (λ (row : Row). length row.cells ≡ cells) rows → seen need (pruned (need ∷ []) t) ≡ seen need t }
     ensures by_seen { (ss : List Side) (q : Query) (trees : List RowTree) (others : List RowTree)
         → seen (left_need ss q) (tree_at trees 0) ≡ seen (left_need ss q) (tree_at others 0) → needs ss q trees ≡ needs ss q others }
-    ensures needs { (batches : List (List Command)) (q : Query) (others : List RowTree) → AllByRecursion FitsBatch batches → AreOpen batches
+    ensures needs { (batches : List (List Command)) (q : Query) (others : List RowTree) → AllByRecursion FitsBatch batches
         → let stored : List Stored = honest_trees batches in
         let ss : List Side = sides (headings (catalog_of stored)) q in
         needs ss q (pruned (left_need ss q ∷ []) (tree_at (trees_for q stored) 0) ∷ others) ≡ needs ss q (trees_for q stored) }

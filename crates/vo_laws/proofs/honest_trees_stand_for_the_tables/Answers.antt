@@ -7,9 +7,9 @@ use Rattle.vo_laws.proofs.honest_trees_stand_for_the_tables.Goals as goal
 
 pub returns : goal.returns
 returns c = record {
-  stand = λ batches fits o. (stands batches fits o).0;
+  stand = λ batches fits. (stands batches fits).0;
   trees_fit = honest_trees_fit;
-  catalog_fits = λ batches fits o. catalog_fits (honest_trees batches) (tables_after batches) (stands batches fits o).0 (stands batches fits o).1;
+  catalog_fits = λ batches fits. catalog_fits (honest_trees batches) (tables_after batches) (stands batches fits).0 (stands batches fits).1;
   record_fits = record_fits;
   reply_fits = reply_fits;
 }
