@@ -1,24 +1,22 @@
 -- An insertion keeps nodes within their limits.
-use Rattle.std.proofs.Common.{◌≡◌, ℕ, zero, suc, ◌+◌, ◌-◌, ◌<◌, ◌≤◌, Bool, true, false, cond, nat_le, List, [], ◌∷◌, ◌++◌, length, map, take, drop, get_or, Result, Ok, Err, All, refl, sym, ap, ◌∙◌, subst, arith, length-drop}
+use Rattle.std.proofs.Common.{◌≡◌, ℕ, zero, suc, ◌+◌, ◌-◌, ◌<◌, ◌≤◌, Bool, true, false, cond, nat_le, List, [], ◌∷◌, length, take, drop, get_or, Ok, Err, All, refl, sym, ap, subst, arith, length-drop}
 use Rattle.std.proofs.lemmas.List.{length-take-le, length-map}
 use Rattle.std.proofs.lemmas.List.Elements.{All-take, All-drop, All-cons, All-head, All-tail}
 use Rattle.std.proofs.lemmas.Bool.Decides.{nat_tests}
-use Rattle.std.specs.List.{AllByRecursion}
 use Rattle.vo_spec.specs.declared.values.Value.{Value}
 use Rattle.vo_spec.specs.declared.values.Row.{Row}
 use Rattle.vo_spec.specs.declared.cells.Cell.TheVariants.{Shown}
 use Rattle.vo_spec.specs.declared.cells.PartEntry.{PartEntry}
-use Rattle.vo_spec.specs.declared.trees.UpdateFault.{UpdateFault}
 use Rattle.vo_spec.specs.declared.trees.UpdateFault.TheVariants.{DuplicateKey}
 use Rattle.vo_spec.specs.Values.{key_lt, FitsValue}
 use Rattle.vo_spec.specs.Cells.{whole_cells, whole_entry}
 use Rattle.vo_spec.specs.Parts.{stub, leaf, inner, none, more, count}
 use Rattle.vo_spec.specs.Trees.{RowTree, RowTrees, row_family}
 use Rattle.vo_spec.specs.Fits.{FitsKey, FitsCell, FitsEntry, FitsRow, FitsPart, FitsEach}
-use Rattle.vo_spec.specs.Inserts.{Grown, one, two, Children, half, result_map, goes_here, take_parts, drop_parts, after_child, has_key, put_entry, first_key, split_leaf, split_inner, put_grown, grow, grow_in, root_of, inserted}
+use Rattle.vo_spec.specs.Inserts.{Grown, one, two, Children, half, result_map, take_parts, drop_parts, after_child, has_key, put_entry, first_key, split_leaf, split_inner, put_grown, grow, grow_in, root_of}
 use Rattle.mb_update.proofs.Putting.{mapped, chosen}
 
-abbrev FitsGrown : Grown PartEntry (Unit {0}) → Type 0
+abbrev pub FitsGrown : Grown PartEntry (Unit {0}) → Type 0
 FitsGrown (one t) = FitsPart t
 FitsGrown (two left key right) = FitsPart left × FitsKey key × FitsPart right
 
@@ -32,7 +30,7 @@ record FitsChildren (c : Children PartEntry (Unit {0})) (n : ℕ) : Type 0 where
 
 -- Leaves.
 
-first_fits : (es : List PartEntry) → All FitsEntry es → FitsKey (first_key row_family es)
+pub first_fits : (es : List PartEntry) → All FitsEntry es → FitsKey (first_key row_family es)
 first_fits [] all = omega arith
 first_fits (e ∷ es) all = (All-head FitsEntry e es all).key
 
@@ -65,24 +63,24 @@ put_fits e new (f ∷ fs) all = step (key_lt e.key f.key) (put_fits e new fs (Al
 
 -- Inner nodes.
 
-take_count : (n : ℕ) (ps : RowTrees) → n ≤ count ps → count (take_parts n ps) ≡ n
+pub take_count : (n : ℕ) (ps : RowTrees) → n ≤ count ps → count (take_parts n ps) ≡ n
 take_count zero none h = refl
 take_count (suc n) none h = absurd (omega arith)
 take_count zero (more m p ps) h = refl
 take_count (suc n) (more m p ps) h = let rest : count (take_parts n ps) ≡ n = take_count n ps (omega arith) in omega arith
 
-drop_count : (n : ℕ) (ps : RowTrees) → n ≤ count ps → count (drop_parts n ps) + n ≡ count ps
+pub drop_count : (n : ℕ) (ps : RowTrees) → n ≤ count ps → count (drop_parts n ps) + n ≡ count ps
 drop_count zero none h = refl
 drop_count (suc n) none h = absurd (omega arith)
 drop_count zero (more m p ps) h = omega arith
 drop_count (suc n) (more m p ps) h = let rest : count (drop_parts n ps) + n ≡ count ps = drop_count n ps (omega arith) in omega arith
 
-take_fits : (n : ℕ) (ps : RowTrees) → FitsEach FitsEntry ps → FitsEach FitsEntry (take_parts n ps)
+pub take_fits : (n : ℕ) (ps : RowTrees) → FitsEach FitsEntry ps → FitsEach FitsEntry (take_parts n ps)
 take_fits n none all = tt
 take_fits zero (more m p ps) all = tt
 take_fits (suc n) (more m p ps) all = (all.0, take_fits n ps all.1)
 
-drop_fits : (n : ℕ) (ps : RowTrees) → FitsEach FitsEntry ps → FitsEach FitsEntry (drop_parts n ps)
+pub drop_fits : (n : ℕ) (ps : RowTrees) → FitsEach FitsEntry ps → FitsEach FitsEntry (drop_parts n ps)
 drop_fits n none all = tt
 drop_fits zero (more m p ps) all = all
 drop_fits (suc n) (more m p ps) all = drop_fits n ps all.1

@@ -1,5 +1,5 @@
 -- What a path to a key's leaf looks at, and what is open beside it, by lists of children.
-use Rattle.std.proofs.Common.{◌≡◌, ℕ, zero, suc, ◌+◌, ◌<◌, ◌≤◌, Bool, true, false, cond, not, ◌||◌, List, [], ◌∷◌, ◌++◌, length, map, take, drop, get_or, Option, Some, None, Result, Ok, Err, refl, sym, ap, ◌∙◌, arith, add-one, slice_get}
+use Rattle.std.proofs.Common.{◌≡◌, ℕ, suc, ◌+◌, ◌<◌, ◌≤◌, Bool, true, false, cond, not, ◌||◌, List, [], ◌∷◌, length, map, take, drop, get_or, Option, Some, None, Result, Ok, Err, refl, sym, ap, ◌∙◌, arith, add-one, slice_get}
 use Rattle.std.proofs.lemmas.List.{take-map, drop-map, length-map, get_or-map}
 use Rattle.std.specs.List.{list_any, position_or_len}
 use Rattle.vo_spec.specs.declared.cells.PartEntry.{PartEntry}
@@ -8,13 +8,13 @@ use Rattle.vo_spec.specs.Parts.{stub, leaf, inner, none, more}
 use Rattle.vo_spec.specs.Trees.{RowTree, RowTrees, open_parts}
 use Rattle.vo_spec.specs.Pruned.{misses, misses_in, goes_beyond, goes_beyond_in}
 use Rattle.vo_spec.specs.Inserts.{walk_to, insert_misses, insert_goes_beyond}
-use Rattle.mb_update.specs.Closing.{is_open, beside, shows_cells}
+use Rattle.mb_update.specs.Closing.{is_open, outside, beside, shows_cells}
 use Rattle.mb_update.specs.Proving.{told}
 use Rattle.mb_tree.specs.declared.parts.PartTree.{PartTree}
 use Rattle.mb_tree.specs.View.{part_of, parts_of}
 use Rattle.vo_spec.specs.declared.trees.ScanFault.{ScanFault}
 
-or_false : (b : Bool) → b || false ≡ b
+pub or_false : (b : Bool) → b || false ≡ b
 or_false true = refl
 or_false false = refl
 
@@ -45,7 +45,7 @@ each_beyond key lower ss (t ∷ ts) = rw (beyond_here key t, each_beyond key (sl
 
 -- The child on the path, and those beside it.
 
-swapped : (a b x y : Bool) → a || (b || (x || y)) ≡ b || ((a || x) || y)
+pub swapped : (a b x y : Bool) → a || (b || (x || y)) ≡ b || ((a || x) || y)
 swapped true true x y = refl
 swapped true false x y = refl
 swapped false true x y = refl
@@ -129,11 +129,11 @@ module _ (key : List ℕ) where
 
 -- What is told of a node by what is told of its child on the path.
 
-told_ok : (missing surplus answer : Bool) → Ok answer ≡ told missing surplus → (missing ≡ false) × (answer ≡ surplus)
+pub told_ok : (missing surplus answer : Bool) → Ok answer ≡ told missing surplus → (missing ≡ false) × (answer ≡ surplus)
 told_ok true surplus answer h = absurd (cc)
 told_ok false surplus answer h = let same : answer ≡ surplus = cc in (refl, same)
 
-told_err : (missing surplus all beyond : Bool) (fault : ScanFault) → all ≡ missing → Err fault ≡ told missing surplus → Err fault ≡ told all beyond
+pub told_err : (missing surplus all beyond : Bool) (fault : ScanFault) → all ≡ missing → Err fault ≡ told missing surplus → Err fault ≡ told all beyond
 told_err true surplus all beyond fault same h = h ∙ ap (λ b. told b beyond) (sym same)
 told_err false surplus all beyond fault same h = absurd (cc)
 
@@ -182,15 +182,15 @@ pub or_else : (b c : Bool) → b ≡ false → c ≡ b || c
 or_else true c h = absurd (cc)
 or_else false c h = refl
 
--- what is open before the child and after it
-module _ (ps : List PartTree) (place : ℕ) where
-  pub beside_before : (b : Bool) → b ≡ list_any is_open (map part_of (take place ps)) → b ≡ true → b ≡ beside place (map part_of ps)
-  beside_before b before h =
-      or_then b (list_any is_open (drop (place + 1) (map part_of ps))) h
-      ∙ ap (λ x. x || list_any is_open (drop (place + 1) (map part_of ps))) (before ∙ ap (list_any is_open) (sym (take-map part_of place ps)))
+-- what is open before these children and after them
+module _ (ps : List PartTree) (i j : ℕ) where
+  pub outside_before : (b : Bool) → b ≡ list_any is_open (map part_of (take i ps)) → b ≡ true → b ≡ outside i j (map part_of ps)
+  outside_before b before h =
+      or_then b (list_any is_open (drop j (map part_of ps))) h
+      ∙ ap (λ x. x || list_any is_open (drop j (map part_of ps))) (before ∙ ap (list_any is_open) (sym (take-map part_of i ps)))
 
-  pub beside_after : (b c : Bool) → b ≡ list_any is_open (map part_of (take place ps)) → b ≡ false → c ≡ list_any is_open (map part_of (drop (place + 1) ps)) → c ≡ beside place (map part_of ps)
-  beside_after b c before h after =
+  pub outside_after : (b c : Bool) → b ≡ list_any is_open (map part_of (take i ps)) → b ≡ false → c ≡ list_any is_open (map part_of (drop j ps)) → c ≡ outside i j (map part_of ps)
+  outside_after b c before h after =
       or_else b c h
-      ∙ ap (λ x. x || c) (before ∙ ap (list_any is_open) (sym (take-map part_of place ps)))
-      ∙ ap (λ x. list_any is_open (take place (map part_of ps)) || x) (after ∙ ap (list_any is_open) (sym (drop-map part_of (place + 1) ps)))
+      ∙ ap (λ x. x || c) (before ∙ ap (list_any is_open) (sym (take-map part_of i ps)))
+      ∙ ap (λ x. list_any is_open (take i (map part_of ps)) || x) (after ∙ ap (list_any is_open) (sym (drop-map part_of j ps)))

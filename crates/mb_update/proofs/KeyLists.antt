@@ -1,12 +1,12 @@
 -- Keys that fit, in parts of lists and put together.
-use Rattle.std.proofs.Common.{◌≡◌, ℕ, zero, suc, ◌+◌, ◌<◌, ◌≤◌, List, [], ◌∷◌, ◌++◌, length, map, take, drop, get_or, refl, sym, ap, ◌∙◌, subst, arith, All, length-append, length-drop}
+use Rattle.std.proofs.Common.{◌≡◌, ℕ, zero, suc, ◌+◌, ◌-◌, ◌<◌, ◌≤◌, List, [], ◌∷◌, ◌++◌, length, map, take, drop, get_or, sym, ap, ◌∙◌, subst, arith, All, length-append, length-drop}
 use Rattle.std.proofs.lemmas.List.{take-map, drop-map, map-append, length-map, take_more, take_at, drop_at, length-take-le}
 use Rattle.std.specs.declared.rc.Rc.{Rc}
 use Rattle.std.specs.declared.alloc.Global.{Global}
 use Rattle.vo_spec.specs.Fits.{FitsKey}
 use Rattle.mb_tree.specs.Whole.{value_of}
 use Rattle.mb_update.specs.declared.halving.Halves.{Halves}
-use Rattle.mb_update.specs.Placing.{AreHalves}
+use Rattle.mb_update.specs.Placing.{AreCut}
 
 abbrev pub Keys : Type 0
 Keys = List (Rc (List ℕ) Global)
@@ -45,49 +45,57 @@ keys_around n ks = sym (take-map value_of n ks)
 pub count_keys : (ks : Keys) → length (map value_of ks) ≡ length ks
 count_keys ks = length-map ks value_of
 
--- the separators of a node of 17 children
-pub record CutKeys (ss front : List (List ℕ)) (key : List ℕ) : Type 0 where
-  pub before : take 7 ss ≡ front
-  pub between : get_or ss 7 [] ≡ key
+-- the separators of a node, cut before this one
+pub record KeysCut (i : ℕ) (ss front : List (List ℕ)) (key : List ℕ) : Type 0 where
+  pub before : take i ss ≡ front
+  pub between : get_or ss i [] ≡ key
 
-pub cut_keys : (ss front : List (List ℕ)) (key : List ℕ) → 8 ≤ length ss → take 8 ss ≡ front ++ key ∷ [] → CutKeys ss front key
-cut_keys ss front key many e =
-    let last : take 8 ss ≡ take 7 ss ++ get_or ss 7 [] ∷ [] = take_more ss 7 [] (omega arith) in
-    let first : length (take 7 ss) ≡ 7 = length-take-le 7 ss (omega arith) in
+pub keys_cut : (at : ℕ) (ss front : List (List ℕ)) (key : List ℕ) → 0 < at → at ≤ length ss → take at ss ≡ front ++ key ∷ [] → KeysCut (at - 1) ss front key
+keys_cut at ss front key some many e =
+    let next : at - 1 + 1 ≡ at = omega arith in
+    let last : take at ss ≡ take (at - 1) ss ++ get_or ss (at - 1) [] ∷ [] = ap (λ n. take n ss) (sym next) ∙ take_more ss (at - 1) [] (omega arith) in
+    let first : length (take (at - 1) ss) ≡ at - 1 = length-take-le (at - 1) ss (omega arith) in
     let counted = ap length e in
-    let front_is : length front ≡ 7 = omega (arith, length-take-le 8 ss many, length-append front (key ∷ [])) in
-    let ends : get_or ss 7 [] ∷ [] ≡ key ∷ [] = sym (drop_at (take 7 ss) (get_or ss 7 [] ∷ []) 7 first) ∙ ap (drop 7) (sym last ∙ e) ∙ drop_at front (key ∷ []) 7 front_is in
+    let front_is : length front ≡ at - 1 = omega (arith, length-take-le at ss many, length-append front (key ∷ [])) in
+    let ends : get_or ss (at - 1) [] ∷ [] ≡ key ∷ [] = sym (drop_at (take (at - 1) ss) (get_or ss (at - 1) [] ∷ []) (at - 1) first) ∙ ap (drop (at - 1)) (sym last ∙ e) ∙ drop_at front (key ∷ []) (at - 1) front_is in
     record {
-      before = sym (take_at (take 7 ss) (get_or ss 7 [] ∷ []) 7 first) ∙ ap (take 7) (sym last ∙ e) ∙ take_at front (key ∷ []) 7 front_is;
+      before = sym (take_at (take (at - 1) ss) (get_or ss (at - 1) [] ∷ []) (at - 1) first) ∙ ap (take (at - 1)) (sym last ∙ e) ∙ take_at front (key ∷ []) (at - 1) front_is;
       between = cc;
     }
 
--- those of a whole tree, as the separator between the halves and those before and after it
-pub record HalvedKeys {N : Type 0} (ks : Keys) (h : Halves (Rc (List ℕ) Global) N) : Type 0 where
-  pub cut : CutKeys (map value_of ks) (map value_of h.before.items) h.key.value
-  pub after : map value_of h.after.items ≡ drop 8 (map value_of ks)
+-- those of a node of 17 children
+abbrev pub CutKeys : List (List ℕ) → List (List ℕ) → List ℕ → Type 0
+CutKeys = KeysCut 7
+
+pub cut_keys : (ss front : List (List ℕ)) (key : List ℕ) → 8 ≤ length ss → take 8 ss ≡ front ++ key ∷ [] → CutKeys ss front key
+cut_keys ss front key many e = keys_cut 8 ss front key (omega arith) many e
+
+-- those of a whole tree, as the separator between two nodes and those before and after it
+pub record HalvedKeys {N : Type 0} (at : ℕ) (ks : Keys) (h : Halves (Rc (List ℕ) Global) N) : Type 0 where
+  pub cut : KeysCut (at - 1) (map value_of ks) (map value_of h.before.items) h.key.value
+  pub after : map value_of h.after.items ≡ drop at (map value_of ks)
   pub fits_before : All FitsKey (map value_of h.before.items)
   pub fits_key : FitsKey h.key.value
   pub fits_after : All FitsKey (map value_of h.after.items)
-  pub few : length h.before.items ≡ 7
-  pub rest : length h.after.items + 8 ≡ length ks
+  pub few : length h.before.items + 1 ≡ at
+  pub rest : length h.after.items + at ≡ length ks
 
-pub halved_keys : {N : Type 0} (ks : Keys) (ts : List N) (h : Halves (Rc (List ℕ) Global) N) → 8 ≤ length ks → All FitsKey (map value_of ks) → AreHalves h ks ts → HalvedKeys ks h
-halved_keys ks ts h many fit halved =
+pub halved_keys : {N : Type 0} (at : ℕ) (ks : Keys) (ts : List N) (h : Halves (Rc (List ℕ) Global) N) → 0 < at → at ≤ length ks → All FitsKey (map value_of ks) → AreCut at h ks ts → HalvedKeys at ks h
+halved_keys at ks ts h some many fit halved =
     let counted = length-map ks value_of in
     let before = map value_of h.before.items in
-    let front : take 8 (map value_of ks) ≡ before ++ h.key.value ∷ [] = take-map value_of 8 ks ∙ ap (map value_of) halved.first_keys ∙ map-append value_of h.before.items (h.key ∷ []) in
-    let rest : map value_of h.after.items ≡ drop 8 (map value_of ks) = ap (map value_of) halved.last_keys ∙ sym (drop-map value_of 8 ks) in
-    let c = cut_keys (map value_of ks) before h.key.value (omega arith) front in
+    let front : take at (map value_of ks) ≡ before ++ h.key.value ∷ [] = take-map value_of at ks ∙ ap (map value_of) halved.first_keys ∙ map-append value_of h.before.items (h.key ∷ []) in
+    let rest : map value_of h.after.items ≡ drop at (map value_of ks) = ap (map value_of) halved.last_keys ∙ sym (drop-map value_of at ks) in
+    let c = keys_cut at (map value_of ks) before h.key.value some (omega arith) front in
     let P : List (List ℕ) → Type 0 = λ xs. All FitsKey xs in
-    let first : length (take 8 ks) ≡ 8 = length-take-le 8 ks many in
+    let first : length (take at ks) ≡ at = length-take-le at ks many in
     let all = ap length halved.first_keys in
     record {
       cut = c;
       after = rest;
-      fits_before = subst P c.before (take_all_fit 7 (map value_of ks) fit);
-      fits_key = subst FitsKey c.between (fit 7 [] (omega arith));
-      fits_after = subst P (sym rest) (drop_all_fit 8 (map value_of ks) fit);
+      fits_before = subst P c.before (take_all_fit (at - 1) (map value_of ks) fit);
+      fits_key = subst FitsKey c.between (fit (at - 1) [] (omega arith));
+      fits_after = subst P (sym rest) (drop_all_fit at (map value_of ks) fit);
       few = omega (arith, length-append h.before.items (h.key ∷ []));
-      rest = omega (arith, ap length halved.last_keys, length-drop 8 ks);
+      rest = omega (arith, ap length halved.last_keys, length-drop at ks);
     }

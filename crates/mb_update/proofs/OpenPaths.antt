@@ -1,14 +1,14 @@
 -- The path to a key's leaf, open in a tree, by lists of children.
-use Rattle.std.proofs.Common.{◌≡◌, ℕ, zero, suc, ◌+◌, ◌<◌, ◌≤◌, Bool, true, false, cond, not, List, [], ◌∷◌, ◌++◌, length, map, take, drop, get_or, Option, Some, None, refl, sym, ap, ◌∙◌, arith, add-one, slice_get}
+use Rattle.std.proofs.Common.{◌≡◌, ℕ, suc, ◌+◌, Bool, true, false, cond, not, List, [], ◌∷◌, ◌++◌, length, map, take, drop, get_or, Option, Some, None, refl, sym, ap, ◌∙◌, arith, add-one, slice_get}
 use Rattle.std.specs.List.{position_or_len}
 use Rattle.vo_spec.specs.Values.{key_lt}
-use Rattle.vo_spec.specs.Parts.{stub, leaf, inner, none, more}
-use Rattle.vo_spec.specs.Trees.{RowTree, RowTrees, digest, row_family, open_parts}
+use Rattle.vo_spec.specs.Parts.{stub, leaf, inner, more}
+use Rattle.vo_spec.specs.Trees.{RowTree, row_family, open_parts}
 use Rattle.vo_spec.specs.Pruned.{pruned_by, pruned_in}
-use Rattle.vo_spec.specs.Inserts.{goes_here, walk_to}
+use Rattle.vo_spec.specs.Inserts.{walk_to}
 use Rattle.mb_update.specs.Closing.{closed_tree}
 
-closed_off_path : (key : List ℕ) (t : RowTree) → pruned_by (walk_to key) row_family false t ≡ closed_tree t
+pub closed_off_path : (key : List ℕ) (t : RowTree) → pruned_by (walk_to key) row_family false t ≡ closed_tree t
 closed_off_path key (stub d) = refl
 closed_off_path key (leaf es) = refl
 closed_off_path key (inner ss ps) = refl

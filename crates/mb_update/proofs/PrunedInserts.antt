@@ -1,5 +1,5 @@
 -- An insertion into what prunes a tree.
-use Rattle.std.proofs.Common.{◌≡◌, ℕ, zero, suc, ◌+◌, Bool, true, false, cond, nat_le, List, [], ◌∷◌, ◌++◌, length, take, drop, get_or, Result, Ok, Err, refl, sym, ap, ◌∙◌, subst, slice_get}
+use Rattle.std.proofs.Common.{◌≡◌, ℕ, zero, suc, ◌+◌, Bool, true, false, cond, nat_le, List, [], ◌∷◌, ◌++◌, length, take, drop, get_or, Result, Ok, Err, refl, ap, ◌∙◌, subst, slice_get}
 use Rattle.std.specs.List.{AllZip}
 use Rattle.vo_spec.specs.declared.values.Value.{Value}
 use Rattle.vo_spec.specs.declared.values.Row.{Row}
@@ -13,7 +13,7 @@ use Rattle.vo_spec.specs.Trees.{RowTree, RowTrees, row_family, Prunes}
 use Rattle.vo_spec.specs.Inserts.{Grown, one, two, Children, half, result_map, goes_here, take_parts, drop_parts, after_child, has_key, put_entry, first_key, split_leaf, split_inner, put_grown, grow, grow_in, root_of, inserted}
 use Rattle.mb_update.specs.Agreeing.{Agrees, GoesOnPruning}
 
-agrees_map : {A B : Type 0} (R : A → A → Type 0) (S : B → B → Type 0) (f g : A → B) (r s : Result A UpdateFault) → ((x y : A) → R x y → S (f x) (g y))
+pub agrees_map : {A B : Type 0} (R : A → A → Type 0) (S : B → B → Type 0) (f g : A → B) (r s : Result A UpdateFault) → ((x y : A) → R x y → S (f x) (g y))
     → Agrees R r s → Agrees S (result_map f r) (result_map g s)
 agrees_map R S f g (Ok x) (Ok y) on h = on x y h
 agrees_map R S f g (Ok x) (Err other) on h = absurd h
@@ -25,22 +25,22 @@ agrees_map R S f g (Err Missing) s on h = tt
 agrees_map R S f g (Err Memory) (Ok y) on h = absurd h
 agrees_map R S f g (Err Memory) (Err other) on h = h
 
-chosen_agrees : {A : Type 0} (R : A → A → Type 0) (b : Bool) (w x y z : Result A UpdateFault) → Agrees R w y → Agrees R x z → Agrees R (cond b w x) (cond b y z)
+pub chosen_agrees : {A : Type 0} (R : A → A → Type 0) (b : Bool) (w x y z : Result A UpdateFault) → Agrees R w y → Agrees R x z → Agrees R (cond b w x) (cond b y z)
 chosen_agrees R true w x y z h g = h
 chosen_agrees R false w x y z h g = g
 
 -- Entries one by one.
 
-abbrev Zip : List PartEntry → List PartEntry → Type 0
+abbrev pub Zip : List PartEntry → List PartEntry → Type 0
 Zip = AllZip EntryPrunes
 
-zip_length : (es fs : List PartEntry) → Zip es fs → length es ≡ length fs
+pub zip_length : (es fs : List PartEntry) → Zip es fs → length es ≡ length fs
 zip_length [] [] z = refl
 zip_length [] (f ∷ fs) z = absurd z
 zip_length (e ∷ es) [] z = absurd z
 zip_length (e ∷ es) (f ∷ fs) z = ap suc (zip_length es fs z.1)
 
-zip_take : (n : ℕ) (es fs : List PartEntry) → Zip es fs → Zip (take n es) (take n fs)
+pub zip_take : (n : ℕ) (es fs : List PartEntry) → Zip es fs → Zip (take n es) (take n fs)
 zip_take zero [] [] z = tt
 zip_take (suc n) [] [] z = tt
 zip_take n [] (f ∷ fs) z = absurd z
@@ -48,7 +48,7 @@ zip_take n (e ∷ es) [] z = absurd z
 zip_take zero (e ∷ es) (f ∷ fs) z = tt
 zip_take (suc n) (e ∷ es) (f ∷ fs) z = (z.0, zip_take n es fs z.1)
 
-zip_drop : (n : ℕ) (es fs : List PartEntry) → Zip es fs → Zip (drop n es) (drop n fs)
+pub zip_drop : (n : ℕ) (es fs : List PartEntry) → Zip es fs → Zip (drop n es) (drop n fs)
 zip_drop zero [] [] z = tt
 zip_drop (suc n) [] [] z = tt
 zip_drop n [] (f ∷ fs) z = absurd z
@@ -56,13 +56,13 @@ zip_drop n (e ∷ es) [] z = absurd z
 zip_drop zero (e ∷ es) (f ∷ fs) z = z
 zip_drop (suc n) (e ∷ es) (f ∷ fs) z = zip_drop n es fs z.1
 
-zip_first : (es fs : List PartEntry) → Zip es fs → first_key row_family es ≡ first_key row_family fs
+pub zip_first : (es fs : List PartEntry) → Zip es fs → first_key row_family es ≡ first_key row_family fs
 zip_first [] [] z = refl
 zip_first [] (f ∷ fs) z = absurd z
 zip_first (e ∷ es) [] z = absurd z
 zip_first (e ∷ es) (f ∷ fs) z = z.0.key
 
-zip_has : (key : List ℕ) (es fs : List PartEntry) → Zip es fs → has_key row_family key es ≡ has_key row_family key fs
+pub zip_has : (key : List ℕ) (es fs : List PartEntry) → Zip es fs → has_key row_family key es ≡ has_key row_family key fs
 zip_has key [] [] z = refl
 zip_has key [] (f ∷ fs) z = absurd z
 zip_has key (e ∷ es) [] z = absurd z
@@ -84,23 +84,23 @@ module _ (e f : PartEntry) (new : EntryPrunes e f) where
 
 -- Children one by one.
 
-abbrev Each : RowTrees → RowTrees → Type 0
+abbrev pub Each : RowTrees → RowTrees → Type 0
 Each = PrunesEach row_family EntryPrunes
 
-each_count : (ps qs : RowTrees) → Each ps qs → count ps ≡ count qs
+pub each_count : (ps qs : RowTrees) → Each ps qs → count ps ≡ count qs
 each_count none none z = refl
 each_count none (more m p ps) z = absurd z
 each_count (more m p ps) none z = absurd z
 each_count (more m p ps) (more n q qs) z = ap (λ k. k + 1) (each_count ps qs z.2)
 
-each_take : (n : ℕ) (ps qs : RowTrees) → Each ps qs → Each (take_parts n ps) (take_parts n qs)
+pub each_take : (n : ℕ) (ps qs : RowTrees) → Each ps qs → Each (take_parts n ps) (take_parts n qs)
 each_take n none none z = tt
 each_take n none (more m p ps) z = absurd z
 each_take n (more m p ps) none z = absurd z
 each_take zero (more m p ps) (more k q qs) z = tt
 each_take (suc n) (more m p ps) (more k q qs) z = (z.0, z.1, each_take n ps qs z.2)
 
-each_drop : (n : ℕ) (ps qs : RowTrees) → Each ps qs → Each (drop_parts n ps) (drop_parts n qs)
+pub each_drop : (n : ℕ) (ps qs : RowTrees) → Each ps qs → Each (drop_parts n ps) (drop_parts n qs)
 each_drop n none none z = tt
 each_drop n none (more m p ps) z = absurd z
 each_drop n (more m p ps) none z = absurd z
@@ -109,12 +109,12 @@ each_drop (suc n) (more m p ps) (more k q qs) z = each_drop n ps qs z.2
 
 -- What comes in a node's place, one by one.
 
-abbrev GrownPrunes : Grown PartEntry (Unit {0}) → Grown PartEntry (Unit {0}) → Type 0
+abbrev pub GrownPrunes : Grown PartEntry (Unit {0}) → Grown PartEntry (Unit {0}) → Type 0
 GrownPrunes (one p) (one t) = Prunes p t
 GrownPrunes (two left key right) (two first other last) = Prunes left first × (key ≡ other) × Prunes right last
 GrownPrunes _ _ = ⊥
 
-abbrev ChildrenPrune : Children PartEntry (Unit {0}) → Children PartEntry (Unit {0}) → Type 0
+abbrev pub ChildrenPrune : Children PartEntry (Unit {0}) → Children PartEntry (Unit {0}) → Type 0
 ChildrenPrune c d = (c.separators ≡ d.separators) × Each c.parts d.parts
 
 split_leaf_prunes : (es fs : List PartEntry) → Zip es fs → GrownPrunes (split_leaf row_family es) (split_leaf row_family fs)
@@ -142,7 +142,7 @@ split_inner_prunes c d z =
       (ap (drop half) z.0, each_drop half c.parts d.parts z.1),
     )
 
-put_grown_prunes : (ss : List (List ℕ)) (ps qs : RowTrees) → Each ps qs → (g h : Grown PartEntry (Unit {0})) → GrownPrunes g h
+pub put_grown_prunes : (ss : List (List ℕ)) (ps qs : RowTrees) → Each ps qs → (g h : Grown PartEntry (Unit {0})) → GrownPrunes g h
     → ChildrenPrune (put_grown row_family ss ps g) (put_grown row_family ss qs h)
 put_grown_prunes ss ps qs rest (one p) (one t) z = (refl, (refl, z, rest))
 put_grown_prunes ss ps qs rest (one p) (two left key right) z = absurd z

@@ -1,19 +1,18 @@
 -- An insertion puts one entry among those that are there, whatever the tree's shape.
 use Rattle.std.proofs.Common.{◌≡◌, ℕ, zero, suc, ◌+◌, Bool, true, false, cond, List, [], ◌∷◌, ◌++◌, length, map, take, drop, Result, Ok, Err, refl, sym, ap, ◌∙◌, arith, append_assoc, append-nil, length-append}
-use Rattle.std.proofs.lemmas.List.{take-append-drop, map-append}
+use Rattle.std.proofs.lemmas.List.{take-append-drop}
 use Rattle.std.specs.List.{AllByRecursion}
 use Rattle.vo_spec.specs.declared.values.Value.{Value}
 use Rattle.vo_spec.specs.declared.values.Row.{Row}
 use Rattle.vo_spec.specs.declared.cells.PartEntry.{PartEntry}
 use Rattle.vo_spec.specs.declared.trees.UpdateFault.{UpdateFault}
-use Rattle.vo_spec.specs.declared.trees.UpdateFault.TheVariants.{DuplicateKey, Missing}
+use Rattle.vo_spec.specs.declared.trees.UpdateFault.TheVariants.{DuplicateKey}
 use Rattle.vo_spec.specs.Values.{key_lt}
 use Rattle.vo_spec.specs.Cells.{whole_cells, whole_entry}
-use Rattle.vo_spec.specs.Parts.{stub, leaf, inner, none, more, count, entries, entries_in}
+use Rattle.vo_spec.specs.Parts.{stub, leaf, inner, none, more, entries, entries_in}
 use Rattle.vo_spec.specs.Trees.{RowTree, RowTrees, row_family}
-use Rattle.vo_spec.specs.Fits.{most_in_node}
-use Rattle.vo_spec.specs.Inserts.{Grown, one, two, Children, half, result_map, goes_here, take_parts, drop_parts, after_child, has_key, put_entry, first_key, split_leaf, split_inner, put_grown, grow, grow_in, root_of, inserted}
-use Rattle.vo_spec.specs.Standing.{IsShown, row_in, rows_in, shown_values}
+use Rattle.vo_spec.specs.Inserts.{Grown, one, two, Children, half, result_map, take_parts, drop_parts, after_child, has_key, put_entry, first_key, split_leaf, split_inner, put_grown, grow, grow_in, root_of}
+use Rattle.vo_spec.specs.Standing.{row_in, shown_values}
 use Rattle.mb_tree.specs.Standing.{IsWhole}
 
 -- the second list is the first with the entry somewhere in it
@@ -23,7 +22,7 @@ pub record Puts (e : PartEntry) (xs ys : List PartEntry) : Type 0 where
   pub was : xs ≡ before ++ after
   pub is : ys ≡ before ++ e ∷ after
 
-after_others : (e : PartEntry) (zs xs ys : List PartEntry) → Puts e xs ys → Puts e (zs ++ xs) (zs ++ ys)
+pub after_others : (e : PartEntry) (zs xs ys : List PartEntry) → Puts e xs ys → Puts e (zs ++ xs) (zs ++ ys)
 after_others e zs xs ys p = record {
   before = zs ++ p.before;
   after = p.after;
@@ -31,7 +30,7 @@ after_others e zs xs ys p = record {
   is = ap (λ l. zs ++ l) p.is ∙ sym (append_assoc zs p.before (e ∷ p.after));
 }
 
-before_others : (e : PartEntry) (zs xs ys : List PartEntry) → Puts e xs ys → Puts e (xs ++ zs) (ys ++ zs)
+pub before_others : (e : PartEntry) (zs xs ys : List PartEntry) → Puts e xs ys → Puts e (xs ++ zs) (ys ++ zs)
 before_others e zs xs ys p = record {
   before = p.before;
   after = p.after ++ zs;
@@ -52,7 +51,7 @@ put_puts e (f ∷ fs) = put_step (key_lt e.key f.key) e f fs (put_entry row_fami
 
 -- The entries of what comes in a node's place.
 
-abbrev entries_of : Grown PartEntry (Unit {0}) → List PartEntry
+abbrev pub entries_of : Grown PartEntry (Unit {0}) → List PartEntry
 entries_of (one t) = entries t
 entries_of (two left key right) = entries left ++ entries right
 
@@ -60,7 +59,7 @@ split_leaf_step : (b : Bool) (es : List PartEntry) → entries_of (cond b (one (
 split_leaf_step true es = refl
 split_leaf_step false es = take-append-drop half es
 
-take_drop_parts : (n : ℕ) (ps : RowTrees) → entries_in (take_parts n ps) ++ entries_in (drop_parts n ps) ≡ entries_in ps
+pub take_drop_parts : (n : ℕ) (ps : RowTrees) → entries_in (take_parts n ps) ++ entries_in (drop_parts n ps) ≡ entries_in ps
 take_drop_parts n none = refl
 take_drop_parts zero (more m p ps) = refl
 take_drop_parts (suc n) (more m p ps) =
@@ -71,7 +70,7 @@ split_inner_step : (b : Bool) (c : Children PartEntry (Unit {0})) (left right : 
 split_inner_step true c left right key = refl
 split_inner_step false c left right key = take_drop_parts half c.parts
 
-put_grown_entries : (ss : List (List ℕ)) (ps : RowTrees) (g : Grown PartEntry (Unit {0})) → entries_in (put_grown row_family ss ps g).parts ≡ entries_of g ++ entries_in ps
+pub put_grown_entries : (ss : List (List ℕ)) (ps : RowTrees) (g : Grown PartEntry (Unit {0})) → entries_in (put_grown row_family ss ps g).parts ≡ entries_of g ++ entries_in ps
 put_grown_entries ss ps (one t) = refl
 put_grown_entries ss ps (two left key right) = sym (append_assoc (entries left) (entries right) (entries_in ps))
 
@@ -116,16 +115,16 @@ mutual
 
 -- An insertion into a tree of so many rows, with every cell shown, gives one of one row more.
 
-abbrev shown_again : PartEntry → PartEntry
+abbrev pub shown_again : PartEntry → PartEntry
 shown_again e = whole_entry (row_in e)
 
-all_fixed : (xs : List PartEntry) → map shown_again xs ≡ xs → AllByRecursion (λ x. shown_again x ≡ x) xs
+pub all_fixed : (xs : List PartEntry) → map shown_again xs ≡ xs → AllByRecursion (λ x. shown_again x ≡ x) xs
 all_fixed [] h = tt
 all_fixed (x ∷ xs) h =
     let first : shown_again x ≡ x = cc in
     let rest : map shown_again xs ≡ xs = cc in (first, all_fixed xs rest)
 
-fixed_all : (xs : List PartEntry) → AllByRecursion (λ x. shown_again x ≡ x) xs → map shown_again xs ≡ xs
+pub fixed_all : (xs : List PartEntry) → AllByRecursion (λ x. shown_again x ≡ x) xs → map shown_again xs ≡ xs
 fixed_all [] h = refl
 fixed_all (x ∷ xs) h =
     let first : shown_again x ≡ x = h.0 in
@@ -135,7 +134,7 @@ all_with : (e : PartEntry) → shown_again e ≡ e → (xs ys : List PartEntry) 
 all_with e f [] ys h = (f, h)
 all_with e f (x ∷ xs) ys h = (h.0, all_with e f xs ys h.1)
 
-map_map : (xs : List PartEntry) → map whole_entry (map row_in xs) ≡ map shown_again xs
+pub map_map : (xs : List PartEntry) → map whole_entry (map row_in xs) ≡ map shown_again xs
 map_map [] = refl
 map_map (x ∷ xs) = ap (λ l. shown_again x ∷ l) (map_map xs)
 
@@ -143,7 +142,7 @@ shown_whole : (vs : List Value) → shown_values (whole_cells vs) ≡ vs
 shown_whole [] = refl
 shown_whole (v ∷ vs) = ap (λ rest. v ∷ rest) (shown_whole vs)
 
-whole_again : (row : Row) → shown_again (whole_entry row) ≡ whole_entry row
+pub whole_again : (row : Row) → shown_again (whole_entry row) ≡ whole_entry row
 whole_again row = ap (λ vs. whole_entry (record { key = row.key; cells = vs })) (shown_whole row.cells)
 
 root_entries : (g : Grown PartEntry (Unit {0})) → entries (root_of row_family g) ≡ entries_of g

@@ -1,6 +1,6 @@
 -- Nodes that grow, by lists of their children.
-use Rattle.std.proofs.Common.{◌≡◌, ℕ, zero, suc, ◌+◌, ◌<◌, ◌≤◌, Bool, true, false, cond, not, nat_le, List, [], ◌∷◌, ◌++◌, length, map, take, drop, get_or, Result, Ok, Err, refl, sym, ap, ◌∙◌, subst, arith, add-one, All, length-drop}
-use Rattle.std.proofs.lemmas.List.{take-map, drop-map, length-map, get_or-map, drop_more, length-take-le}
+use Rattle.std.proofs.Common.{◌≡◌, ℕ, zero, suc, ◌+◌, ◌<◌, ◌≤◌, Bool, true, false, cond, not, nat_le, List, [], ◌∷◌, length, map, take, drop, get_or, Result, Ok, Err, refl, sym, ap, ◌∙◌, subst, arith, add-one, All, length-drop}
+use Rattle.std.proofs.lemmas.List.{take-map, drop-map, length-map, drop_more, length-take-le}
 use Rattle.std.proofs.lemmas.Bool.Decides.{nat_tests}
 use Rattle.std.specs.List.{position_or_len}
 use Rattle.vo_spec.specs.declared.values.Row.{Row}
@@ -8,9 +8,9 @@ use Rattle.vo_spec.specs.declared.cells.PartEntry.{PartEntry}
 use Rattle.vo_spec.specs.declared.trees.UpdateFault.{UpdateFault}
 use Rattle.vo_spec.specs.Values.{key_lt}
 use Rattle.vo_spec.specs.Cells.{whole_entry}
-use Rattle.vo_spec.specs.Parts.{leaf, inner, none, more, count, levels, levels_in}
-use Rattle.vo_spec.specs.Trees.{RowTree, RowTrees, row_family, open_parts}
-use Rattle.vo_spec.specs.Inserts.{Grown, one, two, Children, half, result_map, goes_here, take_parts, drop_parts, after_child, first_key, split_leaf, split_inner, put_grown, grow, grow_in}
+use Rattle.vo_spec.specs.Parts.{leaf, inner, more, count, levels, levels_in}
+use Rattle.vo_spec.specs.Trees.{RowTree, row_family, open_parts}
+use Rattle.vo_spec.specs.Inserts.{Grown, one, two, result_map, take_parts, drop_parts, after_child, first_key, split_leaf, split_inner, put_grown, grow, grow_in}
 use Rattle.mb_tree.proofs.BranchLaws.{count_open_parts}
 use Rattle.std.specs.declared.rc.Rc.{Rc}
 use Rattle.std.specs.declared.vec.Vec.{Vec}
@@ -21,7 +21,8 @@ use Rattle.mb_tree.specs.declared.branches.Node.{Node}
 use Rattle.mb_tree.specs.declared.branches.Node.TheVariants.{Inner}
 use Rattle.mb_tree.specs.Whole.{value_of, whole_of}
 use Rattle.mb_update.specs.Changing.{ChangesTo, Grows}
-use Rattle.mb_update.specs.Placing.{placed, children_of, AreHalves}
+use Rattle.mb_update.specs.Placing.{placed, children_of, AreCut}
+use Rattle.mb_update.specs.Settling.{divided}
 use Rattle.mb_update.specs.declared.halving.Halves.{Halves}
 use Rattle.mb_update.proofs.KeyLists.{Keys, HalvedKeys}
 
@@ -35,23 +36,23 @@ first_row_key : (rows : List Row) (row : Row) → 0 < length rows → row ≡ ge
 first_row_key [] row h is = absurd (omega arith)
 first_row_key (r ∷ rows) row h is = ap (λ (x : Row). x.key) (sym is)
 
-pub leaf_split : (rows : List Row) (row : Row) → 16 < length rows → row ≡ get_or rows 8 row
-    → split_leaf row_family (map whole_entry rows) ≡ two (leaf (map whole_entry (take 8 rows))) row.key (leaf (map whole_entry (drop 8 rows)))
-leaf_split rows row h is =
-    let counted : length (map whole_entry rows) ≡ length rows = length-map rows whole_entry in
-    let more_than : nat_le (length (map whole_entry rows)) 16 ≡ false = above _ (omega arith) in
-    let first : row ≡ get_or (drop 8 rows) 0 row = is ∙ ap (λ l. get_or l 0 row) (sym (drop_more rows 8 row (omega arith))) in
-    let key = first_row_key (drop 8 rows) row (omega (arith, ap length (drop_more rows 8 row (omega arith)))) first in
-    ap (λ b. cond b (one (leaf (map whole_entry rows))) (two (leaf (take 8 (map whole_entry rows))) (first_key row_family (drop 8 (map whole_entry rows))) (leaf (drop 8 (map whole_entry rows))))) more_than
-    ∙ rw (take-map whole_entry 8 rows, drop-map whole_entry 8 rows, key) refl
+pub leaf_split : (es : List PartEntry) → 16 < length es → split_leaf row_family es ≡ divided 8 (leaf es)
+leaf_split es h = ap (λ b. cond b (one (leaf es)) (divided 8 (leaf es))) (above _ h)
 
-take_open : (n : ℕ) (ts : List RowTree) → take_parts n (open_parts ts) ≡ open_parts (take n ts)
+pub leaf_cut : (at : ℕ) (rows : List Row) (row : Row) → at < length rows → row ≡ get_or rows at row
+    → divided at (leaf (map whole_entry rows)) ≡ two (leaf (map whole_entry (take at rows))) row.key (leaf (map whole_entry (drop at rows)))
+leaf_cut at rows row h is =
+    let first : row ≡ get_or (drop at rows) 0 row = is ∙ ap (λ l. get_or l 0 row) (sym (drop_more rows at row h)) in
+    let key = first_row_key (drop at rows) row (omega (arith, ap length (drop_more rows at row h))) first in
+    rw (take-map whole_entry at rows, drop-map whole_entry at rows, key) refl
+
+pub take_open : (n : ℕ) (ts : List RowTree) → take_parts n (open_parts ts) ≡ open_parts (take n ts)
 take_open zero [] = refl
 take_open (suc n) [] = refl
 take_open zero (t ∷ ts) = refl
 take_open (suc n) (t ∷ ts) = ap (λ ps. more tt t ps) (take_open n ts)
 
-drop_open : (n : ℕ) (ts : List RowTree) → drop_parts n (open_parts ts) ≡ open_parts (drop n ts)
+pub drop_open : (n : ℕ) (ts : List RowTree) → drop_parts n (open_parts ts) ≡ open_parts (drop n ts)
 drop_open zero [] = refl
 drop_open (suc n) [] = refl
 drop_open zero (t ∷ ts) = refl
@@ -63,30 +64,32 @@ node_whole ss ts h =
     let few : nat_le (count (open_parts ts)) 16 ≡ true = within _ (omega arith) in
     ap (λ b. cond b (one (inner ss (open_parts ts))) (two (inner (take 7 ss) (take_parts 8 (open_parts ts))) (get_or ss 7 []) (inner (drop 8 ss) (drop_parts 8 (open_parts ts))))) few
 
-pub node_split : (ss : List (List ℕ)) (ts : List RowTree) → 16 < length ts
-    → split_inner row_family (children_of ss ts) ≡ two (inner (take 7 ss) (open_parts (take 8 ts))) (get_or ss 7 []) (inner (drop 8 ss) (open_parts (drop 8 ts)))
-node_split ss ts h =
+pub node_divided : (ss : List (List ℕ)) (ts : List RowTree) → 16 < length ts → split_inner row_family (children_of ss ts) ≡ divided 8 (inner ss (open_parts ts))
+node_divided ss ts h =
     let counted = count_open_parts ts in
     let many : nat_le (count (open_parts ts)) 16 ≡ false = above _ (omega arith) in
-    ap (λ b. cond b (one (inner ss (open_parts ts))) (two (inner (take 7 ss) (take_parts 8 (open_parts ts))) (get_or ss 7 []) (inner (drop 8 ss) (drop_parts 8 (open_parts ts))))) many
-    ∙ rw (take_open 8 ts, drop_open 8 ts) refl
+    ap (λ b. cond b (one (inner ss (open_parts ts))) (divided 8 (inner ss (open_parts ts)))) many
 
--- the halves of a node of 17 children
-pub record HalvedCounts {S : Type 0} (ts : List RowTree) (h : Halves S RowTree) : Type 0 where
-  pub first : length h.left.items ≡ 8
-  pub last : length h.right.items + 8 ≡ length ts
+pub node_split : (ss : List (List ℕ)) (ts : List RowTree) → 16 < length ts
+    → split_inner row_family (children_of ss ts) ≡ two (inner (take 7 ss) (open_parts (take 8 ts))) (get_or ss 7 []) (inner (drop 8 ss) (open_parts (drop 8 ts)))
+node_split ss ts h = node_divided ss ts h ∙ rw (take_open 8 ts, drop_open 8 ts) refl
 
-pub halved_counts : {S : Type 0} {ss : List S} (ts : List RowTree) (h : Halves S RowTree) → 8 ≤ length ts → AreHalves h ss ts → HalvedCounts ts h
-halved_counts ts h many halved = record {
-  first = omega (arith, ap length halved.first, length-take-le 8 ts many);
-  last = omega (arith, ap length halved.last, length-drop 8 ts);
+-- a node's children in two
+pub record HalvedCounts {S : Type 0} (at : ℕ) (ts : List RowTree) (h : Halves S RowTree) : Type 0 where
+  pub first : length h.left.items ≡ at
+  pub last : length h.right.items + at ≡ length ts
+
+pub halved_counts : {S : Type 0} {ss : List S} (at : ℕ) (ts : List RowTree) (h : Halves S RowTree) → at ≤ length ts → AreCut at h ss ts → HalvedCounts at ts h
+halved_counts at ts h many halved = record {
+  first = omega (arith, ap length halved.first, length-take-le at ts many);
+  last = omega (arith, ap length halved.last, length-drop at ts);
 }
 
-pub branch_split : (ks : Keys) (ts : List RowTree) (h : Halves (Rc (List ℕ) Global) RowTree) (left right : RowTree) → 16 < length ts → HalvedKeys ks h → AreHalves h ks ts
+pub branch_cut : (at : ℕ) (ks : Keys) (ts : List RowTree) (h : Halves (Rc (List ℕ) Global) RowTree) (left right : RowTree) → HalvedKeys at ks h → AreCut at h ks ts
     → left ≡ inner (map value_of h.before.items) (open_parts h.left.items) → right ≡ inner (map value_of h.after.items) (open_parts h.right.items)
-    → split_inner row_family (children_of (map value_of ks) ts) ≡ two left h.key.value right
-branch_split ks ts h left right many k halved is_left is_right =
-    node_split (map value_of ks) ts many ∙ rw (k.cut.before, k.cut.between, is_left, is_right, k.after, halved.first, halved.last) refl
+    → divided at (inner (map value_of ks) (open_parts ts)) ≡ two left h.key.value right
+branch_cut at ks ts h left right k halved is_left is_right =
+    rw (k.cut.before, k.cut.between, take_open at ts, drop_open at ts, is_left, is_right, k.after, halved.first, halved.last) refl
 
 -- The child to which the search goes, and what becomes of the node.
 
@@ -94,15 +97,15 @@ placed_first : (ss : List (List ℕ)) (t : RowTree) (ts : List RowTree) (g : Gro
 placed_first ss t ts (one u) = refl
 placed_first ss t ts (two left key right) = refl
 
-placed_next : (i : ℕ) (s : List ℕ) (ss : List (List ℕ)) (t : RowTree) (ts : List RowTree) (g : Grown PartEntry (Unit {0})) → after_child tt t (s ∷ ss) (placed i ss ts g) ≡ placed (suc i) (s ∷ ss) (t ∷ ts) g
+pub placed_next : (i : ℕ) (s : List ℕ) (ss : List (List ℕ)) (t : RowTree) (ts : List RowTree) (g : Grown PartEntry (Unit {0})) → after_child tt t (s ∷ ss) (placed i ss ts g) ≡ placed (suc i) (s ∷ ss) (t ∷ ts) g
 placed_next i s ss t ts (one u) = rw (add-one i, add-one (suc i)) refl
 placed_next i s ss t ts (two left key right) = rw (add-one i, add-one (suc i)) refl
 
-map_map : {A B C : Type 0} (f : A → B) (g : B → C) (h : A → C) (r : Result A UpdateFault) → ((a : A) → g (f a) ≡ h a) → result_map g (result_map f r) ≡ result_map h r
+pub map_map : {A B C : Type 0} (f : A → B) (g : B → C) (h : A → C) (r : Result A UpdateFault) → ((a : A) → g (f a) ≡ h a) → result_map g (result_map f r) ≡ result_map h r
 map_map f g h (Ok a) e = ap Ok (e a)
 map_map f g h (Err fault) e = refl
 
-map_same : {A B : Type 0} (f g : A → B) (r : Result A UpdateFault) → ((a : A) → f a ≡ g a) → result_map f r ≡ result_map g r
+pub map_same : {A B : Type 0} (f g : A → B) (r : Result A UpdateFault) → ((a : A) → f a ≡ g a) → result_map f r ≡ result_map g r
 map_same f g (Ok a) e = ap Ok (e a)
 map_same f g (Err fault) e = refl
 
@@ -163,11 +166,14 @@ fault_on NoRow r s h on = on NoRow h
 fault_on Missing r s h on = on Missing h
 fault_on Memory r s h on = tt
 
+pub fault_over : {A B C D : Type 0} (seen : A → B) (shown : C → D) (fault : UpdateFault) (r : Result B UpdateFault) (s : Result D UpdateFault) → ChangesTo seen (Err fault) r → ((f : UpdateFault) → r ≡ Err f → s ≡ Err f) → ChangesTo shown (Err fault) s
+fault_over seen shown DuplicateKey r s h on = on DuplicateKey h
+fault_over seen shown NoRow r s h on = on NoRow h
+fault_over seen shown Missing r s h on = on Missing h
+fault_over seen shown Memory r s h on = tt
+
 pub fault_to : {A B : Type 0} (seen : A → B) (fault : UpdateFault) (r s : Result B UpdateFault) → ChangesTo seen (Err fault) r → ((f : UpdateFault) → r ≡ Err f → s ≡ Err f) → ChangesTo seen (Err fault) s
-fault_to seen DuplicateKey r s h on = on DuplicateKey h
-fault_to seen NoRow r s h on = on NoRow h
-fault_to seen Missing r s h on = on Missing h
-fault_to seen Memory r s h on = tt
+fault_to seen = fault_over seen seen
 
 -- What an inner node of a whole tree keeps to.
 pub record Limits (t : RowTree) (ks : Keys) (ts : List RowTree) : Type 0 where

@@ -3,3 +3,10 @@ pub mod Placing
 pub mod Closing
 pub mod Proving
 pub mod Agreeing
+pub mod Contents
+pub mod Settling
+pub mod Sets
+pub mod Shrunken
+pub mod Neighbours
+pub mod Judging
+pub mod Losing

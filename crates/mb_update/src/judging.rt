@@ -1,12 +1,14 @@
 //! Whether a part of a tree is the proof of a change.
-ghost use Rattle.std.specs.Prelude.{◌≡◌, ◌<◌, true, not, None, map, length};
+ghost use Rattle.std.specs.Prelude.{◌≡◌, ◌≤◌, true, not, None, map, length};
 ghost use Rattle.std.specs.List.{list_any};
 ghost use Rattle.vo_spec.specs.Pruned.{misses_in, goes_beyond_in};
 ghost use Rattle.vo_spec.specs.Inserts.{insert_misses, insert_goes_beyond, walk_to};
 ghost use Rattle.mb_tree.specs.View.{part_of, parts_of};
-ghost use Rattle.mb_update.specs.Closing.{is_open, beside, shows_cells};
+ghost use Rattle.mb_update.specs.Closing.{is_open, outside, shows_cells};
 ghost use Rattle.mb_update.specs.Proving.{update_misses, update_goes_beyond, told};
 
+use crate::judging_removals::removes_beyond;
+use crate::judging_replacements::replaces_beyond;
 use crate::ops::Op;
 use crate::places::place_for;
 use mb_tree::PartTree;
@@ -17,11 +19,20 @@ use vo_spec::{KeyPart, PartEntry, RowPart, ScanFault};
 pub fn is_update_proof(tree: &PartTree<'_>, op: &Op) -> Result<bool, ScanFault>
     ensures { result ≡ told (update_misses op.now (part_of tree.now)) (not (update_goes_beyond op.now (part_of tree.now))) }
 {
+    match beyond(tree, op) {
+        Ok(beyond) => Ok(!beyond),
+        Err(fault) => Err(fault),
+    }
+}
+
+/// Whether anything is open that the change doesn't look at.
+fn beyond(tree: &PartTree<'_>, op: &Op) -> Result<bool, ScanFault>
+    ensures { result ≡ told (update_misses op.now (part_of tree.now)) (update_goes_beyond op.now (part_of tree.now)) }
+{
     match op {
-        Op::Insert { row } => match open_beyond(tree, row.key.as_bytes()) {
-            Ok(beyond) => Ok(!beyond),
-            Err(fault) => Err(fault),
-        },
+        Op::Insert { row } => open_beyond(tree, row.key.as_bytes()),
+        Op::Replace { key, .. } => replaces_beyond(tree, key.as_bytes()),
+        Op::Remove { key } => removes_beyond(tree, key.as_bytes()),
     }
 }
 
@@ -53,22 +64,24 @@ fn children_beyond(
     if place >= children.len() {
         return Ok(any_open(children));
     }
-    let beside = open_beside(children, place);
+    let beside = open_outside(children, place, place + 1);
     match open_beyond(&children[place], key) {
         Ok(beyond) => Ok(beyond || beside),
         Err(fault) => Err(fault),
     }
 }
 
-/// Whether a child of another number is open.
-fn open_beside(children: &[PartTree<'_>], place: usize) -> bool
-    requires { place < length children.now }
-    ensures { result ≡ beside place (map part_of children.now) }
+/// Whether a child before the first of these numbers is open, or one from the second on.
+pub fn open_outside(children: &[PartTree<'_>], from: usize, to: usize) -> bool
+    requires start { from ≤ length children.now }
+    requires end { to ≤ length children.now }
+    ensures { result ≡ outside from to (map part_of children.now) }
 {
-    any_open(&children[..place]) || any_open(&children[place + 1..])
+    any_open(&children[..from]) || any_open(&children[to..])
 }
 
-fn any_open(trees: &[PartTree<'_>]) -> bool
+/// Whether one of them is open.
+pub fn any_open(trees: &[PartTree<'_>]) -> bool
     ensures { result ≡ list_any is_open (map part_of trees.now) }
 {
     for tree in trees {
@@ -80,7 +93,8 @@ fn any_open(trees: &[PartTree<'_>]) -> bool
     false
 }
 
-fn any_cells(entries: &[PartEntry<'_>]) -> bool
+/// Whether a row stands as cells.
+pub fn any_cells(entries: &[PartEntry<'_>]) -> bool
     ensures { result ≡ list_any shows_cells entries.now }
 {
     for entry in entries {

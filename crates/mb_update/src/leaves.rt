@@ -1,5 +1,5 @@
 //! Insertion into a leaf.
-ghost use Rattle.std.specs.Prelude.{◌≡◌, ◌≤◌, ◌+◌, length, map, insert, IfOk};
+ghost use Rattle.std.specs.Prelude.{◌≡◌, ◌<◌, ◌≤◌, ◌+◌, length, map, IfOk};
 ghost use Rattle.vo_spec.specs.Cells.{whole_entry};
 ghost use Rattle.vo_spec.specs.Parts.{leaf};
 ghost use Rattle.vo_spec.specs.Trees.{row_family};
@@ -7,6 +7,7 @@ ghost use Rattle.vo_spec.specs.Fits.{FitsKey, most_in_node};
 ghost use Rattle.vo_spec.specs.Values.{key_lt as is_less};
 ghost use Rattle.vo_spec.specs.Inserts.{grow, has_key as has_entry, put_entry, split_leaf as split};
 ghost use Rattle.mb_update.specs.Changing.{Grows, IsGrown};
+ghost use Rattle.mb_update.specs.Settling.{divided};
 
 use crate::grown::Grown;
 use crate::places::{has_key, place_for};
@@ -54,8 +55,22 @@ fn split_leaf(alloc: Global, entries: Vec<TreeEntry>) -> Result<Grown<Branch, Rc
     if entries.len() <= 16 {
         return Ok(Grown::One(Branch::leaf(alloc, entries)?));
     }
+    cut_leaf(alloc, entries, 8)
+}
+
+/// Two leaves of these entries, the left one with so many of them.
+pub fn cut_leaf(
+    alloc: Global,
+    entries: Vec<TreeEntry>,
+    at: usize,
+) -> Result<Grown<Branch, Rc<Key>>, AllocError>
+    requires within { at < length entries.items }
+    requires first { at ≤ most_in_node }
+    requires last { length entries.items ≤ at + most_in_node }
+    ensures { IfOk result (λ grown. IsGrown grown (divided at (leaf (map whole_entry entries.items)))) }
+{
     let mut left = entries;
-    let right = left.split_off(8)?;
+    let right = left.split_off(at)?;
     let key = key_of(&right[0])?;
     let left = Branch::leaf(alloc, left)?;
     let right = Branch::leaf(alloc, right)?;

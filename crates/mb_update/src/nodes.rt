@@ -9,9 +9,10 @@ ghost use Rattle.vo_spec.specs.Inserts.{split_inner as split};
 ghost use Rattle.mb_tree.specs.Whole.{value_of};
 ghost use Rattle.mb_update.specs.Changing.{IsGrown, FitsGrown, grown_of};
 ghost use Rattle.mb_update.specs.Placing.{placed, children_of};
+ghost use Rattle.mb_update.specs.Settling.{divided};
 
 use crate::grown::Grown;
-use crate::halving::halve;
+use crate::halving::cut;
 use crate::sharing::share_keys;
 use crate::splicing::spliced;
 use mb_tree::Branch;
@@ -96,7 +97,25 @@ fn split_inner(
     if children.len() <= 16 {
         return Ok(Grown::One(Branch::inner(alloc, separators, children)?));
     }
-    let halves = halve(separators, children)?;
+    cut_inner(alloc, separators, children, 8)
+}
+
+/// Two inner nodes of these children, the left one with so many of them.
+pub fn cut_inner(
+    alloc: Global,
+    separators: Vec<Rc<Key>>,
+    children: Vec<Branch>,
+    at: usize,
+) -> Result<Grown<Branch, Rc<Key>>, AllocError>
+    requires least { 2 ≤ at }
+    requires within { at + 2 ≤ length children.items }
+    requires first { at ≤ most_in_node }
+    requires last { length children.items ≤ at + most_in_node }
+    requires between { length separators.items + 1 ≡ length children.items }
+    requires keys { All FitsKey (map value_of separators.items) }
+    ensures { IfOk result (λ grown. IsGrown grown (divided at (inner (map value_of separators.items) (open_parts children.items)))) }
+{
+    let halves = cut(separators, children, at)?;
     let left = Branch::inner(alloc, halves.before, halves.left)?;
     let right = Branch::inner(alloc, halves.after, halves.right)?;
     Ok(Grown::Two(left, halves.key, right))

@@ -1,8 +1,18 @@
 //! What changes a tree.
-use vo_spec::Row;
+use vo_spec::{Key, List, Row, Value};
 
 /// A change of a tree.
 #[derive(Drop)]
 pub enum Op {
     Insert { row: Row },
+    /// Other values in some cells of the row of this key.
+    Replace { key: Key, sets: List<SetCell> },
+    Remove { key: Key },
+}
+
+/// One cell of a replacement: its column, from 0 among those that aren't the key, and the value that it gets.
+#[derive(Debug, Drop)]
+pub struct SetCell {
+    pub column: u8,
+    pub value: Value,
 }

@@ -9,31 +9,24 @@ ghost use Rattle.mb_update.specs.Changing.{ChangesTo, grown_part};
 
 use crate::grown::Grown;
 use crate::part_growing::grow;
-use crate::updates::Updates;
 use mb_tree::{Nodes, PartTree};
 use std::alloc::{AllocError, Global};
 use vo_spec::{KeyPart, List, Row, UpdateFault};
 
-impl<'b> Updates for PartTree<'b> {
-    type Change = PartTree<'b>;
-
-    ghost tree = { part_of };
-
-    ghost changed = { part_of };
-
-    ghost CanInsert = { λ tree. FitsPart (part_of tree) };
-
-    /// The new tree is a copy, and shows every cell of the row.
-    fn insert(&self, alloc: Global, row: &Row) -> Result<PartTree<'b>, UpdateFault>
-        requires fits { FitsRow row.now }
-        requires room { FitsPart (part_of self.now) }
-        ensures change { ChangesTo part_of result (inserted (whole_entry row.now) (part_of self.now)) }
-        ensures within { IfOk result (λ change. FitsPart (part_of change)) }
-    {
-        match grow(alloc, self, row) {
-            Ok(grown) => Ok(root_of(alloc, grown)?),
-            Err(fault) => Err(fault),
-        }
+/// The part with this row, of which every cell is shown: a copy of what of it is open.
+pub(crate) fn insert<'b>(
+    alloc: Global,
+    tree: &PartTree<'b>,
+    row: &Row,
+) -> Result<PartTree<'b>, UpdateFault>
+    requires fits { FitsRow row.now }
+    requires room { FitsPart (part_of tree.now) }
+    ensures change { ChangesTo part_of result (inserted (whole_entry row.now) (part_of tree.now)) }
+    ensures within { IfOk result (λ change. FitsPart (part_of change)) }
+{
+    match grow(alloc, tree, row) {
+        Ok(grown) => Ok(root_of(alloc, grown)?),
+        Err(fault) => Err(fault),
     }
 }
 

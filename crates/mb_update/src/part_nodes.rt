@@ -61,7 +61,8 @@ fn split_inner<'b>(
     Ok(Grown::Two(left, halves.key, right))
 }
 
-fn inner_of<'b>(separators: Vec<KeyPart<'b>>, children: Vec<PartTree<'b>>) -> PartTree<'b>
+/// The inner node of these separators and children.
+pub fn inner_of<'b>(separators: Vec<KeyPart<'b>>, children: Vec<PartTree<'b>>) -> PartTree<'b>
     ensures { part_of result ≡ inner separators.entry.items (parts_of children.entry.items) }
 {
     PartTree::Inner {

@@ -51,12 +51,20 @@ impl Keyed for KeyPart<'_> {
 pub fn has_key<T: Keyed>(items: &[T], key: &[u8]) -> bool
     ensures { result ≡ list_any (λ item. bytes_eq (T.key item) key.now) items.now }
 {
-    for item in items {
+    place_of(items, key) < items.len()
+}
+
+/// How many items stand before the first with the key.
+pub fn place_of<T: Keyed>(items: &[T], key: &[u8]) -> usize
+    ensures place { result ≡ position_or_len (λ item. bytes_eq (T.key item) key.now) items.now }
+    ensures within { result ≤ length items.now }
+{
+    for (place, item) in items.iter().enumerate() {
         if item.key_bytes() == key {
-            return true;
+            return place;
         }
     }
-    false
+    items.len()
 }
 
 /// How many items stand before the first of a greater key. So many separators stand before the child to

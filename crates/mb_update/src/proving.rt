@@ -1,5 +1,5 @@
 //! What of a tree must be open for a change.
-ghost use Rattle.std.specs.Prelude.{◌≡◌, ◌+◌, ◌++◌, true, None, length, map, IfOk, OnOk};
+ghost use Rattle.std.specs.Prelude.{◌≡◌, ◌<◌, ◌+◌, ◌∷◌, ◌++◌, true, None, length, map, take, drop, IfOk, OnOk};
 ghost use Rattle.vo_spec.specs.Cells.{whole_entry};
 ghost use Rattle.vo_spec.specs.Pruned.{pruned_by, pruned_in};
 ghost use Rattle.vo_spec.specs.Trees.{row_family, open_parts};
@@ -11,6 +11,8 @@ ghost use Rattle.mb_update.specs.Proving.{update_proof};
 
 use crate::ops::Op;
 use crate::places::place_for;
+use crate::proving_removals::remove_proof;
+use crate::proving_rows::replace_proof;
 use mb_tree::{Branch, Node, Nodes, PartTree, Tree, TreeEntry, lend_keys};
 use std::alloc::{AllocError, Global};
 use std::rc::Rc;
@@ -22,6 +24,8 @@ pub fn prune_update<'b>(alloc: Global, tree: &'b Tree, op: &Op) -> Result<PartTr
 {
     match op {
         Op::Insert { row } => insert_proof(alloc, tree, row.key.as_bytes()),
+        Op::Replace { key, .. } => replace_proof(alloc, tree, key.as_bytes()),
+        Op::Remove { key } => remove_proof(alloc, tree, key.as_bytes()),
     }
 }
 
@@ -69,14 +73,32 @@ fn open_child<'b>(
         ≡ pruned_in (walk_to key.now) row_family true None (map value_of separators.now) (open_parts children.now)) }
 {
     let place = place_for(separators, key);
+    let part = open_to(alloc, &children[place], key)?;
+    among_closed(alloc, children, place, part)
+}
+
+/// The part in the place of the child of this number, and the other children closed.
+pub fn among_closed<'b>(
+    alloc: Global,
+    children: &[Branch],
+    place: usize,
+    part: PartTree<'b>,
+) -> Result<Nodes<'b>, AllocError>
+    requires { place < length children.now }
+    ensures { IfOk result (λ parts. parts ≡ open_parts (map closed_tree (take place children.now) ++ part_of part.entry ∷ map closed_tree (drop (place + 1) children.now))) }
+{
     let mut parts = Vec::with_capacity(alloc, children.len())?;
     close_branches(&children[..place], &mut parts)?;
-    parts.push(open_to(alloc, &children[place], key)?)?;
+    parts.push(part)?;
     close_branches(&children[place + 1..], &mut parts)?;
     Ok(Nodes::from_vec(parts))
 }
 
-fn close_branches<'b>(branches: &[Branch], parts: &mut Vec<PartTree<'b>>) -> Result<(), AllocError>
+/// Puts the branches at the end as digests.
+pub fn close_branches<'b>(
+    branches: &[Branch],
+    parts: &mut Vec<PartTree<'b>>,
+) -> Result<(), AllocError>
     ensures { OnOk result (map part_of parts.new.items ≡ map part_of parts.old.items ++ map closed_tree branches.now) }
 {
     for branch in branches {
@@ -85,7 +107,8 @@ fn close_branches<'b>(branches: &[Branch], parts: &mut Vec<PartTree<'b>>) -> Res
     Ok(())
 }
 
-fn close_entries<'b>(
+/// The rows as digests.
+pub fn close_entries<'b>(
     alloc: Global,
     entries: &'b [TreeEntry],
 ) -> Result<List<PartEntry<'b>>, AllocError>

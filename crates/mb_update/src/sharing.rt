@@ -1,5 +1,5 @@
 //! What trees share.
-ghost use Rattle.std.specs.Prelude.{◌≡◌, ◌++◌, map, OnOk};
+ghost use Rattle.std.specs.Prelude.{◌≡◌, ◌≤◌, ◌++◌, length, map, take, drop, IfOk, OnOk};
 ghost use Rattle.mb_tree.specs.Whole.{value_of};
 
 use crate::splicing::Again;
@@ -28,4 +28,25 @@ pub fn share_keys(from: &[Rc<Key>], into: &mut Vec<Rc<Key>>) -> Result<(), Alloc
         into.push(key.clone()?)?;
     }
     Ok(())
+}
+
+/// The keys with those from `from` up to `to` exchanged for others.
+pub fn spliced_keys(
+    alloc: Global,
+    keys: &[Rc<Key>],
+    from: usize,
+    to: usize,
+    others: Vec<Rc<Key>>,
+) -> Result<Vec<Rc<Key>>, AllocError>
+    requires order { from ≤ to }
+    requires end { to ≤ length keys.now }
+    ensures { IfOk result (λ new. map value_of new.items
+        ≡ take from (map value_of keys.now) ++ map value_of others.items ++ drop to (map value_of keys.now)) }
+{
+    let mut others = others;
+    let mut new = Vec::new(alloc);
+    share_keys(&keys[..from], &mut new)?;
+    new.append(&mut others)?;
+    share_keys(&keys[to..], &mut new)?;
+    Ok(new)
 }

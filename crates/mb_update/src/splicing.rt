@@ -51,3 +51,13 @@ pub fn spliced<T: Again + Drop>(
     put_again(alloc, &items[to..], &mut new)?;
     Ok(new)
 }
+
+/// The items of both, those of the second after those of the first.
+pub fn appended<T: Drop>(first: Vec<T>, second: Vec<T>) -> Result<Vec<T>, AllocError>
+    ensures { IfOk result (λ all. all.items ≡ first.items ++ second.items) }
+{
+    let mut all = first;
+    let mut second = second;
+    all.append(&mut second)?;
+    Ok(all)
+}

@@ -10,6 +10,7 @@ use std::test::*;
 use vo_spec::{Key, List, Row, RowPart, ScanFault, Text, Value};
 
 mod parts;
+mod removals;
 
 // The digests of the leaves of the rows 1 to 8 and 9 to 17, each with 'x', and of the tree of both.
 const LEFT: [u8; 32] = [

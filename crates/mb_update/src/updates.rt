@@ -1,13 +1,16 @@
 //! Trees that change.
-ghost use Rattle.std.specs.Prelude.{◌≡◌};
+ghost use Rattle.std.specs.Prelude.{◌≡◌, map};
 ghost use Rattle.vo_spec.specs.Cells.{whole_entry};
 ghost use Rattle.vo_spec.specs.Trees.{RowTree};
 ghost use Rattle.vo_spec.specs.Fits.{FitsRow};
 ghost use Rattle.vo_spec.specs.Inserts.{inserted};
+ghost use Rattle.vo_spec.specs.Removes.{removed, replaced};
 ghost use Rattle.mb_update.specs.Changing.{ChangesTo};
+ghost use Rattle.mb_update.specs.Sets.{change_of, FitsSets};
 
+use crate::ops::SetCell;
 use std::alloc::Global;
-use vo_spec::{Row, UpdateFault};
+use vo_spec::{Key, Row, UpdateFault};
 
 /// A tree, whole or in part. A change of it gives a new tree and leaves this one as it is.
 pub trait Updates {
@@ -19,9 +22,27 @@ pub trait Updates {
 
     ghost CanInsert: { Self → Type 0 };
 
+    ghost CanChange: { Self → Type 0 };
+
     /// The tree with this row.
     fn insert(&self, alloc: Global, row: &Row) -> Result<Self::Change, UpdateFault>
         requires fits { FitsRow row.now }
         requires room { CanInsert self.now }
         ensures { ChangesTo changed result (inserted (whole_entry row.now) (tree self.now)) };
+
+    /// The tree with these cells in the row of this key. A cell that the row hasn't is passed over.
+    fn replace(
+        &self,
+        alloc: Global,
+        key: &Key,
+        sets: &[SetCell],
+    ) -> Result<Self::Change, UpdateFault>
+        requires fits { FitsSets sets.now }
+        requires within { CanChange self.now }
+        ensures { ChangesTo changed result (replaced key.now (map change_of sets.now) (tree self.now)) };
+
+    /// The tree without the row of this key.
+    fn remove(&self, alloc: Global, key: &Key) -> Result<Self::Change, UpdateFault>
+        requires { CanChange self.now }
+        ensures { ChangesTo changed result (removed key.now (tree self.now)) };
 }

@@ -1,11 +1,11 @@
-use Rattle.std.proofs.Common.{◌≡◌, ◌+◌, ◌<◌, ◌≤◌, length, map, Ok, Err, ◌∙◌, arith}
+use Rattle.std.proofs.Common.{◌≡◌, ◌+◌, ◌<◌, ◌≤◌, length, map, Ok, ◌∙◌, arith}
 use Rattle.vo_spec.specs.Cells.{whole_entry}
 use Rattle.vo_spec.specs.Parts.{levels, levels_in}
 use Rattle.vo_spec.specs.Trees.{row_family, open_parts}
 use Rattle.vo_spec.specs.Inserts.{grow}
 use Rattle.mb_tree.specs.Whole.{value_of}
 use Rattle.mb_tree.proofs.RowLaws.{branch_falls}
-use Rattle.mb_update.specs.Changing.{Grows, FitsGrown, grown_of}
+use Rattle.mb_update.specs.Changing.{FitsGrown, grown_of}
 use Rattle.mb_update.proofs.KeyLists.{count_keys}
 use Rattle.mb_update.proofs.KeyPlaces.{place_keys}
 use Rattle.mb_update.proofs.Splitting.{node_limits, grown_inner, fault_inner, fault_on}

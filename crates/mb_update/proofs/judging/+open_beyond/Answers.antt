@@ -1,4 +1,4 @@
-use Rattle.std.proofs.Common.{◌≡◌, ◌≤◌, Ok, sym, ap, ◌∙◌, arith}
+use Rattle.std.proofs.Common.{◌≤◌, Ok, sym, ap, ◌∙◌, arith}
 use Rattle.std.specs.List.{list_any}
 use Rattle.vo_spec.specs.Inserts.{insert_misses, insert_goes_beyond}
 use Rattle.vo_spec.specs.Parts.{levels, levels_in}
@@ -31,7 +31,7 @@ children_beyond-returns-then-beyond t c =
 
 pub children_beyond-returns-else-beyond : goal.children_beyond-returns-else-beyond
 children_beyond-returns-else-beyond t c =
-    ap Ok (c.open_beside-beside.ensures ∙ or_else c.in-Ok.beyond _ c.if-beyond.false)
+    ap Ok (c.open_outside-beside.ensures ∙ or_else c.in-Ok.beyond _ c.if-beyond.false)
     ∙ child_told c.args.key.now c.args.separators.now c.args.children.now c.place_for-place.result c.index-children-place.result c.in-Ok.beyond c.place_for-place.ensures.place c.if-place-children.false c.index-children-place.is c.in-Ok.ensures
 
 pub children_beyond-returns-in-Err : goal.children_beyond-returns-in-Err

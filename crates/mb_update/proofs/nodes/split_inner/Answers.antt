@@ -1,25 +1,10 @@
-use Rattle.std.proofs.Common.{◌≡◌, ◌+◌, ◌<◌, ◌≤◌, length, map, arith}
-use Rattle.mb_update.proofs.KeyLists.{halved_keys}
-use Rattle.mb_update.proofs.Splitting.{branch_split, halved_counts}
+use Rattle.std.proofs.Common.{◌<◌, length, map, ◌∙◌, arith}
+use Rattle.std.proofs.lemmas.Result.{IfOk-weaker}
+use Rattle.mb_tree.specs.Whole.{value_of}
+use Rattle.mb_update.proofs.Splitting.{node_divided}
 use Rattle.mb_update.proofs.nodes.split_inner.Goals as goal
-
-pub inner-requires-2 : goal.inner-requires-2
-inner-requires-2 c =
-    let k = halved_keys c.args.separators.items _ c.in_ok-halves.halves (omega arith) c.requires.keys c.in_ok-halves.ensures in
-    let n = halved_counts c.args.children.items c.in_ok-halves.halves (omega arith) c.in_ok-halves.ensures in
-    record { least = omega (arith, n.first); most = omega (arith, n.first); between = omega (arith, n.first, k.few); keys = k.fits_before }
-
-pub inner-requires-3 : goal.inner-requires-3
-inner-requires-3 c =
-    let k = halved_keys c.args.separators.items _ c.in_ok-halves.halves (omega arith) c.requires.keys c.in_ok-halves.ensures in
-    let n = halved_counts c.args.children.items c.in_ok-halves.halves (omega arith) c.in_ok-halves.ensures in
-    record { least = omega (arith, n.last); most = omega (arith, n.last); between = omega (arith, n.last, k.rest); keys = k.fits_after }
 
 pub returns : goal.returns
 returns c =
-    let k = halved_keys c.args.separators.items _ c.in_ok-halves.halves (omega arith) c.requires.keys c.in_ok-halves.ensures in
     let many : 16 < length c.args.children.items = omega arith in
-    record {
-      fits = k.fits_key;
-      same = branch_split c.args.separators.items c.args.children.items c.in_ok-halves.halves _ _ many k c.in_ok-halves.ensures c.in_ok-left.ensures c.in_ok-right.ensures;
-    }
+    IfOk-weaker c.cut_inner.result _ _ (λ grown h. record { fits = h.fits; same = node_divided (map value_of c.args.separators.items) c.args.children.items many ∙ h.same }) c.cut_inner.ensures

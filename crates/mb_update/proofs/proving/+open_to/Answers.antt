@@ -1,14 +1,14 @@
-use Rattle.std.proofs.Common.{◌≡◌, ◌+◌, ◌<◌, ◌≤◌, length, map, sym, ap, ◌∙◌, arith, append_assoc}
-use Rattle.std.proofs.lemmas.List.{take_rest, map_push}
+use Rattle.std.proofs.Common.{◌≡◌, ◌+◌, ◌<◌, ◌≤◌, ◌∷◌, ◌++◌, length, map, take, drop, sym, ap, ◌∙◌, arith}
+use Rattle.std.proofs.lemmas.Result.{IfOk-weaker}
 use Rattle.vo_spec.specs.Parts.{levels, levels_in}
 use Rattle.vo_spec.specs.Trees.{open_parts}
 use Rattle.mb_tree.specs.Whole.{value_of}
-use Rattle.mb_tree.specs.View.{part_of}
 use Rattle.mb_tree.proofs.RowLaws.{branch_falls}
+use Rattle.mb_update.specs.Closing.{closed_tree}
 use Rattle.mb_update.proofs.KeyLists.{count_keys}
 use Rattle.mb_update.proofs.KeyPlaces.{place_keys}
 use Rattle.mb_update.proofs.Splitting.{node_limits}
-use Rattle.mb_update.proofs.OpenPaths.{open_at, child_open}
+use Rattle.mb_update.proofs.OpenPaths.{child_open}
 use Rattle.mb_update.proofs.proving.+open_to.Goals as goal
 
 pub open_to-open_child-requires : goal.open_to-open_child-requires
@@ -27,8 +27,9 @@ pub open_child-returns : goal.open_child-returns
 open_child-returns t c =
     let ts = c.args.children.now in
     let ss = map value_of c.args.separators.now in
+    let place = c.place_for-place.result in
     let between : length ss + 1 ≡ length ts = omega (arith, count_keys c.args.separators.now, c.requires.between) in
-    let first = rw c.in_ok-parts.ensures.items at c.in_ok-close_branches.ensures in
-    let all : map part_of _ ≡ open_at c.place_for-place.result c.args.key.now c.index-children-place.result ts =
-    rw (c.in_ok-close_branches-2.ensures, c.in_ok-push.ensures.items, map_push, first, c.in_ok-open_to.ensures) (simp (append_assoc, take_rest)) in
-    c.from_vec.ensures ∙ ap open_parts all ∙ sym (child_open c.args.key.now ss ts c.place_for-place.result c.index-children-place.result between (c.place_for-place.ensures.place ∙ place_keys c.args.key.now c.args.separators.now) c.index-children-place.is)
+    let opens = child_open c.args.key.now ss ts place c.index-children-place.result between (c.place_for-place.ensures.place ∙ place_keys c.args.key.now c.args.separators.now) c.index-children-place.is in
+    IfOk-weaker c.among_closed.result _ _
+    (λ parts h. h ∙ ap (λ p. open_parts (map closed_tree (take place ts) ++ p ∷ map closed_tree (drop (place + 1) ts))) c.in_ok-part.ensures ∙ sym opens)
+    c.among_closed.ensures

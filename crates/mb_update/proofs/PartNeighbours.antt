@@ -1,0 +1,133 @@
+-- A small node and its neighbour, by lists of their entries or children.
+use Rattle.std.proofs.Common.{◌≡◌, ℕ, suc, ◌+◌, ◌-◌, ◌<◌, ◌≤◌, true, false, cond, nat_lt, List, [], ◌∷◌, ◌++◌, length, map, take, drop, get_or, Result, Ok, refl, sym, ap, ◌∙◌, arith, append_assoc, append-nil}
+use Rattle.std.proofs.lemmas.List.{take-map, drop-map, length-map, map-append, get_or-map, get_or_default}
+use Rattle.std.proofs.lemmas.Bool.Decides.{nat_tests}
+use Rattle.vo_spec.specs.declared.cells.PartEntry.{PartEntry}
+use Rattle.vo_spec.specs.declared.trees.UpdateFault.{UpdateFault}
+use Rattle.vo_spec.specs.Parts.{inner, count}
+use Rattle.vo_spec.specs.Trees.{RowTree, row_family, open_parts}
+use Rattle.vo_spec.specs.Inserts.{result_map, one, two, take_parts, drop_parts}
+use Rattle.vo_spec.specs.Inserts as inserts
+use Rattle.vo_spec.specs.Removes.{joined_parts, with_left, with_right, settled_root}
+use Rattle.mb_tree.specs.declared.parts.PartTree.{PartTree}
+use Rattle.mb_tree.specs.View.{part_of, parts_of}
+use Rattle.mb_tree.proofs.BranchLaws.{count_open_parts}
+use Rattle.mb_update.specs.declared.grown.Grown.{Grown}
+use Rattle.mb_update.specs.declared.grown.Grown.TheVariants.{One, Two}
+use Rattle.mb_update.specs.Changing.{grown_part}
+use Rattle.mb_update.specs.Placing.{placed, node_of}
+use Rattle.mb_update.specs.Settling.{paired, joined_at}
+use Rattle.mb_update.proofs.Splitting.{take_open, drop_open}
+use Rattle.mb_update.proofs.Neighbouring.{joined_open}
+use Rattle.mb_update.proofs.KeyPlaces.{map_spliced}
+
+more_than : (n : ℕ) → 8 < n → nat_lt 8 n ≡ true
+more_than n h = grind (arith, nat_tests)
+
+no_more_than : (n : ℕ) → n ≤ 8 → nat_lt 8 n ≡ false
+no_more_than n h = grind (arith, nat_tests)
+
+-- inner nodes
+
+module _ (ls rs : List (List ℕ)) (s : List ℕ) (ps qs : List RowTree) where
+  inner_left_one : length ps ≤ 8 → with_left row_family (inner ls (open_parts ps)) s (inner rs (open_parts qs)) ≡ Ok (one (inner (ls ++ s ∷ rs) (open_parts (ps ++ qs))))
+  inner_left_one few =
+      let counted = count_open_parts ps in
+      ap (λ b. Ok (cond b (two (inner (take (length ls - 1) ls) (take_parts (count (open_parts ps) - 1) (open_parts ps))) (get_or ls (length ls - 1) []) (inner (s ∷ rs) (joined_parts (drop_parts (count (open_parts ps) - 1) (open_parts ps)) (open_parts qs)))) (one (inner (ls ++ s ∷ rs) (joined_parts (open_parts ps) (open_parts qs))))))
+      (no_more_than (count (open_parts ps)) (omega arith))
+      ∙ ap (λ x. Ok (one (inner (ls ++ s ∷ rs) x))) (joined_open ps qs)
+
+  inner_left_two : 8 < length ps → with_left row_family (inner ls (open_parts ps)) s (inner rs (open_parts qs))
+      ≡ Ok (two (inner (take (length ls - 1) ls) (open_parts (take (length ps - 1) ps))) (get_or ls (length ls - 1) []) (inner (s ∷ rs) (open_parts (drop (length ps - 1) ps ++ qs))))
+  inner_left_two many =
+      let counted = count_open_parts ps in
+      ap (λ b. Ok (cond b (two (inner (take (length ls - 1) ls) (take_parts (count (open_parts ps) - 1) (open_parts ps))) (get_or ls (length ls - 1) []) (inner (s ∷ rs) (joined_parts (drop_parts (count (open_parts ps) - 1) (open_parts ps)) (open_parts qs)))) (one (inner (ls ++ s ∷ rs) (joined_parts (open_parts ps) (open_parts qs))))))
+      (more_than (count (open_parts ps)) (omega arith))
+      ∙ rw (counted, take_open (length ps - 1) ps, drop_open (length ps - 1) ps, joined_open (drop (length ps - 1) ps) qs) refl
+
+  inner_right_one : length qs ≤ 8 → with_right row_family (inner ls (open_parts ps)) s (inner rs (open_parts qs)) ≡ Ok (one (inner (ls ++ s ∷ rs) (open_parts (ps ++ qs))))
+  inner_right_one few =
+      let counted = count_open_parts qs in
+      ap (λ b. Ok (cond b (two (inner (ls ++ s ∷ []) (joined_parts (open_parts ps) (take_parts 1 (open_parts qs)))) (get_or rs 0 []) (inner (drop 1 rs) (drop_parts 1 (open_parts qs)))) (one (inner (ls ++ s ∷ rs) (joined_parts (open_parts ps) (open_parts qs))))))
+      (no_more_than (count (open_parts qs)) (omega arith))
+      ∙ ap (λ x. Ok (one (inner (ls ++ s ∷ rs) x))) (joined_open ps qs)
+
+  inner_right_two : 8 < length qs → with_right row_family (inner ls (open_parts ps)) s (inner rs (open_parts qs))
+      ≡ Ok (two (inner (ls ++ s ∷ []) (open_parts (ps ++ take 1 qs))) (get_or rs 0 []) (inner (drop 1 rs) (open_parts (drop 1 qs))))
+  inner_right_two many =
+      let counted = count_open_parts qs in
+      ap (λ b. Ok (cond b (two (inner (ls ++ s ∷ []) (joined_parts (open_parts ps) (take_parts 1 (open_parts qs)))) (get_or rs 0 []) (inner (drop 1 rs) (drop_parts 1 (open_parts qs)))) (one (inner (ls ++ s ∷ rs) (joined_parts (open_parts ps) (open_parts qs))))))
+      (more_than (count (open_parts qs)) (omega arith))
+      ∙ rw (take_open 1 qs, drop_open 1 qs, joined_open ps (take 1 qs)) refl
+
+-- inner nodes of parts
+
+module _ (ls rs keys all : List (List ℕ)) (s : List ℕ) (ps qs trees : List PartTree) (p : PartTree) where
+  pub part_left_one : length ps ≤ 8 → keys ≡ s ∷ rs → all ≡ ls ++ keys → trees ≡ ps ++ qs → part_of p ≡ inner all (parts_of trees)
+      → with_left row_family (inner ls (parts_of ps)) s (inner rs (parts_of qs)) ≡ Ok (one (part_of p))
+  part_left_one few is_keys is_all is_trees node =
+      let counted = length-map ps part_of in
+      inner_left_one ls rs s (map part_of ps) (map part_of qs) (omega arith)
+      ∙ rw (node, is_all, is_keys, is_trees, map-append part_of ps qs) refl
+
+  pub part_right_one : length qs ≤ 8 → keys ≡ ls ++ s ∷ [] → all ≡ keys ++ rs → trees ≡ ps ++ qs → part_of p ≡ inner all (parts_of trees)
+      → with_right row_family (inner ls (parts_of ps)) s (inner rs (parts_of qs)) ≡ Ok (one (part_of p))
+  part_right_one few is_keys is_all is_trees node =
+      let counted = length-map qs part_of in
+      inner_right_one ls rs s (map part_of ps) (map part_of qs) (omega arith)
+      ∙ rw (node, is_all, is_keys, is_trees, map-append part_of ps qs, append_assoc ls (s ∷ []) rs) refl
+
+module _ (ls rs left_keys right_keys : List (List ℕ)) (s key : List ℕ) (ps qs left right : List PartTree) (p q : PartTree) where
+  pub part_left_two : 8 < length ps → left_keys ≡ take (length ls - 1) ls → key ≡ get_or ls (length ls - 1) [] → right_keys ≡ s ∷ rs
+      → left ≡ take (length ps - 1) ps → right ≡ drop (length ps - 1) ps ++ qs → part_of p ≡ inner left_keys (parts_of left) → part_of q ≡ inner right_keys (parts_of right)
+      → with_left row_family (inner ls (parts_of ps)) s (inner rs (parts_of qs)) ≡ Ok (two (part_of p) key (part_of q))
+  part_left_two many is_left_keys is_key is_right_keys is_left is_right node other =
+      let counted = length-map ps part_of in
+      inner_left_two ls rs s (map part_of ps) (map part_of qs) (omega arith)
+      ∙ rw (counted, node, other, is_left_keys, is_key, is_right_keys, is_left, is_right, map-append part_of (drop (length ps - 1) ps) qs, take-map part_of (length ps - 1) ps, drop-map part_of (length ps - 1) ps) refl
+
+  pub part_right_two : 8 < length qs → left_keys ≡ ls ++ s ∷ [] → key ≡ get_or rs 0 [] → right_keys ≡ drop 1 rs
+      → left ≡ ps ++ take 1 qs → right ≡ drop 1 qs → part_of p ≡ inner left_keys (parts_of left) → part_of q ≡ inner right_keys (parts_of right)
+      → with_right row_family (inner ls (parts_of ps)) s (inner rs (parts_of qs)) ≡ Ok (two (part_of p) key (part_of q))
+  part_right_two many is_left_keys is_key is_right_keys is_left is_right node other =
+      let counted = length-map qs part_of in
+      inner_right_two ls rs s (map part_of ps) (map part_of qs) (omega arith)
+      ∙ rw (node, other, is_left_keys, is_key, is_right_keys, is_left, is_right, map-append part_of ps (take 1 qs), take-map part_of 1 qs, drop-map part_of 1 qs) refl
+
+-- two neighbours have become this
+
+module _ (place : ℕ) (ss keys between : List (List ℕ)) (ps trees new : List PartTree) (grown : Grown PartTree (List ℕ)) where
+  all_trees : trees ≡ take place ps ++ new ++ drop (place + 2) ps → map part_of trees ≡ take place (map part_of ps) ++ map part_of new ++ drop (place + 2) (map part_of ps)
+  all_trees all = ap (map part_of) all ∙ map_spliced part_of ps new place (place + 2)
+
+  pub one_paired : (tree : PartTree) → grown ≡ One tree → between ≡ [] → keys ≡ take place ss ++ between ++ drop (place + 1) ss → new ≡ tree ∷ []
+      → trees ≡ take place ps ++ new ++ drop (place + 2) ps → inner keys (parts_of trees) ≡ node_of (paired place ss (map part_of ps) (grown_part grown))
+  one_paired tree is nothing is_keys alone all =
+      rw (is, is_keys, nothing, all_trees all, alone, append_assoc (take place (map part_of ps)) (part_of tree ∷ []) (drop (place + 2) (map part_of ps)), append-nil (take place ss)) refl
+
+  pub two_paired : (left right : PartTree) (key : List ℕ) → grown ≡ Two left key right → between ≡ key ∷ [] → keys ≡ take place ss ++ between ++ drop (place + 1) ss → new ≡ left ∷ right ∷ []
+      → trees ≡ take place ps ++ new ++ drop (place + 2) ps → inner keys (parts_of trees) ≡ node_of (paired place ss (map part_of ps) (grown_part grown))
+  two_paired left right key is only is_keys both all =
+      rw (is, is_keys, only, all_trees all, both, append_assoc (take place ss) (key ∷ []) (drop (place + 1) ss), append_assoc (take place (map part_of ps)) (part_of left ∷ part_of right ∷ []) (drop (place + 2) (map part_of ps))) refl
+
+-- a child is put in its place again
+pub child_put : (place : ℕ) (ss keys : List (List ℕ)) (ps trees new : List PartTree) (p : PartTree) → keys ≡ ss → new ≡ p ∷ [] → trees ≡ take place ps ++ new ++ drop (place + 1) ps
+    → inner keys (parts_of trees) ≡ node_of (placed place ss (map part_of ps) (one (part_of p)))
+child_put place ss keys ps trees new p same alone all =
+    rw (same, ap (map part_of) all ∙ map_spliced part_of ps new place (place + 1), alone, append_assoc (take place (map part_of ps)) (part_of p ∷ []) (drop (place + 1) (map part_of ps))) refl
+
+-- a later child and the one before it
+pub left_joins : (place : ℕ) (ss : List (List ℕ)) (ps : List PartTree) (left : PartTree) (key : List ℕ) (p : RowTree) (r : Result (inserts.Grown PartEntry (Unit {0})) UpdateFault) → place < length ss → place < length ps
+    → left ≡ get_or ps place left → key ≡ get_or ss place key → with_left row_family (part_of left) key p ≡ r
+    → joined_at (suc place) ss (map part_of ps) p ≡ result_map (paired place ss (map part_of ps)) r
+left_joins place ss ps left key p r in_ss in_ps is_left is_key joins =
+    ap (result_map (paired place ss (map part_of ps)))
+    (ap (λ t. with_left row_family t (get_or ss place []) p) (get_or-map part_of ps place left p in_ps ∙ ap part_of (sym is_left))
+    ∙ ap (λ k. with_left row_family (part_of left) k p) (get_or_default ss place [] key in_ss ∙ sym is_key)
+    ∙ joins)
+
+-- a root that doesn't give way
+pub root_stays : (ss : List (List ℕ)) (ps : List PartTree) → (length ps ≡ 1 → ⊥) → settled_root (inner ss (parts_of ps)) ≡ inner ss (parts_of ps)
+root_stays ss [] h = refl
+root_stays ss (p ∷ []) h = absurd (h refl)
+root_stays ss (p ∷ q ∷ ps) h = refl

@@ -1,0 +1,182 @@
+//! A small node of a part of a tree and its neighbour.
+ghost use Rattle.std.specs.Prelude.{◌≡◌, ◌+◌, length, Ok, [], IfOk};
+ghost use Rattle.vo_spec.specs.Fits.{FitsPart};
+ghost use Rattle.vo_spec.specs.Parts.{leaf, inner};
+ghost use Rattle.vo_spec.specs.Trees.{row_family};
+ghost use Rattle.vo_spec.specs.Removes.{with_left as beside_left, with_right as beside_right};
+ghost use Rattle.mb_tree.specs.View.{part_of, parts_of};
+ghost use Rattle.mb_update.specs.Changing.{ChangesTo, grown_part};
+ghost use Rattle.mb_update.specs.Shrunken.{shrunk_of};
+
+use crate::grown::Grown;
+use crate::part_moving::{after_copied, first_given, last_given};
+use crate::part_nodes::inner_of;
+use crate::part_shrunk::Shrunk;
+use crate::splicing::{Again, all_again, put_again};
+use mb_tree::PartTree;
+use std::alloc::{AllocError, Global};
+use vo_spec::{KeyPart, List, PartEntry, UpdateFault};
+
+/// What comes in the place of a small node and its left neighbour, with this key between them.
+#[tactic(auto, using(mb_tree::proofs::PartLaws::count_parts_of))]
+pub fn with_left<'b>(
+    alloc: Global,
+    left: &PartTree<'b>,
+    key: &KeyPart<'b>,
+    right: Shrunk<'b>,
+) -> Result<Grown<PartTree<'b>, KeyPart<'b>>, UpdateFault>
+    requires { FitsPart (part_of left.now) }
+    ensures { ChangesTo grown_part result (beside_left row_family (part_of left.now) key.now (shrunk_of right.entry)) }
+{
+    match left {
+        PartTree::Stub(_) => Err(UpdateFault::Missing),
+        PartTree::Leaf(entries) => match right {
+            Shrunk::Leaf(right) => Ok(leaf_with_left(alloc, entries.as_slice(), right)?),
+            Shrunk::Inner { .. } => Err(UpdateFault::Missing),
+        },
+        PartTree::Inner {
+            separators,
+            children,
+        } => match right {
+            Shrunk::Leaf(_) => Err(UpdateFault::Missing),
+            Shrunk::Inner {
+                separators: keys,
+                children: trees,
+            } => Ok(inner_with_left(
+                alloc,
+                separators.as_slice(),
+                children.as_slice(),
+                key,
+                keys,
+                trees,
+            )?),
+        },
+    }
+}
+
+fn leaf_with_left<'b>(
+    alloc: Global,
+    left: &[PartEntry<'b>],
+    right: Vec<PartEntry<'b>>,
+) -> Result<Grown<PartTree<'b>, KeyPart<'b>>, AllocError>
+    ensures { IfOk result (λ grown. beside_left row_family (leaf left.now) [] (leaf right.entry.items) ≡ Ok (grown_part grown)) }
+{
+    if left.len() <= 8 {
+        let all = after_copied(alloc, left, right)?;
+        return Ok(Grown::One(leaf_of(all)));
+    }
+    let pair = last_given(alloc, left, right)?;
+    let key = pair.right[0].key.again(alloc)?;
+    Ok(Grown::Two(leaf_of(pair.left), key, leaf_of(pair.right)))
+}
+
+fn inner_with_left<'b>(
+    alloc: Global,
+    separators: &[KeyPart<'b>],
+    children: &[PartTree<'b>],
+    key: &KeyPart<'b>,
+    keys: Vec<KeyPart<'b>>,
+    trees: Vec<PartTree<'b>>,
+) -> Result<Grown<PartTree<'b>, KeyPart<'b>>, AllocError>
+    requires { length separators.now + 1 ≡ length children.now }
+    ensures { IfOk result (λ grown. beside_left row_family (inner separators.now (parts_of children.now)) key.now (inner keys.entry.items (parts_of trees.entry.items))
+        ≡ Ok (grown_part grown)) }
+{
+    let between = vec![in alloc; key.again(alloc)?]?;
+    let keys = after_copied(alloc, between.as_slice(), keys)?;
+    if children.len() <= 8 {
+        let keys = after_copied(alloc, separators, keys)?;
+        let trees = after_copied(alloc, children, trees)?;
+        return Ok(Grown::One(inner_of(keys, trees)));
+    }
+    let pair = last_given(alloc, children, trees)?;
+    let last = separators.len() - 1;
+    let up = separators[last].again(alloc)?;
+    let rest = all_again(alloc, &separators[..last])?;
+    Ok(Grown::Two(inner_of(rest, pair.left), up, inner_of(keys, pair.right)))
+}
+
+/// What comes in the place of a small node and its right neighbour, with this key between them.
+#[tactic(auto, using(mb_tree::proofs::PartLaws::count_parts_of))]
+pub fn with_right<'b>(
+    alloc: Global,
+    left: Shrunk<'b>,
+    key: &KeyPart<'b>,
+    right: &PartTree<'b>,
+) -> Result<Grown<PartTree<'b>, KeyPart<'b>>, UpdateFault>
+    requires { FitsPart (part_of right.now) }
+    ensures { ChangesTo grown_part result (beside_right row_family (shrunk_of left.entry) key.now (part_of right.now)) }
+{
+    match left {
+        Shrunk::Leaf(left) => match right {
+            PartTree::Leaf(entries) => Ok(leaf_with_right(alloc, left, entries.as_slice())?),
+            PartTree::Stub(_) | PartTree::Inner { .. } => Err(UpdateFault::Missing),
+        },
+        Shrunk::Inner {
+            separators: keys,
+            children: trees,
+        } => match right {
+            PartTree::Inner {
+                separators,
+                children,
+            } => Ok(inner_with_right(
+                alloc,
+                keys,
+                trees,
+                key,
+                separators.as_slice(),
+                children.as_slice(),
+            )?),
+            PartTree::Stub(_) | PartTree::Leaf(_) => Err(UpdateFault::Missing),
+        },
+    }
+}
+
+fn leaf_with_right<'b>(
+    alloc: Global,
+    left: Vec<PartEntry<'b>>,
+    right: &[PartEntry<'b>],
+) -> Result<Grown<PartTree<'b>, KeyPart<'b>>, AllocError>
+    ensures { IfOk result (λ grown. beside_right row_family (leaf left.entry.items) [] (leaf right.now) ≡ Ok (grown_part grown)) }
+{
+    if right.len() <= 8 {
+        let mut all = left;
+        put_again(alloc, right, &mut all)?;
+        return Ok(Grown::One(leaf_of(all)));
+    }
+    let pair = first_given(alloc, left, right)?;
+    let key = pair.right[0].key.again(alloc)?;
+    Ok(Grown::Two(leaf_of(pair.left), key, leaf_of(pair.right)))
+}
+
+fn inner_with_right<'b>(
+    alloc: Global,
+    keys: Vec<KeyPart<'b>>,
+    trees: Vec<PartTree<'b>>,
+    key: &KeyPart<'b>,
+    separators: &[KeyPart<'b>],
+    children: &[PartTree<'b>],
+) -> Result<Grown<PartTree<'b>, KeyPart<'b>>, AllocError>
+    requires { length separators.now + 1 ≡ length children.now }
+    ensures { IfOk result (λ grown. beside_right row_family (inner keys.entry.items (parts_of trees.entry.items)) key.now (inner separators.now (parts_of children.now))
+        ≡ Ok (grown_part grown)) }
+{
+    let mut keys = keys;
+    keys.push(key.again(alloc)?)?;
+    if children.len() <= 8 {
+        let mut trees = trees;
+        put_again(alloc, separators, &mut keys)?;
+        put_again(alloc, children, &mut trees)?;
+        return Ok(Grown::One(inner_of(keys, trees)));
+    }
+    let pair = first_given(alloc, trees, children)?;
+    let up = separators[0].again(alloc)?;
+    let rest = all_again(alloc, &separators[1..])?;
+    Ok(Grown::Two(inner_of(keys, pair.left), up, inner_of(rest, pair.right)))
+}
+
+fn leaf_of<'b>(entries: Vec<PartEntry<'b>>) -> PartTree<'b>
+    ensures { part_of result ≡ leaf entries.entry.items }
+{
+    PartTree::Leaf(List::from_vec(entries))
+}
