@@ -1,6 +1,9 @@
 pub mod ListLaws
 pub mod PlaceLaws
 pub mod StandingLaws
+pub mod ReadyLaws
+pub mod SetLaws
+pub mod ProofLaws
 pub mod LimitLaws
 pub mod WorkLaws
 pub mod PlainLaws

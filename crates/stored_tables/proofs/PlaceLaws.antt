@@ -4,24 +4,22 @@ use Rattle.std.specs.Prelude.{find}
 use Rattle.std.specs.Option.{option_map_or}
 use Rattle.std.specs.Result.{result_map_both}
 use Rattle.std.specs.List.{AllByRecursion}
-use Rattle.vo_spec.specs.declared.values.Value.{Value}
 use Rattle.vo_spec.specs.declared.tables.Command.{Command}
-use Rattle.vo_spec.specs.declared.tables.Command.TheVariants.{Insert}
+use Rattle.vo_spec.specs.declared.tables.Command.TheVariants.{Create, Drop, Insert, Update, Delete}
 use Rattle.vo_spec.specs.declared.tables.CommandFault.{CommandFault}
-use Rattle.vo_spec.specs.declared.tables.CommandFault.TheVariants.{NoTable}
 use Rattle.vo_spec.specs.declared.trees.UpdateFault.{UpdateFault}
-use Rattle.vo_spec.specs.Firsts.{first_of}
-use Rattle.vo_spec.specs.Values.{key_lt, key_of}
-use Rattle.vo_spec.specs.Inserts.{insert_proof}
+use Rattle.vo_spec.specs.Values.{key_lt}
 use Rattle.vo_spec.specs.Trees.{RowTree}
-use Rattle.vo_spec.specs.Tables.{heading_named, refusal, insert_tests, value_at}
-use Rattle.vo_spec.specs.Honest.{Stored, stored_heading, put_stored, row_refusal, tree_after, with_tree, behind_stored, change_tree, proof_on, command_proof}
+use Rattle.vo_spec.specs.Tables.{heading_named}
+use Rattle.vo_spec.specs.Honest.{Stored, stored_heading, put_stored, row_refusal, tree_after, with_tree, behind_stored, change_tree, changed_trees, table_of, proof_on, command_proof}
+use Rattle.table_list.specs.Headings.{command_name}
 use Rattle.table_list.specs.Changes.{Gives}
 use Rattle.table_list.specs.declared.fault.ApplyFault.{ApplyFault}
 use Rattle.table_list.specs.declared.fault.ApplyFault.TheVariants.{Refused, Memory}
 use Rattle.stored_tables.specs.View.{stored_of}
 use Rattle.stored_tables.specs.Placing.{is_named, IsUnlike, IsThere, IsAt}
 use Rattle.stored_tables.specs.Working.{with_new_tree, table_after}
+use Rattle.stored_tables.specs.Ready.{changes_rows}
 use Rattle.stored_tables.proofs.ListLaws.{parted_at, one_more}
 
 -- Among tables of other names.
@@ -83,12 +81,6 @@ heading_nowhere name [] unlike = refl
 heading_nowhere name (s ∷ stored) unlike =
     ap (λ b. cond b (Some (stored_heading s)) (heading_named name (map stored_heading stored))) unlike.0 ∙ heading_nowhere name stored unlike.1
 
-pub insert_nowhere : (name : List ℕ) (values : List Value) (stored : List Stored) → AllByRecursion (IsUnlike name) stored
-    → refusal (Insert name values) (map stored_heading stored) ≡ None → ⊥
-insert_nowhere name values stored unlike e =
-    let f : Some NoTable ≡ None = ap (λ found. option_map_or (λ h. first_of (insert_tests values h)) found (Some NoTable)) (sym (heading_nowhere name stored unlike)) ∙ e in
-    absurd (cc)
-
 -- One table further in a search.
 
 pub found_here : (name : List ℕ) (stored : List Stored) (at : ℕ) (s : Stored) (b : Bool) → IsThere stored at s → AllByRecursion (IsUnlike name) (take at stored)
@@ -127,12 +119,27 @@ table_refused view name c stored at s (Refused why) is told =
     change_at name c stored at s is ∙ ap (result_map_both (λ u. take at stored ++ u ∷ drop (at + 1) stored) (λ fault. fault)) told
 table_refused view name c stored at s Memory is told = tt
 
-pub proof_nowhere : (name : List ℕ) (values : List Value) (stored : List Stored) → AllByRecursion (IsUnlike name) stored → command_proof (Insert name values) stored ≡ []
-proof_nowhere name values stored unlike = ap (λ found. option_map_or (proof_on (Insert name values)) found []) (find_nowhere name stored unlike)
+name_is : (c : Command) → command_name c ≡ table_of c
+name_is (Create name columns key) = refl
+name_is (Drop name) = refl
+name_is (Insert name values) = refl
+name_is (Update name sets column value) = refl
+name_is (Delete name column value) = refl
 
-pub proof_at : (name : List ℕ) (values : List Value) (stored : List Stored) (at : ℕ) (s : Stored) → IsAt name stored at s
-    → command_proof (Insert name values) stored ≡ insert_proof (key_of (value_at values s.schema.key)) s.tree ∷ []
-proof_at name values stored at s is = ap (λ found. option_map_or (proof_on (Insert name values)) found []) (find_at name stored at s is)
+pub proof_nowhere : (c : Command) (stored : List Stored) → AllByRecursion (IsUnlike (command_name c)) stored → command_proof c stored ≡ []
+proof_nowhere c stored unlike =
+    ap (λ found. option_map_or (proof_on c) found []) (find_nowhere (table_of c) stored (subst (λ name. AllByRecursion (IsUnlike name) stored) (name_is c) unlike))
+
+pub proof_at : (c : Command) (stored : List Stored) (at : ℕ) (s : Stored) → IsAt (command_name c) stored at s → command_proof c stored ≡ proof_on c s
+proof_at c stored at s is =
+    ap (λ found. option_map_or (proof_on c) found []) (find_at (table_of c) stored at s (subst (λ name. IsAt name stored at s) (name_is c) is))
+
+pub rows_changed : (c : Command) (stored : List Stored) → changes_rows c ≡ true → changed_trees c stored ≡ change_tree (command_name c) c stored
+rows_changed (Create name columns key) stored rows = absurd (cc)
+rows_changed (Drop name) stored rows = absurd (cc)
+rows_changed (Insert name values) stored rows = refl
+rows_changed (Update name sets column value) stored rows = refl
+rows_changed (Delete name column value) stored rows = refl
 
 -- the same of a name that is lent
 

@@ -1,15 +1,14 @@
 -- Commands in turn, on trees and on plain tables.
-use Rattle.std.proofs.Common.{◌≡◌, ℕ, ◌+◌, true, List, [], ◌∷◌, Some, None, Result, Ok, Err, map, sym, ap, ◌∙◌, subst}
+use Rattle.std.proofs.Common.{◌≡◌, ℕ, ◌+◌, List, [], ◌∷◌, Some, None, Result, Ok, Err, map, sym, ap, ◌∙◌, subst}
 use Rattle.std.specs.Prelude.{IfOk}
-use Rattle.std.specs.List.{AllByRecursion, list_all}
-use Rattle.std.proofs.lemmas.Bool.{and_parts}
+use Rattle.std.specs.List.{AllByRecursion}
 use Rattle.vo_spec.specs.declared.tables.Table.{Table}
 use Rattle.vo_spec.specs.declared.tables.Command.{Command}
 use Rattle.vo_spec.specs.declared.tables.CommandFault.{CommandFault}
 use Rattle.vo_spec.specs.Firsts.{and_then, unless}
 use Rattle.vo_spec.specs.Batches.{FitsCommand}
 use Rattle.vo_spec.specs.Tables.{refusal, apply, apply_from, numbered}
-use Rattle.vo_spec.specs.Honest.{Stored, StandForTables, is_open_command, stored_heading, changed_trees, work, work_all}
+use Rattle.vo_spec.specs.Honest.{Stored, StandForTables, stored_heading, changed_trees, work, work_all}
 use Rattle.vo_laws.proofs.CommandLaws.{FitTables}
 use Rattle.vo_laws.proofs.StandingLaws.{InStep, FitAfter, command_in_step}
 use Rattle.table_list.specs.Batched.{BatchGives}
@@ -54,13 +53,12 @@ next_at index cs (Ok stored) (Err fault) i good next = absurd i
 next_at index cs (Err fault) (Ok tables) i good next = absurd i
 next_at index cs (Err fault) (Err other) i good next = ap (λ f. (index, f)) (sym i)
 
-in_step_from : (index : ℕ) (cs : List Command) (stored : List Stored) (tables : List Table) → list_all is_open_command cs ≡ true → AllByRecursion FitsCommand cs
+in_step_from : (index : ℕ) (cs : List Command) (stored : List Stored) (tables : List Table) → AllByRecursion FitsCommand cs
     → StandForTables stored tables → FitTables tables → InStepAt (work_from index cs stored) (apply_from index cs tables)
-in_step_from index [] stored tables o fits zs good = (zs, good)
-in_step_from index (c ∷ cs) stored tables o fits zs good =
-    let kept = and_parts (is_open_command c) (list_all is_open_command cs) o in
-    let i = command_in_step c stored tables kept.0 fits.0 zs good in
-    next_at index cs (work c stored) (apply c tables) i.0 i.1 (λ after others y g. in_step_from (index + 1) cs after others kept.1 fits.1 y g)
+in_step_from index [] stored tables fits zs good = (zs, good)
+in_step_from index (c ∷ cs) stored tables fits zs good =
+    let i = command_in_step c stored tables fits.0 zs good in
+    next_at index cs (work c stored) (apply c tables) i.0 i.1 (λ after others y g. in_step_from (index + 1) cs after others fits.1 y g)
 
 -- what a call gives on trees says what is so of the plain tables
 gives_both : {X : Type 0} (view : X → List Stored) (r : Result X BatchFault) (w : Result (List Stored) (ℕ × CommandFault)) (a : Result (List Table) (ℕ × CommandFault))
@@ -73,9 +71,9 @@ gives_both view (Err (fault.Command index why)) (Ok after) a g i = absurd (cc)
 gives_both view (Err (fault.Command index why)) (Err told) (Ok others) g i = absurd i
 gives_both view (Err (fault.Command index why)) (Err told) (Err other) g i = let same : told ≡ (index, why) = cc in ap Err (i ∙ same)
 
-pub gives_plain : {X : Type 0} (view : X → List Stored) (cs : List Command) (stored : List Stored) (tables : List Table) (r : Result X BatchFault) → list_all is_open_command cs ≡ true
+pub gives_plain : {X : Type 0} (view : X → List Stored) (cs : List Command) (stored : List Stored) (tables : List Table) (r : Result X BatchFault)
     → AllByRecursion FitsCommand cs → BatchGives view r (work_from 0 cs stored) → StandForTables stored tables → FitTables tables → GivesPlain view r (apply_from 0 cs tables)
-gives_plain view cs stored tables r o fits gives zs good = gives_both view r (work_from 0 cs stored) (apply_from 0 cs tables) gives (in_step_from 0 cs stored tables o fits zs good)
+gives_plain view cs stored tables r fits gives zs good = gives_both view r (work_from 0 cs stored) (apply_from 0 cs tables) gives (in_step_from 0 cs stored tables fits zs good)
 
 pub gives_all : {X : Type 0} (view : X → List Stored) (cs : List Command) (stored : List Stored) (r : Result X BatchFault)
     → BatchGives view r (work_from 0 cs stored) → IfOk r (λ x. work_all cs stored ≡ Ok (view x))

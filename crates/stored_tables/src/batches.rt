@@ -1,5 +1,5 @@
 //! What batches make of tables.
-ghost use Rattle.std.specs.Prelude.{◌≡◌, ◌≤◌, IsTrue, List, Ok, length, IfOk};
+ghost use Rattle.std.specs.Prelude.{◌≡◌, ◌≤◌, List, Ok, length, IfOk};
 ghost use Rattle.std.specs.List.{AllByRecursion, list_all};
 ghost use Rattle.vo_spec.specs.Batches.{FitsCommand};
 ghost use Rattle.vo_spec.specs.declared.tables.Table.{Table as PlainTable};
@@ -51,7 +51,6 @@ fn worked_in_turn(
 ) -> Result<Vec<Rc<StoredTable>>, BatchFault>
     requires standing { IsStanding (stored_in tables.now) }
     requires fits { AllByRecursion FitsCommand commands.now }
-    requires kept { IsTrue (list_all is_open_command commands.now) }
     requires count { length commands.now ≤ 1000 }
     ensures answer { BatchGives (λ new. stored_in new.items) result (work_from 0 commands.now (stored_in tables.now)) }
     ensures standing { IfOk result (λ new. IsStanding (stored_in new.items)) }
@@ -78,7 +77,6 @@ pub(crate) fn worked_batch(
 ) -> Result<Vec<Rc<StoredTable>>, BatchFault>
     requires standing { IsStanding (stored_in tables.now) }
     requires fits { AllByRecursion FitsCommand commands.now }
-    requires kept { IsTrue (list_all is_open_command commands.now) }
     requires count { length commands.now ≤ 1000 }
     ensures answer { BatchGives (λ new. stored_in new.items) result (work_from 0 commands.now (stored_in tables.now)) }
     ensures standing { IfOk result (λ new. IsStanding (stored_in new.items)) }

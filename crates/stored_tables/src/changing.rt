@@ -1,22 +1,16 @@
 //! Tables with one of them new, changed or dropped.
-ghost use Rattle.std.specs.Prelude.{◌≡◌, ◌<◌, ◌≤◌, ◌^◌, ◌-◌, ◌+◌, ◌++◌, ◌∷◌, [], not, bytes_eq, length, take, drop, filter, IfOk};
-ghost use Rattle.vo_spec.specs.declared.tables.Command.TheVariants.{Insert};
-ghost use Rattle.vo_spec.specs.Tables.{column_number, row_of as row_from};
-ghost use Rattle.vo_spec.specs.Fits.{FitsRow};
-ghost use Rattle.vo_spec.specs.Parts.{leaf, entries};
+ghost use Rattle.std.specs.Prelude.{◌≡◌, ◌<◌, ◌≤◌, ◌+◌, ◌++◌, ◌∷◌, not, bytes_eq, length, take, drop, filter, IfOk};
 ghost use Rattle.vo_spec.specs.Honest.{put_stored};
-ghost use Rattle.table_list.specs.Changes.{Gives};
 ghost use Rattle.stored_tables.specs.View.{stored_in, stored_of};
-ghost use Rattle.stored_tables.specs.Working.{made_stored, table_after};
+ghost use Rattle.stored_tables.specs.Working.{made_stored};
 
 use crate::placing::place_for;
 use crate::table::{StoredTable, copy_schema};
 use mb_tree::Tree;
-use mb_update::{UpdateFault, Updates};
 use std::alloc::{AllocError, Global};
 use std::rc::Rc;
-use table_list::{ApplyFault, column_number, copy_columns, row_of, spliced};
-use vo_spec::{Column, CommandFault, Name, Schema, Value};
+use table_list::{column_number, copy_columns, spliced};
+use vo_spec::{Column, Name, Schema};
 
 /// The table that a CREATE makes.
 pub(crate) fn new_table(
@@ -82,29 +76,4 @@ pub(crate) fn exchanged(
 {
     let table = [Rc::new(alloc, table)?];
     Ok(spliced(alloc, tables, at, at + 1, &table)?)
-}
-
-/// The table with a row of these values.
-pub(crate) fn with_row(
-    alloc: Global,
-    table: &StoredTable,
-    values: &[Value],
-) -> Result<StoredTable, ApplyFault>
-    requires fits { FitsRow (row_from table.now.schema values.now) }
-    requires room { length (entries table.now.tree) < 2 ^ 32 - 1 }
-    ensures { Gives stored_of result (table_after (Insert [] values.now) (stored_of table.now)) }
-{
-    let row = row_of(alloc, &table.schema, values)?;
-    match table.tree.insert(alloc, &row) {
-        Ok(tree) => Ok(StoredTable {
-            name: table.name.copy(alloc)?,
-            schema: copy_schema(alloc, &table.schema)?,
-            tree,
-        }),
-        Err(UpdateFault::DuplicateKey) => Err(ApplyFault::Refused(CommandFault::DuplicateKey)),
-        Err(UpdateFault::Memory) => Err(ApplyFault::Memory),
-        Err(UpdateFault::NoRow | UpdateFault::Missing) => Err(ApplyFault::Refused(
-            CommandFault::NoRow,
-        )),
-    }
 }

@@ -1,20 +1,21 @@
 //! What of a table's tree a command looks at.
-ghost use Rattle.std.specs.Prelude.{◌≡◌, IsTrue, IfOk};
-ghost use Rattle.vo_spec.specs.declared.tables.Command.TheVariants.{Insert};
+ghost use Rattle.std.specs.Prelude.{◌≡◌, IfOk};
 ghost use Rattle.std.specs.List.{AllByRecursion};
 ghost use Rattle.vo_spec.specs.Fits.{FitsTree};
-ghost use Rattle.vo_spec.specs.Honest.{is_open_command, command_proof};
-ghost use Rattle.stored_tables.specs.View.{proof_list, stored_in};
+ghost use Rattle.vo_spec.specs.Honest.{command_proof, proof_on};
+ghost use Rattle.stored_tables.specs.View.{proof_list, stored_in, stored_of};
 ghost use Rattle.stored_tables.specs.Standing.{IsStanding};
 
 use crate::placing::place_of;
+use crate::refusing::table_named;
+use crate::row_changes::key_of;
 use crate::table::StoredTable;
 use mb_tree::PartTree;
-use mb_update::insert_proof;
+use mb_update::{insert_proof, remove_proof, replace_proof};
 use std::alloc::{AllocError, Global};
 use std::rc::Rc;
 use table_list::key_at;
-use vo_spec::{Command, Name, Value};
+use vo_spec::Command;
 
 pub(crate) fn proof_of<'t>(
     alloc: Global,
@@ -22,32 +23,36 @@ pub(crate) fn proof_of<'t>(
     command: &Command,
 ) -> Result<Option<PartTree<'t>>, AllocError>
     requires standing { IsStanding (stored_in tables.now) }
-    requires kept { IsTrue (is_open_command command.now) }
     ensures honest { IfOk result (λ proof. proof_list proof ≡ command_proof command.now (stored_in tables.now)) }
     ensures fits { IfOk result (λ proof. AllByRecursion FitsTree (proof_list proof)) }
 {
-    match command {
-        Command::Create { .. } | Command::Drop { .. } => Ok(None),
-        Command::Insert { name, values } => proof_of_insert(alloc, tables, name, values.as_slice()),
-        Command::Update { .. } | Command::Delete { .. } => unreachable!(),
+    match place_of(tables, table_named(command)) {
+        None => Ok(None),
+        Some(place) => proof_on(alloc, place.table, command),
     }
 }
 
-fn proof_of_insert<'t>(
+/// What of the table's tree the command looks at.
+fn proof_on<'t>(
     alloc: Global,
-    tables: &'t [Rc<StoredTable>],
-    name: &Name,
-    values: &[Value],
+    table: &'t StoredTable,
+    command: &Command,
 ) -> Result<Option<PartTree<'t>>, AllocError>
-    requires { IsStanding (stored_in tables.now) }
-    ensures honest { IfOk result (λ proof. proof_list proof ≡ command_proof (Insert name.now values.now) (stored_in tables.now)) }
-    ensures fits { IfOk result (λ proof. AllByRecursion FitsTree (proof_list proof)) }
+    ensures { IfOk result (λ proof. proof_list proof ≡ proof_on command.now (stored_of table.now)) }
 {
-    match place_of(tables, name.as_bytes()) {
-        None => Ok(None),
-        Some(place) => {
-            let key = key_at(alloc, values, place.table.schema.key as usize)?;
-            Ok(Some(insert_proof(alloc, &place.table.tree, key.as_bytes())?))
+    match command {
+        Command::Create { .. } | Command::Drop { .. } => Ok(None),
+        Command::Insert { values, .. } => {
+            let key = key_at(alloc, values.as_slice(), table.schema.key as usize)?;
+            Ok(Some(insert_proof(alloc, &table.tree, key.as_bytes())?))
+        },
+        Command::Update { value, .. } => {
+            let key = key_of(alloc, value)?;
+            Ok(Some(replace_proof(alloc, &table.tree, key.as_bytes())?))
+        },
+        Command::Delete { value, .. } => {
+            let key = key_of(alloc, value)?;
+            Ok(Some(remove_proof(alloc, &table.tree, key.as_bytes())?))
         },
     }
 }

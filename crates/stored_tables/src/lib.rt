@@ -8,6 +8,7 @@ mod command_proofs;
 mod placing;
 mod plain;
 mod refusing;
+mod row_changes;
 mod table;
 mod tables;
 mod working;

@@ -1,11 +1,11 @@
 //! The tables of an owner or a store.
-ghost use Rattle.std.specs.Prelude.{◌≡◌, [], IsTrue, IfSome, IfOk, OnOk, OnErr, Ok, None, map, find, bytes_eq, option_map};
-ghost use Rattle.std.specs.List.{AllByRecursion, list_all};
+ghost use Rattle.std.specs.Prelude.{◌≡◌, [], IfSome, IfOk, OnOk, OnErr, Ok, None, map, find, bytes_eq, option_map};
+ghost use Rattle.std.specs.List.{AllByRecursion};
 ghost use Rattle.vo_spec.specs.Tables.{apply_batch as apply_plain, refusal};
 ghost use Rattle.vo_spec.specs.Batches.{FitsBatch, FitsCommand};
 ghost use Rattle.vo_spec.specs.Fits.{FitsTree};
 ghost use Rattle.vo_spec.specs.Records.{FitsCatalog};
-ghost use Rattle.vo_spec.specs.Honest.{StandForTables, is_open_command, stored_heading, work, work_all, command_proof, catalog_of};
+ghost use Rattle.vo_spec.specs.Honest.{StandForTables, stored_heading, work, work_all, command_proof, catalog_of};
 ghost use Rattle.vo_laws.proofs.CommandLaws.{FitTables};
 ghost use Rattle.table_list.specs.Changes.{Gives};
 ghost use Rattle.table_list.specs.Batched.{BatchGives};
@@ -92,7 +92,6 @@ impl StoredTables {
         alloc: Global,
         command: &Command,
     ) -> Result<Option<PartTree<'_>>, AllocError>
-        requires { IsTrue (is_open_command command.now) }
         ensures honest { IfOk result (λ proof. proof_list proof ≡ command_proof command.now self.now) }
         ensures fits { IfOk result (λ proof. AllByRecursion FitsTree (proof_list proof)) }
     {
@@ -102,7 +101,6 @@ impl StoredTables {
     /// The tables after a command.
     pub fn apply(&self, alloc: Global, command: &Command) -> Result<StoredTables, ApplyFault>
         requires fits { FitsCommand command.now }
-        requires kept { IsTrue (is_open_command command.now) }
         ensures { Gives (λ new. new) result (work command.now self.now) }
     {
         let tables = worked(alloc, self.tables.as_slice(), command)?;
@@ -113,7 +111,6 @@ impl StoredTables {
     /// memory.
     pub fn apply_batch(&mut self, alloc: Global, batch: &Batch) -> Result<(), BatchFault>
         requires fits { FitsBatch batch.now.commands }
-        requires kept { IsTrue (list_all is_open_command batch.now.commands) }
         ensures answer { BatchGives (λ _. self.new) result (work_from 0 batch.now.commands self.old) }
         ensures done { OnOk result (work_all batch.now.commands self.old ≡ Ok self.new) }
         ensures left { OnErr result (self.new ≡ self.old) }

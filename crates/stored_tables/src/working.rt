@@ -1,21 +1,23 @@
 //! What commands make of tables.
 ghost use Rattle.std.specs.Prelude.{◌≡◌, ◌≤◌, IsTrue, None, length, map, IfOk};
-ghost use Rattle.vo_spec.specs.declared.tables.Command.TheVariants.{Create, Insert};
+ghost use Rattle.vo_spec.specs.declared.tables.Command.TheVariants.{Create};
 ghost use Rattle.vo_spec.specs.Tables.{refusal};
 ghost use Rattle.vo_spec.specs.Batches.{FitsCommand};
-ghost use Rattle.vo_spec.specs.Honest.{changed_trees, is_open_command, stored_heading, work};
+ghost use Rattle.vo_spec.specs.Honest.{changed_trees, stored_heading, work};
 ghost use Rattle.table_list.specs.Changes.{Gives};
 ghost use Rattle.stored_tables.specs.View.{stored_in};
 ghost use Rattle.stored_tables.specs.Standing.{IsStanding};
+ghost use Rattle.stored_tables.specs.Ready.{changes_rows};
 
-use crate::changing::{exchanged, new_table, with_row, with_table, without_table};
+use crate::changing::{exchanged, new_table, with_table, without_table};
 use crate::placing::place_of;
-use crate::refusing::fault_of;
+use crate::refusing::{fault_of, table_named};
+use crate::row_changes::changed_table;
 use crate::table::StoredTable;
 use std::alloc::Global;
 use std::rc::Rc;
 use table_list::ApplyFault;
-use vo_spec::{Column, Command, Name, Value};
+use vo_spec::{Column, Command, Name};
 
 fn created(
     alloc: Global,
@@ -31,20 +33,21 @@ fn created(
     Ok(with_table(alloc, tables, table)?)
 }
 
-fn inserted(
+/// The tables with what the command changes of the rows of its table.
+fn changed_rows(
     alloc: Global,
     tables: &[Rc<StoredTable>],
-    name: &Name,
-    values: &[Value],
+    command: &Command,
 ) -> Result<Vec<Rc<StoredTable>>, ApplyFault>
     requires standing { IsStanding (stored_in tables.now) }
-    requires fits { FitsCommand (Insert name.now values.now) }
-    requires allowed { refusal (Insert name.now values.now) (map stored_heading (stored_in tables.now)) ≡ None }
-    ensures { Gives (λ new. stored_in new.items) result (changed_trees (Insert name.now values.now) (stored_in tables.now)) }
+    requires fits { FitsCommand command.now }
+    requires rows { IsTrue (changes_rows command.now) }
+    requires allowed { refusal command.now (map stored_heading (stored_in tables.now)) ≡ None }
+    ensures { Gives (λ new. stored_in new.items) result (changed_trees command.now (stored_in tables.now)) }
 {
-    match place_of(tables, name.as_bytes()) {
+    match place_of(tables, table_named(command)) {
         None => unreachable!(),
-        Some(place) => match with_row(alloc, place.table, values) {
+        Some(place) => match changed_table(alloc, place.table, command) {
             Ok(table) => Ok(exchanged(alloc, tables, place.at, table)?),
             Err(fault) => Err(fault),
         },
@@ -60,7 +63,6 @@ fn changed(
 ) -> Result<Vec<Rc<StoredTable>>, ApplyFault>
     requires standing { IsStanding (stored_in tables.now) }
     requires fits { FitsCommand command.now }
-    requires kept { IsTrue (is_open_command command.now) }
     requires allowed { refusal command.now (map stored_heading (stored_in tables.now)) ≡ None }
     ensures { Gives (λ new. stored_in new.items) result (changed_trees command.now (stored_in tables.now)) }
 {
@@ -69,8 +71,9 @@ fn changed(
             created(alloc, tables, name, columns.as_slice(), key)
         },
         Command::Drop { name } => Ok(without_table(alloc, tables, name.as_bytes())?),
-        Command::Insert { name, values } => inserted(alloc, tables, name, values.as_slice()),
-        Command::Update { .. } | Command::Delete { .. } => unreachable!(),
+        Command::Insert { .. } | Command::Update { .. } | Command::Delete { .. } => {
+            changed_rows(alloc, tables, command)
+        },
     }
 }
 
@@ -83,7 +86,6 @@ pub(crate) fn worked(
 ) -> Result<Vec<Rc<StoredTable>>, ApplyFault>
     requires standing { IsStanding (stored_in tables.now) }
     requires fits { FitsCommand command.now }
-    requires kept { IsTrue (is_open_command command.now) }
     ensures answer { Gives (λ new. stored_in new.items) result (work command.now (stored_in tables.now)) }
     ensures standing { IfOk result (λ new. IsStanding (stored_in new.items)) }
 {

@@ -13,4 +13,4 @@ returns-clause-done c =
 pub returns-clause-plain : goal.returns-clause-plain
 returns-clause-plain c plain stand fit =
     gives_plain (λ (new : Vec (Rc StoredTable Global) Global). stored_in new.items) c.args.commands.now (stored_in c.args.tables.now) plain c.worked_in_turn.result
-    c.requires.kept c.requires.fits c.worked_in_turn.ensures.answer stand fit
+    c.requires.fits c.worked_in_turn.ensures.answer stand fit

@@ -16,5 +16,5 @@ pub returns-in-None-clause-standing : goal.returns-in-None-clause-standing
 returns-in-None-clause-standing c =
     let stored = stored_in c.args.tables.now in
     let allowed = sym c.fault_of.ensures ∙ c.in-None.is in
-    gives_standing (λ (new : Vec (Rc StoredTable Global) Global). stored_in new.items) c.args.command.now stored c.changed.result c.requires.kept c.requires.fits c.requires.standing
+    gives_standing (λ (new : Vec (Rc StoredTable Global) Global). stored_in new.items) c.args.command.now stored c.changed.result c.requires.fits c.requires.standing
     (subst (λ answer. Gives (λ (new : Vec (Rc StoredTable Global) Global). stored_in new.items) c.changed.result answer) (sym (work_allowed c.args.command.now stored allowed)) c.changed.ensures)
