@@ -126,9 +126,6 @@ Earlier cs n = [] ∷ take n cs
 earlier_fit : (cs : List (List Command)) (n : ℕ) → AreSealable cs → AllByRecursion FitsBatch (Earlier cs n)
 earlier_fit cs n ok = (no_commands_fit, each_taken FitsBatch n cs ok.fit)
 
-earlier_open : (cs : List (List Command)) (n : ℕ) → AreSealable cs → AreOpen (Earlier cs n)
-earlier_open cs n ok = (refl, each_taken (λ b. IsTrue (list_all is_open_command b)) n cs ok.are_open)
-
 not_spent : (leaves version : ℕ) → version < leaves → leb leaves version ≡ false
 not_spent leaves version lt = elim (leb_tells leaves version) [ inl t ↦ absurd (omega (arith, t.1)) | inr t ↦ t.0 ]
 
