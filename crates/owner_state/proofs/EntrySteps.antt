@@ -10,17 +10,16 @@ use Rattle.vo_spec.specs.Batches.{FitsBatch}
 use Rattle.vo_spec.specs.Journals.{FitsEntry, batches_of}
 use Rattle.vo_spec.specs.Replies.{FitsProofs, proofs_bytes}
 use Rattle.vo_spec.specs.Owners.{IsTakenEntry, IsHonestEntry, AreOwned, AreTaken}
-use Rattle.vo_spec.specs.Honest.{Stored, AreOpen, is_open_command, after_work, work_all, honest_proofs, honest_record, honest_trees}
+use Rattle.vo_spec.specs.Honest.{Stored, is_open_command, after_work, work_all, honest_proofs, honest_record, honest_trees}
 use Rattle.vo_laws.proofs.StepLaws.{trees_follow, no_commands_fit, no_trees_before, both_take}
-use Rattle.vo_laws.proofs.EntryLaws.{owned_first, owned_grows, owned_open, taken_first, taken_grows, are_open, batches_fit, all_fit}
+use Rattle.vo_laws.proofs.EntryLaws.{owned_first, owned_grows, taken_first, taken_grows, batches_fit, all_fit}
 use Rattle.vo_laws.proofs.ProofSizes.{honest_proofs_fit}
 use Rattle.owner_state.specs.Standing.{IsRecorded, IsTakenOn, IsHonestOn}
 use Rattle.owner_state.specs.Walking.{GoesOn}
 
--- Batches that fit and are open, and the trees that they make.
+-- Batches that fit, and the trees that they make.
 pub record Made (earlier : List (List Command)) (stored : List Stored) : Type 0 where
   pub fit : AllByRecursion FitsBatch earlier
-  pub are_open : AreOpen earlier
   pub trees : stored ≡ honest_trees earlier
 
 pub taken_is : (key : List ℕ) (earlier : List (List Command)) (stored : List Stored) (e : Entry) → Made earlier stored → FitsBatch e.batch.commands
@@ -33,7 +32,7 @@ taken_is key earlier stored e m fits = (there, back)
     there : IsTakenOn key (length earlier) stored e → IsTakenEntry key earlier e
     there t = record {
       written = t.written;
-      accepted = (both_take earlier e.batch.commands m.fit m.are_open fits t.written).0 (subst (λ (ss : List Stored). IsOk (work_all e.batch.commands ss)) m.trees t.accepted);
+      accepted = (both_take earlier e.batch.commands m.fit fits).0 (subst (λ (ss : List Stored). IsOk (work_all e.batch.commands ss)) m.trees t.accepted);
       record_is = t.recorded.record_is ∙ ap (honest_record key (length earlier)) behind;
       signed = t.recorded.signed;
     }
@@ -41,7 +40,7 @@ taken_is key earlier stored e m fits = (there, back)
     back : IsTakenEntry key earlier e → IsTakenOn key (length earlier) stored e
     back t = record {
       written = t.written;
-      accepted = subst (λ (ss : List Stored). IsOk (work_all e.batch.commands ss)) (sym m.trees) ((both_take earlier e.batch.commands m.fit m.are_open fits t.written).1 t.accepted);
+      accepted = subst (λ (ss : List Stored). IsOk (work_all e.batch.commands ss)) (sym m.trees) ((both_take earlier e.batch.commands m.fit fits).1 t.accepted);
       recorded = record { record_is = t.record_is ∙ ap (honest_record key (length earlier)) (sym behind); signed = t.signed };
     }
 
@@ -75,7 +74,6 @@ taken_more key x xs stored e found fit fits taken trees g =
     let long : length (x ∷ xs) ≡ length earlier = ap (λ (n : ℕ). suc n) (sym (length-map xs (λ (y : Entry). y.batch.commands))) in
     let made : Made earlier stored = record {
       fit = (no_commands_fit, fit_behind);
-      are_open = (refl, are_open key (x ∷ xs) taken);
       trees = trees ∙ sym (no_trees_before (batches_of xs));
     } in
     let is = taken_is key earlier stored e made fits.batch in
@@ -109,13 +107,13 @@ taken_at_first key (x ∷ xs) stored e found none trees g = absurd (omega arith)
 -- Journals of an owner.
 
 owned_made : (key : List ℕ) (es : List Entry) (stored : List Stored) → AllByRecursion FitsEntry es → AreOwned key es → stored ≡ honest_trees (batches_of es) → Made (batches_of es) stored
-owned_made key es stored fit owned trees = record { fit = batches_fit es fit; are_open = owned_open key es owned; trees = trees }
+owned_made key es stored fit owned trees = record { fit = batches_fit es fit; trees = trees }
 
 pub owned_proofs_fit : (key : List ℕ) (es : List Entry) (stored : List Stored) (e : Entry) → AllByRecursion FitsEntry es → FitsEntry e → AreOwned key es → stored ≡ honest_trees (batches_of es)
     → IsTrue (list_all is_open_command e.batch.commands) → FitsProofs (honest_proofs e.batch.commands stored)
 owned_proofs_fit key es stored e fit fits owned trees written =
     subst (λ (ss : List Stored). FitsProofs (honest_proofs e.batch.commands ss)) (sym trees)
-    (honest_proofs_fit (batches_of es) e.batch.commands (batches_fit es fit) (owned_open key es owned) fits.batch written)
+    (honest_proofs_fit (batches_of es) e.batch.commands (batches_fit es fit) fits.batch)
 
 owned_trees : (es : List Entry) (stored : List Stored) (e : Entry) → stored ≡ honest_trees (batches_of es) → after_work stored e.batch.commands ≡ honest_trees (batches_of (es ++ e ∷ []))
 owned_trees es stored e trees =
@@ -138,7 +136,7 @@ pub owned_at_first : (key : List ℕ) (es : List Entry) (stored : List Stored) (
     → GoesOn ((e.batch.commands ≡ []) × IsHonestOn key 0 stored e) (after_work stored e.batch.commands) found
     → GoesOn (AreOwned key (es ++ e ∷ [])) (honest_trees (batches_of (es ++ e ∷ []))) found
 owned_at_first key [] stored e found none fits trees g =
-    let is = honest_is key [] stored e (record { fit = tt; are_open = tt; trees = trees }) fits.batch in
+    let is = honest_is key [] stored e (record { fit = tt; trees = trees }) fits.batch in
     goes_on ((e.batch.commands ≡ []) × IsHonestOn key 0 stored e) (AreOwned key (e ∷ [])) (after_work stored e.batch.commands) (honest_trees (batches_of (e ∷ [])))
     ((λ h. (owned_first key e).1 (h.0, is.0 h.1)), (λ a. let h = (owned_first key e).0 a in (h.0, is.1 h.1)))
     (owned_trees [] stored e trees) found g

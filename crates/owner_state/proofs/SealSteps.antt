@@ -103,8 +103,7 @@ long cs n batch i =
 proofs_for : (cs : List (List Command)) (n : ℕ) (batch : List Command) (stored : List Stored) → AreSealable cs → IsNext cs n batch → stored ≡ honest_trees (take n cs) → FitsProofs (honest_proofs batch stored)
 proofs_for cs n batch stored ok i e =
     subst (λ (ss : List Stored). FitsProofs (honest_proofs batch ss)) (sym e)
-    (honest_proofs_fit (take n cs) batch (each_taken FitsBatch n cs ok.fit) (each_taken (λ b. IsTrue (list_all is_open_command b)) n cs ok.are_open)
-    (each_at FitsBatch cs n batch ok.fit i.there i.is) (each_at (λ b. IsTrue (list_all is_open_command b)) cs n batch ok.are_open i.there i.is))
+    (honest_proofs_fit (take n cs) batch (each_taken FitsBatch n cs ok.fit) (each_at FitsBatch cs n batch ok.fit i.there i.is))
 
 -- what seal_next asks of a batch
 pub record IsReady (batch : List Command) (stored : List Stored) : Type 0 where
@@ -126,9 +125,6 @@ Earlier cs n = [] ∷ take n cs
 
 earlier_fit : (cs : List (List Command)) (n : ℕ) → AreSealable cs → AllByRecursion FitsBatch (Earlier cs n)
 earlier_fit cs n ok = (no_commands_fit, each_taken FitsBatch n cs ok.fit)
-
-earlier_open : (cs : List (List Command)) (n : ℕ) → AreSealable cs → AreOpen (Earlier cs n)
-earlier_open cs n ok = (refl, each_taken (λ b. IsTrue (list_all is_open_command b)) n cs ok.are_open)
 
 not_spent : (leaves version : ℕ) → version < leaves → leb leaves version ≡ false
 not_spent leaves version lt = elim (leb_tells leaves version) [ inl t ↦ absurd (omega (arith, t.1)) | inr t ↦ t.0 ]
@@ -168,7 +164,7 @@ next_sealed secret cs n batch before after ok s i done =
     let many : length (Earlier cs n) ≡ n + 1 = long cs n batch i in
     let trees_before : before.tables ≡ honest_trees (Earlier cs n) = s.trees ∙ sym (no_trees_before (take n cs)) in
     let accepted : IsOk (apply_batch batch (tables_after (Earlier cs n))) =
-    (both_take (Earlier cs n) batch (earlier_fit cs n ok) (earlier_open cs n ok) r.fits r.written).0
+    (both_take (Earlier cs n) batch (earlier_fit cs n ok) r.fits).0
     (subst (λ (ss : List Stored). IsOk (work_all batch ss)) trees_before (work_accepted batch before.tables after.tables done.1)) in
     record {
       within = omega arith;
@@ -202,7 +198,7 @@ not_sealed secret cs n batch before why ok s i told known =
     refused : (index : ℕ) (fault : CommandFault) → work_from 0 batch before.tables ≡ Err (index, fault) → apply_batch batch (tables_after (Earlier cs n)) ≡ Err (index, fault)
     refused index fault e =
         let r = ready cs n batch before.tables ok i s.trees in
-        let z = stands (Earlier cs n) (earlier_fit cs n ok) (earlier_open cs n ok) in
+        let z = stands (Earlier cs n) (earlier_fit cs n ok) in
         gives_plain (λ (ss : List Stored). ss) batch before.tables (tables_after (Earlier cs n)) (Err (batch_fault.Command index fault)) r.written r.fits.each e
         (subst (λ (ss : List Stored). StandForTables ss (tables_after (Earlier cs n))) (sym trees_before) z.0) z.1
 

@@ -12,7 +12,7 @@ use Rattle.vo_spec.specs.Owners.{IsLoaded}
 use Rattle.vo_spec.specs.Trees.{RowTree}
 use Rattle.vo_spec.specs.Replies.{Reply, FitsReply}
 use Rattle.vo_spec.specs.Honest.{Stored, catalog_of, honest_trees, honest_reply, reply_of}
-use Rattle.vo_laws.proofs.EntryLaws.{all_fit, are_open}
+use Rattle.vo_laws.proofs.EntryLaws.{all_fit}
 use Rattle.vo_laws.proofs.ReplyFits.{reply_fits}
 use Rattle.vo_laws.proofs.StandingLaws.{stands}
 use Rattle.vo_laws.proofs.StoredFits.{honest_separated}
@@ -29,7 +29,6 @@ unfolding IsLoaded
 loaded_taken key journal es stored loaded trees_are = record {
   some = loaded.2;
   fit = journal_fits journal es loaded.0;
-  written = are_open key es loaded.1;
   trees_are = trees_are;
 }
 
@@ -47,8 +46,8 @@ module _ (es : List Entry) (stored : List Stored) (taken : IsTaken es stored) wh
   pub taken_standing : IsStanding stored
   taken_standing =
       let fits = all_fit es taken.fit in
-      let s = stands batches fits taken.written in
-      subst IsStanding (sym taken.trees_are) (record { tables = tables_after batches; stand = s.0; fit = s.1; separated = honest_separated batches fits taken.written })
+      let s = stands batches fits in
+      subst IsStanding (sym taken.trees_are) (record { tables = tables_after batches; stand = s.0; fit = s.1; separated = honest_separated batches fits })
 
   module _ (q : Query) (e : Entry) (found : slice_get es (length es - 1) ≡ Some e) where
     pub honest : honest_reply q e.rec e.signature stored ≡ record { rec = e.rec; signature = e.signature; catalog = catalog_of stored; trees = proofs_of q stored }
@@ -73,4 +72,4 @@ module _ (es : List Entry) (stored : List Stored) (taken : IsTaken es stored) wh
       pub reply_within : FitsReply (reply_with signature catalog trees)
       reply_within =
           let fits = entry_at es (length es - 1) e taken.fit found in
-          subst FitsReply is_honest (reply_fits batches q e.rec e.signature (all_fit es taken.fit) taken.written fits.rec fits.signature)
+          subst FitsReply is_honest (reply_fits batches q e.rec e.signature (all_fit es taken.fit) fits.rec fits.signature)

@@ -13,7 +13,7 @@ seal_next-requires-clause-fits c = subst FitsBatch (sym c.new.ensures) no_comman
 
 pub seal_next-requires-clause-proofs : goal.seal_next-requires-clause-proofs
 seal_next-requires-clause-proofs c =
-    subst (λ (xs : List Command). FitsProofs (honest_proofs xs c.new-2.result)) (sym c.new.ensures) (honest_proofs_fit [] [] tt tt no_commands_fit refl)
+    subst (λ (xs : List Command). FitsProofs (honest_proofs xs c.new-2.result)) (sym c.new.ensures) (honest_proofs_fit [] [] tt no_commands_fit)
 
 pub returns : goal.returns
 returns c =
