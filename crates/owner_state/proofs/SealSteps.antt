@@ -199,7 +199,7 @@ not_sealed secret cs n batch before why ok s i told known =
     refused index fault e =
         let r = ready cs n batch before.tables ok i s.trees in
         let z = stands (Earlier cs n) (earlier_fit cs n ok) in
-        gives_plain (λ (ss : List Stored). ss) batch before.tables (tables_after (Earlier cs n)) (Err (batch_fault.Command index fault)) r.written r.fits.each e
+        gives_plain (λ (ss : List Stored). ss) batch before.tables (tables_after (Earlier cs n)) (Err (batch_fault.Command index fault)) r.fits.each e
         (subst (λ (ss : List Stored). StandForTables ss (tables_after (Earlier cs n))) (sym trees_before) z.0) z.1
 
     by_fault : (f : SealFault) → Seals secret (n + 1) before batch (Err f) → f ≢ Memory → seal_fault (leaves_of secret.lms) (Earlier cs n) (batch ∷ drop (n + 1) cs) ≡ Some f
