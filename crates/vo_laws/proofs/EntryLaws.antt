@@ -9,7 +9,7 @@ use Rattle.vo_spec.specs.declared.records.Record.{Record}
 use Rattle.vo_spec.specs.declared.records.Entry.{Entry}
 use Rattle.vo_spec.specs.Batches.{FitsBatch}
 use Rattle.vo_spec.specs.Journals.{FitsEntry, Holds, batches_of, tables_at}
-use Rattle.vo_spec.specs.Honest.{AreOpen, StandForTables, honest_trees, honest_record}
+use Rattle.vo_spec.specs.Honest.{StandForTables, honest_trees, honest_record}
 use Rattle.vo_spec.specs.Owners.{IsSigned, IsTakenEntry, IsHonestEntry, AreOwnedAfter, AreOwned, AreTakenAfter, AreTaken}
 use Rattle.vo_laws.proofs.TreeFits.{each_taken, each_dropped}
 use Rattle.vo_laws.proofs.StandingLaws.{stands}
@@ -130,20 +130,6 @@ module _ (key : List ℕ) where
 
   -- What each of them holds.
 
-  open_after : (earlier : List (List Command)) (es : List Entry) → AreTakenAfter key earlier es → AreOpen (batches_of es)
-  open_after earlier [] all = tt
-  open_after earlier (e ∷ es) all = (all.0.written, open_after (earlier ++ e.batch.commands ∷ []) es all.1)
-
-  pub owned_open : (es : List Entry) → AreOwned key es → AreOpen (batches_of es)
-  unfolding AreOwned
-  owned_open [] all = tt
-  owned_open (e ∷ es) all = open_after [] (e ∷ es) (owned_taken_after [] (e ∷ es) all.1)
-
-  pub are_open : (es : List Entry) → AreTaken key es → AreOpen (batches_of (drop 1 es))
-  unfolding AreTaken
-  are_open [] all = tt
-  are_open (e ∷ es) all = open_after ([] ∷ []) es all.2
-
   record HoldsAt (earlier : List (List Command)) (es : List Entry) (v : ℕ) (e : Entry) : Type 0 where
     record_is : e.rec ≡ honest_record key (length earlier + v) (honest_trees (earlier ++ batches_of (take (suc v) es)))
     signed : IsSigned key e.rec e.signature
@@ -205,14 +191,6 @@ fit_at v es all = batches_fit (take v (drop 1 es)) (each_taken FitsEntry v (drop
 
 pub all_fit : (es : List Entry) → AllByRecursion FitsEntry es → AllByRecursion FitsBatch (batches_of (drop 1 es))
 all_fit es all = batches_fit (drop 1 es) (each_dropped FitsEntry 1 es all)
-
-each_open : (v : ℕ) (es : List Entry) → AreOpen (batches_of es) → AreOpen (batches_of (take v es))
-each_open zero es all = tt
-each_open (suc v) [] all = tt
-each_open (suc v) (e ∷ es) all = (all.0, each_open v es all.1)
-
-pub open_at : (key : List ℕ) (v : ℕ) (es : List Entry) → AreTaken key es → AreOpen (batches_of (take v (drop 1 es)))
-open_at key v es all = each_open v (drop 1 es) (are_open key es all)
 
 pub stand_at : (key : List ℕ) (v : ℕ) (es : List Entry) → AreTaken key es → AllByRecursion FitsEntry es
     → StandForTables (honest_trees (batches_of (take v (drop 1 es)))) (tables_at v es)

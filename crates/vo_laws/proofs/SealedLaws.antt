@@ -1,7 +1,7 @@
 -- What an owner seals: its entries fit their bytes, and are those of an owner where their signatures are valid.
 use Rattle.std.proofs.Common.{◌≡◌, ℕ, ◌+◌, ◌^◌, ◌<◌, ◌≤◌, List, [], ◌∷◌, ◌++◌, Option, Some, None, length, refl, sym, ap, ◌∙◌, subst, append_assoc, arith}
-use Rattle.std.specs.Prelude.{IsOk, IsTrue}
-use Rattle.std.specs.List.{list_all, AllByRecursion}
+use Rattle.std.specs.Prelude.{IsOk}
+use Rattle.std.specs.List.{AllByRecursion}
 use Rattle.std.proofs.lemmas.List.{length-append}
 use Rattle.vo_spec.specs.declared.signatures.OtsType.{OtsType}
 use Rattle.vo_spec.specs.declared.signatures.OtsType.TheVariants.{W1, W2, W4, W8}
@@ -18,7 +18,7 @@ use Rattle.vo_spec.specs.Lms.{public_bytes, key_lms, key_ots, signature_len_by, 
 use Rattle.vo_spec.specs.Secret.{Secret, tree_node, public_of_secret}
 use Rattle.vo_spec.specs.Records.{record_bytes}
 use Rattle.vo_spec.specs.Journals.{most_signature, FitsEntry, batches_of}
-use Rattle.vo_spec.specs.Honest.{is_open_command, AreOpen, honest_trees, honest_record, sealed_entry, sealed_after, sealed}
+use Rattle.vo_spec.specs.Honest.{honest_trees, honest_record, sealed_entry, sealed_after, sealed}
 use Rattle.vo_spec.specs.Owners.{IsSigned, IsHonestEntry, AreOwnedAfter, AreOwned}
 use Rattle.vo_laws.specs.Sealing.{AreAcceptedAfter, SignsValidly}
 use Rattle.vo_laws.proofs.StoredFits.{record_fits}
@@ -88,12 +88,12 @@ sealed_entry_fits secret earlier batch sixteen fits batch_fits few short = recor
 
 -- Entries are those of an owner.
 
-pub sealed_entry_is_honest : (secret : Secret) (earlier : List (List Command)) (batch : List Command) → IsTrue (list_all is_open_command batch)
+pub sealed_entry_is_honest : (secret : Secret) (earlier : List (List Command)) (batch : List Command)
     → IsOk (apply_batch batch (tables_after earlier)) → IsSigned (public_of_secret secret) (sealed_entry secret earlier batch).rec (sealed_entry secret earlier batch).signature
     → IsHonestEntry (public_of_secret secret) earlier (sealed_entry secret earlier batch)
 unfolding sealed_entry
-sealed_entry_is_honest secret earlier batch o accepted signed = record {
-  taken = record { written = o; accepted = accepted; record_is = refl; signed = signed };
+sealed_entry_is_honest secret earlier batch accepted signed = record {
+  taken = record { accepted = accepted; record_is = refl; signed = signed };
   proofs_are = refl;
 }
 
@@ -104,13 +104,13 @@ commands_are : (secret : Secret) (earlier : List (List Command)) (batch : List C
 unfolding sealed_entry
 commands_are secret earlier batch = refl
 
-owned_after : (secret : Secret) (earlier batches : List (List Command)) → AreOpen batches → AreAcceptedAfter earlier batches
+owned_after : (secret : Secret) (earlier batches : List (List Command)) → AreAcceptedAfter earlier batches
     → AllByRecursion (Signed secret) (sealed_after secret earlier batches) → AreOwnedAfter (public_of_secret secret) earlier (sealed_after secret earlier batches)
-owned_after secret earlier [] o accepted signed = tt
-owned_after secret earlier (batch ∷ batches) o accepted signed = (
-  sealed_entry_is_honest secret earlier batch o.0 accepted.0 signed.0,
+owned_after secret earlier [] accepted signed = tt
+owned_after secret earlier (batch ∷ batches) accepted signed = (
+  sealed_entry_is_honest secret earlier batch accepted.0 signed.0,
   subst (λ b. AreOwnedAfter (public_of_secret secret) (earlier ++ b ∷ []) (sealed_after secret (earlier ++ batch ∷ []) batches)) (sym (commands_are secret earlier batch))
-      (owned_after secret (earlier ++ batch ∷ []) batches o.1 accepted.1 signed.1),
+      (owned_after secret (earlier ++ batch ∷ []) batches accepted.1 signed.1),
 )
 
 -- batches that are accepted are so behind a batch of no commands too
@@ -121,11 +121,11 @@ accepted_behind earlier (batch ∷ batches) accepted = (
   accepted_behind (earlier ++ batch ∷ []) batches accepted.1,
 )
 
-pub sealed_are_owned : (secret : Secret) (batches : List (List Command)) → AreOpen batches → AreAcceptedAfter [] batches
+pub sealed_are_owned : (secret : Secret) (batches : List (List Command)) → AreAcceptedAfter [] batches
     → AllByRecursion (λ (e : Entry). IsSigned (public_of_secret secret) e.rec e.signature) (sealed secret batches) → AreOwned (public_of_secret secret) (sealed secret batches)
 unfolding sealed AreOwned
-sealed_are_owned secret batches o accepted signed =
-    (commands_are secret [] [], owned_after secret [] ([] ∷ batches) (refl, o) (refl, accepted_behind [] batches accepted) signed)
+sealed_are_owned secret batches accepted signed =
+    (commands_are secret [] [], owned_after secret [] ([] ∷ batches) (refl, accepted_behind [] batches accepted) signed)
 
 entry_signed : (secret : Secret) (earlier : List (List Command)) (batch : List Command) → SignsValidly secret → length earlier < leaves_of secret.lms → Signed secret (sealed_entry secret earlier batch)
 unfolding sealed_entry honest_record

@@ -1,7 +1,7 @@
 //! Laws of journals: what an owner seals, what a store takes, and what their entries hold.
 
-ghost use Rattle.std.specs.Prelude.{◌≡◌, ◌↔◌, ℕ, ◌*◌, ◌^◌, ◌≤◌, ◌<◌, List, [], ◌∷◌, ◌++◌, take, drop, slice_get, Some, Err, IsOk, IsTrue, length};
-ghost use Rattle.std.specs.List.{AllByRecursion, list_all};
+ghost use Rattle.std.specs.Prelude.{◌≡◌, ◌↔◌, ℕ, ◌*◌, ◌^◌, ◌≤◌, ◌<◌, List, [], ◌∷◌, ◌++◌, take, drop, slice_get, Some, Err, IsOk, length};
+ghost use Rattle.std.specs.List.{AllByRecursion};
 ghost use Rattle.vo_spec.specs.declared.records.Record.{Record};
 ghost use Rattle.vo_spec.specs.declared.records.Entry.{Entry};
 ghost use Rattle.vo_spec.specs.declared.tables.Command.{Command};
@@ -20,7 +20,7 @@ ghost use Rattle.vo_spec.specs.Removes.{remove_proof, replace_proof};
 ghost use Rattle.vo_spec.specs.TreeBytes.{tree_bytes};
 ghost use Rattle.vo_spec.specs.Journals.{most_signature, FitsEntry, Holds, batches_of, tables_at};
 ghost use Rattle.vo_spec.specs.Replies.{FitsProofs};
-ghost use Rattle.vo_spec.specs.Honest.{StandForTables, AreOpen, is_open_command, honest_proofs, honest_record, honest_trees, work_all, after_work, sealed, sealed_entry};
+ghost use Rattle.vo_spec.specs.Honest.{StandForTables, honest_proofs, honest_record, honest_trees, work_all, after_work, sealed, sealed_entry};
 ghost use Rattle.vo_laws.specs.Sealing.{AreAcceptedAfter, SignsValidly};
 
 /// The trees and the tables of one more batch are what it makes of those before it, and one of no commands
@@ -59,10 +59,10 @@ pub fn sealed_journals_are_owned()
         → length batches < 2 ^ 64 → AllByRecursion (λ (e : Entry). length e.signature ≤ most_signature) (sealed secret batches)
         → AllByRecursion FitsEntry (sealed secret batches) }
     ensures entry_is_honest { (secret : Secret) (earlier : List (List Command)) (batch : List Command)
-        → IsTrue (list_all is_open_command batch) → IsOk (apply_batch batch (tables_after earlier))
+        → IsOk (apply_batch batch (tables_after earlier))
         → IsSigned (public_of_secret secret) (sealed_entry secret earlier batch).rec (sealed_entry secret earlier batch).signature
         → IsHonestEntry (public_of_secret secret) earlier (sealed_entry secret earlier batch) }
-    ensures owned { (secret : Secret) (batches : List (List Command)) → AreOpen batches → AreAcceptedAfter [] batches
+    ensures owned { (secret : Secret) (batches : List (List Command)) → AreAcceptedAfter [] batches
         → AllByRecursion (λ (e : Entry). IsSigned (public_of_secret secret) e.rec e.signature) (sealed secret batches)
         → AreOwned (public_of_secret secret) (sealed secret batches) }
     ensures signed { (secret : Secret) (batches : List (List Command)) → SignsValidly secret → length batches < leaves_of secret.lms
@@ -90,7 +90,7 @@ pub fn journals_grow_by_entries()
 {}
 
 /// Each entry that a store takes holds the record of the honest trees after the batches of its version, signed;
-/// these batches are open and fit, and the trees stand for that version's tables.
+/// these batches fit, and the trees stand for that version's tables.
 pub fn journals_hold_honest_records()
     ensures record_is { (key : List ℕ) (es : List Entry) (version : ℕ) (e : Entry) → AreTaken key es → slice_get es version ≡ Some e
         → e.rec ≡ honest_record key version (honest_trees (batches_of (take version (drop 1 es)))) }
@@ -99,11 +99,8 @@ pub fn journals_hold_honest_records()
     ensures held { (key : List ℕ) (es : List Entry) (rec : Record) → AreTaken key es → Holds es rec
         → rec ≡ honest_record key rec.version (honest_trees (batches_of (take rec.version (drop 1 es)))) }
     ensures batches_fit { (es : List Entry) → AllByRecursion FitsEntry es → AllByRecursion FitsBatch (batches_of es) }
-    ensures owned_open { (key : List ℕ) (es : List Entry) → AreOwned key es → AreOpen (batches_of es) }
     ensures all_fit { (es : List Entry) → AllByRecursion FitsEntry es → AllByRecursion FitsBatch (batches_of (drop 1 es)) }
-    ensures are_open { (key : List ℕ) (es : List Entry) → AreTaken key es → AreOpen (batches_of (drop 1 es)) }
     ensures fit_at { (version : ℕ) (es : List Entry) → AllByRecursion FitsEntry es → AllByRecursion FitsBatch (batches_of (take version (drop 1 es))) }
-    ensures open_at { (key : List ℕ) (version : ℕ) (es : List Entry) → AreTaken key es → AreOpen (batches_of (take version (drop 1 es))) }
     ensures stand_at { (key : List ℕ) (version : ℕ) (es : List Entry) → AreTaken key es → AllByRecursion FitsEntry es
         → StandForTables (honest_trees (batches_of (take version (drop 1 es)))) (tables_at version es) }
 {}

@@ -1,9 +1,9 @@
 -- What an honest owner and an honest store make of batches: the trees of the tables, the proofs of a batch,
 -- catalogs and records, the journal, and the reply to a query.
-use Rattle.std.specs.Prelude.{◌≡◌, ℕ, ◌-◌, Bool, true, false, IsTrue, not, if◌then◌else◌, List, [], ◌∷◌, ◌++◌, map, length, fold, filter, find, drop, Option, is_some, Result, Ok, Err, slice_get, bytes_eq, option_map}
+use Rattle.std.specs.Prelude.{◌≡◌, ℕ, ◌-◌, not, if◌then◌else◌, List, [], ◌∷◌, ◌++◌, map, length, fold, filter, find, drop, Option, is_some, Result, Ok, Err, slice_get, bytes_eq, option_map}
 use Rattle.std.specs.Option.{option_map_or}
 use Rattle.std.specs.Result.{result_unwrap_or}
-use Rattle.std.specs.List.{AllZip, AllByRecursion, list_all}
+use Rattle.std.specs.List.{AllZip, AllByRecursion}
 use Rattle.vo_spec.specs.declared.values.Row.{Row}
 use Rattle.vo_spec.specs.declared.tables.Schema.{Schema}
 use Rattle.vo_spec.specs.declared.tables.Table.{Table}
@@ -59,17 +59,6 @@ pub record StandsForTable (s : Stored) (t : Table) : Type 0 where
 
 abbrev pub StandForTables : List Stored → List Table → Type 0
 StandForTables = AllZip StandsForTable
-
--- a command that leaves each row as it is, or drops it with its table
-abbrev pub is_open_command : Command → Bool
-is_open_command (Create name columns key) = true
-is_open_command (Drop name) = true
-is_open_command (Insert name values) = true
-is_open_command (Update name sets column value) = false
-is_open_command (Delete name column value) = false
-
-abbrev pub AreOpen : List (List Command) → Type 0
-AreOpen = AllByRecursion (λ batch. IsTrue (list_all is_open_command batch))
 
 -- Commands on trees.
 

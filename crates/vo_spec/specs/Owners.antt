@@ -1,7 +1,6 @@
 -- Which journals an owner has written, and which a store takes: each entry signed by the leaf of its version,
 -- and its record that of the honest trees.
 use Rattle.std.specs.Prelude.{◌≡◌, ℕ, ◌<◌, List, [], ◌∷◌, ◌++◌, length, Some, IsOk, IsTrue}
-use Rattle.std.specs.List.{list_all}
 use Rattle.vo_spec.specs.declared.tables.Command.{Command}
 use Rattle.vo_spec.specs.declared.records.Record.{Record}
 use Rattle.vo_spec.specs.declared.records.Entry.{Entry}
@@ -10,17 +9,15 @@ use Rattle.vo_spec.specs.Lms.{leaf_of, lms_valid}
 use Rattle.vo_spec.specs.Records.{record_bytes}
 use Rattle.vo_spec.specs.Journals.{Begins, IsJournal}
 use Rattle.vo_spec.specs.Replies.{proofs_bytes}
-use Rattle.vo_spec.specs.Honest.{is_open_command, honest_trees, honest_proofs, honest_record}
+use Rattle.vo_spec.specs.Honest.{honest_trees, honest_proofs, honest_record}
 
 -- the record is signed under the key by the leaf of its version
 pub record IsSigned (key : List ℕ) (rec : Record) (signature : List ℕ) : Type 0 where
   pub leaf : leaf_of key signature ≡ Some rec.version
   pub valid : IsTrue (lms_valid key (record_bytes rec) signature)
 
--- The entry after these batches, which are as many as its version, its proofs aside. Owners write no batches yet
--- but those that make tables, drop them and insert rows.
+-- the entry after these batches, which are as many as its version, its proofs aside
 pub record IsTakenEntry (key : List ℕ) (earlier : List (List Command)) (e : Entry) : Type 0 where
-  pub written : IsTrue (list_all is_open_command e.batch.commands)
   pub accepted : IsOk (apply_batch e.batch.commands (tables_after earlier))
   pub record_is : e.rec ≡ honest_record key (length earlier) (honest_trees (earlier ++ e.batch.commands ∷ []))
   pub signed : IsSigned key e.rec e.signature

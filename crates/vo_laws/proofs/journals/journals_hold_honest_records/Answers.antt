@@ -1,4 +1,4 @@
-use Rattle.vo_laws.proofs.EntryLaws.{entry_held, held_record, batches_fit, owned_open, all_fit, are_open, fit_at, open_at, stand_at}
+use Rattle.vo_laws.proofs.EntryLaws.{entry_held, held_record, batches_fit, all_fit, fit_at, stand_at}
 use Rattle.vo_laws.proofs.journals.journals_hold_honest_records.Goals as goal
 
 pub returns : goal.returns
@@ -7,10 +7,7 @@ returns c = record {
   signed = λ key es version e all found. (entry_held key es version e all found).signed;
   held = held_record;
   batches_fit = batches_fit;
-  owned_open = owned_open;
   all_fit = all_fit;
-  are_open = are_open;
   fit_at = fit_at;
-  open_at = open_at;
   stand_at = stand_at;
 }
