@@ -8,7 +8,7 @@ use std::test::Fail;
 const CREATE: &str = "CREATE TABLE t (id BIGINT, name TEXT, PRIMARY KEY (id)); COMMIT; ";
 
 // Behind the table t, and two rows of it: the first command that is refused.
-static REFUSED_COMMANDS: [(&str, &str); 11] = [
+static REFUSED_COMMANDS: [(&str, &str); 18] = [
     (CREATE, "refused: command 0 TableExists\n"),
     (
         "INSERT INTO u VALUES (1); COMMIT;",
@@ -51,10 +51,39 @@ static REFUSED_COMMANDS: [(&str, &str); 11] = [
         "INSERT INTO u VALUES (1); COMMIT; INSERT INTO t VALUES (2); COMMIT;",
         "refused: command 0 NoTable\n",
     ),
+    // changes of rows that aren't there or whose column isn't the key, and of what isn't there at all
+    (
+        "UPDATE t SET name = 'z' WHERE id = 2; COMMIT;",
+        "refused: command 0 NoRow\n",
+    ),
+    (
+        "DELETE FROM t WHERE id = 1; DELETE FROM t WHERE id = 1; COMMIT;",
+        "refused: command 1 NoRow\n",
+    ),
+    (
+        "UPDATE t SET name = 'z' WHERE name = 'ann'; COMMIT;",
+        "refused: command 0 NotKey\n",
+    ),
+    (
+        "UPDATE t SET id = 2 WHERE id = 1; COMMIT;",
+        "refused: command 0 BadSet\n",
+    ),
+    (
+        "UPDATE t SET town = 'z' WHERE id = 1; COMMIT;",
+        "refused: command 0 NoColumn\n",
+    ),
+    (
+        "DELETE FROM t WHERE id = 'ann'; COMMIT;",
+        "refused: command 0 TypeMismatch\n",
+    ),
+    (
+        "DROP TABLE t; INSERT INTO t VALUES (2, 'b'); COMMIT;",
+        "refused: command 1 NoTable\n",
+    ),
 ];
 
 // Bytes that are no script.
-static NO_SCRIPTS: [(&[u8], &str); 9] = [
+static NO_SCRIPTS: [(&[u8], &str); 8] = [
     (b"CREATE TABLE t\xff", "refused: not text\n"),
     (b"\xc3", "refused: not text\n"),
     (b"COMMIT;", "refused: sql syntax 0\n"),
@@ -75,11 +104,6 @@ static NO_SCRIPTS: [(&[u8], &str); 9] = [
     (
         b"INSERT INTO nnnnnnnnnnnnnnnnnnnnnnnnnnnnnnnnnnnnnnnnnnnnnnnnnnnnnnnnnnnnnnnn VALUES (1); COMMIT;",
         "refused: sql name\n",
-    ),
-    // what the program doesn't take so far
-    (
-        b"CREATE TABLE t (id BIGINT, PRIMARY KEY (id)); COMMIT; DROP TABLE t; COMMIT;",
-        "refused: sql syntax 0\n",
     ),
 ];
 
