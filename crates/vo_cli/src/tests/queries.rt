@@ -12,7 +12,7 @@ struct Case {
 }
 
 // Rows 1 to 17, which two leaves hold: 1 to 8, and 9 to 17.
-const SEVENTEEN_ROWS: &str = "CREATE TABLE t (id BIGINT, name TEXT, PRIMARY KEY (id)); COMMIT; \
+pub const SEVENTEEN_ROWS: &str = "CREATE TABLE t (id BIGINT, name TEXT, PRIMARY KEY (id)); COMMIT; \
     INSERT INTO t VALUES (1, 'x'); INSERT INTO t VALUES (2, 'x'); INSERT INTO t VALUES (3, 'x'); \
     INSERT INTO t VALUES (4, 'x'); INSERT INTO t VALUES (5, 'x'); INSERT INTO t VALUES (6, 'x'); \
     INSERT INTO t VALUES (7, 'x'); INSERT INTO t VALUES (8, 'x'); INSERT INTO t VALUES (9, 'x'); \

@@ -1,5 +1,6 @@
 //! Scripts that `seal` refuses, and those at the edge of what it takes.
 use crate::tests::folder::Folder;
+use crate::tests::queries::SEVENTEEN_ROWS;
 use crate::tests::sealed::TWO_ROWS;
 use std::alloc::{AllocError, Global};
 use std::process::Abort;
@@ -114,6 +115,16 @@ static MOST: [(u8, &str, usize, &str); 2] = [
     (31, "COMMIT; ", 44_524, "refused: key spent\n"),
 ];
 
+// Behind the rows 1 to 17, whose batch has proofs of 5,888 bytes (the j-th is a leaf of 2 + 43 * (j - 1)): the
+// length of the journal. Of the first change both leaves are open, in proofs of 753 bytes, of the second one, in 440;
+// the row of the third stands as its one cell, hidden, in 442.
+static CHANGES: [(&str, usize); 4] = [
+    ("", 10_332),
+    ("DELETE FROM t WHERE id = 1; COMMIT;", 12_475),
+    ("DELETE FROM t WHERE id = 9; COMMIT;", 12_162),
+    ("UPDATE t SET name = 'y' WHERE id = 9; COMMIT;", 12_174),
+];
+
 /// The text of a script that makes so many tables, with this between each two.
 fn tables(alloc: Global, count: u16, between: &str) -> Result<String, AllocError> {
     let mut text = String::new(alloc);
@@ -170,6 +181,16 @@ fn refuses_commands(rt: HostRuntime) -> Result<(), Fail> {
     for (rest, text) in REFUSED_COMMANDS {
         let script = format!(in alloc; "{TWO_ROWS} {rest}")?;
         refuses(&rt, alloc, script.as_bytes(), 8, text)?;
+    }
+    Ok(())
+}
+
+#[test]
+fn seals_changes(rt: HostRuntime) -> Result<(), Fail> {
+    let alloc = rt.alloc();
+    for (rest, length) in CHANGES {
+        let script = format!(in alloc; "{SEVENTEEN_ROWS} {rest}")?;
+        assert_eq!(rt; journal_length(alloc, &script)?, length, "{rest}");
     }
     Ok(())
 }
