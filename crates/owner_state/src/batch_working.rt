@@ -92,7 +92,7 @@ fn put_proof(
     tables: &StoredTables,
     command: &Command,
 ) -> Result<(), AllocError>
-    requires fits { AllByRecursion FitsTree (command_proof command.now tables.now) }
+    requires { AllByRecursion FitsTree (command_proof command.now tables.now) }
     ensures { OnOk result (out.new.items ≡ out.old.items ++ flat_map tree_bytes (command_proof command.now tables.now)) }
 {
     match tables.command_proof(alloc, command)? {

@@ -58,7 +58,7 @@ fn after_batch(
     mut tables: StoredTables,
     batch: &Batch,
 ) -> Result<Option<StoredTables>, AllocError>
-    requires fits { FitsBatch batch.now.commands }
+    requires { FitsBatch batch.now.commands }
     ensures { IfOk result (λ after. GoesOn (IsOk (work_all batch.now.commands tables)) (after_work tables batch.now.commands) after) }
 {
     match tables.apply_batch(alloc, batch) {

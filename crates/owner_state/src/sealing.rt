@@ -40,7 +40,7 @@ impl From<AllocError> for SealFault {
 
 /// The journal of these batches, a version for each, behind version 0, which has no commands.
 pub fn seal(alloc: Global, key: &SecretKey, batches: List<Batch>) -> Result<Vec<u8>, SealFault>
-    requires fit { FitEach batches }
+    requires { FitEach batches }
     ensures journal { IfOk result (λ journal. journal.items ≡ journal_bytes (sealed key.now (commands_of batches))) }
     ensures sealed { IfOk result (λ _. seal_fault (leaves_of key.now.lms) ([] ∷ []) (commands_of batches) ≡ None) }
     ensures fault { IfErr result (λ fault. fault ≢ SealFault.Memory
@@ -56,7 +56,7 @@ pub fn seal(alloc: Global, key: &SecretKey, batches: List<Batch>) -> Result<Vec<
 }
 
 fn seal_each(alloc: Global, key: &SecretKey, batches: List<Batch>) -> Result<Vec<u8>, SealFault>
-    requires fit { FitEach batches }
+    requires { FitEach batches }
     ensures slots { IfOk result (λ slots. slots.items ≡ flat_map slot (sealed key.now (commands_of batches))) }
     ensures sealed { IfOk result (λ _. seal_fault (leaves_of key.now.lms) ([] ∷ []) (commands_of batches) ≡ None) }
     ensures fault { IfErr result (λ fault. fault ≢ SealFault.Memory

@@ -72,7 +72,7 @@ fn text_in(alloc: Global, bytes: &[u8]) -> Result<&str, Stop>
 }
 
 fn journal_of(alloc: Global, key: &SecretKey, batches: List<Batch>) -> Result<Report, Stop>
-    requires fit { FitEach batches }
+    requires { FitEach batches }
     ensures told { Answers (Exactly (seal_said key.now batches)) result }
     ensures inside { IsErrOf result Stop.Outside → ⊥ }
 {

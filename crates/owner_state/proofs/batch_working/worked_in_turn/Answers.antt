@@ -7,8 +7,8 @@ use Rattle.vo_spec.specs.Honest.{honest_proofs}
 use Rattle.owner_state.proofs.BatchSteps.{IsLeft, tree_fits, one_done}
 use Rattle.owner_state.proofs.batch_working.worked_in_turn.Goals as goal
 
-pub put_proof-requires-clause-fits : goal.put_proof-requires-clause-fits
-put_proof-requires-clause-fits c =
+pub put_proof-requires : goal.put_proof-requires
+put_proof-requires c =
     let cs : List Command = c.args.commands.now in
     let onward : drop c.loop-index.index cs ≡ c.index-commands-index.result ∷ drop (c.loop-index.index + 1) cs =
     at_drop_more (λ (xs : List Command). xs) cs c.loop-index.index c.index-commands-index.result (omega arith) ∙ ap (λ (x : Command). x ∷ drop (c.loop-index.index + 1) cs) (sym c.index-commands-index.is) in
