@@ -1,5 +1,5 @@
 -- Which needs can have a key of a node: those whose scans don't visit it have none of its place in the tree.
-use Rattle.std.proofs.Common.{◌≡◌, ℕ, Bool, true, false, cond, List, [], ◌∷◌, ◌++◌, Option, Some, None, inl, inr, refl, sym, ap, ◌∙◌}
+use Rattle.std.proofs.Common.{◌≡◌, ℕ, Bool, true, false, cond, List, [], ◌∷◌, ◌++◌, Option, Some, None, inl, inr, refl, ap, ◌∙◌}
 use Rattle.std.specs.Prelude.{◌&&◌, not, filter, flat_map}
 use Rattle.std.proofs.lemmas.Bool.{and_parts, and_from, and_cases, not-true, not-false, not_from_false, not_from_true}
 use Rattle.vo_spec.specs.declared.keys.Bound.{Bound}
@@ -8,7 +8,7 @@ use Rattle.vo_spec.specs.declared.needs.Need.{Need}
 use Rattle.vo_spec.specs.Values.{key_lt}
 use Rattle.vo_spec.specs.Scans.{is_above, is_below, in_interval, is_empty_interval, ends_above, begins_below, visits}
 use Rattle.vo_spec.specs.Pruned.{going_in, going_on, named}
-use Rattle.vo_spec.specs.Standing.{is_from, is_before, is_between}
+use Rattle.vo_spec.specs.Standing.{is_from, is_before}
 use Rattle.vo_laws.proofs.KeyOrder.{key_lt_back, key_le_le, key_lt_le, key_lt_lt}
 use Rattle.vo_laws.proofs.SeenLaws.{empty_has_none}
 use Rattle.range_proof.specs.Visiting.{Suffice, later, sooner}

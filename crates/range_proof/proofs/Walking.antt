@@ -1,5 +1,5 @@
 -- One child further in a node: what a walk makes of the children to come, and what it says of them.
-use Rattle.std.proofs.Common.{◌≡◌, ℕ, zero, suc, ◌+◌, ◌<◌, ◌≤◌, Bool, true, false, ◌||◌, List, [], ◌∷◌, ◌++◌, length, get_or, drop, Option, Some, None, Err, refl, sym, ap, ◌∙◌, arith, slice_get}
+use Rattle.std.proofs.Common.{◌≡◌, ℕ, ◌+◌, ◌<◌, ◌≤◌, Bool, true, false, ◌||◌, List, [], ◌∷◌, ◌++◌, length, get_or, drop, Option, Err, refl, sym, ap, ◌∙◌, slice_get}
 use Rattle.std.proofs.lemmas.List.{drop_more, drop_all}
 use Rattle.vo_spec.specs.declared.cells.PartEntry.{PartEntry}
 use Rattle.vo_spec.specs.declared.trees.ScanFault.{ScanFault}
@@ -11,7 +11,7 @@ use Rattle.vo_spec.specs.Pruned.{Walk, walk_for, is_any, misses, misses_in, goes
 use Rattle.mb_tree.specs.declared.parts.PartTree.{PartTree}
 use Rattle.mb_tree.specs.View.{part_of, parts_of}
 use Rattle.range_proof.specs.Judging.{Judges}
-use Rattle.range_proof.proofs.Steps.{part_at, no_part_at, first_at, rest_at}
+use Rattle.range_proof.proofs.Steps.{part_at, first_at, rest_at}
 
 -- children before others
 abbrev pub onto : List RowTree → RowTrees → RowTrees

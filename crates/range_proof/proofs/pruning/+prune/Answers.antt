@@ -1,11 +1,10 @@
-use Rattle.std.proofs.Common.{◌≡◌, ◌≤◌, false, map, slice_get, sym, ◌∙◌, arith}
+use Rattle.std.proofs.Common.{◌≡◌, ◌≤◌, false, map, sym, ◌∙◌, arith}
 use Rattle.std.proofs.lemmas.List.{map_push}
 use Rattle.std.proofs.lemmas.Bool.{not-true}
 use Rattle.vo_spec.specs.Parts.{levels, levels_in}
 use Rattle.vo_spec.specs.Trees.{open_parts}
 use Rattle.vo_spec.specs.Pruned.{walk_for, is_any}
 use Rattle.mb_tree.specs.Whole.{value_of}
-use Rattle.mb_tree.specs.View.{part_of}
 use Rattle.mb_tree.proofs.RowLaws.{branch_falls}
 use Rattle.range_proof.proofs.Walking.{pruned_none, prune_step, prune_end}
 use Rattle.range_proof.proofs.pruning.+prune.Goals as goal
