@@ -1,5 +1,5 @@
 -- One child further in a node: what a walk makes of the children to come, and what it says of them.
-use Rattle.std.proofs.Common.{◌≡◌, ℕ, zero, suc, ◌+◌, ◌<◌, ◌≤◌, Bool, true, false, ◌||◌, List, [], ◌∷◌, ◌++◌, length, get_or, drop, Option, Some, None, Err, refl, sym, ap, ◌∙◌, arith, slice_get}
+use Rattle.std.proofs.Common.{◌≡◌, ℕ, ◌+◌, ◌<◌, ◌≤◌, Bool, true, false, ◌||◌, List, [], ◌∷◌, ◌++◌, length, get_or, drop, Option, Err, refl, sym, ap, ◌∙◌, slice_get}
 use Rattle.std.proofs.lemmas.List.{drop_more, drop_all}
 use Rattle.vo_spec.specs.declared.cells.PartEntry.{PartEntry}
 use Rattle.vo_spec.specs.declared.trees.ScanFault.{ScanFault}
@@ -7,11 +7,11 @@ use Rattle.vo_spec.specs.declared.trees.ScanFault.TheVariants.{Missing, Memory}
 use Rattle.vo_spec.specs.declared.needs.Need.{Need}
 use Rattle.vo_spec.specs.Parts.{stub, leaf, inner, none, more}
 use Rattle.vo_spec.specs.Trees.{RowTree, RowTrees, digest, row_family, open_parts}
-use Rattle.vo_spec.specs.Pruned.{Walk, walk_for, misses, misses_in, goes_beyond, goes_beyond_in, pruned_by, pruned_in}
+use Rattle.vo_spec.specs.Pruned.{Walk, walk_for, is_any, misses, misses_in, goes_beyond, goes_beyond_in, pruned_by, pruned_in}
 use Rattle.mb_tree.specs.declared.parts.PartTree.{PartTree}
 use Rattle.mb_tree.specs.View.{part_of, parts_of}
 use Rattle.range_proof.specs.Judging.{Judges}
-use Rattle.range_proof.proofs.Steps.{part_at, no_part_at, first_at, rest_at}
+use Rattle.range_proof.proofs.Steps.{part_at, first_at, rest_at}
 
 -- children before others
 abbrev pub onto : List RowTree → RowTrees → RowTrees
@@ -85,7 +85,8 @@ judge_on Missing a b c d h f = f h
 judge_on Memory a b c d h f = tt
 
 -- where no need goes on, nothing is open
-pub pruned_none : (needs : List Need) (t : RowTree) → pruned_by (walk_for needs) row_family [] t ≡ stub (digest t)
-pruned_none needs (stub d) = refl
-pruned_none needs (leaf es) = refl
-pruned_none needs (inner ss ps) = refl
+pub pruned_none : (needs going : List Need) (t : RowTree) → is_any going ≡ false → pruned_by (walk_for needs) row_family going t ≡ stub (digest t)
+pruned_none needs [] (stub d) e = refl
+pruned_none needs [] (leaf es) e = refl
+pruned_none needs [] (inner ss ps) e = refl
+pruned_none needs (n ∷ ns) t e = absurd (cc)

@@ -1,3 +1,4 @@
 pub mod Finding
 pub mod Lending
 pub mod Judging
+pub mod Visiting

@@ -8,14 +8,25 @@ use crate::intervals::{is_empty_interval, visits};
 use std::alloc::{AllocError, Global};
 use vo_spec::Need;
 
+/// All of them, lent.
+pub fn lend_needs<'n>(alloc: Global, needs: &'n [Need]) -> Result<Vec<&'n Need>, AllocError>
+    ensures { IfOk result (λ all. map lent_need all.items ≡ needs.now) }
+{
+    let mut all = Vec::with_capacity(alloc, needs.len())?;
+    for need in needs {
+        all.push(need)?;
+    }
+    Ok(all)
+}
+
 /// Those whose scans visit the root.
-pub fn going_in<'n>(alloc: Global, needs: &'n [Need]) -> Result<Vec<&'n Need>, AllocError>
-    ensures { IfOk result (λ going. map lent_need going.items ≡ first_going needs.now) }
+pub fn going_in<'n>(alloc: Global, needs: &[&'n Need]) -> Result<Vec<&'n Need>, AllocError>
+    ensures { IfOk result (λ going. map lent_need going.items ≡ first_going (map lent_need needs.now)) }
 {
     let mut going = Vec::new(alloc);
     for need in needs {
         if !is_empty_interval(&need.interval) {
-            going.push(need)?;
+            going.push(*need)?;
         }
     }
     Ok(going)

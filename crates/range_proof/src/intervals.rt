@@ -12,6 +12,8 @@ ghost use Rattle.vo_spec.specs.Scans.{
   begins_below,
   visits as does_visit,
 };
+ghost use Rattle.vo_spec.specs.Standing.{is_between as does_stand_between, is_from as is_at_or_above, is_before as is_under};
+ghost use Rattle.range_proof.specs.Visiting.{later as later_of, sooner as sooner_of};
 
 use vo_spec::{Bound, Interval};
 
@@ -89,5 +91,52 @@ fn begins_below(high: &Bound, lower: Option<&[u8]>) -> bool
         (Bound::Absent, _) | (_, None) => true,
         (Bound::Inclusive(high), Some(lower)) => !key_lt(high.as_bytes(), lower),
         (Bound::Exclusive(high), Some(lower)) => key_lt(lower, high.as_bytes()),
+    }
+}
+
+/// Whether the key is from the one separator on and before the other; a missing one lets it pass.
+pub fn is_between(lower: Option<&[u8]>, upper: Option<&[u8]>, key: &[u8]) -> bool
+    ensures { result ≡ does_stand_between (option_copied lower.entry) (option_copied upper.entry) key.now }
+{
+    is_from(lower, key) && is_before(upper, key)
+}
+
+fn is_from(lower: Option<&[u8]>, key: &[u8]) -> bool
+    ensures { result ≡ is_at_or_above (option_copied lower.entry) key.now }
+{
+    match lower {
+        None => true,
+        Some(lower) => !key_lt(key, lower),
+    }
+}
+
+fn is_before(upper: Option<&[u8]>, key: &[u8]) -> bool
+    ensures { result ≡ is_under (option_copied upper.entry) key.now }
+{
+    match upper {
+        None => true,
+        Some(upper) => key_lt(key, upper),
+    }
+}
+
+/// The greater of two lower separators; a missing one is below all.
+pub fn later<'k>(first: Option<&'k [u8]>, second: Option<&'k [u8]>) -> Option<&'k [u8]>
+    ensures { option_copied result ≡ later_of (option_copied first.entry) (option_copied second.entry) }
+{
+    match (first, second) {
+        (None, _) => second,
+        (Some(_), None) => first,
+        (Some(a), Some(b)) => { if key_lt(a, b) { second } else { first } },
+    }
+}
+
+/// The smaller of two upper separators; a missing one is above all.
+pub fn sooner<'k>(first: Option<&'k [u8]>, second: Option<&'k [u8]>) -> Option<&'k [u8]>
+    ensures { option_copied result ≡ sooner_of (option_copied first.entry) (option_copied second.entry) }
+{
+    match (first, second) {
+        (None, _) => second,
+        (Some(_), None) => first,
+        (Some(a), Some(b)) => { if key_lt(b, a) { second } else { first } },
     }
 }

@@ -1,14 +1,14 @@
 //! Whether a part of a tree is the proof for some needs.
-ghost use Rattle.std.specs.Prelude.{◌≡◌, map, not};
+ghost use Rattle.std.specs.Prelude.{◌≡◌, not};
 ghost use Rattle.std.specs.List.{list_any};
 ghost use Rattle.vo_spec.specs.Pruned.{is_missing, has_surplus, misses, misses_in, goes_beyond, goes_beyond_in, walk_for};
 ghost use Rattle.mb_tree.specs.View.{part_of, parts_of};
-ghost use Rattle.range_proof.specs.Lending.{lent_need};
 ghost use Rattle.range_proof.specs.Judging.{Judges};
 
-use crate::going::{going_in, going_on};
-use crate::naming::{hides_any, named, row_beyond};
+use crate::going::lend_needs;
+use crate::naming::{hides_any, row_beyond};
 use crate::scanning::separator_at;
+use crate::visitors::Visitors;
 use mb_tree::PartTree;
 use std::alloc::Global;
 use vo_spec::{KeyPart, Need, PartEntry, ScanFault};
@@ -18,60 +18,53 @@ use vo_spec::{KeyPart, Need, PartEntry, ScanFault};
 pub fn is_canonical(alloc: Global, tree: &PartTree<'_>, needs: &[Need]) -> Result<bool, ScanFault>
     ensures { Judges result (is_missing needs.now (part_of tree.now)) (not (has_surplus needs.now (part_of tree.now))) }
 {
-    let going = going_in(alloc, needs)?;
-    match judge_node(alloc, tree, needs, &going) {
+    let all = lend_needs(alloc, needs)?;
+    let visitors = Visitors::of_root(alloc, &all)?;
+    match judge_node(alloc, tree, &visitors) {
         Ok(surplus) => Ok(!surplus),
         Err(fault) => Err(fault),
     }
 }
 
 #[cycle(judge)]
-fn judge_node(
+fn judge_node<'k>(
     alloc: Global,
-    tree: &PartTree<'_>,
-    needs: &[Need],
-    going: &[&Need],
+    tree: &'k PartTree<'_>,
+    visitors: &Visitors<'_, 'k>,
 ) -> Result<bool, ScanFault>
-    ensures { let walk = walk_for needs.now in let s = map lent_need going.now in
+    ensures { let walk = walk_for visitors.now.all in let s = visitors.now.going in
         Judges result (misses walk s (part_of tree.now)) (goes_beyond walk s (part_of tree.now)) }
 {
     match tree {
         PartTree::Stub(_) => {
-            if going.is_empty() {
+            if visitors.is_empty() {
                 Ok(false)
             } else {
                 Err(ScanFault::Missing)
             }
         },
-        PartTree::Leaf(entries) => match judge_entries(alloc, entries.as_slice(), needs) {
-            Ok(surplus) => Ok(going.is_empty() || surplus),
+        PartTree::Leaf(entries) => match judge_entries(alloc, entries.as_slice(), visitors) {
+            Ok(surplus) => Ok(visitors.is_empty() || surplus),
             Err(fault) => Err(fault),
         },
         PartTree::Inner {
             separators,
             children,
-        } => match judge_children(
-            alloc,
-            separators.as_slice(),
-            children.as_slice(),
-            needs,
-            going,
-        ) {
-            Ok(surplus) => Ok(going.is_empty() || surplus),
+        } => match judge_children(alloc, separators.as_slice(), children.as_slice(), visitors) {
+            Ok(surplus) => Ok(visitors.is_empty() || surplus),
             Err(fault) => Err(fault),
         },
     }
 }
 
 #[cycle(judge)]
-fn judge_children(
+fn judge_children<'k>(
     alloc: Global,
-    separators: &[KeyPart<'_>],
-    children: &[PartTree<'_>],
-    needs: &[Need],
-    going: &[&Need],
+    separators: &'k [KeyPart<'_>],
+    children: &'k [PartTree<'_>],
+    visitors: &Visitors<'_, 'k>,
 ) -> Result<bool, ScanFault>
-    ensures { let walk = walk_for needs.now in let s = map lent_need going.now in
+    ensures { let walk = walk_for visitors.now.all in let s = visitors.now.going in
         Judges result (misses_in walk s None separators.now (parts_of children.now))
         (goes_beyond_in walk s None separators.now (parts_of children.now)) }
 {
@@ -79,8 +72,8 @@ fn judge_children(
     let mut lower = None;
     for (place, child) in children.iter().enumerate() {
         let upper = separator_at(separators, place);
-        let onward = going_on(alloc, going, lower, upper)?;
-        match judge_node(alloc, child, needs, &onward) {
+        let onward = visitors.onward(alloc, lower, upper)?;
+        match judge_node(alloc, child, &onward) {
             Ok(more) => surplus = surplus || more,
             Err(fault) => return Err(fault),
         }
@@ -92,13 +85,13 @@ fn judge_children(
 fn judge_entries(
     alloc: Global,
     entries: &[PartEntry<'_>],
-    needs: &[Need],
+    visitors: &Visitors<'_, '_>,
 ) -> Result<bool, ScanFault>
-    ensures { let walk = walk_for needs.now in Judges result (list_any walk.lacks entries.now) (list_any walk.exceeds entries.now) }
+    ensures { let walk = walk_for visitors.now.all in Judges result (list_any walk.lacks entries.now) (list_any walk.exceeds entries.now) }
 {
     let mut surplus = false;
     for entry in entries {
-        let columns = named(alloc, needs, entry.key.as_bytes())?;
+        let columns = visitors.named(alloc, entry.key.as_bytes())?;
         if hides_any(&columns, &entry.row) {
             return Err(ScanFault::Missing);
         }

@@ -7,6 +7,7 @@ mod judging;
 mod naming;
 mod pruning;
 mod scanning;
+mod visitors;
 
 pub use judging::is_canonical;
 pub use pruning::prune;

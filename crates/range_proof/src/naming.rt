@@ -1,5 +1,5 @@
 //! Which columns of a row the needs name, and whether a part of the row has these and no others.
-ghost use Rattle.std.specs.Prelude.{◌≡◌, IfOk};
+ghost use Rattle.std.specs.Prelude.{◌≡◌, map, IfOk};
 ghost use Rattle.vo_spec.specs.Pruned.{
   named as named_by,
   has_column as is_among,
@@ -7,6 +7,7 @@ ghost use Rattle.vo_spec.specs.Pruned.{
   row_beyond as goes_beyond,
   shows_beyond as does_show,
 };
+ghost use Rattle.range_proof.specs.Lending.{lent_need};
 
 use crate::intervals::in_interval;
 use crate::scanning::value_in;
@@ -14,8 +15,8 @@ use std::alloc::{AllocError, Global};
 use vo_spec::{Cell, Need, RowPart};
 
 /// The columns that the needs name whose intervals have the key.
-pub fn named(alloc: Global, needs: &[Need], key: &[u8]) -> Result<Vec<u8>, AllocError>
-    ensures { IfOk result (λ columns. columns.items ≡ named_by needs.now key.now) }
+pub fn named(alloc: Global, needs: &[&Need], key: &[u8]) -> Result<Vec<u8>, AllocError>
+    ensures { IfOk result (λ columns. columns.items ≡ named_by (map lent_need needs.now) key.now) }
 {
     let mut columns = Vec::new(alloc);
     for need in needs {

@@ -6,10 +6,9 @@ ghost use Rattle.vo_spec.specs.Trees.{row_family, open_parts};
 ghost use Rattle.vo_spec.specs.Pruned.{pruned, pruned_by, pruned_in, walk_for, shown_entry};
 ghost use Rattle.mb_tree.specs.Whole.{value_of};
 ghost use Rattle.mb_tree.specs.View.{part_of};
-ghost use Rattle.range_proof.specs.Lending.{lent_need};
 
-use crate::going::{going_in, going_on};
-use crate::naming::named;
+use crate::going::lend_needs;
+use crate::visitors::Visitors;
 use attr_digest::hide_cells;
 use mb_tree::{Branch, Node, Nodes, PartTree, Tree, TreeEntry, lend_keys};
 use std::alloc::{AllocError, Global};
@@ -20,30 +19,30 @@ use vo_spec::{Key, KeyPart, List, Need, PartEntry, RowPart};
 pub fn prune<'b>(alloc: Global, tree: &'b Tree, needs: &[Need]) -> Result<PartTree<'b>, AllocError>
     ensures { IfOk result (λ part. part_of part ≡ pruned needs.now tree.now) }
 {
-    let going = going_in(alloc, needs)?;
-    prune_branch(alloc, tree.root(), needs, &going)
+    let all = lend_needs(alloc, needs)?;
+    let visitors = Visitors::of_root(alloc, &all)?;
+    prune_branch(alloc, tree.root(), &visitors)
 }
 
 #[cycle(prune)]
 fn prune_branch<'b>(
     alloc: Global,
     branch: &'b Branch,
-    needs: &[Need],
-    going: &[&Need],
+    visitors: &Visitors<'_, 'b>,
 ) -> Result<PartTree<'b>, AllocError>
     ensures { IfOk result (λ part. part_of part
-        ≡ pruned_by (walk_for needs.now) row_family (map lent_need going.now) branch.now) }
+        ≡ pruned_by (walk_for visitors.now.all) row_family visitors.now.going branch.now) }
 {
-    if going.is_empty() {
+    if visitors.is_empty() {
         return Ok(PartTree::Stub(branch.node_digest()));
     }
     match branch.node() {
-        Node::Leaf(entries) => Ok(PartTree::Leaf(prune_entries(alloc, entries, needs)?)),
+        Node::Leaf(entries) => Ok(PartTree::Leaf(prune_entries(alloc, entries, visitors)?)),
         Node::Inner {
             separators,
             children,
         } => {
-            let children = prune_children(alloc, separators, children, needs, going)?;
+            let children = prune_children(alloc, separators, children, visitors)?;
             let separators = lend_keys(alloc, separators)?;
             Ok(PartTree::Inner {
                 separators,
@@ -58,18 +57,17 @@ fn prune_children<'b>(
     alloc: Global,
     separators: &'b [Rc<Key>],
     children: &'b [Branch],
-    needs: &[Need],
-    going: &[&Need],
+    visitors: &Visitors<'_, 'b>,
 ) -> Result<Nodes<'b>, AllocError>
     ensures { IfOk result (λ parts. parts
-        ≡ pruned_in (walk_for needs.now) row_family (map lent_need going.now) None (map value_of separators.now) (open_parts children.now)) }
+        ≡ pruned_in (walk_for visitors.now.all) row_family visitors.now.going None (map value_of separators.now) (open_parts children.now)) }
 {
     let mut parts = Vec::with_capacity(alloc, children.len())?;
     let mut lower = None;
     for (place, child) in children.iter().enumerate() {
         let upper = separator_at(separators, place);
-        let onward = going_on(alloc, going, lower, upper)?;
-        parts.push(prune_branch(alloc, child, needs, &onward)?)?;
+        let onward = visitors.onward(alloc, lower, upper)?;
+        parts.push(prune_branch(alloc, child, &onward)?)?;
         lower = upper;
     }
     Ok(Nodes::from_vec(parts))
@@ -87,13 +85,13 @@ fn separator_at(separators: &[Rc<Key>], place: usize) -> Option<&[u8]>
 fn prune_entries<'b>(
     alloc: Global,
     entries: &'b [TreeEntry],
-    needs: &[Need],
+    visitors: &Visitors<'_, '_>,
 ) -> Result<List<PartEntry<'b>>, AllocError>
-    ensures { IfOk result (λ shown. shown ≡ map (shown_entry needs.now) (map whole_entry entries.now)) }
+    ensures { IfOk result (λ shown. shown ≡ map (shown_entry visitors.now.all) (map whole_entry entries.now)) }
 {
     let mut shown = Vec::with_capacity(alloc, entries.len())?;
     for entry in entries {
-        shown.push(prune_entry(alloc, entry, needs)?)?;
+        shown.push(prune_entry(alloc, entry, visitors)?)?;
     }
     Ok(List::from_vec(shown))
 }
@@ -101,13 +99,13 @@ fn prune_entries<'b>(
 fn prune_entry<'b>(
     alloc: Global,
     entry: &'b TreeEntry,
-    needs: &[Need],
+    visitors: &Visitors<'_, '_>,
 ) -> Result<PartEntry<'b>, AllocError>
-    ensures { IfOk result (λ shown. shown ≡ shown_entry needs.now (whole_entry entry.now)) }
+    ensures { IfOk result (λ shown. shown ≡ shown_entry visitors.now.all (whole_entry entry.now)) }
 {
     let key = KeyPart::lent(entry.key().as_bytes());
     let cells = entry.cells();
-    let columns = named(alloc, needs, entry.key().as_bytes())?;
+    let columns = visitors.named(alloc, entry.key().as_bytes())?;
     if columns.is_empty() {
         let row = RowPart::Digest(cells.digest());
         return Ok(PartEntry { key, row });

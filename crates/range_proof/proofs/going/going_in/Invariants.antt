@@ -5,4 +5,4 @@ use Rattle.range_proof.proofs.going.going_in.Given as goal
 
 -- those of the needs so far
 abbrev pub invariant-loop-need : goal.invariant-loop-need
-invariant-loop-need l = map lent_need l.going.items ≡ going_in (take l.need-index l.needs)
+invariant-loop-need l = map lent_need l.going.items ≡ going_in (map lent_need (take l.need-index l.needs))

@@ -1,9 +1,8 @@
-use Rattle.std.proofs.Common.{◌≡◌, ◌≤◌, false, ◌||◌, map, refl, arith, Err}
+use Rattle.std.proofs.Common.{◌≡◌, ◌≤◌, false, ◌||◌, refl, arith, Err}
 use Rattle.vo_spec.specs.Parts.{levels, levels_in}
 use Rattle.vo_spec.specs.Pruned.{walk_for, misses, goes_beyond}
 use Rattle.mb_tree.specs.View.{part_of, parts_of}
 use Rattle.mb_tree.proofs.PartLaws.{child_falls}
-use Rattle.range_proof.specs.Lending.{lent_need}
 use Rattle.range_proof.specs.Judging.{Judges}
 use Rattle.range_proof.proofs.Walking.{misses_step, beyond_step, misses_here, judge_on}
 use Rattle.range_proof.proofs.judging.+judge.Goals as goal
@@ -16,21 +15,23 @@ judge_children-judge_node-requires t c =
 
 pub judge_children-returns-in-Err : goal.judge_children-returns-in-Err
 judge_children-returns-in-Err t c =
-    let walk = walk_for c.args.needs.now in
+    let walk = walk_for c.args.visitors.now.all in
+    let next = c.in_ok-onward.onward in
     let child = part_of c.index-children-place.result in
-    let raw : Judges (Err c.in-Err.fault) (misses walk (map lent_need c.deref.result.now) child) (goes_beyond walk (map lent_need c.deref.result.now) child) = c.in-Err.ensures in
-    let told = rw (c.deref.ensures.value, c.in_ok-onward.ensures, c.separator_at-upper.ensures) at raw in
+    let raw : Judges (Err c.in-Err.fault) (misses (walk_for next.all) next.going child) (goes_beyond (walk_for next.all) next.going child) = c.in-Err.ensures in
+    let told = rw (c.in_ok-onward.ensures, c.separator_at-upper.ensures) at raw in
     judge_on c.in-Err.fault _ _ _ _ told
-    (λ here. misses_here walk (map lent_need c.args.going.now) _ c.args.separators.now c.loop-place.place _ _ _ c.loop-place-test.true c.index-children-place.is here c.loop-place.invariant.0)
+    (λ here. misses_here walk c.args.visitors.now.going _ c.args.separators.now c.loop-place.place _ _ _ c.loop-place-test.true c.index-children-place.is here c.loop-place.invariant.0)
 
 pub judge_children-loop-place-preserved : goal.judge_children-loop-place-preserved
 judge_children-loop-place-preserved t c =
-    let walk = walk_for c.args.needs.now in
-    let going = map lent_need c.args.going.now in
+    let walk = walk_for c.args.visitors.now.all in
+    let next = c.in_ok-onward.onward in
+    let going = c.args.visitors.now.going in
     let ss = c.args.separators.now in
-    let raw : (misses walk (map lent_need c.deref.result.now) (part_of c.index-children-place.result) ≡ false)
-    × (c.in-Ok.more ≡ goes_beyond walk (map lent_need c.deref.result.now) (part_of c.index-children-place.result)) = c.in-Ok.ensures in
-    let told = rw (c.deref.ensures.value, c.in_ok-onward.ensures, c.separator_at-upper.ensures) at raw in
+    let raw : (misses (walk_for next.all) next.going (part_of c.index-children-place.result) ≡ false)
+    × (c.in-Ok.more ≡ goes_beyond (walk_for next.all) next.going (part_of c.index-children-place.result)) = c.in-Ok.ensures in
+    let told = rw (c.in_ok-onward.ensures, c.separator_at-upper.ensures) at raw in
     let both : c.if-surplus.surplus ≡ c.loop-place.surplus || c.in-Ok.more = elim c.if-surplus.branch [
       | judge_children-then-surplus w ↦ rw (w.surplus-is, w.if-surplus.true) refl
       | judge_children-else-surplus w ↦ rw (w.surplus-is, w.if-surplus.false) refl

@@ -1,9 +1,8 @@
-use Rattle.std.proofs.Common.{◌≡◌, ◌+◌, ◌*◌, ◌||◌, map, drop, None}
+use Rattle.std.proofs.Common.{◌≡◌, ◌+◌, ◌*◌, ◌||◌, drop, None}
 use Rattle.std.specs.Option.{option_copied}
 use Rattle.vo_spec.specs.Parts.{levels, levels_in}
 use Rattle.vo_spec.specs.Pruned.{misses_in, goes_beyond_in, walk_for}
 use Rattle.mb_tree.specs.View.{part_of, parts_of}
-use Rattle.range_proof.specs.Lending.{lent_need}
 use Rattle.range_proof.proofs.judging.+judge.Given as goal
 
 abbrev pub decreases-judge_node : goal.decreases-judge_node
@@ -15,7 +14,7 @@ decreases-judge_children l = 2 * levels_in (parts_of l.children.now) + 1
 -- no child so far misses anything, and what is told of them goes for all with those to come
 abbrev pub invariant-judge_children-loop-place : goal.invariant-judge_children-loop-place
 invariant-judge_children-loop-place l =
-    (misses_in (walk_for l.needs) (map lent_need l.going) (option_copied l.lower) (drop l.place l.separators) (parts_of (drop l.place l.children))
-    ≡ misses_in (walk_for l.needs) (map lent_need l.going) None l.separators (parts_of l.children))
-    × (l.surplus || goes_beyond_in (walk_for l.needs) (map lent_need l.going) (option_copied l.lower) (drop l.place l.separators) (parts_of (drop l.place l.children))
-    ≡ goes_beyond_in (walk_for l.needs) (map lent_need l.going) None l.separators (parts_of l.children))
+    (misses_in (walk_for l.visitors.all) l.visitors.going (option_copied l.lower) (drop l.place l.separators) (parts_of (drop l.place l.children))
+    ≡ misses_in (walk_for l.visitors.all) l.visitors.going None l.separators (parts_of l.children))
+    × (l.surplus || goes_beyond_in (walk_for l.visitors.all) l.visitors.going (option_copied l.lower) (drop l.place l.separators) (parts_of (drop l.place l.children))
+    ≡ goes_beyond_in (walk_for l.visitors.all) l.visitors.going None l.separators (parts_of l.children))

@@ -1,0 +1,88 @@
+//! The needs as they come to a node of a tree.
+ghost use Rattle.std.specs.Prelude.{◌≡◌, map, not, IfOk};
+ghost use Rattle.std.specs.Option.{option_copied};
+ghost use Rattle.vo_spec.specs.Pruned.{going_in as first_going, going_on as next_going, is_any, named as named_by};
+ghost use Rattle.range_proof.specs.Lending.{lent_need};
+
+use crate::going::{going_in, going_on};
+use crate::intervals::{is_between, later, sooner};
+use crate::naming::named;
+use std::alloc::{AllocError, Global};
+use std::marker::Model;
+use vo_spec::Need;
+
+/// Those of some needs whose scans visit a node.
+#[derive(Drop)]
+pub struct Visitors<'n, 'k> {
+    all: &'n [&'n Need],
+    going: Vec<&'n Need>,
+    // No other need has a key from the one separator on and before the other.
+    lower: Option<&'k [u8]>,
+    upper: Option<&'k [u8]>,
+}
+
+impl<'n, 'k> Model for Visitors<'n, 'k> {
+    ghost use Rattle.std.specs.Prelude.{map};
+    ghost use Rattle.std.specs.Option.{option_copied};
+    ghost use Rattle.range_proof.specs.Lending.{lent_need};
+    ghost use Rattle.range_proof.specs.Visiting.{Visit, Suffice};
+
+    ghost Value = { Visit };
+
+    ghost view = { λ v. record { all = map lent_need v.all.now; going = map lent_need v.going.items } };
+
+    ghost invariant = { λ v. Suffice (map lent_need v.all.now) (map lent_need v.going.items) (option_copied v.lower) (option_copied v.upper) };
+}
+
+impl<'n, 'k> Visitors<'n, 'k> {
+    /// Those that visit the root.
+    pub fn of_root(alloc: Global, all: &'n [&'n Need]) -> Result<Visitors<'n, 'k>, AllocError>
+        ensures { IfOk result (λ v. v ≡ record { all = map lent_need all.now; going = first_going (map lent_need all.now) }) }
+    {
+        Ok(Visitors {
+            all,
+            going: going_in(alloc, all)?,
+            lower: None,
+            upper: None,
+        })
+    }
+
+    /// Those of them that go on to the child between these separators.
+    pub fn onward(
+        &self,
+        alloc: Global,
+        lower: Option<&'k [u8]>,
+        upper: Option<&'k [u8]>,
+    ) -> Result<Visitors<'n, 'k>, AllocError>
+        ensures { IfOk result (λ v. v ≡ record {
+          all = self.now.all;
+          going = next_going self.now.going (option_copied lower.entry) (option_copied upper.entry);
+        }) }
+    {
+        Ok(Visitors {
+            all: self.all,
+            going: going_on(alloc, &self.going, lower, upper)?,
+            lower: later(self.lower, lower),
+            upper: sooner(self.upper, upper),
+        })
+    }
+
+    /// Whether there are none.
+    pub fn is_empty(&self) -> bool
+        ensures { result ≡ not (is_any self.now.going) }
+    {
+        self.going.is_empty()
+    }
+
+    /// The columns that all needs name whose intervals have the key. The others than the visitors are asked only
+    /// at a key that is outside of the node's place in the tree.
+    pub fn named(&self, alloc: Global, key: &[u8]) -> Result<Vec<u8>, AllocError>
+        ensures { IfOk result (λ columns. columns.items ≡ named_by self.now.all key.now) }
+    {
+        if self.going.len() < self.all.len() && is_between(self.lower, self.upper, key) {
+            named(alloc, &self.going, key)
+        } else {
+            named(alloc, self.all, key)
+        }
+    }
+}
