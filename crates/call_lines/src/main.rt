@@ -1,8 +1,10 @@
 //! Answers a call of the SQL crates for each line of standard input, so that other implementations can be compared with them.
 //!
 //! A line is a word and a text in hexadecimal: `query`, `batch` and `script` read the text, `print_query` and
-//! `print_batch` print what they read; `apply` applies the batches of a script to the tables, `result` asks them a
-//! query, and `clear` has none again; `count` counts the batches of a script, and `length` the bytes of a text.
+//! `print_batch` print what they read, and `bytes` has the bytes of a batch; `read` reads such bytes. `apply` applies
+//! the batches of a script to the tables, `step` the commands of one batch each by itself, `result` asks them a query,
+//! and `clear` has none again; `count` counts the batches of a script, and `length` the bytes of a text. Digits of
+//! bytes that stand several times are written as `DIGITS*COUNT`, with a blank to each side.
 #![tactic(auto)]
 
 mod calls;

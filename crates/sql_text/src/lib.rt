@@ -19,8 +19,3 @@ pub use printing_commands::print_batch;
 pub use printing_queries::print_query;
 pub use scripts::{SCRIPT_MAX, parse_script};
 pub use texts::{TEXT_MAX, parse_batch, parse_query};
-
-#[cfg(test)]
-mod printing_tests;
-#[cfg(test)]
-mod tests;

@@ -65,6 +65,3 @@ pub use vo_spec::{
     Batch, Cmp, Column, Command, CommandFault, Cond, Items, Join, Operand, Outcome, QueryFault,
     QueryText, Ref, Schema, SetPart, Source, Table,
 };
-
-#[cfg(test)]
-mod tests;
