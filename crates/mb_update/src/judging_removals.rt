@@ -9,7 +9,7 @@ ghost use Rattle.mb_update.specs.Judging.{judged, beside_judged, pair_judged};
 ghost use Rattle.mb_update.specs.Neighbours.{size_like as alike_size};
 
 use crate::judging::{any_cells, any_open, open_outside};
-use crate::neighbourhood::{left_of_two, neighbour_of};
+use crate::looking::{left_of_two, neighbour_of};
 use crate::places::{has_key, place_for};
 use mb_tree::PartTree;
 use vo_spec::{KeyPart, PartEntry, ScanFault};

@@ -13,7 +13,7 @@ mod judging;
 mod judging_removals;
 mod judging_replacements;
 mod leaves;
-mod neighbourhood;
+mod looking;
 mod neighbours;
 mod nodes;
 mod ops;

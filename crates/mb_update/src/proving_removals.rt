@@ -8,7 +8,7 @@ ghost use Rattle.mb_tree.specs.Whole.{value_of};
 ghost use Rattle.mb_tree.specs.View.{part_of};
 ghost use Rattle.mb_update.specs.Losing.{IsLoss, size_left};
 
-use crate::neighbourhood::{are_few, left_above, with_neighbour};
+use crate::looking::{are_few, left_above, with_neighbour};
 use crate::places::{place_for, place_of};
 use crate::proving::close_entries;
 use mb_tree::{Branch, Node, PartTree, Tree, TreeEntry, lend_keys};

@@ -4,7 +4,7 @@ use Rattle.vo_spec.specs.Trees.{open_parts}
 use Rattle.mb_tree.specs.Whole.{value_of}
 use Rattle.mb_update.specs.Closing.{closed_tree}
 use Rattle.mb_update.proofs.LookedPaths.{looked_inner}
-use Rattle.mb_update.proofs.neighbourhood.look_at.Goals as goal
+use Rattle.mb_update.proofs.looking.look_at.Goals as goal
 
 pub returns-in_ok-separators-in-Inner : goal.returns-in_ok-separators-in-Inner
 returns-in_ok-separators-in-Inner c =

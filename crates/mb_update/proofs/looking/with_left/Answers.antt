@@ -5,7 +5,7 @@ use Rattle.vo_spec.specs.Removes.{look_at_if}
 use Rattle.mb_tree.specs.View.{part_of}
 use Rattle.mb_update.specs.Closing.{closed_tree}
 use Rattle.mb_update.specs.Neighbours.{no_tree}
-use Rattle.mb_update.proofs.neighbourhood.with_left.Goals as goal
+use Rattle.mb_update.proofs.looking.with_left.Goals as goal
 
 pub returns : goal.returns
 returns c =
