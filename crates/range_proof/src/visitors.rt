@@ -16,7 +16,7 @@ use vo_spec::Need;
 pub struct Visitors<'n, 'k> {
     all: &'n [&'n Need],
     going: Vec<&'n Need>,
-    // No other need has a key from the one separator on and before the other.
+    // The node's place in the tree: no other need has a key from the one separator on and before the other.
     lower: Option<&'k [u8]>,
     upper: Option<&'k [u8]>,
 }
@@ -74,8 +74,8 @@ impl<'n, 'k> Visitors<'n, 'k> {
         self.going.is_empty()
     }
 
-    /// The columns that all needs name whose intervals have the key. The others than the visitors are asked only
-    /// at a key that is outside of the node's place in the tree.
+    /// The columns that all needs name whose intervals have the key. At a key in the node's place of the tree only
+    /// the visitors are asked, since no other need has it.
     pub fn named(&self, alloc: Global, key: &[u8]) -> Result<Vec<u8>, AllocError>
         ensures { IfOk result (λ columns. columns.items ≡ named_by self.now.all key.now) }
     {
