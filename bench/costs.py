@@ -10,6 +10,21 @@ SEED = os.path.join(TOP, "examples/seed")
 PROGRAM = os.path.join(TOP, "crates/vo_cli/out/vo_cli")
 CHAINS = 34  # of a one-time key of 8-bit digits
 
+LOAD = r"""
+#include <stdio.h>
+#include <stdlib.h>
+int sqlite3_open(const char *, void **);
+int sqlite3_exec(void *, const char *, void *, void *, void *);
+int main(void) {
+    void *db;
+    char *text = calloc(1, 64 << 20);
+    fread(text, 1, (64 << 20) - 1, stdin);
+    sqlite3_open(":memory:", &db);
+    sqlite3_exec(db, "%s", 0, 0, 0);
+    return sqlite3_exec(db, text, 0, 0, 0);
+}
+"""
+
 
 def blocks(length):
     """How many blocks of SHA-256 a string of so many bytes takes."""
@@ -55,14 +70,22 @@ def leaf_blocks(rows):
     return blocks(2 + 42 * rows)
 
 
+def inner_blocks(children):
+    """An inner node with separators of 8 bytes."""
+    return blocks(2 + 10 * (children - 1) + 32 * children)
+
+
+def proofs_and_rest(entry):
+    """The proofs of an entry's batch, and what stands behind them."""
+    at = 8 + int.from_bytes(entry[4:8], "big")
+    end = at + 4 + int.from_bytes(entry[at:at + 4], "big")
+    return entry[at + 4:end], entry[end:]
+
+
 def split_entry(entry):
-    """An entry's batch, record and signature."""
-    at = 4
-    batch = int.from_bytes(entry[at:at + 4], "big")
-    at += 4 + batch
-    proofs = int.from_bytes(entry[at:at + 4], "big")
-    at += 4 + proofs
-    return entry[at:at + 60], entry[at + 64:]
+    """An entry's record and signature."""
+    rest = proofs_and_rest(entry)[1]
+    return rest[:60], rest[64:]
 
 
 def journal_entries(journal):
@@ -86,6 +109,22 @@ def instructions(words, given=b""):
 def per_block(program):
     """Instructions of one block, all of key making by its blocks."""
     return instructions([program, "keygen", SEED]) / key_blocks(5)
+
+
+def signing_blocks(entries, height):
+    """A whole tree of one-time keys, and the signatures of these entries."""
+    signed = (split_entry(entry) for entry in entries)
+    return key_blocks(height) + sum(sign_blocks(record[4:20], signature, record) for record, signature in signed)
+
+
+def sqlite_cost(create, batches):
+    """Instructions that sqlite3 takes for these batches of commands behind this one, each in a transaction; none where gcc or its library isn't here."""
+    with open("load.c", "w", encoding="ascii") as file:
+        file.write(LOAD % create)
+    if subprocess.run(["gcc", "-O2", "-w", "-o", "load", "load.c", "-l:libsqlite3.so.0"]).returncode:
+        return None
+    text = "".join(f"BEGIN;\n{batch}COMMIT;\n" for batch in batches)
+    return instructions(["./load"], text.encode()) - instructions(["./load"])
 
 
 def report(name, total, needed, block):

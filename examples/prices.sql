@@ -8,3 +8,6 @@ COMMIT;
 INSERT INTO prices VALUES (5, 'coffee', 875);
 INSERT INTO prices VALUES (6, 'tea', 430);
 COMMIT;
+UPDATE prices SET cents = 345 WHERE item = 1;
+DELETE FROM prices WHERE item = 5;
+COMMIT;

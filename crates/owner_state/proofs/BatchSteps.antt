@@ -1,9 +1,8 @@
 -- One command more of a batch: what is left to do of it, and the proofs that are left to write.
-use Rattle.std.proofs.Common.{◌≡◌, ℕ, ◌+◌, cond, List, [], ◌∷◌, ◌++◌, map, Option, Some, None, Ok, IsTrue, refl, sym, ap, ◌∙◌, subst, append_assoc}
+use Rattle.std.proofs.Common.{◌≡◌, ℕ, ◌+◌, cond, List, [], ◌∷◌, ◌++◌, map, Option, Some, None, Ok, refl, sym, ap, ◌∙◌, subst, append_assoc}
 use Rattle.std.specs.Prelude.{is_some, flat_map}
-use Rattle.std.specs.List.{AllByRecursion, list_all}
+use Rattle.std.specs.List.{AllByRecursion}
 use Rattle.std.specs.Result.{result_unwrap_or}
-use Rattle.std.proofs.lemmas.Bool.{and_parts}
 use Rattle.std.proofs.lemmas.Grind.{flat_map-append}
 use Rattle.vo_spec.specs.declared.tables.Command.{Command}
 use Rattle.vo_spec.specs.declared.tables.CommandFault.{CommandFault}
@@ -14,7 +13,7 @@ use Rattle.vo_spec.specs.Trees.{RowTree}
 use Rattle.vo_spec.specs.Fits.{FitsTree}
 use Rattle.vo_spec.specs.TreeBytes.{tree_bytes}
 use Rattle.vo_spec.specs.Inserts.{result_map}
-use Rattle.vo_spec.specs.Honest.{Stored, is_open_command, stored_heading, changed_trees, work, command_proof, honest_proofs}
+use Rattle.vo_spec.specs.Honest.{Stored, stored_heading, changed_trees, work, command_proof, honest_proofs}
 use Rattle.vo_laws.proofs.ListLaws.{each_left, each_right}
 use Rattle.stored_tables.specs.Working.{numbered_work, work_from}
 
@@ -39,7 +38,6 @@ pub record IsLeft (index : ℕ) (left all : List Command) (stored before : List 
   pub ends : bytes ++ flat_map tree_bytes (honest_proofs left stored) ≡ begun ++ flat_map tree_bytes (honest_proofs all before)
   pub trees : AllByRecursion FitsTree (honest_proofs left stored)
   pub fits : AllByRecursion FitsCommand left
-  pub written : IsTrue (list_all is_open_command left)
 
 pub tree_fits : (c : Command) (cs : List Command) (stored after : List Stored) → work c stored ≡ Ok after → AllByRecursion FitsTree (honest_proofs (c ∷ cs) stored)
     → AllByRecursion FitsTree (command_proof c stored)
@@ -56,5 +54,4 @@ one_done index c cs all stored after before bytes begun more l w e =
           ∙ ap (λ (t : List ℕ). bytes ++ t) (sym (flat_map-append tree_bytes here rest) ∙ ap (flat_map tree_bytes) (sym (proofs_on c cs stored after w))) ∙ l.ends;
       trees = each_right FitsTree here rest (subst (AllByRecursion FitsTree) (proofs_on c cs stored after w) l.trees);
       fits = l.fits.1;
-      written = (and_parts (is_open_command c) (list_all is_open_command cs) l.written).1;
     }

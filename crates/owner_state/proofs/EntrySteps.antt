@@ -1,8 +1,8 @@
 -- An entry behind trees, and behind the batches that made these.
 use Rattle.std.proofs.Math.Seq.{take-nil}
-use Rattle.std.proofs.Common.{◌≡◌, ℕ, suc, ◌+◌, ◌<◌, add-one, List, [], ◌∷◌, ◌++◌, length, take, drop, Option, Some, None, IsTrue, refl, sym, ap, ◌∙◌, subst, arith}
+use Rattle.std.proofs.Common.{◌≡◌, ℕ, suc, ◌+◌, ◌<◌, add-one, List, [], ◌∷◌, ◌++◌, length, take, drop, Option, Some, None, refl, sym, ap, ◌∙◌, subst, arith}
 use Rattle.std.specs.Prelude.{◌↔◌, IsOk, IfSome}
-use Rattle.std.specs.List.{AllByRecursion, list_all}
+use Rattle.std.specs.List.{AllByRecursion}
 use Rattle.std.proofs.lemmas.List.{length-map, map-append}
 use Rattle.vo_spec.specs.declared.tables.Command.{Command}
 use Rattle.vo_spec.specs.declared.records.Entry.{Entry}
@@ -10,7 +10,7 @@ use Rattle.vo_spec.specs.Batches.{FitsBatch}
 use Rattle.vo_spec.specs.Journals.{FitsEntry, batches_of}
 use Rattle.vo_spec.specs.Replies.{FitsProofs, proofs_bytes}
 use Rattle.vo_spec.specs.Owners.{IsTakenEntry, IsHonestEntry, AreOwned, AreTaken}
-use Rattle.vo_spec.specs.Honest.{Stored, is_open_command, after_work, work_all, honest_proofs, honest_record, honest_trees}
+use Rattle.vo_spec.specs.Honest.{Stored, after_work, work_all, honest_proofs, honest_record, honest_trees}
 use Rattle.vo_laws.proofs.StepLaws.{trees_follow, no_commands_fit, no_trees_before, both_take}
 use Rattle.vo_laws.proofs.EntryLaws.{owned_first, owned_grows, taken_first, taken_grows, batches_fit, all_fit}
 use Rattle.vo_laws.proofs.ProofSizes.{honest_proofs_fit}
@@ -31,7 +31,6 @@ taken_is key earlier stored e m fits = (there, back)
 
     there : IsTakenOn key (length earlier) stored e → IsTakenEntry key earlier e
     there t = record {
-      written = t.written;
       accepted = (both_take earlier e.batch.commands m.fit fits).0 (subst (λ (ss : List Stored). IsOk (work_all e.batch.commands ss)) m.trees t.accepted);
       record_is = t.recorded.record_is ∙ ap (honest_record key (length earlier)) behind;
       signed = t.recorded.signed;
@@ -39,7 +38,6 @@ taken_is key earlier stored e m fits = (there, back)
 
     back : IsTakenEntry key earlier e → IsTakenOn key (length earlier) stored e
     back t = record {
-      written = t.written;
       accepted = subst (λ (ss : List Stored). IsOk (work_all e.batch.commands ss)) (sym m.trees) ((both_take earlier e.batch.commands m.fit fits).1 t.accepted);
       recorded = record { record_is = t.record_is ∙ ap (honest_record key (length earlier)) (sym behind); signed = t.signed };
     }
@@ -110,8 +108,8 @@ owned_made : (key : List ℕ) (es : List Entry) (stored : List Stored) → AllBy
 owned_made key es stored fit owned trees = record { fit = batches_fit es fit; trees = trees }
 
 pub owned_proofs_fit : (key : List ℕ) (es : List Entry) (stored : List Stored) (e : Entry) → AllByRecursion FitsEntry es → FitsEntry e → AreOwned key es → stored ≡ honest_trees (batches_of es)
-    → IsTrue (list_all is_open_command e.batch.commands) → FitsProofs (honest_proofs e.batch.commands stored)
-owned_proofs_fit key es stored e fit fits owned trees written =
+    → FitsProofs (honest_proofs e.batch.commands stored)
+owned_proofs_fit key es stored e fit fits owned trees =
     subst (λ (ss : List Stored). FitsProofs (honest_proofs e.batch.commands ss)) (sym trees)
     (honest_proofs_fit (batches_of es) e.batch.commands (batches_fit es fit) fits.batch)
 

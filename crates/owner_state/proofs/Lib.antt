@@ -4,7 +4,7 @@ pub mod EntryLaws
 pub mod JournalLaws
 pub mod SlotLaws
 pub mod BatchSteps
-pub mod InsertCounts
+pub mod ProofCounts
 pub mod WorkTurns
 pub mod EntrySteps
 pub mod SealSteps

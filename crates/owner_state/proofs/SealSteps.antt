@@ -1,8 +1,8 @@
 -- Sealing one batch more: the trees, the slots, and the fault that is left to find.
-use Rattle.std.proofs.Common.{◌≡◌, ℕ, zero, suc, ◌+◌, ◌<◌, ◌≤◌, Bool, true, false, cond, leb, List, [], ◌∷◌, ◌++◌, length, take, drop, get_or, Some, None, Result, Ok, Err, IsTrue, refl, sym, ap, ◌∙◌, subst, inl, inr, append-nil, arith}
+use Rattle.std.proofs.Common.{◌≡◌, ℕ, zero, suc, ◌+◌, ◌<◌, ◌≤◌, Bool, true, false, cond, leb, List, [], ◌∷◌, ◌++◌, length, take, drop, get_or, Some, None, Result, Ok, Err, refl, sym, ap, ◌∙◌, subst, inl, inr, append-nil, arith}
 use Rattle.std.specs.Prelude.{◌≢◌, IsOk, flat_map}
-use Rattle.std.specs.List.{AllByRecursion, list_all}
-use Rattle.std.proofs.lemmas.Bool.{and_parts, le-leb}
+use Rattle.std.specs.List.{AllByRecursion}
+use Rattle.std.proofs.lemmas.Bool.{le-leb}
 use Rattle.std.proofs.lemmas.Bool.Decides.{leb_tells}
 use Rattle.std.proofs.lemmas.Grind.{flat_map-append}
 use Rattle.std.proofs.Math.ListN.{get_or-map}
@@ -18,7 +18,7 @@ use Rattle.vo_spec.specs.Tables.{apply_batch, tables_after}
 use Rattle.vo_spec.specs.declared.records.Entry.{Entry}
 use Rattle.vo_spec.specs.Journals.{slot}
 use Rattle.vo_spec.specs.Replies.{FitsProofs, proofs_bytes}
-use Rattle.vo_spec.specs.Honest.{Stored, AreOpen, StandForTables, is_open_command, after_work, work_all, honest_proofs, honest_trees, sealed_entry, sealed}
+use Rattle.vo_spec.specs.Honest.{Stored, StandForTables, after_work, work_all, honest_proofs, honest_trees, sealed_entry, sealed}
 use Rattle.vo_laws.proofs.TreeFits.{each_taken}
 use Rattle.vo_laws.proofs.ListLaws.{each_map}
 use Rattle.vo_laws.proofs.StepLaws.{trees_follow, no_commands_fit, no_trees_before, both_take}
@@ -43,20 +43,8 @@ each_at P [] n x all lt is = absurd (omega arith)
 each_at P (y ∷ xs) zero x all lt is = subst P (sym is) all.0
 each_at P (y ∷ xs) (suc n) x all lt is = each_at P xs n x all.1 (omega arith) is
 
-pub each_of_all : {A : Type 0} (test : A → Bool) (xs : List A) → list_all test xs ≡ true → AllByRecursion (λ x. IsTrue (test x)) xs
-each_of_all test [] e = tt
-each_of_all test (x ∷ xs) e = let both = and_parts (test x) (list_all test xs) e in (both.0, each_of_all test xs both.1)
-
--- Batches that fit and are open.
-pub record AreSealable (cs : List (List Command)) : Type 0 where
-  pub fit : AllByRecursion FitsBatch cs
-  pub are_open : AreOpen cs
-
-pub sealable : (batches : List Batch) → FitEach batches → IsTrue (list_all (list_all is_open_command) (commands_of batches)) → AreSealable (commands_of batches)
-sealable batches fit written = record {
-  fit = each_map FitsBatch (λ (batch : Batch). batch.commands) batches fit;
-  are_open = each_of_all (list_all is_open_command) (commands_of batches) written;
-}
+pub each_fits : (batches : List Batch) → FitEach batches → AllByRecursion FitsBatch (commands_of batches)
+each_fits batches fit = each_map FitsBatch (λ (batch : Batch). batch.commands) batches fit
 
 -- The entry.
 
@@ -100,21 +88,19 @@ long cs n batch i =
     let taken : length (take n cs) ≡ n = length-take-le n cs (omega arith) in
     omega arith
 
-proofs_for : (cs : List (List Command)) (n : ℕ) (batch : List Command) (stored : List Stored) → AreSealable cs → IsNext cs n batch → stored ≡ honest_trees (take n cs) → FitsProofs (honest_proofs batch stored)
+proofs_for : (cs : List (List Command)) (n : ℕ) (batch : List Command) (stored : List Stored) → AllByRecursion FitsBatch cs → IsNext cs n batch → stored ≡ honest_trees (take n cs) → FitsProofs (honest_proofs batch stored)
 proofs_for cs n batch stored ok i e =
     subst (λ (ss : List Stored). FitsProofs (honest_proofs batch ss)) (sym e)
-    (honest_proofs_fit (take n cs) batch (each_taken FitsBatch n cs ok.fit) (each_at FitsBatch cs n batch ok.fit i.there i.is))
+    (honest_proofs_fit (take n cs) batch (each_taken FitsBatch n cs ok) (each_at FitsBatch cs n batch ok i.there i.is))
 
 -- what seal_next asks of a batch
 pub record IsReady (batch : List Command) (stored : List Stored) : Type 0 where
   pub fits : FitsBatch batch
-  pub written : IsTrue (list_all is_open_command batch)
   pub proofs : FitsProofs (honest_proofs batch stored)
 
-pub ready : (cs : List (List Command)) (n : ℕ) (batch : List Command) (stored : List Stored) → AreSealable cs → IsNext cs n batch → stored ≡ honest_trees (take n cs) → IsReady batch stored
+pub ready : (cs : List (List Command)) (n : ℕ) (batch : List Command) (stored : List Stored) → AllByRecursion FitsBatch cs → IsNext cs n batch → stored ≡ honest_trees (take n cs) → IsReady batch stored
 ready cs n batch stored ok i e = record {
-  fits = each_at FitsBatch cs n batch ok.fit i.there i.is;
-  written = each_at (λ b. IsTrue (list_all is_open_command b)) cs n batch ok.are_open i.there i.is;
+  fits = each_at FitsBatch cs n batch ok i.there i.is;
   proofs = proofs_for cs n batch stored ok i e;
 }
 
@@ -123,8 +109,8 @@ ready cs n batch stored ok i e = record {
 abbrev Earlier : List (List Command) → ℕ → List (List Command)
 Earlier cs n = [] ∷ take n cs
 
-earlier_fit : (cs : List (List Command)) (n : ℕ) → AreSealable cs → AllByRecursion FitsBatch (Earlier cs n)
-earlier_fit cs n ok = (no_commands_fit, each_taken FitsBatch n cs ok.fit)
+earlier_fit : (cs : List (List Command)) (n : ℕ) → AllByRecursion FitsBatch cs → AllByRecursion FitsBatch (Earlier cs n)
+earlier_fit cs n ok = (no_commands_fit, each_taken FitsBatch n cs ok)
 
 not_spent : (leaves version : ℕ) → version < leaves → leb leaves version ≡ false
 not_spent leaves version lt = elim (leb_tells leaves version) [ inl t ↦ absurd (omega (arith, t.1)) | inr t ↦ t.0 ]
@@ -155,7 +141,7 @@ refused_here leaves earlier batch rest index why lt e =
 
 -- One batch more.
 
-pub next_sealed : (secret : Secret) (cs : List (List Command)) (n : ℕ) (batch : List Command) (before after : Sealed) → AreSealable cs
+pub next_sealed : (secret : Secret) (cs : List (List Command)) (n : ℕ) (batch : List Command) (before after : Sealed) → AllByRecursion FitsBatch cs
     → IsSealed secret cs n before.tables before.slots.items → IsNext cs n batch → Seals secret (n + 1) before batch (Ok after)
     → IsSealed secret cs (n + 1) after.tables after.slots.items
 next_sealed secret cs n batch before after ok s i done =
@@ -186,7 +172,7 @@ next_sealed secret cs n batch before after ok s i done =
 
 -- A fault.
 
-pub not_sealed : (secret : Secret) (cs : List (List Command)) (n : ℕ) (batch : List Command) (before : Sealed) (why : SealFault) → AreSealable cs
+pub not_sealed : (secret : Secret) (cs : List (List Command)) (n : ℕ) (batch : List Command) (before : Sealed) (why : SealFault) → AllByRecursion FitsBatch cs
     → IsSealed secret cs n before.tables before.slots.items → IsNext cs n batch → Seals secret (n + 1) before batch (Err why) → why ≢ Memory
     → seal_fault (leaves_of secret.lms) ([] ∷ []) cs ≡ Some why
 not_sealed secret cs n batch before why ok s i told known =

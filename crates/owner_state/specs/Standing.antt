@@ -1,19 +1,12 @@
 -- What entries and batches are on trees, whichever batches made these.
-use Rattle.std.specs.Prelude.{◌≡◌, ℕ, Bool, true, false, List, IsOk, IsTrue}
-use Rattle.std.specs.List.{list_all}
+use Rattle.std.specs.Prelude.{◌≡◌, ℕ, List, IsOk}
 use Rattle.vo_spec.specs.declared.tables.Command.{Command}
-use Rattle.vo_spec.specs.declared.tables.Command.TheVariants.{Insert}
 use Rattle.vo_spec.specs.declared.records.Entry.{Entry}
 use Rattle.vo_spec.specs.Records.{record_bytes}
 use Rattle.vo_spec.specs.Secret.{Secret, public_of_secret, lms_signature}
 use Rattle.vo_spec.specs.Owners.{IsSigned}
 use Rattle.vo_spec.specs.Replies.{proofs_bytes}
-use Rattle.vo_spec.specs.Honest.{Stored, is_open_command, work_all, after_work, honest_proofs, honest_record}
-
--- the command inserts a row, if it is accepted
-abbrev pub inserts : Command → Bool
-inserts (Insert name values) = true
-inserts _ = false
+use Rattle.vo_spec.specs.Honest.{Stored, work_all, after_work, honest_proofs, honest_record}
 
 -- the entry's record is that of these trees as this version, signed
 pub record IsRecorded (key : List ℕ) (version : ℕ) (stored : List Stored) (e : Entry) : Type 0 where
@@ -22,7 +15,6 @@ pub record IsRecorded (key : List ℕ) (version : ℕ) (stored : List Stored) (e
 
 -- a store takes the entry as this version, behind these trees
 pub record IsTakenOn (key : List ℕ) (version : ℕ) (stored : List Stored) (e : Entry) : Type 0 where
-  pub written : IsTrue (list_all is_open_command e.batch.commands)
   pub accepted : IsOk (work_all e.batch.commands stored)
   pub recorded : IsRecorded key version (after_work stored e.batch.commands) e
 

@@ -1,14 +1,14 @@
 //! A batch and its proofs, in one pass.
-ghost use Rattle.std.specs.Prelude.{◌≡◌, ◌++◌, ◌≤◌, IfOk, OnOk, IsTrue, count_by, flat_map, length};
-ghost use Rattle.std.specs.List.{AllByRecursion, list_all};
+ghost use Rattle.std.specs.Prelude.{◌≡◌, ◌++◌, ◌≤◌, IfOk, OnOk, count_by, flat_map, length};
+ghost use Rattle.std.specs.List.{AllByRecursion};
 ghost use Rattle.vo_spec.specs.Batches.{FitsBatch, FitsCommand};
 ghost use Rattle.vo_spec.specs.Fits.{FitsTree};
 ghost use Rattle.vo_spec.specs.TreeBytes.{tree_bytes};
-ghost use Rattle.vo_spec.specs.Honest.{command_proof, honest_proofs, is_open_command};
+ghost use Rattle.vo_spec.specs.Honest.{command_proof, honest_proofs};
 ghost use Rattle.vo_spec.specs.Replies.{FitsProofs, proofs_bytes};
 ghost use Rattle.table_list.specs.Batched.{BatchGives};
+ghost use Rattle.stored_tables.specs.Ready.{changes_rows};
 ghost use Rattle.stored_tables.specs.Working.{work_from};
-ghost use Rattle.owner_state.specs.Standing.{inserts};
 
 use std::alloc::{AllocError, Global};
 use stored_tables::{ApplyFault, BatchFault, StoredTables};
@@ -29,25 +29,25 @@ pub(crate) fn worked(
     commands: &[Command],
 ) -> Result<AfterBatch, BatchFault>
     requires fits { FitsBatch commands.now }
-    requires written { IsTrue (list_all is_open_command commands.now) }
     requires proofs { FitsProofs (honest_proofs commands.now tables) }
     ensures answer { BatchGives (λ worked. worked.tables) result (work_from 0 commands.now tables) }
     ensures proofs { IfOk result (λ worked. worked.proofs.items ≡ proofs_bytes (honest_proofs commands.now tables)) }
 {
     let mut proofs = Vec::new(alloc);
-    begin_proofs(&mut proofs, insert_count(commands))?;
+    begin_proofs(&mut proofs, proof_count(commands))?;
     worked_in_turn(alloc, AfterBatch { tables, proofs }, commands)
 }
 
-/// How many of the commands insert a row.
-fn insert_count(commands: &[Command]) -> u16
+/// How many of the commands change rows: each of these has a proof, where its batch is accepted.
+fn proof_count(commands: &[Command]) -> u16
     requires { length commands.now ≤ 1000 }
-    ensures { result ≡ count_by inserts commands.now }
+    ensures { result ≡ count_by changes_rows commands.now }
 {
     let mut count = 0;
     for command in commands {
-        if matches!(command, Command::Insert { .. }) {
-            count += 1;
+        match command {
+            Command::Create { .. } | Command::Drop { .. } => {}
+            _ => count += 1,
         }
     }
     count
@@ -61,7 +61,6 @@ fn worked_in_turn(
 ) -> Result<AfterBatch, BatchFault>
     requires fits { AllByRecursion FitsCommand commands.now }
     requires count { length commands.now ≤ 1000 }
-    requires written { IsTrue (list_all is_open_command commands.now) }
     requires trees { AllByRecursion FitsTree (honest_proofs commands.now before.tables) }
     ensures answer { BatchGives (λ worked. worked.tables) result (work_from 0 commands.now before.tables) }
     ensures proofs { IfOk result (λ worked. worked.proofs.items ≡ before.proofs.items ++ flat_map tree_bytes (honest_proofs commands.now before.tables)) }
@@ -93,7 +92,6 @@ fn put_proof(
     tables: &StoredTables,
     command: &Command,
 ) -> Result<(), AllocError>
-    requires written { IsTrue (is_open_command command.now) }
     requires fits { AllByRecursion FitsTree (command_proof command.now tables.now) }
     ensures { OnOk result (out.new.items ≡ out.old.items ++ flat_map tree_bytes (command_proof command.now tables.now)) }
 {

@@ -1,9 +1,8 @@
 //! Whether an entry may stand behind trees.
-ghost use Rattle.std.specs.Prelude.{◌≡◌, [], IfOk, IsOk, IsTrue};
-ghost use Rattle.std.specs.List.{list_all};
+ghost use Rattle.std.specs.Prelude.{◌≡◌, [], IfOk, IsOk};
 ghost use Rattle.vo_spec.specs.Batches.{FitsBatch};
 ghost use Rattle.vo_spec.specs.Replies.{FitsProofs};
-ghost use Rattle.vo_spec.specs.Honest.{after_work, honest_proofs, is_open_command, work_all};
+ghost use Rattle.vo_spec.specs.Honest.{after_work, honest_proofs, work_all};
 ghost use Rattle.owner_state.specs.Standing.{IsHonestOn, IsProvedOn, IsRecorded, IsTakenOn};
 ghost use Rattle.owner_state.specs.Walking.{GoesOn};
 
@@ -11,7 +10,7 @@ use crate::batch_working::{AfterBatch, worked};
 use crate::recording::is_recorded;
 use lms_sign::PublicKey;
 use std::alloc::{AllocError, Global};
-use stored_tables::{BatchFault, StoredTables, is_open};
+use stored_tables::{BatchFault, StoredTables};
 use vo_spec::{Batch, Entry};
 
 /// The tables behind an entry of no matter which batch, if its record is that of these tables as version 0.
@@ -41,10 +40,7 @@ pub(crate) fn taken_on(
     requires { FitsBatch entry.now.batch.commands }
     ensures { IfOk result (λ after. GoesOn (IsTakenOn key.now version tables entry.now) (after_work tables entry.now.batch.commands) after) }
 {
-    if !is_open(&entry.batch) {
-        return Ok(None);
-    }
-    match after_open(alloc, tables, &entry.batch)? {
+    match after_batch(alloc, tables, &entry.batch)? {
         Some(after) => {
             if is_recorded(alloc, key, version, &after, entry)? {
                 Ok(Some(after))
@@ -57,13 +53,12 @@ pub(crate) fn taken_on(
 }
 
 /// The tables behind a batch, if it is accepted.
-fn after_open(
+fn after_batch(
     alloc: Global,
     mut tables: StoredTables,
     batch: &Batch,
 ) -> Result<Option<StoredTables>, AllocError>
     requires fits { FitsBatch batch.now.commands }
-    requires written { IsTrue (list_all is_open_command batch.now.commands) }
     ensures { IfOk result (λ after. GoesOn (IsOk (work_all batch.now.commands tables)) (after_work tables batch.now.commands) after) }
 {
     match tables.apply_batch(alloc, batch) {
@@ -82,13 +77,10 @@ pub(crate) fn honest_on(
     entry: &Entry,
 ) -> Result<Option<StoredTables>, AllocError>
     requires fits { FitsBatch entry.now.batch.commands }
-    requires proofs { IsTrue (list_all is_open_command entry.now.batch.commands) → FitsProofs (honest_proofs entry.now.batch.commands tables) }
+    requires proofs { FitsProofs (honest_proofs entry.now.batch.commands tables) }
     ensures { IfOk result (λ after. GoesOn (IsHonestOn key.now version tables entry.now) (after_work tables entry.now.batch.commands) after) }
 {
-    if !is_open(&entry.batch) {
-        return Ok(None);
-    }
-    match proved_open(alloc, tables, entry)? {
+    match proved_on(alloc, tables, entry)? {
         Some(after) => {
             if is_recorded(alloc, key, version, &after, entry)? {
                 Ok(Some(after))
@@ -108,7 +100,7 @@ pub(crate) fn honest_first(
     entry: &Entry,
 ) -> Result<Option<StoredTables>, AllocError>
     requires fits { FitsBatch entry.now.batch.commands }
-    requires proofs { IsTrue (list_all is_open_command entry.now.batch.commands) → FitsProofs (honest_proofs entry.now.batch.commands tables) }
+    requires proofs { FitsProofs (honest_proofs entry.now.batch.commands tables) }
     ensures { IfOk result (λ after. GoesOn ((entry.now.batch.commands ≡ []) × IsHonestOn key.now 0 tables entry.now) (after_work tables entry.now.batch.commands) after) }
 {
     if !entry.batch.commands.is_empty() {
@@ -118,13 +110,12 @@ pub(crate) fn honest_first(
 }
 
 /// The tables behind an entry's batch, if it is accepted and the entry has its proofs.
-fn proved_open(
+fn proved_on(
     alloc: Global,
     tables: StoredTables,
     entry: &Entry,
 ) -> Result<Option<StoredTables>, AllocError>
     requires fits { FitsBatch entry.now.batch.commands }
-    requires written { IsTrue (list_all is_open_command entry.now.batch.commands) }
     requires proofs { FitsProofs (honest_proofs entry.now.batch.commands tables) }
     ensures { IfOk result (λ after. GoesOn (IsProvedOn tables entry.now) (after_work tables entry.now.batch.commands) after) }
 {

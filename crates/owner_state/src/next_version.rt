@@ -1,13 +1,12 @@
 //! Sealing one version.
-ghost use Rattle.std.specs.Prelude.{◌≡◌, ◌≤◌, ◌<◌, IfOk, IsTrue, length};
-ghost use Rattle.std.specs.List.{list_all};
+ghost use Rattle.std.specs.Prelude.{◌≡◌, ◌≤◌, ◌<◌, IfOk, length};
 ghost use Rattle.vo_spec.specs.Batches.{FitsBatch};
 ghost use Rattle.vo_spec.specs.LmsSets.{leaves_of};
 ghost use Rattle.vo_spec.specs.Secret.{public_of_secret};
 ghost use Rattle.vo_spec.specs.Records.{FitsRecord};
 ghost use Rattle.vo_spec.specs.Replies.{FitsProofs};
 ghost use Rattle.vo_spec.specs.Journals.{most_signature};
-ghost use Rattle.vo_spec.specs.Honest.{honest_proofs, is_open_command};
+ghost use Rattle.vo_spec.specs.Honest.{honest_proofs};
 ghost use Rattle.owner_state.specs.Standing.{signed_entry};
 ghost use Rattle.owner_state.specs.Sealed.{Seals};
 
@@ -39,7 +38,6 @@ pub(crate) fn seal_next(
 ) -> Result<Sealed, SealFault>
     requires public { public.now ≡ public_of_secret key.now }
     requires fits { FitsBatch batch.commands }
-    requires written { IsTrue (list_all is_open_command batch.commands) }
     requires proofs { FitsProofs (honest_proofs batch.commands before.tables) }
     ensures { Seals key.now version before batch.commands result }
 {

@@ -1,10 +1,9 @@
 //! Sealing: the journal of an owner's batches.
-ghost use Rattle.std.specs.Prelude.{◌≡◌, ◌≢◌, [], ◌∷◌, IfOk, IfErr, IsTrue, None, Some, flat_map};
-ghost use Rattle.std.specs.List.{list_all};
+ghost use Rattle.std.specs.Prelude.{◌≡◌, ◌≢◌, [], ◌∷◌, IfOk, IfErr, None, Some, flat_map};
 ghost use Rattle.vo_spec.specs.LmsSets.{leaves_of};
 ghost use Rattle.vo_spec.specs.Secret.{public_of_secret};
 ghost use Rattle.vo_spec.specs.Journals.{journal_bytes, slot};
-ghost use Rattle.vo_spec.specs.Honest.{is_open_command, sealed};
+ghost use Rattle.vo_spec.specs.Honest.{sealed};
 ghost use Rattle.owner_state.specs.Standing.{entry_on};
 ghost use Rattle.owner_state.specs.Sealing.{commands_of, seal_fault, FitEach};
 
@@ -42,7 +41,6 @@ impl From<AllocError> for SealFault {
 /// The journal of these batches, a version for each, behind version 0, which has no commands.
 pub fn seal(alloc: Global, key: &SecretKey, batches: List<Batch>) -> Result<Vec<u8>, SealFault>
     requires fit { FitEach batches }
-    requires written { IsTrue (list_all (list_all is_open_command) (commands_of batches)) }
     ensures journal { IfOk result (λ journal. journal.items ≡ journal_bytes (sealed key.now (commands_of batches))) }
     ensures sealed { IfOk result (λ _. seal_fault (leaves_of key.now.lms) ([] ∷ []) (commands_of batches) ≡ None) }
     ensures fault { IfErr result (λ fault. fault ≢ SealFault.Memory
@@ -59,7 +57,6 @@ pub fn seal(alloc: Global, key: &SecretKey, batches: List<Batch>) -> Result<Vec<
 
 fn seal_each(alloc: Global, key: &SecretKey, batches: List<Batch>) -> Result<Vec<u8>, SealFault>
     requires fit { FitEach batches }
-    requires written { IsTrue (list_all (list_all is_open_command) (commands_of batches)) }
     ensures slots { IfOk result (λ slots. slots.items ≡ flat_map slot (sealed key.now (commands_of batches))) }
     ensures sealed { IfOk result (λ _. seal_fault (leaves_of key.now.lms) ([] ∷ []) (commands_of batches) ≡ None) }
     ensures fault { IfErr result (λ fault. fault ≢ SealFault.Memory

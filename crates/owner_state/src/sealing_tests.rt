@@ -1,16 +1,12 @@
 //! A script sealed: its journal as an independent implementation writes it, and what is read of it.
-ghost use Rattle.std.specs.Prelude.{IfOk, OnOk, IsTrue};
-ghost use Rattle.std.specs.List.{list_all};
-ghost use Rattle.vo_spec.specs.Batches.{FitsBatch};
-ghost use Rattle.vo_spec.specs.Honest.{is_open_command};
-ghost use Rattle.owner_state.specs.Sealing.{commands_of, FitEach};
+ghost use Rattle.std.specs.Prelude.{IfOk};
+ghost use Rattle.owner_state.specs.Sealing.{FitEach};
 
 use super::*;
 use lms_sign::{OtsType, SecretKey};
 use row_bytes::ReadFault;
 use std::alloc::{AllocError, Global};
 use std::test::*;
-use stored_tables::is_open;
 use table_list::read_batch;
 use tagged_hash::digest_of;
 use vo_spec::{Batch, List};
@@ -35,33 +31,35 @@ const JOURNAL: [u8; 32] = [
     0x2b, 0x21, 0x8b, 0x6f, 0x2e, 0x10, 0xf2, 0x4f, 0x90, 0x84, 0x9a, 0xdb, 0x13, 0x9a, 0x20, 0x50,
 ];
 
-/// The batches that have these bytes, those left out that change or delete rows.
+/// Behind that script UPDATE t SET name = 'bo' WHERE id = 3, DELETE FROM t WHERE id = 1 and DROP TABLE t, a batch each.
+const CHANGED: [&[u8]; 6] = [
+    SCRIPT[0],
+    SCRIPT[1],
+    SCRIPT[2],
+    b"\x00\x01\x04\x01t\x01\x04name\x02\x00\x02bo\x02id\x01\x00\x00\x00\x00\x00\x00\x00\x03",
+    b"\x00\x01\x05\x01t\x02id\x01\x00\x00\x00\x00\x00\x00\x00\x01",
+    b"\x00\x01\x02\x01t",
+];
+
+/// The digest of its journal.
+const CHANGED_JOURNAL: [u8; 32] = [
+    0xa5, 0x99, 0xeb, 0x86, 0x9a, 0xcd, 0x40, 0xc8, 0x88, 0x95, 0x33, 0xca, 0x10, 0x99, 0xe0, 0xaf,
+    0xf9, 0x95, 0x13, 0x82, 0x65, 0xd0, 0x45, 0xcd, 0x30, 0x75, 0x12, 0x36, 0xca, 0xba, 0x9b, 0x82,
+];
+
+/// The batches that have these bytes, where these are those of a batch.
 fn script(alloc: Global, texts: &[&[u8]]) -> Result<List<Batch>, AllocError>
-    ensures fit { IfOk result (λ batches. FitEach batches) }
-    ensures written { IfOk result (λ batches. IsTrue (list_all (list_all is_open_command) (commands_of batches))) }
+    ensures { IfOk result (λ batches. FitEach batches) }
 {
     let mut batches = List::new(alloc);
     for text in texts {
         match read_batch(alloc, text) {
-            Ok(batch) => put_open(&mut batches, batch)?,
+            Ok(batch) => batches.push(batch)?,
             Err(ReadFault::BadForm) => {}
             Err(ReadFault::Memory) => return Err(AllocError),
         }
     }
     Ok(batches)
-}
-
-fn put_open(batches: &mut List<Batch>, batch: Batch) -> Result<(), AllocError>
-    requires fits { FitsBatch batch.commands }
-    requires fit { FitEach batches.old }
-    requires written { IsTrue (list_all (list_all is_open_command) (commands_of batches.old)) }
-    ensures fit { OnOk result (FitEach batches.new) }
-    ensures written { OnOk result (IsTrue (list_all (list_all is_open_command) (commands_of batches.new))) }
-{
-    if is_open(&batch) {
-        batches.push(batch)?;
-    }
-    Ok(())
 }
 
 #[test]
@@ -78,6 +76,20 @@ fn seals_a_script(rt: HostRuntime) -> Result<(), Fail> {
         assert_eq!(rt; owned.tables.is_some(), version < 4);
     }
     assert_eq!(rt; read_taken(alloc, &public, &journal)?.entries.len(), 4);
+    Ok(())
+}
+
+#[test]
+fn seals_changes(rt: HostRuntime) -> Result<(), Fail> {
+    let alloc = rt.alloc();
+    let key = SecretKey::make(alloc, ID, SEED, OtsType::W8, 5)?;
+    let journal = seal(alloc, &key, script(alloc, &CHANGED)?)?;
+    assert_eq!(rt; journal.len(), 9_992);
+    assert_eq!(rt; *digest_of(&journal).as_bytes(), CHANGED_JOURNAL);
+    assert_eq!(rt;
+        read_owned(alloc, &key.public(), &journal, 6)?.entries.len(),
+        7
+    );
     Ok(())
 }
 

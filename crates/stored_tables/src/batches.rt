@@ -1,9 +1,9 @@
 //! What batches make of tables.
 ghost use Rattle.std.specs.Prelude.{◌≡◌, ◌≤◌, List, Ok, length, IfOk};
-ghost use Rattle.std.specs.List.{AllByRecursion, list_all};
+ghost use Rattle.std.specs.List.{AllByRecursion};
 ghost use Rattle.vo_spec.specs.Batches.{FitsCommand};
 ghost use Rattle.vo_spec.specs.declared.tables.Table.{Table as PlainTable};
-ghost use Rattle.vo_spec.specs.Honest.{StandForTables, is_open_command, work_all};
+ghost use Rattle.vo_spec.specs.Honest.{StandForTables, work_all};
 ghost use Rattle.table_list.specs.Batched.{BatchGives};
 ghost use Rattle.stored_tables.specs.View.{stored_in};
 ghost use Rattle.stored_tables.specs.Standing.{IsStanding};
@@ -17,19 +17,7 @@ use crate::working::worked;
 use std::alloc::{AllocError, Global};
 use std::rc::Rc;
 use table_list::{ApplyFault, BatchFault, spliced};
-use vo_spec::{Batch, Command};
-
-/// Whether each command makes a table, drops one or inserts a row.
-pub fn is_open(batch: &Batch) -> bool
-    ensures { result ≡ list_all is_open_command batch.now.commands }
-{
-    for command in batch.commands.as_slice() {
-        if matches!(command, Command::Update { .. } | Command::Delete { .. }) {
-            return false;
-        }
-    }
-    true
-}
+use vo_spec::Command;
 
 /// The same tables once more.
 pub(crate) fn shared(

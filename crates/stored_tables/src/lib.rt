@@ -13,7 +13,6 @@ mod table;
 mod tables;
 mod working;
 
-pub use batches::is_open;
 pub use table::StoredTable;
 pub use table_list::{ApplyFault, BatchFault};
 pub use tables::StoredTables;

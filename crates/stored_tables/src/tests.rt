@@ -304,21 +304,6 @@ fn drops_one_of_two_tables(rt: HostRuntime) -> Result<(), Fail> {
 }
 
 #[test]
-fn tells_open_batches(rt: HostRuntime) -> Result<(), Fail> {
-    let delete = delete_of(1);
-    for (bytes, open) in [
-        (ANN, true),
-        (EVE, false),
-        (delete.as_slice(), false),
-        (DROP, true),
-    ] {
-        let batch = read_batch(rt.alloc(), bytes)?;
-        assert_eq!(rt; is_open(&batch), open);
-    }
-    Ok(())
-}
-
-#[test]
 fn refuses_a_batch_whole(rt: HostRuntime) -> Result<(), Fail> {
     let mut tables = StoredTables::new(rt.alloc());
     for bytes in [CREATE, ANN] {

@@ -5,13 +5,14 @@ use Rattle.std.specs.Prelude.{IfSome, IsSome, is_some}
 use Rattle.outside.specs.Shelf.{Files}
 use Rattle.outside.specs.Miss.{CountsMiss}
 use Rattle.vo_spec.specs.Conditions.{Query}
+use Rattle.sql_text.specs.Scripts.{IsScript}
 use Rattle.vo_cli.specs.declared.report.Report.{Report}
 use Rattle.vo_cli.specs.declared.report.Stop.{Stop}
 use Rattle.vo_cli.specs.declared.report.Stop.TheVariants.{Says, Outside, Memory}
 use Rattle.vo_cli.specs.Reports.{Answers, GoesOn, ReadsText}
 use Rattle.vo_spec.specs.declared.tables.Batch.{Batch}
 use Rattle.vo_spec.specs.Secret.{Secret}
-use Rattle.vo_cli.specs.Texts.{IsQueryText, IsRefusedQuery, IsScriptText, IsRefusedScript}
+use Rattle.vo_cli.specs.Texts.{IsQueryText, IsRefusedQuery, IsRefusedScript}
 use Rattle.vo_cli.specs.Dues.{Due, Exactly, OfQuery, OfScript, with_text, with_seed, seal_said, script_due, seal_due, script_limit, Checks, Audits, Replies, HoldsEach, with_key, with_file, check_due, audit_due, answer_due, reply_limit, journal_limit}
 
 -- what was taken of a file answers for the file
@@ -114,13 +115,13 @@ module _ (name journal query key held : List ℕ) (q : Query) (is : IsQueryText 
 
 -- Scripts.
 
-of_script : (text : List ℕ) (batches : List Batch) (rest : List Batch → Due) (r : Result Report Stop) → IsScriptText text batches → Answers (rest batches) r → Answers (OfScript text rest) r
+of_script : (text : List ℕ) (batches : List Batch) (rest : List Batch → Due) (r : Result Report Stop) → IsScript text batches → Answers (rest batches) r → Answers (OfScript text rest) r
 of_script text batches rest (Ok report) is a = inl (batches, is, a)
 of_script text batches rest (Err (Says report)) is a = inl (batches, is, a)
 of_script text batches rest (Err Outside) is a = tt
 of_script text batches rest (Err Memory) is a = tt
 
-of_no_script : {A : Type 0} (view : A → List Batch) (text : List ℕ) (stop : Stop) (rest : List Batch → Due) → ReadsText view (IsScriptText text) (IsRefusedScript text) (Err stop) → Answers (OfScript text rest) (Err stop)
+of_no_script : {A : Type 0} (view : A → List Batch) (text : List ℕ) (stop : Stop) (rest : List Batch → Due) → ReadsText view (IsScript text) (IsRefusedScript text) (Err stop) → Answers (OfScript text rest) (Err stop)
 of_no_script view text (Says report) rest reads = inr (reads.0, reads.1)
 of_no_script view text Outside rest reads = tt
 of_no_script view text Memory rest reads = tt
@@ -128,13 +129,13 @@ of_no_script view text Memory rest reads = tt
 abbrev TextIs : List ℕ → List ℕ → Type 0
 TextIs bytes text = (rest : List ℕ → Due) → with_text rest bytes ≡ rest text
 
-pub script_told : (secret : Secret) (bytes text : List ℕ) (batches : List Batch) (r : Result Report Stop) → TextIs bytes text → IsScriptText text batches
+pub script_told : (secret : Secret) (bytes text : List ℕ) (batches : List Batch) (r : Result Report Stop) → TextIs bytes text → IsScript text batches
     → Answers (Exactly (seal_said secret batches)) r → Answers (script_due secret bytes) r
 script_told secret bytes text batches r goes is a =
     of_file (λ rest. with_text rest bytes) text (λ t. OfScript t (λ b. Exactly (seal_said secret b))) r goes
     (of_script text batches (λ b. Exactly (seal_said secret b)) r is a)
 
-pub script_stops : {A : Type 0} (view : A → List Batch) (secret : Secret) (bytes text : List ℕ) (stop : Stop) → TextIs bytes text → ReadsText view (IsScriptText text) (IsRefusedScript text) (Err stop)
+pub script_stops : {A : Type 0} (view : A → List Batch) (secret : Secret) (bytes text : List ℕ) (stop : Stop) → TextIs bytes text → ReadsText view (IsScript text) (IsRefusedScript text) (Err stop)
     → Answers (script_due secret bytes) (Err stop)
 script_stops view secret bytes text stop goes reads =
     of_file (λ rest. with_text rest bytes) text (λ t. OfScript t (λ b. Exactly (seal_said secret b))) (Err stop) goes

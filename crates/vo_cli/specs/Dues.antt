@@ -25,8 +25,9 @@ use Rattle.owner_state.specs.declared.sealing.SealFault.{SealFault}
 use Rattle.owner_state.specs.declared.sealing.SealFault.TheVariants as seal
 use Rattle.owner_state.specs.Sealing.{commands_of, seal_fault}
 use Rattle.vo_words.specs.Asked.{Asked, Keygen, Seal, Answer, Check, Audit}
+use Rattle.sql_text.specs.Scripts.{IsScript}
 use Rattle.vo_cli.specs.Lines.{Said, line, done, refused, refused_input, check_said, audit_said, bad_journal, command_said, key_spent}
-use Rattle.vo_cli.specs.Texts.{IsQueryText, IsRefusedQuery, IsScriptText, IsRefusedScript}
+use Rattle.vo_cli.specs.Texts.{IsQueryText, IsRefusedQuery, IsRefusedScript}
 
 -- These lines; or what is due of the query or the script that a text is; or what fits, where the definition is
 -- a relation: the reply to a query by a journal, and what a client or an auditor says of one.
@@ -54,8 +55,8 @@ Fits (Exactly due) said = said ≡ due
 Fits (OfQuery text rest) said =
     ((q : Query) × IsQueryText text q × Fits (rest q) said) ⊎ (((q : Query) → IsQueryText text q → ⊥) × IsRefusedQuery text said)
 Fits (OfScript text rest) said =
-    ((batches : List Batch) × IsScriptText text batches × Fits (rest batches) said)
-    ⊎ (((batches : List Batch) → IsScriptText text batches → ⊥) × IsRefusedScript text said)
+    ((batches : List Batch) × IsScript text batches × Fits (rest batches) said)
+    ⊎ (((batches : List Batch) → IsScript text batches → ⊥) × IsRefusedScript text said)
 Fits (Replies key journal q) said = IsReplied key journal q said
 Fits (Checks key least q reply) said = (answer : Result Accepted CheckFault) × CheckOf key least q reply answer × (said ≡ check_said answer)
 Fits (Audits key journal q reply) said =

@@ -117,10 +117,6 @@ sql_words sql.Memory = []
 abbrev pub sql_said : SqlFault → Said
 sql_said fault = refused_input (sql_words fault)
 
--- a script with a command that scripts may not have so far
-abbrev pub not_taken : Said
-not_taken = sql_said (sql.Syntax 0)
-
 -- Verdicts of `audit`.
 
 abbrev pub verdict_said : Verdict → Said

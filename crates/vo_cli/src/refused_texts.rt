@@ -28,7 +28,7 @@ fn is_want_of_memory(fault: SqlFault) -> bool
 }
 
 /// The fault in one line. Want of memory is none.
-pub fn refused_text(alloc: Global, fault: SqlFault) -> Result<Report, AllocError>
+fn refused_text(alloc: Global, fault: SqlFault) -> Result<Report, AllocError>
     requires { is_want_of_memory fault ≡ false }
     ensures { IfOk result (λ report. said_of report ≡ sql_said fault) }
 {

@@ -5,7 +5,6 @@ ghost use Rattle.vo_cli.specs.Dues.{HoldsEach, Exactly, script_due, seal_due, se
 ghost use Rattle.vo_cli.specs.Reports.{Answers, GoesOn};
 ghost use Rattle.vo_words.specs.Height.{number_of};
 ghost use Rattle.owner_state.specs.Sealing.{FitEach};
-ghost use Rattle.vo_cli.specs.Texts.{AreWritten};
 
 use crate::files::{take_file, take_seed};
 use crate::printed::Word;
@@ -74,7 +73,6 @@ fn text_in(alloc: Global, bytes: &[u8]) -> Result<&str, Stop>
 
 fn journal_of(alloc: Global, key: &SecretKey, batches: List<Batch>) -> Result<Report, Stop>
     requires fit { FitEach batches }
-    requires written { AreWritten batches }
     ensures told { Answers (Exactly (seal_said key.now batches)) result }
     ensures inside { IsErrOf result Stop.Outside → ⊥ }
 {

@@ -12,7 +12,7 @@ struct Case {
 }
 
 // Rows 1 to 17, which two leaves hold: 1 to 8, and 9 to 17.
-const SEVENTEEN_ROWS: &str = "CREATE TABLE t (id BIGINT, name TEXT, PRIMARY KEY (id)); COMMIT; \
+pub const SEVENTEEN_ROWS: &str = "CREATE TABLE t (id BIGINT, name TEXT, PRIMARY KEY (id)); COMMIT; \
     INSERT INTO t VALUES (1, 'x'); INSERT INTO t VALUES (2, 'x'); INSERT INTO t VALUES (3, 'x'); \
     INSERT INTO t VALUES (4, 'x'); INSERT INTO t VALUES (5, 'x'); INSERT INTO t VALUES (6, 'x'); \
     INSERT INTO t VALUES (7, 'x'); INSERT INTO t VALUES (8, 'x'); INSERT INTO t VALUES (9, 'x'); \
@@ -25,7 +25,13 @@ const STAFF: &str = "CREATE TABLE e (id BIGINT, name TEXT, boss BIGINT, PRIMARY 
     INSERT INTO e VALUES (1, 'ann', 9); INSERT INTO e VALUES (2, 'bob', 1); \
     INSERT INTO e VALUES (3, 'cid', 1); INSERT INTO d VALUES (1, 'rom'); COMMIT;";
 
-static CASES: [Case; 16] = [
+// A row changed, a row deleted and a table dropped.
+const CHANGED: &str =
+    "CREATE TABLE t (id BIGINT, name TEXT, PRIMARY KEY (id)); CREATE TABLE u (a TEXT, PRIMARY KEY (a)); COMMIT; \
+    INSERT INTO t VALUES (1, 'ann'); INSERT INTO t VALUES (2, 'bob'); INSERT INTO t VALUES (3, 'cid'); COMMIT; \
+    UPDATE t SET name = 'eve' WHERE id = 3; DELETE FROM t WHERE id = 1; DROP TABLE u; COMMIT;";
+
+static CASES: [Case; 18] = [
     Case {
         script: TWO_ROWS,
         query: "SELECT name FROM t WHERE id > 1 AND (name = 'bob' OR NOT id = 3)",
@@ -106,6 +112,19 @@ static CASES: [Case; 16] = [
         query: "SELECT * FROM t WHERE id > 9 AND id < 8",
         reply: 1_454,
         answer: "version 2\nid,name\n",
+    },
+    // what a row has become, and a table that is no more
+    Case {
+        script: CHANGED,
+        query: "SELECT * FROM t",
+        reply: 1_461,
+        answer: "version 3\nid,name\n2,'bob'\n3,'eve'\n",
+    },
+    Case {
+        script: CHANGED,
+        query: "SELECT * FROM u",
+        reply: 1_421,
+        answer: "version 3\nwrong: no table u\n",
     },
     // a table joined with itself, and two tables
     Case {

@@ -1,5 +1,6 @@
 //! Scripts that `seal` refuses, and those at the edge of what it takes.
 use crate::tests::folder::Folder;
+use crate::tests::queries::SEVENTEEN_ROWS;
 use crate::tests::sealed::TWO_ROWS;
 use std::alloc::{AllocError, Global};
 use std::process::Abort;
@@ -8,7 +9,7 @@ use std::test::Fail;
 const CREATE: &str = "CREATE TABLE t (id BIGINT, name TEXT, PRIMARY KEY (id)); COMMIT; ";
 
 // Behind the table t, and two rows of it: the first command that is refused.
-static REFUSED_COMMANDS: [(&str, &str); 11] = [
+static REFUSED_COMMANDS: [(&str, &str); 18] = [
     (CREATE, "refused: command 0 TableExists\n"),
     (
         "INSERT INTO u VALUES (1); COMMIT;",
@@ -51,10 +52,39 @@ static REFUSED_COMMANDS: [(&str, &str); 11] = [
         "INSERT INTO u VALUES (1); COMMIT; INSERT INTO t VALUES (2); COMMIT;",
         "refused: command 0 NoTable\n",
     ),
+    // changes of rows that aren't there or whose column isn't the key, and of what isn't there at all
+    (
+        "UPDATE t SET name = 'z' WHERE id = 2; COMMIT;",
+        "refused: command 0 NoRow\n",
+    ),
+    (
+        "DELETE FROM t WHERE id = 1; DELETE FROM t WHERE id = 1; COMMIT;",
+        "refused: command 1 NoRow\n",
+    ),
+    (
+        "UPDATE t SET name = 'z' WHERE name = 'ann'; COMMIT;",
+        "refused: command 0 NotKey\n",
+    ),
+    (
+        "UPDATE t SET id = 2 WHERE id = 1; COMMIT;",
+        "refused: command 0 BadSet\n",
+    ),
+    (
+        "UPDATE t SET town = 'z' WHERE id = 1; COMMIT;",
+        "refused: command 0 NoColumn\n",
+    ),
+    (
+        "DELETE FROM t WHERE id = 'ann'; COMMIT;",
+        "refused: command 0 TypeMismatch\n",
+    ),
+    (
+        "DROP TABLE t; INSERT INTO t VALUES (2, 'b'); COMMIT;",
+        "refused: command 1 NoTable\n",
+    ),
 ];
 
 // Bytes that are no script.
-static NO_SCRIPTS: [(&[u8], &str); 9] = [
+static NO_SCRIPTS: [(&[u8], &str); 8] = [
     (b"CREATE TABLE t\xff", "refused: not text\n"),
     (b"\xc3", "refused: not text\n"),
     (b"COMMIT;", "refused: sql syntax 0\n"),
@@ -76,11 +106,6 @@ static NO_SCRIPTS: [(&[u8], &str); 9] = [
         b"INSERT INTO nnnnnnnnnnnnnnnnnnnnnnnnnnnnnnnnnnnnnnnnnnnnnnnnnnnnnnnnnnnnnnnn VALUES (1); COMMIT;",
         "refused: sql name\n",
     ),
-    // what the program doesn't take so far
-    (
-        b"CREATE TABLE t (id BIGINT, PRIMARY KEY (id)); COMMIT; DROP TABLE t; COMMIT;",
-        "refused: sql syntax 0\n",
-    ),
 ];
 
 // How many tables there may be, one after another and in a batch each, with the length of their journal, and what
@@ -88,6 +113,16 @@ static NO_SCRIPTS: [(&[u8], &str); 9] = [
 static MOST: [(u8, &str, usize, &str); 2] = [
     (64, "", 3_457, "refused: command 64 TooManyTables\n"),
     (31, "COMMIT; ", 44_524, "refused: key spent\n"),
+];
+
+// Behind the rows 1 to 17, whose batch has proofs of 5,888 bytes (the j-th is a leaf of 2 + 43 * (j - 1)): the
+// length of the journal. Of the first change both leaves are open, in proofs of 753 bytes, of the second one, in 440;
+// the row of the third stands as its one cell, hidden, in 442.
+static CHANGES: [(&str, usize); 4] = [
+    ("", 10_332),
+    ("DELETE FROM t WHERE id = 1; COMMIT;", 12_475),
+    ("DELETE FROM t WHERE id = 9; COMMIT;", 12_162),
+    ("UPDATE t SET name = 'y' WHERE id = 9; COMMIT;", 12_174),
 ];
 
 /// The text of a script that makes so many tables, with this between each two.
@@ -146,6 +181,16 @@ fn refuses_commands(rt: HostRuntime) -> Result<(), Fail> {
     for (rest, text) in REFUSED_COMMANDS {
         let script = format!(in alloc; "{TWO_ROWS} {rest}")?;
         refuses(&rt, alloc, script.as_bytes(), 8, text)?;
+    }
+    Ok(())
+}
+
+#[test]
+fn seals_changes(rt: HostRuntime) -> Result<(), Fail> {
+    let alloc = rt.alloc();
+    for (rest, length) in CHANGES {
+        let script = format!(in alloc; "{SEVENTEEN_ROWS} {rest}")?;
+        assert_eq!(rt; journal_length(alloc, &script)?, length, "{rest}");
     }
     Ok(())
 }
