@@ -1,0 +1,92 @@
+//! Changes as bytes: the kind, the key behind its length, and behind their number the values that an insertion gives,
+//! or the columns and values that a replacement sets.
+ghost use Rattle.std.specs.Prelude.{IfOk};
+ghost use Rattle.vo_spec.specs.Fits.{FitsCells, FitsKey};
+ghost use Rattle.vo_spec.specs.Values.{FitsValue};
+ghost use Rattle.mb_update.specs.Sets.{FitsSets};
+ghost use Rattle.tree_lines.specs.Fitting.{FitsOp};
+
+use mb_update::{Op, SetCell};
+use row_bytes::{Cursor, ReadFault, own_value, take_value};
+use std::alloc::Global;
+use vo_spec::{Key, List, Row, Value};
+
+/// The change that all the bytes are.
+pub fn read_change(alloc: Global, bytes: &[u8]) -> Result<Op, ReadFault>
+    ensures { IfOk result (λ op. FitsOp op) }
+{
+    let mut cursor = Cursor::new(bytes);
+    let op = take_change(alloc, &mut cursor)?;
+    if cursor.is_empty() {
+        Ok(op)
+    } else {
+        Err(ReadFault::BadForm)
+    }
+}
+
+fn take_change(alloc: Global, cursor: &mut Cursor<'_>) -> Result<Op, ReadFault>
+    ensures { IfOk result (λ op. FitsOp op) }
+{
+    let kind = cursor.take_byte().ok_or(ReadFault::BadForm)?;
+    let key = take_key(alloc, cursor)?;
+    match kind {
+        1 => {
+            let cells = take_values(alloc, cursor)?;
+            Ok(Op::Insert {
+                row: Row { key, cells },
+            })
+        }
+        2 => {
+            let sets = take_sets(alloc, cursor)?;
+            Ok(Op::Replace { key, sets })
+        }
+        3 => Ok(Op::Remove { key }),
+        _ => Err(ReadFault::BadForm),
+    }
+}
+
+fn take_key(alloc: Global, cursor: &mut Cursor<'_>) -> Result<Key, ReadFault>
+    ensures { IfOk result (λ key. FitsKey key) }
+{
+    let key = cursor.take_string().ok_or(ReadFault::BadForm)?;
+    if key.len() > 255 {
+        return Err(ReadFault::BadForm);
+    }
+    Ok(Key::from_vec(Vec::from_slice(alloc, key)?))
+}
+
+fn take_value_of(alloc: Global, cursor: &mut Cursor<'_>) -> Result<Value, ReadFault>
+    ensures { IfOk result (λ value. FitsValue value) }
+{
+    match take_value(cursor) {
+        Ok(value) => Ok(own_value(alloc, value)?),
+        Err(_) => Err(ReadFault::BadForm),
+    }
+}
+
+fn take_values(alloc: Global, cursor: &mut Cursor<'_>) -> Result<List<Value>, ReadFault>
+    ensures { IfOk result (λ values. FitsCells values) }
+{
+    let count = cursor.take_byte().ok_or(ReadFault::BadForm)?;
+    if count > 31 {
+        return Err(ReadFault::BadForm);
+    }
+    let mut values = Vec::new(alloc);
+    for _ in 0..count {
+        values.push(take_value_of(alloc, cursor)?)?;
+    }
+    Ok(List::from_vec(values))
+}
+
+fn take_sets(alloc: Global, cursor: &mut Cursor<'_>) -> Result<List<SetCell>, ReadFault>
+    ensures { IfOk result (λ sets. FitsSets sets) }
+{
+    let count = cursor.take_byte().ok_or(ReadFault::BadForm)?;
+    let mut sets = Vec::new(alloc);
+    for _ in 0..count {
+        let column = cursor.take_byte().ok_or(ReadFault::BadForm)?;
+        let value = take_value_of(alloc, cursor)?;
+        sets.push(SetCell { column, value })?;
+    }
+    Ok(List::from_vec(sets))
+}
