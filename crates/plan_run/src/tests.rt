@@ -11,65 +11,66 @@ use query_plan::{CatalogSchemas, Sides, bind, has_one_tree, is_narrow, left_need
 use std::alloc::{AllocError, Global};
 use std::test::*;
 use vo_spec::{
-    Cell, CellValue, Cmp, Digest, KeyPart, List, PartEntry, QueryText, RowPart, ScanFault, Value,
-    ValueRef,
+    Cell, CellValue, Cmp, Digest, KeyPart, List, PartEntry, QueryText, RowPart, ScanFault, ValueRef,
 };
 use worked_tables::{bosses, catalog, select};
 
+/// A key, and the cells that its row shows; none where the row is closed.
+type Row = (&'static [u8], &'static [ValueRef<'static>]);
+
 /// The key bytes of 1, 2 and 3.
-static KEYS: [[u8; 8]; 3] = [
-    [0x80, 0, 0, 0, 0, 0, 0, 1],
-    [0x80, 0, 0, 0, 0, 0, 0, 2],
-    [0x80, 0, 0, 0, 0, 0, 0, 3],
-];
+const ONE: &[u8] = b"\x80\x00\x00\x00\x00\x00\x00\x01";
 
-fn stub() -> PartTree<'static> {
-    PartTree::Stub(Digest::new([7; 32]))
-}
+const TWO: &[u8] = b"\x80\x00\x00\x00\x00\x00\x00\x02";
 
-/// An entry with this key that shows a text, and beside it a number if there is one.
-fn open_entry(
-    alloc: Global,
-    key: &'static [u8],
-    text: &'static [u8],
-    number: Option<i64>,
-) -> Result<PartEntry<'static>, AllocError> {
-    let mut cells = List::new(alloc);
-    cells.push(Cell::Shown(CellValue::lent(ValueRef::Text(text))))?;
-    if let Some(number) = number {
-        cells.push(Cell::Shown(CellValue::lent(ValueRef::Int(number))))?;
-    }
-    Ok(PartEntry {
-        key: KeyPart::lent(key),
-        row: RowPart::Cells(cells),
-    })
-}
+const THREE: &[u8] = b"\x80\x00\x00\x00\x00\x00\x00\x03";
 
-/// Rows of t, of which the first is closed.
-fn names(alloc: Global) -> Result<PartTree<'static>, AllocError> {
-    let mut entries = List::new(alloc);
-    entries.push(PartEntry {
-        key: KeyPart::lent(&KEYS[0]),
-        row: RowPart::Digest(Digest::new([7; 32])),
-    })?;
-    entries.push(open_entry(alloc, &KEYS[2], b"bob", None)?)?;
-    Ok(PartTree::Leaf(entries))
-}
+/// Rows of t.
+const NAMES: &[Row] = &[(ONE, &[]), (THREE, &[ValueRef::Text(b"bob")])];
 
 /// Rows of e.
-fn workers(alloc: Global) -> Result<PartTree<'static>, AllocError> {
+const WORKERS: &[Row] = &[
+    (ONE, &[ValueRef::Text(b"ann"), ValueRef::Int(9)]),
+    (TWO, &[ValueRef::Text(b"bob"), ValueRef::Int(1)]),
+    (THREE, &[ValueRef::Text(b"cid"), ValueRef::Int(1)]),
+];
+
+/// The row of d.
+const CITIES: &[Row] = &[(ONE, &[ValueRef::Text(b"rom")])];
+
+/// No rows, of which the tree is a stub.
+const CLOSED: &[Row] = &[];
+
+fn row_part(alloc: Global, values: &[ValueRef<'static>]) -> Result<RowPart<'static>, AllocError> {
+    if values.is_empty() {
+        return Ok(RowPart::Digest(Digest::new([7; 32])));
+    }
+    let mut cells = List::new(alloc);
+    for value in values {
+        cells.push(Cell::Shown(CellValue::lent(*value)))?;
+    }
+    Ok(RowPart::Cells(cells))
+}
+
+fn tree(alloc: Global, rows: &[Row]) -> Result<PartTree<'static>, AllocError> {
+    if rows.is_empty() {
+        return Ok(PartTree::Stub(Digest::new([7; 32])));
+    }
     let mut entries = List::new(alloc);
-    entries.push(open_entry(alloc, &KEYS[0], b"ann", Some(9))?)?;
-    entries.push(open_entry(alloc, &KEYS[1], b"bob", Some(1))?)?;
-    entries.push(open_entry(alloc, &KEYS[2], b"cid", Some(1))?)?;
+    for (key, values) in rows {
+        let row = row_part(alloc, values)?;
+        let key = KeyPart::lent(key);
+        entries.push(PartEntry { key, row })?;
+    }
     Ok(PartTree::Leaf(entries))
 }
 
-/// The row of d.
-fn cities(alloc: Global) -> Result<PartTree<'static>, AllocError> {
-    let mut entries = List::new(alloc);
-    entries.push(open_entry(alloc, &KEYS[0], b"rom", None)?)?;
-    Ok(PartTree::Leaf(entries))
+fn trees(alloc: Global, tables: &[&[Row]]) -> Result<Vec<PartTree<'static>>, AllocError> {
+    let mut trees = Vec::new(alloc);
+    for rows in tables {
+        trees.push(tree(alloc, rows)?)?;
+    }
+    Ok(trees)
 }
 
 /// There are the sources of the query.
@@ -89,28 +90,17 @@ fn has_trees(sides: &Sides<'_>, trees: &[PartTree<'_>]) -> bool
     trees.len() == if has_one_tree(sides) { 1 } else { 2 }
 }
 
-fn put_texts(bytes: &mut Vec<u8>, row: &[Value]) -> Result<(), AllocError> {
-    for value in row {
-        if let Value::Text(text) = value {
-            bytes.push(b' ')?;
-            bytes.extend_from_slice(text.as_bytes())?;
-        }
+/// The rows, and how many needs there are of each tree.
+fn ran_shown(alloc: Global, ran: &Ran) -> Result<String, AllocError> {
+    let mut counts = Vec::new(alloc);
+    for needs in ran.needs.as_slice() {
+        counts.push(needs.len())?;
     }
-    bytes.extend_from_slice(b";")
+    format!(in alloc; "{:?} {counts:?}", ran.rows)
 }
 
-/// The texts of the answer's rows, each behind a blank, and behind all rows a digit for each tree: how many
-/// needs it has.
-fn written(alloc: Global, ran: &Ran) -> Result<Vec<u8>, AllocError> {
-    let mut bytes = Vec::new(alloc);
-    for row in ran.rows.as_slice() {
-        put_texts(&mut bytes, row.as_slice())?;
-    }
-    for needs in ran.needs.as_slice() {
-        let count = u8::try_from(needs.len()).unwrap_or(u8::MAX);
-        bytes.push(b'0'.wrapping_add(count))?;
-    }
-    Ok(bytes)
+fn fault_shown(alloc: Global, fault: ScanFault) -> Result<String, AllocError> {
+    format!(in alloc; "{fault:?}")
 }
 
 fn run_bound(
@@ -118,84 +108,112 @@ fn run_bound(
     sides: &Sides<'_>,
     query: &QueryText,
     trees: &[PartTree<'_>],
-) -> Result<Vec<u8>, ScanFault> {
+) -> Result<String, AllocError> {
     if !has_sources(sides, query) || !has_trees(sides, trees) {
-        return Err(ScanFault::Memory);
+        return Ok(String::new(alloc));
     }
     if !is_narrow(sides, 0) || !is_narrow(sides, 1) {
-        return Err(ScanFault::Memory);
+        return Ok(String::new(alloc));
     }
     match run_plan(alloc, sides, query, trees) {
-        Ok(ran) => Ok(written(alloc, &ran)?),
+        Ok(ran) => ran_shown(alloc, &ran),
+        Err(fault) => fault_shown(alloc, fault),
+    }
+}
+
+/// What trees of these rows show for the query.
+fn shown(alloc: Global, query: &QueryText, tables: &[&[Row]]) -> Result<String, AllocError> {
+    let trees = trees(alloc, tables)?;
+    let catalog = catalog(alloc)?;
+    let schemas = CatalogSchemas { catalog: &catalog };
+    match bind(alloc, &schemas, query) {
+        Ok(sides) => run_bound(alloc, &sides, query, &trees),
+        Err(_) => Ok(String::new(alloc)),
+    }
+}
+
+// Ids of t from which on the query asks, the tree's rows, and what it shows.
+const OF_A_TABLE: [(i64, &[Row], &str); 4] = [
+    (
+        1,
+        NAMES,
+        "List { items: [List { items: [Text(Text { bytes: [98, 111, 98] })] }] } [1]",
+    ),
+    // the closed row is missing
+    (0, NAMES, "Missing"),
+    (1, CLOSED, "Missing"),
+    (0, CLOSED, "Missing"),
+];
+
+#[test]
+fn shows_the_rows_of_a_table(rt: HostRuntime) -> Result<(), Fail> {
+    for (number, rows, due) in OF_A_TABLE {
+        let query = select(rt.alloc(), b"name", b"t", &[(Cmp::Gt, number)])?;
+        assert_eq!(rt; shown(rt.alloc(), &query, &[rows])?.as_str(), due);
+    }
+    Ok(())
+}
+
+// bob and ann, cid and ann
+const WITH_BOSSES: &str =
+    "List { items: [List { items: [Text(Text { bytes: [98, 111, 98] }), Text(Text { bytes: [97, 110, 110] })] }, List { items: [Text(Text { bytes: [99, 105, 100] }), Text(Text { bytes: [97, 110, 110] })] }] } [4]";
+
+// bob and rom
+const WITH_CITIES: &str =
+    "List { items: [List { items: [Text(Text { bytes: [98, 111, 98] }), Text(Text { bytes: [114, 111, 109] })] }] } [1, 2]";
+
+#[test]
+fn shows_the_rows_of_a_join_with_itself(rt: HostRuntime) -> Result<(), Fail> {
+    let query = bosses(rt.alloc(), b"name", b"e", &[])?;
+    assert_eq!(rt;
+        shown(rt.alloc(), &query, &[WORKERS])?.as_str(),
+        WITH_BOSSES
+    );
+    Ok(())
+}
+
+#[test]
+fn shows_the_rows_of_a_join(rt: HostRuntime) -> Result<(), Fail> {
+    let query = bosses(rt.alloc(), b"city", b"d", &[(Cmp::Lt, 3)])?;
+    assert_eq!(rt;
+        shown(rt.alloc(), &query, &[WORKERS, CITIES])?.as_str(),
+        WITH_CITIES
+    );
+    Ok(())
+}
+
+/// How many needs of the right tree the left one shows.
+fn rights_bound(
+    alloc: Global,
+    sides: &Sides<'_>,
+    query: &QueryText,
+    left: &PartTree<'_>,
+) -> Result<usize, ScanFault> {
+    if !is_narrow(sides, 0) || !is_narrow(sides, 1) {
+        return Ok(0);
+    }
+    let need = left_need(alloc, sides, query)?;
+    match right_needs(alloc, sides, query, &need, left) {
+        Ok(needs) => Ok(needs.len()),
         Err(fault) => Err(fault),
     }
 }
 
-/// What the trees show for the query, as bytes.
-fn shown(alloc: Global, query: &QueryText, trees: &[PartTree<'_>]) -> Result<Vec<u8>, ScanFault> {
+fn rights(alloc: Global, query: &QueryText, rows: &[Row]) -> Result<usize, ScanFault> {
+    let left = tree(alloc, rows)?;
     let catalog = catalog(alloc)?;
     let schemas = CatalogSchemas { catalog: &catalog };
     match bind(alloc, &schemas, query) {
-        Ok(sides) => run_bound(alloc, &sides, query, trees),
-        Err(_) => Err(ScanFault::Memory),
+        Ok(sides) => rights_bound(alloc, &sides, query, &left),
+        Err(_) => Ok(0),
     }
-}
-
-#[test]
-fn shows_the_rows_of_a_table(rt: HostRuntime) -> Result<(), Fail> {
-    let alloc = rt.alloc();
-    let trees = vec![in alloc; names(alloc)?]?;
-    let closed = vec![in alloc; stub()]?;
-    // from 1 on the closed row is missing
-    for (number, is_missing) in [(1, false), (0, true)] {
-        let query = select(alloc, b"name", b"t", &[(Cmp::Gt, number)])?;
-        match shown(alloc, &query, &trees) {
-            Ok(bytes) => assert_eq!(rt; bytes.as_slice(), b" bob;1".as_slice()),
-            Err(fault) => assert!(rt; is_missing && fault == ScanFault::Missing),
-        }
-        assert_eq!(rt;
-            shown(alloc, &query, &closed).err(),
-            Some(ScanFault::Missing)
-        );
-    }
-    Ok(())
-}
-
-#[test]
-fn shows_the_rows_of_joins(rt: HostRuntime) -> Result<(), Fail> {
-    let alloc = rt.alloc();
-    let trees = vec![in alloc; workers(alloc)?]?;
-    let query = bosses(alloc, b"name", b"e", &[])?;
-    let Ok(bytes) = shown(alloc, &query, &trees) else {
-        panic!(rt; "two workers");
-    };
-    assert_eq!(rt; bytes.as_slice(), b" bob ann; cid ann;4".as_slice());
-    let trees = vec![in alloc; workers(alloc)?, cities(alloc)?]?;
-    let query = bosses(alloc, b"city", b"d", &[(Cmp::Lt, 3)])?;
-    let Ok(bytes) = shown(alloc, &query, &trees) else {
-        panic!(rt; "a city");
-    };
-    assert_eq!(rt; bytes.as_slice(), b" bob rom;12".as_slice());
-    Ok(())
 }
 
 #[test]
 fn finds_what_left_rows_need(rt: HostRuntime) -> Result<(), Fail> {
-    let alloc = rt.alloc();
-    let catalog = catalog(alloc)?;
-    let schemas = CatalogSchemas { catalog: &catalog };
-    let query = bosses(alloc, b"city", b"d", &[(Cmp::Lt, 3)])?;
-    let Ok(sides) = bind(alloc, &schemas, &query) else {
-        panic!(rt; "a query that binds");
-    };
-    assert!(rt; is_narrow(&sides, 0));
-    assert!(rt; is_narrow(&sides, 1));
-    let need = left_need(alloc, &sides, &query)?;
-    let Ok(needs) = right_needs(alloc, &sides, &query, &need, &workers(alloc)?) else {
-        panic!(rt; "the needs of two rows");
-    };
-    assert_eq!(rt; needs.len(), 2);
-    let found = right_needs(alloc, &sides, &query, &need, &stub());
-    assert_eq!(rt; found.err(), Some(ScanFault::Missing));
+    let query = bosses(rt.alloc(), b"city", b"d", &[(Cmp::Lt, 3)])?;
+    for (rows, due) in [(WORKERS, Ok(2)), (CLOSED, Err(ScanFault::Missing))] {
+        assert_eq!(rt; rights(rt.alloc(), &query, rows), due);
+    }
     Ok(())
 }

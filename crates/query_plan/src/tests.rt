@@ -5,35 +5,8 @@ ghost use Rattle.vo_spec.specs.Tables.{value_at};
 use super::*;
 use std::alloc::{AllocError, Global};
 use std::test::*;
-use vo_spec::{Bound, Cmp, Text, Value, ValueRef};
+use vo_spec::{Cmp, Text, Value, ValueRef};
 use worked_tables::{bosses, catalog, select};
-
-/// Whether the bound is so: 0 for none, 1 for one that is in the interval, 2 for one that is not; and the
-/// number that its key is of.
-fn is_bound(bound: &Bound, sort: u8, number: u8) -> bool {
-    let key = [0x80, 0, 0, 0, 0, 0, 0, number];
-    match bound {
-        Bound::Absent => sort == 0,
-        Bound::Inclusive(held) => sort == 1 && held.as_bytes() == key.as_slice(),
-        Bound::Exclusive(held) => sort == 2 && held.as_bytes() == key.as_slice(),
-    }
-}
-
-/// What the query needs of the left tree, if it binds.
-fn left_of(alloc: Global, query: &QueryText) -> Result<Option<Need>, AllocError> {
-    let catalog = catalog(alloc)?;
-    let schemas = CatalogSchemas { catalog: &catalog };
-    match bind(alloc, &schemas, query) {
-        Ok(sides) => {
-            if is_narrow(&sides, 0) {
-                Ok(Some(left_need(alloc, &sides, query)?))
-            } else {
-                Ok(None)
-            }
-        },
-        Err(_) => Ok(None),
-    }
-}
 
 /// A row as the values of its columns.
 #[derive(Drop)]
@@ -52,102 +25,146 @@ impl Line for Fields<'_> {
     }
 }
 
-fn right_by(
+/// What is asked of a query that binds.
+#[derive(Clone, Copy)]
+enum Asked {
+    /// What it needs of the left tree.
+    Left,
+    /// What it needs of the right tree for a row of e of this id and this boss.
+    Right(i64, i64),
+    /// Whether it is of one table, whether it reads one tree, and how many it reads.
+    Trees,
+}
+
+fn left_shown(alloc: Global, sides: &Sides<'_>, query: &QueryText) -> Result<String, AllocError> {
+    if !is_narrow(sides, 0) {
+        return Ok(String::new(alloc));
+    }
+    let need = left_need(alloc, sides, query)?;
+    format!(in alloc; "{need:?}")
+}
+
+/// Nothing, where the row doesn't meet the left condition.
+fn right_shown(
     alloc: Global,
     sides: &Sides<'_>,
     query: &QueryText,
     left: &Fields<'_>,
-) -> Result<Option<Need>, AllocError> {
-    match &query.join {
-        Some(join) => {
-            if is_narrow(sides, 1) && meets_left(sides, query, left) {
-                Ok(Some(right_need(alloc, sides, query, join, left)?))
-            } else {
-                Ok(None)
-            }
+) -> Result<String, AllocError> {
+    let Some(join) = &query.join else {
+        return Ok(String::new(alloc));
+    };
+    if !is_narrow(sides, 1) || !meets_left(sides, query, left) {
+        return Ok(String::new(alloc));
+    }
+    let need = right_need(alloc, sides, query, join, left)?;
+    format!(in alloc; "{need:?}")
+}
+
+fn trees_shown(alloc: Global, sides: &Sides<'_>) -> Result<String, AllocError> {
+    let count = tables_used(alloc, sides)?.len();
+    format!(in alloc; "{} {} {count}", same_table(sides), has_one_tree(sides))
+}
+
+fn bound_shown(
+    alloc: Global,
+    sides: &Sides<'_>,
+    query: &QueryText,
+    what: Asked,
+) -> Result<String, AllocError> {
+    match what {
+        Asked::Left => left_shown(alloc, sides, query),
+        Asked::Right(id, boss) => {
+            let name = Value::Text(Text::from_vec(Vec::new(alloc)));
+            let values = [Value::Int(id), name, Value::Int(boss)];
+            right_shown(alloc, sides, query, &Fields { values: &values })
         },
-        None => Ok(None),
+        Asked::Trees => trees_shown(alloc, sides),
     }
 }
 
-/// What the query needs of the right tree for a row of e, if the row meets its left condition.
-fn right_of(
-    alloc: Global,
-    query: &QueryText,
-    id: i64,
-    boss: i64,
-) -> Result<Option<Need>, AllocError> {
+/// What is shown of a query to the worked tables, nothing of one that doesn't bind.
+fn shown(alloc: Global, query: &QueryText, what: Asked) -> Result<String, AllocError> {
     let catalog = catalog(alloc)?;
     let schemas = CatalogSchemas { catalog: &catalog };
-    let text = Text::from_vec(Vec::from_slice(alloc, b"ann")?);
-    let values = vec![in alloc; Value::Int(id), Value::Text(text), Value::Int(boss)]?;
-    let left = Fields { values: &values };
     match bind(alloc, &schemas, query) {
-        Ok(sides) => right_by(alloc, &sides, query, &left),
-        Err(_) => Ok(None),
+        Ok(sides) => bound_shown(alloc, &sides, query, what),
+        Err(_) => Ok(String::new(alloc)),
     }
 }
+
+// A column of t, two comparisons of id, and what the query needs. In the third and the fourth no key can be.
+const LEFTS: [(&[u8], [(Cmp, i64); 2], &str); 5] = [
+    (
+        b"id",
+        [(Cmp::Ge, 8), (Cmp::Le, 9)],
+        "Need { interval: Interval { low: Inclusive(Key { bytes: [128, 0, 0, 0, 0, 0, 0, 8] }), high: Inclusive(Key { bytes: [128, 0, 0, 0, 0, 0, 0, 9] }) }, columns: List { items: [] } }",
+    ),
+    (
+        b"name",
+        [(Cmp::Gt, 1), (Cmp::Ne, 5)],
+        "Need { interval: Interval { low: Exclusive(Key { bytes: [128, 0, 0, 0, 0, 0, 0, 1] }), high: Absent }, columns: List { items: [0] } }",
+    ),
+    (
+        b"id",
+        [(Cmp::Ge, 9), (Cmp::Lt, 9)],
+        "Need { interval: Interval { low: Inclusive(Key { bytes: [128, 0, 0, 0, 0, 0, 0, 9] }), high: Exclusive(Key { bytes: [128, 0, 0, 0, 0, 0, 0, 9] }) }, columns: List { items: [] } }",
+    ),
+    (
+        b"name",
+        [(Cmp::Gt, 9), (Cmp::Lt, 8)],
+        "Need { interval: Interval { low: Exclusive(Key { bytes: [128, 0, 0, 0, 0, 0, 0, 9] }), high: Exclusive(Key { bytes: [128, 0, 0, 0, 0, 0, 0, 8] }) }, columns: List { items: [0] } }",
+    ),
+    (
+        b"name",
+        [(Cmp::Eq, 9), (Cmp::Ge, 9)],
+        "Need { interval: Interval { low: Inclusive(Key { bytes: [128, 0, 0, 0, 0, 0, 0, 9] }), high: Inclusive(Key { bytes: [128, 0, 0, 0, 0, 0, 0, 9] }) }, columns: List { items: [0] } }",
+    ),
+];
 
 #[test]
 fn finds_what_a_query_needs_of_a_table(rt: HostRuntime) -> Result<(), Fail> {
-    let alloc = rt.alloc();
-    // two comparisons of id, the bounds that they leave, and whether the column is named
-    let cases = [
-        (false, Cmp::Ge, 8, Cmp::Le, 9, (1, 8), (1, 9)),
-        (true, Cmp::Gt, 1, Cmp::Ne, 5, (2, 1), (0, 0)),
-        // no key is there, and no key can be there
-        (false, Cmp::Ge, 9, Cmp::Lt, 9, (1, 9), (2, 9)),
-        (true, Cmp::Gt, 9, Cmp::Lt, 8, (2, 9), (2, 8)),
-        (true, Cmp::Eq, 9, Cmp::Ge, 9, (1, 9), (1, 9)),
-    ];
-    for (is_named, first, a, second, b, low, high) in cases {
-        let column: &[u8] = if is_named { b"name" } else { b"id" };
-        let query = select(alloc, column, b"t", &[(first, a), (second, b)])?;
-        let Some(need) = left_of(alloc, &query)? else {
-            panic!(rt; "a query that binds");
-        };
-        assert!(rt; is_bound(&need.interval.low, low.0, low.1), "low {a}");
-        assert!(rt; is_bound(&need.interval.high, high.0, high.1), "high {b}");
-        assert_eq!(rt; need.columns.len(), usize::from(is_named));
+    for (column, tests, need) in LEFTS {
+        let query = select(rt.alloc(), column, b"t", &tests)?;
+        assert_eq!(rt; shown(rt.alloc(), &query, Asked::Left)?.as_str(), need);
     }
     Ok(())
 }
 
+// Of the rows of e below 3 with their bosses, and of one that is not below 3.
+const JOINS: [(Asked, &str); 4] = [
+    (
+        Asked::Left,
+        "Need { interval: Interval { low: Absent, high: Exclusive(Key { bytes: [128, 0, 0, 0, 0, 0, 0, 3] }) }, columns: List { items: [0, 1] } }",
+    ),
+    (
+        Asked::Right(1, 9),
+        "Need { interval: Interval { low: Inclusive(Key { bytes: [128, 0, 0, 0, 0, 0, 0, 9] }), high: Inclusive(Key { bytes: [128, 0, 0, 0, 0, 0, 0, 9] }) }, columns: List { items: [0] } }",
+    ),
+    (
+        Asked::Right(2, 1),
+        "Need { interval: Interval { low: Inclusive(Key { bytes: [128, 0, 0, 0, 0, 0, 0, 1] }), high: Inclusive(Key { bytes: [128, 0, 0, 0, 0, 0, 0, 1] }) }, columns: List { items: [0] } }",
+    ),
+    (Asked::Right(3, 1), ""),
+];
+
 #[test]
 fn finds_what_a_left_row_needs(rt: HostRuntime) -> Result<(), Fail> {
-    let alloc = rt.alloc();
-    let query = bosses(alloc, b"name", b"e", &[(Cmp::Lt, 3)])?;
-    for (id, boss) in [(1, 9), (2, 1)] {
-        let Some(need) = right_of(alloc, &query, id, i64::from(boss))? else {
-            panic!(rt; "a row below 3");
-        };
-        assert!(rt; is_bound(&need.interval.low, 1, boss));
-        assert!(rt; is_bound(&need.interval.high, 1, boss));
-        assert_eq!(rt; need.columns.as_slice(), [0].as_slice());
+    let query = bosses(rt.alloc(), b"name", b"e", &[(Cmp::Lt, 3)])?;
+    for (what, need) in JOINS {
+        assert_eq!(rt; shown(rt.alloc(), &query, what)?.as_str(), need);
     }
-    assert!(rt; right_of(alloc, &query, 3, 1)?.is_none());
-    let Some(need) = left_of(alloc, &query)? else {
-        panic!(rt; "a query that binds");
-    };
-    assert!(rt; is_bound(&need.interval.low, 0, 0));
-    assert!(rt; is_bound(&need.interval.high, 2, 3));
-    assert_eq!(rt; need.columns.as_slice(), [0, 1].as_slice());
     Ok(())
 }
 
 #[test]
 fn tells_which_trees_are_read(rt: HostRuntime) -> Result<(), Fail> {
-    let alloc = rt.alloc();
-    let catalog = catalog(alloc)?;
-    let schemas = CatalogSchemas { catalog: &catalog };
-    for (right, column, same, trees) in [(b"e", b"name", true, 1), (b"d", b"city", false, 2)] {
-        let query = bosses(alloc, column, right, &[])?;
-        let Ok(sides) = bind(alloc, &schemas, &query) else {
-            panic!(rt; "a query that binds");
-        };
-        assert_eq!(rt; same_table(&sides), same);
-        assert_eq!(rt; has_one_tree(&sides), same);
-        assert_eq!(rt; tables_used(alloc, &sides)?.len(), trees);
+    for (right, column, trees) in [
+        (b"e", b"name", "true true 1"),
+        (b"d", b"city", "false false 2"),
+    ] {
+        let query = bosses(rt.alloc(), column, right, &[])?;
+        assert_eq!(rt; shown(rt.alloc(), &query, Asked::Trees)?.as_str(), trees);
     }
     Ok(())
 }
