@@ -11,6 +11,3 @@ mod verdicts;
 
 pub use auditing::audit;
 pub use vo_spec::{AuditFault, QueryText, Verdict};
-
-#[cfg(test)]
-mod tests;

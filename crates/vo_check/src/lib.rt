@@ -16,6 +16,3 @@ pub use client::Client;
 pub use judging::judge;
 pub use reading::read_within;
 pub use vo_spec::{Answer, CheckFault};
-
-#[cfg(test)]
-mod tests;

@@ -10,6 +10,3 @@ pub use fault::ReplyFault;
 pub use lms_sign::PublicKey;
 pub use replying::reply_by;
 pub use vo_spec::QueryText;
-
-#[cfg(test)]
-mod tests;

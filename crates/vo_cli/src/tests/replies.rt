@@ -45,7 +45,8 @@ static CHANGED: [(usize, usize, &[u8], &str); 13] = [
 ];
 
 // Queries that the reply is not to.
-static OTHER_QUERIES: [(&str, u8, &str); 3] = [
+static OTHER_QUERIES: [(&str, u8, &str); 4] = [
+    ("SELECT id FROM t", 1, "refused: surplus\n"),
     ("SELECT * FROM u", 1, "refused: wrong trees 0 1\n"),
     ("", 2, "refused: sql syntax 0\n"),
     ("FROM t", 2, "refused: sql syntax 0\n"),
