@@ -8,7 +8,7 @@ use Rattle.sql_tokens.specs.Kinds.{same_kind}
 use Rattle.sql_tokens.specs.Lex.{Token}
 use Rattle.sql_text.specs.Tokens.{sql}
 use Rattle.sql_text.specs.Rules.{before, closed, in_parens, optional, listed, ended}
-use Rattle.sql_text.specs.Queries.{name, literal, reference, source, operator, operand, test, prim, conj, disj, items, join}
+use Rattle.sql_text.specs.Queries.{name, literal, reference, source, operator, operand, comparison, prim, conj, disj, items, join}
 use Rattle.sql_text.specs.Commands.{create, drop_table, insert, update, delete, command}
 
 pub first_name : first name ≡ k.Name ∷ []

@@ -218,7 +218,7 @@ spell_operand n (operand_of.Literal v) h = inr (v, spell_literal n v h, refl)
 
 spell_test : (n : ℕ) (left : Ref) (op : Cmp) (right : Operand) → SpellableRef left → SpellableOperand right
     → Text n query.prim (reference_tokens left ++ word (operator op) ∷ operand_tokens right) (Conditions.test left op right)
-unfolding query.prim query.test
+unfolding query.prim query.comparison
 spell_test n left op right h f = inr (inr (
   (left, (op, right)),
   (

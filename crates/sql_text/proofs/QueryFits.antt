@@ -16,7 +16,7 @@ use Rattle.vo_spec.specs.Values.{IsInRange}
 use Rattle.vo_spec.specs.Conditions.{Condition, conditions, comparisons, comparisons_in, Query, query_of, FitsOperand, FitsQuery}
 use Rattle.sql_text.specs.Tokens.{sql, IsToken, Nested, whole, primary}
 use Rattle.sql_text.specs.Rules.{before, closed, optional}
-use Rattle.sql_text.specs.Queries.{literal, operand, test, prim, conj, disj, all_of, any_of, conditions_of, query}
+use Rattle.sql_text.specs.Queries.{literal, operand, comparison, prim, conj, disj, all_of, any_of, conditions_of, query}
 use Rattle.sql_text.specs.Texts.{unplaced, IsTextOf, Answers}
 use Rattle.sql_text.proofs.Made.{Made, made, of_before, of_listed, all_both, all_mapped}
 use Rattle.sql_text.proofs.TokenFits.{number_fits}
@@ -42,8 +42,8 @@ unfolding operand
 operand_fits v (inl (r, _, e)) = subst FitsOperand (sym e) tt
 operand_fits v (inr (x, m, e)) = subst FitsOperand (sym e) (literal_fits x m)
 
-test_fits : (c : Condition) → MadeFit test c → FitsCondition c
-unfolding test
+test_fits : (c : Condition) → MadeFit comparison c → FitsCondition c
+unfolding comparison
 test_fits c (x, (r, (o, m)), e) = subst FitsCondition (sym e) (operand_fits x.1.1 m, tt)
 
 prim_fits : (c : Condition) → MadeFit prim c → FitsCondition c

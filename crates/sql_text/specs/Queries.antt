@@ -64,12 +64,12 @@ unfoldable pub operand : Rule sql Operand
 operand = either (means operand_of.Ref reference) (means operand_of.Literal literal)
 
 -- ref op ( ref | literal )
-unfoldable pub test : Rule sql Condition
-test = means (λ x. Conditions.test x.0 x.1.0 x.1.1) (both reference (both operator operand))
+unfoldable pub comparison : Rule sql Condition
+comparison = means (λ x. Conditions.test x.0 x.1.0 x.1.1) (both reference (both operator operand))
 
--- NOT prim | ( cond ) | test
+-- NOT prim | ( cond ) | comparison
 unfoldable pub prim : Rule sql Condition
-prim = either (means negated (inside k.Not primary)) (either (closed (inside k.LeftParen whole) k.RightParen) test)
+prim = either (means negated (inside k.Not primary)) (either (closed (inside k.LeftParen whole) k.RightParen) comparison)
 
 -- one part is itself
 abbrev pub all_of : List Condition → Condition

@@ -5,7 +5,7 @@ ghost use Rattle.grammar.specs.Reading.{begins, taken};
 ghost use Rattle.sql_tokens.specs.Lex.{token_of};
 ghost use Rattle.sql_text.specs.Tokens.{sql};
 ghost use Rattle.sql_text.specs.Parsing.{left_of, Reads};
-ghost use Rattle.sql_text.specs.Queries.{test, prim, conj, disj, all_of, any_of};
+ghost use Rattle.sql_text.specs.Queries.{comparison, prim, conj, disj, all_of, any_of};
 
 use crate::halt::Halt;
 use crate::parser::Parser;
@@ -41,9 +41,9 @@ fn any_of(mut parts: Vec<Cond>) -> Cond
 }
 
 impl<'a> Parser<'a> {
-    #[tactic(auto, unfolding(crate::specs::Queries::test))]
-    fn test(&mut self, alloc: Global) -> Result<Cond, Halt>
-        ensures value { Reads condition_of test self.old result self.new }
+    #[tactic(auto, unfolding(crate::specs::Queries::comparison))]
+    fn comparison(&mut self, alloc: Global) -> Result<Cond, Halt>
+        ensures value { Reads condition_of comparison self.old result self.new }
         ensures levels { self.new.levels ≡ self.old.levels }
         ensures list { self.new.list.now ≡ self.old.list.now }
     {
@@ -89,7 +89,7 @@ impl<'a> Parser<'a> {
             self.want(TokenKind::RightParen)?;
             Ok(whole)
         } else {
-            self.test(alloc)
+            self.comparison(alloc)
         }
     }
 
