@@ -22,7 +22,7 @@ use Rattle.sql_text.specs.Parsing.{Finds}
 use Rattle.sql_tokens.specs.declared.lexemes.Lexeme.{Lexeme}
 use Rattle.sql_text.specs.Tokens.{sql, Nested, whole, primary}
 use Rattle.sql_text.specs.Rules.{before, closed, listed}
-use Rattle.sql_text.specs.Queries.{name, test, prim, conj, disj, all_of, any_of, conditions_of}
+use Rattle.sql_text.specs.Queries.{name, comparison, prim, conj, disj, all_of, any_of, conditions_of}
 
 or_false : (a : Bool) → (a || false) ≡ true → a ≡ true
 or_false true e = refl
@@ -98,7 +98,7 @@ module _ (levels : ℕ) (left : List Token) where
   unfolding prim closed
   paren_deep a b f = subst (λ z. read (reader conditions_of z) prim left ≡ (Err Nesting, left)) (sym f) (rw (a, b, too_deep k.LeftParen whole left b) refl)
 
-  pub test_is : begins sql (k.Not ∷ []) left ≡ false → begins sql (k.LeftParen ∷ []) left ≡ false → read (reader conditions_of levels) prim left ≡ read (reader conditions_of levels) test left
+  pub test_is : begins sql (k.Not ∷ []) left ≡ false → begins sql (k.LeftParen ∷ []) left ≡ false → read (reader conditions_of levels) prim left ≡ read (reader conditions_of levels) comparison left
   unfolding prim closed
   test_is a b = rw (a, b) refl
 
