@@ -7,7 +7,6 @@ import tempfile
 
 TOP = os.path.dirname(os.path.dirname(os.path.abspath(__file__)))
 SEED = os.path.join(TOP, "examples/seed")
-PROGRAM = os.path.join(TOP, "crates/vo_cli/out/vo_cli")
 CHAINS = 34  # of a one-time key of 8-bit digits
 
 LOAD = r"""
@@ -104,11 +103,6 @@ def instructions(words, given=b""):
                        input=given, stdout=subprocess.DEVNULL, stderr=subprocess.DEVNULL, check=True)
         text = open(counts.name, encoding="utf-8", errors="replace").read()
     return int(re.search(r"^(?:summary|totals): (\d+)", text, re.M).group(1))
-
-
-def per_block(program):
-    """Instructions of one block, all of key making by its blocks."""
-    return instructions([program, "keygen", SEED]) / key_blocks(5)
 
 
 def signing_blocks(entries, height):
