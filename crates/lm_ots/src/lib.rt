@@ -16,6 +16,3 @@ pub use digits::{checksum, coef, digits_of};
 pub use numbers::{digest_at, u32_at};
 pub use signing::{sign_onto, sign_ots, signed_value};
 pub use vo_spec::{Digest, OtsType};
-
-#[cfg(test)]
-mod tests;

@@ -14,6 +14,3 @@ pub use secret_key::SecretKey;
 pub use signing::SignFault;
 pub use verifying::verify;
 pub use vo_spec::{Digest, LmsType, OtsType};
-
-#[cfg(test)]
-mod tests;

@@ -18,6 +18,3 @@ pub use lending::lend_keys;
 pub use parts::{Nodes, PartTree};
 pub use tree::Tree;
 pub use vo_spec::{Agreement, KeyPart, PartEntry, ScanFault, Twins, UpdateFault};
-
-#[cfg(test)]
-mod tests;

@@ -51,6 +51,3 @@ pub use proving_removals::remove_proof;
 pub use proving_rows::replace_proof;
 pub use updates::Updates;
 pub use vo_spec::UpdateFault;
-
-#[cfg(test)]
-mod tests;

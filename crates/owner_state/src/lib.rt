@@ -21,8 +21,3 @@ pub use journals::{JournalFault, OwnedJournal, TakenJournal, read_owned, read_ta
 pub use sealing::{SealFault, seal};
 pub use slot_reading::{Ending, Slots, read_slots};
 pub use vo_spec::Entry;
-
-#[cfg(test)]
-mod sealing_tests;
-#[cfg(test)]
-mod tests;

@@ -14,6 +14,3 @@ mod shown;
 pub use needing::right_needs;
 pub use ran::Ran;
 pub use running::run_plan;
-
-#[cfg(test)]
-mod tests;

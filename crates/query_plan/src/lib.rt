@@ -15,6 +15,3 @@ pub use needs::{is_narrow, left_need, right_need};
 pub use table_list::{BindFault, Line, Place, Schemas, Side, Sides, bind, header};
 pub use used::{has_one_tree, same_table, tables_used};
 pub use vo_spec::{Catalog, Interval, Need, QueryText};
-
-#[cfg(test)]
-mod tests;

@@ -13,6 +13,3 @@ pub use judging::is_canonical;
 pub use pruning::prune;
 pub use scanning::scan;
 pub use vo_spec::{Need, SeenRow};
-
-#[cfg(test)]
-mod tests;

@@ -22,6 +22,3 @@ pub use read_fault::ReadFault;
 pub use reading::take_value;
 pub use vo_spec::{Bound, Interval, Key, Kind, List, Name, Row, Text, Value, ValueRef};
 pub use writing::put_value;
-
-#[cfg(test)]
-mod tests;

@@ -17,6 +17,3 @@ pub use table::StoredTable;
 pub use table_list::{ApplyFault, BatchFault};
 pub use tables::StoredTables;
 pub use vo_spec::{Batch, Catalog, Command, CommandFault, Table};
-
-#[cfg(test)]
-mod tests;

@@ -29,6 +29,3 @@ pub fn collision(first: Vec<u8>, second: Vec<u8>) -> Option<Collision>
         None
     }
 }
-
-#[cfg(test)]
-mod tests;

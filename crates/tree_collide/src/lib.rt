@@ -9,6 +9,3 @@ mod rows;
 
 pub use nodes::agree;
 pub use vo_spec::Agreement;
-
-#[cfg(test)]
-mod tests;

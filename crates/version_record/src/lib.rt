@@ -11,6 +11,3 @@ pub use catalogs::{
 pub use records::{read_record, record_bytes, take_record};
 pub use row_bytes::ReadFault;
 pub use vo_spec::{Catalog, CatalogTable, Record};
-
-#[cfg(test)]
-mod tests;

@@ -19,6 +19,3 @@ pub use row_bytes::{Cursor, ReadFault};
 pub use tree_reading::take_tree;
 pub use tree_writing::put_tree;
 pub use vo_spec::{Catalog, Record};
-
-#[cfg(test)]
-mod tests;

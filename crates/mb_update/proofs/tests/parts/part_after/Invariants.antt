@@ -1,7 +1,0 @@
-use Rattle.vo_spec.specs.Fits.{FitsPart}
-use Rattle.mb_tree.specs.View.{part_of}
-use Rattle.mb_update.proofs.tests.parts.part_after.Given as goal
-
--- the tree so far keeps to the limits of nodes
-abbrev pub invariant-loop-change : goal.invariant-loop-change
-invariant-loop-change l = FitsPart (part_of l.tree)
