@@ -1,30 +1,11 @@
 //! The program: an owner, a store, clients and auditors of outsourced tables.
 #![tactic(auto)]
 
-mod answer;
-mod answers;
-mod audit;
-mod check;
-mod files;
-mod keygen;
-mod lines;
-mod printed;
-mod refusals;
-mod refused_replies;
-mod refused_texts;
-mod report;
-mod seal;
-#[cfg(test)]
-mod tests;
-mod texts;
-mod top;
-mod verdicts;
-
 use outside_real::{FolderFiles, JournalFile, StandardOutput, Tcp};
 use std::env;
 use std::process::ExitCode;
 use std::rt::Env;
-pub use top::run;
+use vo_commands::run;
 
 fn main(rt: HostRuntime) -> ExitCode {
     let mut files = FolderFiles::new(&rt);

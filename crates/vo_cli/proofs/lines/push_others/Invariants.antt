@@ -1,6 +1,0 @@
-use Rattle.std.proofs.Common.{◌≡◌, ◌∷◌, ◌++◌, map, take}
-use Rattle.std.specs.List.{flat_map}
-use Rattle.vo_cli.proofs.lines.push_others.Given as goal
-
-abbrev pub invariant-loop-piece : goal.invariant-loop-piece
-invariant-loop-piece g l = l.out.items ≡ l.initial.out.items ++ flat_map (λ piece. l.separator ∷ piece) (map g.P.Printed.printed (take l.piece-index l.others))

@@ -1,0 +1,185 @@
+-- Commands over files and texts, step by step.
+use Rattle.std.proofs.Common.{◌≡◌, ℕ, List, [], ◌∷◌, Option, Some, None, Result, Ok, Err, refl, sym, subst, ◌∙◌}
+use mathlib.Core.Logic.{inl, inr}
+use Rattle.std.specs.Prelude.{IfSome, IsSome, is_some}
+use Rattle.outside.specs.Shelf.{Files}
+use Rattle.outside.specs.Miss.{CountsMiss}
+use Rattle.vo_spec.specs.Conditions.{Query}
+use Rattle.sql_text.specs.Scripts.{IsScript}
+use Rattle.vo_commands.specs.declared.report.Report.{Report}
+use Rattle.vo_commands.specs.declared.report.Stop.{Stop}
+use Rattle.vo_commands.specs.declared.report.Stop.TheVariants.{Says, Outside, Memory}
+use Rattle.vo_commands.specs.Reports.{Answers, GoesOn, ReadsText}
+use Rattle.vo_spec.specs.declared.tables.Batch.{Batch}
+use Rattle.vo_spec.specs.Secret.{Secret}
+use Rattle.vo_commands.specs.Texts.{IsQueryText, IsRefusedQuery, IsRefusedScript}
+use Rattle.vo_commands.specs.Dues.{Due, Exactly, OfQuery, OfScript, with_text, with_seed, seal_said, script_due, seal_due, script_limit, Checks, Audits, Replies, HoldsEach, with_key, with_file, check_due, audit_due, answer_due, reply_limit, journal_limit}
+
+-- what was taken of a file answers for the file
+pub of_file : {B : Type 0} (due : (B → Due) → Due) (b : B) (rest : B → Due) (r : Result Report Stop) → ((rest : B → Due) → due rest ≡ rest b) → Answers (rest b) r → Answers (due rest) r
+of_file due b rest r goes a = subst (λ d. Answers d r) (sym (goes rest)) a
+
+-- and a stop at a file
+pub of_stop : {A B : Type 0} (view : A → B) (due : (B → Due) → Due) (stop : Stop) (rest : B → Due) → GoesOn view due (Err stop) → Answers (due rest) (Err stop)
+of_stop view due (Says report) rest goes = subst (λ d. Answers d (Err (Says report))) (sym (goes rest)) refl
+of_stop view due Outside rest goes = tt
+of_stop view due Memory rest goes = tt
+
+-- a text's query answers for the text
+pub of_query : (text : List ℕ) (q : Query) (rest : Query → Due) (r : Result Report Stop) → IsQueryText text q → Answers (rest q) r → Answers (OfQuery text rest) r
+of_query text q rest (Ok report) is a = inl (q, is, a)
+of_query text q rest (Err (Says report)) is a = inl (q, is, a)
+of_query text q rest (Err Outside) is a = tt
+of_query text q rest (Err Memory) is a = tt
+
+-- and a stop at a text
+pub of_no_query : {A : Type 0} (view : A → Query) (text : List ℕ) (stop : Stop) (rest : Query → Due) → ReadsText view (IsQueryText text) (IsRefusedQuery text) (Err stop) → Answers (OfQuery text rest) (Err stop)
+of_no_query view text (Says report) rest reads = inr (reads.0, reads.1)
+of_no_query view text Outside rest reads = tt
+of_no_query view text Memory rest reads = tt
+
+abbrev KeyIs : List ℕ → List ℕ → Files → Type 0
+KeyIs name key told = (rest : List ℕ → Due) → with_key told name rest ≡ rest key
+
+abbrev FileIs : List ℕ → ℕ → List ℕ → Files → Type 0
+FileIs name limit bytes told = (rest : List ℕ → Due) → with_file told name limit rest ≡ rest bytes
+
+abbrev FileStops : List ℕ → ℕ → Stop → Files → Type 0
+FileStops name limit stop told = GoesOn {A = List ℕ} (λ bytes. bytes) (with_file told name limit) (Err stop)
+
+module _ (name query reply key : List ℕ) (least : ℕ) (q : Query) (is : IsQueryText query q) where
+  pub check_told : (o p : Option Files) (bytes : List ℕ) (r : Result Report Stop) → p ≡ o → IfSome o (KeyIs name key) → IfSome p (FileIs reply reply_limit bytes)
+      → Answers (Checks key least q bytes) r → IfSome o (λ told. Answers (check_due name query reply least told) r)
+  check_told o p bytes r same k f a = step o k (subst (λ z. IfSome z (FileIs reply reply_limit bytes)) same f)
+    where
+      step : (o : Option Files) → IfSome o (KeyIs name key) → IfSome o (FileIs reply reply_limit bytes) → IfSome o (λ told. Answers (check_due name query reply least told) r)
+      step None k f = tt
+      step (Some told) k f =
+          of_file (with_key told name) key (λ x. OfQuery query (λ y. with_file told reply reply_limit (λ z. Checks x least y z))) r k
+          (of_query query q (λ y. with_file told reply reply_limit (λ z. Checks key least y z)) r is (of_file (with_file told reply reply_limit) bytes (λ z. Checks key least q z) r f a))
+
+  pub check_stops : (o p : Option Files) (stop : Stop) → p ≡ o → IfSome o (KeyIs name key) → IfSome p (FileStops reply reply_limit stop)
+      → IfSome o (λ told. Answers (check_due name query reply least told) (Err stop))
+  check_stops o p stop same k f = step o k (subst (λ z. IfSome z (FileStops reply reply_limit stop)) same f)
+    where
+      step : (o : Option Files) → IfSome o (KeyIs name key) → IfSome o (FileStops reply reply_limit stop) → IfSome o (λ told. Answers (check_due name query reply least told) (Err stop))
+      step None k f = tt
+      step (Some told) k f =
+          of_file (with_key told name) key (λ x. OfQuery query (λ y. with_file told reply reply_limit (λ z. Checks x least y z))) (Err stop) k
+          (of_query query q (λ y. with_file told reply reply_limit (λ z. Checks key least y z)) (Err stop) is
+          (of_stop (λ bytes. bytes) (with_file told reply reply_limit) stop (λ z. Checks key least q z) f))
+
+module _ (name journal query reply key held : List ℕ) (q : Query) (is : IsQueryText query q) where
+  abbrev after_journal : Files → List ℕ → List ℕ → Due
+  after_journal told x y = OfQuery query (λ z. with_file told reply reply_limit (λ w. Audits x y z w))
+
+  pub audit_told : (o p s : Option Files) (bytes : List ℕ) (r : Result Report Stop) → p ≡ o → s ≡ p → IfSome o (KeyIs name key) → IfSome p (FileIs journal journal_limit held)
+      → IfSome s (FileIs reply reply_limit bytes) → Answers (Audits key held q bytes) r → IfSome o (λ told. Answers (audit_due name journal query reply told) r)
+  audit_told o p s bytes r same also k j f a =
+      step o k (subst (λ z. IfSome z (FileIs journal journal_limit held)) same j) (subst (λ z. IfSome z (FileIs reply reply_limit bytes)) (also ∙ same) f)
+    where
+      step : (o : Option Files) → IfSome o (KeyIs name key) → IfSome o (FileIs journal journal_limit held) → IfSome o (FileIs reply reply_limit bytes)
+          → IfSome o (λ told. Answers (audit_due name journal query reply told) r)
+      step None k j f = tt
+      step (Some told) k j f =
+          of_file (with_key told name) key (λ x. with_file told journal journal_limit (after_journal told x)) r k
+          (of_file (with_file told journal journal_limit) held (after_journal told key) r j
+          (of_query query q (λ z. with_file told reply reply_limit (λ w. Audits key held z w)) r is
+          (of_file (with_file told reply reply_limit) bytes (λ w. Audits key held q w) r f a)))
+
+  pub audit_stops : (o p s : Option Files) (stop : Stop) → p ≡ o → s ≡ p → IfSome o (KeyIs name key) → IfSome p (FileIs journal journal_limit held)
+      → IfSome s (FileStops reply reply_limit stop) → IfSome o (λ told. Answers (audit_due name journal query reply told) (Err stop))
+  audit_stops o p s stop same also k j f =
+      step o k (subst (λ z. IfSome z (FileIs journal journal_limit held)) same j) (subst (λ z. IfSome z (FileStops reply reply_limit stop)) (also ∙ same) f)
+    where
+      step : (o : Option Files) → IfSome o (KeyIs name key) → IfSome o (FileIs journal journal_limit held) → IfSome o (FileStops reply reply_limit stop)
+          → IfSome o (λ told. Answers (audit_due name journal query reply told) (Err stop))
+      step None k j f = tt
+      step (Some told) k j f =
+          of_file (with_key told name) key (λ x. with_file told journal journal_limit (after_journal told x)) (Err stop) k
+          (of_file (with_file told journal journal_limit) held (after_journal told key) (Err stop) j
+          (of_query query q (λ z. with_file told reply reply_limit (λ w. Audits key held z w)) (Err stop) is
+          (of_stop (λ bytes. bytes) (with_file told reply reply_limit) stop (λ w. Audits key held q w) f)))
+
+module _ (name journal query key held : List ℕ) (q : Query) (is : IsQueryText query q) where
+  pub answer_told : (o p : Option Files) (r : Result Report Stop) → p ≡ o → IfSome o (KeyIs name key) → IfSome p (FileIs journal journal_limit held)
+      → Answers (Replies key held q) r → IfSome o (λ told. Answers (answer_due name journal query told) r)
+  answer_told o p r same k j a = step o k (subst (λ z. IfSome z (FileIs journal journal_limit held)) same j)
+    where
+      step : (o : Option Files) → IfSome o (KeyIs name key) → IfSome o (FileIs journal journal_limit held) → IfSome o (λ told. Answers (answer_due name journal query told) r)
+      step None k j = tt
+      step (Some told) k j =
+          of_file (with_key told name) key (λ x. with_file told journal journal_limit (λ y. OfQuery query (λ z. Replies x y z))) r k
+          (of_file (with_file told journal journal_limit) held (λ y. OfQuery query (λ z. Replies key y z)) r j
+          (of_query query q (λ z. Replies key held z) r is a))
+
+-- Scripts.
+
+of_script : (text : List ℕ) (batches : List Batch) (rest : List Batch → Due) (r : Result Report Stop) → IsScript text batches → Answers (rest batches) r → Answers (OfScript text rest) r
+of_script text batches rest (Ok report) is a = inl (batches, is, a)
+of_script text batches rest (Err (Says report)) is a = inl (batches, is, a)
+of_script text batches rest (Err Outside) is a = tt
+of_script text batches rest (Err Memory) is a = tt
+
+of_no_script : {A : Type 0} (view : A → List Batch) (text : List ℕ) (stop : Stop) (rest : List Batch → Due) → ReadsText view (IsScript text) (IsRefusedScript text) (Err stop) → Answers (OfScript text rest) (Err stop)
+of_no_script view text (Says report) rest reads = inr (reads.0, reads.1)
+of_no_script view text Outside rest reads = tt
+of_no_script view text Memory rest reads = tt
+
+abbrev TextIs : List ℕ → List ℕ → Type 0
+TextIs bytes text = (rest : List ℕ → Due) → with_text rest bytes ≡ rest text
+
+pub script_told : (secret : Secret) (bytes text : List ℕ) (batches : List Batch) (r : Result Report Stop) → TextIs bytes text → IsScript text batches
+    → Answers (Exactly (seal_said secret batches)) r → Answers (script_due secret bytes) r
+script_told secret bytes text batches r goes is a =
+    of_file (λ rest. with_text rest bytes) text (λ t. OfScript t (λ b. Exactly (seal_said secret b))) r goes
+    (of_script text batches (λ b. Exactly (seal_said secret b)) r is a)
+
+pub script_stops : {A : Type 0} (view : A → List Batch) (secret : Secret) (bytes text : List ℕ) (stop : Stop) → TextIs bytes text → ReadsText view (IsScript text) (IsRefusedScript text) (Err stop)
+    → Answers (script_due secret bytes) (Err stop)
+script_stops view secret bytes text stop goes reads =
+    of_file (λ rest. with_text rest bytes) text (λ t. OfScript t (λ b. Exactly (seal_said secret b))) (Err stop) goes
+    (of_no_script view text stop (λ b. Exactly (seal_said secret b)) reads)
+
+pub text_stops : {A : Type 0} (view : A → List ℕ) (secret : Secret) (bytes : List ℕ) (stop : Stop) → GoesOn view (λ rest. with_text rest bytes) (Err stop) → Answers (script_due secret bytes) (Err stop)
+text_stops view secret bytes stop goes = of_stop view (λ rest. with_text rest bytes) stop (λ t. OfScript t (λ b. Exactly (seal_said secret b))) goes
+
+abbrev SeedIs : List ℕ → ℕ → Secret → Files → Type 0
+SeedIs name height secret told = (rest : Secret → Due) → with_seed told name height rest ≡ rest secret
+
+pub seal_told : (name script : List ℕ) (height : ℕ) (secret : Secret) (bytes : List ℕ) (o p : Option Files) (r : Result Report Stop) → p ≡ o → IfSome o (SeedIs name height secret)
+    → IfSome p (FileIs script script_limit bytes) → Answers (script_due secret bytes) r → IfSome o (λ told. Answers (seal_due name script height told) r)
+seal_told name script height secret bytes o p r same k f a = step o k (subst (λ z. IfSome z (FileIs script script_limit bytes)) same f)
+  where
+    step : (o : Option Files) → IfSome o (SeedIs name height secret) → IfSome o (FileIs script script_limit bytes) → IfSome o (λ told. Answers (seal_due name script height told) r)
+    step None k f = tt
+    step (Some told) k f =
+        of_file (with_seed told name height) secret (λ s. with_file told script script_limit (script_due s)) r k
+        (of_file (with_file told script script_limit) bytes (script_due secret) r f a)
+
+-- Misses: files that are there cause none.
+
+no_miss : {A : Type 0} (o : Option A) (before after : ℕ) → IsSome o → CountsMiss (is_some o) before after → after ≡ before
+no_miss (Some a) before after there c = c
+no_miss None before after there c = absurd (cc)
+
+abbrev Missed : List ℕ → ℕ → ℕ → Files → Type 0
+Missed name before after told = CountsMiss (is_some (told name)) before after
+
+pub two_there : (o p : Option Files) (a b : List ℕ) (x y z : ℕ) → p ≡ o → IfSome o (Missed a x y) → IfSome p (Missed b y z)
+    → IfSome o (λ told. HoldsEach told (a ∷ b ∷ []) → z ≡ x)
+two_there o p a b x y z same first second = step o first (subst (λ o. IfSome o (Missed b y z)) same second)
+  where
+    step : (o : Option Files) → IfSome o (Missed a x y) → IfSome o (Missed b y z) → IfSome o (λ told. HoldsEach told (a ∷ b ∷ []) → z ≡ x)
+    step None first second = tt
+    step (Some told) first second = λ there. no_miss (told b) y z there.1.0 second ∙ no_miss (told a) x y there.0 first
+
+pub three_there : (o p s : Option Files) (a b c : List ℕ) (x y z w : ℕ) → p ≡ o → s ≡ p → IfSome o (Missed a x y) → IfSome p (Missed b y z) → IfSome s (Missed c z w)
+    → IfSome o (λ told. HoldsEach told (a ∷ b ∷ c ∷ []) → w ≡ x)
+three_there o p s a b c x y z w same also first second third =
+    step o first (subst (λ o. IfSome o (Missed b y z)) same second) (subst (λ o. IfSome o (Missed c z w)) (also ∙ same) third)
+  where
+    step : (o : Option Files) → IfSome o (Missed a x y) → IfSome o (Missed b y z) → IfSome o (Missed c z w)
+        → IfSome o (λ told. HoldsEach told (a ∷ b ∷ c ∷ []) → w ≡ x)
+    step None first second third = tt
+    step (Some told) first second third = λ there. no_miss (told c) z w there.1.1.0 third ∙ no_miss (told b) y z there.1.0 second ∙ no_miss (told a) x y there.0 first

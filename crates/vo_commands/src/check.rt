@@ -1,0 +1,64 @@
+//! `check`: what a client says of a reply.
+ghost use Rattle.std.specs.Prelude.{◌≡◌, ◌≤◌, [], ◌∷◌, IfSome, IsErrOf};
+ghost use Rattle.outside.specs.Rose.{Rose};
+ghost use Rattle.vo_spec.specs.Conditions.{query_of};
+ghost use Rattle.vo_commands.specs.Dues.{HoldsEach, check_due, Checks};
+ghost use Rattle.vo_commands.specs.Reports.{Answers};
+
+use crate::answers::answer_report;
+use crate::files::{take_file, take_key};
+use crate::refused_replies::refused_reply;
+use crate::report::{Report, Stop};
+use crate::texts::query_in;
+use lms_sign::PublicKey;
+use outside::Shelf;
+use std::alloc::Global;
+use vo_check::Client;
+use vo_spec::{CheckFault, QueryText};
+
+/// How many bytes of a reply are taken: one more than a client accepts.
+pub const REPLY_LIMIT: u64 = 67_108_865;
+
+/// The answer that a client of the key accepts, of no version below `least`, or why it refuses the reply.
+pub fn check<F: Shelf>(
+    alloc: Global,
+    files: &mut F,
+    key: &str,
+    query: &str,
+    reply: &str,
+    least: u64,
+) -> Result<Report, Stop>
+    ensures told { IfSome (F.contents files.old)
+        (λ told. Answers (check_due key.now query.now reply.now least told) result) }
+    ensures kept { F.contents files.new ≡ F.contents files.old }
+    ensures counts { F.faults files.old ≤ F.faults files.new }
+    ensures cause { IsErrOf result Stop.Outside → Rose (F.faults files.old) (F.faults files.new) }
+    ensures misses { IfSome (F.contents files.old)
+        (λ told. HoldsEach told (key.now ∷ reply.now ∷ []) → F.misses files.new ≡ F.misses files.old) }
+{
+    let key = take_key(alloc, files, key)?;
+    let query = query_in(alloc, query)?;
+    let reply = match take_file(alloc, files, reply, REPLY_LIMIT) {
+        Ok(reply) => reply,
+        Err(stop) => return Err(stop),
+    };
+    checked(alloc, key, least, &query, &reply)
+}
+
+fn checked(
+    alloc: Global,
+    key: PublicKey,
+    least: u64,
+    query: &QueryText,
+    reply: &[u8],
+) -> Result<Report, Stop>
+    ensures told { Answers (Checks key least (query_of query.now) reply.now) result }
+    ensures inside { IsErrOf result Stop.Outside → ⊥ }
+{
+    let mut client = Client::new(key, least);
+    match client.check(alloc, query, reply) {
+        Ok(answer) => Ok(answer_report(alloc, &answer)?),
+        Err(CheckFault::Memory) => Err(Stop::Memory),
+        Err(fault) => Err(Stop::Says(refused_reply(alloc, &fault)?)),
+    }
+}

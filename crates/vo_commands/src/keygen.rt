@@ -1,0 +1,36 @@
+//! `keygen`: the public key of a seed file.
+ghost use Rattle.std.specs.Prelude.{◌≡◌, ◌≤◌, is_some, IfSome, IsErrOf};
+ghost use Rattle.outside.specs.Miss.{CountsMiss};
+ghost use Rattle.outside.specs.Rose.{Rose};
+ghost use Rattle.vo_words.specs.Height.{number_of};
+ghost use Rattle.vo_commands.specs.Dues.{keygen_due};
+ghost use Rattle.vo_commands.specs.Reports.{Answers};
+
+use crate::files::take_seed;
+use crate::report::{Report, Status, Stop};
+use outside::Shelf;
+use std::alloc::Global;
+use vo_words::Height;
+
+/// The 56 bytes of the public key.
+pub fn keygen<F: Shelf>(
+    alloc: Global,
+    files: &mut F,
+    seed: &str,
+    height: Height,
+) -> Result<Report, Stop>
+    ensures told { IfSome (F.contents files.old)
+        (λ told. Answers (keygen_due seed.now (number_of height) told) result) }
+    ensures kept { F.contents files.new ≡ F.contents files.old }
+    ensures counts { F.faults files.old ≤ F.faults files.new }
+    ensures cause { IsErrOf result Stop.Outside → Rose (F.faults files.old) (F.faults files.new) }
+    ensures misses { IfSome (F.contents files.old)
+        (λ told. CountsMiss (is_some (told seed.now)) (F.misses files.old) (F.misses files.new)) }
+{
+    let key = take_seed(alloc, files, seed, height)?;
+    let bytes = key.public().bytes(alloc)?;
+    Ok(Report {
+        status: Status::Done,
+        bytes,
+    })
+}

@@ -1,0 +1,57 @@
+//! Lines of text: words or columns, written at the end of what there is.
+ghost use Rattle.std.specs.Prelude.{◌≡◌, ◌∷◌, ◌++◌, map, flat_map, OnOk};
+ghost use Rattle.vo_commands.specs.Lines.{line, separated, words_line, columns_line};
+ghost use Rattle.vo_commands.specs.Words.{word_text};
+
+use crate::printed::{Printed, Word};
+use std::alloc::{AllocError, Global};
+
+/// A line of words, with one space between each two.
+pub fn push_words(alloc: Global, out: &mut Vec<u8>, words: &[Word<'_>]) -> Result<(), AllocError>
+    ensures { OnOk result (out.new.items ≡ out.old.items ++ words_line (map word_text words.now)) }
+{
+    push_line(alloc, out, words, b' ')
+}
+
+/// A line of columns, with a comma between each two.
+pub fn push_columns<P: Printed>(
+    alloc: Global,
+    out: &mut Vec<u8>,
+    columns: &[P],
+) -> Result<(), AllocError>
+    ensures { OnOk result (out.new.items ≡ out.old.items ++ columns_line (map P.printed columns.now)) }
+{
+    push_line(alloc, out, columns, b',')
+}
+
+fn push_line<P: Printed>(
+    alloc: Global,
+    out: &mut Vec<u8>,
+    pieces: &[P],
+    separator: u8,
+) -> Result<(), AllocError>
+    ensures { OnOk result (out.new.items ≡ out.old.items ++ line (separated separator (map P.printed pieces.now))) }
+{
+    if let Some((first, others)) = pieces.split_first() {
+        first.push_to(alloc, out)?;
+        push_others(alloc, out, others, separator)?;
+    }
+    out.push(b'\n')?;
+    Ok(())
+}
+
+fn push_others<P: Printed>(
+    alloc: Global,
+    out: &mut Vec<u8>,
+    others: &[P],
+    separator: u8,
+) -> Result<(), AllocError>
+    ensures { OnOk result (out.new.items ≡ out.old.items
+        ++ flat_map (λ piece. separator ∷ piece) (map P.printed others.now)) }
+{
+    for piece in others {
+        out.push(separator)?;
+        piece.push_to(alloc, out)?;
+    }
+    Ok(())
+}

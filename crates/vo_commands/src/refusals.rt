@@ -1,0 +1,78 @@
+//! Refusals, each in one line that begins with `refused:`.
+ghost use Rattle.std.specs.Prelude.{◌≡◌, [], ◌∷◌, ◌++◌, map, codes, decimal, IfOk, OnOk};
+ghost use Rattle.vo_commands.specs.Lines.{refused, command_said, key_spent, fault_name, bad_journal, words_line};
+ghost use Rattle.vo_commands.specs.Reports.{said_of, status_code};
+ghost use Rattle.vo_commands.specs.Words.{word_text};
+
+use crate::lines::push_words;
+use crate::printed::Word;
+use crate::report::{Report, Status};
+use std::alloc::{AllocError, Global};
+use vo_spec::CommandFault;
+
+/// A refusal in one line: these words behind `refused:`.
+pub fn refusal(alloc: Global, status: Status, words: &[Word<'_>]) -> Result<Report, AllocError>
+    ensures { IfOk result (λ report. said_of report ≡ refused (status_code status) (map word_text words.now)) }
+{
+    let mut all = Vec::new(alloc);
+    all.push(Word::Phrase("refused:"))?;
+    all.extend_from_slice(words)?;
+    let mut bytes = Vec::new(alloc);
+    push_words(alloc, &mut bytes, &all)?;
+    Ok(Report { status, bytes })
+}
+
+/// The command of this number in its batch is refused.
+pub fn refused_command(alloc: Global, index: u64, fault: CommandFault) -> Result<Report, AllocError>
+    ensures { IfOk result (λ report. said_of report ≡ command_said index fault) }
+{
+    let words = [
+        Word::Phrase("command"),
+        Word::Number(index),
+        Word::Phrase(name_of(fault)),
+    ];
+    refusal(alloc, Status::RefusedCommand, &words)
+}
+
+/// The key has no leaf left for another version.
+pub fn spent_key(alloc: Global) -> Result<Report, AllocError>
+    ensures { IfOk result (λ report. said_of report ≡ key_spent) }
+{
+    refusal(alloc, Status::RefusedCommand, &[Word::Phrase("key spent")])
+}
+
+/// The journal's entry of this number is bad.
+pub fn bad_entry(alloc: Global, index: u64) -> Result<Report, AllocError>
+    ensures { IfOk result (λ report. said_of report ≡ bad_journal index) }
+{
+    let mut bytes = Vec::new(alloc);
+    push_words(
+        alloc,
+        &mut bytes,
+        &[Word::Phrase("bad journal"), Word::Number(index)],
+    )?;
+    Ok(Report {
+        status: Status::BadJournal,
+        bytes,
+    })
+}
+
+fn name_of(fault: CommandFault) -> &'static str
+    ensures { result.now ≡ fault_name fault }
+{
+    match fault {
+        CommandFault::TableExists => "TableExists",
+        CommandFault::NoTable => "NoTable",
+        CommandFault::BadSchema => "BadSchema",
+        CommandFault::Arity => "Arity",
+        CommandFault::TypeMismatch => "TypeMismatch",
+        CommandFault::DuplicateKey => "DuplicateKey",
+        CommandFault::NoRow => "NoRow",
+        CommandFault::TableFull => "TableFull",
+        CommandFault::TooManyTables => "TooManyTables",
+        CommandFault::KeyTooLong => "KeyTooLong",
+        CommandFault::NoColumn => "NoColumn",
+        CommandFault::NotKey => "NotKey",
+        CommandFault::BadSet => "BadSet",
+    }
+}

@@ -1,0 +1,90 @@
+//! `seal`: the journal of a script's batches.
+ghost use Rattle.std.specs.Prelude.{◌≡◌, ◌≤◌, [], ◌∷◌, IfSome, IsErrOf};
+ghost use Rattle.outside.specs.Rose.{Rose};
+ghost use Rattle.vo_commands.specs.Dues.{HoldsEach, Exactly, script_due, seal_due, seal_said, with_text};
+ghost use Rattle.vo_commands.specs.Reports.{Answers, GoesOn};
+ghost use Rattle.vo_words.specs.Height.{number_of};
+ghost use Rattle.owner_state.specs.Sealing.{FitEach};
+
+use crate::files::{take_file, take_seed};
+use crate::printed::Word;
+use crate::refusals::{refusal, refused_command, spent_key};
+use crate::report::{Report, Status, Stop};
+use crate::texts::batches_in;
+use lms_sign::SecretKey;
+use outside::Shelf;
+use owner_state::{SealFault, seal as sealed};
+use std::alloc::Global;
+use vo_spec::{Batch, List};
+use vo_words::Height;
+
+/// How many bytes of a script are taken.
+const SCRIPT_LIMIT: u64 = 16_777_216;
+
+/// The journal of the script's batches, signed by the key of the seed file.
+pub fn seal<F: Shelf>(
+    alloc: Global,
+    files: &mut F,
+    seed: &str,
+    script: &str,
+    height: Height,
+) -> Result<Report, Stop>
+    ensures told { IfSome (F.contents files.old)
+        (λ told. Answers (seal_due seed.now script.now (number_of height) told) result) }
+    ensures kept { F.contents files.new ≡ F.contents files.old }
+    ensures counts { F.faults files.old ≤ F.faults files.new }
+    ensures cause { IsErrOf result Stop.Outside → Rose (F.faults files.old) (F.faults files.new) }
+    ensures misses { IfSome (F.contents files.old)
+        (λ told. HoldsEach told (seed.now ∷ script.now ∷ []) → F.misses files.new ≡ F.misses files.old) }
+{
+    let key = take_seed(alloc, files, seed, height)?;
+    let script = take_file(alloc, files, script, SCRIPT_LIMIT)?;
+    sealed_script(alloc, &key, &script)
+}
+
+/// The journal of the script that the bytes are.
+fn sealed_script(alloc: Global, key: &SecretKey, script: &[u8]) -> Result<Report, Stop>
+    ensures told { Answers (script_due key.now script.now) result }
+    ensures inside { IsErrOf result Stop.Outside → ⊥ }
+{
+    let text = match text_in(alloc, script) {
+        Ok(text) => text,
+        Err(stop) => return Err(stop),
+    };
+    match batches_in(alloc, text) {
+        Ok(batches) => journal_of(alloc, key, List::from_vec(batches)),
+        Err(stop) => Err(stop),
+    }
+}
+
+/// The text that the bytes are.
+fn text_in(alloc: Global, bytes: &[u8]) -> Result<&str, Stop>
+    ensures told { GoesOn (λ text. text.now) (λ rest. with_text rest bytes.now) result }
+    ensures inside { IsErrOf result Stop.Outside → ⊥ }
+{
+    match std::str::from_utf8(bytes) {
+        Ok(text) => Ok(text),
+        Err(_) => {
+            let words = [Word::Phrase("not text")];
+            Err(Stop::Says(refusal(alloc, Status::RefusedInput, &words)?))
+        }
+    }
+}
+
+fn journal_of(alloc: Global, key: &SecretKey, batches: List<Batch>) -> Result<Report, Stop>
+    requires { FitEach batches }
+    ensures told { Answers (Exactly (seal_said key.now batches)) result }
+    ensures inside { IsErrOf result Stop.Outside → ⊥ }
+{
+    match sealed(alloc, key, batches) {
+        Ok(bytes) => Ok(Report {
+            status: Status::Done,
+            bytes,
+        }),
+        Err(SealFault::KeySpent) => Err(Stop::Says(spent_key(alloc)?)),
+        Err(SealFault::Command { index, fault }) => {
+            Err(Stop::Says(refused_command(alloc, index, fault)?))
+        }
+        Err(SealFault::Memory) => Err(Stop::Memory),
+    }
+}
