@@ -2,26 +2,27 @@
 use Rattle.std.proofs.Common.{◌≡◌, ℕ, List, Result, Ok, Err, refl, sym, subst, map}
 use Rattle.std.specs.Prelude.{IfOk}
 use Rattle.vo_spec.specs.Inserts.{result_map}
-use Rattle.std.specs.declared.alloc.AllocError.{AllocError}
 use Rattle.vo_spec.specs.declared.trees.UpdateFault.{UpdateFault}
 use Rattle.vo_spec.specs.Fits.{FitsPart, FitsTree}
-use Rattle.vo_spec.specs.Removes.{removed, replaced, replace_proof, shrink, settled_root}
+use Rattle.vo_spec.specs.Removes.{removed, replaced, shrink, settled_root}
 use Rattle.vo_spec.specs.Trees.{RowTree, row_family}
-use Rattle.vo_laws.proofs.ChangeProofs.{replace_proof_fits}
+use Rattle.vo_laws.proofs.PrunedFits.{insert_proof_fits}
+use Rattle.vo_laws.proofs.ChangeProofs.{replace_proof_fits, remove_proof_fits}
 use Rattle.mb_tree.specs.declared.parts.PartTree.{PartTree}
 use Rattle.mb_tree.specs.View.{part_of}
+use Rattle.mb_update.specs.declared.ops.Op.{Op}
+use Rattle.mb_update.specs.declared.ops.Op.TheVariants.{Insert, Replace, Remove}
 use Rattle.mb_update.specs.declared.ops.SetCell.{SetCell}
+use Rattle.mb_update.specs.Proving.{update_proof}
 use Rattle.mb_update.specs.Changing.{ChangesTo}
 use Rattle.mb_update.specs.Sets.{change_of, FitsSets}
 use Rattle.mb_update.proofs.ReplacedFits.{replaced_fits}
 use Rattle.mb_update.proofs.ShrunkFits.{removed_fits}
 
-pub replacement_proof_fits : (key : List ℕ) (tree : RowTree) (r : Result PartTree AllocError) → FitsTree tree → IfOk r (λ part. part_of part ≡ replace_proof key tree)
-    → IfOk r (λ part. FitsPart (part_of part))
-replacement_proof_fits key tree (Ok part) fits is =
-    let P : RowTree → Type 0 = λ t. FitsPart t in
-    subst P (sym is) (replace_proof_fits key tree fits).nodes
-replacement_proof_fits key tree (Err fault) fits is = tt
+pub update_proof_fits : (op : Op) (tree : RowTree) → FitsTree tree → FitsPart (update_proof op tree)
+update_proof_fits (Insert row) tree fits = (insert_proof_fits row.key tree fits).nodes
+update_proof_fits (Replace key sets) tree fits = (replace_proof_fits key tree fits).nodes
+update_proof_fits (Remove key) tree fits = (remove_proof_fits key tree fits).nodes
 
 pub replacement_fits : (key : List ℕ) (sets : List SetCell) (tree : PartTree) (r : Result PartTree UpdateFault) → FitsPart (part_of tree) → FitsSets sets
     → ChangesTo part_of r (replaced key (map change_of sets) (part_of tree)) → IfOk r (λ part. FitsPart (part_of part))

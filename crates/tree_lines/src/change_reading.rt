@@ -1,6 +1,6 @@
 //! Changes as bytes: the kind, the key behind its length, and behind their number the values that an insertion gives,
 //! or the columns and values that a replacement sets.
-ghost use Rattle.std.specs.Prelude.{IfOk};
+ghost use Rattle.std.specs.Prelude.{All, IfOk};
 ghost use Rattle.vo_spec.specs.Fits.{FitsCells, FitsKey};
 ghost use Rattle.vo_spec.specs.Values.{FitsValue};
 ghost use Rattle.mb_update.specs.Sets.{FitsSets};
@@ -22,6 +22,21 @@ pub fn read_change(alloc: Global, bytes: &[u8]) -> Result<Op, ReadFault>
     } else {
         Err(ReadFault::BadForm)
     }
+}
+
+/// The changes that all the bytes are, one behind the other.
+pub fn read_changes(alloc: Global, bytes: &[u8]) -> Result<Vec<Op>, ReadFault>
+    ensures { IfOk result (λ ops. All FitsOp ops.items) }
+{
+    let mut cursor = Cursor::new(bytes);
+    let mut ops = Vec::new(alloc);
+    for _ in 0..bytes.len() {
+        if cursor.is_empty() {
+            break;
+        }
+        ops.push(take_change(alloc, &mut cursor)?)?;
+    }
+    Ok(ops)
 }
 
 fn take_change(alloc: Global, cursor: &mut Cursor<'_>) -> Result<Op, ReadFault>

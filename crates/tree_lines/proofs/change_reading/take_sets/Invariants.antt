@@ -1,5 +1,5 @@
 use Rattle.mb_update.specs.Sets.{FitsSets}
-use Rattle.tree_lines.proofs.reading.take_sets.Given as goal
+use Rattle.tree_lines.proofs.change_reading.take_sets.Given as goal
 
 -- each value so far is within its limits
 abbrev pub invariant-loop : goal.invariant-loop

@@ -1,0 +1,54 @@
+//! Needs as bytes: the lower bound and the upper one, each its kind (0 none, 1 inclusive, 2 exclusive) and, if it is
+//! one, its key behind the length; and the columns behind their number.
+use row_bytes::{Cursor, ReadFault};
+use std::alloc::Global;
+use vo_spec::{Bound, Interval, Key, List, Need};
+
+/// The need that all the bytes are.
+pub fn read_need(alloc: Global, bytes: &[u8]) -> Result<Need, ReadFault> {
+    let mut cursor = Cursor::new(bytes);
+    let need = take_need(alloc, &mut cursor)?;
+    if cursor.is_empty() {
+        Ok(need)
+    } else {
+        Err(ReadFault::BadForm)
+    }
+}
+
+/// The needs that all the bytes are, one behind the other.
+pub fn read_needs(alloc: Global, bytes: &[u8]) -> Result<Vec<Need>, ReadFault> {
+    let mut cursor = Cursor::new(bytes);
+    let mut needs = Vec::new(alloc);
+    for _ in 0..bytes.len() {
+        if cursor.is_empty() {
+            break;
+        }
+        needs.push(take_need(alloc, &mut cursor)?)?;
+    }
+    Ok(needs)
+}
+
+fn take_need(alloc: Global, cursor: &mut Cursor<'_>) -> Result<Need, ReadFault> {
+    let low = take_bound(alloc, cursor)?;
+    let high = take_bound(alloc, cursor)?;
+    let count = cursor.take_byte().ok_or(ReadFault::BadForm)?;
+    let columns = cursor.take_bytes(count as usize).ok_or(ReadFault::BadForm)?;
+    Ok(Need {
+        interval: Interval { low, high },
+        columns: List::from_vec(Vec::from_slice(alloc, columns)?),
+    })
+}
+
+fn take_bound(alloc: Global, cursor: &mut Cursor<'_>) -> Result<Bound, ReadFault> {
+    match cursor.take_byte() {
+        Some(0) => Ok(Bound::Absent),
+        Some(1) => Ok(Bound::Inclusive(take_key(alloc, cursor)?)),
+        Some(2) => Ok(Bound::Exclusive(take_key(alloc, cursor)?)),
+        _ => Err(ReadFault::BadForm),
+    }
+}
+
+fn take_key(alloc: Global, cursor: &mut Cursor<'_>) -> Result<Key, ReadFault> {
+    let key = cursor.take_string().ok_or(ReadFault::BadForm)?;
+    Ok(Key::from_vec(Vec::from_slice(alloc, key)?))
+}

@@ -1,0 +1,114 @@
+//! What is asked of a part tree, and of a change of it.
+ghost use Rattle.std.specs.Prelude.{IfOk, All};
+ghost use Rattle.vo_spec.specs.Fits.{FitsPart};
+ghost use Rattle.mb_tree.specs.View.{part_of};
+ghost use Rattle.tree_lines.specs.Fitting.{FitsOp};
+
+use crate::answers::{digits, said, shown, spelled};
+use crate::change_reading::{read_change, read_changes};
+use crate::part_reading::read_part;
+use mb_update::{Op, UpdateFault, Updates, is_update_proof};
+use row_bytes::ReadFault;
+use std::alloc::Global;
+use std::io;
+use vo_format::PartTree;
+
+/// The part tree after a change, or why it isn't changed.
+pub fn worked(alloc: Global, change: &[u8], part: &[u8]) -> io::Result<String> {
+    let (op, part) = match read_both(alloc, change, part) {
+        Ok(both) => both,
+        Err(fault) => return shown(alloc, &fault),
+    };
+    match part_after(alloc, &part, &op) {
+        Ok(new) => spelled(alloc, &new),
+        Err(fault) => shown(alloc, &fault),
+    }
+}
+
+fn part_after<'b>(alloc: Global, part: &PartTree<'b>, op: &Op) -> Result<PartTree<'b>, UpdateFault>
+    requires fits { FitsPart (part_of part.now) }
+    requires change { FitsOp op.now }
+    ensures { IfOk result (λ new. FitsPart (part_of new)) }
+{
+    match op {
+        Op::Insert { row } => part.insert(alloc, row),
+        Op::Replace { key, sets } => part.replace(alloc, key, sets.as_slice()),
+        Op::Remove { key } => part.remove(alloc, key),
+    }
+}
+
+fn read_both<'b>(
+    alloc: Global,
+    change: &[u8],
+    part: &'b [u8],
+) -> Result<(Op, PartTree<'b>), ReadFault>
+    ensures { IfOk result (λ both. FitsOp both.0 × FitsPart (part_of both.1)) }
+{
+    let op = read_change(alloc, change)?;
+    let part = read_part(alloc, part)?;
+    Ok((op, part))
+}
+
+/// The digest of the part tree after some changes in turn, or why one of them isn't done.
+pub fn worked_in_turn(alloc: Global, changes: &[u8], part: &[u8]) -> io::Result<String> {
+    let ops = match read_changes(alloc, changes) {
+        Ok(ops) => ops,
+        Err(fault) => return shown(alloc, &fault),
+    };
+    let part = match read_part(alloc, part) {
+        Ok(part) => part,
+        Err(fault) => return shown(alloc, &fault),
+    };
+    match part_after_all(alloc, part, &ops) {
+        Ok(new) => digits(alloc, new.node_digest()),
+        Err(fault) => shown(alloc, &fault),
+    }
+}
+
+fn part_after_all<'b>(
+    alloc: Global,
+    part: PartTree<'b>,
+    ops: &[Op],
+) -> Result<PartTree<'b>, UpdateFault>
+    requires fits { FitsPart (part_of part) }
+    requires changes { All FitsOp ops.now }
+    ensures { IfOk result (λ new. FitsPart (part_of new)) }
+{
+    let mut part = part;
+    for op in ops {
+        part = part_after(alloc, &part, op)?;
+    }
+    Ok(part)
+}
+
+/// Whether the part tree is the proof of a change.
+pub fn judged(alloc: Global, change: &[u8], part: &[u8]) -> io::Result<String> {
+    match read_both(alloc, change, part) {
+        Ok((op, part)) => said(alloc, is_update_proof(&part, &op)),
+        Err(fault) => shown(alloc, &fault),
+    }
+}
+
+/// The digest of a part tree.
+pub fn digest_of(alloc: Global, part: &[u8]) -> io::Result<String> {
+    match read_part(alloc, part) {
+        Ok(part) => digits(alloc, part.node_digest()),
+        Err(fault) => shown(alloc, &fault),
+    }
+}
+
+/// The bytes that the root of a part tree hashes.
+pub fn preimage_of(alloc: Global, part: &[u8]) -> io::Result<String> {
+    match read_part(alloc, part) {
+        Ok(part) => Ok(hex::encode(alloc, part.preimage(alloc)?)?),
+        Err(fault) => shown(alloc, &fault),
+    }
+}
+
+/// The bytes of a part tree again.
+pub fn read_again(alloc: Global, part: &[u8]) -> io::Result<String> {
+    match read_part(alloc, part) {
+        Ok(part) => spelled(alloc, &part),
+        Err(fault) => shown(alloc, &fault),
+    }
+}

@@ -1,0 +1,135 @@
+//! What is asked of the tree of the table `t`.
+ghost use Rattle.std.specs.Prelude.{IfOk};
+ghost use Rattle.vo_spec.specs.Fits.{FitsPart, FitsTree};
+ghost use Rattle.mb_tree.specs.View.{part_of};
+ghost use Rattle.tree_lines.specs.Fitting.{FitsOp};
+
+use crate::answers::{digits, no_table, shown, spelled};
+use crate::change_reading::read_change;
+use crate::need_reading::read_needs;
+use crate::part_reading::read_part;
+use mb_tree::Tree;
+use mb_update::{Op, UpdateFault, Updates, prune_update};
+use range_proof::prune;
+use std::alloc::{AllocError, Global};
+use std::io;
+use stored_tables::StoredTables;
+use tree_collide::{Agreement, agree};
+use vo_format::PartTree;
+use vo_spec::Need;
+
+/// How many rows the tree has, its digest, and the bytes that its root hashes.
+pub fn root_of(alloc: Global, tables: &StoredTables) -> io::Result<String> {
+    match tables.find(b"t") {
+        Some(table) => {
+            let rows = counted(alloc, &table.tree)?;
+            let preimage = hex::encode(alloc, table.tree.root().preimage(alloc)?)?;
+            Ok(format!(in alloc; "{rows} {preimage}")?)
+        }
+        None => no_table(alloc),
+    }
+}
+
+/// The number of rows and the digest of a tree.
+fn counted(alloc: Global, tree: &Tree) -> io::Result<String> {
+    let digest = digits(alloc, tree.node_digest())?;
+    Ok(format!(in alloc; "{} {digest}", tree.row_count())?)
+}
+
+/// The number of rows and the digest of the tree that a change makes, or why there is none, and of the tree itself,
+/// which stays.
+pub fn changed(alloc: Global, tables: &StoredTables, change: &[u8]) -> io::Result<String> {
+    let op = match read_change(alloc, change) {
+        Ok(op) => op,
+        Err(fault) => return shown(alloc, &fault),
+    };
+    let Some(table) = tables.find(b"t") else {
+        return no_table(alloc);
+    };
+    let new = match tree_after(alloc, &table.tree, &op) {
+        Ok(new) => counted(alloc, &new)?,
+        Err(fault) => shown(alloc, &fault)?,
+    };
+    let old = counted(alloc, &table.tree)?;
+    Ok(format!(in alloc; "{new} of {old}")?)
+}
+
+/// The tree after a change; one with no room for more rows has no memory for an insertion.
+fn tree_after(alloc: Global, tree: &Tree, op: &Op) -> Result<Tree, UpdateFault>
+    requires { FitsOp op.now }
+{
+    match op {
+        Op::Insert { row } => {
+            if tree.row_count() >= 1_000_000 {
+                return Err(UpdateFault::Memory);
+            }
+            tree.insert(alloc, row)
+        }
+        Op::Replace { key, sets } => tree.replace(alloc, key, sets.as_slice()),
+        Op::Remove { key } => tree.remove(alloc, key),
+    }
+}
+
+/// The proof of a change.
+pub fn proved(alloc: Global, tables: &StoredTables, change: &[u8]) -> io::Result<String> {
+    let op = match read_change(alloc, change) {
+        Ok(op) => op,
+        Err(fault) => return shown(alloc, &fault),
+    };
+    match tables.find(b"t") {
+        Some(table) => spelled(alloc, &proof_of(alloc, &table.tree, &op)?),
+        None => no_table(alloc),
+    }
+}
+
+#[tactic(auto, using(crate::proofs::ChangedParts::update_proof_fits))]
+fn proof_of<'b>(alloc: Global, tree: &'b Tree, op: &Op) -> Result<PartTree<'b>, AllocError>
+    requires { FitsTree tree.now }
+    ensures { IfOk result (λ part. FitsPart (part_of part)) }
+{
+    prune_update(alloc, tree, op)
+}
+
+/// The proof of some needs.
+pub fn pruned(alloc: Global, tables: &StoredTables, needs: &[u8]) -> io::Result<String> {
+    let needs = match read_needs(alloc, needs) {
+        Ok(needs) => needs,
+        Err(fault) => return shown(alloc, &fault),
+    };
+    match tables.find(b"t") {
+        Some(table) => spelled(alloc, &part_for(alloc, &table.tree, &needs)?),
+        None => no_table(alloc),
+    }
+}
+
+#[tactic(auto, using(vo_laws::proofs::PrunedFits::pruned_fits))]
+fn part_for<'b>(alloc: Global, tree: &'b Tree, needs: &[Need]) -> Result<PartTree<'b>, AllocError>
+    requires { FitsTree tree.now }
+    ensures { IfOk result (λ part. FitsPart (part_of part)) }
+{
+    prune(alloc, tree, needs)
+}
+
+/// Whether a part tree of the tree's digest prunes it.
+pub fn agreed(alloc: Global, tables: &StoredTables, part: &[u8]) -> io::Result<String> {
+    let part = match read_part(alloc, part) {
+        Ok(part) => part,
+        Err(fault) => return shown(alloc, &fault),
+    };
+    match tables.find(b"t") {
+        Some(table) => compared(alloc, &part, &table.tree),
+        None => no_table(alloc),
+    }
+}
+
+fn compared(alloc: Global, part: &PartTree<'_>, tree: &Tree) -> io::Result<String>
+    requires { FitsPart (part_of part.now) }
+{
+    if part.node_digest() != tree.node_digest() {
+        return Ok("another digest".to_string(alloc)?);
+    }
+    match agree(alloc, part, tree)? {
+        Agreement::Prunes => Ok("prunes".to_string(alloc)?),
+        Agreement::Collides(_) => Ok("collides".to_string(alloc)?),
+    }
+}
