@@ -214,7 +214,8 @@ def command_proofs():
     # the path of an INSERT, the hidden cells of an UPDATE, a DELETE, and keys that are not there
     tables, made = table_of(ANN)
     yield from made
-    for text in (BOB, ANN, EVE, EVE_AT_TWO, *deletes([1, 2]), CREATE, "DROP TABLE t", "DROP TABLE u", "DELETE FROM u WHERE id = 1"):
+    for text in (BOB, ANN, EVE, EVE_AT_TWO, *deletes([1, 2]), CREATE, "DROP TABLE t", "DROP TABLE u",
+                 "DELETE FROM u WHERE id = 1"):
         yield tables.proof(sql(text))
     # a neighbour is open where a DELETE looks at it
     tables, made = table_of(*inserts(range(1, 18)))
@@ -469,6 +470,7 @@ def agreeing_trees():
     tables, made = table_of(*inserts(range(1, 18)))
     yield from made
     left, right = tables.tree.slots
-    for part in (tables.tree, Stub(digest_of(tables.tree)), inner([9], [Stub(LEFT), right]), inner([9], [Stub(LEFT), Stub(RIGHT)]),
+    for part in (tables.tree, Stub(digest_of(tables.tree)), inner([9], [Stub(LEFT), right]),
+                 inner([9], [Stub(LEFT), Stub(RIGHT)]),
                  inner([9], [Stub(RIGHT), Stub(LEFT)]), inner([8], [left, Stub(RIGHT)]), left):
         yield agree(tables.tree, part)
