@@ -1,10 +1,10 @@
-//! A line: the word of a call, and what it is asked of.
+//! A line: the word of a call, and its byte strings.
 use std::alloc::Global;
 use std::io;
 
 /// The calls that are asked of a text.
 #[derive(Clone, Copy, PartialEq, Eq, Debug)]
-pub enum Call {
+pub enum TextCall {
     Query,
     Batch,
     Script,
@@ -14,36 +14,62 @@ pub enum Call {
     Apply,
     Step,
     Result,
-    Clear,
     Count,
     Length,
 }
 
-/// What a line asks.
+/// The calls that are asked of bytes.
+#[derive(Clone, Copy, PartialEq, Eq, Debug)]
+pub enum BytesCall {
+    Read,
+    Value,
+    Values,
+    Key,
+    KeyValue,
+    Columns,
+}
+
+/// The calls that are asked of a query, on the tables of the catalog.
+#[derive(Clone, Copy, PartialEq, Eq, Debug)]
+pub enum PlanCall {
+    Trees,
+    LeftNeed,
+    RightNeed,
+    RightNeeds,
+    Run,
+}
+
+#[derive(Clone, Copy, PartialEq, Eq, Debug)]
+pub enum Call {
+    Text(TextCall),
+    Bytes(BytesCall),
+    Plan(PlanCall),
+    Catalog,
+    Clear,
+}
+
+/// A call with its byte strings, the second of which most calls leave empty.
 #[derive(Drop)]
-pub enum Line {
-    /// The batch of these bytes.
-    Read(Vec<u8>),
-    /// A call of this text.
-    Call(Call, String),
+pub struct Line {
+    pub call: Call,
+    pub bytes: Vec<u8>,
+    pub more: Vec<u8>,
 }
 
 /// What a line asks, or none where it is no such line.
 pub fn read_line(alloc: Global, line: &str) -> io::Result<Option<Line>> {
     let (word, digits) = line.split_once(' ').unwrap_or((line, ""));
-    let Some(bytes) = bytes_of(alloc, digits)? else {
+    let (bytes, more) = digits.split_once('/').unwrap_or((digits, ""));
+    let Some(call) = call_of(word) else {
         return Ok(None);
     };
-    if word == "read" {
-        return Ok(Some(Line::Read(bytes)));
-    }
-    Ok(text_line(word, bytes))
-}
-
-fn text_line(word: &str, bytes: Vec<u8>) -> Option<Line> {
-    let call = call_of(word)?;
-    let text = String::from_utf8(bytes).ok()?;
-    Some(Line::Call(call, text))
+    let Some(bytes) = bytes_of(alloc, bytes)? else {
+        return Ok(None);
+    };
+    let Some(more) = bytes_of(alloc, more)? else {
+        return Ok(None);
+    };
+    Ok(Some(Line { call, bytes, more }))
 }
 
 /// The bytes of pieces with a blank between each two.
@@ -74,18 +100,30 @@ fn put_piece(alloc: Global, bytes: &mut Vec<u8>, piece: &str) -> io::Result<bool
 
 fn call_of(word: &str) -> Option<Call> {
     match word {
-        "query" => Some(Call::Query),
-        "batch" => Some(Call::Batch),
-        "script" => Some(Call::Script),
-        "print_query" => Some(Call::PrintQuery),
-        "print_batch" => Some(Call::PrintBatch),
-        "bytes" => Some(Call::Bytes),
-        "apply" => Some(Call::Apply),
-        "step" => Some(Call::Step),
-        "result" => Some(Call::Result),
+        "query" => Some(Call::Text(TextCall::Query)),
+        "batch" => Some(Call::Text(TextCall::Batch)),
+        "script" => Some(Call::Text(TextCall::Script)),
+        "print_query" => Some(Call::Text(TextCall::PrintQuery)),
+        "print_batch" => Some(Call::Text(TextCall::PrintBatch)),
+        "bytes" => Some(Call::Text(TextCall::Bytes)),
+        "apply" => Some(Call::Text(TextCall::Apply)),
+        "step" => Some(Call::Text(TextCall::Step)),
+        "result" => Some(Call::Text(TextCall::Result)),
+        "count" => Some(Call::Text(TextCall::Count)),
+        "length" => Some(Call::Text(TextCall::Length)),
+        "read" => Some(Call::Bytes(BytesCall::Read)),
+        "value" => Some(Call::Bytes(BytesCall::Value)),
+        "values" => Some(Call::Bytes(BytesCall::Values)),
+        "key" => Some(Call::Bytes(BytesCall::Key)),
+        "key_value" => Some(Call::Bytes(BytesCall::KeyValue)),
+        "columns" => Some(Call::Bytes(BytesCall::Columns)),
+        "trees" => Some(Call::Plan(PlanCall::Trees)),
+        "left_need" => Some(Call::Plan(PlanCall::LeftNeed)),
+        "right_need" => Some(Call::Plan(PlanCall::RightNeed)),
+        "right_needs" => Some(Call::Plan(PlanCall::RightNeeds)),
+        "run" => Some(Call::Plan(PlanCall::Run)),
+        "catalog" => Some(Call::Catalog),
         "clear" => Some(Call::Clear),
-        "count" => Some(Call::Count),
-        "length" => Some(Call::Length),
         _ => None,
     }
 }

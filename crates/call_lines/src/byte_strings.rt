@@ -1,0 +1,97 @@
+//! Calls of bytes: values, their keys, columns, and batches of commands.
+use crate::line::BytesCall;
+use row_bytes::{
+    Cursor, FormFault, Value, copy_onto, copy_values, key_of, own_value, put_value, take_columns,
+    take_kind, take_value, value_of_key,
+};
+use std::alloc::Global;
+use std::io;
+use table_list::read_batch;
+
+/// The answer to a call of bytes.
+pub fn answer(alloc: Global, call: BytesCall, bytes: &[u8]) -> io::Result<String> {
+    match call {
+        BytesCall::Read => Ok(format!(in alloc; "{:?}", read_batch(alloc, bytes))?),
+        BytesCall::Value => value(alloc, bytes),
+        BytesCall::Values => copies(alloc, bytes),
+        BytesCall::Key => key(alloc, bytes),
+        BytesCall::KeyValue => key_value(alloc, bytes),
+        BytesCall::Columns => columns(alloc, bytes),
+    }
+}
+
+/// The value in front with its bytes, or its fault; and what is left.
+fn value(alloc: Global, bytes: &[u8]) -> io::Result<String> {
+    let mut cursor = Cursor::new(bytes);
+    let taken = take_value(&mut cursor);
+    let left = hex::encode(alloc, cursor.rest())?;
+    match taken {
+        Ok(value) => {
+            let value = own_value(alloc, value)?;
+            let mut written = Vec::new(alloc);
+            put_value(&mut written, &value)?;
+            Ok(format!(in alloc; "{value:?} {} {left}", hex::encode(alloc, &written)?)?)
+        }
+        Err(fault) => Ok(format!(in alloc; "{fault:?} {left}")?),
+    }
+}
+
+/// The values that the bytes are, or the fault of the first that has one.
+pub fn take_values(alloc: Global, bytes: &[u8]) -> io::Result<Result<Vec<Value>, FormFault>> {
+    let mut cursor = Cursor::new(bytes);
+    let mut values = Vec::new(alloc);
+    // A value has one byte at least.
+    for _ in 0..bytes.len() {
+        if cursor.is_empty() {
+            break;
+        }
+        match take_value(&mut cursor) {
+            Ok(value) => copy_onto(alloc, &mut values, &[own_value(alloc, value)?])?,
+            Err(fault) => return Ok(Err(fault)),
+        }
+    }
+    Ok(Ok(values))
+}
+
+/// The values that the bytes are, copied.
+fn copies(alloc: Global, bytes: &[u8]) -> io::Result<String> {
+    match take_values(alloc, bytes)? {
+        Ok(values) => Ok(format!(in alloc; "{:?}", copy_values(alloc, &values)?)?),
+        Err(fault) => Ok(format!(in alloc; "{fault:?}")?),
+    }
+}
+
+/// The key of the value in front.
+fn key(alloc: Global, bytes: &[u8]) -> io::Result<String> {
+    match take_value(&mut Cursor::new(bytes)) {
+        Ok(value) => {
+            let key = key_of(alloc, &own_value(alloc, value)?)?;
+            Ok(hex::encode(alloc, key.as_bytes())?)
+        }
+        Err(fault) => Ok(format!(in alloc; "{fault:?}")?),
+    }
+}
+
+/// The value whose key stands behind the byte of its kind.
+fn key_value(alloc: Global, bytes: &[u8]) -> io::Result<String> {
+    let mut cursor = Cursor::new(bytes);
+    let Some(kind) = take_kind(&mut cursor) else {
+        return Ok("no kind".to_string(alloc)?);
+    };
+    match value_of_key(kind, cursor.rest()) {
+        Ok(value) => Ok(format!(in alloc; "{:?}", own_value(alloc, value)?)?),
+        Err(fault) => Ok(format!(in alloc; "{fault:?}")?),
+    }
+}
+
+/// The columns in front, and what is left.
+fn columns(alloc: Global, bytes: &[u8]) -> io::Result<String> {
+    let mut cursor = Cursor::new(bytes);
+    match take_columns(alloc, &mut cursor) {
+        Ok(columns) => {
+            let left = hex::encode(alloc, cursor.rest())?;
+            Ok(format!(in alloc; "{columns:?} {left}")?)
+        }
+        Err(fault) => Ok(format!(in alloc; "{fault:?}")?),
+    }
+}

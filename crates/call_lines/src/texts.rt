@@ -1,0 +1,116 @@
+//! Calls of texts, and of tables by texts. Values are shown as for debugging.
+use crate::line::TextCall;
+use sql_text::{SqlFault, parse_batch, parse_query, parse_script, print_batch, print_query};
+use std::alloc::Global;
+use std::io;
+use table_list::{
+    ApplyFault, BatchFault, Outcome, Tables, apply, apply_batch, batch_bytes, result,
+};
+
+/// The answer to a call of these bytes, which are to be a text.
+pub fn answer(
+    alloc: Global,
+    tables: &mut Tables,
+    call: TextCall,
+    bytes: &[u8],
+) -> io::Result<String> {
+    match std::str::from_utf8(bytes) {
+        Ok(text) => called(alloc, tables, call, text),
+        Err(_) => Ok("no text".to_string(alloc)?),
+    }
+}
+
+fn called(alloc: Global, tables: &mut Tables, call: TextCall, text: &str) -> io::Result<String> {
+    Ok(match call {
+        TextCall::Query => format!(in alloc; "{:?}", parse_query(alloc, text))?,
+        TextCall::Batch => format!(in alloc; "{:?}", parse_batch(alloc, text))?,
+        TextCall::Script => format!(in alloc; "{:?}", parse_script(alloc, text))?,
+        TextCall::Apply => format!(in alloc; "{:?}", applied(alloc, tables, text))?,
+        TextCall::Step => format!(in alloc; "{:?}", stepped(alloc, tables, text))?,
+        TextCall::Result => format!(in alloc; "{:?}", asked(alloc, tables, text))?,
+        TextCall::PrintQuery => printed_query(alloc, text)?,
+        TextCall::PrintBatch => printed_batch(alloc, text)?,
+        TextCall::Bytes => written(alloc, text)?,
+        TextCall::Count => format!(in alloc; "{:?}", batch_count(alloc, text))?,
+        TextCall::Length => format!(in alloc; "{}", text.len())?,
+    })
+}
+
+/// The text that the query of a text is printed as.
+fn printed_query(alloc: Global, text: &str) -> io::Result<String> {
+    match parse_query(alloc, text) {
+        Ok(query) => shown(alloc, print_query(alloc, &query)?),
+        Err(_) => shown(alloc, Vec::from_slice(alloc, b"none")?),
+    }
+}
+
+/// The text that the batch of a text is printed as.
+fn printed_batch(alloc: Global, text: &str) -> io::Result<String> {
+    match parse_batch(alloc, text) {
+        Ok(batch) => shown(alloc, print_batch(alloc, &batch)?),
+        Err(_) => shown(alloc, Vec::from_slice(alloc, b"none")?),
+    }
+}
+
+fn shown(alloc: Global, text: Vec<u8>) -> io::Result<String> {
+    match String::from_utf8(text) {
+        Ok(text) => Ok(text),
+        Err(_) => Ok("no text".to_string(alloc)?),
+    }
+}
+
+/// The bytes of the batch of a text, in hexadecimal.
+fn written(alloc: Global, text: &str) -> io::Result<String> {
+    match parse_batch(alloc, text) {
+        Ok(batch) => Ok(hex::encode(alloc, batch_bytes(alloc, &batch)?)?),
+        Err(_) => Ok("none".to_string(alloc)?),
+    }
+}
+
+/// How many batches a script has.
+fn batch_count(alloc: Global, script: &str) -> Result<usize, SqlFault> {
+    Ok(parse_script(alloc, script)?.len())
+}
+
+/// What becomes of each batch of a script.
+fn applied(
+    alloc: Global,
+    tables: &mut Tables,
+    script: &str,
+) -> Result<Vec<Option<BatchFault>>, SqlFault> {
+    let batches = parse_script(alloc, script)?;
+    let mut faults = Vec::new(alloc);
+    for batch in &batches {
+        let fault = apply_batch(alloc, tables, batch).err();
+        if faults.push(fault).is_err() {
+            return Err(SqlFault::Memory);
+        }
+    }
+    Ok(faults)
+}
+
+/// What becomes of each command of a batch, applied by itself.
+fn stepped(
+    alloc: Global,
+    tables: &mut Tables,
+    text: &str,
+) -> Result<Vec<Option<ApplyFault>>, SqlFault> {
+    let batch = parse_batch(alloc, text)?;
+    let mut faults = Vec::new(alloc);
+    for command in batch.commands.as_slice() {
+        let fault = apply(alloc, tables, command).err();
+        if faults.push(fault).is_err() {
+            return Err(SqlFault::Memory);
+        }
+    }
+    Ok(faults)
+}
+
+/// What the query of a text gives on the tables.
+fn asked(alloc: Global, tables: &Tables, text: &str) -> Result<Outcome, SqlFault> {
+    let query = parse_query(alloc, text)?;
+    match result(alloc, tables, &query) {
+        Ok(outcome) => Ok(outcome),
+        Err(_) => Err(SqlFault::Memory),
+    }
+}

@@ -1,0 +1,270 @@
+"""Lines of `call_lines` for values, keys and columns, and for what queries need of trees; with the answers due."""
+import random
+import re
+
+import shown
+from vo_ref.binding import bind
+from vo_ref.catalog import Catalog, CatalogTable, column_of
+from vo_ref.faults import BadForm, FormFault, Missing
+from vo_ref.formats import read_tree, tree_bytes
+from vo_ref.mutate import OddTrees, safe, sample_keys, tidied, tree_variants, truth_changes
+from vo_ref.plan import MAIN, Plan, run_plan, seen_row, true_all
+from vo_ref.sql import parse_batch, parse_query
+from vo_ref.tables import Tables, apply
+from vo_ref.tree import Entry, Leaf, Op, Stub, digest_of, do_op, empty_tree, entries_of, prune, scan
+from vo_ref.values import (BOOL, INT, KIND_NAMES, TEXT, Cursor, int_value, key_of, read_name, take_value, text_value,
+                           value_bytes, value_of_key)
+from vo_ref.vectors import odd_value_bytes
+from vo_ref.workload import Workload
+
+
+# -- values, keys and columns
+
+def value(octets):
+    cursor = Cursor(octets)
+    try:
+        taken = take_value(cursor)
+    except FormFault as fault:
+        return f"{fault.name} {octets.hex()}"
+    return f"{shown.value(taken)} {value_bytes(taken).hex()} {octets[cursor.at:].hex()}"
+
+
+def all_values(octets):
+    cursor, found = Cursor(octets), []
+    while cursor.left():
+        found.append(take_value(cursor))
+    return found
+
+
+def columns(octets):
+    cursor = Cursor(octets)
+    count = cursor.number(1)
+    if not 1 <= count <= 32:
+        raise BadForm("columns")
+    found = [column_of(read_name(cursor), cursor.number(1)) for _ in range(count)]
+    return f"{shown.listed([shown.column(one) for one in found])} {octets[cursor.at:].hex()}"
+
+
+def key_value(octets):
+    if not octets or octets[0] not in KIND_NAMES:
+        return "no kind"
+    return shown.value(value_of_key(octets[0], octets[1:]))
+
+
+def by_name(work):
+    """What a call answers, a fault by its name."""
+    try:
+        return work()
+    except (BadForm, FormFault) as fault:
+        return fault.name
+
+
+OF_BYTES = {
+    "value": value,
+    "values": lambda octets: by_name(lambda: shown.listed([shown.value(one) for one in all_values(octets)])),
+    "key": lambda octets: by_name(lambda: key_of(take_value(Cursor(octets))).hex()),
+    "key_value": lambda octets: by_name(lambda: key_value(octets)),
+    "columns": lambda octets: by_name(lambda: columns(octets)),
+}
+
+
+def byte_pairs(run, count):
+    """Lines of random bytes, near to values and keys."""
+    for _ in range(count):
+        octets = odd_value_bytes(run)
+        key = run.choice([octets[1:], run.randbytes(8), b"k" * run.choice([255, 256]), b"ab"])
+        number = value_bytes(int_value(run.choice([run.randrange(-9, 9), run.randrange(-(1 << 63), 1 << 63)])))
+        for word, given in (("value", octets), ("values", number + octets), ("key", number),
+                            ("key_value", run.choice([b"\1", b"\2", b"\3"]) + key)):
+            yield f"{word} {given.hex()}".strip(), OF_BYTES[word](given)
+
+
+# -- queries on a catalog, and part trees
+
+def line(word, text, more=b""):
+    return f"{word} {text.encode().hex()}" + (f" / {more.hex()}" if more else "")
+
+
+def planned(catalog, text, work):
+    """What a call answers of the query's plan, or why the query doesn't bind."""
+    query_bound = bind(catalog, parse_query(text))
+    return shown.wrong(*query_bound.fault) if query_bound.fault else work(Plan(query_bound))
+
+
+def trees(plan, _):
+    """Whether a table is joined with itself, whether one tree is read, and whose trees are."""
+    same = len(plan.names) == 2 and plan.names[0] == plan.names[1]
+    names = ", ".join(shown.name(place[0]) for place in plan.places)
+    return f"{str(same).lower()} {str(len(plan.places) == 1).lower()} [{names}]"
+
+
+def left_need(plan, _):
+    return shown.need(plan.left_need)
+
+
+def right_need(plan, octets):
+    """What the left row of these values needs."""
+    row = all_values(octets)
+    if plan.query.join is None:
+        return "no join"
+    return shown.need(plan.right_need(row[plan.bound.join_left])) if true_all(plan.left_cond, [row]) else "none"
+
+
+def read_trees(octets):
+    cursor, found = Cursor(octets), []
+    while cursor.left():
+        found.append(read_tree(cursor))
+    return found
+
+
+def right_needs(plan, octets):
+    """What the rows need that a left tree shows."""
+    tree = read_tree(Cursor(octets))
+    if plan.query.join is None:
+        return "Ok([])"
+    rows = [seen_row(plan.schema(0), plan.left_place, *seen)[1] for seen in scan(tree, plan.left_need)]
+    needs = [plan.right_need(row[plan.bound.join_left]) for row in rows if true_all(plan.left_cond, [row])]
+    return f"Ok([{', '.join(shown.need(need) for need in needs)}])"
+
+
+def run_on(plan, octets):
+    """What trees show for the query."""
+    found = read_trees(octets)
+    return f"Ok({shown.ran(run_plan(plan, found))})" if len(found) == len(plan.places) else "other trees"
+
+
+OF_QUERIES = {"trees": trees, "left_need": left_need, "right_need": right_need, "right_needs": right_needs, "run": run_on}
+
+
+def query_pair(catalog, word, text, more=b""):
+    """The line of a call of a query, and its answer."""
+    def answer(plan):
+        try:
+            return OF_QUERIES[word](plan, more)
+        except Missing:
+            return "Err(Missing)"
+    return line(word, text, more), by_name(lambda: planned(catalog, text, answer))
+
+
+# -- rows of tools/rows
+
+def values_in(text):
+    """The values of SQL literals in parentheses."""
+    return parse_batch(f"INSERT INTO t VALUES {text};")[0].values
+
+
+def tree_in(text):
+    """A leaf of rows in parentheses, of which those with the key alone are closed; `stub` is a closed tree."""
+    if text == "stub":
+        return Stub(bytes([7]) * 32)
+    rows = [values_in(row) for row in re.findall(r"\([^)]*\)", text)]
+    return Leaf(Entry(key_of(key), tuple(cells) or bytes([7]) * 32) for key, *cells in rows)
+
+
+class Rows:
+    """The rows of these calls, by the catalog that the last row of one made."""
+
+    words = {"catalog", *OF_QUERIES}
+
+    def __init__(self):
+        self.catalog = Catalog()
+
+    def pair(self, word, text):
+        """The line of a row, and its answer."""
+        if word == "catalog":
+            tables = Tables()
+            for command in parse_batch(text):
+                apply(tables, command)
+            self.catalog = World(tables).catalog
+            return f"catalog {self.catalog.bytes().hex()}", str(len(self.catalog.by_name))
+        query, *parts = text.split(" / ")
+        if word == "right_need":
+            return query_pair(self.catalog, word, query, b"".join(map(value_bytes, values_in(parts[0]))))
+        return query_pair(self.catalog, word, query, b"".join(tree_bytes(tree_in(part)) for part in parts))
+
+
+# -- random queries and trees
+
+class World:
+    """Tables with their whole trees."""
+
+    def __init__(self, tables):
+        self.tables = tables
+        self.trees = {name: whole_tree(table) for name, table in tables.by_name.items()}
+        self.catalog = Catalog({name: CatalogTable(table.schema, len(table.keys), digest_of(self.trees[name]))
+                                for name, table in tables.by_name.items()})
+
+    def pairs(self, run, text, odd):
+        """Lines of a query: on the trees that prove its answer, and on so many others."""
+        for word in ("trees", "left_need"):
+            yield query_pair(self.catalog, word, text)
+        query_bound = bind(self.catalog, parse_query(text))
+        if query_bound.fault:
+            return
+        plan = Plan(query_bound)
+        rows = self.tables.by_name[plan.names[0]].rows() if plan.query.join else []
+        for row in run.sample(rows, min(3, len(rows))):
+            yield query_pair(self.catalog, "right_need", text, b"".join(map(value_bytes, row)))
+        for parts in self.parts(run, plan, odd):
+            octets = b"".join(map(tree_bytes, parts))
+            yield query_pair(self.catalog, "run", text, octets)
+            if plan.query.join:
+                yield query_pair(self.catalog, "right_needs", text, octets)
+
+    def parts(self, run, plan, odd):
+        """Trees that prove the answer, changed ones, and some of any shape."""
+        whole = [self.trees[place[0]] for place in plan.places]
+        proof = [prune(tree, needs) for tree, needs in zip(whole, run_plan(plan, whole).needs)]
+        changed = [near for _, near in tree_variants(proof)]
+        changed += [proof[:number] + [tree] + proof[number + 1:] for number in range(len(proof))
+                    for _, tree in truth_changes(proof[number], whole[number])]
+        odds = [odd_trees(run, plan) for _ in range(odd)]
+        yield proof
+        for trees_near in run.sample(changed, min(odd, len(changed))) + odds + [tidied(plan, one) for one in odds]:
+            if trees_near and all(map(is_spelled, trees_near)) and are_typed(plan, trees_near):
+                yield trees_near
+
+
+def whole_tree(table):
+    tree = empty_tree()
+    for key, cells in zip(table.keys, table.cells):
+        tree = do_op(tree, Op("insert", key, cells=tuple(cells)))
+    return tree
+
+
+def odd_trees(run, plan):
+    """Trees of any shape, one for each that the query reads."""
+    schemas = [plan.schema_of_place(place) for place in plan.places]
+    return [OddTrees(run, schema, sample_keys(run, schema.key_kind())).tree(MAIN) for schema in schemas]
+
+
+def is_spelled(tree):
+    """Whether the tree has bytes at all."""
+    return any(True for _ in safe([("", tree)], tree_bytes))
+
+
+def are_typed(plan, found):
+    """Whether keys and shown cells are of their columns' kinds, as those that a query is asked of are."""
+    return all(is_typed(plan.schema_of_place(place), entry) for place, tree in zip(plan.places, found)
+               for entry in entries_of(tree))
+
+
+def is_typed(schema, entry):
+    cells = () if isinstance(entry.part, bytes) else entry.part
+    try:
+        value_of_key(schema.key_kind(), entry.key)
+    except FormFault:
+        return False
+    return all(isinstance(cell, bytes) or cell[0] == column.kind for cell, column in zip(cells, schema.attributes()))
+
+
+def query_pairs(seed, worlds, queries, odd):
+    """Lines of random queries on so many worlds, one in four of which has many rows."""
+    for number in range(worlds):
+        run = random.Random(seed * 1000 + number)
+        work = Workload(run.random(), tables=2, batches=2, commands=run.choice([6, 10, 15, 60]), queries=queries,
+                        long_texts=False)
+        world = World(work.tables)
+        yield f"catalog {world.catalog.bytes().hex()}", str(len(world.catalog.by_name))
+        for text in work.queries:
+            yield from world.pairs(run, text, odd)
