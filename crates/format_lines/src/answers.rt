@@ -1,0 +1,81 @@
+//! The answer to a line: bytes in hexadecimal, a number or a word, or a fault as it is shown for debugging.
+use crate::call::Call;
+use crate::hashing::{collision, digest, hash};
+use crate::journals::{entries, journal, owned, seal, slots, taken};
+use crate::kept::{Kept, keep};
+use crate::keys::{copy, key, leaf, make, node, sign, verify};
+use crate::line::read_line;
+use crate::no_answer::NoAnswer;
+use crate::one_time::{candidate, checksum, digit, ots_public, ots_sign};
+use crate::records::{catalog, record};
+use crate::replies::{answer_by, begin, proofs, reply};
+use crate::rows::{attribute, cell, closed, hide, hide_cells, row, value, whole};
+use std::alloc::{AllocError, Global};
+use std::io;
+
+/// The answer to a line.
+pub fn answer(alloc: Global, kept: &mut Kept, line: &str) -> io::Result<String> {
+    match answer_line(alloc, kept, line) {
+        Ok(answer) => Ok(answer),
+        Err(NoAnswer::NoSuchLine) => Ok("no such line".to_string(alloc)?),
+        Err(NoAnswer::Memory) => Err(AllocError)?,
+    }
+}
+
+fn answer_line(alloc: Global, kept: &mut Kept, line: &str) -> Result<String, NoAnswer> {
+    let line = read_line(alloc, &kept.bytes, line)?;
+    let strings = line.strings.as_slice();
+    match line.call {
+        Call::Keep => keep(alloc, kept, strings),
+        Call::OtsSign => ots_sign(alloc, kept, strings),
+        Call::Make => make(alloc, kept, strings),
+        Call::Copy => copy(alloc, kept),
+        Call::Node => node(alloc, kept, strings),
+        Call::Sign => sign(alloc, kept, strings),
+        Call::Seal => seal(alloc, kept, strings),
+        _ => by_strings(alloc, line.call, strings),
+    }
+}
+
+/// The answer to a line that asks of its byte strings alone, and leaves nothing.
+fn by_strings(alloc: Global, call: Call, strings: &[Vec<u8>]) -> Result<String, NoAnswer> {
+    match call {
+        Call::Digest => digest(alloc, strings),
+        Call::Hash => hash(alloc, strings),
+        Call::Collision => collision(alloc, strings),
+        Call::Digit => digit(alloc, strings),
+        Call::Checksum => checksum(alloc, strings),
+        Call::OtsPublic => ots_public(alloc, strings),
+        Call::Candidate => candidate(alloc, strings),
+        Call::Key => key(alloc, strings),
+        Call::Leaf => leaf(alloc, strings),
+        Call::Verify => verify(alloc, strings),
+        _ => by_formats(alloc, call, strings),
+    }
+}
+
+/// The answer to a line of rows, formats or journals.
+fn by_formats(alloc: Global, call: Call, strings: &[Vec<u8>]) -> Result<String, NoAnswer> {
+    match call {
+        Call::Value => value(alloc, strings),
+        Call::Attribute => attribute(alloc, strings),
+        Call::Cell => cell(alloc, strings),
+        Call::Row => row(alloc, strings),
+        Call::Closed => closed(alloc, strings),
+        Call::Whole => whole(alloc, strings),
+        Call::Hide => hide(alloc, strings),
+        Call::HideCells => hide_cells(alloc, strings),
+        Call::Catalog => catalog(alloc, strings),
+        Call::Record => record(alloc, strings),
+        Call::Reply => reply(alloc, strings),
+        Call::Proofs => proofs(alloc, strings),
+        Call::Begin => begin(alloc, strings),
+        Call::Slots => slots(alloc, strings),
+        Call::Entries => entries(alloc, strings),
+        Call::Journal => journal(alloc, strings),
+        Call::Owned => owned(alloc, strings),
+        Call::Taken => taken(alloc, strings),
+        Call::Answer => answer_by(alloc, strings),
+        _ => Err(NoAnswer::NoSuchLine),
+    }
+}

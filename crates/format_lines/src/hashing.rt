@@ -1,0 +1,40 @@
+//! Calls of digests.
+use crate::no_answer::NoAnswer;
+use std::alloc::Global;
+use tagged_hash::{Hasher, collision as collision_of, digest_of};
+use vo_spec::Digest;
+
+/// A digest in hexadecimal.
+pub fn shown(alloc: Global, digest: Digest) -> Result<String, NoAnswer> {
+    Ok(hex::encode(alloc, digest.as_bytes())?)
+}
+
+/// The digest of a byte string.
+pub fn digest(alloc: Global, strings: &[Vec<u8>]) -> Result<String, NoAnswer> {
+    let [bytes] = strings else {
+        return Err(NoAnswer::NoSuchLine);
+    };
+    shown(alloc, digest_of(bytes))
+}
+
+/// The digest of pieces that are added one by one.
+pub fn hash(alloc: Global, pieces: &[Vec<u8>]) -> Result<String, NoAnswer> {
+    let mut hasher = Hasher::new();
+    for piece in pieces {
+        hasher.add(piece);
+    }
+    shown(alloc, hasher.end())
+}
+
+/// Whether two byte strings are a collision.
+pub fn collision(alloc: Global, strings: &[Vec<u8>]) -> Result<String, NoAnswer> {
+    let [first, second] = strings else {
+        return Err(NoAnswer::NoSuchLine);
+    };
+    let first = Vec::from_slice(alloc, first)?;
+    let second = Vec::from_slice(alloc, second)?;
+    match collision_of(first, second) {
+        Some(_) => Ok("a collision".to_string(alloc)?),
+        None => Ok("none".to_string(alloc)?),
+    }
+}

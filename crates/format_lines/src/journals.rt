@@ -1,0 +1,126 @@
+//! Calls of journals.
+ghost use Rattle.std.specs.Prelude.{IfOk};
+ghost use Rattle.std.specs.List.{AllByRecursion};
+ghost use Rattle.vo_spec.specs.Journals.{FitsEntry};
+ghost use Rattle.owner_state.specs.Sealing.{FitEach};
+
+use crate::arguments::number_of;
+use crate::kept::Kept;
+use crate::keys::read_key;
+use crate::no_answer::NoAnswer;
+use crate::records::shown_catalog;
+use owner_state::{
+    Entry, OwnedJournal, entry_bytes, journal_bytes, put_slot, read_entries, read_owned,
+    read_slots, read_taken, seal as sealed,
+};
+use std::alloc::Global;
+use table_list::read_batch;
+use vo_spec::{Batch, List};
+
+/// How a journal ends, and the slots of its entries again.
+pub fn slots(alloc: Global, strings: &[Vec<u8>]) -> Result<String, NoAnswer> {
+    let [bytes] = strings else {
+        return Err(NoAnswer::NoSuchLine);
+    };
+    let slots = read_slots(alloc, bytes)?;
+    let mut line = format!(in alloc; "{:?}", slots.ending)?;
+    for entry in slots.entries.as_slice() {
+        line.push(' ')?;
+        line.push_str(&shown_slot(alloc, entry)?)?;
+    }
+    Ok(line)
+}
+
+fn shown_slot(alloc: Global, entry: &Entry) -> Result<String, NoAnswer>
+    requires { FitsEntry entry.now }
+{
+    let mut bytes = Vec::new(alloc);
+    put_slot(alloc, &mut bytes, entry)?;
+    Ok(hex::encode(alloc, bytes)?)
+}
+
+/// How many entries a journal has, and each again.
+pub fn entries(alloc: Global, strings: &[Vec<u8>]) -> Result<String, NoAnswer> {
+    let [bytes] = strings else {
+        return Err(NoAnswer::NoSuchLine);
+    };
+    let entries = match read_entries(alloc, bytes) {
+        Ok(entries) => entries,
+        Err(fault) => return Ok(format!(in alloc; "{fault:?}")?),
+    };
+    let mut line = format!(in alloc; "{}", entries.len())?;
+    for entry in entries.as_slice() {
+        line.push(' ')?;
+        line.push_str(&hex::encode(alloc, entry_bytes(alloc, entry)?)?)?;
+    }
+    Ok(line)
+}
+
+/// The journal of a journal's entries, with nothing behind its closed gate.
+pub fn journal(alloc: Global, strings: &[Vec<u8>]) -> Result<String, NoAnswer> {
+    let [bytes] = strings else {
+        return Err(NoAnswer::NoSuchLine);
+    };
+    match read_entries(alloc, bytes) {
+        Ok(entries) => Ok(hex::encode(alloc, journal_bytes(alloc, entries.as_slice())?)?),
+        Err(fault) => Ok(format!(in alloc; "{fault:?}")?),
+    }
+}
+
+/// The journal of batches, sealed by the key that was made last, which is kept.
+pub fn seal(alloc: Global, kept: &mut Kept, strings: &[Vec<u8>]) -> Result<String, NoAnswer> {
+    let batches = read_batches(alloc, strings)?;
+    match sealed(alloc, kept.secret()?, batches) {
+        Ok(journal) => kept.keep(alloc, journal),
+        Err(fault) => Ok(format!(in alloc; "{fault:?}")?),
+    }
+}
+
+fn read_batches(alloc: Global, strings: &[Vec<u8>]) -> Result<List<Batch>, NoAnswer>
+    ensures { IfOk result (λ batches. FitEach batches) }
+{
+    let mut batches = List::new(alloc);
+    for string in strings {
+        match read_batch(alloc, string) {
+            Ok(batch) => batches.push(batch)?,
+            Err(_) => return Err(NoAnswer::NoSuchLine),
+        }
+    }
+    Ok(batches)
+}
+
+/// How many entries an owner's journal has, and the catalog of its tables at a version.
+pub fn owned(alloc: Global, strings: &[Vec<u8>]) -> Result<String, NoAnswer> {
+    let [key, version, journal] = strings else {
+        return Err(NoAnswer::NoSuchLine);
+    };
+    match read_owned(alloc, &read_key(key)?, journal, number_of(version)?) {
+        Ok(owned) => shown_owned(alloc, &owned),
+        Err(fault) => Ok(format!(in alloc; "{fault:?}")?),
+    }
+}
+
+fn shown_owned(alloc: Global, owned: &OwnedJournal) -> Result<String, NoAnswer> {
+    let count = owned.entries.len();
+    match &owned.tables {
+        Some(tables) => {
+            let catalog = shown_catalog(alloc, &tables.catalog(alloc)?)?;
+            Ok(format!(in alloc; "{count} {catalog}")?)
+        }
+        None => Ok(format!(in alloc; "{count} no such version")?),
+    }
+}
+
+/// How many entries a journal has that a store takes, and the catalog of its tables behind them.
+pub fn taken(alloc: Global, strings: &[Vec<u8>]) -> Result<String, NoAnswer> {
+    let [key, journal] = strings else {
+        return Err(NoAnswer::NoSuchLine);
+    };
+    match read_taken(alloc, &read_key(key)?, journal) {
+        Ok(taken) => {
+            let catalog = shown_catalog(alloc, &taken.tables.catalog(alloc)?)?;
+            Ok(format!(in alloc; "{} {catalog}", taken.entries.len())?)
+        }
+        Err(fault) => Ok(format!(in alloc; "{fault:?}")?),
+    }
+}

@@ -1,0 +1,118 @@
+//! Calls of keys: the secret key that was made last, and public keys.
+use crate::arguments::{array_of, number_of, set_of, small_number_of};
+use crate::hashing::shown;
+use crate::kept::Kept;
+use crate::no_answer::NoAnswer;
+use lms_sign::{OtsType, PublicKey, SecretKey, verify as verifies};
+use std::alloc::Global;
+
+/// The public key of the secret key that is made, which is kept.
+pub fn make(alloc: Global, kept: &mut Kept, strings: &[Vec<u8>]) -> Result<String, NoAnswer> {
+    let [height, set, id, seed] = strings else {
+        return Err(NoAnswer::NoSuchLine);
+    };
+    let id = array_of::<16>(id)?;
+    let seed = array_of::<32>(seed)?;
+    let key = key_of(alloc, id, seed, set_of(set)?, number_of(height)?)?;
+    let answer = public(alloc, &key)?;
+    kept.key = Some(key);
+    Ok(answer)
+}
+
+/// Keys are made of these heights alone.
+fn key_of(
+    alloc: Global,
+    id: [u8; 16],
+    seed: [u8; 32],
+    set: OtsType,
+    height: u64,
+) -> Result<SecretKey, NoAnswer> {
+    match height {
+        5 => Ok(SecretKey::make(alloc, id, seed, set, 5)?),
+        10 => Ok(SecretKey::make(alloc, id, seed, set, 10)?),
+        _ => Err(NoAnswer::NoSuchLine),
+    }
+}
+
+fn public(alloc: Global, key: &SecretKey) -> Result<String, NoAnswer> {
+    Ok(hex::encode(alloc, key.public().bytes(alloc)?)?)
+}
+
+/// Keeps a copy of the key in its place, and has its public key.
+pub fn copy(alloc: Global, kept: &mut Kept) -> Result<String, NoAnswer> {
+    let copy = kept.secret()?.copy(alloc)?;
+    let answer = public(alloc, &copy)?;
+    kept.key = Some(copy);
+    Ok(answer)
+}
+
+/// A node of the key's tree.
+pub fn node(alloc: Global, kept: &Kept, strings: &[Vec<u8>]) -> Result<String, NoAnswer> {
+    let [number] = strings else {
+        return Err(NoAnswer::NoSuchLine);
+    };
+    let number = small_number_of(number)?;
+    // all keys have nodes up to here
+    if number < 1 || number > 63 {
+        return Err(NoAnswer::NoSuchLine);
+    }
+    shown(alloc, kept.secret()?.node(number))
+}
+
+/// The key's signature of a message by a leaf, which is kept.
+pub fn sign(alloc: Global, kept: &mut Kept, strings: &[Vec<u8>]) -> Result<String, NoAnswer> {
+    let [leaf, message] = strings else {
+        return Err(NoAnswer::NoSuchLine);
+    };
+    match kept.secret()?.sign(alloc, number_of(leaf)?, message) {
+        Ok(signature) => kept.keep(alloc, signature),
+        Err(fault) => Ok(format!(in alloc; "{fault:?}")?),
+    }
+}
+
+/// A public key's identifier, its number of leaves, the length of its signatures, and its bytes again.
+pub fn key(alloc: Global, strings: &[Vec<u8>]) -> Result<String, NoAnswer> {
+    let [bytes] = strings else {
+        return Err(NoAnswer::NoSuchLine);
+    };
+    let key = match PublicKey::read(bytes) {
+        Ok(key) => key,
+        Err(fault) => return Ok(format!(in alloc; "{fault:?}")?),
+    };
+    let id = hex::encode(alloc, key.id())?;
+    let bytes = hex::encode(alloc, key.bytes(alloc)?)?;
+    let leaves = key.leaf_count();
+    let length = key.signature_len();
+    Ok(format!(in alloc; "{id} {leaves} {length} {bytes}")?)
+}
+
+/// The public key that the bytes are.
+pub fn read_key(bytes: &[u8]) -> Result<PublicKey, NoAnswer> {
+    match PublicKey::read(bytes) {
+        Ok(key) => Ok(key),
+        Err(_) => Err(NoAnswer::NoSuchLine),
+    }
+}
+
+/// The leaf that a signature says it is by.
+pub fn leaf(alloc: Global, strings: &[Vec<u8>]) -> Result<String, NoAnswer> {
+    let [key, signature] = strings else {
+        return Err(NoAnswer::NoSuchLine);
+    };
+    match read_key(key)?.leaf_of(signature) {
+        Some(leaf) => Ok(format!(in alloc; "{leaf}")?),
+        None => Ok("none".to_string(alloc)?),
+    }
+}
+
+/// Whether the signature of a message is valid under a key.
+pub fn verify(alloc: Global, strings: &[Vec<u8>]) -> Result<String, NoAnswer> {
+    let [key, message, signature] = strings else {
+        return Err(NoAnswer::NoSuchLine);
+    };
+    if verifies(&read_key(key)?, message, signature) {
+        Ok("valid".to_string(alloc)?)
+    } else {
+        Ok("invalid".to_string(alloc)?)
+    }
+}

@@ -1,0 +1,62 @@
+//! A line: the word of a call, and its byte strings.
+use crate::call::{Call, call_of};
+use crate::no_answer::NoAnswer;
+use std::alloc::Global;
+
+/// A call with the byte strings that it is asked of.
+#[derive(Drop)]
+pub struct Line {
+    pub call: Call,
+    pub strings: Vec<Vec<u8>>,
+}
+
+/// What a line asks, where these bytes were kept last.
+pub fn read_line(alloc: Global, kept: &[u8], line: &str) -> Result<Line, NoAnswer> {
+    let mut words = line.split(' ');
+    let word = words.next().unwrap_or("");
+    let call = call_of(word).ok_or(NoAnswer::NoSuchLine)?;
+    let mut strings = Vec::new(alloc);
+    for word in words {
+        strings.push(string_of(alloc, kept, word)?)?;
+    }
+    Ok(Line { call, strings })
+}
+
+/// The byte string of pieces with a `+` between each two.
+fn string_of(alloc: Global, kept: &[u8], pieces: &str) -> Result<Vec<u8>, NoAnswer> {
+    let mut bytes = Vec::new(alloc);
+    for piece in pieces.split('+') {
+        match piece.split_once("..") {
+            Some((from, to)) => bytes.extend_from_slice(kept_piece(kept, from, to)?)?,
+            None => put_digits(alloc, &mut bytes, piece)?,
+        }
+    }
+    Ok(bytes)
+}
+
+/// The kept bytes from one place up to another.
+fn kept_piece<'b>(kept: &'b [u8], from: &str, to: &str) -> Result<&'b [u8], NoAnswer> {
+    let from = place_of(from)?;
+    let to = place_of(to)?;
+    kept.get(from..to).ok_or(NoAnswer::NoSuchLine)
+}
+
+fn place_of(digits: &str) -> Result<usize, NoAnswer> {
+    match digits.parse::<usize>() {
+        Ok(place) => Ok(place),
+        Err(_) => Err(NoAnswer::NoSuchLine),
+    }
+}
+
+/// Puts the bytes of hexadecimal digits, or of `DIGITS*COUNT`, so often.
+fn put_digits(alloc: Global, bytes: &mut Vec<u8>, piece: &str) -> Result<(), NoAnswer> {
+    let (digits, count) = piece.split_once('*').unwrap_or((piece, "1"));
+    let count = place_of(count)?;
+    let Ok(once) = hex::decode(alloc, digits) else {
+        return Err(NoAnswer::NoSuchLine);
+    };
+    for _ in 0..count {
+        bytes.extend_from_slice(&once)?;
+    }
+    Ok(())
+}

@@ -1,0 +1,47 @@
+//! Answers a call of the crates of digests, signatures and formats for each line of standard input, so that other
+//! implementations can be compared with them.
+//!
+//! A line is a word and byte strings with a blank between each two; numbers are byte strings too, the highest byte
+//! first. A byte string is pieces joined by `+`: hexadecimal digits, `DIGITS*COUNT` for bytes that stand so often, or
+//! `FROM..TO` for those of the bytes that `keep`, `ots_sign`, `sign` or `seal` had last.
+//!
+//! - Digests: `digest` of bytes, `hash` of pieces that are added one by one, and `collision` of two strings.
+//! - One-time signatures, of a type: `digit` of bytes, `checksum` of a digest, `ots_public` and `ots_sign` of an
+//!   identifier, a leaf and a seed, and `candidate` of an identifier, a leaf, a message and a signature.
+//! - Keys: `make` of a height, a type, an identifier and a seed has the key that `copy`, `node`, `sign` and `seal` take;
+//!   `key` reads a public key, `leaf` names the leaf of a signature, and `verify` judges it.
+//! - Rows: `value`, `attribute`, `cell`, `row`, `closed` and `whole` are digests; `hide` and `hide_cells` hide the values
+//!   but those of some columns.
+//! - Formats: `catalog`, `record`, `reply` and `proofs` read and write again, `begin` begins the proofs of so many.
+//! - Journals: `slots`, `entries` and `journal` read and write again, `seal` seals batches, `owned` and `taken` read a
+//!   journal under a public key, and `answer` is a store's reply to a query.
+#![tactic(auto)]
+
+mod answers;
+mod arguments;
+mod call;
+mod hashing;
+mod journals;
+mod kept;
+mod keys;
+mod line;
+mod no_answer;
+mod one_time;
+mod reading;
+mod records;
+mod replies;
+mod rows;
+
+use answers::answer;
+use kept::Kept;
+use std::io::{self, BufRead, BufReader};
+
+fn main(rt: HostRuntime) -> io::Result<()> {
+    let alloc = rt.alloc();
+    let mut kept = Kept::new(alloc);
+    for line in BufReader::new(alloc, rt.reader())?.lines(alloc) {
+        let answer = answer(alloc, &mut kept, &line?)?;
+        println!(rt; "{answer}")?;
+    }
+    Ok(())
+}

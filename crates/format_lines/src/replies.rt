@@ -1,0 +1,72 @@
+//! Calls of replies and proofs.
+use crate::arguments::array_of;
+use crate::keys::read_key;
+use crate::no_answer::NoAnswer;
+use crate::records::unread;
+use sql_text::parse_query;
+use std::alloc::Global;
+use vo_format::{begin_proofs, read_proofs, read_reply, write_proofs, write_reply};
+use vo_spec::QueryText;
+use vo_store::reply_by;
+
+/// A reply's version, its signature's length, its number of trees, and its bytes again.
+pub fn reply(alloc: Global, strings: &[Vec<u8>]) -> Result<String, NoAnswer> {
+    let [bytes] = strings else {
+        return Err(NoAnswer::NoSuchLine);
+    };
+    let reply = match read_reply(alloc, bytes) {
+        Ok(reply) => reply,
+        Err(fault) => return unread(alloc, fault),
+    };
+    let version = reply.rec.version;
+    let length = reply.signature.len();
+    let trees = reply.trees.len();
+    let bytes = hex::encode(alloc, write_reply(alloc, &reply)?)?;
+    Ok(format!(in alloc; "{version} {length} {trees} {bytes}")?)
+}
+
+/// How many trees proofs have, and their bytes again.
+pub fn proofs(alloc: Global, strings: &[Vec<u8>]) -> Result<String, NoAnswer> {
+    let [bytes] = strings else {
+        return Err(NoAnswer::NoSuchLine);
+    };
+    let trees = match read_proofs(alloc, bytes) {
+        Ok(trees) => trees,
+        Err(fault) => return unread(alloc, fault),
+    };
+    let bytes = hex::encode(alloc, write_proofs(alloc, &trees)?)?;
+    Ok(format!(in alloc; "{} {bytes}", trees.len())?)
+}
+
+/// What the proofs of so many trees begin with.
+pub fn begin(alloc: Global, strings: &[Vec<u8>]) -> Result<String, NoAnswer> {
+    let [count] = strings else {
+        return Err(NoAnswer::NoSuchLine);
+    };
+    let mut bytes = Vec::new(alloc);
+    begin_proofs(&mut bytes, u16::from_be_bytes(array_of::<2>(count)?))?;
+    Ok(hex::encode(alloc, bytes)?)
+}
+
+/// The reply to a query of the store of a key that loads a journal.
+pub fn answer_by(alloc: Global, strings: &[Vec<u8>]) -> Result<String, NoAnswer> {
+    let [key, query, journal] = strings else {
+        return Err(NoAnswer::NoSuchLine);
+    };
+    let query = read_query(alloc, query)?;
+    match reply_by(alloc, read_key(key)?, journal, &query) {
+        Ok(reply) => Ok(hex::encode(alloc, reply)?),
+        Err(fault) => Ok(format!(in alloc; "{fault:?}")?),
+    }
+}
+
+/// The query of a text.
+fn read_query(alloc: Global, text: &[u8]) -> Result<QueryText, NoAnswer> {
+    let Ok(text) = str::from_utf8(text) else {
+        return Err(NoAnswer::NoSuchLine);
+    };
+    match parse_query(alloc, text) {
+        Ok(query) => Ok(query),
+        Err(_) => Err(NoAnswer::NoSuchLine),
+    }
+}

@@ -1,0 +1,99 @@
+//! Calls of values and rows.
+use crate::arguments::{column_of, digest_in};
+use crate::hashing::shown;
+use crate::no_answer::NoAnswer;
+use crate::reading::{read_cell, read_row, read_value, read_values};
+use attr_digest::{
+    add_value, attr_digest, cell_digest, hide as hidden, hide_cells as hidden_cells, row_digest,
+    whole_row_digest,
+};
+use std::alloc::Global;
+use tagged_hash::Hasher;
+use vo_spec::{Cell, Key, Row, RowPart};
+
+/// The digest of a value's bytes.
+pub fn value(alloc: Global, strings: &[Vec<u8>]) -> Result<String, NoAnswer> {
+    let [value] = strings else {
+        return Err(NoAnswer::NoSuchLine);
+    };
+    let mut hasher = Hasher::new();
+    add_value(&mut hasher, read_value(value)?);
+    shown(alloc, hasher.end())
+}
+
+/// The digest of a value in a column.
+pub fn attribute(alloc: Global, strings: &[Vec<u8>]) -> Result<String, NoAnswer> {
+    let [column, value] = strings else {
+        return Err(NoAnswer::NoSuchLine);
+    };
+    shown(alloc, attr_digest(column_of(column)?, read_value(value)?))
+}
+
+/// The digest of a cell in a column.
+pub fn cell(alloc: Global, strings: &[Vec<u8>]) -> Result<String, NoAnswer> {
+    let [column, cell] = strings else {
+        return Err(NoAnswer::NoSuchLine);
+    };
+    shown(alloc, cell_digest(column_of(column)?, &read_cell(cell)?))
+}
+
+/// The digest of a row of these cells.
+pub fn row(alloc: Global, strings: &[Vec<u8>]) -> Result<String, NoAnswer> {
+    shown(alloc, row_digest(&read_row(alloc, strings)?))
+}
+
+/// The digest of a row that is closed to this one.
+pub fn closed(alloc: Global, strings: &[Vec<u8>]) -> Result<String, NoAnswer> {
+    let [digest] = strings else {
+        return Err(NoAnswer::NoSuchLine);
+    };
+    shown(alloc, row_digest(&RowPart::Digest(digest_in(digest)?)))
+}
+
+/// The digest of a row of these values.
+pub fn whole(alloc: Global, strings: &[Vec<u8>]) -> Result<String, NoAnswer> {
+    let values = read_values(alloc, strings)?;
+    shown(alloc, whole_row_digest(values.as_slice()))
+}
+
+/// The cells of a row of these values, behind the columns that are shown.
+pub fn hide(alloc: Global, strings: &[Vec<u8>]) -> Result<String, NoAnswer> {
+    let [columns, values @ ..] = strings else {
+        return Err(NoAnswer::NoSuchLine);
+    };
+    let row = Row {
+        key: Key::from_vec(Vec::new(alloc)),
+        cells: read_values(alloc, values)?,
+    };
+    match hidden(alloc, &row, columns)? {
+        RowPart::Digest(digest) => shown(alloc, digest),
+        RowPart::Cells(cells) => shown_cells(alloc, cells.as_slice()),
+    }
+}
+
+/// The same by the values alone.
+pub fn hide_cells(alloc: Global, strings: &[Vec<u8>]) -> Result<String, NoAnswer> {
+    let [columns, values @ ..] = strings else {
+        return Err(NoAnswer::NoSuchLine);
+    };
+    let values = read_values(alloc, values)?;
+    let cells = hidden_cells(alloc, values.as_slice(), columns)?;
+    shown_cells(alloc, cells.as_slice())
+}
+
+/// How many cells there are, and each as its value or its digest.
+fn shown_cells(alloc: Global, cells: &[Cell<'_>]) -> Result<String, NoAnswer> {
+    let mut line = format!(in alloc; "{}", cells.len())?;
+    for cell in cells {
+        line.push(' ')?;
+        line.push_str(&shown_cell(alloc, cell)?)?;
+    }
+    Ok(line)
+}
+
+fn shown_cell(alloc: Global, cell: &Cell<'_>) -> Result<String, NoAnswer> {
+    match cell {
+        Cell::Shown(value) => Ok(format!(in alloc; "{:?}", value.as_ref())?),
+        Cell::Hidden(digest) => shown(alloc, *digest),
+    }
+}
