@@ -264,6 +264,10 @@ def three_levels():
     yield tables.apply(sql(*deletes(range(1, 301, 2))))
     yield from (change(tables.tree, op) for op in (drop(2), put(1), turn(150), drop(1)))
     yield from (tables.apply(sql(*deletes(range(300, 0, -2)))), root(tables.tree))
+    # all go as they came, and from the last one on
+    for gone in (range(1, 301), range(300, 0, -1)):
+        tables, made = table_of(*inserts(range(1, 301)))
+        yield from (*made, tables.apply(sql(*deletes(gone))), root(tables.tree))
 
 
 # -- changes of part trees
@@ -277,7 +281,10 @@ def runs_on_parts():
     for end in ends:
         yield after(TO_17 + end, EMPTY)
     yield after(TO_17[::-1], EMPTY)
-    yield after([put(number) for number in MIXED], EMPTY)
+    # three levels grow: as the rows rise, as they fall, in steps of 89, and with the odd ones gone again
+    rising = [*map(put, range(1, 301))]
+    for ops in (rising, [*map(put, range(200, 0, -1))], [*map(put, MIXED)], [*rising, *map(drop, range(1, 301, 2))]):
+        yield after(ops, EMPTY)
     # three levels shrink to a leaf of no rows: the odd ones go, and then the others from the last one on
     yield after([*map(put, range(1, 146)), *map(drop, range(1, 146, 2)), *map(drop, range(144, 0, -2))], EMPTY)
 
