@@ -1,4 +1,4 @@
-"""Lines of `call_lines` for values, keys and columns, and for what queries need of trees; with the answers due."""
+"""Lines of `call_lines` for byte strings, and for what queries need of trees and trees show; with the answers due."""
 import random
 import re
 
@@ -6,8 +6,9 @@ import shown
 from vo_ref.binding import bind
 from vo_ref.catalog import Catalog, CatalogTable, column_of
 from vo_ref.faults import BadForm, FormFault, Missing
-from vo_ref.formats import read_tree, tree_bytes
-from vo_ref.mutate import OddTrees, safe, sample_keys, tidied, tree_variants, truth_changes
+from vo_ref.formats import batch_bytes, read_batch, read_tree, tree_bytes
+from vo_ref.mutate import (OddTrees, byte_sets, safe, sample_keys, tidied, tree_variants, truncations,
+                           truth_changes)
 from vo_ref.plan import MAIN, Plan, run_plan, seen_row, true_all
 from vo_ref.sql import parse_batch, parse_query
 from vo_ref.tables import Tables, apply
@@ -18,7 +19,7 @@ from vo_ref.vectors import odd_value_bytes
 from vo_ref.workload import Workload
 
 
-# -- values, keys and columns
+# -- byte strings: values, keys, columns, batches
 
 def value(octets):
     cursor = Cursor(octets)
@@ -51,6 +52,13 @@ def key_value(octets):
     return shown.value(value_of_key(octets[0], octets[1:]))
 
 
+def batch(octets):
+    try:
+        return f"Ok({shown.batch(read_batch(octets))})"
+    except BadForm:
+        return "Err(BadForm)"
+
+
 def by_name(work):
     """What a call answers, a fault by its name."""
     try:
@@ -60,6 +68,7 @@ def by_name(work):
 
 
 OF_BYTES = {
+    "read": batch,
     "value": value,
     "values": lambda octets: by_name(lambda: shown.listed([shown.value(one) for one in all_values(octets)])),
     "key": lambda octets: by_name(lambda: key_of(take_value(Cursor(octets))).hex()),
@@ -77,6 +86,15 @@ def byte_pairs(run, count):
         for word, given in (("value", octets), ("values", number + octets), ("key", number),
                             ("key_value", run.choice([b"\1", b"\2", b"\3"]) + key)):
             yield f"{word} {given.hex()}".strip(), OF_BYTES[word](given)
+
+
+def batch_pairs(run, count):
+    """Lines of the bytes of random batches, and of such with one byte changed or cut short."""
+    for _ in range(count):
+        for commands in Workload(run.random(), tables=2, batches=1, commands=4, queries=0, long_texts=False).batches:
+            octets = batch_bytes(commands)
+            for _, given in [("", octets), *byte_sets(octets, run, 4), *truncations(octets, run, 2)]:
+                yield f"read {given.hex()}".strip(), batch(given)
 
 
 # -- queries on a catalog, and part trees
