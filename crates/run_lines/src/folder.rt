@@ -1,0 +1,78 @@
+//! Files in memory, and runs of the program over them.
+use outside::{FailAt, Failure, MemDisk, MemNet, MemShelf, MemSink, NamedFile, Never};
+use std::alloc::{AllocError, Global};
+use vo_commands::run;
+
+/// The words that the program is run with, and which of its calls of the files and of the output fail.
+#[derive(Drop)]
+pub struct Attempt {
+    pub words: Vec<String>,
+    pub taking: Vec<Failure>,
+    pub putting: Vec<Failure>,
+}
+
+/// What a run ended with, and what it wrote.
+#[derive(Drop)]
+pub struct Ended {
+    pub status: u8,
+    pub written: Vec<u8>,
+}
+
+/// Files by their names. Of two with one name the later one counts.
+#[derive(Drop)]
+pub struct Folder {
+    files: Vec<NamedFile>,
+}
+
+impl Folder {
+    pub fn new(alloc: Global) -> Folder {
+        Folder {
+            files: Vec::new(alloc),
+        }
+    }
+
+    pub fn keep(&mut self, name: String, bytes: Vec<u8>) -> Result<(), AllocError> {
+        self.files.insert(0, NamedFile { name, bytes })?;
+        Ok(())
+    }
+
+    /// The bytes of the file of that name.
+    pub fn find(&self, name: &str) -> Option<&[u8]> {
+        for file in &self.files {
+            if file.name.as_str() == name {
+                return Some(file.bytes.as_slice());
+            }
+        }
+        None
+    }
+
+    pub fn run(&self, alloc: Global, attempt: Attempt) -> Result<Ended, AllocError> {
+        let mut shelf = MemShelf::new(copies(alloc, &self.files)?, FailAt::new(attempt.taking));
+        let mut disk = MemDisk::new(alloc, Vec::new(alloc), Never)?;
+        let mut net = MemNet::new(alloc, Vec::new(alloc), Never)?;
+        let mut out = MemSink::new(alloc, FailAt::new(attempt.putting));
+        let status = run(
+            alloc,
+            &attempt.words,
+            &mut shelf,
+            &mut disk,
+            &mut net,
+            &mut out,
+        );
+        Ok(Ended {
+            status,
+            written: Vec::from_slice(alloc, out.written())?,
+        })
+    }
+}
+
+fn copies(alloc: Global, files: &[NamedFile]) -> Result<Vec<NamedFile>, AllocError> {
+    let mut all = Vec::new(alloc);
+    for file in files {
+        all.push(NamedFile {
+            name: String::from_str(alloc, &file.name)?,
+            bytes: Vec::from_slice(alloc, &file.bytes)?,
+        })?;
+    }
+    Ok(all)
+}

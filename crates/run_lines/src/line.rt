@@ -1,0 +1,80 @@
+//! A line: the word of a call, and what it is asked of.
+use crate::fault::LineFault;
+use crate::folder::Attempt;
+use crate::pieces::{Pieces, take_bytes, take_name, take_number, take_words};
+use outside::Failure;
+use std::alloc::Global;
+
+/// What a line asks for.
+#[derive(Drop)]
+pub enum Line {
+    Clear,
+    Keep(String, Vec<u8>),
+    Splice(String, Splice),
+    Run(Attempt),
+    Make(String, Attempt),
+    Words(Vec<String>),
+}
+
+/// A file with other bytes in the place of so many from one on.
+#[derive(Drop)]
+pub struct Splice {
+    pub from: String,
+    pub at: usize,
+    pub cut: usize,
+    pub bytes: Vec<u8>,
+}
+
+/// What a line asks for.
+pub fn read_line(alloc: Global, line: &str) -> Result<Line, LineFault> {
+    let mut pieces = line.split(' ');
+    let word = pieces.next().unwrap_or("");
+    asked(alloc, word, &mut pieces)
+}
+
+fn asked(alloc: Global, word: &str, pieces: &mut Pieces<'_>) -> Result<Line, LineFault> {
+    Ok(match word {
+        "clear" => Line::Clear,
+        "keep" => Line::Keep(take_name(alloc, pieces)?, take_bytes(alloc, pieces)?),
+        "splice" => Line::Splice(take_name(alloc, pieces)?, take_splice(alloc, pieces)?),
+        "run" => Line::Run(take_run(alloc, pieces)?),
+        "make" => Line::Make(take_name(alloc, pieces)?, take_run(alloc, pieces)?),
+        "fail_files" => Line::Run(take_unread(alloc, pieces)?),
+        "fail_output" => Line::Run(take_unwritten(alloc, pieces)?),
+        "words" => Line::Words(take_words(alloc, pieces)?),
+        _ => return Err(LineFault::NoSuchLine),
+    })
+}
+
+fn take_splice(alloc: Global, pieces: &mut Pieces<'_>) -> Result<Splice, LineFault> {
+    Ok(Splice {
+        from: take_name(alloc, pieces)?,
+        at: take_number(pieces)?,
+        cut: take_number(pieces)?,
+        bytes: take_bytes(alloc, pieces)?,
+    })
+}
+
+fn take_run(alloc: Global, pieces: &mut Pieces<'_>) -> Result<Attempt, LineFault> {
+    Ok(Attempt {
+        words: take_words(alloc, pieces)?,
+        taking: Vec::new(alloc),
+        putting: Vec::new(alloc),
+    })
+}
+
+/// A run that can't read the file that it takes with a number, the first one having 0.
+fn take_unread(alloc: Global, pieces: &mut Pieces<'_>) -> Result<Attempt, LineFault> {
+    let call = take_number(pieces)? as u64;
+    let mut attempt = take_run(alloc, pieces)?;
+    attempt.taking.push(Failure { call, after: 0 })?;
+    Ok(attempt)
+}
+
+/// A run whose output breaks off behind so many bytes.
+fn take_unwritten(alloc: Global, pieces: &mut Pieces<'_>) -> Result<Attempt, LineFault> {
+    let after = take_number(pieces)?;
+    let mut attempt = take_run(alloc, pieces)?;
+    attempt.putting.push(Failure { call: 0, after })?;
+    Ok(attempt)
+}
