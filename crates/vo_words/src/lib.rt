@@ -8,8 +8,6 @@ mod commands;
 mod numbers;
 mod read;
 mod request;
-#[cfg(test)]
-mod tests;
 
 pub use read::read_words;
 pub use request::{Height, Request};
