@@ -24,8 +24,9 @@ pub fn answer(alloc: Global, kept: &mut Kept, line: &str) -> io::Result<String> 
 
 fn answer_line(alloc: Global, kept: &mut Kept, line: &str) -> Result<String, NoAnswer> {
     let line = read_line(alloc, &kept.bytes, line)?;
+    let call = line.call;
     let strings = line.strings.as_slice();
-    match line.call {
+    match call {
         Call::Keep => keep(alloc, kept, strings),
         Call::OtsSign => ots_sign(alloc, kept, strings),
         Call::Make => make(alloc, kept, strings),
@@ -33,7 +34,7 @@ fn answer_line(alloc: Global, kept: &mut Kept, line: &str) -> Result<String, NoA
         Call::Node => node(alloc, kept, strings),
         Call::Sign => sign(alloc, kept, strings),
         Call::Seal => seal(alloc, kept, strings),
-        _ => by_strings(alloc, line.call, strings),
+        _ => by_strings(alloc, call, strings),
     }
 }
 

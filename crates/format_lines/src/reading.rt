@@ -39,11 +39,11 @@ pub fn read_value(bytes: &[u8]) -> Result<ValueRef<'_>, NoAnswer>
 pub fn read_values(alloc: Global, strings: &[Vec<u8>]) -> Result<List<Value>, NoAnswer>
     ensures { IfOk result (λ values. FitsCells values) }
 {
-    if strings.len() > MOST_CELLS {
-        return Err(NoAnswer::NoSuchLine);
-    }
     let mut values = Vec::new(alloc);
     for string in strings {
+        if values.len() >= MOST_CELLS {
+            return Err(NoAnswer::NoSuchLine);
+        }
         values.push(read_value(string)?.to_value(alloc)?)?;
     }
     Ok(List::from_vec(values))
@@ -64,11 +64,11 @@ pub fn read_cell(bytes: &[u8]) -> Result<Cell<'_>, NoAnswer>
 pub fn read_row(alloc: Global, strings: &[Vec<u8>]) -> Result<RowPart<'_>, NoAnswer>
     ensures { IfOk result (λ part. FitsRowPart part) }
 {
-    if strings.len() > MOST_CELLS {
-        return Err(NoAnswer::NoSuchLine);
-    }
     let mut cells = Vec::new(alloc);
     for string in strings {
+        if cells.len() >= MOST_CELLS {
+            return Err(NoAnswer::NoSuchLine);
+        }
         cells.push(read_cell(string)?)?;
     }
     Ok(RowPart::Cells(List::from_vec(cells)))
