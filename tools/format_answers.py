@@ -1,0 +1,311 @@
+"""Lines of the program of crates/format_lines, each with the answer due by the independent implementation.
+
+A row is the word of a call and its byte strings; those that a line shares with the bytes kept last are spelled by their
+places there.
+"""
+import os
+import re
+
+from vo_ref import lms
+from vo_ref.audit import read_owned
+from vo_ref.catalog import catalog_digest, read_catalog, read_record
+from vo_ref.faults import AuditFault, BadForm, EntriesFault, EntryFault, KeyFault, OwnerFault, SignFault, StoreFault
+from vo_ref.formats import (entry_bytes, journal_bytes, read_batch, read_entries, read_proofs, read_reply, slot_bytes,
+                            walk_journal, write_proofs, write_reply)
+from vo_ref.hashing import sha256
+from vo_ref.owner import Owner
+from vo_ref.sql import parse_query
+from vo_ref.store import Store
+from vo_ref.tree import attr_digest, cell_digest, hide, row_digest
+from vo_ref.values import BOOL, INT, Cursor, take_value, value_bytes
+
+
+# -- the calls, as the other implementation answers them
+
+def number(data):
+    return int.from_bytes(data, "big")
+
+
+def value_in(data):
+    cursor = Cursor(data)
+    value = take_value(cursor)
+    cursor.end()
+    return value
+
+
+def cell_in(data):
+    return data[1:] if data[0] == 0 else value_in(data[1:])
+
+
+def shown(value):
+    """A value as the program shows it for debugging."""
+    kind, content = value
+    if kind == INT:
+        return f"Int({content})"
+    return f"Bool({str(bool(content)).lower()})" if kind == BOOL else f"Text({list(content)})"
+
+
+def shown_cells(cells):
+    return " ".join([str(len(cells)), *(cell.hex() if isinstance(cell, bytes) else shown(cell) for cell in cells)])
+
+
+def shown_catalog(catalog):
+    return f"{catalog_digest(catalog.bytes()).hex()} {catalog.bytes().hex()}"
+
+
+def or_none(thing, show):
+    return "none" if thing is None else show(thing)
+
+
+def sealed(key, batches):
+    """The journal of batches."""
+    owner, first = Owner.start(key)
+    store, entries = Store(key.public()), [first]
+    store.install(first.rec, first.signature)
+    for batch in batches:
+        if owner.roots.version + 1 == key.leaves():
+            raise OwnerFault("KeySpent")
+        step = owner.step(batch, store.propose(batch))
+        store.install(step.entry.rec, step.entry.signature)
+        owner.advance(step)
+        entries.append(step.entry)
+    return journal_bytes(entries)
+
+
+def loaded(key, journal):
+    """The store that takes a journal, and how many entries it has."""
+    damaged = None
+    try:
+        entries = read_entries(journal)
+    except EntriesFault as fault:
+        entries, damaged = fault.entries, fault.index
+    store = Store.load(key, entries)
+    if damaged is not None or not entries:
+        raise EntryFault("Entry", index=len(entries))
+    return store, len(entries)
+
+
+class Calls:
+    """The calls by their words; a call answers with its line."""
+
+    def __init__(self):
+        self.kept, self.made = b"", None
+
+    def keep(self, data):
+        self.kept = data
+        return str(len(data))
+
+    def keeping(self, data):
+        """Keeps what a call makes."""
+        self.kept = data
+        return data.hex()
+
+    # digests
+
+    def digest(self, data):
+        return sha256(data).hex()
+
+    def hash(self, *pieces):
+        return sha256(b"".join(pieces)).hex()
+
+    def collision(self, first, second):
+        return "a collision" if first != second and sha256(first) == sha256(second) else "none"
+
+    # one-time signatures
+
+    def digit(self, ots, data, index):
+        return str(lms.coef(data, number(index), lms.OTS[number(ots)][0]))
+
+    def checksum(self, ots, data):
+        return str(lms.checksum(data, number(ots)))
+
+    def ots_public(self, ots, ident, leaf, seed):
+        return lms.public_of(ident, number(leaf), number(ots), seed).hex()
+
+    def ots_sign(self, ots, ident, leaf, seed, message):
+        return self.keeping(lms.sign_ots(ident, number(leaf), number(ots), seed, message))
+
+    def candidate(self, ots, ident, leaf, message, signature):
+        return or_none(lms.candidate(ident, number(leaf), number(ots), message, signature), bytes.hex)
+
+    # keys
+
+    def make(self, height, ots, ident, seed):
+        self.made = lms.SecretKey.make(ident, seed, number(ots), number(height))
+        return self.copy()
+
+    def copy(self):
+        return self.made.public().bytes().hex()
+
+    def node(self, place):
+        return self.made.upper().nodes[number(place)].hex()
+
+    def sign(self, leaf, message):
+        try:
+            return self.keeping(self.made.sign(number(leaf), message))
+        except SignFault as fault:
+            return fault.name
+
+    def key(self, data):
+        try:
+            key = lms.PublicKey.read(data)
+        except KeyFault as fault:
+            return fault.name
+        return f"{key.ident.hex()} {key.leaves()} {lms.lms_length(key.upper.ots, key.h)} {key.bytes().hex()}"
+
+    def leaf(self, key, signature):
+        return or_none(lms.leaf_number(lms.PublicKey.read(key), signature), str)
+
+    def verify(self, key, message, signature):
+        return "valid" if lms.verify(lms.PublicKey.read(key), message, signature) else "invalid"
+
+    # rows
+
+    def value(self, data):
+        return sha256(value_bytes(value_in(data))).hex()
+
+    def attribute(self, column, data):
+        return attr_digest(number(column), value_in(data)).hex()
+
+    def cell(self, column, data):
+        return cell_digest(number(column), cell_in(data)).hex()
+
+    def row(self, *cells):
+        return row_digest(tuple(cell_in(cell) for cell in cells)).hex()
+
+    def closed(self, digest):
+        return row_digest(digest).hex()
+
+    def whole(self, *values):
+        return row_digest(tuple(value_in(value) for value in values)).hex()
+
+    def hide(self, columns, *values):
+        return shown_cells(hide([value_in(value) for value in values], columns))
+
+    hide_cells = hide
+
+    # formats
+
+    def catalog(self, data):
+        try:
+            return shown_catalog(read_catalog(data))
+        except BadForm as fault:
+            return fault.name
+
+    def record(self, data):
+        return or_none(read_record(data), lambda rec: f"{rec.version} {rec.catalog.hex()} {rec.bytes().hex()}")
+
+    def reply(self, data):
+        try:
+            reply = read_reply(data)
+        except BadForm as fault:
+            return fault.name
+        again = write_reply(reply.rec, reply.signature, reply.catalog, reply.trees)
+        return f"{reply.rec.version} {len(reply.signature)} {len(reply.trees)} {again.hex()}"
+
+    def proofs(self, data):
+        try:
+            trees = read_proofs(data)
+        except BadForm as fault:
+            return fault.name
+        return f"{len(trees)} {write_proofs(trees).hex()}"
+
+    def begin(self, count):
+        return (b"VOU1" + count).hex()
+
+    # journals
+
+    def slots(self, data):
+        try:
+            entries, ending = walk_journal(data)[0], "Closed"
+        except EntriesFault as fault:
+            entries, ending = fault.entries, f"Damaged {{ at: {fault.at} }}"
+        return " ".join([ending, *(slot_bytes(entry).hex() for entry in entries)])
+
+    def entries(self, data):
+        try:
+            entries = read_entries(data)
+        except EntriesFault as fault:
+            return damage(fault)
+        return " ".join([str(len(entries)), *(entry_bytes(entry).hex() for entry in entries)])
+
+    def journal(self, data):
+        try:
+            return journal_bytes(read_entries(data)).hex()
+        except EntriesFault as fault:
+            return damage(fault)
+
+    def seal(self, *batches):
+        try:
+            return self.keeping(sealed(self.made, [read_batch(batch) for batch in batches]))
+        except OwnerFault as fault:
+            return fault.name
+        except StoreFault as fault:
+            return f"Command {{ index: {fault.index}, fault: {fault.fields['fault']} }}"
+
+    def owned(self, key, version, journal):
+        try:
+            entries, roots = read_owned(lms.PublicKey.read(key), journal)
+        except AuditFault as fault:
+            return f"BadAt {{ index: {fault.index} }}"
+        there = number(version) < len(entries)
+        return f"{len(entries)} {shown_catalog(roots[number(version)].catalog) if there else 'no such version'}"
+
+    def taken(self, key, journal):
+        try:
+            store, count = loaded(lms.PublicKey.read(key), journal)
+        except EntryFault as fault:
+            return f"BadAt {{ index: {fault.index} }}"
+        return f"{count} {shown_catalog(store.kept[-1].catalog)}"
+
+    def answer(self, key, query, journal):
+        try:
+            store, _ = loaded(lms.PublicKey.read(key), journal)
+        except EntryFault as fault:
+            return f"BadJournal {{ index: {fault.index} }}"
+        return store.answer(parse_query(query.decode())).hex()
+
+
+def damage(fault):
+    return f"Damaged {{ index: {fault.index}, at: {fault.at} }}"
+
+
+# -- lines
+
+# a few bytes that stand eight times or more
+REPEATED = re.compile(rb"(.{1,4}?)\1{7,}", re.DOTALL)
+
+
+def digits(data):
+    """A byte string's digits, those of repeated bytes once with a star and how often."""
+    pieces, at = [], 0
+    for match in REPEATED.finditer(data):
+        once = match[1]
+        pieces += [data[at:match.start()].hex(), f"{once.hex()}*{len(match[0]) // len(once)}"]
+        at = match.end()
+    return "+".join(piece for piece in [*pieces, data[at:].hex()] if piece) or "*0"
+
+
+def spelled(data, kept):
+    """A byte string's pieces: the kept bytes in it, or what it begins and ends with as they do, by the places there."""
+    if len(kept) >= 64 and kept in data:
+        front, back = data.split(kept, 1)
+        return "+".join([*some_digits(front), f"0..{len(kept)}", *some_digits(back)])
+    front = len(os.path.commonprefix([data, kept]))
+    back = len(os.path.commonprefix([data[front:][::-1], kept[front:][::-1]]))
+    if front + back < 64:
+        return digits(data)
+    ends = [f"0..{front}"] * (front > 0), [f"{len(kept) - back}..{len(kept)}"] * (back > 0)
+    return "+".join([*ends[0], *some_digits(data[front:len(data) - back]), *ends[1]])
+
+
+def some_digits(data):
+    return [digits(data)] if data else []
+
+
+def answered(rows):
+    """The line of each row, a word and its byte strings, and the answer due."""
+    calls = Calls()
+    for word, *strings in rows:
+        line = " ".join([word, *(spelled(data, calls.kept) for data in strings)])
+        yield line, getattr(calls, word)(*strings)

@@ -1,0 +1,410 @@
+"""The rows of the stored run of crates/format_lines: chosen cases, each the word of a call and its byte strings."""
+from format_answers import loaded, number, sealed
+from vo_ref import lms
+from vo_ref.catalog import catalog_digest
+from vo_ref.formats import batch_bytes
+from vo_ref.sql import parse_query, parse_script
+from vo_ref.tree import attr_digest, row_digest
+from vo_ref.values import bool_value, int_value, text_value, value_bytes
+
+
+# -- digests and signatures
+
+ID = bytes(range(16))
+SEED = bytes(range(32, 64))
+RECORD, OTHER = b"record", b"recore"
+SETS = [b"\x01", b"\x02", b"\x03", b"\x04"]
+LEAF = b"\x05"
+
+
+def turned(data, at):
+    """The bytes with the lowest bit of one turned."""
+    return data[:at] + bytes([data[at] ^ 1]) + data[at + 1:]
+
+
+def digest_rows():
+    # the standard's examples, and what fills one block and two
+    for data in b"", b"abc", b"abcdbcdecdefdefgefghfghighijhijkijkljklmklmnlmnomnopnopq":
+        yield "digest", data
+    for count in 55, 56, 63, 64, 119, 120, 1_000_000 // 8:
+        yield "digest", b"a" * count
+    # in pieces, of which some have no bytes, and none at all
+    yield "hash", b"a", b"", b"bc"
+    yield "hash", b"a" * 63, b"b", b"c" * 130
+    yield "hash",
+    # one string twice, and two strings
+    yield "collision", b"abc", b"abc"
+    yield "collision", b"abc", b"abd"
+
+
+def one_time_rows():
+    # the standard's examples of digits, and the last ones
+    for ots, index in (1, 7), (3, 0), (1, 15), (2, 7), (3, 3), (4, 1):
+        yield "digit", bytes([ots]), b"\x12\x34", bytes([index])
+    # the greatest and the least sum, and one between them
+    for digest in bytes(32), b"\xff" * 32, bytes(range(32)):
+        for ots in SETS:
+            yield "checksum", ots, digest
+    for ots in SETS:
+        yield from one_time_set_rows(ots)
+
+
+def one_time_set_rows(ots):
+    signature = lms.sign_ots(ID, number(LEAF), number(ots), SEED, RECORD)
+    yield "ots_public", ots, ID, LEAF, SEED
+    yield "ots_sign", ots, ID, LEAF, SEED, RECORD
+    # the public key, others for another message, leaf and identifier, and none for other lengths and typecodes
+    yield "candidate", ots, ID, LEAF, RECORD, signature
+    yield "candidate", ots, ID, LEAF, OTHER, signature
+    yield "candidate", ots, ID, b"\x06", RECORD, signature
+    yield "candidate", ots, turned(ID, 15), LEAF, RECORD, signature
+    yield "candidate", ots, ID, LEAF, RECORD, turned(signature, len(signature) - 1)
+    yield "candidate", ots, ID, LEAF, RECORD, signature[:-1]
+    yield "candidate", ots, ID, LEAF, RECORD, signature + b"\0"
+    yield "candidate", ots, ID, LEAF, RECORD, turned(signature, 3)
+
+
+def key_bytes(tree, ots, root):
+    return lms.u32(tree) + lms.u32(ots) + ID + root
+
+
+def public_rows():
+    # every pair of sets, and typecodes beside them
+    for tree in range(4, 11):
+        for ots in range(0, 6):
+            yield "key", key_bytes(tree, ots, b"\x09" * 32)
+    # a byte too few and too many
+    yield "key", bytes(55)
+    yield "key", key_bytes(5, 4, bytes(33))
+
+
+def secret_rows():
+    """Keys of height 5 with every set, and what they sign."""
+    for ots in SETS:
+        yield "make", LEAF, ots, ID, SEED
+        # the root, its children, the last node above the leaves, and the first and the last leaf
+        for place in 1, 2, 3, 31, 32, 63:
+            yield "node", bytes([place])
+        yield "copy",
+        # past the last leaf, and far past it
+        yield "sign", b"\x20", RECORD
+        yield "sign", b"\xff" * 8, RECORD
+        secret = lms.SecretKey.make(ID, SEED, number(ots), 5)
+        yield "sign", LEAF, RECORD
+        yield from verified_rows(secret.public().bytes(), secret.sign(5, RECORD))
+    secret = lms.SecretKey.make(ID, SEED, 1, 5)
+    yield "make", LEAF, b"\x01", ID, SEED
+    yield "sign", b"\x1f", RECORD
+    yield from turned_rows(secret.public().bytes(), secret.sign(31, RECORD))
+
+
+def verified_rows(public, signature):
+    yield "leaf", public, signature
+    yield "leaf", public, signature[:4]
+    yield "leaf", public, signature[:3]
+    yield "verify", public, RECORD, signature
+    # of another message, and under another key
+    yield "verify", public, OTHER, signature
+    yield "verify", turned(public, 55), RECORD, signature
+    yield "verify", public[:24] + bytes(32), RECORD, signature
+
+
+def turned_rows(public, signature):
+    """A signature of 265 digits by the last leaf of 32, changed."""
+    yield "verify", public, RECORD, signature
+    # in the leaf, the one-time typecode, the randomizer, the first and the last digit's value, the tree's typecode, and
+    # the ends of the path
+    for at in 3, 7, 8, 40, 8519, 8523, 8524, 8683:
+        yield "verify", public, RECORD, turned(signature, at)
+    # longer, shorter, and by a leaf that the key has not
+    yield "verify", public, RECORD, signature + b"\0"
+    yield "verify", public, RECORD, signature[:-1]
+    yield "verify", public, RECORD, lms.u32(32 + 31) + signature[4:]
+
+
+def high_rows():
+    """Signatures under trees that are too high to be made, with a path of made-up digests, and by a key of height 10."""
+    for tree, leaf in (7, 21_845), (8, 600_001), (9, 33_554_431):
+        one_time = lms.sign_ots(ID, leaf, 1, SEED, RECORD)
+        path = b"".join(bytes([level]) * 32 for level in range(lms.HEIGHTS[tree]))
+        signature = lms.u32(leaf) + one_time + lms.u32(tree) + path
+        yield "ots_sign", b"\x01", ID, lms.u32(leaf), SEED, RECORD
+        yield "keep", signature
+        yield from verified_rows(key_bytes(tree, 1, root_of(tree, leaf, path)), signature)
+    secret = lms.SecretKey.make(ID, SEED, 1, 10)
+    yield "make", b"\x0a", b"\x01", ID, SEED
+    yield "node", b"\x01"
+    yield "copy",
+    # past the last leaf
+    yield "sign", b"\4\0", RECORD
+    yield "sign", b"\2\xbc", RECORD
+    yield from verified_rows(secret.public().bytes(), secret.sign(700, RECORD))
+
+
+def root_of(tree, leaf, path):
+    """The root that a path leads to from a leaf's one-time key."""
+    place = (1 << lms.HEIGHTS[tree]) + leaf
+    node = lms.leaf_node(ID, place, lms.public_of(ID, leaf, 1, SEED))
+    for at in range(0, len(path), 32):
+        sibling = path[at:at + 32]
+        pair = (sibling, node) if place % 2 else (node, sibling)
+        place //= 2
+        node = lms.inner_node(ID, place, *pair)
+    return node
+
+
+# -- values and rows
+
+def value_rows():
+    values = [int_value(-1), text_value("bob"), bool_value(True)]
+    spelled_values = [value_bytes(value) for value in values]
+    hidden = [attr_digest(column, value) for column, value in enumerate(values)]
+    yield "value", spelled_values[1]
+    for column, value in (0, 0), (1, 1), (2, 2), (30, 2):
+        yield "attribute", bytes([column]), spelled_values[value]
+    # the ends of each kind
+    for value in int_value(-1 << 63), int_value((1 << 63) - 1), text_value(""), text_value("x" * 1024), bool_value(False):
+        yield "attribute", b"\0", value_bytes(value)
+        yield "value", value_bytes(value)
+    # one digest, shown and hidden
+    for column in 2, 30:
+        yield "cell", bytes([column]), b"\1" + spelled_values[2]
+        yield "cell", bytes([column]), b"\0" + attr_digest(column, values[2])
+    # a row whole, with two cells hidden, all hidden, and closed; no cells, and as many as there can be
+    yield ("whole", *spelled_values)
+    yield "row", b"\0" + hidden[0], b"\1" + spelled_values[1], b"\0" + hidden[2]
+    yield ("row", *(b"\0" + digest for digest in hidden))
+    yield "closed", row_digest(tuple(values))
+    yield "row",
+    yield "whole",
+    yield ("whole", *spelled_values * 10, spelled_values[0])
+    # the first, the second, two and no columns shown, and one that is not there
+    for columns in b"\0\0", b"\1\1", b"\2\0", b"\1\2", b"\0\1\2", b"\x09\x09", b"":
+        yield ("hide", columns, *spelled_values)
+        yield ("hide_cells", columns, *spelled_values)
+
+
+# -- formats
+
+PRICES = b"\x06prices\x03\x03sku\x02\x05cents\x01\x04live\x03\x00\x00\x00\x00\x00\x00\x00\x00\x02" + bytes(range(32))
+REVOKED = b"\x07revoked\x02\x06reason\x02\x06serial\x01\x01\x00\x00\x00\x00\xff\xff\xff\xff" + b"\xff" * 32
+BY_TRUTH = b"\x01t\x01\x01a\x03\x00" + bytes(8) + bytes(range(32))
+
+
+def catalog_rows():
+    yield "catalog", b"\0\2" + PRICES + REVOKED
+    yield "catalog", b"\0\0"
+    # a table fewer than it says, a byte more, and too many
+    yield "catalog", b"\0\2" + PRICES
+    yield "catalog", b"\0\1" + PRICES + b"\0"
+    yield "catalog", b"\0\x41" + PRICES
+    # as many tables as there can be, and one more
+    tables = [b"\3t%02d" % place + BY_TRUTH[2:].replace(b"\3\0", b"\1\0", 1) for place in range(65)]
+    yield "catalog", b"\0\x40" + b"".join(tables[:64])
+    yield "catalog", b"\0\x41" + b"".join(tables)
+    # the wrong order, and one table twice
+    yield "catalog", b"\0\2" + REVOKED + PRICES
+    yield "catalog", b"\0\2" + PRICES + PRICES
+    # a key that is BOOLEAN, and one that is no column
+    yield "catalog", b"\0\1" + BY_TRUTH
+    yield "catalog", b"\0\1" + PRICES.replace(b"\3\0", b"\3\3", 1)
+    # a row too many for a table
+    yield "catalog", b"\0\1" + PRICES.replace(bytes(7) + b"\2", b"\0\0\0\1" + bytes(4), 1)
+    # no bytes
+    yield "catalog", b""
+
+
+def record_rows():
+    both = catalog_digest(b"\0\2" + PRICES + REVOKED)
+    record = b"VREC" + ID + bytes(7) + b"\x07" + both
+    yield "record", record
+    yield "record", record[:20] + b"\xff" * 8 + both
+    # a byte of the version too few, a byte too many, and another word
+    yield "record", b"VREC" + ID + bytes(6) + b"\x07" + both
+    yield "record", record + b"\0"
+    yield "record", b"VRC2" + record[4:]
+    yield "record", b""
+
+
+# a leaf of the rows (1, 'ann') and (3, 'bob'), a subtree that is its digest, and a leaf of a row with a hidden cell and
+# of a row's digest
+ROWS = (b"\x01\x02\x00\x08\x80" + bytes(6) + b"\x01\x01\x01\x01\x02\x00\x03ann"
+        b"\x00\x08\x80" + bytes(6) + b"\x03\x01\x01\x01\x02\x00\x03bob")
+STUB = b"\x00" + b"g" * 32
+HIDDEN = (b"\x01\x02\x00\x01k\x01\x03\x00" + b"i" * 32 + b"\x01\x03\x01\x01\x01" + b"\xff" * 8
+          + b"\x00\x01m\x00" + b"e" * 32)
+VERSION_3 = b"VREC0123456789abcdef" + bytes(7) + b"\x03" + b"c" * 32
+ONE_TABLE = b"\x00\x01\x01t\x02\x02id\x01\x04name\x02\x00" + bytes(7) + b"\x02" + b"r" * 32
+
+
+def reply_rows():
+    front = b"VOR1" + VERSION_3 + b"\0\0\0\3sig\0\0\0\x38" + ONE_TABLE
+    yield "reply", front + b"\2" + ROWS + STUB
+    yield "reply", front + b"\1" + HIDDEN
+    # cut at the end, a byte more, and a tree too many
+    yield "reply", front + b"\2" + ROWS
+    yield "reply", front + b"\1" + ROWS + b"\0"
+    yield "reply", front + b"\0" + ROWS
+    # as many trees as there can be
+    yield "reply", front + b"\xff" + b"\1\0" * 255
+    # no trees and no tables, and that of another word
+    empty = VERSION_3 + bytes(4) + b"\0\0\0\2\0\0\0"
+    yield "reply", b"VOR1" + empty
+    yield "reply", b"VOR2" + empty
+    # a byte left over in the catalog, and one too few
+    yield "reply", b"VOR1" + VERSION_3 + bytes(4) + b"\0\0\0\3\0\0\0\0"
+    yield "reply", b"VOR1" + VERSION_3 + bytes(4) + b"\0\0\0\1\0\0\0"
+    # a signature that is too long, with and without its bytes, and one that isn't there
+    yield "reply", b"VOR1" + VERSION_3 + b"\0\1\0\1"
+    yield "reply", b"VOR1" + VERSION_3 + b"\0\1\0\1" + bytes(65_537) + b"\0\0\0\2\0\0\0"
+    yield "reply", b"VOR1" + VERSION_3 + b"\0\0\0\4sig"
+
+
+def proof_rows():
+    yield "proofs", b"VOU1\0\2" + ROWS + STUB
+    yield "proofs", b"VOU1\0\1" + HIDDEN
+    yield "proofs", b"VOU1\0\0"
+    yield "begin", b"\0\2"
+    yield "begin", b"\3\xe8"
+    # another word, a byte more, and a tree too few
+    yield "proofs", b"VOU2\0\0"
+    yield "proofs", b"VOU1\0\1" + ROWS + b"\0"
+    yield "proofs", b"VOU1\0\2" + ROWS
+    # as many trees as there can be, and one more, with and without its bytes
+    yield "proofs", b"VOU1\3\xe8" + b"\1\0" * 1000
+    yield "proofs", b"VOU1\3\xe9" + b"\1\0" * 1001
+    yield "proofs", b"VOU1\3\xe9"
+
+
+# -- journals
+
+# entry 0: no commands, the proofs of no trees, the record of version 0, and the signature `first`
+FIRST = (b"VOE1\0\0\0\2\0\0\0\0\0\6VOU1\0\0VREC" + ID + bytes(8) + b"\xaa" * 32 + b"\0\0\0\5first")
+# entry 1: DROP TABLE t, no proof bytes, the record of version 1, and no signature
+SECOND = b"VOE1\0\0\0\5\0\1\2\1t\0\0\0\0VREC" + ID + bytes(7) + b"\1" + b"\xbb" * 32 + bytes(4)
+# the gates and lengths before them
+BEFORE_FIRST, BEFORE_SECOND = b"\1\0\0\0\x59", b"\1\0\0\0\x51"
+ONE = BEFORE_FIRST + FIRST
+TWO = ONE + BEFORE_SECOND + SECOND
+
+
+def slot_rows():
+    yield "journal", TWO + b"\0"
+    yield "journal", ONE + b"\2"
+    closed = [
+        TWO + b"\0",
+        # nothing, or one byte
+        b"", b"\0", b"\1",
+        # a closed gate, behind which anything may stand
+        b"\0\1", b"\2" + FIRST, ONE + b"\2", TWO + b"\0\1\1",
+    ]
+    damaged = [
+        # an open gate with too little behind it
+        b"\1\0", BEFORE_FIRST, BEFORE_FIRST + b"VOE1", ONE + b"\1", ONE + BEFORE_SECOND + b"VOE1",
+        # no gate
+        ONE, TWO,
+        # a byte left over inside an entry
+        b"\1\0\0\0\x5a" + FIRST + b"\0\0", ONE + b"\1\0\0\0\x52" + SECOND + b"\0\0",
+        # another length than the entry's
+        b"\1\0\0\0\x58" + FIRST + b"\0", b"\1\0\0\0\x5a" + FIRST,
+        # another word
+        BEFORE_FIRST + b"VOE2" + FIRST[4:] + b"\0",
+    ]
+    for data in closed + damaged:
+        yield "slots", data
+        yield "entries", data
+
+
+OWNER_SEED = bytes(range(16, 48))
+CREATE = "CREATE TABLE t (id BIGINT, name TEXT, PRIMARY KEY (id));"
+INSERTS = "INSERT INTO t VALUES (1, 'ann');", "INSERT INTO t VALUES (3, 'bob');"
+CHANGES = "UPDATE t SET name = 'bo' WHERE id = 3;", "DELETE FROM t WHERE id = 1;", "DROP TABLE t;"
+REFUSED = CREATE + INSERTS[0] + INSERTS[0]
+
+
+def batches_of(*texts):
+    """The batches of texts, a batch each."""
+    return parse_script("".join(text + "COMMIT;" for text in texts))
+
+
+def seal_row(*texts):
+    return ("seal", *(batch_bytes(batch) for batch in batches_of(*texts)))
+
+
+def journal_rows():
+    secret = lms.SecretKey.make(ID, OWNER_SEED, 4, 5)
+    public = secret.public().bytes()
+    yield "make", LEAF, b"\x04", ID, OWNER_SEED
+    yield seal_row(CREATE, *INSERTS)
+    yield from read_rows(public, sealed(secret, batches_of(CREATE, *INSERTS)))
+    changed = sealed(secret, batches_of(CREATE, *INSERTS, *CHANGES))
+    yield seal_row(CREATE, *INSERTS, *CHANGES)
+    for version in range(8):
+        yield "owned", public, bytes([version]), changed
+    yield "taken", public, changed
+    # a version more than the key has leaves; a command that is refused by itself, behind others, and behind batches
+    yield ("seal", *[b"\0\0"] * 32)
+    yield seal_row(CHANGES[2])
+    yield seal_row(REFUSED)
+    yield seal_row(CREATE, INSERTS[0], INSERTS[1] + INSERTS[0])
+
+
+def read_rows(public, journal):
+    """The journal of three batches, whole and with a byte changed."""
+    yield "entries", journal
+    # each version, and two that are not there
+    for version in range(6):
+        yield "owned", public, bytes([version]), journal
+    yield "taken", public, journal
+    # in the last catalog's digest, the last proofs, a signature, the closing gate
+    for back in 1330, 1390, 2744, 1:
+        yield "owned", public, b"\0", turned(journal, len(journal) - back)
+        yield "taken", public, turned(journal, len(journal) - back)
+    # another key, no entries, and a cut
+    yield "owned", turned(public, 55), b"\0", journal
+    yield "taken", turned(public, 55), journal
+    for count in 0, 2000, len(journal) - 1:
+        yield "owned", public, b"\0", journal[:count]
+        yield "taken", public, journal[:count]
+    reply = loaded(lms.PublicKey.read(public), journal)[0].answer(parse_query("SELECT * FROM t"))
+    yield "answer", public, b"SELECT * FROM t", journal
+    yield "reply", reply
+    yield "record", reply[4:64]
+
+
+# that of the key of the examples
+EXAMPLE_SEED = bytes(3 + 7 * place for place in range(32))
+
+
+def answer_rows():
+    """Replies by a journal of one batch."""
+    secret = lms.SecretKey.make(ID, EXAMPLE_SEED, 4, 5)
+    public, journal = secret.public().bytes(), sealed(secret, batches_of(CREATE + "".join(INSERTS)))
+    yield "make", LEAF, b"\x04", ID, EXAMPLE_SEED
+    yield seal_row(CREATE + "".join(INSERTS))
+    yield "answer", public, b"SELECT * FROM t", journal
+    # one of two rows, none, and a table that is not there
+    yield "answer", public, b"SELECT name FROM t WHERE id > 1 AND id >= 1", journal
+    yield "answer", public, b"SELECT name FROM t WHERE id < 1 AND id >= 1", journal
+    yield "answer", public, b"SELECT * FROM d WHERE id = 1 AND id >= 1", journal
+    # version 0 alone, no entry, a cut in entry 1, and another key
+    yield "answer", public, b"SELECT * FROM t", journal[:1381] + b"\0"
+    yield "answer", public, b"SELECT * FROM t", b"\0"
+    yield "answer", public, b"SELECT * FROM t", journal[:2000] + b"\0"
+    yield "answer", turned(public, 55), b"SELECT * FROM t", journal
+
+
+def rows():
+    yield from digest_rows()
+    yield from one_time_rows()
+    yield from public_rows()
+    yield from secret_rows()
+    yield from high_rows()
+    yield from value_rows()
+    yield from catalog_rows()
+    yield from record_rows()
+    yield from reply_rows()
+    yield from proof_rows()
+    yield from slot_rows()
+    yield from journal_rows()
+    yield from answer_rows()
