@@ -27,9 +27,9 @@ impl State {
 
     /// The answer to a line.
     pub fn answer(&mut self, alloc: Global, line: &str) -> io::Result<String> {
-        match read_line(alloc, line)? {
-            Some(line) => self.called(alloc, &line),
-            None => Ok("no such line".to_string(alloc)?),
+        match read_line(alloc, line) {
+            Ok(line) => self.called(alloc, &line),
+            Err(fault) => Ok(format!(in alloc; "{fault}")?),
         }
     }
 

@@ -1,6 +1,6 @@
 //! A line: the word of a call, and its byte strings.
+use line_pieces::{NoAnswer, put_piece};
 use std::alloc::Global;
-use std::io;
 
 /// The calls that are asked of a text.
 #[derive(Clone, Copy, PartialEq, Eq, Debug)]
@@ -56,46 +56,24 @@ pub struct Line {
     pub more: Vec<u8>,
 }
 
-/// What a line asks, or none where it is no such line.
-pub fn read_line(alloc: Global, line: &str) -> io::Result<Option<Line>> {
+/// What a line asks.
+pub fn read_line(alloc: Global, line: &str) -> Result<Line, NoAnswer> {
     let (word, digits) = line.split_once(' ').unwrap_or((line, ""));
     let (bytes, more) = digits.split_once('/').unwrap_or((digits, ""));
-    let Some(call) = call_of(word) else {
-        return Ok(None);
-    };
-    let Some(bytes) = bytes_of(alloc, bytes)? else {
-        return Ok(None);
-    };
-    let Some(more) = bytes_of(alloc, more)? else {
-        return Ok(None);
-    };
-    Ok(Some(Line { call, bytes, more }))
+    Ok(Line {
+        call: call_of(word).ok_or(NoAnswer::NoSuchLine)?,
+        bytes: bytes_of(alloc, bytes)?,
+        more: bytes_of(alloc, more)?,
+    })
 }
 
 /// The bytes of pieces with a blank between each two.
-fn bytes_of(alloc: Global, pieces: &str) -> io::Result<Option<Vec<u8>>> {
+fn bytes_of(alloc: Global, pieces: &str) -> Result<Vec<u8>, NoAnswer> {
     let mut bytes = Vec::new(alloc);
     for piece in pieces.split(' ') {
-        if !put_piece(alloc, &mut bytes, piece)? {
-            return Ok(None);
-        }
+        put_piece(alloc, &mut bytes, piece)?;
     }
-    Ok(Some(bytes))
-}
-
-/// Puts the bytes of a piece, if it is one: hexadecimal digits, or `DIGITS*COUNT`, whose bytes stand so often.
-fn put_piece(alloc: Global, bytes: &mut Vec<u8>, piece: &str) -> io::Result<bool> {
-    let (digits, count) = piece.split_once('*').unwrap_or((piece, "1"));
-    let Ok(count) = count.parse::<u32>() else {
-        return Ok(false);
-    };
-    let Ok(once) = hex::decode(alloc, digits) else {
-        return Ok(false);
-    };
-    for _ in 0..count {
-        bytes.extend_from_slice(&once)?;
-    }
-    Ok(true)
+    Ok(bytes)
 }
 
 fn call_of(word: &str) -> Option<Call> {

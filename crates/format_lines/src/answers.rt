@@ -5,20 +5,19 @@ use crate::journals::{entries, journal, owned, seal, slots, taken};
 use crate::kept::{Kept, keep};
 use crate::keys::{copy, key, leaf, make, node, sign, verify};
 use crate::line::read_line;
-use crate::no_answer::NoAnswer;
 use crate::one_time::{candidate, checksum, digit, ots_public, ots_sign};
 use crate::records::{catalog, record};
 use crate::replies::{answer_by, begin, proofs, reply};
 use crate::rows::{attribute, cell, closed, hide, hide_cells, row, value, whole};
-use std::alloc::{AllocError, Global};
+use line_pieces::NoAnswer;
+use std::alloc::Global;
 use std::io;
 
 /// The answer to a line.
 pub fn answer(alloc: Global, kept: &mut Kept, line: &str) -> io::Result<String> {
     match answer_line(alloc, kept, line) {
         Ok(answer) => Ok(answer),
-        Err(NoAnswer::NoSuchLine) => Ok("no such line".to_string(alloc)?),
-        Err(NoAnswer::Memory) => Err(AllocError)?,
+        Err(fault) => Ok(format!(in alloc; "{fault}")?),
     }
 }
 

@@ -1,5 +1,5 @@
 //! Byte strings as the numbers, digests and parameter sets that calls take.
-use crate::no_answer::NoAnswer;
+use line_pieces::NoAnswer;
 use vo_spec::{Digest, OtsType};
 
 /// The array that all the bytes are.

@@ -1,5 +1,5 @@
 //! Calls of digests.
-use crate::no_answer::NoAnswer;
+use line_pieces::NoAnswer;
 use std::alloc::Global;
 use tagged_hash::{Hasher, collision as collision_of, digest_of};
 use vo_spec::Digest;

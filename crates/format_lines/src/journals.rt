@@ -7,8 +7,8 @@ ghost use Rattle.owner_state.specs.Sealing.{FitEach};
 use crate::arguments::number_of;
 use crate::kept::Kept;
 use crate::keys::read_key;
-use crate::no_answer::NoAnswer;
 use crate::records::shown_catalog;
+use line_pieces::NoAnswer;
 use owner_state::{
     Entry, OwnedJournal, entry_bytes, journal_bytes, put_slot, read_entries, read_owned,
     read_slots, read_taken, seal as sealed,

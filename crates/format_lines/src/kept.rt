@@ -1,5 +1,5 @@
 //! What lines before have left.
-use crate::no_answer::NoAnswer;
+use line_pieces::NoAnswer;
 use lms_sign::SecretKey;
 use std::alloc::Global;
 

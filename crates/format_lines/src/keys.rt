@@ -2,7 +2,7 @@
 use crate::arguments::{array_of, number_of, set_of, small_number_of};
 use crate::hashing::shown;
 use crate::kept::Kept;
-use crate::no_answer::NoAnswer;
+use line_pieces::NoAnswer;
 use lms_sign::{OtsType, PublicKey, SecretKey, verify as verifies};
 use std::alloc::Global;
 

@@ -1,6 +1,6 @@
 //! A line: the word of a call, and its byte strings.
 use crate::call::{Call, call_of};
-use crate::no_answer::NoAnswer;
+use line_pieces::{NoAnswer, put_piece};
 use std::alloc::Global;
 
 /// A call with the byte strings that it is asked of.
@@ -28,7 +28,7 @@ fn string_of(alloc: Global, kept: &[u8], pieces: &str) -> Result<Vec<u8>, NoAnsw
     for piece in pieces.split('+') {
         match piece.split_once("..") {
             Some((from, to)) => bytes.extend_from_slice(kept_piece(kept, from, to)?)?,
-            None => put_digits(alloc, &mut bytes, piece)?,
+            None => put_piece(alloc, &mut bytes, piece)?,
         }
     }
     Ok(bytes)
@@ -46,17 +46,4 @@ fn place_of(digits: &str) -> Result<usize, NoAnswer> {
         Ok(place) => Ok(place),
         Err(_) => Err(NoAnswer::NoSuchLine),
     }
-}
-
-/// Puts the bytes of hexadecimal digits, or of `DIGITS*COUNT`, so often.
-fn put_digits(alloc: Global, bytes: &mut Vec<u8>, piece: &str) -> Result<(), NoAnswer> {
-    let (digits, count) = piece.split_once('*').unwrap_or((piece, "1"));
-    let count = place_of(count)?;
-    let Ok(once) = hex::decode(alloc, digits) else {
-        return Err(NoAnswer::NoSuchLine);
-    };
-    for _ in 0..count {
-        bytes.extend_from_slice(&once)?;
-    }
-    Ok(())
 }

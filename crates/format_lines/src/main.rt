@@ -25,7 +25,6 @@ mod journals;
 mod kept;
 mod keys;
 mod line;
-mod no_answer;
 mod one_time;
 mod reading;
 mod records;

@@ -2,7 +2,7 @@
 use crate::arguments::{array_of, digest_in, number_of, set_of, small_number_of};
 use crate::hashing::shown;
 use crate::kept::Kept;
-use crate::no_answer::NoAnswer;
+use line_pieces::NoAnswer;
 use lm_ots::{candidate as candidate_of, checksum as checksum_of, coef, public_of, sign_ots};
 use std::alloc::Global;
 

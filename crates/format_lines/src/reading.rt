@@ -5,7 +5,7 @@ ghost use Rattle.vo_spec.specs.Fits.{FitsCell, FitsCells, FitsRowPart};
 ghost use Rattle.vo_spec.specs.Values.{FitsValue};
 
 use crate::arguments::digest_in;
-use crate::no_answer::NoAnswer;
+use line_pieces::NoAnswer;
 use row_bytes::{Cursor, take_value};
 use std::alloc::Global;
 use vo_spec::{Cell, CellValue, Digest, List, RowPart, Value, ValueRef};

@@ -1,7 +1,7 @@
 //! Calls of catalogs and records.
 ghost use Rattle.vo_spec.specs.Records.{FitsCatalog};
 
-use crate::no_answer::NoAnswer;
+use line_pieces::NoAnswer;
 use std::alloc::Global;
 use version_record::{
     Catalog, ReadFault, catalog_bytes, catalog_digest, read_catalog, read_record, record_bytes,

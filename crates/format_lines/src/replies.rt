@@ -1,8 +1,8 @@
 //! Calls of replies and proofs.
 use crate::arguments::array_of;
 use crate::keys::read_key;
-use crate::no_answer::NoAnswer;
 use crate::records::unread;
+use line_pieces::NoAnswer;
 use sql_text::parse_query;
 use std::alloc::Global;
 use vo_format::{begin_proofs, read_proofs, read_reply, write_proofs, write_reply};

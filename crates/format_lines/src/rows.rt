@@ -1,12 +1,12 @@
 //! Calls of values and rows.
 use crate::arguments::{column_of, digest_in};
 use crate::hashing::shown;
-use crate::no_answer::NoAnswer;
 use crate::reading::{read_cell, read_row, read_value, read_values};
 use attr_digest::{
     add_value, attr_digest, cell_digest, hide as hidden, hide_cells as hidden_cells, row_digest,
     whole_row_digest,
 };
+use line_pieces::NoAnswer;
 use std::alloc::Global;
 use tagged_hash::Hasher;
 use vo_spec::{Cell, Key, Row, RowPart};

@@ -1,7 +1,7 @@
 //! What the calls answer.
-use crate::fault::LineFault;
 use crate::folder::{Attempt, Ended, Folder};
 use crate::line::{Line, Splice, read_line};
+use line_pieces::NoAnswer;
 use std::alloc::Global;
 use std::io;
 use vo_words::read_words;
@@ -14,7 +14,7 @@ pub fn answer(alloc: Global, folder: &mut Folder, line: &str) -> io::Result<Stri
     }
 }
 
-fn answered(alloc: Global, folder: &mut Folder, line: &str) -> Result<String, LineFault> {
+fn answered(alloc: Global, folder: &mut Folder, line: &str) -> Result<String, NoAnswer> {
     match read_line(alloc, line)? {
         Line::Clear => {
             *folder = Folder::new(alloc);
@@ -37,15 +37,15 @@ fn kept(
     folder: &mut Folder,
     name: String,
     bytes: Vec<u8>,
-) -> Result<String, LineFault> {
+) -> Result<String, NoAnswer> {
     let answer = format!(in alloc; "{} bytes", bytes.len())?;
     folder.keep(name, bytes)?;
     Ok(answer)
 }
 
-fn spliced(alloc: Global, folder: &Folder, splice: &Splice) -> Result<Vec<u8>, LineFault> {
+fn spliced(alloc: Global, folder: &Folder, splice: &Splice) -> Result<Vec<u8>, NoAnswer> {
     let Some(bytes) = folder.find(&splice.from) else {
-        return Err(LineFault::NoSuchLine);
+        return Err(NoAnswer::NoSuchLine);
     };
     let (front, rest) = bytes.split_at(bytes.len().min(splice.at));
     let (_, back) = rest.split_at(rest.len().min(splice.cut));
@@ -61,7 +61,7 @@ fn made(
     folder: &mut Folder,
     name: String,
     attempt: Attempt,
-) -> Result<String, LineFault> {
+) -> Result<String, NoAnswer> {
     let ended = folder.run(alloc, attempt)?;
     let answer = shown(alloc, &ended)?;
     folder.keep(name, ended.written)?;
@@ -69,7 +69,7 @@ fn made(
 }
 
 /// A status, and output as a text in quotes, if it is one, or else in hexadecimal.
-fn shown(alloc: Global, ended: &Ended) -> Result<String, LineFault> {
+fn shown(alloc: Global, ended: &Ended) -> Result<String, NoAnswer> {
     match std::str::from_utf8(&ended.written) {
         Ok(text) => Ok(format!(in alloc; "{} {text:?}", ended.status)?),
         Err(_) => {

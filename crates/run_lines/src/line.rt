@@ -1,7 +1,7 @@
 //! A line: the word of a call, and what it is asked of.
-use crate::fault::LineFault;
 use crate::folder::Attempt;
 use crate::pieces::{Pieces, take_bytes, take_name, take_number, take_words};
+use line_pieces::NoAnswer;
 use outside::Failure;
 use std::alloc::Global;
 
@@ -26,13 +26,13 @@ pub struct Splice {
 }
 
 /// What a line asks for.
-pub fn read_line(alloc: Global, line: &str) -> Result<Line, LineFault> {
+pub fn read_line(alloc: Global, line: &str) -> Result<Line, NoAnswer> {
     let mut pieces = line.split(' ');
     let word = pieces.next().unwrap_or("");
     asked(alloc, word, &mut pieces)
 }
 
-fn asked(alloc: Global, word: &str, pieces: &mut Pieces<'_>) -> Result<Line, LineFault> {
+fn asked(alloc: Global, word: &str, pieces: &mut Pieces<'_>) -> Result<Line, NoAnswer> {
     Ok(match word {
         "clear" => Line::Clear,
         "keep" => Line::Keep(take_name(alloc, pieces)?, take_bytes(alloc, pieces)?),
@@ -42,11 +42,11 @@ fn asked(alloc: Global, word: &str, pieces: &mut Pieces<'_>) -> Result<Line, Lin
         "fail_files" => Line::Run(take_unread(alloc, pieces)?),
         "fail_output" => Line::Run(take_unwritten(alloc, pieces)?),
         "words" => Line::Words(take_words(alloc, pieces)?),
-        _ => return Err(LineFault::NoSuchLine),
+        _ => return Err(NoAnswer::NoSuchLine),
     })
 }
 
-fn take_splice(alloc: Global, pieces: &mut Pieces<'_>) -> Result<Splice, LineFault> {
+fn take_splice(alloc: Global, pieces: &mut Pieces<'_>) -> Result<Splice, NoAnswer> {
     Ok(Splice {
         from: take_name(alloc, pieces)?,
         at: take_number(pieces)?,
@@ -55,7 +55,7 @@ fn take_splice(alloc: Global, pieces: &mut Pieces<'_>) -> Result<Splice, LineFau
     })
 }
 
-fn take_run(alloc: Global, pieces: &mut Pieces<'_>) -> Result<Attempt, LineFault> {
+fn take_run(alloc: Global, pieces: &mut Pieces<'_>) -> Result<Attempt, NoAnswer> {
     Ok(Attempt {
         words: take_words(alloc, pieces)?,
         taking: Vec::new(alloc),
@@ -64,7 +64,7 @@ fn take_run(alloc: Global, pieces: &mut Pieces<'_>) -> Result<Attempt, LineFault
 }
 
 /// A run that can't read the file that it takes with a number, the first one having 0.
-fn take_unread(alloc: Global, pieces: &mut Pieces<'_>) -> Result<Attempt, LineFault> {
+fn take_unread(alloc: Global, pieces: &mut Pieces<'_>) -> Result<Attempt, NoAnswer> {
     let call = take_number(pieces)? as u64;
     let mut attempt = take_run(alloc, pieces)?;
     attempt.taking.push(Failure { call, after: 0 })?;
@@ -72,7 +72,7 @@ fn take_unread(alloc: Global, pieces: &mut Pieces<'_>) -> Result<Attempt, LineFa
 }
 
 /// A run whose output breaks off behind so many bytes.
-fn take_unwritten(alloc: Global, pieces: &mut Pieces<'_>) -> Result<Attempt, LineFault> {
+fn take_unwritten(alloc: Global, pieces: &mut Pieces<'_>) -> Result<Attempt, NoAnswer> {
     let after = take_number(pieces)?;
     let mut attempt = take_run(alloc, pieces)?;
     attempt.putting.push(Failure { call: 0, after })?;

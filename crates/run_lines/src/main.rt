@@ -14,7 +14,6 @@
 #![tactic(auto)]
 
 mod calls;
-mod fault;
 mod folder;
 mod line;
 mod pieces;

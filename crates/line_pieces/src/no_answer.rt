@@ -1,10 +1,13 @@
 //! Why a line has no answer.
 use std::alloc::{AllocError, AllocFailed};
+use thiserror::Error;
 
 /// It asks for no call, or memory ran out.
-#[derive(Clone, Copy, PartialEq, Eq, Debug)]
+#[derive(Clone, Copy, Debug, PartialEq, Eq, Error)]
 pub enum NoAnswer {
+    #[error("no such line")]
     NoSuchLine,
+    #[error("out of memory")]
     Memory,
 }
 
