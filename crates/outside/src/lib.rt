@@ -17,8 +17,6 @@ mod net;
 mod room;
 mod shelf;
 mod sink;
-#[cfg(test)]
-mod tests;
 
 pub use disk::Disk;
 pub use failures::{FailAt, Failure, Failures, Never};

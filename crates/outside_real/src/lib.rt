@@ -7,6 +7,8 @@
 mod count;
 mod files;
 mod journal_file;
+#[cfg(test)]
+mod memory_forms;
 mod output;
 mod tcp;
 

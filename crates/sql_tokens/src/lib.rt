@@ -10,6 +10,3 @@ mod words;
 pub use kinds::{KEYWORDS, TokenKind};
 pub use lexemes::{Lapse, LexFault, Lexeme};
 pub use scan::tokens;
-
-#[cfg(test)]
-mod tests;

@@ -1,5 +1,9 @@
-//! Each object once, on its plain path and at a failure that was listed.
-use super::*;
+//! The forms in memory, each once on its plain path and at a failure that was listed. They are another crate's, which has
+//! no tests of its own, since a crate with tests is proved twice.
+use outside::{
+    Disk, FailAt, Failed, Failure, Link, MemDisk, MemNet, MemShelf, MemSink, NamedFile, Net, Never,
+    PutFault, Shelf, Sink, TakeFault,
+};
 use std::alloc::{AllocError, Global};
 use std::test::Fail;
 
