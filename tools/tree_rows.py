@@ -377,7 +377,7 @@ def growing_proofs():
     yield from made
     for number in range(1, 18):
         yield from (prove(tables.tree, put(number)), tables.apply(sql(*inserts([number]))))
-    for rows_there in (0, 1, 16):
+    for rows_there in range(17):
         tree = grown(TO_17[:rows_there])
         yield judge(put(rows_there + 1), update_proof(tree, put(rows_there + 1)))
 
