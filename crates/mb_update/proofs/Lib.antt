@@ -1,8 +1,6 @@
 pub mod KeyLists
 pub mod Putting
 pub mod Splitting
-pub mod OpenPaths
-pub mod JudgedPaths
 pub mod KeyPlaces
 pub mod PartNodes
 pub mod PrunedInserts
@@ -10,7 +8,6 @@ pub mod GrownFits
 pub mod NodeLimits
 pub mod Neighbouring
 pub mod SettledNodes
-pub mod ShrunkNodes
 pub mod Placed
 pub mod EntryPlaces
 pub mod ChangedCells
@@ -22,14 +19,5 @@ pub mod SettledChildren
 pub mod EditedChildren
 pub mod PrunedRemovals
 pub mod PrunedReplacements
-pub mod JudgedReplacements
-pub mod JudgedNeighbours
-pub mod JudgedRemovals
 pub mod ShrunkFits
 pub mod ReplacedFits
-pub mod ClosedParts
-pub mod OnlyInsertProofs
-pub mod OnlyReplaceProofs
-pub mod OnlyRemoveProofs
-pub mod LookedPaths
-pub mod LostEntries

@@ -1,12 +1,7 @@
 pub mod Changing
 pub mod Placing
-pub mod Closing
-pub mod Proving
 pub mod Agreeing
 pub mod Contents
 pub mod Settling
 pub mod Sets
 pub mod Shrunken
-pub mod Neighbours
-pub mod Judging
-pub mod Losing

@@ -11,10 +11,10 @@ use crate::refusing::table_named;
 use crate::row_changes::key_of;
 use crate::table::StoredTable;
 use mb_tree::PartTree;
-use mb_update::{insert_proof, remove_proof, replace_proof};
 use std::alloc::{AllocError, Global};
 use std::rc::Rc;
 use table_list::key_at;
+use update_proof::{insert_proof, remove_proof, replace_proof};
 use vo_spec::Command;
 
 pub(crate) fn proof_of<'t>(

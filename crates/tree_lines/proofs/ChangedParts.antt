@@ -13,7 +13,7 @@ use Rattle.mb_tree.specs.View.{part_of}
 use Rattle.mb_update.specs.declared.ops.Op.{Op}
 use Rattle.mb_update.specs.declared.ops.Op.TheVariants.{Insert, Replace, Remove}
 use Rattle.mb_update.specs.declared.ops.SetCell.{SetCell}
-use Rattle.mb_update.specs.Proving.{update_proof}
+use Rattle.update_proof.specs.Proving.{update_proof}
 use Rattle.mb_update.specs.Changing.{ChangesTo}
 use Rattle.mb_update.specs.Sets.{change_of, FitsSets}
 use Rattle.mb_update.proofs.ReplacedFits.{replaced_fits}

@@ -7,10 +7,11 @@ ghost use Rattle.tree_lines.specs.Fitting.{FitsOp};
 use crate::answers::{digits, said, shown, spelled};
 use crate::change_reading::{read_change, read_changes};
 use crate::part_reading::read_part;
-use mb_update::{Op, UpdateFault, Updates, is_update_proof};
+use mb_update::{Op, UpdateFault, Updates};
 use row_bytes::ReadFault;
 use std::alloc::Global;
 use std::io;
+use update_proof::is_update_proof;
 use vo_format::PartTree;
 
 /// The part tree after a change, or why it isn't changed.

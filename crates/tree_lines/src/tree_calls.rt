@@ -9,12 +9,13 @@ use crate::change_reading::read_change;
 use crate::need_reading::read_needs;
 use crate::part_reading::read_part;
 use mb_tree::Tree;
-use mb_update::{Op, UpdateFault, Updates, prune_update};
+use mb_update::{Op, UpdateFault, Updates};
 use range_proof::prune;
 use std::alloc::{AllocError, Global};
 use std::io;
 use stored_tables::StoredTables;
 use tree_collide::{Agreement, agree};
+use update_proof::prune_update;
 use vo_format::PartTree;
 use vo_spec::Need;
 

@@ -1,0 +1,12 @@
+pub mod OpenPaths
+pub mod JudgedPaths
+pub mod ShrunkNodes
+pub mod JudgedReplacements
+pub mod JudgedNeighbours
+pub mod JudgedRemovals
+pub mod ClosedParts
+pub mod OnlyInsertProofs
+pub mod OnlyReplaceProofs
+pub mod OnlyRemoveProofs
+pub mod LookedPaths
+pub mod LostEntries

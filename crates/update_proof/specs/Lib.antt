@@ -1,0 +1,5 @@
+pub mod Closing
+pub mod Proving
+pub mod Neighbours
+pub mod Judging
+pub mod Losing
