@@ -1,5 +1,5 @@
 -- Proofs of changes, and parts that are changed, keep to the limits of trees.
-use Rattle.std.proofs.Common.{◌≡◌, ℕ, List, Result, Ok, Err, refl, sym, subst, map}
+use Rattle.std.proofs.Common.{◌≡◌, ℕ, List, Result, Ok, Err, refl, map}
 use Rattle.std.specs.Prelude.{IfOk}
 use Rattle.vo_spec.specs.Inserts.{result_map}
 use Rattle.vo_spec.specs.declared.trees.UpdateFault.{UpdateFault}
