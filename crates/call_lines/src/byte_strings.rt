@@ -1,5 +1,6 @@
 //! Calls of bytes: values, their keys, columns, and batches of commands.
 use crate::line::BytesCall;
+use line_pieces::{shown, word};
 use row_bytes::{
     Cursor, FormFault, Value, copy_onto, copy_values, key_of, own_value, put_value, take_columns,
     take_kind, take_value, value_of_key,
@@ -11,7 +12,7 @@ use table_list::read_batch;
 /// The answer to a call of bytes.
 pub fn answer(alloc: Global, call: BytesCall, bytes: &[u8]) -> io::Result<String> {
     match call {
-        BytesCall::Read => Ok(format!(in alloc; "{:?}", read_batch(alloc, bytes))?),
+        BytesCall::Read => shown(alloc, &read_batch(alloc, bytes)),
         BytesCall::Value => value(alloc, bytes),
         BytesCall::Values => copies(alloc, bytes),
         BytesCall::Key => key(alloc, bytes),
@@ -57,7 +58,7 @@ pub fn take_values(alloc: Global, bytes: &[u8]) -> io::Result<Result<Vec<Value>,
 fn copies(alloc: Global, bytes: &[u8]) -> io::Result<String> {
     match take_values(alloc, bytes)? {
         Ok(values) => Ok(format!(in alloc; "{:?}", copy_values(alloc, &values)?)?),
-        Err(fault) => Ok(format!(in alloc; "{fault:?}")?),
+        Err(fault) => shown(alloc, &fault),
     }
 }
 
@@ -68,7 +69,7 @@ fn key(alloc: Global, bytes: &[u8]) -> io::Result<String> {
             let key = key_of(alloc, &own_value(alloc, value)?)?;
             Ok(hex::encode(alloc, key.as_bytes())?)
         }
-        Err(fault) => Ok(format!(in alloc; "{fault:?}")?),
+        Err(fault) => shown(alloc, &fault),
     }
 }
 
@@ -76,11 +77,11 @@ fn key(alloc: Global, bytes: &[u8]) -> io::Result<String> {
 fn key_value(alloc: Global, bytes: &[u8]) -> io::Result<String> {
     let mut cursor = Cursor::new(bytes);
     let Some(kind) = take_kind(&mut cursor) else {
-        return Ok("no kind".to_string(alloc)?);
+        return word(alloc, "no kind");
     };
     match value_of_key(kind, cursor.rest()) {
         Ok(value) => Ok(format!(in alloc; "{:?}", own_value(alloc, value)?)?),
-        Err(fault) => Ok(format!(in alloc; "{fault:?}")?),
+        Err(fault) => shown(alloc, &fault),
     }
 }
 
@@ -92,6 +93,6 @@ fn columns(alloc: Global, bytes: &[u8]) -> io::Result<String> {
             let left = hex::encode(alloc, cursor.rest())?;
             Ok(format!(in alloc; "{columns:?} {left}")?)
         }
-        Err(fault) => Ok(format!(in alloc; "{fault:?}")?),
+        Err(fault) => shown(alloc, &fault),
     }
 }

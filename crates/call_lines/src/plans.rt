@@ -4,6 +4,7 @@ ghost use Rattle.vo_spec.specs.Tables.{value_at};
 use crate::byte_strings::take_values;
 use crate::line::PlanCall;
 use crate::runs;
+use line_pieces::{shown, word};
 use query_plan::{
     CatalogSchemas, Line, Sides, bind, has_one_tree, is_narrow, left_need, meets_left, right_need,
     same_table, tables_used,
@@ -22,16 +23,25 @@ pub fn answer(
     more: &[u8],
 ) -> io::Result<String> {
     let Ok(text) = std::str::from_utf8(text) else {
-        return Ok("no text".to_string(alloc)?);
+        return word(alloc, "no text");
     };
-    let query = match parse_query(alloc, text) {
-        Ok(query) => query,
-        Err(fault) => return Ok(format!(in alloc; "{fault:?}")?),
-    };
+    match parse_query(alloc, text) {
+        Ok(query) => asked(alloc, catalog, call, &query, more),
+        Err(fault) => shown(alloc, &fault),
+    }
+}
+
+fn asked(
+    alloc: Global,
+    catalog: &Catalog,
+    call: PlanCall,
+    query: &QueryText,
+    more: &[u8],
+) -> io::Result<String> {
     let schemas = CatalogSchemas { catalog };
-    match bind(alloc, &schemas, &query) {
-        Ok(sides) => bound(alloc, call, &sides, &query, more),
-        Err(fault) => Ok(format!(in alloc; "{fault:?}")?),
+    match bind(alloc, &schemas, query) {
+        Ok(sides) => bound(alloc, call, &sides, query, more),
+        Err(fault) => shown(alloc, &fault),
     }
 }
 
@@ -59,10 +69,10 @@ fn trees(alloc: Global, sides: &Sides<'_>) -> io::Result<String> {
 
 fn left(alloc: Global, sides: &Sides<'_>, query: &QueryText) -> io::Result<String> {
     if !is_narrow(sides, 0) {
-        return Ok("too wide".to_string(alloc)?);
+        return word(alloc, "too wide");
     }
     let need = left_need(alloc, sides, query)?;
-    Ok(format!(in alloc; "{need:?}")?)
+    shown(alloc, &need)
 }
 
 /// A row as the values of its columns, past the end FALSE.
@@ -84,20 +94,27 @@ impl Line for Fields {
 
 /// What the query needs for a left row of these values, none where the row doesn't meet the condition.
 fn right(alloc: Global, sides: &Sides<'_>, query: &QueryText, values: &[u8]) -> io::Result<String> {
-    let values = match take_values(alloc, values)? {
-        Ok(values) => values,
-        Err(fault) => return Ok(format!(in alloc; "{fault:?}")?),
-    };
+    match take_values(alloc, values)? {
+        Ok(values) => right_of(alloc, sides, query, &Fields { values }),
+        Err(fault) => shown(alloc, &fault),
+    }
+}
+
+fn right_of(
+    alloc: Global,
+    sides: &Sides<'_>,
+    query: &QueryText,
+    row: &Fields,
+) -> io::Result<String> {
     let Some(join) = &query.join else {
-        return Ok("no join".to_string(alloc)?);
+        return word(alloc, "no join");
     };
     if !is_narrow(sides, 1) {
-        return Ok("too wide".to_string(alloc)?);
+        return word(alloc, "too wide");
     }
-    let row = Fields { values };
-    if !meets_left(sides, query, &row) {
-        return Ok("none".to_string(alloc)?);
+    if !meets_left(sides, query, row) {
+        return word(alloc, "none");
     }
-    let need = right_need(alloc, sides, query, join, &row)?;
-    Ok(format!(in alloc; "{need:?}")?)
+    let need = right_need(alloc, sides, query, join, row)?;
+    shown(alloc, &need)
 }

@@ -5,6 +5,7 @@ ghost use Rattle.vo_spec.specs.Needs.{tables_used};
 ghost use Rattle.table_list.specs.Sided.{sides_seen};
 ghost use Rattle.plan_run.specs.Running.{HasSources};
 
+use line_pieces::{shown, word};
 use plan_run::{right_needs, run_plan};
 use query_plan::{Sides, has_one_tree, is_narrow, left_need};
 use std::alloc::Global;
@@ -19,17 +20,25 @@ pub fn run(
     query: &QueryText,
     bytes: &[u8],
 ) -> io::Result<String> {
-    let trees = match take_all(alloc, bytes) {
-        Ok(trees) => trees,
-        Err(fault) => return Ok(format!(in alloc; "{fault:?}")?),
-    };
-    if !has_sources(sides, query) || !has_trees(sides, &trees) {
-        return Ok("other trees".to_string(alloc)?);
+    match take_all(alloc, bytes) {
+        Ok(trees) => run_on(alloc, sides, query, &trees),
+        Err(fault) => shown(alloc, &fault),
+    }
+}
+
+fn run_on(
+    alloc: Global,
+    sides: &Sides<'_>,
+    query: &QueryText,
+    trees: &[PartTree<'_>],
+) -> io::Result<String> {
+    if !has_sources(sides, query) || !has_trees(sides, trees) {
+        return word(alloc, "other trees");
     }
     if !is_narrow(sides, 0) || !is_narrow(sides, 1) {
-        return Ok("too wide".to_string(alloc)?);
+        return word(alloc, "too wide");
     }
-    Ok(format!(in alloc; "{:?}", run_plan(alloc, sides, query, &trees))?)
+    shown(alloc, &run_plan(alloc, sides, query, trees))
 }
 
 /// What the query needs of the right tree by what the left one shows.
@@ -39,15 +48,23 @@ pub fn right_needs_of(
     query: &QueryText,
     bytes: &[u8],
 ) -> io::Result<String> {
-    let left = match take_tree(alloc, &mut Cursor::new(bytes)) {
-        Ok(left) => left,
-        Err(fault) => return Ok(format!(in alloc; "{fault:?}")?),
-    };
+    match take_tree(alloc, &mut Cursor::new(bytes)) {
+        Ok(left) => right_needs_by(alloc, sides, query, &left),
+        Err(fault) => shown(alloc, &fault),
+    }
+}
+
+fn right_needs_by(
+    alloc: Global,
+    sides: &Sides<'_>,
+    query: &QueryText,
+    left: &PartTree<'_>,
+) -> io::Result<String> {
     if !is_narrow(sides, 0) || !is_narrow(sides, 1) {
-        return Ok("too wide".to_string(alloc)?);
+        return word(alloc, "too wide");
     }
     let need = left_need(alloc, sides, query)?;
-    Ok(format!(in alloc; "{:?}", right_needs(alloc, sides, query, &need, &left))?)
+    shown(alloc, &right_needs(alloc, sides, query, &need, left))
 }
 
 /// There are the sources of the query.

@@ -1,7 +1,8 @@
 //! Calls of texts, and of tables by texts. Values are shown as for debugging.
 use crate::line::TextCall;
+use line_pieces::{shown, word};
 use sql_text::{SqlFault, parse_batch, parse_query, parse_script, print_batch, print_query};
-use std::alloc::Global;
+use std::alloc::{AllocError, Global};
 use std::io;
 use table_list::{
     ApplyFault, BatchFault, Outcome, Tables, apply, apply_batch, batch_bytes, result,
@@ -16,55 +17,59 @@ pub fn answer(
 ) -> io::Result<String> {
     match std::str::from_utf8(bytes) {
         Ok(text) => called(alloc, tables, call, text),
-        Err(_) => Ok("no text".to_string(alloc)?),
+        Err(_) => word(alloc, "no text"),
     }
 }
 
 fn called(alloc: Global, tables: &mut Tables, call: TextCall, text: &str) -> io::Result<String> {
-    Ok(match call {
-        TextCall::Query => format!(in alloc; "{:?}", parse_query(alloc, text))?,
-        TextCall::Batch => format!(in alloc; "{:?}", parse_batch(alloc, text))?,
-        TextCall::Script => format!(in alloc; "{:?}", parse_script(alloc, text))?,
-        TextCall::Apply => format!(in alloc; "{:?}", applied(alloc, tables, text))?,
-        TextCall::Step => format!(in alloc; "{:?}", stepped(alloc, tables, text))?,
-        TextCall::Result => format!(in alloc; "{:?}", asked(alloc, tables, text))?,
-        TextCall::PrintQuery => printed_query(alloc, text)?,
-        TextCall::PrintBatch => printed_batch(alloc, text)?,
-        TextCall::Bytes => written(alloc, text)?,
-        TextCall::Count => format!(in alloc; "{:?}", batch_count(alloc, text))?,
-        TextCall::Length => format!(in alloc; "{}", text.len())?,
-    })
+    match call {
+        TextCall::Query => shown(alloc, &parse_query(alloc, text)),
+        TextCall::Batch => shown(alloc, &parse_batch(alloc, text)),
+        TextCall::Script => shown(alloc, &parse_script(alloc, text)),
+        TextCall::Apply => shown(alloc, &applied(alloc, tables, text)),
+        TextCall::Step => shown(alloc, &stepped(alloc, tables, text)),
+        TextCall::Result => shown(alloc, &asked(alloc, tables, text)),
+        TextCall::PrintQuery => printed_query(alloc, text),
+        TextCall::PrintBatch => printed_batch(alloc, text),
+        TextCall::Bytes => written(alloc, text),
+        TextCall::Count => shown(alloc, &batch_count(alloc, text)),
+        TextCall::Length => shown(alloc, &text.len()),
+    }
 }
 
 /// The text that the query of a text is printed as.
 fn printed_query(alloc: Global, text: &str) -> io::Result<String> {
     match parse_query(alloc, text) {
-        Ok(query) => shown(alloc, print_query(alloc, &query)?),
-        Err(_) => shown(alloc, Vec::from_slice(alloc, b"none")?),
+        Ok(query) => printed(alloc, print_query(alloc, &query)),
+        Err(_) => word(alloc, "none"),
     }
 }
 
 /// The text that the batch of a text is printed as.
 fn printed_batch(alloc: Global, text: &str) -> io::Result<String> {
     match parse_batch(alloc, text) {
-        Ok(batch) => shown(alloc, print_batch(alloc, &batch)?),
-        Err(_) => shown(alloc, Vec::from_slice(alloc, b"none")?),
+        Ok(batch) => printed(alloc, print_batch(alloc, &batch)),
+        Err(_) => word(alloc, "none"),
     }
 }
 
-fn shown(alloc: Global, text: Vec<u8>) -> io::Result<String> {
-    match String::from_utf8(text) {
+fn printed(alloc: Global, text: Result<Vec<u8>, AllocError>) -> io::Result<String> {
+    match String::from_utf8(text?) {
         Ok(text) => Ok(text),
-        Err(_) => Ok("no text".to_string(alloc)?),
+        Err(_) => word(alloc, "no text"),
     }
 }
 
 /// The bytes of the batch of a text, in hexadecimal.
 fn written(alloc: Global, text: &str) -> io::Result<String> {
     match parse_batch(alloc, text) {
-        Ok(batch) => Ok(hex::encode(alloc, batch_bytes(alloc, &batch)?)?),
-        Err(_) => Ok("none".to_string(alloc)?),
+        Ok(batch) => digits(alloc, batch_bytes(alloc, &batch)),
+        Err(_) => word(alloc, "none"),
     }
+}
+
+fn digits(alloc: Global, bytes: Result<Vec<u8>, AllocError>) -> io::Result<String> {
+    Ok(hex::encode(alloc, bytes?)?)
 }
 
 /// How many batches a script has.
@@ -109,8 +114,5 @@ fn stepped(
 /// What the query of a text gives on the tables.
 fn asked(alloc: Global, tables: &Tables, text: &str) -> Result<Outcome, SqlFault> {
     let query = parse_query(alloc, text)?;
-    match result(alloc, tables, &query) {
-        Ok(outcome) => Ok(outcome),
-        Err(_) => Err(SqlFault::Memory),
-    }
+    result(alloc, tables, &query).or(Err(SqlFault::Memory))
 }

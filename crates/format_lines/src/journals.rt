@@ -10,8 +10,8 @@ use crate::keys::read_key;
 use crate::records::shown_catalog;
 use line_pieces::NoAnswer;
 use owner_state::{
-    Entry, OwnedJournal, entry_bytes, journal_bytes, put_slot, read_entries, read_owned,
-    read_slots, read_taken, seal as sealed,
+    Entry, OwnedJournal, TakenJournal, entry_bytes, journal_bytes, put_slot, read_entries,
+    read_owned, read_slots, read_taken, seal as sealed,
 };
 use std::alloc::Global;
 use table_list::read_batch;
@@ -117,10 +117,12 @@ pub fn taken(alloc: Global, strings: &[Vec<u8>]) -> Result<String, NoAnswer> {
         return Err(NoAnswer::NoSuchLine);
     };
     match read_taken(alloc, &read_key(key)?, journal) {
-        Ok(taken) => {
-            let catalog = shown_catalog(alloc, &taken.tables.catalog(alloc)?)?;
-            Ok(format!(in alloc; "{} {catalog}", taken.entries.len())?)
-        }
+        Ok(taken) => shown_taken(alloc, &taken),
         Err(fault) => Ok(format!(in alloc; "{fault:?}")?),
     }
+}
+
+fn shown_taken(alloc: Global, taken: &TakenJournal) -> Result<String, NoAnswer> {
+    let catalog = shown_catalog(alloc, &taken.tables.catalog(alloc)?)?;
+    Ok(format!(in alloc; "{} {catalog}", taken.entries.len())?)
 }

@@ -3,6 +3,7 @@ use crate::arguments::array_of;
 use crate::keys::read_key;
 use crate::records::unread;
 use line_pieces::NoAnswer;
+use lms_sign::PublicKey;
 use sql_text::parse_query;
 use std::alloc::Global;
 use vo_format::{begin_proofs, read_proofs, read_reply, write_proofs, write_reply};
@@ -53,8 +54,17 @@ pub fn answer_by(alloc: Global, strings: &[Vec<u8>]) -> Result<String, NoAnswer>
     let [key, query, journal] = strings else {
         return Err(NoAnswer::NoSuchLine);
     };
-    let query = read_query(alloc, query)?;
-    match reply_by(alloc, read_key(key)?, journal, &query) {
+    let key = read_key(key)?;
+    answer_to(alloc, key, &read_query(alloc, query)?, journal)
+}
+
+fn answer_to(
+    alloc: Global,
+    key: PublicKey,
+    query: &QueryText,
+    journal: &[u8],
+) -> Result<String, NoAnswer> {
+    match reply_by(alloc, key, journal, query) {
         Ok(reply) => Ok(hex::encode(alloc, reply)?),
         Err(fault) => Ok(format!(in alloc; "{fault:?}")?),
     }

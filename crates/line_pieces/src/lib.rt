@@ -1,8 +1,10 @@
-//! What programs that answer lines share: byte strings as lines spell them, and why a line has no answer.
+//! What programs that answer lines share: byte strings as lines spell them, answers, and why a line has none.
 #![tactic(auto)]
 
+mod answers;
 mod no_answer;
 mod pieces;
 
+pub use answers::{shown, word};
 pub use no_answer::NoAnswer;
 pub use pieces::put_piece;

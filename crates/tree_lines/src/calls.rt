@@ -4,6 +4,7 @@ use crate::need_calls::{judged_needs, scanned};
 use crate::part_calls::{digest_of, judged, preimage_of, read_again, worked, worked_in_turn};
 use crate::table_calls::{applied, catalog_of, proof_of, refusals, rows_of, stepped};
 use crate::tree_calls::{agreed, changed, proved, pruned, root_of};
+use line_pieces::word;
 use std::alloc::Global;
 use std::io;
 use stored_tables::StoredTables;
@@ -11,7 +12,7 @@ use stored_tables::StoredTables;
 /// The answer to a line.
 pub fn answer(alloc: Global, tables: &mut StoredTables, line: &str) -> io::Result<String> {
     let Some(line) = read_line(alloc, line)? else {
-        return Ok("no such line".to_string(alloc)?);
+        return word(alloc, "no such line");
     };
     let Line {
         call,
@@ -21,7 +22,7 @@ pub fn answer(alloc: Global, tables: &mut StoredTables, line: &str) -> io::Resul
     match call {
         Call::Clear => {
             *tables = StoredTables::new(alloc);
-            Ok("cleared".to_string(alloc)?)
+            word(alloc, "cleared")
         }
         Call::Apply => applied(alloc, tables, &first),
         Call::Step => stepped(alloc, tables, &first),

@@ -1,7 +1,8 @@
 //! What needs find in a part tree.
-use crate::answers::{said, shown};
+use crate::answers::said;
 use crate::need_reading::{read_need, read_needs};
 use crate::part_reading::read_part;
+use line_pieces::shown;
 use range_proof::{is_canonical, scan};
 use row_bytes::ReadFault;
 use std::alloc::Global;

@@ -4,9 +4,10 @@ ghost use Rattle.vo_spec.specs.Fits.{FitsPart};
 ghost use Rattle.mb_tree.specs.View.{part_of};
 ghost use Rattle.tree_lines.specs.Fitting.{FitsOp};
 
-use crate::answers::{digits, said, shown, spelled};
+use crate::answers::{digits, said, spelled};
 use crate::change_reading::{read_change, read_changes};
 use crate::part_reading::read_part;
+use line_pieces::shown;
 use mb_update::{Op, UpdateFault, Updates};
 use row_bytes::ReadFault;
 use std::alloc::Global;

@@ -2,7 +2,8 @@
 ghost use Rattle.std.specs.Prelude.{IfOk};
 ghost use Rattle.vo_spec.specs.Batches.{FitsBatch};
 
-use crate::answers::{digits, no_table, shown, spelled};
+use crate::answers::{digits, spelled};
+use line_pieces::{shown, word};
 use std::alloc::Global;
 use std::io;
 use stored_tables::StoredTables;
@@ -19,7 +20,7 @@ pub fn applied(alloc: Global, tables: &mut StoredTables, batch: &[u8]) -> io::Re
     }
     match tables.find(b"t") {
         Some(table) => digits(alloc, table.tree.node_digest()),
-        None => no_table(alloc),
+        None => word(alloc, "no table"),
     }
 }
 
@@ -62,11 +63,11 @@ pub fn proof_of(alloc: Global, tables: &StoredTables, batch: &[u8]) -> io::Resul
         Err(fault) => return shown(alloc, &fault),
     };
     let [command] = batch.commands.as_slice() else {
-        return Ok("not one command".to_string(alloc)?);
+        return word(alloc, "not one command");
     };
     match tables.command_proof(alloc, command)? {
         Some(proof) => spelled(alloc, &proof),
-        None => Ok("none".to_string(alloc)?),
+        None => word(alloc, "none"),
     }
 }
 
@@ -90,5 +91,5 @@ pub fn rows_of(alloc: Global, tables: &StoredTables) -> io::Result<String> {
             return shown(alloc, &table.rows);
         }
     }
-    no_table(alloc)
+    word(alloc, "no table")
 }

@@ -4,10 +4,11 @@ ghost use Rattle.vo_spec.specs.Fits.{FitsPart, FitsTree};
 ghost use Rattle.mb_tree.specs.View.{part_of};
 ghost use Rattle.tree_lines.specs.Fitting.{FitsOp};
 
-use crate::answers::{digits, no_table, shown, spelled};
+use crate::answers::{digits, spelled};
 use crate::change_reading::read_change;
 use crate::need_reading::read_needs;
 use crate::part_reading::read_part;
+use line_pieces::{shown, word};
 use mb_tree::Tree;
 use mb_update::{Op, UpdateFault, Updates};
 use range_proof::prune;
@@ -27,7 +28,7 @@ pub fn root_of(alloc: Global, tables: &StoredTables) -> io::Result<String> {
             let preimage = hex::encode(alloc, table.tree.root().preimage(alloc)?)?;
             Ok(format!(in alloc; "{rows} {preimage}")?)
         }
-        None => no_table(alloc),
+        None => word(alloc, "no table"),
     }
 }
 
@@ -44,15 +45,27 @@ pub fn changed(alloc: Global, tables: &StoredTables, change: &[u8]) -> io::Resul
         Ok(op) => op,
         Err(fault) => return shown(alloc, &fault),
     };
-    let Some(table) = tables.find(b"t") else {
-        return no_table(alloc);
-    };
-    let new = match tree_after(alloc, &table.tree, &op) {
-        Ok(new) => counted(alloc, &new)?,
-        Err(fault) => shown(alloc, &fault)?,
-    };
-    let old = counted(alloc, &table.tree)?;
+    match tables.find(b"t") {
+        Some(table) => new_and_old(alloc, &table.tree, &op),
+        None => word(alloc, "no table"),
+    }
+}
+
+fn new_and_old(alloc: Global, tree: &Tree, op: &Op) -> io::Result<String>
+    requires { FitsOp op.now }
+{
+    let new = new_counted(alloc, tree, op)?;
+    let old = counted(alloc, tree)?;
     Ok(format!(in alloc; "{new} of {old}")?)
+}
+
+fn new_counted(alloc: Global, tree: &Tree, op: &Op) -> io::Result<String>
+    requires { FitsOp op.now }
+{
+    match tree_after(alloc, tree, op) {
+        Ok(new) => counted(alloc, &new),
+        Err(fault) => shown(alloc, &fault),
+    }
 }
 
 /// The tree after a change; one with no room for more rows has no memory for an insertion.
@@ -79,7 +92,7 @@ pub fn proved(alloc: Global, tables: &StoredTables, change: &[u8]) -> io::Result
     };
     match tables.find(b"t") {
         Some(table) => spelled(alloc, &proof_of(alloc, &table.tree, &op)?),
-        None => no_table(alloc),
+        None => word(alloc, "no table"),
     }
 }
 
@@ -99,7 +112,7 @@ pub fn pruned(alloc: Global, tables: &StoredTables, needs: &[u8]) -> io::Result<
     };
     match tables.find(b"t") {
         Some(table) => spelled(alloc, &part_for(alloc, &table.tree, &needs)?),
-        None => no_table(alloc),
+        None => word(alloc, "no table"),
     }
 }
 
@@ -119,7 +132,7 @@ pub fn agreed(alloc: Global, tables: &StoredTables, part: &[u8]) -> io::Result<S
     };
     match tables.find(b"t") {
         Some(table) => compared(alloc, &part, &table.tree),
-        None => no_table(alloc),
+        None => word(alloc, "no table"),
     }
 }
 
@@ -127,10 +140,10 @@ fn compared(alloc: Global, part: &PartTree<'_>, tree: &Tree) -> io::Result<Strin
     requires { FitsPart (part_of part.now) }
 {
     if part.node_digest() != tree.node_digest() {
-        return Ok("another digest".to_string(alloc)?);
+        return word(alloc, "another digest");
     }
     match agree(alloc, part, tree)? {
-        Agreement::Prunes => Ok("prunes".to_string(alloc)?),
-        Agreement::Collides(_) => Ok("collides".to_string(alloc)?),
+        Agreement::Prunes => word(alloc, "prunes"),
+        Agreement::Collides(_) => word(alloc, "collides"),
     }
 }

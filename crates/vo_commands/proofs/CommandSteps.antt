@@ -47,59 +47,48 @@ FileIs name limit bytes told = (rest : List ℕ → Due) → with_file told name
 abbrev FileStops : List ℕ → ℕ → Stop → Files → Type 0
 FileStops name limit stop told = GoesOn {A = List ℕ} (λ bytes. bytes) (with_file told name limit) (Err stop)
 
-module _ (name query reply key : List ℕ) (least : ℕ) (q : Query) (is : IsQueryText query q) where
-  pub check_told : (o p : Option Files) (bytes : List ℕ) (r : Result Report Stop) → p ≡ o → IfSome o (KeyIs name key) → IfSome p (FileIs reply reply_limit bytes)
-      → Answers (Checks key least q bytes) r → IfSome o (λ told. Answers (check_due name query reply least told) r)
-  check_told o p bytes r same k f a = step o k (subst (λ z. IfSome z (FileIs reply reply_limit bytes)) same f)
+-- what the rest of the work says of the bytes of a file, or a stop at the file
+pub file_told : (name : List ℕ) (limit : ℕ) (rest : List ℕ → Due) (bytes : List ℕ) (o : Option Files) (r : Result Report Stop) → IfSome o (FileIs name limit bytes)
+    → Answers (rest bytes) r → IfSome o (λ told. Answers (with_file told name limit rest) r)
+file_told name limit rest bytes None r f a = tt
+file_told name limit rest bytes (Some told) r f a = of_file (with_file told name limit) bytes rest r f a
+
+pub file_stops : (name : List ℕ) (limit : ℕ) (rest : List ℕ → Due) (o : Option Files) (stop : Stop) → IfSome o (FileStops name limit stop)
+    → IfSome o (λ told. Answers (with_file told name limit rest) (Err stop))
+file_stops name limit rest None stop f = tt
+file_stops name limit rest (Some told) stop f = of_stop (λ bytes. bytes) (with_file told name limit) stop rest f
+
+module _ (name query reply key : List ℕ) (least : ℕ) (q : Query) (is : IsQueryText query q) (r : Result Report Stop) where
+  abbrev Checked : Files → Type 0
+  Checked told = Answers (with_file told reply reply_limit (λ z. Checks key least q z)) r
+
+  pub check_told : (o p : Option Files) → p ≡ o → IfSome o (KeyIs name key) → IfSome p Checked → IfSome o (λ told. Answers (check_due name query reply least told) r)
+  check_told o p same k a = step o k (subst (λ z. IfSome z Checked) same a)
     where
-      step : (o : Option Files) → IfSome o (KeyIs name key) → IfSome o (FileIs reply reply_limit bytes) → IfSome o (λ told. Answers (check_due name query reply least told) r)
-      step None k f = tt
-      step (Some told) k f =
+      step : (o : Option Files) → IfSome o (KeyIs name key) → IfSome o Checked → IfSome o (λ told. Answers (check_due name query reply least told) r)
+      step None k a = tt
+      step (Some told) k a =
           of_file (with_key told name) key (λ x. OfQuery query (λ y. with_file told reply reply_limit (λ z. Checks x least y z))) r k
-          (of_query query q (λ y. with_file told reply reply_limit (λ z. Checks key least y z)) r is (of_file (with_file told reply reply_limit) bytes (λ z. Checks key least q z) r f a))
+          (of_query query q (λ y. with_file told reply reply_limit (λ z. Checks key least y z)) r is a)
 
-  pub check_stops : (o p : Option Files) (stop : Stop) → p ≡ o → IfSome o (KeyIs name key) → IfSome p (FileStops reply reply_limit stop)
-      → IfSome o (λ told. Answers (check_due name query reply least told) (Err stop))
-  check_stops o p stop same k f = step o k (subst (λ z. IfSome z (FileStops reply reply_limit stop)) same f)
-    where
-      step : (o : Option Files) → IfSome o (KeyIs name key) → IfSome o (FileStops reply reply_limit stop) → IfSome o (λ told. Answers (check_due name query reply least told) (Err stop))
-      step None k f = tt
-      step (Some told) k f =
-          of_file (with_key told name) key (λ x. OfQuery query (λ y. with_file told reply reply_limit (λ z. Checks x least y z))) (Err stop) k
-          (of_query query q (λ y. with_file told reply reply_limit (λ z. Checks key least y z)) (Err stop) is
-          (of_stop (λ bytes. bytes) (with_file told reply reply_limit) stop (λ z. Checks key least q z) f))
-
-module _ (name journal query reply key held : List ℕ) (q : Query) (is : IsQueryText query q) where
+module _ (name journal query reply key held : List ℕ) (q : Query) (is : IsQueryText query q) (r : Result Report Stop) where
   abbrev after_journal : Files → List ℕ → List ℕ → Due
   after_journal told x y = OfQuery query (λ z. with_file told reply reply_limit (λ w. Audits x y z w))
 
-  pub audit_told : (o p s : Option Files) (bytes : List ℕ) (r : Result Report Stop) → p ≡ o → s ≡ p → IfSome o (KeyIs name key) → IfSome p (FileIs journal journal_limit held)
-      → IfSome s (FileIs reply reply_limit bytes) → Answers (Audits key held q bytes) r → IfSome o (λ told. Answers (audit_due name journal query reply told) r)
-  audit_told o p s bytes r same also k j f a =
-      step o k (subst (λ z. IfSome z (FileIs journal journal_limit held)) same j) (subst (λ z. IfSome z (FileIs reply reply_limit bytes)) (also ∙ same) f)
+  abbrev Audited : Files → Type 0
+  Audited told = Answers (with_file told reply reply_limit (λ w. Audits key held q w)) r
+
+  pub audit_told : (o p s : Option Files) → p ≡ o → s ≡ p → IfSome o (KeyIs name key) → IfSome p (FileIs journal journal_limit held) → IfSome s Audited
+      → IfSome o (λ told. Answers (audit_due name journal query reply told) r)
+  audit_told o p s same also k j a = step o k (subst (λ z. IfSome z (FileIs journal journal_limit held)) same j) (subst (λ z. IfSome z Audited) (also ∙ same) a)
     where
-      step : (o : Option Files) → IfSome o (KeyIs name key) → IfSome o (FileIs journal journal_limit held) → IfSome o (FileIs reply reply_limit bytes)
+      step : (o : Option Files) → IfSome o (KeyIs name key) → IfSome o (FileIs journal journal_limit held) → IfSome o Audited
           → IfSome o (λ told. Answers (audit_due name journal query reply told) r)
-      step None k j f = tt
-      step (Some told) k j f =
+      step None k j a = tt
+      step (Some told) k j a =
           of_file (with_key told name) key (λ x. with_file told journal journal_limit (after_journal told x)) r k
           (of_file (with_file told journal journal_limit) held (after_journal told key) r j
-          (of_query query q (λ z. with_file told reply reply_limit (λ w. Audits key held z w)) r is
-          (of_file (with_file told reply reply_limit) bytes (λ w. Audits key held q w) r f a)))
-
-  pub audit_stops : (o p s : Option Files) (stop : Stop) → p ≡ o → s ≡ p → IfSome o (KeyIs name key) → IfSome p (FileIs journal journal_limit held)
-      → IfSome s (FileStops reply reply_limit stop) → IfSome o (λ told. Answers (audit_due name journal query reply told) (Err stop))
-  audit_stops o p s stop same also k j f =
-      step o k (subst (λ z. IfSome z (FileIs journal journal_limit held)) same j) (subst (λ z. IfSome z (FileStops reply reply_limit stop)) (also ∙ same) f)
-    where
-      step : (o : Option Files) → IfSome o (KeyIs name key) → IfSome o (FileIs journal journal_limit held) → IfSome o (FileStops reply reply_limit stop)
-          → IfSome o (λ told. Answers (audit_due name journal query reply told) (Err stop))
-      step None k j f = tt
-      step (Some told) k j f =
-          of_file (with_key told name) key (λ x. with_file told journal journal_limit (after_journal told x)) (Err stop) k
-          (of_file (with_file told journal journal_limit) held (after_journal told key) (Err stop) j
-          (of_query query q (λ z. with_file told reply reply_limit (λ w. Audits key held z w)) (Err stop) is
-          (of_stop (λ bytes. bytes) (with_file told reply reply_limit) stop (λ w. Audits key held q w) f)))
+          (of_query query q (λ z. with_file told reply reply_limit (λ w. Audits key held z w)) r is a))
 
 module _ (name journal query key held : List ℕ) (q : Query) (is : IsQueryText query q) where
   pub answer_told : (o p : Option Files) (r : Result Report Stop) → p ≡ o → IfSome o (KeyIs name key) → IfSome p (FileIs journal journal_limit held)

@@ -1,8 +1,9 @@
 //! `check`: what a client says of a reply.
-ghost use Rattle.std.specs.Prelude.{◌≡◌, ◌≤◌, [], ◌∷◌, IfSome, IsErrOf};
+ghost use Rattle.std.specs.Prelude.{◌≡◌, ◌≤◌, [], ◌∷◌, is_some, IfSome, IsErrOf};
+ghost use Rattle.outside.specs.Miss.{CountsMiss};
 ghost use Rattle.outside.specs.Rose.{Rose};
 ghost use Rattle.vo_spec.specs.Conditions.{query_of};
-ghost use Rattle.vo_commands.specs.Dues.{HoldsEach, check_due, Checks};
+ghost use Rattle.vo_commands.specs.Dues.{HoldsEach, check_due, with_file, reply_limit, Checks};
 ghost use Rattle.vo_commands.specs.Reports.{Answers};
 
 use crate::answers::answer_report;
@@ -38,11 +39,30 @@ pub fn check<F: Shelf>(
 {
     let key = take_key(alloc, files, key)?;
     let query = query_in(alloc, query)?;
-    let reply = match take_file(alloc, files, reply, REPLY_LIMIT) {
-        Ok(reply) => reply,
-        Err(stop) => return Err(stop),
-    };
-    checked(alloc, key, least, &query, &reply)
+    check_file(alloc, files, key, least, &query, reply)
+}
+
+/// The same of the reply in a file.
+fn check_file<F: Shelf>(
+    alloc: Global,
+    files: &mut F,
+    key: PublicKey,
+    least: u64,
+    query: &QueryText,
+    reply: &str,
+) -> Result<Report, Stop>
+    ensures told { IfSome (F.contents files.old)
+        (λ told. Answers (with_file told reply.now reply_limit (λ bytes. Checks key least (query_of query.now) bytes)) result) }
+    ensures kept { F.contents files.new ≡ F.contents files.old }
+    ensures counts { F.faults files.old ≤ F.faults files.new }
+    ensures cause { IsErrOf result Stop.Outside → Rose (F.faults files.old) (F.faults files.new) }
+    ensures misses { IfSome (F.contents files.old)
+        (λ told. CountsMiss (is_some (told reply.now)) (F.misses files.old) (F.misses files.new)) }
+{
+    match take_file(alloc, files, reply, REPLY_LIMIT) {
+        Ok(reply) => checked(alloc, key, least, query, &reply),
+        Err(stop) => Err(stop),
+    }
 }
 
 fn checked(

@@ -1,23 +1,13 @@
-use Rattle.vo_commands.proofs.CommandSteps.{audit_told, audit_stops, three_there}
+use Rattle.vo_commands.proofs.CommandSteps.{audit_told, three_there}
 use Rattle.vo_commands.proofs.audit.audit.Goals as goal
-
-pub returns-in-Err-clause-told : goal.returns-in-Err-clause-told
-returns-in-Err-clause-told g c =
-    audit_stops c.args.key.now c.args.journal.now c.args.query.now c.args.reply.now _ _ _ c.in_ok-query.ensures _ _ _ _
-    c.in_ok-key.ensures.kept c.in_ok-journal.ensures.kept c.in_ok-key.ensures.told c.in_ok-journal.ensures.told c.in-Err.ensures.told
-
-pub returns-in-Err-clause-misses : goal.returns-in-Err-clause-misses
-returns-in-Err-clause-misses g c =
-    three_there _ _ _ c.args.key.now c.args.journal.now c.args.reply.now _ _ _ _
-    c.in_ok-key.ensures.kept c.in_ok-journal.ensures.kept c.in_ok-key.ensures.misses c.in_ok-journal.ensures.misses c.in-Err.ensures.misses
 
 pub returns-clause-told : goal.returns-clause-told
 returns-clause-told g c =
-    audit_told c.args.key.now c.args.journal.now c.args.query.now c.args.reply.now _ _ _ c.in_ok-query.ensures _ _ _ _ _
-    c.in_ok-key.ensures.kept c.in_ok-journal.ensures.kept c.in_ok-key.ensures.told c.in_ok-journal.ensures.told c.in-Ok.ensures.told
-    (rw (c.deref.ensures.value, c.deref-2.ensures.value) at c.judged.ensures.told)
+    audit_told c.args.key.now c.args.journal.now c.args.query.now c.args.reply.now _ _ _ c.in_ok-query.ensures _ _ _ _
+    c.in_ok-key.ensures.kept c.in_ok-journal.ensures.kept c.in_ok-key.ensures.told c.in_ok-journal.ensures.told
+    (rw c.deref.ensures.value at c.audit_file.ensures.told)
 
 pub returns-clause-misses : goal.returns-clause-misses
 returns-clause-misses g c =
     three_there _ _ _ c.args.key.now c.args.journal.now c.args.reply.now _ _ _ _
-    c.in_ok-key.ensures.kept c.in_ok-journal.ensures.kept c.in_ok-key.ensures.misses c.in_ok-journal.ensures.misses c.in-Ok.ensures.misses
+    c.in_ok-key.ensures.kept c.in_ok-journal.ensures.kept c.in_ok-key.ensures.misses c.in_ok-journal.ensures.misses c.audit_file.ensures.misses

@@ -1,15 +1,11 @@
-use Rattle.vo_commands.proofs.CommandSteps.{check_told, check_stops, two_there}
+use Rattle.vo_commands.proofs.CommandSteps.{check_told, two_there}
 use Rattle.vo_commands.proofs.check.check.Goals as goal
-
-pub returns-in-Err-clause-told : goal.returns-in-Err-clause-told
-returns-in-Err-clause-told g c =
-    check_stops c.args.key.now c.args.query.now c.args.reply.now _ c.args.least _ c.in_ok-query.ensures _ _ _ c.in_ok-key.ensures.kept c.in_ok-key.ensures.told c.in-Err.ensures.told
 
 pub returns-clause-told : goal.returns-clause-told
 returns-clause-told g c =
-    check_told c.args.key.now c.args.query.now c.args.reply.now _ c.args.least _ c.in_ok-query.ensures _ _ _ _ c.in_ok-key.ensures.kept c.in_ok-key.ensures.told c.in-Ok.ensures.told
-    (rw c.deref.ensures.value at c.checked.ensures.told)
+    check_told c.args.key.now c.args.query.now c.args.reply.now _ c.args.least _ c.in_ok-query.ensures _ _ _ c.in_ok-key.ensures.kept c.in_ok-key.ensures.told
+    c.check_file.ensures.told
 
 pub returns-clause-misses : goal.returns-clause-misses
 returns-clause-misses g c =
-    two_there _ _ c.args.key.now c.args.reply.now _ _ _ c.in_ok-key.ensures.kept c.in_ok-key.ensures.misses c.in-Ok.ensures.misses
+    two_there _ _ c.args.key.now c.args.reply.now _ _ _ c.in_ok-key.ensures.kept c.in_ok-key.ensures.misses c.check_file.ensures.misses
