@@ -18,12 +18,10 @@ fn bytes(alloc: Global, text: &str) -> Result<Vec<u8>, AllocError> {
 #[test]
 fn sinks(rt: HostRuntime) -> Result<(), Fail> {
     let mut sink = MemSink::new(rt.alloc(), fails_at(rt.alloc(), 1, 2)?);
-    assert_eq!(rt; sink.put(b"ab"), Ok(()));
-    assert_eq!(rt; sink.put(b"cde"), Err(PutFault::Failed));
-    assert_eq!(rt; sink.put(b"f"), Ok(()));
+    let put = (sink.put(b"ab"), sink.put(b"cde"), sink.put(b"f"));
+    assert_eq!(rt; put, (Ok(()), Err(PutFault::Failed), Ok(())));
     assert_eq!(rt; sink.written(), b"abcdf".as_slice());
-    let mut quiet = MemSink::new(rt.alloc(), Never);
-    assert_eq!(rt; quiet.put(b"x"), Ok(()));
+    assert_eq!(rt; MemSink::new(rt.alloc(), Never).put(b"x"), Ok(()));
     Ok(())
 }
 
@@ -38,18 +36,13 @@ fn shelves(rt: HostRuntime) -> Result<(), Fail> {
     let mut shelf = MemShelf::new(files, fails_at(rt.alloc(), 2, 0)?);
     let taken = shelf.take(rt.alloc(), "seed", 3)?;
     assert_eq!(rt; taken.as_slice(), b"123".as_slice());
-    assert_eq!(rt;
+    let faults = (
         shelf.take(rt.alloc(), "seed", 2).err(),
-        Some(TakeFault::TooLong)
-    );
-    assert_eq!(rt;
         shelf.take(rt.alloc(), "seed", 3).err(),
-        Some(TakeFault::Failed)
-    );
-    assert_eq!(rt;
         shelf.take(rt.alloc(), "see", 3).err(),
-        Some(TakeFault::Failed)
     );
+    let failed = Some(TakeFault::Failed);
+    assert_eq!(rt; faults, (Some(TakeFault::TooLong), failed, failed));
     Ok(())
 }
 
@@ -58,11 +51,12 @@ fn comes_in_pieces(rt: HostRuntime) -> Result<(), Fail> {
     let coming = vec![in rt.alloc(); bytes(rt.alloc(), "hello")?]?;
     let mut net = MemNet::new(rt.alloc(), coming, Never)?.in_pieces(3);
     let mut buffer = [0u8; 4];
-    assert_eq!(rt; net.get(&mut buffer), Err(Failed));
-    assert_eq!(rt; net.connect("there"), Ok(()));
-    assert_eq!(rt; net.get(&mut buffer), Ok(3));
-    assert_eq!(rt; buffer, [104, 101, 108, 0]);
-    assert_eq!(rt; net.next(), Err(Failed));
+    let unconnected = net.get(&mut buffer);
+    let got = (net.connect("there"), net.get(&mut buffer), buffer);
+    assert_eq!(rt;
+        (unconnected, got, net.next()),
+        (Err(Failed), (Ok(()), Ok(3), [104, 101, 108, 0]), Err(Failed))
+    );
     Ok(())
 }
 
@@ -70,9 +64,8 @@ fn comes_in_pieces(rt: HostRuntime) -> Result<(), Fail> {
 fn keeps_what_was_put(rt: HostRuntime) -> Result<(), Fail> {
     let coming = vec![in rt.alloc(); bytes(rt.alloc(), "")?]?;
     let mut net = MemNet::new(rt.alloc(), coming, fails_at(rt.alloc(), 2, 1)?)?;
-    assert_eq!(rt; net.listen("here"), Ok(()));
-    assert_eq!(rt; net.next(), Ok(()));
-    assert_eq!(rt; net.put(b"zz"), Err(PutFault::Failed));
+    let called = (net.listen("here"), net.next(), net.put(b"zz"));
+    assert_eq!(rt; called, (Ok(()), Ok(()), Err(PutFault::Failed)));
     assert_eq!(rt; net.sent(), b"z".as_slice());
     net.close();
     let past = net.past().first().map(|sent| sent.as_slice());
@@ -84,25 +77,18 @@ fn keeps_what_was_put(rt: HostRuntime) -> Result<(), Fail> {
 fn disks(rt: HostRuntime) -> Result<(), Fail> {
     let mut disk = MemDisk::new(rt.alloc(), bytes(rt.alloc(), "abc")?, Never)?;
     disk.reserve(7, 4, 3)?;
-    assert_eq!(rt; disk.write_at(5, b"xy"), Ok(()));
-    assert_eq!(rt; disk.write_at(1, b"BC"), Ok(()));
-    assert_eq!(rt; disk.sync(), Ok(()));
-    assert_eq!(rt; disk.len(), Ok(7));
+    let written = (disk.write_at(5, b"xy"), disk.write_at(1, b"BC"), disk.sync());
+    assert_eq!(rt; (written, disk.len(), disk.moment()), ((Ok(()), Ok(()), Ok(())), Ok(7), 3));
     assert_eq!(rt; disk.seen(), b"aBC\0\0xy".as_slice());
-    assert_eq!(rt; disk.moment(), 3);
     let mut buffer = [0u8; 2];
-    assert_eq!(rt; disk.read(2, &mut buffer), Ok(()));
-    assert_eq!(rt; buffer, *b"C\0");
+    assert_eq!(rt; (disk.read(2, &mut buffer), buffer), (Ok(()), *b"C\0"));
     Ok(())
 }
 
 #[test]
 fn failing_disks(rt: HostRuntime) -> Result<(), Fail> {
-    let mut disk = MemDisk::new(
-        rt.alloc(),
-        bytes(rt.alloc(), "abc")?,
-        fails_at(rt.alloc(), 0, 1)?,
-    )?;
+    let failing = fails_at(rt.alloc(), 0, 1)?;
+    let mut disk = MemDisk::new(rt.alloc(), bytes(rt.alloc(), "abc")?, failing)?;
     disk.reserve(4, 4, 1)?;
     assert_eq!(rt; disk.write_at(0, b"ABCD"), Err(Failed));
     assert_eq!(rt; disk.seen(), b"Abc".as_slice());

@@ -12,16 +12,13 @@ fn takes_a_file(rt: HostRuntime) -> Result<(), Fail> {
     let mut files = FolderFiles::new(&rt);
     let taken = files.take(rt.alloc(), &name, 3)?;
     assert_eq!(rt; taken.as_slice(), b"abc".as_slice());
-    assert_eq!(rt;
-        files.take(rt.alloc(), &name, 2).err(),
-        Some(TakeFault::TooLong)
-    );
-    assert_eq!(rt; files.faults, 0);
+    let too_long = files.take(rt.alloc(), &name, 2).err();
+    let faults = files.faults;
     fs::remove_file(&rt, name.as_str())?;
+    let removed = files.take(rt.alloc(), &name, 3).err();
     assert_eq!(rt;
-        files.take(rt.alloc(), &name, 3).err(),
-        Some(TakeFault::Failed)
+        (too_long, faults, removed, files.faults),
+        (Some(TakeFault::TooLong), 0, Some(TakeFault::Failed), 1)
     );
-    assert_eq!(rt; files.faults, 1);
     Ok(())
 }

@@ -10,16 +10,14 @@ fn keeps_a_file(rt: HostRuntime) -> Result<(), Fail> {
     let path = format!(in rt.alloc(); "{folder}/kept_by_a_test_of_journal_file")?;
     let _ = fs::remove_file(&rt, path.as_str());
     let mut disk = JournalFile::new(&rt, &folder, &path);
-    assert_eq!(rt; disk.len(), Ok(0));
+    let fresh = disk.len();
     disk.reserve(5, 5, 3)?;
-    assert_eq!(rt; disk.write_at(0, b"abc"), Ok(()));
-    assert_eq!(rt; disk.write_at(2, b"xyz"), Ok(()));
-    assert_eq!(rt; disk.sync(), Ok(()));
-    let mut read = [0u8; 4];
-    assert_eq!(rt; disk.read(1, &mut read), Ok(()));
-    assert_eq!(rt; read, *b"bxyz");
-    assert_eq!(rt; disk.read(2, &mut read), Err(Failed));
-    assert_eq!(rt; disk.faults, 1);
+    let written = (disk.write_at(0, b"abc"), disk.write_at(2, b"xyz"), disk.sync());
+    assert_eq!(rt; (fresh, written), (Ok(0), (Ok(()), Ok(()), Ok(()))));
+    let mut bytes = [0u8; 4];
+    let read = (disk.read(1, &mut bytes), bytes);
+    let past_the_end = disk.read(2, &mut bytes);
     fs::remove_file(&rt, path.as_str())?;
+    assert_eq!(rt; (read, past_the_end, disk.faults), ((Ok(()), *b"bxyz"), Err(Failed), 1));
     Ok(())
 }

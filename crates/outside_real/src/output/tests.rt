@@ -5,6 +5,6 @@ use outside::Sink;
 #[test]
 fn writes(rt: HostRuntime) {
     let mut output = StandardOutput::new(&rt);
-    assert_eq!(rt; output.put(b"put by a test\n"), Ok(()));
-    assert_eq!(rt; output.faults, 0);
+    let put = output.put(b"put by a test\n");
+    assert_eq!(rt; (put, output.faults), (Ok(()), 0));
 }
