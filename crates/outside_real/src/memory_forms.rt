@@ -55,7 +55,11 @@ fn comes_in_pieces(rt: HostRuntime) -> Result<(), Fail> {
     let got = (net.connect("there"), net.get(&mut buffer), buffer);
     assert_eq!(rt;
         (unconnected, got, net.next()),
-        (Err(Failed), (Ok(()), Ok(3), [104, 101, 108, 0]), Err(Failed))
+        (
+            Err(Failed),
+            (Ok(()), Ok(3), [104, 101, 108, 0]),
+            Err(Failed)
+        )
     );
     Ok(())
 }
@@ -77,8 +81,15 @@ fn keeps_what_was_put(rt: HostRuntime) -> Result<(), Fail> {
 fn disks(rt: HostRuntime) -> Result<(), Fail> {
     let mut disk = MemDisk::new(rt.alloc(), bytes(rt.alloc(), "abc")?, Never)?;
     disk.reserve(7, 4, 3)?;
-    let written = (disk.write_at(5, b"xy"), disk.write_at(1, b"BC"), disk.sync());
-    assert_eq!(rt; (written, disk.len(), disk.moment()), ((Ok(()), Ok(()), Ok(())), Ok(7), 3));
+    let written = (
+        disk.write_at(5, b"xy"),
+        disk.write_at(1, b"BC"),
+        disk.sync(),
+    );
+    assert_eq!(rt;
+        (written, disk.len(), disk.moment()),
+        ((Ok(()), Ok(()), Ok(())), Ok(7), 3)
+    );
     assert_eq!(rt; disk.seen(), b"aBC\0\0xy".as_slice());
     let mut buffer = [0u8; 2];
     assert_eq!(rt; (disk.read(2, &mut buffer), buffer), (Ok(()), *b"C\0"));

@@ -12,12 +12,19 @@ fn keeps_a_file(rt: HostRuntime) -> Result<(), Fail> {
     let mut disk = JournalFile::new(&rt, &folder, &path);
     let fresh = disk.len();
     disk.reserve(5, 5, 3)?;
-    let written = (disk.write_at(0, b"abc"), disk.write_at(2, b"xyz"), disk.sync());
+    let written = (
+        disk.write_at(0, b"abc"),
+        disk.write_at(2, b"xyz"),
+        disk.sync(),
+    );
     assert_eq!(rt; (fresh, written), (Ok(0), (Ok(()), Ok(()), Ok(()))));
     let mut bytes = [0u8; 4];
     let read = (disk.read(1, &mut bytes), bytes);
     let past_the_end = disk.read(2, &mut bytes);
     fs::remove_file(&rt, path.as_str())?;
-    assert_eq!(rt; (read, past_the_end, disk.faults), ((Ok(()), *b"bxyz"), Err(Failed), 1));
+    assert_eq!(rt;
+        (read, past_the_end, disk.faults),
+        ((Ok(()), *b"bxyz"), Err(Failed), 1)
+    );
     Ok(())
 }

@@ -18,7 +18,10 @@ fn passes_bytes_each_way(rt: HostRuntime) -> Result<(), Fail> {
     let told = (server.put(b"told"), client.get(&mut bytes), bytes);
     server.close();
     let closed = client.get(&mut [0u8; 4]);
-    assert_eq!(rt; (asked, told, closed), ((Ok(()), Ok(3)), (Ok(()), Ok(4), *b"told"), Ok(0)));
+    assert_eq!(rt;
+        (asked, told, closed),
+        ((Ok(()), Ok(3)), (Ok(()), Ok(4), *b"told"), Ok(0))
+    );
     assert_eq!(rt; (server.faults, client.faults), (0, 0));
     Ok(())
 }
