@@ -1,5 +1,5 @@
 -- Where entries and separators stand among others.
-use Rattle.std.proofs.Common.{◌≡◌, ℕ, suc, ◌+◌, Bool, true, false, cond, not, ◌||◌, bytes_eq, List, [], ◌∷◌, ◌++◌, take, drop, map, refl, sym, ap, ◌∙◌, arith, append_assoc}
+use Rattle.std.proofs.Common.{◌≡◌, ℕ, suc, ◌+◌, Bool, true, false, cond, not, ◌||◌, bytes_eq, List, [], ◌∷◌, ◌++◌, take, drop, map, refl, sym, ap, ◌∙◌, arith}
 use Rattle.std.proofs.lemmas.List.{take-map, drop-map, map-append}
 use Rattle.std.specs.List.{list_any, position_or_len}
 use Rattle.vo_spec.specs.declared.values.Row.{Row}
@@ -23,11 +23,11 @@ put_at e (f ∷ fs) =
     let i = position_or_len (λ f. key_lt e.key f.key) fs in
     put_step (key_lt e.key f.key) i (1 + i) e f fs (omega arith) (put_at e fs)
 
-pub put_spliced : (row : Row) (es : List PartEntry) (place : ℕ) (key : List ℕ) (e : PartEntry) (new : List PartEntry) → place ≡ position_or_len (λ f. key_lt key f.key) es
-    → key ≡ row.key → e ≡ whole_entry row → new ≡ e ∷ [] → take place es ++ new ++ drop place es ≡ put_entry row_family (whole_entry row) es
-put_spliced row es place key e new at same is alone =
+pub put_spliced : (row : Row) (es : List PartEntry) (place : ℕ) (key : List ℕ) (e : PartEntry) → place ≡ position_or_len (λ f. key_lt key f.key) es
+    → key ≡ row.key → e ≡ whole_entry row → take place es ++ e ∷ drop place es ≡ put_entry row_family (whole_entry row) es
+put_spliced row es place key e at same is =
     let there : place ≡ position_or_len (λ f. key_lt row.key f.key) es = at ∙ ap (λ k. position_or_len (λ f. key_lt k f.key) es) same in
-    rw (alone, is, there) (append_assoc _ (whole_entry row ∷ []) _ ∙ sym (put_at (whole_entry row) es))
+    rw (is, there) (sym (put_at (whole_entry row) es))
 
 -- The rows of a whole tree's leaf go by the keys of their entries, and shared keys by their bytes.
 
@@ -49,10 +49,13 @@ map_spliced f xs new i j =
     ∙ ap (λ l. l ++ map f (drop j xs)) (map-append f (take i xs) new)
     ∙ rw (take-map f i xs, drop-map f j xs) refl
 
-pub rows_spliced : (row : Row) (rows : List Row) (place : ℕ) (key : List ℕ) (r : Row) (new all : List Row) → place ≡ position_or_len (λ other. key_lt key other.key) rows
-    → key ≡ row.key → r ≡ row → new ≡ r ∷ [] → all ≡ take place rows ++ new ++ drop place rows
+pub map_put : {X Y : Type 0} (f : X → Y) (xs : List X) (x : X) (i j : ℕ) → map f (take i xs ++ x ∷ drop j xs) ≡ take i (map f xs) ++ f x ∷ drop j (map f xs)
+map_put f xs x i j = map-append f (take i xs) (x ∷ drop j xs) ∙ rw (take-map f i xs, drop-map f j xs) refl
+
+pub rows_spliced : (row : Row) (rows : List Row) (place : ℕ) (key : List ℕ) (r : Row) (all : List Row) → place ≡ position_or_len (λ other. key_lt key other.key) rows
+    → key ≡ row.key → r ≡ row → all ≡ take place rows ++ r ∷ drop place rows
     → map whole_entry all ≡ put_entry row_family (whole_entry row) (map whole_entry rows)
-rows_spliced row rows place key r new all at same is alone spliced =
+rows_spliced row rows place key r all at same is spliced =
     ap (map whole_entry) spliced
-    ∙ map_spliced whole_entry rows new place place
-    ∙ put_spliced row (map whole_entry rows) place key (whole_entry r) (map whole_entry new) (at ∙ place_whole key rows) same (ap whole_entry is) (ap (map whole_entry) alone)
+    ∙ map_put whole_entry rows r place place
+    ∙ put_spliced row (map whole_entry rows) place key (whole_entry r) (at ∙ place_whole key rows) same (ap whole_entry is)

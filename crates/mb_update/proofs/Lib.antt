@@ -2,6 +2,7 @@ pub mod KeyLists
 pub mod Putting
 pub mod Splitting
 pub mod KeyPlaces
+pub mod ListedNodes
 pub mod PartNodes
 pub mod PrunedInserts
 pub mod GrownFits

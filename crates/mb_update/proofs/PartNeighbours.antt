@@ -19,7 +19,7 @@ use Rattle.mb_update.specs.Placing.{placed, node_of}
 use Rattle.mb_update.specs.Settling.{paired, joined_at}
 use Rattle.mb_update.proofs.Splitting.{take_open, drop_open}
 use Rattle.mb_update.proofs.Neighbouring.{joined_open}
-use Rattle.mb_update.proofs.KeyPlaces.{map_spliced}
+use Rattle.mb_update.proofs.KeyPlaces.{map_put}
 
 more_than : (n : ℕ) → 8 < n → nat_lt 8 n ≡ true
 more_than n h = grind (arith, nat_tests)
@@ -62,59 +62,38 @@ module _ (ls rs : List (List ℕ)) (s : List ℕ) (ps qs : List RowTree) where
 
 -- inner nodes of parts
 
-module _ (ls rs keys all : List (List ℕ)) (s : List ℕ) (ps qs trees : List PartTree) (p : PartTree) where
-  pub part_left_one : length ps ≤ 8 → keys ≡ s ∷ rs → all ≡ ls ++ keys → trees ≡ ps ++ qs → part_of p ≡ inner all (parts_of trees)
-      → with_left row_family (inner ls (parts_of ps)) s (inner rs (parts_of qs)) ≡ Ok (one (part_of p))
-  part_left_one few is_keys is_all is_trees node =
+module _ (ls rs keys : List (List ℕ)) (s : List ℕ) (ps qs : List PartTree) where
+  pub part_left_one : length ps ≤ 8 → keys ≡ s ∷ rs → with_left row_family (inner ls (parts_of ps)) s (inner rs (parts_of qs)) ≡ Ok (one (inner (ls ++ keys) (parts_of (ps ++ qs))))
+  part_left_one few is_keys =
       let counted = length-map ps part_of in
       inner_left_one ls rs s (map part_of ps) (map part_of qs) (omega arith)
-      ∙ rw (node, is_all, is_keys, is_trees, map-append part_of ps qs) refl
+      ∙ rw (is_keys, map-append part_of ps qs) refl
 
-  pub part_right_one : length qs ≤ 8 → keys ≡ ls ++ s ∷ [] → all ≡ keys ++ rs → trees ≡ ps ++ qs → part_of p ≡ inner all (parts_of trees)
-      → with_right row_family (inner ls (parts_of ps)) s (inner rs (parts_of qs)) ≡ Ok (one (part_of p))
-  part_right_one few is_keys is_all is_trees node =
+  pub part_right_one : length qs ≤ 8 → keys ≡ ls ++ s ∷ [] → with_right row_family (inner ls (parts_of ps)) s (inner rs (parts_of qs)) ≡ Ok (one (inner (keys ++ rs) (parts_of (ps ++ qs))))
+  part_right_one few is_keys =
       let counted = length-map qs part_of in
       inner_right_one ls rs s (map part_of ps) (map part_of qs) (omega arith)
-      ∙ rw (node, is_all, is_keys, is_trees, map-append part_of ps qs, append_assoc ls (s ∷ []) rs) refl
+      ∙ rw (is_keys, map-append part_of ps qs, append_assoc ls (s ∷ []) rs) refl
 
-module _ (ls rs left_keys right_keys : List (List ℕ)) (s key : List ℕ) (ps qs left right : List PartTree) (p q : PartTree) where
-  pub part_left_two : 8 < length ps → left_keys ≡ take (length ls - 1) ls → key ≡ get_or ls (length ls - 1) [] → right_keys ≡ s ∷ rs
-      → left ≡ take (length ps - 1) ps → right ≡ drop (length ps - 1) ps ++ qs → part_of p ≡ inner left_keys (parts_of left) → part_of q ≡ inner right_keys (parts_of right)
-      → with_left row_family (inner ls (parts_of ps)) s (inner rs (parts_of qs)) ≡ Ok (two (part_of p) key (part_of q))
-  part_left_two many is_left_keys is_key is_right_keys is_left is_right node other =
+  pub part_left_two : 8 < length ps → length ls + 1 ≡ length ps → keys ≡ s ∷ rs → with_left row_family (inner ls (parts_of ps)) s (inner rs (parts_of qs))
+      ≡ Ok (two (inner (take (length ls - 1) ls) (parts_of (take (length ls) ps))) (get_or ls (length ls - 1) []) (inner keys (parts_of (drop (length ls) ps ++ qs))))
+  part_left_two many between is_keys =
       let counted = length-map ps part_of in
+      let kept : length (map part_of ps) - 1 ≡ length ls = omega arith in
       inner_left_two ls rs s (map part_of ps) (map part_of qs) (omega arith)
-      ∙ rw (counted, node, other, is_left_keys, is_key, is_right_keys, is_left, is_right, map-append part_of (drop (length ps - 1) ps) qs, take-map part_of (length ps - 1) ps, drop-map part_of (length ps - 1) ps) refl
+      ∙ rw (kept, is_keys, map-append part_of (drop (length ls) ps) qs, take-map part_of (length ls) ps, drop-map part_of (length ls) ps) refl
 
-  pub part_right_two : 8 < length qs → left_keys ≡ ls ++ s ∷ [] → key ≡ get_or rs 0 [] → right_keys ≡ drop 1 rs
-      → left ≡ ps ++ take 1 qs → right ≡ drop 1 qs → part_of p ≡ inner left_keys (parts_of left) → part_of q ≡ inner right_keys (parts_of right)
-      → with_right row_family (inner ls (parts_of ps)) s (inner rs (parts_of qs)) ≡ Ok (two (part_of p) key (part_of q))
-  part_right_two many is_left_keys is_key is_right_keys is_left is_right node other =
+  pub part_right_two : 8 < length qs → keys ≡ ls ++ s ∷ [] → with_right row_family (inner ls (parts_of ps)) s (inner rs (parts_of qs))
+      ≡ Ok (two (inner keys (parts_of (ps ++ take 1 qs))) (get_or rs 0 []) (inner (drop 1 rs) (parts_of (drop 1 qs))))
+  part_right_two many is_keys =
       let counted = length-map qs part_of in
       inner_right_two ls rs s (map part_of ps) (map part_of qs) (omega arith)
-      ∙ rw (node, other, is_left_keys, is_key, is_right_keys, is_left, is_right, map-append part_of ps (take 1 qs), take-map part_of 1 qs, drop-map part_of 1 qs) refl
-
--- two neighbours have become this
-
-module _ (place : ℕ) (ss keys between : List (List ℕ)) (ps trees new : List PartTree) (grown : Grown PartTree (List ℕ)) where
-  all_trees : trees ≡ take place ps ++ new ++ drop (place + 2) ps → map part_of trees ≡ take place (map part_of ps) ++ map part_of new ++ drop (place + 2) (map part_of ps)
-  all_trees all = ap (map part_of) all ∙ map_spliced part_of ps new place (place + 2)
-
-  pub one_paired : (tree : PartTree) → grown ≡ One tree → between ≡ [] → keys ≡ take place ss ++ between ++ drop (place + 1) ss → new ≡ tree ∷ []
-      → trees ≡ take place ps ++ new ++ drop (place + 2) ps → inner keys (parts_of trees) ≡ node_of (paired place ss (map part_of ps) (grown_part grown))
-  one_paired tree is nothing is_keys alone all =
-      rw (is, is_keys, nothing, all_trees all, alone, append_assoc (take place (map part_of ps)) (part_of tree ∷ []) (drop (place + 2) (map part_of ps)), append-nil (take place ss)) refl
-
-  pub two_paired : (left right : PartTree) (key : List ℕ) → grown ≡ Two left key right → between ≡ key ∷ [] → keys ≡ take place ss ++ between ++ drop (place + 1) ss → new ≡ left ∷ right ∷ []
-      → trees ≡ take place ps ++ new ++ drop (place + 2) ps → inner keys (parts_of trees) ≡ node_of (paired place ss (map part_of ps) (grown_part grown))
-  two_paired left right key is only is_keys both all =
-      rw (is, is_keys, only, all_trees all, both, append_assoc (take place ss) (key ∷ []) (drop (place + 1) ss), append_assoc (take place (map part_of ps)) (part_of left ∷ part_of right ∷ []) (drop (place + 2) (map part_of ps))) refl
+      ∙ rw (is_keys, map-append part_of ps (take 1 qs), take-map part_of 1 qs, drop-map part_of 1 qs) refl
 
 -- a child is put in its place again
-pub child_put : (place : ℕ) (ss keys : List (List ℕ)) (ps trees new : List PartTree) (p : PartTree) → keys ≡ ss → new ≡ p ∷ [] → trees ≡ take place ps ++ new ++ drop (place + 1) ps
+pub child_put : (place : ℕ) (ss keys : List (List ℕ)) (ps trees : List PartTree) (p : PartTree) → keys ≡ ss → trees ≡ take place ps ++ p ∷ drop (place + 1) ps
     → inner keys (parts_of trees) ≡ node_of (placed place ss (map part_of ps) (one (part_of p)))
-child_put place ss keys ps trees new p same alone all =
-    rw (same, ap (map part_of) all ∙ map_spliced part_of ps new place (place + 1), alone, append_assoc (take place (map part_of ps)) (part_of p ∷ []) (drop (place + 1) (map part_of ps))) refl
+child_put place ss keys ps trees p same all = rw (same, ap (map part_of) all ∙ map_put part_of ps p place (place + 1)) refl
 
 -- a later child and the one before it
 pub left_joins : (place : ℕ) (ss : List (List ℕ)) (ps : List PartTree) (left : PartTree) (key : List ℕ) (p : RowTree) (r : Result (inserts.Grown PartEntry (Unit {0})) UpdateFault) → place < length ss → place < length ps

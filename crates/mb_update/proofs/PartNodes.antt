@@ -19,23 +19,6 @@ use Rattle.mb_update.proofs.Splitting.{node_whole, node_split}
 pub child_at : (ps : List PartTree) (place : ℕ) (p : PartTree) → place < length ps → p ≡ get_or ps place p → part_of p ≡ get_or (map part_of ps) place (part_of p)
 child_at ps place p lt is = ap part_of is ∙ sym (get_or-map part_of ps place p (part_of p) lt)
 
--- the node's keys and children after its child has become this
-module _ (place : ℕ) (ss keys : List (List ℕ)) (ps trees new : List PartTree) (grown : Grown PartTree (List ℕ)) where
-  pub one_placed : (tree : PartTree) → grown ≡ One tree → keys ≡ ss → new ≡ tree ∷ [] → trees ≡ take place ps ++ new ++ drop (place + 1) ps
-      → placed place ss (map part_of ps) (grown_part grown) ≡ children_of keys (map part_of trees)
-  one_placed tree is same alone all =
-      let spliced = ap (map part_of) all ∙ map_spliced part_of ps new place (place + 1) in
-      rw (is, same, spliced, alone) (ap (children_of ss) (sym (append_assoc (take place (map part_of ps)) (part_of tree ∷ []) (drop (place + 1) (map part_of ps)))))
-
-  pub two_placed : (left right : PartTree) (key : List ℕ) (between : List (List ℕ)) → grown ≡ Two left key right → between ≡ key ∷ []
-      → keys ≡ take place ss ++ between ++ drop place ss → new ≡ left ∷ right ∷ [] → trees ≡ take place ps ++ new ++ drop (place + 1) ps
-      → placed place ss (map part_of ps) (grown_part grown) ≡ children_of keys (map part_of trees)
-  two_placed left right key between is only same both all =
-      let spliced = ap (map part_of) all ∙ map_spliced part_of ps new place (place + 1) in
-      rw (is, same, only, spliced, both) (
-      ap (λ l. children_of l (take place (map part_of ps) ++ part_of left ∷ part_of right ∷ drop (place + 1) (map part_of ps))) (sym (append_assoc (take place ss) (key ∷ []) (drop place ss)))
-      ∙ ap (children_of (take place ss ++ (key ∷ []) ++ drop place ss)) (sym (append_assoc (take place (map part_of ps)) (part_of left ∷ part_of right ∷ []) (drop (place + 1) (map part_of ps)))))
-
 -- a node that isn't split, and one that is
 pub part_whole : (ss : List (List ℕ)) (ps : List PartTree) (p : PartTree) → length ps ≤ 16 → part_of p ≡ inner ss (parts_of ps)
     → split_inner row_family (children_of ss (map part_of ps)) ≡ one (part_of p)
@@ -43,12 +26,11 @@ part_whole ss ps p few is =
     let counted = length-map ps part_of in
     node_whole ss (map part_of ps) (omega arith) ∙ ap one (sym is)
 
-pub part_split : (ss : List (List ℕ)) (ps : List PartTree) (h : Halves (List ℕ) PartTree) (p q : PartTree) → length ss + 1 ≡ length ps → 16 < length ps → AreHalves h ss ps
-    → part_of p ≡ inner h.before.items (parts_of h.left.items) → part_of q ≡ inner h.after.items (parts_of h.right.items)
-    → split_inner row_family (children_of ss (map part_of ps)) ≡ two (part_of p) h.key (part_of q)
-part_split ss ps h p q between many halved is_p is_q =
+pub part_split : (ss : List (List ℕ)) (ps : List PartTree) (h : Halves (List ℕ) PartTree) → length ss + 1 ≡ length ps → 16 < length ps → AreHalves h ss ps
+    → split_inner row_family (children_of ss (map part_of ps)) ≡ two (inner h.before.items (parts_of h.left.items)) h.key (inner h.after.items (parts_of h.right.items))
+part_split ss ps h between many halved =
     let counted = length-map ps part_of in
     let cut = cut_keys ss h.before.items h.key (omega arith) halved.first_keys in
     let more_than : 16 < length (map part_of ps) = omega arith in
     node_split ss (map part_of ps) more_than
-    ∙ rw (cut.before, cut.between, take-map part_of 8 ps, drop-map part_of 8 ps, is_p, is_q, halved.last_keys, halved.first, halved.last) refl
+    ∙ rw (cut.before, cut.between, take-map part_of 8 ps, drop-map part_of 8 ps, halved.last_keys, halved.first, halved.last) refl

@@ -1,5 +1,5 @@
 -- What changes of trees answer.
-use Rattle.std.specs.Prelude.{◌≡◌, ℕ, List, Result, Ok, Err}
+use Rattle.std.specs.Prelude.{◌≡◌, ℕ, List, [], ◌∷◌, Result, Ok, Err}
 use Rattle.std.specs.declared.rc.Rc.{Rc}
 use Rattle.std.specs.declared.alloc.Global.{Global}
 use Rattle.vo_spec.specs.declared.cells.PartEntry.{PartEntry}
@@ -26,6 +26,15 @@ ChangesTo seen (Err Memory) right = Unit {0}
 abbrev pub grown_by : {N S : Type 0} → (N → RowTree) → (S → List ℕ) → Grown N S → inserts.Grown PartEntry (Unit {0})
 grown_by node separator (One t) = inserts.one (node t)
 grown_by node separator (Two left key right) = inserts.two (node left) (separator key) (node right)
+
+-- its nodes, and the separators between them
+abbrev pub nodes_of : {N S : Type 0} → Grown N S → List N
+nodes_of (One t) = t ∷ []
+nodes_of (Two left key right) = left ∷ right ∷ []
+
+abbrev pub separators_of : {N S : Type 0} → Grown N S → List S
+separators_of (One t) = []
+separators_of (Two left key right) = key ∷ []
 
 -- of a part of a tree
 abbrev pub grown_part : Grown PartTree (List ℕ) → inserts.Grown PartEntry (Unit {0})

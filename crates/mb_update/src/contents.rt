@@ -6,8 +6,8 @@ ghost use Rattle.vo_spec.specs.Fits.{FitsKey, FitsPart, most_in_node};
 ghost use Rattle.mb_tree.specs.Whole.{whole_of, value_of};
 ghost use Rattle.mb_update.specs.Contents.{size_of, IsWithin};
 
-use crate::sharing::spliced_keys;
-use crate::splicing::{all_again, spliced};
+use crate::sharing::shared_keys;
+use crate::splicing::all_again;
 use mb_tree::{Branch, Node};
 use std::alloc::{AllocError, Global};
 use std::rc::Rc;
@@ -34,7 +34,7 @@ pub fn share_node(alloc: Global, node: &Node) -> Result<Node, AllocError>
             separators,
             children,
         } => {
-            let separators = spliced_keys(alloc, separators, 0, 0, Vec::new(alloc))?;
+            let separators = shared_keys(alloc, separators)?;
             let children = all_again(alloc, children)?;
             Ok(Node::Inner {
                 separators,

@@ -16,8 +16,8 @@ use std::rc::Rc;
 use vo_spec::{Key, UpdateFault};
 
 /// The entries or children of both, with the separator that stood between them.
-pub fn join(first: Node, separator: Rc<Key>, second: Node) -> Result<Node, UpdateFault>
-    ensures { ChangesTo whole_of result (joined (whole_of first) separator.value (whole_of second)) }
+pub fn join(first: Node, separator: &Rc<Key>, second: Node) -> Result<Node, UpdateFault>
+    ensures { ChangesTo whole_of result (joined (whole_of first) separator.now.value (whole_of second)) }
 {
     match first {
         Node::Leaf(entries) => match second {
@@ -46,14 +46,14 @@ pub fn join(first: Node, separator: Rc<Key>, second: Node) -> Result<Node, Updat
 
 fn joined_keys(
     before: Vec<Rc<Key>>,
-    key: Rc<Key>,
+    key: &Rc<Key>,
     after: Vec<Rc<Key>>,
 ) -> Result<Vec<Rc<Key>>, AllocError>
-    ensures { IfOk result (λ keys. map value_of keys.items ≡ map value_of before.items ++ key.value ∷ map value_of after.items) }
+    ensures { IfOk result (λ keys. map value_of keys.items ≡ map value_of before.items ++ key.now.value ∷ map value_of after.items) }
 {
     let mut keys = before;
-    keys.push(key)?;
-    Ok(appended(keys, after)?)
+    keys.push(key.clone()?)?;
+    appended(keys, after)
 }
 
 /// Two nodes of these contents, the left one with so many entries or children.

@@ -11,7 +11,7 @@ ghost use Rattle.mb_update.specs.Settling.{divided};
 
 use crate::grown::Grown;
 use crate::places::{has_key, place_for};
-use crate::splicing::spliced;
+use crate::splicing::with_one;
 use mb_tree::{Branch, TreeEntry};
 use std::alloc::{AllocError, Global};
 use std::rc::Rc;
@@ -43,9 +43,7 @@ fn with_entry(
     ensures count { IfOk result (λ all. length all.items ≡ length entries.now + 1) }
 {
     let place = place_for(entries, entry.key().as_bytes());
-    let new = vec![in alloc; entry.share()?]?;
-    let all = spliced(alloc, entries, place, place, new)?;
-    Ok(all)
+    with_one(alloc, entries, place, place, entry.share()?)
 }
 
 fn split_leaf(alloc: Global, entries: Vec<TreeEntry>) -> Result<Grown<Branch, Rc<Key>>, AllocError>

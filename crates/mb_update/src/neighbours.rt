@@ -31,7 +31,7 @@ pub fn with_left(
 {
     let neighbour = size(left.node());
     let first = share_node(alloc, left.node())?;
-    match join(first, separator.clone()?, node) {
+    match join(first, separator, node) {
         Ok(all) => Ok(even(alloc, all, neighbour, neighbour.saturating_sub(1))?),
         Err(fault) => Err(fault),
     }
@@ -52,7 +52,7 @@ pub fn with_right(
     let place = size(&node) + 1;
     let neighbour = size(right.node());
     let second = share_node(alloc, right.node())?;
-    match join(node, separator.clone()?, second) {
+    match join(node, separator, second) {
         Ok(all) => Ok(even(alloc, all, neighbour, place)?),
         Err(fault) => Err(fault),
     }

@@ -1,5 +1,5 @@
 //! Insertion into an inner node.
-ghost use Rattle.std.specs.Prelude.{◌≡◌, ◌≤◌, ◌<◌, ◌+◌, ◌∷◌, ◌++◌, length, map, take, drop, IfOk, All};
+ghost use Rattle.std.specs.Prelude.{◌≡◌, ◌≤◌, ◌<◌, ◌+◌, length, map, IfOk, All};
 ghost use Rattle.std.specs.List.{position_or_len};
 ghost use Rattle.vo_spec.specs.Values.{key_lt as is_less};
 ghost use Rattle.vo_spec.specs.Fits.{FitsKey, most_in_node};
@@ -11,9 +11,9 @@ ghost use Rattle.mb_update.specs.Changing.{IsGrown, FitsGrown, grown_of};
 ghost use Rattle.mb_update.specs.Placing.{placed, children_of};
 ghost use Rattle.mb_update.specs.Settling.{divided};
 
-use crate::grown::Grown;
+use crate::grown::{Grown, into_lists};
 use crate::halving::cut;
-use crate::sharing::share_keys;
+use crate::sharing::spliced_keys;
 use crate::splicing::spliced;
 use mb_tree::Branch;
 use std::alloc::{AllocError, Global};
@@ -21,7 +21,6 @@ use std::rc::Rc;
 use vo_spec::Key;
 
 /// What comes in the node's place when this comes in that of the child with this number.
-#[tactic(auto, using(crate::proofs::KeyLists::keys_put))]
 pub fn put_grown(
     alloc: Global,
     separators: &[Rc<Key>],
@@ -37,49 +36,10 @@ pub fn put_grown(
     requires fits { FitsGrown grown }
     ensures { IfOk result (λ node. IsGrown node (split row_family (placed place (map value_of separators.now) children.now (grown_of grown)))) }
 {
-    match grown {
-        Grown::One(branch) => {
-            let keys = keys_of(alloc, separators)?;
-            let new = vec![in alloc; branch]?;
-            let branches = spliced(alloc, children, place, place + 1, new)?;
-            split_inner(alloc, keys, branches)
-        },
-        Grown::Two(left, key, right) => {
-            let keys = keys_with(alloc, separators, place, key)?;
-            let new = vec![in alloc; left, right]?;
-            let branches = spliced(alloc, children, place, place + 1, new)?;
-            split_inner(alloc, keys, branches)
-        },
-    }
-}
-
-fn keys_of(alloc: Global, separators: &[Rc<Key>]) -> Result<Vec<Rc<Key>>, AllocError>
-    ensures value { IfOk result (λ keys. map value_of keys.items ≡ map value_of separators.now) }
-    ensures count { IfOk result (λ keys. length keys.items ≡ length separators.now) }
-{
-    let mut keys = Vec::with_capacity(alloc, separators.len())?;
-    share_keys(separators, &mut keys)?;
-    Ok(keys)
-}
-
-#[tactic(auto, using(crate::proofs::KeyLists::keys_take, crate::proofs::KeyLists::keys_drop, crate::proofs::KeyLists::keys_around, crate::proofs::KeyLists::count_keys))]
-fn keys_with(
-    alloc: Global,
-    separators: &[Rc<Key>],
-    place: usize,
-    key: Rc<Key>,
-) -> Result<Vec<Rc<Key>>, AllocError>
-    requires at { place ≤ length separators.now }
-    requires most { length separators.now ≤ most_in_node }
-    ensures value { IfOk result (λ keys. map value_of keys.items
-        ≡ take place (map value_of separators.now) ++ key.value ∷ drop place (map value_of separators.now)) }
-    ensures count { IfOk result (λ keys. length keys.items ≡ length separators.now + 1) }
-{
-    let mut keys = Vec::with_capacity(alloc, separators.len() + 1)?;
-    share_keys(&separators[..place], &mut keys)?;
-    keys.push(key)?;
-    share_keys(&separators[place..], &mut keys)?;
-    Ok(keys)
+    let new = into_lists(alloc, grown)?;
+    let keys = spliced_keys(alloc, separators, place, place, new.separators)?;
+    let branches = spliced(alloc, children, place, place + 1, new.nodes)?;
+    split_inner(alloc, keys, branches)
 }
 
 #[tactic(auto, using(crate::proofs::Splitting::node_whole))]

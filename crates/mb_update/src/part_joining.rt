@@ -8,10 +8,10 @@ ghost use Rattle.mb_update.specs.Placing.{placed, node_of};
 ghost use Rattle.mb_update.specs.Settling.{paired, joined_at, settled};
 ghost use Rattle.mb_update.specs.Shrunken.{shrunk_of};
 
-use crate::grown::Grown;
+use crate::grown::{Grown, into_lists};
 use crate::part_neighbours::{with_left, with_right};
 use crate::part_shrunk::Shrunk;
-use crate::splicing::{all_again, spliced};
+use crate::splicing::{all_again, spliced, with_one};
 use mb_tree::PartTree;
 use std::alloc::{AllocError, Global};
 use vo_spec::{KeyPart, UpdateFault};
@@ -52,9 +52,8 @@ pub fn put_child<'b>(
     requires at { place < length children.now }
     ensures { IfOk result (λ node. shrunk_of node ≡ node_of (placed place separators.now (map part_of children.now) (one (part_of child.entry)))) }
 {
+    let children = with_one(alloc, children, place, place + 1, child)?;
     let separators = all_again(alloc, separators)?;
-    let new = vec![in alloc; child]?;
-    let children = spliced(alloc, children, place, place + 1, new)?;
     Ok(Shrunk::Inner {
         separators,
         children,
@@ -113,25 +112,11 @@ fn put_pair<'b>(
     requires between { length separators.now + 1 ≡ length children.now }
     ensures { IfOk result (λ node. shrunk_of node ≡ node_of (paired place separators.now (map part_of children.now) (grown_part grown.entry))) }
 {
-    match grown {
-        Grown::One(tree) => {
-            let keys = spliced(alloc, separators, place, place + 1, Vec::new(alloc))?;
-            let new = vec![in alloc; tree]?;
-            let trees = spliced(alloc, children, place, place + 2, new)?;
-            Ok(Shrunk::Inner {
-                separators: keys,
-                children: trees,
-            })
-        },
-        Grown::Two(left, key, right) => {
-            let new = vec![in alloc; key]?;
-            let keys = spliced(alloc, separators, place, place + 1, new)?;
-            let new = vec![in alloc; left, right]?;
-            let trees = spliced(alloc, children, place, place + 2, new)?;
-            Ok(Shrunk::Inner {
-                separators: keys,
-                children: trees,
-            })
-        },
-    }
+    let new = into_lists(alloc, grown)?;
+    let separators = spliced(alloc, separators, place, place + 1, new.separators)?;
+    let children = spliced(alloc, children, place, place + 2, new.nodes)?;
+    Ok(Shrunk::Inner {
+        separators,
+        children,
+    })
 }

@@ -1,15 +1,16 @@
 //! Insertion into a leaf of a part of a tree.
-ghost use Rattle.std.specs.Prelude.{◌≡◌, ◌≤◌, ◌+◌, length, IfOk};
+ghost use Rattle.std.specs.Prelude.{◌≡◌, ◌<◌, ◌≤◌, ◌+◌, length, IfOk};
 ghost use Rattle.vo_spec.specs.Cells.{whole_cells, whole_entry};
 ghost use Rattle.vo_spec.specs.Parts.{leaf};
 ghost use Rattle.vo_spec.specs.Trees.{row_family};
 ghost use Rattle.vo_spec.specs.Fits.{most_in_node};
-ghost use Rattle.vo_spec.specs.Inserts.{grow, put_entry, split_leaf as split};
+ghost use Rattle.vo_spec.specs.Inserts.{grow, put_entry, split_leaf as split, two, first_key};
+ghost use Rattle.mb_tree.specs.View.{part_of};
 ghost use Rattle.mb_update.specs.Changing.{ChangesTo, grown_part};
 
 use crate::grown::Grown;
 use crate::places::{has_key, place_for};
-use crate::splicing::{Again, spliced};
+use crate::splicing::{Again, with_one};
 use mb_tree::PartTree;
 use std::alloc::{AllocError, Global};
 use vo_spec::{Cell, CellValue, KeyPart, List, PartEntry, Row, RowPart, UpdateFault, Value};
@@ -37,8 +38,7 @@ fn with_row<'b>(
     ensures { IfOk result (λ all. all.items ≡ put_entry row_family (whole_entry row.now) entries.now) }
 {
     let place = place_for(entries, row.key.as_bytes());
-    let new = vec![in alloc; entry_of(alloc, row)?]?;
-    spliced(alloc, entries, place, place, new)
+    with_one(alloc, entries, place, place, entry_of(alloc, row)?)
 }
 
 /// The row as an entry, with every cell shown.
@@ -69,12 +69,29 @@ fn split_leaf<'b>(
     ensures { IfOk result (λ grown. split row_family entries.entry.items ≡ grown_part grown) }
 {
     if entries.len() <= 16 {
-        return Ok(Grown::One(PartTree::Leaf(List::from_vec(entries))));
+        return Ok(Grown::One(leaf_of(entries)));
     }
     let mut left = entries;
     let right = left.split_off(8)?;
+    two_leaves(alloc, left, right)
+}
+
+/// Two leaves of these, with the key of the first of the right ones between them.
+pub fn two_leaves<'b>(
+    alloc: Global,
+    left: Vec<PartEntry<'b>>,
+    right: Vec<PartEntry<'b>>,
+) -> Result<Grown<PartTree<'b>, KeyPart<'b>>, AllocError>
+    requires { 0 < length right.items }
+    ensures { IfOk result (λ grown. grown_part grown ≡ two (leaf left.entry.items) (first_key row_family right.entry.items) (leaf right.entry.items)) }
+{
     let key = right[0].key.again(alloc)?;
-    let left = PartTree::Leaf(List::from_vec(left));
-    let right = PartTree::Leaf(List::from_vec(right));
-    Ok(Grown::Two(left, key, right))
+    Ok(Grown::Two(leaf_of(left), key, leaf_of(right)))
+}
+
+/// The leaf of these entries.
+pub fn leaf_of<'b>(entries: Vec<PartEntry<'b>>) -> PartTree<'b>
+    ensures { part_of result ≡ leaf entries.entry.items }
+{
+    PartTree::Leaf(List::from_vec(entries))
 }

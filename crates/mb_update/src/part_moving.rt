@@ -1,7 +1,7 @@
 //! Entries or children of two neighbours, one of whom is copied and the other moved.
 ghost use Rattle.std.specs.Prelude.{◌≡◌, ◌<◌, ◌-◌, ◌++◌, length, take, drop, IfOk};
 
-use crate::splicing::{Again, all_again, put_again};
+use crate::splicing::{Again, all_again, appended, put_again};
 use std::alloc::{AllocError, Global};
 
 /// What each of two neighbours has.
@@ -19,9 +19,20 @@ pub fn after_copied<T: Again + Drop>(
 ) -> Result<Vec<T>, AllocError>
     ensures { IfOk result (λ all. all.items ≡ left.now ++ right.items) }
 {
-    let mut right = right;
-    let mut all = all_again(alloc, left)?;
-    all.append(&mut right)?;
+    let copied = all_again(alloc, left)?;
+    appended(copied, right)
+}
+
+/// The left ones, and the right ones, copied.
+pub fn before_copied<T: Again + Drop>(
+    alloc: Global,
+    left: Vec<T>,
+    right: &[T],
+) -> Result<Vec<T>, AllocError>
+    ensures { IfOk result (λ all. all.items ≡ left.items ++ right.now) }
+{
+    let mut all = left;
+    put_again(alloc, right, &mut all)?;
     Ok(all)
 }
 
@@ -51,8 +62,7 @@ pub fn first_given<T: Again + Drop>(
     ensures left { IfOk result (λ pair. pair.left.items ≡ left.items ++ take 1 right.now) }
     ensures right { IfOk result (λ pair. pair.right.items ≡ drop 1 right.now) }
 {
-    let mut left = left;
-    put_again(alloc, &right[..1], &mut left)?;
+    let left = before_copied(alloc, left, &right[..1])?;
     let right = all_again(alloc, &right[1..])?;
     Ok(Pair { left, right })
 }

@@ -1,21 +1,23 @@
 //! A small node of a part of a tree and its neighbour.
-ghost use Rattle.std.specs.Prelude.{◌≡◌, ◌+◌, length, Ok, [], IfOk};
+ghost use Rattle.std.specs.Prelude.{◌≡◌, ◌<◌, ◌+◌, ◌-◌, ◌∷◌, ◌++◌, length, take, drop, slice_index_or, Ok, [], IfOk};
 ghost use Rattle.vo_spec.specs.Fits.{FitsPart};
 ghost use Rattle.vo_spec.specs.Parts.{leaf, inner};
 ghost use Rattle.vo_spec.specs.Trees.{row_family};
+ghost use Rattle.vo_spec.specs.Inserts.{two};
 ghost use Rattle.vo_spec.specs.Removes.{with_left as beside_left, with_right as beside_right};
 ghost use Rattle.mb_tree.specs.View.{part_of, parts_of};
 ghost use Rattle.mb_update.specs.Changing.{ChangesTo, grown_part};
 ghost use Rattle.mb_update.specs.Shrunken.{shrunk_of};
 
 use crate::grown::Grown;
-use crate::part_moving::{after_copied, first_given, last_given};
-use crate::part_nodes::inner_of;
+use crate::part_leaves::{leaf_of, two_leaves};
+use crate::part_merging::{inner_after, inner_again, inner_before};
+use crate::part_moving::{after_copied, before_copied, first_given, last_given};
 use crate::part_shrunk::Shrunk;
-use crate::splicing::{Again, all_again, put_again};
+use crate::splicing::{Again, alone, appended};
 use mb_tree::PartTree;
 use std::alloc::{AllocError, Global};
-use vo_spec::{KeyPart, List, PartEntry, UpdateFault};
+use vo_spec::{KeyPart, PartEntry, UpdateFault};
 
 /// What comes in the place of a small node and its left neighbour, with this key between them.
 #[tactic(auto, using(mb_tree::proofs::PartLaws::count_parts_of))]
@@ -66,8 +68,7 @@ fn leaf_with_left<'b>(
         return Ok(Grown::One(leaf_of(all)));
     }
     let pair = last_given(alloc, left, right)?;
-    let key = pair.right[0].key.again(alloc)?;
-    Ok(Grown::Two(leaf_of(pair.left), key, leaf_of(pair.right)))
+    two_leaves(alloc, pair.left, pair.right)
 }
 
 fn inner_with_left<'b>(
@@ -82,18 +83,44 @@ fn inner_with_left<'b>(
     ensures { IfOk result (λ grown. beside_left row_family (inner separators.now (parts_of children.now)) key.now (inner keys.entry.items (parts_of trees.entry.items))
         ≡ Ok (grown_part grown)) }
 {
-    let between = vec![in alloc; key.again(alloc)?]?;
-    let keys = after_copied(alloc, between.as_slice(), keys)?;
+    let keys = keys_after(alloc, key, keys)?;
     if children.len() <= 8 {
-        let keys = after_copied(alloc, separators, keys)?;
-        let trees = after_copied(alloc, children, trees)?;
-        return Ok(Grown::One(inner_of(keys, trees)));
+        return Ok(Grown::One(inner_after(alloc, separators, children, keys, trees)?));
     }
-    let pair = last_given(alloc, children, trees)?;
-    let last = separators.len() - 1;
-    let up = separators[last].again(alloc)?;
-    let rest = all_again(alloc, &separators[..last])?;
-    Ok(Grown::Two(inner_of(rest, pair.left), up, inner_of(keys, pair.right)))
+    last_child_given(alloc, separators, children, keys, trees)
+}
+
+/// The keys with this one before them.
+fn keys_after<'b>(
+    alloc: Global,
+    key: &KeyPart<'b>,
+    keys: Vec<KeyPart<'b>>,
+) -> Result<Vec<KeyPart<'b>>, AllocError>
+    ensures { IfOk result (λ all. all.items ≡ key.now ∷ keys.entry.items) }
+{
+    let first = alone(alloc, key.again(alloc)?)?;
+    appended(first, keys)
+}
+
+/// The last child of the left node goes to the right one, and the separator before it up.
+fn last_child_given<'b>(
+    alloc: Global,
+    separators: &[KeyPart<'b>],
+    children: &[PartTree<'b>],
+    keys: Vec<KeyPart<'b>>,
+    trees: Vec<PartTree<'b>>,
+) -> Result<Grown<PartTree<'b>, KeyPart<'b>>, AllocError>
+    requires between { length separators.now + 1 ≡ length children.now }
+    requires many { 1 < length children.now }
+    ensures { IfOk result (λ grown. grown_part grown ≡ two (inner (take (length separators.now - 1) separators.now) (parts_of (take (length separators.now) children.now)))
+        (slice_index_or separators.now (length separators.now - 1) [])
+        (inner keys.entry.items (parts_of (drop (length separators.now) children.now ++ trees.entry.items)))) }
+{
+    let kept = separators.len();
+    let left = inner_again(alloc, &separators[..kept - 1], &children[..kept])?;
+    let up = separators[kept - 1].again(alloc)?;
+    let right = inner_after(alloc, &[], &children[kept..], keys, trees)?;
+    Ok(Grown::Two(left, up, right))
 }
 
 /// What comes in the place of a small node and its right neighbour, with this key between them.
@@ -140,13 +167,11 @@ fn leaf_with_right<'b>(
     ensures { IfOk result (λ grown. beside_right row_family (leaf left.entry.items) [] (leaf right.now) ≡ Ok (grown_part grown)) }
 {
     if right.len() <= 8 {
-        let mut all = left;
-        put_again(alloc, right, &mut all)?;
+        let all = before_copied(alloc, left, right)?;
         return Ok(Grown::One(leaf_of(all)));
     }
     let pair = first_given(alloc, left, right)?;
-    let key = pair.right[0].key.again(alloc)?;
-    Ok(Grown::Two(leaf_of(pair.left), key, leaf_of(pair.right)))
+    two_leaves(alloc, pair.left, pair.right)
 }
 
 fn inner_with_right<'b>(
@@ -161,22 +186,42 @@ fn inner_with_right<'b>(
     ensures { IfOk result (λ grown. beside_right row_family (inner keys.entry.items (parts_of trees.entry.items)) key.now (inner separators.now (parts_of children.now))
         ≡ Ok (grown_part grown)) }
 {
-    let mut keys = keys;
-    keys.push(key.again(alloc)?)?;
+    let keys = keys_before(alloc, keys, key)?;
     if children.len() <= 8 {
-        let mut trees = trees;
-        put_again(alloc, separators, &mut keys)?;
-        put_again(alloc, children, &mut trees)?;
-        return Ok(Grown::One(inner_of(keys, trees)));
+        return Ok(Grown::One(inner_before(alloc, keys, trees, separators, children)?));
     }
-    let pair = first_given(alloc, trees, children)?;
-    let up = separators[0].again(alloc)?;
-    let rest = all_again(alloc, &separators[1..])?;
-    Ok(Grown::Two(inner_of(keys, pair.left), up, inner_of(rest, pair.right)))
+    first_child_given(alloc, keys, trees, separators, children)
 }
 
-fn leaf_of<'b>(entries: Vec<PartEntry<'b>>) -> PartTree<'b>
-    ensures { part_of result ≡ leaf entries.entry.items }
+/// The keys with this one after them.
+fn keys_before<'b>(
+    alloc: Global,
+    keys: Vec<KeyPart<'b>>,
+    key: &KeyPart<'b>,
+) -> Result<Vec<KeyPart<'b>>, AllocError>
+    ensures { IfOk result (λ all. all.items ≡ keys.entry.items ++ key.now ∷ []) }
 {
-    PartTree::Leaf(List::from_vec(entries))
+    let mut all = keys;
+    all.push(key.again(alloc)?)?;
+    Ok(all)
+}
+
+/// The first child of the right node goes to the left one, and the separator after it up.
+fn first_child_given<'b>(
+    alloc: Global,
+    keys: Vec<KeyPart<'b>>,
+    trees: Vec<PartTree<'b>>,
+    separators: &[KeyPart<'b>],
+    children: &[PartTree<'b>],
+) -> Result<Grown<PartTree<'b>, KeyPart<'b>>, AllocError>
+    requires between { length separators.now + 1 ≡ length children.now }
+    requires many { 1 < length children.now }
+    ensures { IfOk result (λ grown. grown_part grown ≡ two (inner keys.entry.items (parts_of (trees.entry.items ++ take 1 children.now)))
+        (slice_index_or separators.now 0 [])
+        (inner (drop 1 separators.now) (parts_of (drop 1 children.now)))) }
+{
+    let right = inner_again(alloc, &separators[1..], &children[1..])?;
+    let up = separators[0].again(alloc)?;
+    let left = inner_before(alloc, keys, trees, &[], &children[..1])?;
+    Ok(Grown::Two(left, up, right))
 }

@@ -3,14 +3,14 @@ ghost use Rattle.std.specs.Prelude.{◌≡◌, ◌≤◌, ◌<◌, ◌+◌, leng
 ghost use Rattle.vo_spec.specs.Fits.{most_in_node};
 ghost use Rattle.vo_spec.specs.Parts.{inner};
 ghost use Rattle.vo_spec.specs.Trees.{row_family};
-ghost use Rattle.vo_spec.specs.Inserts.{split_inner as split};
+ghost use Rattle.vo_spec.specs.Inserts.{split_inner as split, two};
 ghost use Rattle.mb_tree.specs.View.{part_of, parts_of};
 ghost use Rattle.mb_update.specs.Changing.{grown_part};
 ghost use Rattle.mb_update.specs.Placing.{placed, children_of};
 
-use crate::grown::Grown;
-use crate::halving::halve;
-use crate::splicing::{all_again, spliced};
+use crate::grown::{Grown, into_lists};
+use crate::halving::{Halves, halve};
+use crate::splicing::spliced;
 use mb_tree::{Nodes, PartTree};
 use std::alloc::{AllocError, Global};
 use vo_spec::{KeyPart, List};
@@ -28,21 +28,10 @@ pub fn put_grown<'b>(
     requires between { length separators.now + 1 ≡ length children.now }
     ensures { IfOk result (λ node. split row_family (placed place separators.now (map part_of children.now) (grown_part grown.entry)) ≡ grown_part node) }
 {
-    match grown {
-        Grown::One(tree) => {
-            let keys = all_again(alloc, separators)?;
-            let new = vec![in alloc; tree]?;
-            let trees = spliced(alloc, children, place, place + 1, new)?;
-            split_inner(keys, trees)
-        },
-        Grown::Two(left, key, right) => {
-            let new = vec![in alloc; key]?;
-            let keys = spliced(alloc, separators, place, place, new)?;
-            let new = vec![in alloc; left, right]?;
-            let trees = spliced(alloc, children, place, place + 1, new)?;
-            split_inner(keys, trees)
-        },
-    }
+    let new = into_lists(alloc, grown)?;
+    let keys = spliced(alloc, separators, place, place, new.separators)?;
+    let trees = spliced(alloc, children, place, place + 1, new.nodes)?;
+    split_inner(keys, trees)
 }
 
 fn split_inner<'b>(
@@ -55,10 +44,17 @@ fn split_inner<'b>(
     if children.len() <= 16 {
         return Ok(Grown::One(inner_of(separators, children)));
     }
-    let halves = halve(separators, children)?;
+    Ok(two_of(halve(separators, children)?))
+}
+
+/// The two nodes of these halves.
+fn two_of<'b>(halves: Halves<KeyPart<'b>, PartTree<'b>>) -> Grown<PartTree<'b>, KeyPart<'b>>
+    ensures { grown_part result ≡ two (inner halves.entry.before.items (parts_of halves.entry.left.items)) halves.entry.key
+        (inner halves.entry.after.items (parts_of halves.entry.right.items)) }
+{
     let left = inner_of(halves.before, halves.left);
     let right = inner_of(halves.after, halves.right);
-    Ok(Grown::Two(left, halves.key, right))
+    Grown::Two(left, halves.key, right)
 }
 
 /// The inner node of these separators and children.

@@ -9,8 +9,9 @@ ghost use Rattle.mb_update.specs.Sets.{change_of, FitsSets};
 
 use crate::ops::SetCell;
 use crate::part_joining::put_child;
+use crate::part_leaves::leaf_of;
 use crate::places::{place_for, place_of};
-use crate::splicing::{Again, all_again, spliced};
+use crate::splicing::{Again, all_again, with_one};
 use mb_tree::PartTree;
 use std::alloc::{AllocError, Global};
 use vo_spec::{Cell, CellValue, KeyPart, List, PartEntry, RowPart, UpdateFault};
@@ -97,9 +98,8 @@ fn leaf_with<'b>(
     requires { place < length entries.now }
     ensures { IfOk result (λ node. part_of node ≡ leaf (take place entries.now ++ entry.entry ∷ drop (place + 1) entries.now)) }
 {
-    let new = vec![in alloc; entry]?;
-    let entries = spliced(alloc, entries, place, place + 1, new)?;
-    Ok(PartTree::Leaf(List::from_vec(entries)))
+    let entries = with_one(alloc, entries, place, place + 1, entry)?;
+    Ok(leaf_of(entries))
 }
 
 /// The entry with these cells in its row, which must stand as cells.

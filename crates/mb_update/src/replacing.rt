@@ -16,7 +16,7 @@ use crate::ops::SetCell;
 use crate::places::{place_for, place_of};
 use crate::setting::set_cells;
 use crate::settling::with_child;
-use crate::splicing::spliced;
+use crate::splicing::with_one;
 use mb_tree::{Branch, Node, Tree, TreeEntry};
 use std::alloc::{AllocError, Global};
 use std::rc::Rc;
@@ -130,7 +130,6 @@ fn leaf_with(
     requires most { length entries.now ≤ most_in_node }
     ensures { IfOk result (λ branch. branch ≡ leaf (map whole_entry (take place entries.now ++ entry ∷ drop (place + 1) entries.now))) }
 {
-    let new = vec![in alloc; entry]?;
-    let all = spliced(alloc, entries, place, place + 1, new)?;
+    let all = with_one(alloc, entries, place, place + 1, entry)?;
     Branch::leaf(alloc, all)
 }

@@ -10,10 +10,10 @@ ghost use Rattle.mb_update.specs.Placing.{placed, node_of};
 ghost use Rattle.mb_update.specs.Settling.{paired, settled};
 
 use crate::contents::{close, size};
-use crate::grown::Grown;
+use crate::grown::{Grown, into_lists};
 use crate::neighbours::{with_left, with_right};
-use crate::sharing::spliced_keys;
-use crate::splicing::spliced;
+use crate::sharing::{shared_keys, spliced_keys};
+use crate::splicing::{spliced, with_one};
 use mb_tree::{Branch, Node};
 use std::alloc::{AllocError, Global};
 use std::rc::Rc;
@@ -58,9 +58,8 @@ pub fn with_child(
     requires at { place < length children.now }
     ensures { IfOk result (λ node. whole_of node ≡ node_of (placed place (map value_of separators.now) children.now (one child))) }
 {
-    let separators = spliced_keys(alloc, separators, 0, 0, Vec::new(alloc))?;
-    let new = vec![in alloc; child]?;
-    let children = spliced(alloc, children, place, place + 1, new)?;
+    let children = with_one(alloc, children, place, place + 1, child)?;
+    let separators = shared_keys(alloc, separators)?;
     Ok(Node::Inner {
         separators,
         children,
@@ -127,25 +126,11 @@ fn put_pair(
     requires fits { FitsGrown pair }
     ensures { IfOk result (λ node. whole_of node ≡ node_of (paired left (map value_of separators.now) children.now (grown_of pair))) }
 {
-    match pair {
-        Grown::One(branch) => {
-            let separators = spliced_keys(alloc, separators, left, left + 1, Vec::new(alloc))?;
-            let new = vec![in alloc; branch]?;
-            let children = spliced(alloc, children, left, left + 2, new)?;
-            Ok(Node::Inner {
-                separators,
-                children,
-            })
-        },
-        Grown::Two(first, key, second) => {
-            let key = vec![in alloc; key]?;
-            let separators = spliced_keys(alloc, separators, left, left + 1, key)?;
-            let new = vec![in alloc; first, second]?;
-            let children = spliced(alloc, children, left, left + 2, new)?;
-            Ok(Node::Inner {
-                separators,
-                children,
-            })
-        },
-    }
+    let new = into_lists(alloc, pair)?;
+    let separators = spliced_keys(alloc, separators, left, left + 1, new.separators)?;
+    let children = spliced(alloc, children, left, left + 2, new.nodes)?;
+    Ok(Node::Inner {
+        separators,
+        children,
+    })
 }

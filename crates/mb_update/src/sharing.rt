@@ -2,7 +2,7 @@
 ghost use Rattle.std.specs.Prelude.{◌≡◌, ◌≤◌, ◌++◌, length, map, take, drop, IfOk, OnOk};
 ghost use Rattle.mb_tree.specs.Whole.{value_of};
 
-use crate::splicing::Again;
+use crate::splicing::{Again, appended};
 use mb_tree::{Branch, TreeEntry};
 use std::alloc::{AllocError, Global};
 use std::rc::Rc;
@@ -30,6 +30,15 @@ pub fn share_keys(from: &[Rc<Key>], into: &mut Vec<Rc<Key>>) -> Result<(), Alloc
     Ok(())
 }
 
+/// These keys once more.
+pub fn shared_keys(alloc: Global, keys: &[Rc<Key>]) -> Result<Vec<Rc<Key>>, AllocError>
+    ensures { IfOk result (λ same. map value_of same.items ≡ map value_of keys.now) }
+{
+    let mut same = Vec::with_capacity(alloc, keys.len())?;
+    share_keys(keys, &mut same)?;
+    Ok(same)
+}
+
 /// The keys with those from `from` up to `to` exchanged for others.
 pub fn spliced_keys(
     alloc: Global,
@@ -43,10 +52,8 @@ pub fn spliced_keys(
     ensures { IfOk result (λ new. map value_of new.items
         ≡ take from (map value_of keys.now) ++ map value_of others.items ++ drop to (map value_of keys.now)) }
 {
-    let mut others = others;
-    let mut new = Vec::new(alloc);
-    share_keys(&keys[..from], &mut new)?;
-    new.append(&mut others)?;
+    let before = shared_keys(alloc, &keys[..from])?;
+    let mut new = appended(before, others)?;
     share_keys(&keys[to..], &mut new)?;
     Ok(new)
 }

@@ -1,5 +1,5 @@
 //! Lists with some of their items exchanged for others.
-ghost use Rattle.std.specs.Prelude.{◌≡◌, ◌≤◌, ◌++◌, length, take, drop, IfOk, OnOk};
+ghost use Rattle.std.specs.Prelude.{◌≡◌, ◌≤◌, [], ◌∷◌, ◌++◌, length, take, drop, IfOk, OnOk};
 
 use std::alloc::{AllocError, Global};
 
@@ -44,12 +44,46 @@ pub fn spliced<T: Again + Drop>(
     requires end { to ≤ length items.now }
     ensures { IfOk result (λ new. new.items ≡ take from items.now ++ others.items ++ drop to items.now) }
 {
-    let mut others = others;
-    let mut new = Vec::new(alloc);
-    put_again(alloc, &items[..from], &mut new)?;
-    new.append(&mut others)?;
+    let before = all_again(alloc, &items[..from])?;
+    let mut new = appended(before, others)?;
     put_again(alloc, &items[to..], &mut new)?;
     Ok(new)
+}
+
+/// The items with this in the place of those from `from` up to `to`.
+pub fn with_one<T: Again + Drop>(
+    alloc: Global,
+    items: &[T],
+    from: usize,
+    to: usize,
+    item: T,
+) -> Result<Vec<T>, AllocError>
+    requires order { from ≤ to }
+    requires end { to ≤ length items.now }
+    ensures { IfOk result (λ new. new.items ≡ take from items.now ++ item ∷ drop to items.now) }
+{
+    let mut new = all_again(alloc, &items[..from])?;
+    new.push(item)?;
+    put_again(alloc, &items[to..], &mut new)?;
+    Ok(new)
+}
+
+/// A list of one item.
+pub fn alone<T: Drop>(alloc: Global, item: T) -> Result<Vec<T>, AllocError>
+    ensures { IfOk result (λ list. list.items ≡ item ∷ []) }
+{
+    let mut list = Vec::new(alloc);
+    list.push(item)?;
+    Ok(list)
+}
+
+/// A list of two.
+pub fn both<T: Drop>(alloc: Global, first: T, second: T) -> Result<Vec<T>, AllocError>
+    ensures { IfOk result (λ list. list.items ≡ first ∷ second ∷ []) }
+{
+    let mut list = alone(alloc, first)?;
+    list.push(second)?;
+    Ok(list)
 }
 
 /// The items of both, those of the second after those of the first.

@@ -5,5 +5,5 @@ use Rattle.mb_update.proofs.part_leaves.with_row.Goals as goal
 
 pub returns : goal.returns
 returns c =
-    let put = put_spliced c.args.row.now c.args.entries.now c.place_for-place.result c.as_bytes.result.now c.in_ok-entry_of.field-0 _ c.place_for-place.ensures.place c.as_bytes.ensures c.in_ok-entry_of.ensures c.in_ok-new.ensures.items in
-    IfOk-weaker c.spliced.result _ _ (λ all h. h ∙ put) c.spliced.ensures
+    let put = put_spliced c.args.row.now c.args.entries.now c.place_for-place.result c.as_bytes.result.now c.in_ok-entry_of.field-0 c.place_for-place.ensures.place c.as_bytes.ensures c.in_ok-entry_of.ensures in
+    IfOk-weaker c.with_one.result _ _ (λ all h. h ∙ put) c.with_one.ensures

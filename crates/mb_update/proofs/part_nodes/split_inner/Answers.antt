@@ -1,4 +1,4 @@
-use Rattle.std.proofs.Common.{◌<◌, length, arith}
+use Rattle.std.proofs.Common.{◌<◌, length, sym, ◌∙◌, arith}
 use Rattle.mb_update.proofs.PartNodes.{part_whole, part_split}
 use Rattle.mb_update.proofs.part_nodes.split_inner.Goals as goal
 
@@ -8,4 +8,4 @@ returns-then-len-le16 c = part_whole c.args.separators.items c.args.children.ite
 pub returns : goal.returns
 returns c =
     let many : 16 < length c.args.children.items = omega arith in
-    part_split c.args.separators.items c.args.children.items c.in_ok-halves.halves _ _ c.requires many c.in_ok-halves.ensures c.inner_of-left.ensures c.inner_of-right.ensures
+    part_split c.args.separators.items c.args.children.items c.in_ok-halve.field-0 c.requires many c.in_ok-halve.ensures ∙ sym c.two_of.ensures
