@@ -45,13 +45,6 @@ keys_cut at ss front key some many e =
       between = cc;
     }
 
--- those of a node of 17 children
-abbrev pub CutKeys : List (List ℕ) → List (List ℕ) → List ℕ → Type 0
-CutKeys = KeysCut 7
-
-pub cut_keys : (ss front : List (List ℕ)) (key : List ℕ) → 8 ≤ length ss → take 8 ss ≡ front ++ key ∷ [] → CutKeys ss front key
-cut_keys ss front key many e = keys_cut 8 ss front key (omega arith) many e
-
 -- those of a whole tree, as the separator between two nodes and those before and after it
 pub record HalvedKeys {N : Type 0} (at : ℕ) (ks : Keys) (h : Halves (Rc (List ℕ) Global) N) : Type 0 where
   pub cut : KeysCut (at - 1) (map value_of ks) (map value_of h.before.items) h.key.value
@@ -62,7 +55,7 @@ pub record HalvedKeys {N : Type 0} (at : ℕ) (ks : Keys) (h : Halves (Rc (List 
   pub few : length h.before.items + 1 ≡ at
   pub rest : length h.after.items + at ≡ length ks
 
-pub halved_keys : {N : Type 0} (at : ℕ) (ks : Keys) (ts : List N) (h : Halves (Rc (List ℕ) Global) N) → 0 < at → at ≤ length ks → All FitsKey (map value_of ks) → AreCut at h ks ts → HalvedKeys at ks h
+pub halved_keys : {N : Type 0} (at : ℕ) (ks : Keys) (ts : List N) (h : Halves (Rc (List ℕ) Global) N) → 0 < at → at ≤ length ks → All FitsKey (map value_of ks) → AreCut at at h ks ts → HalvedKeys at ks h
 halved_keys at ks ts h some many fit halved =
     let counted = length-map ks value_of in
     let before = map value_of h.before.items in

@@ -12,7 +12,6 @@ use Rattle.mb_update.specs.declared.grown.Grown.TheVariants.{One, Two}
 use Rattle.mb_update.specs.Changing.{grown_by, nodes_of, separators_of, grown_part, GrownBranch, grown_of, FitsGrown}
 use Rattle.mb_update.specs.Placing.{placed, children_of}
 use Rattle.mb_update.specs.Settling.{paired}
-use Rattle.mb_update.proofs.KeyLists.{Keys}
 use Rattle.mb_update.proofs.KeyPlaces.{map_spliced}
 
 -- By lists.

@@ -1,18 +1,12 @@
 -- Inner nodes of parts of trees, by lists of their children.
-use Rattle.std.proofs.Common.{◌≡◌, ℕ, ◌+◌, ◌<◌, ◌≤◌, List, [], ◌∷◌, ◌++◌, length, map, take, drop, get_or, refl, sym, ap, ◌∙◌, arith, append_assoc}
+use Rattle.std.proofs.Common.{◌≡◌, ℕ, ◌<◌, ◌≤◌, List, [], length, map, take, drop, get_or, refl, sym, ap, ◌∙◌, arith}
 use Rattle.std.proofs.lemmas.List.{take-map, drop-map, length-map, get_or-map}
 use Rattle.mb_tree.specs.declared.parts.PartTree.{PartTree}
 use Rattle.mb_tree.specs.View.{part_of, parts_of}
 use Rattle.vo_spec.specs.Parts.{inner}
 use Rattle.vo_spec.specs.Trees.{row_family}
 use Rattle.vo_spec.specs.Inserts.{one, two, split_inner}
-use Rattle.mb_update.specs.declared.grown.Grown.{Grown}
-use Rattle.mb_update.specs.declared.grown.Grown.TheVariants.{One, Two}
-use Rattle.mb_update.specs.Changing.{grown_part}
-use Rattle.mb_update.specs.Placing.{placed, children_of, AreHalves}
-use Rattle.mb_update.specs.declared.halving.Halves.{Halves}
-use Rattle.mb_update.proofs.KeyLists.{cut_keys}
-use Rattle.mb_update.proofs.KeyPlaces.{map_spliced}
+use Rattle.mb_update.specs.Placing.{children_of}
 use Rattle.mb_update.proofs.Splitting.{node_whole, node_split}
 
 -- a child among the parts that its node has
@@ -26,11 +20,9 @@ part_whole ss ps p few is =
     let counted = length-map ps part_of in
     node_whole ss (map part_of ps) (omega arith) ∙ ap one (sym is)
 
-pub part_split : (ss : List (List ℕ)) (ps : List PartTree) (h : Halves (List ℕ) PartTree) → length ss + 1 ≡ length ps → 16 < length ps → AreHalves h ss ps
-    → split_inner row_family (children_of ss (map part_of ps)) ≡ two (inner h.before.items (parts_of h.left.items)) h.key (inner h.after.items (parts_of h.right.items))
-part_split ss ps h between many halved =
+pub part_split : (ss : List (List ℕ)) (ps : List PartTree) → 16 < length ps
+    → split_inner row_family (children_of ss (map part_of ps)) ≡ two (inner (take 7 ss) (parts_of (take 8 ps))) (get_or ss 7 []) (inner (drop 8 ss) (parts_of (drop 8 ps)))
+part_split ss ps many =
     let counted = length-map ps part_of in
-    let cut = cut_keys ss h.before.items h.key (omega arith) halved.first_keys in
     let more_than : 16 < length (map part_of ps) = omega arith in
-    node_split ss (map part_of ps) more_than
-    ∙ rw (cut.before, cut.between, take-map part_of 8 ps, drop-map part_of 8 ps, halved.last_keys, halved.first, halved.last) refl
+    node_split ss (map part_of ps) more_than ∙ rw (take-map part_of 8 ps, drop-map part_of 8 ps) refl

@@ -79,13 +79,13 @@ pub record HalvedCounts {S : Type 0} (at : ℕ) (ts : List RowTree) (h : Halves 
   pub first : length h.left.items ≡ at
   pub last : length h.right.items + at ≡ length ts
 
-pub halved_counts : {S : Type 0} {ss : List S} (at : ℕ) (ts : List RowTree) (h : Halves S RowTree) → at ≤ length ts → AreCut at h ss ts → HalvedCounts at ts h
+pub halved_counts : {S : Type 0} {ss : List S} (at : ℕ) (ts : List RowTree) (h : Halves S RowTree) → at ≤ length ts → AreCut at at h ss ts → HalvedCounts at ts h
 halved_counts at ts h many halved = record {
   first = omega (arith, ap length halved.first, length-take-le at ts many);
   last = omega (arith, ap length halved.last, length-drop at ts);
 }
 
-pub branch_cut : (at : ℕ) (ks : Keys) (ts : List RowTree) (h : Halves (Rc (List ℕ) Global) RowTree) (left right : RowTree) → HalvedKeys at ks h → AreCut at h ks ts
+pub branch_cut : (at : ℕ) (ks : Keys) (ts : List RowTree) (h : Halves (Rc (List ℕ) Global) RowTree) (left right : RowTree) → HalvedKeys at ks h → AreCut at at h ks ts
     → left ≡ inner (map value_of h.before.items) (open_parts h.left.items) → right ≡ inner (map value_of h.after.items) (open_parts h.right.items)
     → divided at (inner (map value_of ks) (open_parts ts)) ≡ two left h.key.value right
 branch_cut at ks ts h left right k halved is_left is_right =

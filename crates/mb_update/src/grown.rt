@@ -36,7 +36,8 @@ pub fn into_lists<N: Drop, S: Drop>(
     }
 }
 
-fn two_in_lists<N: Drop, S: Drop>(
+/// Two nodes, as lists.
+pub fn two_in_lists<N: Drop, S: Drop>(
     alloc: Global,
     left: N,
     key: S,

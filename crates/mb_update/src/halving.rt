@@ -1,7 +1,6 @@
-//! The halves of an inner node that has one child too many.
-ghost use Rattle.std.specs.Prelude.{◌≡◌, ◌+◌, ◌<◌, length, IfOk};
-ghost use Rattle.vo_spec.specs.Fits.{most_in_node};
-ghost use Rattle.mb_update.specs.Placing.{AreCut, AreHalves};
+//! An inner node cut into two.
+ghost use Rattle.std.specs.Prelude.{◌<◌, ◌≤◌, length, IfOk};
+ghost use Rattle.mb_update.specs.Placing.{AreCut};
 
 use std::alloc::AllocError;
 
@@ -15,33 +14,22 @@ pub struct Halves<S, N> {
     pub right: Vec<N>,
 }
 
-/// Eight of the children go left, the others right.
-pub fn halve<S: Drop, N: Drop>(
-    separators: Vec<S>,
-    children: Vec<N>,
-) -> Result<Halves<S, N>, AllocError>
-    requires between { length separators.items + 1 ≡ length children.items }
-    requires many { most_in_node < length children.items }
-    ensures { IfOk result (λ halves. AreHalves halves separators.items children.items) }
-{
-    cut(separators, children, 8)
-}
-
-/// So many of the children go left, the others right.
+/// So many of the children go left, and so many separators, of which the last goes between.
 pub fn cut<S: Drop, N: Drop>(
     separators: Vec<S>,
     children: Vec<N>,
+    keys: usize,
     at: usize,
 ) -> Result<Halves<S, N>, AllocError>
-    requires between { length separators.items + 1 ≡ length children.items }
-    requires some { 0 < at }
-    requires others { at < length children.items }
-    ensures { IfOk result (λ halves. AreCut at halves separators.items children.items) }
+    requires some { 0 < keys }
+    requires keys { keys ≤ length separators.items }
+    requires children { at ≤ length children.items }
+    ensures { IfOk result (λ halves. AreCut keys at halves separators.items children.items) }
 {
     let mut left = children;
     let right = left.split_off(at)?;
     let mut before = separators;
-    let after = before.split_off(at)?;
+    let after = before.split_off(keys)?;
     match before.pop() {
         Some(key) => Ok(Halves {
             before,

@@ -8,7 +8,7 @@ ghost use Rattle.vo_spec.specs.Inserts.{inserted, root_of as root_of_grown};
 ghost use Rattle.mb_update.specs.Changing.{ChangesTo, FitsGrown, grown_of};
 
 use crate::growing::grow;
-use crate::grown::Grown;
+use crate::grown::{Grown, two_in_lists};
 use mb_tree::{Branch, Tree, TreeEntry};
 use std::alloc::{AllocError, Global};
 use std::rc::Rc;
@@ -38,9 +38,8 @@ fn root_of(alloc: Global, grown: Grown<Branch, Rc<Key>>) -> Result<Branch, Alloc
     match grown {
         Grown::One(branch) => Ok(branch),
         Grown::Two(left, key, right) => {
-            let separators = vec![in alloc; key]?;
-            let children = vec![in alloc; left, right]?;
-            Branch::inner(alloc, separators, children)
+            let two = two_in_lists(alloc, left, key, right)?;
+            Branch::inner(alloc, two.separators, two.nodes)
         },
     }
 }

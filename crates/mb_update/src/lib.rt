@@ -17,7 +17,6 @@ mod part_growing;
 mod part_inserting;
 mod part_joining;
 mod part_leaves;
-mod part_merging;
 mod part_moving;
 mod part_neighbours;
 mod part_nodes;

@@ -75,7 +75,7 @@ pub fn cut_inner(
     requires keys { All FitsKey (map value_of separators.items) }
     ensures { IfOk result (λ grown. IsGrown grown (divided at (inner (map value_of separators.items) (open_parts children.items)))) }
 {
-    let halves = cut(separators, children, at)?;
+    let halves = cut(separators, children, at, at)?;
     let left = Branch::inner(alloc, halves.before, halves.left)?;
     let right = Branch::inner(alloc, halves.after, halves.right)?;
     Ok(Grown::Two(left, halves.key, right))

@@ -7,11 +7,12 @@ ghost use Rattle.vo_spec.specs.Inserts.{inserted, root_of as root_of_grown};
 ghost use Rattle.mb_tree.specs.View.{part_of};
 ghost use Rattle.mb_update.specs.Changing.{ChangesTo, grown_part};
 
-use crate::grown::Grown;
+use crate::grown::{Grown, two_in_lists};
 use crate::part_growing::grow;
-use mb_tree::{Nodes, PartTree};
+use crate::part_nodes::inner_of;
+use mb_tree::PartTree;
 use std::alloc::{AllocError, Global};
-use vo_spec::{KeyPart, List, Row, UpdateFault};
+use vo_spec::{KeyPart, Row, UpdateFault};
 
 /// The part with this row, of which every cell is shown: a copy of what of it is open.
 pub(crate) fn insert<'b>(
@@ -39,12 +40,8 @@ fn root_of<'b>(
     match grown {
         Grown::One(tree) => Ok(tree),
         Grown::Two(left, key, right) => {
-            let separators = vec![in alloc; key]?;
-            let children = vec![in alloc; left, right]?;
-            Ok(PartTree::Inner {
-                separators: List::from_vec(separators),
-                children: Nodes::from_vec(children),
-            })
+            let two = two_in_lists(alloc, left, key, right)?;
+            Ok(inner_of(two.separators, two.nodes))
         },
     }
 }

@@ -32,9 +32,27 @@ pub fn settle<'b>(
     requires fits { FitsEach FitsEntry (parts_of children.now) }
     ensures { ChangesTo shrunk_of result (result_map node_of (settled place separators.now (map part_of children.now) (shrunk_of child.entry))) }
 {
-    if !child.is_small() {
-        return Ok(put_child(alloc, separators, children, place, child.into_part())?);
+    if child.is_small() {
+        return join_neighbour(alloc, separators, children, place, child);
     }
+    Ok(put_child(alloc, separators, children, place, child.into_part())?)
+}
+
+/// The small child in the place of this number looks at its neighbour.
+fn join_neighbour<'b>(
+    alloc: Global,
+    separators: &[KeyPart<'b>],
+    children: &[PartTree<'b>],
+    place: usize,
+    child: Shrunk<'b>,
+) -> Result<Shrunk<'b>, UpdateFault>
+    requires at { place < length children.now }
+    requires least { 2 ≤ length children.now }
+    requires most { length children.now ≤ most_in_node }
+    requires between { length separators.now + 1 ≡ length children.now }
+    requires fits { FitsEach FitsEntry (parts_of children.now) }
+    ensures { ChangesTo shrunk_of result (result_map node_of (joined_at place separators.now (map part_of children.now) (shrunk_of child.entry))) }
+{
     if place == 0 {
         return join_right(alloc, separators, children, child);
     }
@@ -42,7 +60,7 @@ pub fn settle<'b>(
 }
 
 /// What the node has with this in the place of the child of this number.
-pub fn put_child<'b>(
+fn put_child<'b>(
     alloc: Global,
     separators: &[KeyPart<'b>],
     children: &[PartTree<'b>],
@@ -58,6 +76,21 @@ pub fn put_child<'b>(
         separators,
         children,
     })
+}
+
+/// The node with this in the place of the child of this number.
+pub fn node_with<'b>(
+    alloc: Global,
+    separators: &[KeyPart<'b>],
+    children: &[PartTree<'b>],
+    place: usize,
+    child: PartTree<'b>,
+) -> Result<PartTree<'b>, AllocError>
+    requires at { place < length children.now }
+    ensures { IfOk result (λ node. part_of node ≡ node_of (placed place separators.now (map part_of children.now) (one (part_of child.entry)))) }
+{
+    let node = put_child(alloc, separators, children, place, child)?;
+    Ok(node.into_part())
 }
 
 /// The small first child looks at the second one.

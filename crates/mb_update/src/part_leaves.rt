@@ -1,19 +1,21 @@
 //! Insertion into a leaf of a part of a tree.
-ghost use Rattle.std.specs.Prelude.{◌≡◌, ◌<◌, ◌≤◌, ◌+◌, length, IfOk};
+ghost use Rattle.std.specs.Prelude.{◌≡◌, ◌<◌, ◌≤◌, ◌+◌, ◌++◌, length, IfOk, OnOk};
 ghost use Rattle.vo_spec.specs.Cells.{whole_cells, whole_entry};
 ghost use Rattle.vo_spec.specs.Parts.{leaf};
 ghost use Rattle.vo_spec.specs.Trees.{row_family};
 ghost use Rattle.vo_spec.specs.Fits.{most_in_node};
 ghost use Rattle.vo_spec.specs.Inserts.{grow, put_entry, split_leaf as split, two, first_key};
 ghost use Rattle.mb_tree.specs.View.{part_of};
+ghost use Rattle.mb_update.specs.Settling.{divided};
 ghost use Rattle.mb_update.specs.Changing.{ChangesTo, grown_part};
 
+use crate::copying::{keyed, shown_cell};
 use crate::grown::Grown;
 use crate::places::{has_key, place_for};
 use crate::splicing::{Again, with_one};
 use mb_tree::PartTree;
 use std::alloc::{AllocError, Global};
-use vo_spec::{Cell, CellValue, KeyPart, List, PartEntry, Row, RowPart, UpdateFault, Value};
+use vo_spec::{Cell, KeyPart, List, PartEntry, Row, RowPart, UpdateFault, Value};
 
 /// What comes in the leaf's place with the row in it.
 pub fn grow_leaf<'b>(
@@ -45,21 +47,30 @@ fn with_row<'b>(
 fn entry_of<'b>(alloc: Global, row: &Row) -> Result<PartEntry<'b>, AllocError>
     ensures { IfOk result (λ entry. entry ≡ whole_entry row.now) }
 {
-    Ok(PartEntry {
-        key: KeyPart::owned(row.key.copy(alloc)?),
-        row: RowPart::Cells(cells_of(alloc, row.cells.as_slice())?),
-    })
+    let cells = cells_of(alloc, row.cells.as_slice())?;
+    keyed(alloc, row.key.as_bytes(), RowPart::Cells(cells))
 }
 
 fn cells_of<'b>(alloc: Global, values: &[Value]) -> Result<List<Cell<'b>>, AllocError>
     ensures { IfOk result (λ cells. cells ≡ whole_cells values.now) }
 {
     let mut cells = Vec::with_capacity(alloc, values.len())?;
-    for value in values {
-        let value = value.as_ref().to_value(alloc)?;
-        cells.push(Cell::Shown(CellValue::owned(value)))?;
-    }
+    put_shown(alloc, values, &mut cells)?;
     Ok(List::from_vec(cells))
+}
+
+/// Puts the values at the end, as cells that are shown.
+fn put_shown<'b>(
+    alloc: Global,
+    values: &[Value],
+    cells: &mut Vec<Cell<'b>>,
+) -> Result<(), AllocError>
+    ensures { OnOk result (cells.new.items ≡ cells.old.items ++ whole_cells values.now) }
+{
+    for value in values {
+        cells.push(shown_cell(alloc, value)?)?;
+    }
+    Ok(())
 }
 
 fn split_leaf<'b>(
@@ -71,13 +82,25 @@ fn split_leaf<'b>(
     if entries.len() <= 16 {
         return Ok(Grown::One(leaf_of(entries)));
     }
+    cut_leaf(alloc, entries, 8)
+}
+
+/// Two leaves of these entries, the left one with so many of them.
+pub fn cut_leaf<'b>(
+    alloc: Global,
+    entries: Vec<PartEntry<'b>>,
+    at: usize,
+) -> Result<Grown<PartTree<'b>, KeyPart<'b>>, AllocError>
+    requires { at < length entries.items }
+    ensures { IfOk result (λ grown. divided at (leaf entries.entry.items) ≡ grown_part grown) }
+{
     let mut left = entries;
-    let right = left.split_off(8)?;
+    let right = left.split_off(at)?;
     two_leaves(alloc, left, right)
 }
 
 /// Two leaves of these, with the key of the first of the right ones between them.
-pub fn two_leaves<'b>(
+fn two_leaves<'b>(
     alloc: Global,
     left: Vec<PartEntry<'b>>,
     right: Vec<PartEntry<'b>>,

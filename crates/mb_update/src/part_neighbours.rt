@@ -1,20 +1,19 @@
 //! A small node of a part of a tree and its neighbour.
-ghost use Rattle.std.specs.Prelude.{◌≡◌, ◌<◌, ◌+◌, ◌-◌, ◌∷◌, ◌++◌, length, take, drop, slice_index_or, Ok, [], IfOk};
+ghost use Rattle.std.specs.Prelude.{◌≡◌, ◌+◌, ◌∷◌, ◌++◌, length, Ok, [], IfOk};
 ghost use Rattle.vo_spec.specs.Fits.{FitsPart};
 ghost use Rattle.vo_spec.specs.Parts.{leaf, inner};
 ghost use Rattle.vo_spec.specs.Trees.{row_family};
-ghost use Rattle.vo_spec.specs.Inserts.{two};
 ghost use Rattle.vo_spec.specs.Removes.{with_left as beside_left, with_right as beside_right};
 ghost use Rattle.mb_tree.specs.View.{part_of, parts_of};
 ghost use Rattle.mb_update.specs.Changing.{ChangesTo, grown_part};
 ghost use Rattle.mb_update.specs.Shrunken.{shrunk_of};
 
 use crate::grown::Grown;
-use crate::part_leaves::{leaf_of, two_leaves};
-use crate::part_merging::{inner_after, inner_again, inner_before};
-use crate::part_moving::{after_copied, before_copied, first_given, last_given};
+use crate::part_leaves::{cut_leaf, leaf_of};
+use crate::part_moving::{after_copied, before_copied};
+use crate::part_nodes::{cut_inner, inner_of};
 use crate::part_shrunk::Shrunk;
-use crate::splicing::{Again, alone, appended};
+use crate::splicing::{Again, all_again, appended};
 use mb_tree::PartTree;
 use std::alloc::{AllocError, Global};
 use vo_spec::{KeyPart, PartEntry, UpdateFault};
@@ -63,12 +62,12 @@ fn leaf_with_left<'b>(
 ) -> Result<Grown<PartTree<'b>, KeyPart<'b>>, AllocError>
     ensures { IfOk result (λ grown. beside_left row_family (leaf left.now) [] (leaf right.entry.items) ≡ Ok (grown_part grown)) }
 {
-    if left.len() <= 8 {
-        let all = after_copied(alloc, left, right)?;
+    let neighbour = left.len();
+    let all = after_copied(alloc, left, right)?;
+    if neighbour <= 8 {
         return Ok(Grown::One(leaf_of(all)));
     }
-    let pair = last_given(alloc, left, right)?;
-    two_leaves(alloc, pair.left, pair.right)
+    cut_leaf(alloc, all, neighbour - 1)
 }
 
 fn inner_with_left<'b>(
@@ -83,44 +82,39 @@ fn inner_with_left<'b>(
     ensures { IfOk result (λ grown. beside_left row_family (inner separators.now (parts_of children.now)) key.now (inner keys.entry.items (parts_of trees.entry.items))
         ≡ Ok (grown_part grown)) }
 {
-    let keys = keys_after(alloc, key, keys)?;
+    let keys = keys_after(alloc, separators, key, keys)?;
+    let trees = after_copied(alloc, children, trees)?;
     if children.len() <= 8 {
-        return Ok(Grown::One(inner_after(alloc, separators, children, keys, trees)?));
+        return Ok(Grown::One(inner_of(keys, trees)));
     }
-    last_child_given(alloc, separators, children, keys, trees)
+    cut_inner(keys, trees, separators.len(), children.len() - 1)
 }
 
-/// The keys with this one before them.
+/// The left keys, copied, this one and the right ones.
 fn keys_after<'b>(
     alloc: Global,
+    left: &[KeyPart<'b>],
     key: &KeyPart<'b>,
-    keys: Vec<KeyPart<'b>>,
+    right: Vec<KeyPart<'b>>,
 ) -> Result<Vec<KeyPart<'b>>, AllocError>
-    ensures { IfOk result (λ all. all.items ≡ key.now ∷ keys.entry.items) }
+    ensures { IfOk result (λ all. all.items ≡ left.now ++ key.now ∷ right.entry.items) }
 {
-    let first = alone(alloc, key.again(alloc)?)?;
-    appended(first, keys)
+    let before = all_again(alloc, left)?;
+    let before = with_key(alloc, before, key)?;
+    appended(before, right)
 }
 
-/// The last child of the left node goes to the right one, and the separator before it up.
-fn last_child_given<'b>(
+/// The keys and this one after them.
+fn with_key<'b>(
     alloc: Global,
-    separators: &[KeyPart<'b>],
-    children: &[PartTree<'b>],
     keys: Vec<KeyPart<'b>>,
-    trees: Vec<PartTree<'b>>,
-) -> Result<Grown<PartTree<'b>, KeyPart<'b>>, AllocError>
-    requires between { length separators.now + 1 ≡ length children.now }
-    requires many { 1 < length children.now }
-    ensures { IfOk result (λ grown. grown_part grown ≡ two (inner (take (length separators.now - 1) separators.now) (parts_of (take (length separators.now) children.now)))
-        (slice_index_or separators.now (length separators.now - 1) [])
-        (inner keys.entry.items (parts_of (drop (length separators.now) children.now ++ trees.entry.items)))) }
+    key: &KeyPart<'b>,
+) -> Result<Vec<KeyPart<'b>>, AllocError>
+    ensures { IfOk result (λ all. all.items ≡ keys.entry.items ++ key.now ∷ []) }
 {
-    let kept = separators.len();
-    let left = inner_again(alloc, &separators[..kept - 1], &children[..kept])?;
-    let up = separators[kept - 1].again(alloc)?;
-    let right = inner_after(alloc, &[], &children[kept..], keys, trees)?;
-    Ok(Grown::Two(left, up, right))
+    let mut all = keys;
+    all.push(key.again(alloc)?)?;
+    Ok(all)
 }
 
 /// What comes in the place of a small node and its right neighbour, with this key between them.
@@ -166,12 +160,12 @@ fn leaf_with_right<'b>(
 ) -> Result<Grown<PartTree<'b>, KeyPart<'b>>, AllocError>
     ensures { IfOk result (λ grown. beside_right row_family (leaf left.entry.items) [] (leaf right.now) ≡ Ok (grown_part grown)) }
 {
+    let place = left.len() + 1;
+    let all = before_copied(alloc, left, right)?;
     if right.len() <= 8 {
-        let all = before_copied(alloc, left, right)?;
         return Ok(Grown::One(leaf_of(all)));
     }
-    let pair = first_given(alloc, left, right)?;
-    two_leaves(alloc, pair.left, pair.right)
+    cut_leaf(alloc, all, place)
 }
 
 fn inner_with_right<'b>(
@@ -186,42 +180,13 @@ fn inner_with_right<'b>(
     ensures { IfOk result (λ grown. beside_right row_family (inner keys.entry.items (parts_of trees.entry.items)) key.now (inner separators.now (parts_of children.now))
         ≡ Ok (grown_part grown)) }
 {
-    let keys = keys_before(alloc, keys, key)?;
+    let place = keys.len() + 2;
+    let at = trees.len() + 1;
+    let keys = with_key(alloc, keys, key)?;
+    let keys = before_copied(alloc, keys, separators)?;
+    let trees = before_copied(alloc, trees, children)?;
     if children.len() <= 8 {
-        return Ok(Grown::One(inner_before(alloc, keys, trees, separators, children)?));
+        return Ok(Grown::One(inner_of(keys, trees)));
     }
-    first_child_given(alloc, keys, trees, separators, children)
-}
-
-/// The keys with this one after them.
-fn keys_before<'b>(
-    alloc: Global,
-    keys: Vec<KeyPart<'b>>,
-    key: &KeyPart<'b>,
-) -> Result<Vec<KeyPart<'b>>, AllocError>
-    ensures { IfOk result (λ all. all.items ≡ keys.entry.items ++ key.now ∷ []) }
-{
-    let mut all = keys;
-    all.push(key.again(alloc)?)?;
-    Ok(all)
-}
-
-/// The first child of the right node goes to the left one, and the separator after it up.
-fn first_child_given<'b>(
-    alloc: Global,
-    keys: Vec<KeyPart<'b>>,
-    trees: Vec<PartTree<'b>>,
-    separators: &[KeyPart<'b>],
-    children: &[PartTree<'b>],
-) -> Result<Grown<PartTree<'b>, KeyPart<'b>>, AllocError>
-    requires between { length separators.now + 1 ≡ length children.now }
-    requires many { 1 < length children.now }
-    ensures { IfOk result (λ grown. grown_part grown ≡ two (inner keys.entry.items (parts_of (trees.entry.items ++ take 1 children.now)))
-        (slice_index_or separators.now 0 [])
-        (inner (drop 1 separators.now) (parts_of (drop 1 children.now)))) }
-{
-    let right = inner_again(alloc, &separators[1..], &children[1..])?;
-    let up = separators[0].again(alloc)?;
-    let left = inner_before(alloc, keys, trees, &[], &children[..1])?;
-    Ok(Grown::Two(left, up, right))
+    cut_inner(keys, trees, place, at)
 }

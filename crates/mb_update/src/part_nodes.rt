@@ -1,5 +1,5 @@
 //! Insertion into an inner node of a part of a tree.
-ghost use Rattle.std.specs.Prelude.{◌≡◌, ◌≤◌, ◌<◌, ◌+◌, length, map, IfOk};
+ghost use Rattle.std.specs.Prelude.{◌≡◌, ◌≤◌, ◌<◌, ◌+◌, ◌-◌, [], length, map, take, drop, slice_index_or, IfOk};
 ghost use Rattle.vo_spec.specs.Fits.{most_in_node};
 ghost use Rattle.vo_spec.specs.Parts.{inner};
 ghost use Rattle.vo_spec.specs.Trees.{row_family};
@@ -9,7 +9,7 @@ ghost use Rattle.mb_update.specs.Changing.{grown_part};
 ghost use Rattle.mb_update.specs.Placing.{placed, children_of};
 
 use crate::grown::{Grown, into_lists};
-use crate::halving::{Halves, halve};
+use crate::halving::{Halves, cut};
 use crate::splicing::spliced;
 use mb_tree::{Nodes, PartTree};
 use std::alloc::{AllocError, Global};
@@ -44,7 +44,25 @@ fn split_inner<'b>(
     if children.len() <= 16 {
         return Ok(Grown::One(inner_of(separators, children)));
     }
-    Ok(two_of(halve(separators, children)?))
+    cut_inner(separators, children, 8, 8)
+}
+
+/// Two nodes of these, the left one with so many of the children, and with all but the last of so many
+/// separators, which goes between.
+pub fn cut_inner<'b>(
+    separators: Vec<KeyPart<'b>>,
+    children: Vec<PartTree<'b>>,
+    keys: usize,
+    at: usize,
+) -> Result<Grown<PartTree<'b>, KeyPart<'b>>, AllocError>
+    requires some { 0 < keys }
+    requires keys { keys ≤ length separators.items }
+    requires children { at ≤ length children.items }
+    ensures { IfOk result (λ grown. grown_part grown ≡ two (inner (take (keys - 1) separators.entry.items) (parts_of (take at children.entry.items)))
+        (slice_index_or separators.entry.items (keys - 1) [])
+        (inner (drop keys separators.entry.items) (parts_of (drop at children.entry.items)))) }
+{
+    Ok(two_of(cut(separators, children, keys, at)?))
 }
 
 /// The two nodes of these halves.

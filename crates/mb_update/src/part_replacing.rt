@@ -1,5 +1,6 @@
 //! Replacement in a part of a tree.
-ghost use Rattle.std.specs.Prelude.{◌≡◌, ◌<◌, ◌+◌, ◌∷◌, ◌++◌, length, take, drop, map, IfOk};
+ghost use Rattle.std.specs.Prelude.{◌≡◌, ◌<◌, ◌+◌, ◌∷◌, ◌++◌, length, take, drop, map, slice_set, IfOk, OnOk};
+ghost use Rattle.vo_spec.specs.declared.cells.Cell.TheVariants.{Shown};
 ghost use Rattle.vo_spec.specs.Fits.{FitsPart, FitsEach, FitsEntry};
 ghost use Rattle.vo_spec.specs.Parts.{leaf, inner};
 ghost use Rattle.vo_spec.specs.Removes.{replaced, set_row, set_cells};
@@ -7,14 +8,15 @@ ghost use Rattle.mb_tree.specs.View.{part_of, parts_of};
 ghost use Rattle.mb_update.specs.Changing.{ChangesTo};
 ghost use Rattle.mb_update.specs.Sets.{change_of, FitsSets};
 
+use crate::copying::{keyed, shown_cell};
 use crate::ops::SetCell;
-use crate::part_joining::put_child;
+use crate::part_joining::node_with;
 use crate::part_leaves::leaf_of;
 use crate::places::{place_for, place_of};
-use crate::splicing::{Again, all_again, with_one};
+use crate::splicing::{all_again, with_one};
 use mb_tree::PartTree;
 use std::alloc::{AllocError, Global};
-use vo_spec::{Cell, CellValue, KeyPart, List, PartEntry, RowPart, UpdateFault};
+use vo_spec::{Cell, KeyPart, List, PartEntry, RowPart, UpdateFault};
 
 /// The part with these cells in the row of this key: a copy of what of it is open.
 pub(crate) fn replace<'b>(
@@ -65,7 +67,7 @@ fn replace_in_child<'b>(
 {
     let place = place_for(separators, key);
     match replace_in(alloc, &children[place], key, sets) {
-        Ok(child) => Ok(put_child(alloc, separators, children, place, child)?.into_part()),
+        Ok(child) => Ok(node_with(alloc, separators, children, place, child)?),
         Err(fault) => Err(fault),
     }
 }
@@ -113,12 +115,9 @@ fn with_sets<'b>(
     match &entry.row {
         RowPart::Digest(_) => Err(UpdateFault::Missing),
         RowPart::Cells(cells) => {
-            let key = entry.key.again(alloc)?;
             let cells = cells_with(alloc, cells.as_slice(), sets)?;
-            Ok(PartEntry {
-                key,
-                row: RowPart::Cells(List::from_vec(cells)),
-            })
+            let row = RowPart::Cells(List::from_vec(cells));
+            Ok(keyed(alloc, entry.key.as_bytes(), row)?)
         },
     }
 }
@@ -132,12 +131,25 @@ fn cells_with<'b>(
     ensures { IfOk result (λ new. new.items ≡ set_cells (map change_of sets.now) cells.now) }
 {
     let mut new = all_again(alloc, cells)?;
-    for set in sets {
-        let column = usize::from(set.column);
-        if column < new.len() {
-            let value = set.value.as_ref().to_value(alloc)?;
-            new[column] = Cell::Shown(CellValue::owned(value));
-        }
-    }
+    set_all(alloc, &mut new, sets)?;
     Ok(new)
+}
+
+fn set_all<'b>(alloc: Global, cells: &mut Vec<Cell<'b>>, sets: &[SetCell]) -> Result<(), AllocError>
+    ensures { OnOk result (cells.new.items ≡ set_cells (map change_of sets.now) cells.old.items) }
+{
+    for set in sets {
+        set_cell(alloc, cells, set)?;
+    }
+    Ok(())
+}
+
+fn set_cell<'b>(alloc: Global, cells: &mut Vec<Cell<'b>>, set: &SetCell) -> Result<(), AllocError>
+    ensures { OnOk result (cells.new.items ≡ slice_set cells.old.items set.now.column (Shown set.now.value)) }
+{
+    let column = usize::from(set.column);
+    if column < cells.len() {
+        cells[column] = shown_cell(alloc, &set.value)?;
+    }
+    Ok(())
 }

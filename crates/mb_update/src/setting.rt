@@ -33,10 +33,20 @@ fn set_values(alloc: Global, values: &[Value], sets: &[SetCell]) -> Result<List<
     ensures fits { IfOk result (λ new. FitsCells new) }
 {
     let mut new = copy_values(alloc, values)?.into_vec();
-    for set in sets {
-        set_value(alloc, &mut new, set)?;
-    }
+    set_all(alloc, &mut new, sets)?;
     Ok(List::from_vec(new))
+}
+
+fn set_all(alloc: Global, values: &mut Vec<Value>, sets: &[SetCell]) -> Result<(), AllocError>
+    requires cells { FitsCells values.old.items }
+    requires sets { FitsSets sets.now }
+    ensures value { OnOk result (values.new.items ≡ changed_cells (map change_of sets.now) values.old.items) }
+    ensures fits { OnOk result (FitsCells values.new.items) }
+{
+    for set in sets {
+        set_value(alloc, values, set)?;
+    }
+    Ok(())
 }
 
 /// A column beyond the row's end sets nothing.

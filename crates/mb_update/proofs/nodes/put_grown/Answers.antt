@@ -1,11 +1,11 @@
-use Rattle.std.proofs.Common.{◌≡◌, ◌+◌, ◌++◌, length, map, take, drop, ap, ◌∙◌, arith}
+use Rattle.std.proofs.Common.{◌≡◌, ◌+◌, ◌++◌, map, take, drop, ap, ◌∙◌, arith}
 use Rattle.std.proofs.lemmas.List.{length-map}
 use Rattle.std.proofs.lemmas.Result.{IfOk-weaker}
 use Rattle.vo_spec.specs.Trees.{row_family}
 use Rattle.vo_spec.specs.Inserts.{split_inner}
 use Rattle.mb_tree.specs.Whole.{value_of}
 use Rattle.mb_update.specs.Changing.{nodes_of, separators_of}
-use Rattle.mb_update.proofs.ListedNodes.{NodePlaced, branches_placed}
+use Rattle.mb_update.proofs.ListedNodes.{branches_placed}
 use Rattle.mb_update.proofs.nodes.put_grown.Goals as goal
 
 pub split_inner-requires : goal.split_inner-requires

@@ -1,4 +1,5 @@
 use Rattle.std.proofs.Common.{◌<◌, length, sym, ◌∙◌, arith}
+use Rattle.std.proofs.lemmas.Result.{IfOk-weaker}
 use Rattle.mb_update.proofs.PartNodes.{part_whole, part_split}
 use Rattle.mb_update.proofs.part_nodes.split_inner.Goals as goal
 
@@ -8,4 +9,5 @@ returns-then-len-le16 c = part_whole c.args.separators.items c.args.children.ite
 pub returns : goal.returns
 returns c =
     let many : 16 < length c.args.children.items = omega arith in
-    part_split c.args.separators.items c.args.children.items c.in_ok-halve.field-0 c.requires many c.in_ok-halve.ensures ∙ sym c.two_of.ensures
+    let all = part_split c.args.separators.items c.args.children.items many in
+    IfOk-weaker c.cut_inner.result _ _ (λ grown h. all ∙ sym h) c.cut_inner.ensures

@@ -19,15 +19,15 @@ replace_in_child-replace_in-requires t c =
     let falls : levels (part_of c.index-children-place.result) ≤ levels_in (parts_of c.args.children.now) = child_falls _ _ _ at c.index-children-place.is in
     (omega arith, child_fits _ c.requires.fits _ _ at c.index-children-place.is)
 
-pub replace_in_child-returns-in_ok-put_child-in-Ok : goal.replace_in_child-returns-in_ok-put_child-in-Ok
-replace_in_child-returns-in_ok-put_child-in-Ok t c =
+pub replace_in_child-returns-in_ok-node_with-in-Ok : goal.replace_in_child-returns-in_ok-node_with-in-Ok
+replace_in_child-returns-in_ok-node_with-in-Ok t c =
     let ts = map part_of c.args.children.now in
     let at : c.place_for-place.result < length c.args.children.now = omega arith in
     let within : c.place_for-place.result < length ts = omega (arith, length-map c.args.children.now part_of) in
     let become : RowTree → RowTree = λ q. node_of (placed c.place_for-place.result c.args.separators.now ts (one q)) in
     inner_edited (set_row (map change_of c.args.sets.now)) c.args.key.now c.args.separators.now ts c.place_for-place.result c.place_for-place.ensures.place (part_of c.index-children-place.result) within (child_at _ _ _ at c.index-children-place.is)
     ∙ ap (result_map become) c.in-Ok.ensures
-    ∙ ap Ok (sym (c.into_part.ensures ∙ c.in_ok-put_child-in-Ok.ensures))
+    ∙ ap Ok (sym c.in_ok-node_with-in-Ok.ensures)
 
 pub replace_in_child-returns-in-Err : goal.replace_in_child-returns-in-Err
 replace_in_child-returns-in-Err t c =

@@ -2,11 +2,11 @@ use Rattle.std.proofs.Common.{◌≡◌, map, take}
 use Rattle.vo_spec.specs.Tables.{changed_cells}
 use Rattle.vo_spec.specs.Fits.{FitsCells}
 use Rattle.mb_update.specs.Sets.{change_of}
-use Rattle.mb_update.proofs.setting.set_values.Given as goal
+use Rattle.mb_update.proofs.setting.set_all.Given as goal
 
 -- the values with those set so far
 abbrev pub invariant-loop-set : goal.invariant-loop-set
 invariant-loop-set l = record {
-  value : l.new.items ≡ changed_cells (map change_of (take l.set-index l.sets)) l.values;
-  fits : FitsCells l.new.items;
+  value : l.values.items ≡ changed_cells (map change_of (take l.set-index l.sets)) l.fn.values.items;
+  fits : FitsCells l.values.items;
 }
