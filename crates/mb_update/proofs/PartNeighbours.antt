@@ -12,7 +12,6 @@ use Rattle.vo_spec.specs.Removes.{joined_parts, with_left, with_right, settled_r
 use Rattle.mb_tree.specs.declared.parts.PartTree.{PartTree}
 use Rattle.mb_tree.specs.View.{part_of, parts_of}
 use Rattle.mb_tree.proofs.BranchLaws.{count_open_parts}
-use Rattle.mb_update.specs.declared.grown.Grown.{Grown}
 use Rattle.mb_update.specs.Placing.{placed, node_of}
 use Rattle.mb_update.specs.Settling.{paired, joined_at, divided}
 use Rattle.mb_update.proofs.Splitting.{take_open, drop_open}
