@@ -1,14 +1,13 @@
 -- What the parser found in the tokens of a text answers for the text.
-use Rattle.std.proofs.Common.{◌≡◌, ℕ, zero, suc, min, arith, ◌≤◌, Bool, true, false, List, [], ◌∷◌, ◌++◌, length, drop, map, Result, Ok, Err, refl, sym, ap, ◌∙◌, subst, ◌⊎◌}
+use Rattle.std.proofs.Common.{◌≡◌, ℕ, zero, suc, min, arith, ◌≤◌, true, List, [], ◌∷◌, length, drop, map, Result, Ok, Err, refl, sym, ap, ◌∙◌, subst}
 use Rattle.std.specs.List.{AllByRecursion}
 use Rattle.grammar.specs.Rule.{Rule}
 use Rattle.grammar.specs.Text.{IsText, FaultsAt, Judges}
 use Rattle.grammar.specs.Checks.{is_good}
-use Rattle.grammar.specs.Reading.{Found, read, reader, at_end, parse}
+use Rattle.grammar.specs.Reading.{Found, read, reader, at_end}
 use Rattle.grammar.specs.declared.Stop.{Stop}
 use Rattle.grammar.specs.declared.Stop.TheVariants as stop
 use Rattle.grammar.proofs.Judged.{judged, parsed}
-use Rattle.sql_tokens.specs.declared.lexemes.Lapse.{Lapse}
 use Rattle.sql_tokens.specs.declared.lexemes.Lapse.TheVariants as lapse
 use Rattle.sql_tokens.specs.declared.lexemes.LexFault.{LexFault}
 use Rattle.sql_tokens.specs.declared.lexemes.LexFault.TheVariants as lex
@@ -16,7 +15,6 @@ use Rattle.sql_tokens.proofs.Alone.{tokens_real}
 use Rattle.sql_tokens.specs.declared.lexemes.Lexeme.{Lexeme}
 use Rattle.sql_tokens.specs.Lex.{Token, Placed, tokens_of, token_of, placed_of, Scans}
 use Rattle.sql_text.specs.declared.faults.SqlFault.{SqlFault}
-use Rattle.sql_text.specs.declared.faults.SqlFault.TheVariants as fault
 use Rattle.sql_text.specs.declared.halt.Halt.{Halt}
 use Rattle.sql_text.specs.declared.halt.Halt.TheVariants.{Memory, Fault}
 use Rattle.sql_text.specs.declared.parser.Parser.{Parser}

@@ -20,7 +20,7 @@ use Rattle.vo_spec.specs.Conditions.{Condition}
 use Rattle.sql_text.specs.Tokens.{sql, IsToken, Nested}
 use Rattle.sql_text.specs.Rules.{before, closed, listed}
 use Rattle.sql_text.specs.Queries.{name, literal, conditions_of}
-use Rattle.sql_text.specs.Commands.{column, create, drop_table, insert, set_part, update, delete, command, batch, script}
+use Rattle.sql_text.specs.Commands.{column, key_clause, create, drop_table, insert, set_part, update, delete, command, batch, script}
 use Rattle.sql_text.specs.declared.faults.SqlFault.{SqlFault}
 use Rattle.sql_text.specs.Texts.{unplaced, IsTextOf, Answers}
 use Rattle.sql_text.specs.Scripts.{IsScript, AnswersScript}
@@ -61,7 +61,7 @@ counted_fits : {A : Type 0} (p : Rule sql A) (Fits : A → Type 0) → ((v : A) 
 counted_fits p Fits f vs (some, few, all) = (some, few, all_mapped (MadeOf p) Fits vs f all)
 
 create_fits : (c : Command) → MadeOf create c → FitsCommand c
-unfolding create FitsCommand
+unfolding create key_clause FitsCommand
 create_fits c (x, m, e) =
     let table = before_of k.Create _ x m in
     let rest = before_of k.Table _ x table in

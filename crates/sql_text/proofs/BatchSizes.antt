@@ -18,7 +18,7 @@ use Rattle.vo_spec.specs.Batches.{counted, column_bytes, set_bytes, command_byte
 use Rattle.sql_text.specs.Tokens.{sql, IsToken}
 use Rattle.sql_text.specs.Rules.{before, closed, in_parens, optional, listed, ended}
 use Rattle.sql_text.specs.Queries.{name, literal}
-use Rattle.sql_text.specs.Commands.{column_kind, column, create, drop_table, insert, set_part, update, delete, command, batch}
+use Rattle.sql_text.specs.Commands.{column_kind, column, key_clause, create, drop_table, insert, set_part, update, delete, command, batch}
 use Rattle.sql_text.proofs.Weights.{weigh, some_byte, total, avoids, Light, light_less, light_zero, light_token, light_both, light_either, light_means, light_before, light_parens, light_listed, light_ended}
 
 sizes : {A : Type 0} (bytes : A → List ℕ) (xs : List A) → length (flat_map bytes xs) ≡ total (λ x. length (bytes x)) xs
@@ -86,7 +86,7 @@ module _ (N : Nests sql) where
       (λ x. omega (arith, length-append (short_string x.0) (value_bytes x.1))))
 
   create_light : Light N create (λ c. length (command_bytes c))
-  unfolding create command_bytes
+  unfolding create key_clause command_bytes
   create_light =
       light_means N (light_less N
       (light_before N k.Create (light_before N k.Table (light_both N named (light_parens N
@@ -152,5 +152,5 @@ module _ (N : Nests sql) where
       omega (arith, commands, few, length-append (u16_bytes (length b.commands)) (flat_map command_bytes b.commands), u16_size (length b.commands), sizes command_bytes b.commands)
 
 pub batch_avoids : avoids batch ≡ true
-unfolding batch command create drop_table insert update delete set_part column column_kind name literal ended listed in_parens closed before optional
+unfolding batch command create key_clause drop_table insert update delete set_part column column_kind name literal ended listed in_parens closed before optional
 batch_avoids = refl

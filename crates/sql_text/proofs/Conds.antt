@@ -1,28 +1,25 @@
 -- Reading a condition's parts, in the words of what each step found.
-use Rattle.std.proofs.Common.{◌≡◌, ℕ, zero, suc, ◌+◌, ◌<◌, Bool, true, false, List, [], ◌∷◌, ◌++◌, Option, Some, None, Result, Ok, Err, refl, sym, ap, ◌∙◌, subst, add-one}
-use Rattle.std.proofs.lemmas.List.{append-nil}
-use Rattle.grammar.specs.Rule.{Rule}
+use Rattle.std.proofs.Common.{◌≡◌, ℕ, ◌+◌, Bool, true, false, List, [], ◌∷◌, None, Result, Ok, Err, refl, sym, ap, ◌∙◌, subst, add-one}
 use Rattle.grammar.specs.Reading.{Found, begins, taken, and_then, read, reader}
 use Rattle.grammar.specs.declared.Stop.{Stop}
-use Rattle.grammar.specs.declared.Stop.TheVariants.{Syntax, Nesting, TooMany}
+use Rattle.grammar.specs.declared.Stop.TheVariants.{Nesting}
 use Rattle.sql_tokens.specs.declared.kinds.TokenKind.{TokenKind}
 use Rattle.sql_tokens.specs.declared.kinds.TokenKind.TheVariants as k
 use Rattle.sql_tokens.specs.Kinds.{same_kind}
 use Rattle.sql_tokens.proofs.KindLemmas.{same_kind_true, same_kind_self}
 use Rattle.std.specs.Prelude.{◌||◌}
-use Rattle.sql_tokens.specs.Lex.{Token, token_of}
-use Rattle.std.specs.Prelude.{Box}
+use Rattle.sql_tokens.specs.Lex.{Token}
+use Rattle.std.specs.Prelude.{Box, IfOk}
 use Rattle.std.specs.Global.{Global}
 use Rattle.vo_spec.specs.declared.queries.Cond
 use Rattle.vo_spec.specs.declared.queries.Cond.{Cond, fold-roll-Cond}
 use Rattle.vo_spec.specs.Conditions.{Condition, negated, condition_of}
 use Rattle.sql_text.specs.declared.halt.Halt.{Halt}
 use Rattle.sql_text.specs.declared.halt.Halt.TheVariants.{Memory, Fault}
-use Rattle.sql_text.specs.Parsing.{Finds}
-use Rattle.sql_tokens.specs.declared.lexemes.Lexeme.{Lexeme}
+use Rattle.sql_text.specs.Parsing.{first_of, Finds}
 use Rattle.sql_text.specs.Tokens.{sql, Nested, whole, primary}
-use Rattle.sql_text.specs.Rules.{before, closed, listed}
-use Rattle.sql_text.specs.Queries.{name, comparison, prim, conj, disj, all_of, any_of, conditions_of}
+use Rattle.sql_text.specs.Rules.{closed, listed}
+use Rattle.sql_text.specs.Queries.{comparison, prim, conj, disj, all_of, any_of, conditions_of}
 
 or_false : (a : Bool) → (a || false) ≡ true → a ≡ true
 or_false true e = refl
@@ -68,7 +65,7 @@ module _ (levels : ℕ) (left : List Token) where
         → Finds {B = Cond} condition_of (read (reader conditions_of m) prim mid) (Err halt) rest → Finds {B = Cond} condition_of (read (reader conditions_of levels) prim left) (Err halt) rest
     not_fails halt rest b f h = passed_on condition_of condition_of (read (reader conditions_of m) prim mid) _ halt rest (λ s e. not_fault s rest b f e) h
 
-    pub paren_done : (v : Condition) (rest : List Token) (u : Token) (end : List Token) → begins sql (k.Not ∷ []) left ≡ false → begins sql (k.LeftParen ∷ []) left ≡ true
+    paren_done : (v : Condition) (rest : List Token) (u : Token) (end : List Token) → begins sql (k.Not ∷ []) left ≡ false → begins sql (k.LeftParen ∷ []) left ≡ true
         → taken sql k.LeftParen left ≡ (Ok t, mid) → read (reader conditions_of m) disj mid ≡ (Ok v, rest) → taken sql k.RightParen rest ≡ (Ok u, end)
         → read (reader conditions_of levels) prim left ≡ (Ok v, end)
     unfolding prim conditions_of closed
@@ -80,10 +77,13 @@ module _ (levels : ℕ) (left : List Token) where
     unfolding prim conditions_of closed
     paren_left_open v rest s end a b f h i = rw (a, b, opened k.LeftParen whole left levels m t mid fewer f, h, i) refl
 
-    pub paren_open : (v : Condition) (rest : List Token) (halt : Halt) (end : List Token) → begins sql (k.Not ∷ []) left ≡ false → begins sql (k.LeftParen ∷ []) left ≡ true
-        → taken sql k.LeftParen left ≡ (Ok t, mid) → read (reader conditions_of m) disj mid ≡ (Ok v, rest) → Finds {B = Lexeme} token_of (taken sql k.RightParen rest) (Err halt) end
-        → Finds {B = Cond} condition_of (read (reader conditions_of levels) prim left) (Err halt) end
-    paren_open v rest halt end a b f h i = passed_on token_of condition_of (taken sql k.RightParen rest) _ halt end (λ s e. paren_left_open v rest s end a b f h e) i
+    pub paren_closed : (inner : Cond) (rest : List Token) (found : Result Cond Halt) (end : List Token) → begins sql (k.Not ∷ []) left ≡ false → begins sql (k.LeftParen ∷ []) left ≡ true
+        → taken sql k.LeftParen left ≡ (Ok t, mid) → read (reader conditions_of m) disj mid ≡ (Ok (condition_of inner), rest)
+        → Finds {B = Cond} (λ x. first_of rest) (taken sql k.RightParen rest) found end → IfOk found (λ x. x ≡ inner)
+        → Finds {B = Cond} condition_of (read (reader conditions_of levels) prim left) found end
+    paren_closed inner rest (Ok x) end a b f h i same = paren_done (condition_of inner) rest (first_of rest) end a b f h i ∙ ap (λ z. (Ok (condition_of z), end)) (sym same)
+    paren_closed inner rest (Err Memory) end a b f h i same = tt
+    paren_closed inner rest (Err (Fault s)) end a b f h i same = paren_left_open (condition_of inner) rest s end a b f h i
 
     paren_fault : (s : Stop) (rest : List Token) → begins sql (k.Not ∷ []) left ≡ false → begins sql (k.LeftParen ∷ []) left ≡ true
         → taken sql k.LeftParen left ≡ (Ok t, mid) → read (reader conditions_of m) disj mid ≡ (Err s, rest) → read (reader conditions_of levels) prim left ≡ (Err s, rest)
@@ -102,7 +102,7 @@ module _ (levels : ℕ) (left : List Token) where
   unfolding prim closed
   test_is a b = rw (a, b) refl
 
-pub ruleset prims = (not_deep, not_done, not_fails, paren_done, paren_open, paren_fails, paren_deep, test_is)
+pub ruleset prims = (not_deep, not_done, not_fails, paren_closed, paren_fails, paren_deep, test_is)
 
 pub conj_is : (levels : ℕ) (left : List Token) → read (reader conditions_of levels) conj left ≡ and_then (read (reader conditions_of levels) (listed None k.And prim) left) (λ vs end. (Ok (all_of vs), end))
 unfolding conj

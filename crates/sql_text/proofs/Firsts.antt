@@ -1,14 +1,14 @@
 -- The kinds that named rules begin with.
-use Rattle.std.proofs.Common.{◌≡◌, refl, Bool, List, [], ◌∷◌, ◌++◌, true, false}
+use Rattle.std.proofs.Common.{◌≡◌, refl, Bool, List, [], ◌∷◌, true, false}
 use Rattle.std.specs.Prelude.{◌||◌}
-use Rattle.grammar.specs.Checks.{first, is_nullable}
+use Rattle.grammar.specs.Checks.{first}
 use Rattle.grammar.specs.Reading.{begins}
 use Rattle.sql_tokens.specs.declared.kinds.TokenKind.TheVariants as k
 use Rattle.sql_tokens.specs.Kinds.{same_kind}
 use Rattle.sql_tokens.specs.Lex.{Token}
 use Rattle.sql_text.specs.Tokens.{sql}
-use Rattle.sql_text.specs.Rules.{before, closed, in_parens, optional, listed, ended}
-use Rattle.sql_text.specs.Queries.{name, literal, reference, source, operator, operand, comparison, prim, conj, disj, items, join}
+use Rattle.sql_text.specs.Rules.{before, optional}
+use Rattle.sql_text.specs.Queries.{name, reference, join}
 use Rattle.sql_text.specs.Commands.{create, drop_table, insert, update, delete, command}
 
 pub first_name : first name ≡ k.Name ∷ []

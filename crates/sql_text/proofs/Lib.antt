@@ -1,6 +1,7 @@
 pub mod Firsts
 pub mod Rounds
 pub mod Conds
+pub mod Closing
 pub mod Repeats
 pub mod Good
 pub mod Answered

@@ -72,7 +72,7 @@ spell_key n key h =
 
 spell_create : (n : ℕ) (name : List ℕ) (columns : List Column) (key : List ℕ) → FreeName name → FitCounted SpellableColumn columns → FreeName key
     → Text n command.create (command_tokens (command_of.Create name columns key)) (command_of.Create name columns key)
-unfolding command.create
+unfolding command.create command.key_clause
 spell_create n name columns key h f g = (
   (name, (columns, key)),
   spell_before n k.Create _ _ (name, (columns, key)) (word_is k.Create refl)

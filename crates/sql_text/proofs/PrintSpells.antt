@@ -373,7 +373,7 @@ spell_items n items_of.All h = inl (word k.Star, (word_is k.Star refl, refl, ref
 spell_items n (items_of.Refs refs) h = inr (refs, spell_listed n 63 k.Comma query.reference reference_tokens SpellableRef (word_is k.Comma refl) (spell_ref n) refs h, refl)
 
 spell_join : (n : ℕ) (j : Join) → SpellableJoin j → Text n query.join (join_tokens j) j
-unfolding query.join
+unfolding query.join query.on_clause
 spell_join n j h =
     let other : Text n (rule.before k.Equal query.reference) (word k.Equal ∷ reference_tokens j.right_ref) j.right_ref =
     spell_before n k.Equal query.reference (reference_tokens j.right_ref) j.right_ref (word_is k.Equal refl) (spell_ref n j.right_ref h.2) in

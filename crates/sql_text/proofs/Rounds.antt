@@ -1,10 +1,10 @@
 -- A repetition of parts behind separators, as a loop reads it.
-use Rattle.std.proofs.Common.{◌≡◌, ℕ, zero, suc, ◌+◌, ◌-◌, ◌≤◌, ◌<◌, Bool, true, false, cond, List, [], ◌∷◌, ◌++◌, length, Option, Some, None, Result, Ok, Err, refl, sym, ap, ◌∙◌, subst, arith, append_assoc}
-use Rattle.grammar.specs.Rule.{Rule, nothing, token, both, either, many, means}
+use Rattle.std.proofs.Common.{◌≡◌, ℕ, ◌+◌, ◌≤◌, ◌<◌, true, false, cond, List, [], ◌∷◌, ◌++◌, length, Option, Ok, Err, refl, sym, ap, ◌∙◌, subst, arith, append_assoc}
+use Rattle.grammar.specs.Rule.{Rule, many}
 use Rattle.grammar.specs.Checks.{is_nullable, first}
 use Rattle.grammar.specs.Reading.{Found, begins, taken, and_then, is_full, one_less, read, reader}
 use Rattle.grammar.specs.declared.Stop.{Stop}
-use Rattle.grammar.specs.declared.Stop.TheVariants.{Syntax, Nesting, TooMany}
+use Rattle.grammar.specs.declared.Stop.TheVariants.{TooMany}
 use Rattle.grammar.proofs.Shorter.{Shortens, round, many_step, solid_shorter, shortens_taken, shorter, nested_shorter, least}
 use Rattle.sql_tokens.specs.declared.kinds.TokenKind.{TokenKind}
 use Rattle.sql_tokens.specs.Lex.{Token}
@@ -14,7 +14,7 @@ use Rattle.sql_text.specs.declared.halt.Halt.{Halt}
 use Rattle.sql_text.specs.declared.halt.Halt.TheVariants.{Memory, Fault}
 use Rattle.sql_text.specs.Parsing.{Finds}
 use Rattle.sql_text.specs.Tokens.{sql}
-use Rattle.sql_text.specs.Rules.{before, closed, listed, ended}
+use Rattle.sql_text.specs.Rules.{before, listed}
 use Rattle.sql_text.specs.Queries.{conditions_of}
 
 -- { kind p }, at most so often, of what is left

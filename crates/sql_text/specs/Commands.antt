@@ -1,7 +1,6 @@
 -- The grammar of commands, batches and scripts.
-use Rattle.std.specs.Prelude.{ℕ, List, [], ◌∷◌, Option, Some, None}
-use Rattle.grammar.specs.Rule.{Rule, nothing, token, both, either, many, means}
-use Rattle.sql_tokens.specs.declared.kinds.TokenKind.{TokenKind}
+use Rattle.std.specs.Prelude.{ℕ, List, Some, None}
+use Rattle.grammar.specs.Rule.{Rule, token, both, either, many, means}
 use Rattle.sql_tokens.specs.declared.kinds.TokenKind.TheVariants as k
 use Rattle.vo_spec.specs.declared.values.Kind.{Kind}
 use Rattle.vo_spec.specs.declared.values.Kind.TheVariants as kind_of
@@ -24,11 +23,15 @@ column_kind =
 unfoldable pub column : Rule sql Column
 column = means (λ x. record { name = x.0; kind = x.1.0 }) (both name (both column_kind (optional (both (token k.Not) (token k.Null)))))
 
+-- PRIMARY KEY ( name )
+unfoldable pub key_clause : Rule sql (List ℕ)
+key_clause = before k.Primary (before k.Key (in_parens name))
+
 -- CREATE TABLE name ( column { , column } , PRIMARY KEY ( name ) ), at most 32 columns
 unfoldable pub create : Rule sql Command
 create =
     means (λ x. command_of.Create x.0 x.1.0 x.1.1)
-    (before k.Create (before k.Table (both name (in_parens (both (ended (Some 31) column k.Comma) (before k.Primary (before k.Key (in_parens name))))))))
+    (before k.Create (before k.Table (both name (in_parens (both (ended (Some 31) column k.Comma) key_clause)))))
 
 -- DROP TABLE name
 unfoldable pub drop_table : Rule sql Command

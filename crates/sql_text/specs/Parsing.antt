@@ -1,7 +1,8 @@
 -- What a method of the parser does: it reads a rule from the tokens that are left.
-use Rattle.std.specs.Prelude.{◌≡◌, ℕ, List, drop, map, Result, Ok, Err}
+use Rattle.std.specs.Prelude.{◌≡◌, List, [], ◌∷◌, drop, map, pos, Result, Ok, Err}
 use Rattle.grammar.specs.Rule.{Rule}
 use Rattle.grammar.specs.Reading.{Found, read, reader}
+use Rattle.sql_tokens.specs.declared.kinds.TokenKind.TheVariants as k
 use Rattle.sql_tokens.specs.Lex.{Token, token_of}
 use Rattle.sql_text.specs.declared.parser.Parser.{Parser}
 use Rattle.sql_text.specs.declared.halt.Halt.{Halt}
@@ -12,6 +13,11 @@ use Rattle.sql_text.specs.Queries.{conditions_of}
 -- the tokens that are left
 abbrev pub left_of : Parser → List Token
 left_of p = map token_of (drop p.place p.list.now)
+
+-- the next of the tokens that are left; where none is, this is of no matter
+abbrev pub first_of : List Token → Token
+first_of [] = record { kind = k.Name; text = []; number = pos 0 }
+first_of (t ∷ left) = t
 
 -- the value or the fault is what was found, and what is left is left; memory may end
 abbrev pub Finds : {A B : Type 0} → (B → A) → Found Token A → Result B Halt → List Token → Type 0

@@ -1,10 +1,10 @@
 -- The grammar of queries. Each rule is a line of it, and `means` says what value its text has.
-use Rattle.std.specs.Prelude.{ℕ, Bool, true, false, List, [], ◌∷◌, Option, Some, None}
+use Rattle.std.specs.Prelude.{ℕ, true, false, List, [], ◌∷◌, Option, Some, None}
 use Rattle.std.specs.Str.{str_to_ascii_lowercase}
-use Rattle.grammar.specs.Rule.{Rule, Grammar, nothing, token, both, either, many, means, inside}
+use Rattle.grammar.specs.Rule.{Rule, Grammar, token, both, either, means, inside}
 use Rattle.sql_tokens.specs.declared.kinds.TokenKind.{TokenKind}
 use Rattle.sql_tokens.specs.declared.kinds.TokenKind.TheVariants as k
-use Rattle.sql_tokens.specs.Lex.{Token, unquoted}
+use Rattle.sql_tokens.specs.Lex.{unquoted}
 use Rattle.vo_spec.specs.declared.values.Value.{Value}
 use Rattle.vo_spec.specs.declared.values.Value.TheVariants as value
 use Rattle.vo_spec.specs.declared.queries.Ref.{Ref}
@@ -19,7 +19,7 @@ use Rattle.vo_spec.specs.declared.queries.Operand.TheVariants as operand_of
 use Rattle.vo_spec.specs.Conditions.{Condition, conditions, every, some, negated, Query}
 use Rattle.vo_spec.specs.Conditions
 use Rattle.sql_text.specs.Tokens.{sql, Nested, whole, primary}
-use Rattle.sql_text.specs.Rules.{before, closed, in_parens, optional, listed}
+use Rattle.sql_text.specs.Rules.{before, closed, optional, listed}
 
 -- a name: its letters small
 unfoldable pub name : Rule sql (List ℕ)
@@ -104,11 +104,15 @@ conditions_of = record { rule = rule; after = after }
 unfoldable pub items : Rule sql Items
 items = either (means (λ t. items_of.All) (token k.Star)) (means items_of.Refs (listed (Some 63) k.Comma reference))
 
+-- ON ref = ref
+unfoldable pub on_clause : Rule sql (Ref × Ref)
+on_clause = before k.On (both reference (before k.Equal reference))
+
 -- [INNER] JOIN source ON ref = ref
 unfoldable pub join : Rule sql Join
 join =
     means (λ x. record { right = x.1.0; left_ref = x.1.1.0; right_ref = x.1.1.1 })
-    (both (optional (token k.Inner)) (before k.Join (both source (before k.On (both reference (before k.Equal reference))))))
+    (both (optional (token k.Inner)) (before k.Join (both source on_clause)))
 
 -- SELECT items FROM source [ join ] [ WHERE cond ] [;]
 unfoldable pub query : Rule sql Query

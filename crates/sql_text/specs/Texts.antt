@@ -1,5 +1,5 @@
 -- Whole texts: what they are, and which fault comes first.
-use Rattle.std.specs.Prelude.{◌≡◌, ℕ, ◌≤◌, ◌<◌, Bool, true, List, [], ◌∷◌, length, drop, map, Result, Ok, Err}
+use Rattle.std.specs.Prelude.{◌≡◌, ℕ, ◌≤◌, ◌<◌, true, List, [], ◌∷◌, length, drop, map, Result, Ok, Err}
 use Rattle.grammar.specs.Rule.{Rule}
 use Rattle.grammar.specs.Text.{IsText, FaultsAt}
 use Rattle.grammar.specs.declared.Stop.{Stop}

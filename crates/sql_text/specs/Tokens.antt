@@ -1,5 +1,5 @@
 -- The tokens of SQL as the tokens of a language of rules. What may stand in itself are conditions.
-use Rattle.std.specs.Prelude.{◌≡◌, ◌&&◌, List, Ok}
+use Rattle.std.specs.Prelude.{◌≡◌, ◌&&◌, Ok}
 use Rattle.grammar.specs.Language.{Language}
 use Rattle.sql_tokens.specs.declared.kinds.TokenKind.{TokenKind}
 use Rattle.sql_tokens.specs.Kinds.{same_kind}

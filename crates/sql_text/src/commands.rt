@@ -15,7 +15,7 @@ ghost use Rattle.sql_text.specs.Tokens.{sql};
 ghost use Rattle.sql_text.specs.Parsing.{left_of, Reads};
 ghost use Rattle.sql_text.specs.Rules.{before, closed, in_parens, optional, listed, ended};
 ghost use Rattle.sql_text.specs.Queries.{name, literal};
-ghost use Rattle.sql_text.specs.Commands.{column_kind, column, create, drop_table, insert, set_part, update, delete, command, batch, script};
+ghost use Rattle.sql_text.specs.Commands.{column_kind, column, key_clause, create, drop_table, insert, set_part, update, delete, command, batch, script};
 
 use crate::halt::Halt;
 use crate::parser::Parser;
@@ -65,6 +65,17 @@ impl<'a> Parser<'a> {
         }
     }
 
+    /// A column's kind and its mark.
+    fn marked_kind(&mut self) -> Result<(Kind, Option<(Lexeme<'a>, Lexeme<'a>)>), Halt>
+        ensures value { Reads (λ x. (x.0, option_map (λ y. (token_of y.0, token_of y.1)) x.1)) (both column_kind (optional (both (token k.Not) (token k.Null)))) self.old result self.new }
+        ensures levels { self.new.levels ≡ self.old.levels }
+        ensures list { self.new.list.now ≡ self.old.list.now }
+    {
+        let kind = self.column_kind()?;
+        let mark = self.not_null()?;
+        Ok((kind, mark))
+    }
+
     /// A column and the comma behind it.
     #[tactic(auto, unfolding(crate::specs::Commands::column, crate::specs::Rules::closed))]
     fn column(&mut self, alloc: Global) -> Result<Column, Halt>
@@ -73,10 +84,8 @@ impl<'a> Parser<'a> {
         ensures list { self.new.list.now ≡ self.old.list.now }
     {
         let name = self.name(alloc)?;
-        let kind = self.column_kind()?;
-        self.not_null()?;
-        self.want(TokenKind::Comma)?;
-        Ok(Column { name, kind })
+        let (kind, _) = self.marked_kind()?;
+        self.closed_by(Column { name, kind }, TokenKind::Comma)
     }
 
     /// Columns with a comma behind each, at most 32.
@@ -96,22 +105,44 @@ impl<'a> Parser<'a> {
         Ok(list)
     }
 
-    /// PRIMARY KEY ( name )
+    /// ( name )
     #[tactic(auto, unfolding(crate::specs::Rules::before, crate::specs::Rules::in_parens, crate::specs::Rules::closed))]
+    fn name_in_parens(&mut self, alloc: Global) -> Result<Name, Halt>
+        ensures value { Reads (λ x. x) (in_parens name) self.old result self.new }
+        ensures levels { self.new.levels ≡ self.old.levels }
+        ensures list { self.new.list.now ≡ self.old.list.now }
+    {
+        self.want(TokenKind::LeftParen)?;
+        let name = self.name(alloc)?;
+        self.closed_by(name, TokenKind::RightParen)
+    }
+
+    /// PRIMARY KEY ( name )
+    #[tactic(auto, unfolding(crate::specs::Commands::key_clause, crate::specs::Rules::before))]
     fn key_clause(&mut self, alloc: Global) -> Result<Name, Halt>
-        ensures value { Reads (λ x. x) (before k.Primary (before k.Key (in_parens name))) self.old result self.new }
+        ensures value { Reads (λ x. x) key_clause self.old result self.new }
         ensures levels { self.new.levels ≡ self.old.levels }
         ensures list { self.new.list.now ≡ self.old.list.now }
     {
         self.want(TokenKind::Primary)?;
         self.want(TokenKind::Key)?;
-        self.want(TokenKind::LeftParen)?;
-        let name = self.name(alloc)?;
-        self.want(TokenKind::RightParen)?;
-        Ok(name)
+        self.name_in_parens(alloc)
     }
 
-    #[tactic(auto, unfolding(crate::specs::Commands::create, crate::specs::Rules::before, crate::specs::Rules::in_parens, crate::specs::Rules::closed))]
+    /// ( columns and the key )
+    #[tactic(auto, unfolding(crate::specs::Rules::before, crate::specs::Rules::in_parens, crate::specs::Rules::closed))]
+    fn table_body(&mut self, alloc: Global) -> Result<(List<Column>, Name), Halt>
+        ensures value { Reads (λ x. x) (in_parens (both (ended (Some 31) column k.Comma) key_clause)) self.old result self.new }
+        ensures levels { self.new.levels ≡ self.old.levels }
+        ensures list { self.new.list.now ≡ self.old.list.now }
+    {
+        self.want(TokenKind::LeftParen)?;
+        let columns = List::from_vec(self.columns(alloc)?);
+        let key = self.key_clause(alloc)?;
+        self.closed_by((columns, key), TokenKind::RightParen)
+    }
+
+    #[tactic(auto, unfolding(crate::specs::Commands::create, crate::specs::Rules::before))]
     fn create(&mut self, alloc: Global) -> Result<Command, Halt>
         ensures value { Reads (λ x. x) create self.old result self.new }
         ensures levels { self.new.levels ≡ self.old.levels }
@@ -120,10 +151,7 @@ impl<'a> Parser<'a> {
         self.want(TokenKind::Create)?;
         self.want(TokenKind::Table)?;
         let name = self.name(alloc)?;
-        self.want(TokenKind::LeftParen)?;
-        let columns = List::from_vec(self.columns(alloc)?);
-        let key = self.key_clause(alloc)?;
-        self.want(TokenKind::RightParen)?;
+        let (columns, key) = self.table_body(alloc)?;
         Ok(Command::Create { name, columns, key })
     }
 
@@ -167,7 +195,30 @@ impl<'a> Parser<'a> {
         Ok(list)
     }
 
-    #[tactic(auto, unfolding(crate::specs::Commands::insert, crate::specs::Rules::before, crate::specs::Rules::in_parens, crate::specs::Rules::closed))]
+    /// ( literals )
+    #[tactic(auto, unfolding(crate::specs::Rules::before, crate::specs::Rules::in_parens, crate::specs::Rules::closed))]
+    fn row(&mut self, alloc: Global) -> Result<List<Value>, Halt>
+        ensures value { Reads (λ x. x) (in_parens (listed (Some 31) k.Comma literal)) self.old result self.new }
+        ensures levels { self.new.levels ≡ self.old.levels }
+        ensures list { self.new.list.now ≡ self.old.list.now }
+    {
+        self.want(TokenKind::LeftParen)?;
+        let values = List::from_vec(self.literals(alloc)?);
+        self.closed_by(values, TokenKind::RightParen)
+    }
+
+    /// VALUES ( literals )
+    #[tactic(auto, unfolding(crate::specs::Rules::before))]
+    fn values_clause(&mut self, alloc: Global) -> Result<List<Value>, Halt>
+        ensures value { Reads (λ x. x) (before k.Values (in_parens (listed (Some 31) k.Comma literal))) self.old result self.new }
+        ensures levels { self.new.levels ≡ self.old.levels }
+        ensures list { self.new.list.now ≡ self.old.list.now }
+    {
+        self.want(TokenKind::Values)?;
+        self.row(alloc)
+    }
+
+    #[tactic(auto, unfolding(crate::specs::Commands::insert, crate::specs::Rules::before))]
     fn insert(&mut self, alloc: Global) -> Result<Command, Halt>
         ensures value { Reads (λ x. x) insert self.old result self.new }
         ensures levels { self.new.levels ≡ self.old.levels }
@@ -176,23 +227,30 @@ impl<'a> Parser<'a> {
         self.want(TokenKind::Insert)?;
         self.want(TokenKind::Into)?;
         let name = self.name(alloc)?;
-        self.want(TokenKind::Values)?;
-        self.want(TokenKind::LeftParen)?;
-        let values = List::from_vec(self.literals(alloc)?);
-        self.want(TokenKind::RightParen)?;
+        let values = self.values_clause(alloc)?;
         Ok(Command::Insert { name, values })
     }
 
+    /// = literal
+    #[tactic(auto, unfolding(crate::specs::Rules::before))]
+    fn equal_literal(&mut self, alloc: Global) -> Result<Value, Halt>
+        ensures value { Reads (λ x. x) (before k.Equal literal) self.old result self.new }
+        ensures levels { self.new.levels ≡ self.old.levels }
+        ensures list { self.new.list.now ≡ self.old.list.now }
+    {
+        self.want(TokenKind::Equal)?;
+        self.literal(alloc)
+    }
+
     /// name = literal
-    #[tactic(auto, unfolding(crate::specs::Commands::set_part, crate::specs::Rules::before))]
+    #[tactic(auto, unfolding(crate::specs::Commands::set_part))]
     fn set_part(&mut self, alloc: Global) -> Result<SetPart, Halt>
         ensures value { Reads (λ x. x) set_part self.old result self.new }
         ensures levels { self.new.levels ≡ self.old.levels }
         ensures list { self.new.list.now ≡ self.old.list.now }
     {
         let column = self.name(alloc)?;
-        self.want(TokenKind::Equal)?;
-        let value = self.literal(alloc)?;
+        let value = self.equal_literal(alloc)?;
         Ok(SetPart { column, value })
     }
 
@@ -224,6 +282,28 @@ impl<'a> Parser<'a> {
         Ok(list)
     }
 
+    /// SET and its parts.
+    #[tactic(auto, unfolding(crate::specs::Rules::before))]
+    fn set_clause(&mut self, alloc: Global) -> Result<List<SetPart>, Halt>
+        ensures value { Reads (λ x. x) (before k.Set (listed (Some 31) k.Comma set_part)) self.old result self.new }
+        ensures levels { self.new.levels ≡ self.old.levels }
+        ensures list { self.new.list.now ≡ self.old.list.now }
+    {
+        self.want(TokenKind::Set)?;
+        Ok(List::from_vec(self.set_parts(alloc)?))
+    }
+
+    /// WHERE name = literal
+    #[tactic(auto, unfolding(crate::specs::Rules::before))]
+    fn row_clause(&mut self, alloc: Global) -> Result<SetPart, Halt>
+        ensures value { Reads (λ x. x) (before k.Where set_part) self.old result self.new }
+        ensures levels { self.new.levels ≡ self.old.levels }
+        ensures list { self.new.list.now ≡ self.old.list.now }
+    {
+        self.want(TokenKind::Where)?;
+        self.set_part(alloc)
+    }
+
     #[tactic(auto, unfolding(crate::specs::Commands::update, crate::specs::Rules::before))]
     fn update(&mut self, alloc: Global) -> Result<Command, Halt>
         ensures value { Reads (λ x. x) update self.old result self.new }
@@ -232,10 +312,8 @@ impl<'a> Parser<'a> {
     {
         self.want(TokenKind::Update)?;
         let name = self.name(alloc)?;
-        self.want(TokenKind::Set)?;
-        let sets = List::from_vec(self.set_parts(alloc)?);
-        self.want(TokenKind::Where)?;
-        let SetPart { column, value } = self.set_part(alloc)?;
+        let sets = self.set_clause(alloc)?;
+        let SetPart { column, value } = self.row_clause(alloc)?;
         Ok(Command::Update {
             name,
             sets,
@@ -253,8 +331,7 @@ impl<'a> Parser<'a> {
         self.want(TokenKind::Delete)?;
         self.want(TokenKind::From)?;
         let name = self.name(alloc)?;
-        self.want(TokenKind::Where)?;
-        let SetPart { column, value } = self.set_part(alloc)?;
+        let SetPart { column, value } = self.row_clause(alloc)?;
         Ok(Command::Delete {
             name,
             column,
@@ -289,8 +366,7 @@ impl<'a> Parser<'a> {
         ensures list { self.new.list.now ≡ self.old.list.now }
     {
         let command = self.command(alloc)?;
-        self.want(TokenKind::Semicolon)?;
-        Ok(command)
+        self.closed_by(command, TokenKind::Semicolon)
     }
 
     /// Whether a command begins here.
@@ -332,6 +408,17 @@ impl<'a> Parser<'a> {
         Ok(Batch { commands })
     }
 
+    /// A batch and its COMMIT.
+    #[tactic(auto, unfolding(crate::specs::Rules::closed))]
+    fn ended_batch(&mut self, alloc: Global) -> Result<Batch, Halt>
+        ensures value { Reads (λ x. x) (closed batch k.Commit) self.old result self.new }
+        ensures levels { self.new.levels ≡ self.old.levels }
+        ensures list { self.new.list.now ≡ self.old.list.now }
+    {
+        let batch = self.batch(alloc)?;
+        self.closed_by(batch, TokenKind::Commit)
+    }
+
     /// A batch, its COMMIT and the semicolon behind that.
     #[tactic(auto, unfolding(crate::specs::Rules::closed))]
     fn committed_batch(&mut self, alloc: Global) -> Result<Batch, Halt>
@@ -339,10 +426,8 @@ impl<'a> Parser<'a> {
         ensures levels { self.new.levels ≡ self.old.levels }
         ensures list { self.new.list.now ≡ self.old.list.now }
     {
-        let batch = self.batch(alloc)?;
-        self.want(TokenKind::Commit)?;
-        self.want(TokenKind::Semicolon)?;
-        Ok(batch)
+        let batch = self.ended_batch(alloc)?;
+        self.closed_by(batch, TokenKind::Semicolon)
     }
 
     /// Any number of batches.

@@ -1,7 +1,8 @@
 //! Conditions, by recursive descent. A level is one NOT or one opening parenthesis.
-ghost use Rattle.std.specs.Prelude.{◌≡◌, ◌+◌, ◌<◌, [], ◌∷◌, true, map, OnOk, OnErr, IfOk, Ok, Err, length};
+ghost use Rattle.std.specs.Prelude.{◌≡◌, ◌+◌, ◌<◌, [], ◌∷◌, true, false, map, OnOk, OnErr, IfOk, Ok, Err, length};
 ghost use Rattle.vo_spec.specs.Conditions.{condition_of};
 ghost use Rattle.grammar.specs.Reading.{begins, taken};
+ghost use Rattle.sql_tokens.specs.declared.kinds.TokenKind.TheVariants as k;
 ghost use Rattle.sql_tokens.specs.Lex.{token_of};
 ghost use Rattle.sql_text.specs.Tokens.{sql};
 ghost use Rattle.sql_text.specs.Parsing.{left_of, Reads};
@@ -68,6 +69,39 @@ impl<'a> Parser<'a> {
         Ok(self.take(kind))
     }
 
+    /// NOT, which is next, and its part.
+    #[cycle(cond)]
+    #[tactic(auto, using(crate::proofs::Conds::prims))]
+    fn negation(&mut self, alloc: Global) -> Result<Cond, Halt>
+        requires { begins sql (k.Not ∷ []) (left_of self.old) ≡ true }
+        ensures value { Reads condition_of prim self.old result self.new }
+        ensures levels { OnOk result (self.new.levels ≡ self.old.levels) }
+        ensures list { self.new.list.now ≡ self.old.list.now }
+    {
+        let levels = self.levels;
+        self.open(TokenKind::Not)?;
+        let part = self.prim(alloc)?;
+        self.levels = levels;
+        Ok(Cond::Not(Box::new(alloc, part)?))
+    }
+
+    /// A condition in parentheses, the first of which is next.
+    #[cycle(cond)]
+    #[tactic(auto, using(crate::proofs::Conds::prims))]
+    fn enclosed(&mut self, alloc: Global) -> Result<Cond, Halt>
+        requires other { begins sql (k.Not ∷ []) (left_of self.old) ≡ false }
+        requires next { begins sql (k.LeftParen ∷ []) (left_of self.old) ≡ true }
+        ensures value { Reads condition_of prim self.old result self.new }
+        ensures levels { OnOk result (self.new.levels ≡ self.old.levels) }
+        ensures list { self.new.list.now ≡ self.old.list.now }
+    {
+        let levels = self.levels;
+        self.open(TokenKind::LeftParen)?;
+        let whole = self.disj(alloc)?;
+        self.levels = levels;
+        self.closed_by(whole, TokenKind::RightParen)
+    }
+
     #[cycle(cond)]
     #[tactic(auto, using(crate::proofs::Conds::prims))]
     fn prim(&mut self, alloc: Global) -> Result<Cond, Halt>
@@ -76,18 +110,9 @@ impl<'a> Parser<'a> {
         ensures list { self.new.list.now ≡ self.old.list.now }
     {
         if self.sees(TokenKind::Not) {
-            let levels = self.levels;
-            self.open(TokenKind::Not)?;
-            let part = self.prim(alloc)?;
-            self.levels = levels;
-            Ok(Cond::Not(Box::new(alloc, part)?))
+            self.negation(alloc)
         } else if self.sees(TokenKind::LeftParen) {
-            let levels = self.levels;
-            self.open(TokenKind::LeftParen)?;
-            let whole = self.disj(alloc)?;
-            self.levels = levels;
-            self.want(TokenKind::RightParen)?;
-            Ok(whole)
+            self.enclosed(alloc)
         } else {
             self.comparison(alloc)
         }

@@ -3,7 +3,7 @@ use grammar::Stop;
 use std::alloc::{AllocError, AllocFailed};
 
 /// Memory has ended, or the token that the parser stands at is a fault.
-#[derive(Clone, Copy, Debug, Drop)]
+#[derive(Clone, Copy, Drop)]
 pub enum Halt {
     Memory,
     Fault(Stop),

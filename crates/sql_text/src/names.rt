@@ -4,9 +4,10 @@ ghost use Rattle.std.specs.Str.{str_to_ascii_lowercase};
 ghost use Rattle.sql_tokens.specs.Lex.{unquoted, single_quotes};
 ghost use Rattle.sql_text.specs.Parsing.{Reads};
 ghost use Rattle.std.specs.Global.{Global};
+ghost use Rattle.grammar.specs.Rule.{either};
 ghost use Rattle.sql_tokens.specs.declared.kinds.TokenKind.TheVariants as k;
 ghost use Rattle.vo_spec.specs.declared.queries.Ref.{Ref};
-ghost use Rattle.sql_text.specs.Rules.{before, listed};
+ghost use Rattle.sql_text.specs.Rules.{before, optional, listed};
 ghost use Rattle.sql_text.specs.Queries.{name, literal, reference, source, operator, operand, ref_of, source_of};
 
 use crate::halt::Halt;
@@ -147,20 +148,33 @@ impl<'a> Parser<'a> {
         }
     }
 
-    #[tactic(auto, unfolding(crate::specs::Queries::source, crate::specs::Rules::optional, crate::specs::Rules::before), using(crate::proofs::Firsts::first_name, crate::proofs::Firsts::first_alias))]
+    /// The alias behind a table's name, if it is there.
+    #[tactic(auto, unfolding(crate::specs::Rules::optional, crate::specs::Rules::before), using(crate::proofs::Firsts::first_name, crate::proofs::Firsts::first_alias))]
+    fn alias_if_any(&mut self, alloc: Global) -> Result<Option<Name>, Halt>
+        ensures value { Reads (λ x. x) (optional (either (before k.As name) name)) self.old result self.new }
+        ensures levels { self.new.levels ≡ self.old.levels }
+        ensures list { self.new.list.now ≡ self.old.list.now }
+    {
+        if self.sees(TokenKind::As) {
+            self.take(TokenKind::As);
+            Ok(Some(self.name(alloc)?))
+        } else if self.sees(TokenKind::Name) {
+            Ok(Some(self.name(alloc)?))
+        } else {
+            Ok(None)
+        }
+    }
+
+    #[tactic(auto, unfolding(crate::specs::Queries::source))]
     pub fn source(&mut self, alloc: Global) -> Result<Source, Halt>
         ensures value { Reads (λ x. x) source self.old result self.new }
         ensures levels { self.new.levels ≡ self.old.levels }
         ensures list { self.new.list.now ≡ self.old.list.now }
     {
         let table = self.name(alloc)?;
-        let alias = if self.sees(TokenKind::As) {
-            self.take(TokenKind::As);
-            self.name(alloc)?
-        } else if self.sees(TokenKind::Name) {
-            self.name(alloc)?
-        } else {
-            Name::from_vec(Vec::from_slice(alloc, table.as_bytes())?)
+        let alias = match self.alias_if_any(alloc)? {
+            Some(alias) => alias,
+            None => Name::from_vec(Vec::from_slice(alloc, table.as_bytes())?),
         };
         Ok(Source { table, alias })
     }

@@ -1,5 +1,5 @@
 //! A parser over a list of tokens, one token ahead.
-ghost use Rattle.std.specs.Prelude.{◌≡◌, ◌+◌, ◌<◌, [], ◌∷◌, true, Ok, Err, OnOk};
+ghost use Rattle.std.specs.Prelude.{◌≡◌, ◌+◌, ◌<◌, [], ◌∷◌, true, Ok, Err, IfOk, OnOk};
 
 use crate::halt::Halt;
 use grammar::Stop;
@@ -18,7 +18,7 @@ impl<'a> Parser<'a> {
     ghost use Rattle.grammar.specs.Reading.{begins, taken};
     ghost use Rattle.sql_tokens.specs.Lex.{token_of};
     ghost use Rattle.sql_text.specs.Tokens.{sql};
-    ghost use Rattle.sql_text.specs.Parsing.{left_of, Reads};
+    ghost use Rattle.sql_text.specs.Parsing.{left_of, first_of, Reads};
 
     /// Whether the next token is of this kind.
     pub fn sees(&self, kind: TokenKind) -> bool
@@ -53,5 +53,17 @@ impl<'a> Parser<'a> {
         } else {
             Err(Halt::Fault(Stop::Syntax))
         }
+    }
+
+    /// The value that was read, with a token of this kind behind it.
+    #[tactic(auto, using(crate::proofs::Closing::taken_first))]
+    pub fn closed_by<T: Drop>(&mut self, found: T, kind: TokenKind) -> Result<T, Halt>
+        ensures value { Reads {B = T} (λ x. first_of (left_of self.old)) (token kind) self.old result self.new }
+        ensures same { IfOk result (λ x. x ≡ found) }
+        ensures levels { self.new.levels ≡ self.old.levels }
+        ensures list { self.new.list.now ≡ self.old.list.now }
+    {
+        self.want(kind)?;
+        Ok(found)
     }
 }

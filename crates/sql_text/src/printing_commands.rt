@@ -1,10 +1,11 @@
 //! Printing batches.
 ghost use Rattle.std.specs.Prelude.{◌≡◌, [], ◌∷◌, ◌++◌, IfOk, OnOk};
 ghost use Rattle.std.specs.Str.{IsUtf8};
+ghost use Rattle.sql_tokens.specs.declared.kinds.TokenKind.TheVariants as k;
 ghost use Rattle.sql_text.specs.Commands.{batch as batch_rule};
 ghost use Rattle.sql_text.specs.Texts.{most_bytes, IsTextOf};
 ghost use Rattle.sql_text.specs.Spellable.{SpellableBatch};
-ghost use Rattle.sql_text.specs.Printing.{kind_word, column_tokens, set_tokens, key_tokens, columns_tokens, command_tokens, batch_text, written};
+ghost use Rattle.sql_text.specs.Printing.{word, kind_word, column_tokens, set_tokens, key_tokens, columns_tokens, command_tokens, batch_text, written};
 
 use crate::printing::{Print, print_separated, print_terminated, put_word, without_last_blank};
 use sql_tokens::TokenKind;
@@ -110,6 +111,59 @@ fn print_insert(
     put_word(out, TokenKind::RightParen)
 }
 
+fn print_drop(alloc: Global, out: &mut Vec<u8>, name: &Name) -> Result<(), AllocError>
+    ensures { OnOk result (out.new.items ≡ out.old.items ++ written (command_tokens (Command.Drop name.now))) }
+{
+    put_word(out, TokenKind::Drop)?;
+    put_word(out, TokenKind::Table)?;
+    name.print(alloc, out)
+}
+
+/// WHERE name = literal
+fn print_row(
+    alloc: Global,
+    out: &mut Vec<u8>,
+    column: &Name,
+    value: &Value,
+) -> Result<(), AllocError>
+    ensures { OnOk result (out.new.items ≡ out.old.items ++ written (word k.Where ∷ set_tokens (record { column = column.now; value = value.now }))) }
+{
+    put_word(out, TokenKind::Where)?;
+    print_set(alloc, out, column, value)
+}
+
+fn print_update(
+    alloc: Global,
+    out: &mut Vec<u8>,
+    name: &Name,
+    sets: &[SetPart],
+    column: &Name,
+    value: &Value,
+) -> Result<(), AllocError>
+    ensures { OnOk result (out.new.items ≡ out.old.items ++ written (command_tokens (Command.Update name.now sets.now column.now value.now))) }
+{
+    put_word(out, TokenKind::Update)?;
+    name.print(alloc, out)?;
+    put_word(out, TokenKind::Set)?;
+    print_separated(alloc, out, sets, TokenKind::Comma)?;
+    print_row(alloc, out, column, value)
+}
+
+fn print_delete(
+    alloc: Global,
+    out: &mut Vec<u8>,
+    name: &Name,
+    column: &Name,
+    value: &Value,
+) -> Result<(), AllocError>
+    ensures { OnOk result (out.new.items ≡ out.old.items ++ written (command_tokens (Command.Delete name.now column.now value.now))) }
+{
+    put_word(out, TokenKind::Delete)?;
+    put_word(out, TokenKind::From)?;
+    name.print(alloc, out)?;
+    print_row(alloc, out, column, value)
+}
+
 impl Print for Command {
     ghost tokens = { command_tokens };
 
@@ -118,36 +172,19 @@ impl Print for Command {
             Command::Create { name, columns, key } => {
                 print_create(alloc, out, name, columns.as_slice(), key)
             }
-            Command::Drop { name } => {
-                put_word(out, TokenKind::Drop)?;
-                put_word(out, TokenKind::Table)?;
-                name.print(alloc, out)
-            }
+            Command::Drop { name } => print_drop(alloc, out, name),
             Command::Insert { name, values } => print_insert(alloc, out, name, values.as_slice()),
             Command::Update {
                 name,
                 sets,
                 column,
                 value,
-            } => {
-                put_word(out, TokenKind::Update)?;
-                name.print(alloc, out)?;
-                put_word(out, TokenKind::Set)?;
-                print_separated(alloc, out, sets.as_slice(), TokenKind::Comma)?;
-                put_word(out, TokenKind::Where)?;
-                print_set(alloc, out, column, value)
-            }
+            } => print_update(alloc, out, name, sets.as_slice(), column, value),
             Command::Delete {
                 name,
                 column,
                 value,
-            } => {
-                put_word(out, TokenKind::Delete)?;
-                put_word(out, TokenKind::From)?;
-                name.print(alloc, out)?;
-                put_word(out, TokenKind::Where)?;
-                print_set(alloc, out, column, value)
-            }
+            } => print_delete(alloc, out, name, column, value),
         }
     }
 }

@@ -2,16 +2,16 @@
 ghost use Rattle.std.specs.Prelude.{◌≡◌, [], ◌∷◌, ◌++◌, drop, map, option_map, IfOk, OnOk};
 ghost use Rattle.std.specs.Option.{option_map_or};
 ghost use Rattle.std.specs.Str.{IsUtf8};
-ghost use Rattle.vo_spec.specs.Conditions.{condition_of, conditions, query_of};
+ghost use Rattle.vo_spec.specs.Conditions.{negated, condition_of, conditions, query_of};
 ghost use Rattle.sql_text.specs.Queries.{query as query_rule};
 ghost use Rattle.sql_text.specs.Texts.{most_bytes, IsTextOf};
 ghost use Rattle.sql_text.specs.Spellable.{SpellableQuery};
-ghost use Rattle.sql_text.specs.Printing.{source_tokens, operator, operand_tokens, is_enclosed, enclosed, condition_tokens, parts_tokens, items_tokens, join_tokens, where_tokens, query_tokens, query_text, written};
+ghost use Rattle.sql_text.specs.Printing.{word, reference_tokens, source_tokens, operator, operand_tokens, is_enclosed, enclosed, condition_tokens, parts_tokens, items_tokens, join_tokens, where_tokens, query_tokens, query_text, written};
 
 use crate::printing::{Print, print_separated, put_word, without_last_blank};
 use sql_tokens::TokenKind;
 use std::alloc::{AllocError, Global};
-use vo_spec::{Cmp, Cond, Items, Join, Operand, QueryText, Source};
+use vo_spec::{Cmp, Cond, Items, Join, Operand, QueryText, Ref, Source};
 
 impl Print for Source {
     ghost tokens = { source_tokens };
@@ -58,7 +58,32 @@ impl Print for Operand {
     }
 }
 
-/// Prints a part of a NOT, an AND or an OR, in parentheses where its parts would be read as those of another.
+/// Whether parentheses stand round a part of a NOT, an AND or an OR: its parts would be read as those of another.
+fn is_enclosed(in_word: TokenKind, part: &Cond) -> bool
+    ensures { result ≡ is_enclosed in_word (condition_of part.now) }
+{
+    match part {
+        Cond::All(_) => !in_word.is(TokenKind::Or),
+        Cond::Any(_) => true,
+        Cond::Not(_) | Cond::Test { .. } => false,
+    }
+}
+
+fn print_test(
+    alloc: Global,
+    out: &mut Vec<u8>,
+    left: &Ref,
+    op: Cmp,
+    right: &Operand,
+) -> Result<(), AllocError>
+    ensures { OnOk result (out.new.items ≡ out.old.items ++ written (reference_tokens left.now ++ word (operator op) ∷ operand_tokens right.now)) }
+{
+    left.print(alloc, out)?;
+    put_word(out, operator(op))?;
+    right.print(alloc, out)
+}
+
+/// Prints a part of a NOT, an AND or an OR.
 #[cycle(print_part)]
 fn print_part(
     alloc: Global,
@@ -69,30 +94,12 @@ fn print_part(
     ensures { OnOk result (out.new.items ≡ out.old.items
         ++ written (enclosed (is_enclosed in_word (condition_of part.now)) (condition_tokens (condition_of part.now)))) }
 {
-    match part {
-        Cond::All(parts) if in_word.is(TokenKind::Or) => {
-            print_parts(alloc, out, parts.as_slice(), TokenKind::And)
-        }
-        Cond::All(parts) => {
-            put_word(out, TokenKind::LeftParen)?;
-            print_parts(alloc, out, parts.as_slice(), TokenKind::And)?;
-            put_word(out, TokenKind::RightParen)
-        }
-        Cond::Any(parts) => {
-            put_word(out, TokenKind::LeftParen)?;
-            print_parts(alloc, out, parts.as_slice(), TokenKind::Or)?;
-            put_word(out, TokenKind::RightParen)
-        }
-        Cond::Not(part) => {
-            put_word(out, TokenKind::Not)?;
-            print_part(alloc, out, part, TokenKind::Not)
-        }
-        Cond::Test { left, op, right } => {
-            left.print(alloc, out)?;
-            put_word(out, operator(*op))?;
-            right.print(alloc, out)
-        }
+    if !is_enclosed(in_word, part) {
+        return print_condition(alloc, out, part);
     }
+    put_word(out, TokenKind::LeftParen)?;
+    print_condition(alloc, out, part)?;
+    put_word(out, TokenKind::RightParen)
 }
 
 /// Prints the parts of an AND or an OR.
@@ -129,13 +136,25 @@ fn print_other_parts(
     Ok(())
 }
 
+/// Prints a NOT and its part.
+#[cycle(print_part)]
+fn print_negated(alloc: Global, out: &mut Vec<u8>, part: &Cond) -> Result<(), AllocError>
+    ensures { OnOk result (out.new.items ≡ out.old.items ++ written (condition_tokens (negated (condition_of part.now)))) }
+{
+    put_word(out, TokenKind::Not)?;
+    print_part(alloc, out, part, TokenKind::Not)
+}
+
 /// Prints a whole condition.
+#[cycle(print_part)]
 fn print_condition(alloc: Global, out: &mut Vec<u8>, cond: &Cond) -> Result<(), AllocError>
     ensures { OnOk result (out.new.items ≡ out.old.items ++ written (condition_tokens (condition_of cond.now))) }
 {
     match cond {
+        Cond::All(parts) => print_parts(alloc, out, parts.as_slice(), TokenKind::And),
         Cond::Any(parts) => print_parts(alloc, out, parts.as_slice(), TokenKind::Or),
-        cond => print_part(alloc, out, cond, TokenKind::Or),
+        Cond::Not(part) => print_negated(alloc, out, part),
+        Cond::Test { left, op, right } => print_test(alloc, out, left, *op, right),
     }
 }
 

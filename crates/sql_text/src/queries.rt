@@ -1,6 +1,6 @@
 //! Queries.
 ghost use Rattle.std.specs.Prelude.{◌≡◌, Ok, OnOk, option_map};
-ghost use Rattle.grammar.specs.Rule.{token};
+ghost use Rattle.grammar.specs.Rule.{token, both};
 ghost use Rattle.grammar.specs.Reading.{read, reader};
 ghost use Rattle.sql_tokens.specs.Lex.{token_of};
 ghost use Rattle.sql_tokens.specs.declared.kinds.TokenKind.TheVariants as k;
@@ -8,13 +8,13 @@ ghost use Rattle.vo_spec.specs.Conditions.{condition_of, query_of};
 ghost use Rattle.sql_text.specs.Tokens.{sql};
 ghost use Rattle.sql_text.specs.Parsing.{left_of, Reads};
 ghost use Rattle.sql_text.specs.Rules.{before, optional};
-ghost use Rattle.sql_text.specs.Queries.{items, join, disj, query, conditions_of};
+ghost use Rattle.sql_text.specs.Queries.{reference, source, items, on_clause, join, disj, query, conditions_of};
 
 use crate::halt::Halt;
 use crate::parser::Parser;
 use sql_tokens::{Lexeme, TokenKind};
 use std::alloc::Global;
-use vo_spec::{Cond, Items, Join, List, QueryText};
+use vo_spec::{Cond, Items, Join, List, QueryText, Ref, Source};
 
 impl<'a> Parser<'a> {
     /// A token of this kind, if it is next.
@@ -45,6 +45,30 @@ impl<'a> Parser<'a> {
         }
     }
 
+    /// = reference
+    #[tactic(auto, unfolding(crate::specs::Rules::before))]
+    fn equal_reference(&mut self, alloc: Global) -> Result<Ref, Halt>
+        ensures value { Reads (λ x. x) (before k.Equal reference) self.old result self.new }
+        ensures levels { self.new.levels ≡ self.old.levels }
+        ensures list { self.new.list.now ≡ self.old.list.now }
+    {
+        self.want(TokenKind::Equal)?;
+        self.reference(alloc)
+    }
+
+    /// ON reference = reference
+    #[tactic(auto, unfolding(crate::specs::Queries::on_clause, crate::specs::Rules::before))]
+    fn on_clause(&mut self, alloc: Global) -> Result<(Ref, Ref), Halt>
+        ensures value { Reads (λ x. x) on_clause self.old result self.new }
+        ensures levels { self.new.levels ≡ self.old.levels }
+        ensures list { self.new.list.now ≡ self.old.list.now }
+    {
+        self.want(TokenKind::On)?;
+        let left = self.reference(alloc)?;
+        let right = self.equal_reference(alloc)?;
+        Ok((left, right))
+    }
+
     #[tactic(auto, unfolding(crate::specs::Queries::join, crate::specs::Rules::before))]
     fn join(&mut self, alloc: Global) -> Result<Join, Halt>
         ensures value { Reads (λ x. x) join self.old result self.new }
@@ -54,10 +78,7 @@ impl<'a> Parser<'a> {
         self.skip(TokenKind::Inner);
         self.want(TokenKind::Join)?;
         let right = self.source(alloc)?;
-        self.want(TokenKind::On)?;
-        let left_ref = self.reference(alloc)?;
-        self.want(TokenKind::Equal)?;
-        let right_ref = self.reference(alloc)?;
+        let (left_ref, right_ref) = self.on_clause(alloc)?;
         Ok(Join {
             right,
             left_ref,
@@ -92,18 +113,51 @@ impl<'a> Parser<'a> {
         }
     }
 
-    #[tactic(auto, unfolding(crate::specs::Queries::query, crate::specs::Rules::before))]
+    /// SELECT items
+    #[tactic(auto, unfolding(crate::specs::Rules::before))]
+    fn select_clause(&mut self, alloc: Global) -> Result<Items, Halt>
+        ensures value { Reads (λ x. x) (before k.Select items) self.old result self.new }
+        ensures levels { self.new.levels ≡ self.old.levels }
+        ensures list { self.new.list.now ≡ self.old.list.now }
+    {
+        self.want(TokenKind::Select)?;
+        self.items(alloc)
+    }
+
+    /// FROM source
+    #[tactic(auto, unfolding(crate::specs::Rules::before))]
+    fn from_clause(&mut self, alloc: Global) -> Result<Source, Halt>
+        ensures value { Reads (λ x. x) (before k.From source) self.old result self.new }
+        ensures levels { self.new.levels ≡ self.old.levels }
+        ensures list { self.new.list.now ≡ self.old.list.now }
+    {
+        self.want(TokenKind::From)?;
+        self.source(alloc)
+    }
+
+    /// What may stand behind the first source: a join, a condition and a semicolon.
+    fn clauses_if_any(
+        &mut self,
+        alloc: Global,
+    ) -> Result<(Option<Join>, Option<Cond>, Option<Lexeme<'a>>), Halt>
+        ensures value { Reads (λ x. (x.0, (option_map condition_of x.1, option_map token_of x.2)))
+            (both (optional join) (both (optional (before k.Where disj)) (optional (token k.Semicolon)))) self.old result self.new }
+        ensures list { self.new.list.now ≡ self.old.list.now }
+    {
+        let join = self.join_if_any(alloc)?;
+        let cond = self.condition_if_any(alloc)?;
+        let end = self.skip(TokenKind::Semicolon);
+        Ok((join, cond, end))
+    }
+
+    #[tactic(auto, unfolding(crate::specs::Queries::query))]
     pub fn query(&mut self, alloc: Global) -> Result<QueryText, Halt>
         ensures value { Reads query_of query self.old result self.new }
         ensures list { self.new.list.now ≡ self.old.list.now }
     {
-        self.want(TokenKind::Select)?;
-        let items = self.items(alloc)?;
-        self.want(TokenKind::From)?;
-        let left = self.source(alloc)?;
-        let join = self.join_if_any(alloc)?;
-        let cond = self.condition_if_any(alloc)?;
-        self.skip(TokenKind::Semicolon);
+        let items = self.select_clause(alloc)?;
+        let left = self.from_clause(alloc)?;
+        let (join, cond, _) = self.clauses_if_any(alloc)?;
         Ok(QueryText {
             items,
             left,

@@ -1,4 +1,4 @@
-use Rattle.std.proofs.Common.{◌≡◌, sym, ap, ◌∙◌, rules, arith, map, length, subst, None, [], refl, Ok, Err}
+use Rattle.std.proofs.Common.{sym, ap, ◌∙◌, rules, None, refl, Ok}
 use Rattle.grammar.specs.Reading.{and_then}
 use Rattle.sql_tokens.specs.declared.kinds.TokenKind.TheVariants as k
 use Rattle.sql_tokens.specs.Lex.{token_of}
@@ -6,39 +6,32 @@ use Rattle.vo_spec.specs.Conditions.{condition_of, negated}
 use Rattle.sql_text.specs.Parsing.{left_of}
 use Rattle.sql_text.specs.Queries.{prim, conj, all_of, any_of}
 use Rattle.sql_text.proofs.Rounds.{turn, turn_fails, begun, begun_fails, stopped, fewer}
-use Rattle.sql_text.proofs.Conds.{not_done, not_fails, paren_done, paren_open, paren_fails, conj_is, disj_is, not_is}
+use Rattle.sql_text.proofs.Conds.{not_done, not_fails, paren_closed, paren_fails, conj_is, disj_is, not_is}
 use Rattle.sql_text.proofs.parser.Parser.+cond.Goals as goal
 
-pub prim-returns-in_err-part-clause-value : goal.prim-returns-in_err-part-clause-value
-prim-returns-in_err-part-clause-value t c =
+pub negation-returns-in_err-part-clause-value : goal.negation-returns-in_err-part-clause-value
+negation-returns-in_err-part-clause-value t c =
     let f = not_fails c.args.self.now.levels (left_of c.args.self.now) c.open.new.self.levels (token_of c.in_ok-open.field-0) (left_of c.open.new.self) c.in_ok-open.ensures.levels
-    c.in_err-part.field-0.0 (left_of c.prim.new.self) (sym c.sees.ensures ∙ c.if-sees.true) c.in_ok-open.ensures.opened c.in_err-part.ensures.value in
+    c.in_err-part.field-0.0 (left_of c.prim.new.self) c.requires c.in_ok-open.ensures.opened c.in_err-part.ensures.value in
     search rules
 
-pub prim-returns-in_ok-new-clause-value : goal.prim-returns-in_ok-new-clause-value
-prim-returns-in_ok-new-clause-value t c =
+pub negation-returns-clause-value : goal.negation-returns-clause-value
+negation-returns-clause-value t c =
     not_done c.args.self.now.levels (left_of c.args.self.now) c.open.new.self.levels (token_of c.in_ok-open.field-0) (left_of c.open.new.self) c.in_ok-open.ensures.levels
-    (condition_of c.in_ok-part.part) (left_of c.prim.new.self) (sym c.sees.ensures ∙ c.if-sees.true) c.in_ok-open.ensures.opened c.in_ok-part.ensures.value
+    (condition_of c.in_ok-part.part) (left_of c.prim.new.self) c.requires c.in_ok-open.ensures.opened c.in_ok-part.ensures.value
     ∙ ap (λ z. (Ok z, left_of c.prim.new.self)) (sym (not_is c.in_ok-new.field-0 ∙ ap (λ z. negated (condition_of z)) c.in_ok-new.ensures.ok))
 
-pub prim-returns-in_err-whole-clause-value : goal.prim-returns-in_err-whole-clause-value
-prim-returns-in_err-whole-clause-value t c =
-    let f = paren_fails c.args.self.now.levels (left_of c.args.self.now) c.open-then-sees-2.new.self.levels (token_of c.in_ok-open-2.field-0) (left_of c.open-then-sees-2.new.self) c.in_ok-open-2.ensures.levels
-    c.in_err-whole.field-0.0 (left_of c.disj.new.self) (sym c.sees.ensures ∙ c.if-sees.false) (sym c.sees-else-sees.ensures ∙ c.if-sees-2.true) c.in_ok-open-2.ensures.opened c.in_err-whole.ensures.value in
+pub enclosed-returns-in_err-whole-clause-value : goal.enclosed-returns-in_err-whole-clause-value
+enclosed-returns-in_err-whole-clause-value t c =
+    let f = paren_fails c.args.self.now.levels (left_of c.args.self.now) c.open.new.self.levels (token_of c.in_ok-open.field-0) (left_of c.open.new.self) c.in_ok-open.ensures.levels
+    c.in_err-whole.field-0.0 (left_of c.disj.new.self) c.requires.other c.requires.next c.in_ok-open.ensures.opened c.in_err-whole.ensures.value in
     search rules
 
-pub prim-returns-in_err-want-clause-value : goal.prim-returns-in_err-want-clause-value
-prim-returns-in_err-want-clause-value t c =
-    let f = paren_open c.args.self.now.levels (left_of c.args.self.now) c.open-then-sees-2.new.self.levels (token_of c.in_ok-open-2.field-0) (left_of c.open-then-sees-2.new.self) c.in_ok-open-2.ensures.levels
-    (condition_of c.in_ok-whole.whole) (left_of c.disj.new.self) c.in_err-want.field-0.0 (left_of c.want.new.self)
-    (sym c.sees.ensures ∙ c.if-sees.false) (sym c.sees-else-sees.ensures ∙ c.if-sees-2.true) c.in_ok-open-2.ensures.opened c.in_ok-whole.ensures.value c.in_err-want.ensures.value in
-    search rules
-
-pub prim-returns-in_ok-want-clause-value : goal.prim-returns-in_ok-want-clause-value
-prim-returns-in_ok-want-clause-value t c =
-    paren_done c.args.self.now.levels (left_of c.args.self.now) c.open-then-sees-2.new.self.levels (token_of c.in_ok-open-2.field-0) (left_of c.open-then-sees-2.new.self) c.in_ok-open-2.ensures.levels
-    (condition_of c.in_ok-whole.whole) (left_of c.disj.new.self) (token_of c.in_ok-want.field-0) (left_of c.want.new.self)
-    (sym c.sees.ensures ∙ c.if-sees.false) (sym c.sees-else-sees.ensures ∙ c.if-sees-2.true) c.in_ok-open-2.ensures.opened c.in_ok-whole.ensures.value c.in_ok-want.ensures.value
+pub enclosed-returns-clause-value : goal.enclosed-returns-clause-value
+enclosed-returns-clause-value t c =
+    paren_closed c.args.self.now.levels (left_of c.args.self.now) c.open.new.self.levels (token_of c.in_ok-open.field-0) (left_of c.open.new.self) c.in_ok-open.ensures.levels
+    c.in_ok-whole.whole (left_of c.disj.new.self) c.closed_by.result (left_of c.closed_by.new.self)
+    c.requires.other c.requires.next c.in_ok-open.ensures.opened c.in_ok-whole.ensures.value c.closed_by.ensures.value c.closed_by.ensures.same
 
 pub conj-returns-in_err-prim-clause-value : goal.conj-returns-in_err-prim-clause-value
 conj-returns-in_err-prim-clause-value t c =

@@ -7,13 +7,19 @@ use Rattle.sql_text.proofs.Rounds.{more_of, with_front}
 use Rattle.sql_text.proofs.parser.Parser.+cond.Given as goal
 
 abbrev pub decreases-prim : goal.decreases-prim
-decreases-prim l = 3 * l.self.now.levels
+decreases-prim l = 4 * l.self.now.levels + 1
+
+abbrev pub decreases-negation : goal.decreases-negation
+decreases-negation l = 4 * l.self.now.levels
+
+abbrev pub decreases-enclosed : goal.decreases-enclosed
+decreases-enclosed l = 4 * l.self.now.levels
 
 abbrev pub decreases-conj : goal.decreases-conj
-decreases-conj l = 3 * l.self.now.levels + 1
+decreases-conj l = 4 * l.self.now.levels + 2
 
 abbrev pub decreases-disj : goal.decreases-disj
-decreases-disj l = 3 * l.self.now.levels + 2
+decreases-disj l = 4 * l.self.now.levels + 3
 
 abbrev pub invariant-conj-loop-alloc : goal.invariant-conj-loop-alloc
 invariant-conj-loop-alloc l =

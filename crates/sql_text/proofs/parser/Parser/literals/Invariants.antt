@@ -1,12 +1,8 @@
-use Rattle.std.proofs.Common.{◌≡◌, ◌-◌, ◌<◌, ◌≤◌, length, map, Some, None}
+use Rattle.std.proofs.Common.{◌≡◌, ◌-◌, ◌≤◌, length, map, Some}
 use Rattle.sql_tokens.specs.declared.kinds.TokenKind.TheVariants as k
 use Rattle.sql_text.specs.Parsing.{left_of}
-use Rattle.std.specs.Prelude.{Vec}
-use Rattle.std.specs.Global.{Global}
-use Rattle.vo_spec.specs.declared.values.Value.{Value}
-use Rattle.sql_text.specs.Rules.{before, closed, in_parens, optional, listed, ended}
-use Rattle.sql_text.specs.Queries.{name, literal}
-use Rattle.sql_text.specs.Commands.{column_kind, column, create, drop_table, insert, set_part, update, delete, command}
+use Rattle.sql_text.specs.Rules.{before}
+use Rattle.sql_text.specs.Queries.{literal}
 use Rattle.sql_text.proofs.Rounds.{with_front}
 use Rattle.sql_text.proofs.Repeats.{many_of}
 use Rattle.sql_text.proofs.parser.Parser.literals.Given as goal

@@ -1,4 +1,4 @@
-use Rattle.std.proofs.Common.{◌≡◌, ◌-◌, ◌<◌, sym, ap, ◌∙◌, rules, arith, map, length, Some, None, refl, Ok, Err}
+use Rattle.std.proofs.Common.{◌≡◌, ◌-◌, ◌<◌, sym, ap, ◌∙◌, rules, arith, length, Some, refl, Ok}
 use Rattle.std.proofs.lemmas.List.{map-id}
 use Rattle.sql_tokens.specs.declared.kinds.TokenKind.TheVariants as k
 use Rattle.sql_text.specs.Parsing.{left_of}

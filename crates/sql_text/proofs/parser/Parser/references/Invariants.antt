@@ -1,10 +1,7 @@
-use Rattle.std.proofs.Common.{◌≡◌, ◌-◌, ◌<◌, ◌≤◌, length, map, Some, None}
+use Rattle.std.proofs.Common.{◌≡◌, ◌-◌, ◌≤◌, length, map, Some}
 use Rattle.sql_tokens.specs.declared.kinds.TokenKind.TheVariants as k
 use Rattle.sql_text.specs.Parsing.{left_of}
-use Rattle.std.specs.Prelude.{Vec}
-use Rattle.std.specs.Global.{Global}
-use Rattle.vo_spec.specs.declared.queries.Ref.{Ref}
-use Rattle.sql_text.specs.Rules.{before, listed}
+use Rattle.sql_text.specs.Rules.{before}
 use Rattle.sql_text.specs.Queries.{reference}
 use Rattle.sql_text.proofs.Rounds.{with_front}
 use Rattle.sql_text.proofs.Repeats.{many_of}

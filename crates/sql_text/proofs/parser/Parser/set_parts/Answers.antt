@@ -1,13 +1,12 @@
-use Rattle.std.proofs.Common.{◌≡◌, ◌-◌, ◌<◌, sym, ap, ◌∙◌, rules, arith, map, length, Some, None, refl, Ok, Err}
+use Rattle.std.proofs.Common.{◌≡◌, ◌-◌, ◌<◌, sym, ap, ◌∙◌, rules, arith, length, Some, refl, Ok}
 use Rattle.std.proofs.lemmas.List.{map-id}
 use Rattle.sql_tokens.specs.declared.kinds.TokenKind.TheVariants as k
 use Rattle.sql_text.specs.Parsing.{left_of}
 use Rattle.std.specs.Prelude.{Vec}
 use Rattle.std.specs.Global.{Global}
 use Rattle.vo_spec.specs.declared.tables.SetPart.{SetPart}
-use Rattle.sql_text.specs.Rules.{before, closed, in_parens, optional, listed, ended}
-use Rattle.sql_text.specs.Queries.{name, literal}
-use Rattle.sql_text.specs.Commands.{column_kind, column, create, drop_table, insert, set_part, update, delete, command}
+use Rattle.sql_text.specs.Rules.{before, listed}
+use Rattle.sql_text.specs.Commands.{set_part}
 use Rattle.sql_text.proofs.Repeats.{turn, turn_fails, begun, begun_fails, stops, overfull, fewer, has_room, one_fewer, no_room}
 use Rattle.sql_text.proofs.parser.Parser.set_parts.Goals as goal
 
