@@ -1,5 +1,5 @@
 -- A repetition of parts behind separators, as a loop reads it.
-use Rattle.std.proofs.Common.{◌≡◌, ℕ, ◌+◌, ◌≤◌, ◌<◌, true, false, cond, List, [], ◌∷◌, ◌++◌, length, Option, Ok, Err, refl, sym, ap, ◌∙◌, subst, arith, append_assoc}
+use Rattle.std.proofs.Common.{Result, ◌≡◌, ℕ, ◌+◌, ◌≤◌, ◌<◌, true, false, cond, List, [], ◌∷◌, ◌++◌, length, Option, Ok, Err, refl, sym, ap, ◌∙◌, subst, arith, append_assoc}
 use Rattle.grammar.specs.Rule.{Rule, many}
 use Rattle.grammar.specs.Checks.{is_nullable, first}
 use Rattle.grammar.specs.Reading.{Found, begins, taken, and_then, is_full, one_less, read, reader}
@@ -9,10 +9,12 @@ use Rattle.grammar.proofs.Shorter.{Shortens, round, many_step, solid_shorter, sh
 use Rattle.sql_tokens.specs.declared.kinds.TokenKind.{TokenKind}
 use Rattle.sql_tokens.specs.Lex.{Token}
 use Rattle.std.specs.Prelude.{map}
-use Rattle.std.proofs.lemmas.List.{append-nil, map-append}
+use Rattle.std.proofs.lemmas.List.{append-nil, map-append, length-append}
 use Rattle.sql_text.specs.declared.halt.Halt.{Halt}
 use Rattle.sql_text.specs.declared.halt.Halt.TheVariants.{Memory, Fault}
-use Rattle.sql_text.specs.Parsing.{Finds}
+use Rattle.sql_text.specs.Parsing.{Finds, Appends}
+use Rattle.std.specs.Prelude.{Vec, OnOk}
+use Rattle.std.specs.Global.{Global}
 use Rattle.sql_text.specs.Tokens.{sql}
 use Rattle.sql_text.specs.Rules.{before, listed}
 use Rattle.sql_text.specs.Queries.{conditions_of}
@@ -114,6 +116,44 @@ module _ {A B : Type 0} (view : B → A) (most : Option ℕ) (kind : TokenKind) 
   begun_fails other levels left rest Memory whole of_parts keeps k h = tt
   begun_fails other levels left rest (Fault s) whole of_parts keeps k h = k ∙ ap of_parts (listed_fails most kind p levels left s rest h) ∙ keeps s
 
+-- the same where a part is put behind the others as it was read
+
+-- what stays where the part was read
+pub kept : {B : Type 0} {P : Type 0} (front : List B) (part : Result B Halt) (list : Vec B Global) → Appends front part (Ok list) → OnOk part P → P
+kept front (Ok x) list k h = h
+kept front (Err halt) list k h = absurd k
+
+pub some_in : {B : Type 0} (front : List B) (part : Result B Halt) (list : Vec B Global) → Appends front part (Ok list) → 0 < length list.items
+some_in front (Ok x) list k = let e = ap length k ∙ length-append front (x ∷ []) in omega arith
+some_in front (Err halt) list k = absurd k
+
+module _ {A B : Type 0} (view : B → A) (most : Option ℕ) (kind : TokenKind) (p : Rule sql A) where
+  pub turn_in : (levels m n : ℕ) (front : List B) (part : Result B Halt) (list : Vec B Global) (left : List Token) (t : Token) (mid rest : List Token) → m ≡ levels → OnOk part (n ≡ m) → is_full most ≡ false
+      → begins sql (kind ∷ []) left ≡ true → taken sql kind left ≡ (Ok t, mid) → Finds view (read (reader conditions_of m) p mid) part rest → Appends front part (Ok list)
+      → with_front (map view list.items) (more_of (one_less most) kind p n rest) ≡ with_front (map view front) (more_of most kind p levels left)
+  turn_in levels m n front (Ok x) list left t mid rest e f room b g h k = turn view most kind p levels m n front list.items x left t mid rest e f room b g h k
+  turn_in levels m n front (Err halt) list left t mid rest e f room b g h k = absurd k
+
+  pub turn_stops : {C D : Type 0} (other : D → C) (levels m : ℕ) (front : List B) (part : Result B Halt) (left : List Token) (t : Token) (mid rest : List Token) (halt : Halt) (whole : Found Token C)
+      (of_parts : Found Token (List A) → Found Token C) → ((s : Stop) → of_parts (Err s, rest) ≡ (Err s, rest)) → m ≡ levels → is_full most ≡ false
+      → begins sql (kind ∷ []) left ≡ true → taken sql kind left ≡ (Ok t, mid) → whole ≡ of_parts (with_front (map view front) (more_of most kind p levels left))
+      → Finds view (read (reader conditions_of m) p mid) part rest → Appends front part (Err halt) → Finds other whole (Err halt) rest
+  turn_stops other levels m front (Ok x) left t mid rest halt whole of_parts keeps e room b g w h k = subst (λ z. Finds other whole (Err z) rest) (sym k) tt
+  turn_stops other levels m front (Err why) left t mid rest halt whole of_parts keeps e room b g w h k =
+      subst (λ z. Finds other whole (Err z) rest) (sym k) (turn_fails view most kind p other levels m front left t mid rest why whole of_parts keeps e room b g w h)
+
+  pub begun_in : (levels n : ℕ) (left rest : List Token) (none : List B) (part : Result B Halt) (list : Vec B Global) → OnOk part (n ≡ levels) → Finds view (read (reader conditions_of levels) p left) part rest
+      → none ≡ [] → Appends none part (Ok list) → read (reader conditions_of levels) (listed most kind p) left ≡ with_front (map view list.items) (more_of most kind p n rest)
+  begun_in levels n left rest none (Ok x) list e h i k = begun view most kind p levels n left rest x none list.items e h i k
+  begun_in levels n left rest none (Err halt) list e h i k = absurd k
+
+  pub begun_stops : {C D : Type 0} (other : D → C) (levels : ℕ) (left rest : List Token) (none : List B) (part : Result B Halt) (halt : Halt) (whole : Found Token C)
+      (of_parts : Found Token (List A) → Found Token C) → ((s : Stop) → of_parts (Err s, rest) ≡ (Err s, rest)) → whole ≡ of_parts (read (reader conditions_of levels) (listed most kind p) left)
+      → Finds view (read (reader conditions_of levels) p left) part rest → Appends none part (Err halt) → Finds other whole (Err halt) rest
+  begun_stops other levels left rest none (Ok x) halt whole of_parts keeps w h k = subst (λ z. Finds other whole (Err z) rest) (sym k) tt
+  begun_stops other levels left rest none (Err why) halt whole of_parts keeps w h k =
+      subst (λ z. Finds other whole (Err z) rest) (sym k) (begun_fails view most kind p other levels left rest why whole of_parts keeps w h)
+
 -- no further part
 pub stopped : {A B : Type 0} (view : B → A) (most : Option ℕ) (kind : TokenKind) (p : Rule sql A) (levels : ℕ) (front : List B) (left : List Token)
     → begins sql (kind ∷ []) left ≡ false → with_front (map view front) (more_of most kind p levels left) ≡ (Ok (map view front), left)
@@ -131,3 +171,8 @@ fewer p kind m left t mid v rest e h =
     let one : length mid + 1 ≤ length left = subst (Shortens 1 left) e (shortens_taken sql (reader conditions_of m) (nested_shorter sql conditions_of m) kind left) in
     let part : length rest + least (is_nullable p) ≤ length mid = subst (Shortens (least (is_nullable p)) mid) h (shorter sql (reader conditions_of m) (nested_shorter sql conditions_of m) p mid) in
     omega arith
+
+pub fewer_in : {A B : Type 0} (view : B → A) (p : Rule sql A) (kind : TokenKind) (m : ℕ) (front : List B) (part : Result B Halt) (list : Vec B Global) (left : List Token) (t : Token) (mid rest : List Token)
+    → taken sql kind left ≡ (Ok t, mid) → Finds view (read (reader conditions_of m) p mid) part rest → Appends front part (Ok list) → length rest < length left
+fewer_in view p kind m front (Ok x) list left t mid rest e h k = fewer p kind m left t mid (view x) rest e h
+fewer_in view p kind m front (Err halt) list left t mid rest e h k = absurd k

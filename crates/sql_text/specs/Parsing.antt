@@ -1,5 +1,6 @@
 -- What a method of the parser does: it reads a rule from the tokens that are left.
-use Rattle.std.specs.Prelude.{◌≡◌, List, [], ◌∷◌, drop, map, pos, Result, Ok, Err}
+use Rattle.std.specs.Prelude.{◌≡◌, List, [], ◌∷◌, drop, map, pos, Result, Ok, Err, ◌++◌, Vec}
+use Rattle.std.specs.Global.{Global}
 use Rattle.grammar.specs.Rule.{Rule}
 use Rattle.grammar.specs.Reading.{Found, read, reader}
 use Rattle.sql_tokens.specs.declared.kinds.TokenKind.TheVariants as k
@@ -28,3 +29,10 @@ Finds view found (Err (Fault stop)) left = found ≡ (Err stop, left)
 -- the method reads this rule with the levels that are left
 abbrev pub Reads : {A B : Type 0} → (B → A) → Rule sql A → Parser → Result B Halt → Parser → Type 0
 Reads view rule old result new = Finds view (read (reader conditions_of old.levels) rule (left_of old)) result (left_of new)
+
+-- the list with the part that was read at its end, or the halt
+abbrev pub Appends : {T : Type 0} → List T → Result T Halt → Result (Vec T Global) Halt → Type 0
+Appends front (Ok x) (Ok list) = list.items ≡ front ++ x ∷ []
+Appends front (Ok x) (Err halt) = halt ≡ Memory
+Appends front (Err why) (Ok list) = ⊥
+Appends front (Err why) (Err halt) = halt ≡ why

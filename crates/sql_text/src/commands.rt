@@ -18,7 +18,7 @@ ghost use Rattle.sql_text.specs.Queries.{name, literal};
 ghost use Rattle.sql_text.specs.Commands.{column_kind, column, key_clause, create, drop_table, insert, set_part, update, delete, command, batch, script};
 
 use crate::halt::Halt;
-use crate::parser::Parser;
+use crate::parser::{Parser, appended};
 use grammar::Stop;
 use sql_tokens::{Lexeme, TokenKind};
 use std::alloc::Global;
@@ -94,13 +94,12 @@ impl<'a> Parser<'a> {
         ensures levels { self.new.levels ≡ self.old.levels }
         ensures list { self.new.list.now ≡ self.old.list.now }
     {
-        let mut list = Vec::new(alloc);
-        list.push(self.column(alloc)?)?;
+        let mut list = appended(Vec::new(alloc), self.column(alloc))?;
         'parts: while self.sees(TokenKind::Name) {
             if list.len() == COLUMNS_MAX {
                 return Err(Halt::Fault(Stop::TooMany));
             }
-            list.push(self.column(alloc)?)?;
+            list = appended(list, self.column(alloc))?;
         }
         Ok(list)
     }
@@ -184,13 +183,12 @@ impl<'a> Parser<'a> {
         ensures levels { self.new.levels ≡ self.old.levels }
         ensures list { self.new.list.now ≡ self.old.list.now }
     {
-        let mut list = Vec::new(alloc);
-        list.push(self.literal(alloc)?)?;
+        let mut list = appended(Vec::new(alloc), self.literal(alloc))?;
         'parts: while self.sees(TokenKind::Comma) {
             if list.len() == COLUMNS_MAX {
                 return Err(Halt::Fault(Stop::TooMany));
             }
-            list.push(self.next_literal(alloc)?)?;
+            list = appended(list, self.next_literal(alloc))?;
         }
         Ok(list)
     }
@@ -271,13 +269,12 @@ impl<'a> Parser<'a> {
         ensures levels { self.new.levels ≡ self.old.levels }
         ensures list { self.new.list.now ≡ self.old.list.now }
     {
-        let mut list = Vec::new(alloc);
-        list.push(self.set_part(alloc)?)?;
+        let mut list = appended(Vec::new(alloc), self.set_part(alloc))?;
         'parts: while self.sees(TokenKind::Comma) {
             if list.len() == COLUMNS_MAX {
                 return Err(Halt::Fault(Stop::TooMany));
             }
-            list.push(self.next_set_part(alloc)?)?;
+            list = appended(list, self.next_set_part(alloc))?;
         }
         Ok(list)
     }
@@ -387,13 +384,12 @@ impl<'a> Parser<'a> {
         ensures levels { self.new.levels ≡ self.old.levels }
         ensures list { self.new.list.now ≡ self.old.list.now }
     {
-        let mut list = Vec::new(alloc);
-        list.push(self.closed_command(alloc)?)?;
+        let mut list = appended(Vec::new(alloc), self.closed_command(alloc))?;
         'parts: while self.sees_command() {
             if list.len() == COMMANDS_MAX {
                 return Err(Halt::Fault(Stop::TooMany));
             }
-            list.push(self.closed_command(alloc)?)?;
+            list = appended(list, self.closed_command(alloc))?;
         }
         Ok(list)
     }

@@ -9,7 +9,7 @@ ghost use Rattle.sql_text.specs.Parsing.{left_of, Reads};
 ghost use Rattle.sql_text.specs.Queries.{comparison, prim, conj, disj, all_of, any_of};
 
 use crate::halt::Halt;
-use crate::parser::Parser;
+use crate::parser::{Parser, appended};
 use grammar::Stop;
 use sql_tokens::{Lexeme, TokenKind};
 use std::alloc::Global;
@@ -124,11 +124,10 @@ impl<'a> Parser<'a> {
         ensures levels { OnOk result (self.new.levels ≡ self.old.levels) }
         ensures list { self.new.list.now ≡ self.old.list.now }
     {
-        let mut parts = Vec::new(alloc);
-        parts.push(self.prim(alloc)?)?;
+        let mut parts = appended(Vec::new(alloc), self.prim(alloc))?;
         while self.sees(TokenKind::And) {
             self.take(TokenKind::And);
-            parts.push(self.prim(alloc)?)?;
+            parts = appended(parts, self.prim(alloc))?;
         }
         Ok(all_of(parts))
     }
@@ -139,11 +138,10 @@ impl<'a> Parser<'a> {
         ensures levels { OnOk result (self.new.levels ≡ self.old.levels) }
         ensures list { self.new.list.now ≡ self.old.list.now }
     {
-        let mut parts = Vec::new(alloc);
-        parts.push(self.conj(alloc)?)?;
+        let mut parts = appended(Vec::new(alloc), self.conj(alloc))?;
         while self.sees(TokenKind::Or) {
             self.take(TokenKind::Or);
-            parts.push(self.conj(alloc)?)?;
+            parts = appended(parts, self.conj(alloc))?;
         }
         Ok(any_of(parts))
     }

@@ -11,7 +11,7 @@ ghost use Rattle.sql_text.specs.Rules.{before, optional, listed};
 ghost use Rattle.sql_text.specs.Queries.{name, literal, reference, source, operator, operand, ref_of, source_of};
 
 use crate::halt::Halt;
-use crate::parser::Parser;
+use crate::parser::{Parser, appended};
 use grammar::Stop;
 use sql_tokens::TokenKind;
 use std::alloc::{AllocError, Global};
@@ -196,13 +196,12 @@ impl<'a> Parser<'a> {
         ensures levels { self.new.levels ≡ self.old.levels }
         ensures list { self.new.list.now ≡ self.old.list.now }
     {
-        let mut list = Vec::new(alloc);
-        list.push(self.reference(alloc)?)?;
+        let mut list = appended(Vec::new(alloc), self.reference(alloc))?;
         'parts: while self.sees(TokenKind::Comma) {
             if list.len() == ITEMS_MAX {
                 return Err(Halt::Fault(Stop::TooMany));
             }
-            list.push(self.next_reference(alloc)?)?;
+            list = appended(list, self.next_reference(alloc))?;
         }
         Ok(list)
     }

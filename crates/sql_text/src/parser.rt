@@ -1,5 +1,6 @@
 //! A parser over a list of tokens, one token ahead.
 ghost use Rattle.std.specs.Prelude.{◌≡◌, ◌+◌, ◌<◌, [], ◌∷◌, true, Ok, Err, IfOk, OnOk};
+ghost use Rattle.sql_text.specs.Parsing.{Appends};
 
 use crate::halt::Halt;
 use grammar::Stop;
@@ -11,6 +12,14 @@ pub struct Parser<'a> {
     pub list: &'a [Lexeme<'a>],
     pub place: usize,
     pub levels: usize,
+}
+
+/// The list with the part that was read at its end.
+pub fn appended<T: Drop>(mut list: Vec<T>, part: Result<T, Halt>) -> Result<Vec<T>, Halt>
+    ensures { Appends list.items part result }
+{
+    list.push(part?)?;
+    Ok(list)
 }
 
 impl<'a> Parser<'a> {

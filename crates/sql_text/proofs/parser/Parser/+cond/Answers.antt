@@ -5,7 +5,7 @@ use Rattle.sql_tokens.specs.Lex.{token_of}
 use Rattle.vo_spec.specs.Conditions.{condition_of, negated}
 use Rattle.sql_text.specs.Parsing.{left_of}
 use Rattle.sql_text.specs.Queries.{prim, conj, all_of, any_of}
-use Rattle.sql_text.proofs.Rounds.{turn, turn_fails, begun, begun_fails, stopped, fewer}
+use Rattle.sql_text.proofs.Rounds.{kept, some_in, turn_in, turn_stops, begun_in, begun_stops, stopped, fewer_in}
 use Rattle.sql_text.proofs.Conds.{not_done, not_fails, paren_closed, paren_fails, conj_is, disj_is, not_is}
 use Rattle.sql_text.proofs.parser.Parser.+cond.Goals as goal
 
@@ -33,92 +33,92 @@ enclosed-returns-clause-value t c =
     c.in_ok-whole.whole (left_of c.disj.new.self) c.closed_by.result (left_of c.closed_by.new.self)
     c.requires.other c.requires.next c.in_ok-open.ensures.opened c.in_ok-whole.ensures.value c.closed_by.ensures.value c.closed_by.ensures.same
 
-pub conj-returns-in_err-prim-clause-value : goal.conj-returns-in_err-prim-clause-value
-conj-returns-in_err-prim-clause-value t c =
-    let f = begun_fails condition_of None k.And prim condition_of c.args.self.now.levels (left_of c.args.self.now) (left_of c.prim.new.self) c.in_err-prim.field-0.0 _
-    (λ z. and_then z (λ vs end. (Ok (all_of vs), end))) (λ s. refl) (conj_is c.args.self.now.levels (left_of c.args.self.now)) c.in_err-prim.ensures.value in
+pub conj-returns-in_err-parts-clause-value : goal.conj-returns-in_err-parts-clause-value
+conj-returns-in_err-parts-clause-value t c =
+    let f = begun_stops condition_of None k.And prim condition_of c.args.self.now.levels (left_of c.args.self.now) (left_of c.prim.new.self) c.new.result.items c.prim.result c.in_err-parts.field-0.0 _
+    (λ z. and_then z (λ vs end. (Ok (all_of vs), end))) (λ s. refl) (conj_is c.args.self.now.levels (left_of c.args.self.now)) c.prim.ensures.value c.in_err-parts.ensures in
     search rules
 
 pub conj-loop-alloc-smaller : goal.conj-loop-alloc-smaller
 conj-loop-alloc-smaller t c =
-    fewer prim k.And c.take.new.self.levels (left_of c.loop-alloc.self) (token_of c.take.result) (left_of c.take.new.self) (condition_of c.in_ok-prim-2.field-0) (left_of c.prim-in-loop-alloc.new.self)
-    c.take.ensures.value c.in_ok-prim-2.ensures.value
+    fewer_in condition_of prim k.And c.take.new.self.levels c.loop-alloc.parts.items c.prim-in-loop-alloc.result c.in_ok-parts-2.parts (left_of c.loop-alloc.self) (token_of c.take.result) (left_of c.take.new.self) (left_of c.prim-in-loop-alloc.new.self)
+    c.take.ensures.value c.prim-in-loop-alloc.ensures.value c.in_ok-parts-2.ensures
 
 pub conj-loop-alloc-preserved : goal.conj-loop-alloc-preserved
 conj-loop-alloc-preserved t c = (
-  c.in_ok-prim-2.ensures.list ∙ c.take.ensures.list ∙ c.loop-alloc.invariant.0,
-  c.in_ok-prim-2.ensures.levels ∙ c.take.ensures.levels ∙ c.loop-alloc.invariant.1,
-  search rules,
-  turn condition_of None k.And prim c.loop-alloc.self.levels c.take.new.self.levels c.prim-in-loop-alloc.new.self.levels c.loop-alloc.parts.items c.push-in-loop-alloc.new.self.items
-      c.in_ok-prim-2.field-0 (left_of c.loop-alloc.self) (token_of c.take.result) (left_of c.take.new.self) (left_of c.prim-in-loop-alloc.new.self)
-      c.take.ensures.levels c.in_ok-prim-2.ensures.levels refl (sym c.sees.ensures ∙ c.loop-alloc-test.true) c.take.ensures.value c.in_ok-prim-2.ensures.value c.in_ok-push-2.ensures.items
+  c.prim-in-loop-alloc.ensures.list ∙ c.take.ensures.list ∙ c.loop-alloc.invariant.0,
+  kept c.loop-alloc.parts.items c.prim-in-loop-alloc.result c.in_ok-parts-2.parts c.in_ok-parts-2.ensures c.prim-in-loop-alloc.ensures.levels ∙ c.take.ensures.levels ∙ c.loop-alloc.invariant.1,
+  some_in c.loop-alloc.parts.items c.prim-in-loop-alloc.result c.in_ok-parts-2.parts c.in_ok-parts-2.ensures,
+  turn_in condition_of None k.And prim c.loop-alloc.self.levels c.take.new.self.levels c.prim-in-loop-alloc.new.self.levels c.loop-alloc.parts.items c.prim-in-loop-alloc.result c.in_ok-parts-2.parts
+      (left_of c.loop-alloc.self) (token_of c.take.result) (left_of c.take.new.self) (left_of c.prim-in-loop-alloc.new.self)
+      c.take.ensures.levels c.prim-in-loop-alloc.ensures.levels refl (sym c.sees.ensures ∙ c.loop-alloc-test.true) c.take.ensures.value c.prim-in-loop-alloc.ensures.value c.in_ok-parts-2.ensures
       ∙ c.loop-alloc.invariant.3,
 )
 
-pub conj-returns-in_err-prim-2-clause-value : goal.conj-returns-in_err-prim-2-clause-value
-conj-returns-in_err-prim-2-clause-value t c =
-    let f = turn_fails condition_of None k.And prim condition_of c.loop-alloc.self.levels c.take.new.self.levels c.loop-alloc.parts.items (left_of c.loop-alloc.self) (token_of c.take.result)
-    (left_of c.take.new.self) (left_of c.prim-in-loop-alloc.new.self) c.in_err-prim-2.field-0.0 _ (λ z. and_then z (λ vs end. (Ok (all_of vs), end))) (λ s. refl)
+pub conj-returns-in_err-parts-2-clause-value : goal.conj-returns-in_err-parts-2-clause-value
+conj-returns-in_err-parts-2-clause-value t c =
+    let f = turn_stops condition_of None k.And prim condition_of c.loop-alloc.self.levels c.take.new.self.levels c.loop-alloc.parts.items c.prim-in-loop-alloc.result (left_of c.loop-alloc.self) (token_of c.take.result)
+    (left_of c.take.new.self) (left_of c.prim-in-loop-alloc.new.self) c.in_err-parts-2.field-0.0 _ (λ z. and_then z (λ vs end. (Ok (all_of vs), end))) (λ s. refl)
     c.take.ensures.levels refl (sym c.sees.ensures ∙ c.loop-alloc-test.true) c.take.ensures.value
     (conj_is c.args.self.now.levels (left_of c.args.self.now)
     ∙ ap (λ z. and_then z (λ vs end. (Ok (all_of vs), end)))
-    (begun condition_of None k.And prim c.args.self.now.levels c.prim.new.self.levels (left_of c.args.self.now) (left_of c.prim.new.self) c.in_ok-prim.field-0 c.new-parts.result.items c.push.new.self.items
-    c.in_ok-prim.ensures.levels c.in_ok-prim.ensures.value c.new-parts.ensures.items c.in_ok-push.ensures.items
+    (begun_in condition_of None k.And prim c.args.self.now.levels c.prim.new.self.levels (left_of c.args.self.now) (left_of c.prim.new.self) c.new.result.items c.prim.result c.in_ok-parts.parts
+    c.prim.ensures.levels c.prim.ensures.value c.new.ensures.items c.in_ok-parts.ensures
     ∙ sym c.loop-alloc.invariant.3))
-    c.in_err-prim-2.ensures.value in
+    c.prim-in-loop-alloc.ensures.value c.in_err-parts-2.ensures in
     search rules
 
 pub conj-returns-clause-value : goal.conj-returns-clause-value
 conj-returns-clause-value t c =
     conj_is c.args.self.now.levels (left_of c.args.self.now)
     ∙ ap (λ z. and_then z (λ vs end. (Ok (all_of vs), end)))
-    (begun condition_of None k.And prim c.args.self.now.levels c.prim.new.self.levels (left_of c.args.self.now) (left_of c.prim.new.self) c.in_ok-prim.field-0 c.new-parts.result.items c.push.new.self.items
-    c.in_ok-prim.ensures.levels c.in_ok-prim.ensures.value c.new-parts.ensures.items c.in_ok-push.ensures.items
+    (begun_in condition_of None k.And prim c.args.self.now.levels c.prim.new.self.levels (left_of c.args.self.now) (left_of c.prim.new.self) c.new.result.items c.prim.result c.in_ok-parts.parts
+    c.prim.ensures.levels c.prim.ensures.value c.new.ensures.items c.in_ok-parts.ensures
     ∙ sym c.loop-alloc.invariant.3
     ∙ stopped condition_of None k.And prim c.loop-alloc.self.levels c.loop-alloc.parts.items (left_of c.loop-alloc.self) (sym c.sees.ensures ∙ c.loop-alloc-test.false))
     ∙ ap (λ z. (Ok z, left_of c.loop-alloc.self)) (sym c.all_of.ensures)
 
-pub disj-returns-in_err-conj-clause-value : goal.disj-returns-in_err-conj-clause-value
-disj-returns-in_err-conj-clause-value t c =
-    let f = begun_fails condition_of None k.Or conj condition_of c.args.self.now.levels (left_of c.args.self.now) (left_of c.conj.new.self) c.in_err-conj.field-0.0 _
-    (λ z. and_then z (λ vs end. (Ok (any_of vs), end))) (λ s. refl) (disj_is c.args.self.now.levels (left_of c.args.self.now)) c.in_err-conj.ensures.value in
+pub disj-returns-in_err-parts-clause-value : goal.disj-returns-in_err-parts-clause-value
+disj-returns-in_err-parts-clause-value t c =
+    let f = begun_stops condition_of None k.Or conj condition_of c.args.self.now.levels (left_of c.args.self.now) (left_of c.conj.new.self) c.new.result.items c.conj.result c.in_err-parts.field-0.0 _
+    (λ z. and_then z (λ vs end. (Ok (any_of vs), end))) (λ s. refl) (disj_is c.args.self.now.levels (left_of c.args.self.now)) c.conj.ensures.value c.in_err-parts.ensures in
     search rules
 
 pub disj-loop-alloc-smaller : goal.disj-loop-alloc-smaller
 disj-loop-alloc-smaller t c =
-    fewer conj k.Or c.take.new.self.levels (left_of c.loop-alloc.self) (token_of c.take.result) (left_of c.take.new.self) (condition_of c.in_ok-conj-2.field-0) (left_of c.conj-in-loop-alloc.new.self)
-    c.take.ensures.value c.in_ok-conj-2.ensures.value
+    fewer_in condition_of conj k.Or c.take.new.self.levels c.loop-alloc.parts.items c.conj-in-loop-alloc.result c.in_ok-parts-2.parts (left_of c.loop-alloc.self) (token_of c.take.result) (left_of c.take.new.self) (left_of c.conj-in-loop-alloc.new.self)
+    c.take.ensures.value c.conj-in-loop-alloc.ensures.value c.in_ok-parts-2.ensures
 
 pub disj-loop-alloc-preserved : goal.disj-loop-alloc-preserved
 disj-loop-alloc-preserved t c = (
-  c.in_ok-conj-2.ensures.list ∙ c.take.ensures.list ∙ c.loop-alloc.invariant.0,
-  c.in_ok-conj-2.ensures.levels ∙ c.take.ensures.levels ∙ c.loop-alloc.invariant.1,
-  search rules,
-  turn condition_of None k.Or conj c.loop-alloc.self.levels c.take.new.self.levels c.conj-in-loop-alloc.new.self.levels c.loop-alloc.parts.items c.push-in-loop-alloc.new.self.items
-      c.in_ok-conj-2.field-0 (left_of c.loop-alloc.self) (token_of c.take.result) (left_of c.take.new.self) (left_of c.conj-in-loop-alloc.new.self)
-      c.take.ensures.levels c.in_ok-conj-2.ensures.levels refl (sym c.sees.ensures ∙ c.loop-alloc-test.true) c.take.ensures.value c.in_ok-conj-2.ensures.value c.in_ok-push-2.ensures.items
+  c.conj-in-loop-alloc.ensures.list ∙ c.take.ensures.list ∙ c.loop-alloc.invariant.0,
+  kept c.loop-alloc.parts.items c.conj-in-loop-alloc.result c.in_ok-parts-2.parts c.in_ok-parts-2.ensures c.conj-in-loop-alloc.ensures.levels ∙ c.take.ensures.levels ∙ c.loop-alloc.invariant.1,
+  some_in c.loop-alloc.parts.items c.conj-in-loop-alloc.result c.in_ok-parts-2.parts c.in_ok-parts-2.ensures,
+  turn_in condition_of None k.Or conj c.loop-alloc.self.levels c.take.new.self.levels c.conj-in-loop-alloc.new.self.levels c.loop-alloc.parts.items c.conj-in-loop-alloc.result c.in_ok-parts-2.parts
+      (left_of c.loop-alloc.self) (token_of c.take.result) (left_of c.take.new.self) (left_of c.conj-in-loop-alloc.new.self)
+      c.take.ensures.levels c.conj-in-loop-alloc.ensures.levels refl (sym c.sees.ensures ∙ c.loop-alloc-test.true) c.take.ensures.value c.conj-in-loop-alloc.ensures.value c.in_ok-parts-2.ensures
       ∙ c.loop-alloc.invariant.3,
 )
 
-pub disj-returns-in_err-conj-2-clause-value : goal.disj-returns-in_err-conj-2-clause-value
-disj-returns-in_err-conj-2-clause-value t c =
-    let f = turn_fails condition_of None k.Or conj condition_of c.loop-alloc.self.levels c.take.new.self.levels c.loop-alloc.parts.items (left_of c.loop-alloc.self) (token_of c.take.result)
-    (left_of c.take.new.self) (left_of c.conj-in-loop-alloc.new.self) c.in_err-conj-2.field-0.0 _ (λ z. and_then z (λ vs end. (Ok (any_of vs), end))) (λ s. refl)
+pub disj-returns-in_err-parts-2-clause-value : goal.disj-returns-in_err-parts-2-clause-value
+disj-returns-in_err-parts-2-clause-value t c =
+    let f = turn_stops condition_of None k.Or conj condition_of c.loop-alloc.self.levels c.take.new.self.levels c.loop-alloc.parts.items c.conj-in-loop-alloc.result (left_of c.loop-alloc.self) (token_of c.take.result)
+    (left_of c.take.new.self) (left_of c.conj-in-loop-alloc.new.self) c.in_err-parts-2.field-0.0 _ (λ z. and_then z (λ vs end. (Ok (any_of vs), end))) (λ s. refl)
     c.take.ensures.levels refl (sym c.sees.ensures ∙ c.loop-alloc-test.true) c.take.ensures.value
     (disj_is c.args.self.now.levels (left_of c.args.self.now)
     ∙ ap (λ z. and_then z (λ vs end. (Ok (any_of vs), end)))
-    (begun condition_of None k.Or conj c.args.self.now.levels c.conj.new.self.levels (left_of c.args.self.now) (left_of c.conj.new.self) c.in_ok-conj.field-0 c.new-parts.result.items c.push.new.self.items
-    c.in_ok-conj.ensures.levels c.in_ok-conj.ensures.value c.new-parts.ensures.items c.in_ok-push.ensures.items
+    (begun_in condition_of None k.Or conj c.args.self.now.levels c.conj.new.self.levels (left_of c.args.self.now) (left_of c.conj.new.self) c.new.result.items c.conj.result c.in_ok-parts.parts
+    c.conj.ensures.levels c.conj.ensures.value c.new.ensures.items c.in_ok-parts.ensures
     ∙ sym c.loop-alloc.invariant.3))
-    c.in_err-conj-2.ensures.value in
+    c.conj-in-loop-alloc.ensures.value c.in_err-parts-2.ensures in
     search rules
 
 pub disj-returns-clause-value : goal.disj-returns-clause-value
 disj-returns-clause-value t c =
     disj_is c.args.self.now.levels (left_of c.args.self.now)
     ∙ ap (λ z. and_then z (λ vs end. (Ok (any_of vs), end)))
-    (begun condition_of None k.Or conj c.args.self.now.levels c.conj.new.self.levels (left_of c.args.self.now) (left_of c.conj.new.self) c.in_ok-conj.field-0 c.new-parts.result.items c.push.new.self.items
-    c.in_ok-conj.ensures.levels c.in_ok-conj.ensures.value c.new-parts.ensures.items c.in_ok-push.ensures.items
+    (begun_in condition_of None k.Or conj c.args.self.now.levels c.conj.new.self.levels (left_of c.args.self.now) (left_of c.conj.new.self) c.new.result.items c.conj.result c.in_ok-parts.parts
+    c.conj.ensures.levels c.conj.ensures.value c.new.ensures.items c.in_ok-parts.ensures
     ∙ sym c.loop-alloc.invariant.3
     ∙ stopped condition_of None k.Or conj c.loop-alloc.self.levels c.loop-alloc.parts.items (left_of c.loop-alloc.self) (sym c.sees.ensures ∙ c.loop-alloc-test.false))
     ∙ ap (λ z. (Ok z, left_of c.loop-alloc.self)) (sym c.any_of.ensures)

@@ -8,50 +8,49 @@ use Rattle.vo_spec.specs.declared.tables.Column.{Column}
 use Rattle.sql_text.specs.Rules.{closed, ended}
 use Rattle.sql_text.specs.Queries.{name}
 use Rattle.sql_text.specs.Commands.{column}
-use Rattle.sql_text.proofs.Repeats.{turn, turn_fails, begun, begun_fails, stops, overfull, fewer, has_room, one_fewer, no_room}
+use Rattle.sql_text.proofs.Repeats.{turn_in, turn_stops, begun_in, begun_stops, appended_len, stops, overfull, fewer_in, no_room}
 use Rattle.sql_text.proofs.parser.Parser.columns.Goals as goal
 
-pub returns-in_err-column-clause-value : goal.returns-in_err-column-clause-value
+pub returns-in_err-list-clause-value : goal.returns-in_err-list-clause-value
 unfolding closed ended column name
-returns-in_err-column-clause-value c =
-    let f = begun_fails (λ x. x) (Some 31) (closed column k.Comma) (closed column k.Comma) (λ (v : Vec Column Global). v.items) c.args.self.now.levels (left_of c.args.self.now) (left_of c.column.new.self) c.in_err-column.field-0.0 _ (λ z. z) (λ s. refl) refl
-    c.in_err-column.ensures.value in
+returns-in_err-list-clause-value c =
+    let f = begun_stops (λ x. x) (Some 31) (closed column k.Comma) (closed column k.Comma) (λ (v : Vec Column Global). v.items) c.args.self.now.levels (left_of c.args.self.now) (left_of c.column.new.self) c.new.result.items c.column.result c.in_err-list.field-0.0 _ (λ z. z) (λ s. refl) refl
+    c.column.ensures.value c.in_err-list.ensures in
     search rules
 
-pub returns-in_err-column-2-clause-value : goal.returns-in_err-column-2-clause-value
+pub returns-in_err-list-2-clause-value : goal.returns-in_err-list-2-clause-value
 unfolding closed ended column name
-returns-in_err-column-2-clause-value c =
+returns-in_err-list-2-clause-value c =
     let room : length c.parts.list.items < 32 = omega (arith, c.parts.list.ok.0) in
-    let f = turn_fails (λ x. x) (closed column k.Comma) refl (λ (v : Vec Column Global). v.items) (Some (32 - length c.parts.list.items)) c.parts.self.levels c.parts.self.levels c.parts.list.items (left_of c.parts.self) (left_of c.column-in-parts.new.self) c.in_err-column-2.field-0.0 _
-    (λ z. z) (λ s. refl) refl (has_room 32 (length c.parts.list.items) room) (sym c.sees.ensures ∙ c.parts-test.true)
-    (begun (λ x. x) (Some 31) (closed column k.Comma) (closed column k.Comma) c.args.self.now.levels c.column.new.self.levels (left_of c.args.self.now) (left_of c.column.new.self) c.in_ok-column.field-0 c.new-list.result.items c.push.new.self.items
-    c.in_ok-column.ensures.levels c.in_ok-column.ensures.value c.new-list.ensures.items c.in_ok-push.ensures.items
+    let f = turn_stops (λ x. x) (closed column k.Comma) refl (λ (v : Vec Column Global). v.items) 32 c.parts.self.levels c.parts.self.levels c.parts.list.items c.column-in-parts.result (left_of c.parts.self) (left_of c.column-in-parts.new.self) c.in_err-list-2.field-0.0 _
+    (λ z. z) (λ s. refl) refl room (sym c.sees.ensures ∙ c.parts-test.true)
+    (begun_in (λ x. x) (Some 31) (closed column k.Comma) (closed column k.Comma) c.args.self.now.levels c.column.new.self.levels (left_of c.args.self.now) (left_of c.column.new.self) c.new.result.items c.column.result c.in_ok-list.list
+    c.column.ensures.levels c.column.ensures.value c.new.ensures.items c.in_ok-list.ensures
     ∙ sym c.parts.invariant.2)
-    c.in_err-column-2.ensures.value in
+    c.column-in-parts.ensures.value c.in_err-list-2.ensures in
     search rules
 
 pub parts-smaller : goal.parts-smaller
 unfolding closed ended column name
-parts-smaller c = fewer (λ x. x) (closed column k.Comma) refl c.parts.self.levels (left_of c.parts.self) c.in_ok-column-2.field-0 (left_of c.column-in-parts.new.self) c.in_ok-column-2.ensures.value
+parts-smaller c = fewer_in (λ x. x) (closed column k.Comma) refl c.parts.self.levels c.parts.list.items c.column-in-parts.result c.in_ok-list-2.list (left_of c.parts.self) (left_of c.column-in-parts.new.self) c.column-in-parts.ensures.value c.in_ok-list-2.ensures
 
 pub parts-preserved : goal.parts-preserved
 unfolding closed ended column name
 parts-preserved c =
     let room : length c.parts.list.items < 32 = omega (arith, c.parts.list.ok.0) in (
-      c.in_ok-column-2.ensures.list ∙ c.parts.invariant.0,
-      c.in_ok-column-2.ensures.levels ∙ c.parts.invariant.1,
-      turn (λ x. x) (closed column k.Comma) refl (Some (32 - length c.parts.list.items)) (Some (32 - length c.push-in-parts.new.self.items)) c.parts.self.levels c.parts.self.levels c.column-in-parts.new.self.levels c.parts.list.items c.push-in-parts.new.self.items
-          c.in_ok-column-2.field-0 (left_of c.parts.self) (left_of c.column-in-parts.new.self) refl c.in_ok-column-2.ensures.levels (has_room 32 (length c.parts.list.items) room) (one_fewer 32 c.parts.list.items c.push-in-parts.new.self.items c.in_ok-column-2.field-0 c.in_ok-push-2.ensures.items room) (sym c.sees.ensures ∙ c.parts-test.true)
-          c.in_ok-column-2.ensures.value c.in_ok-push-2.ensures.items
+      c.column-in-parts.ensures.list ∙ c.parts.invariant.0,
+      c.column-in-parts.ensures.levels ∙ c.parts.invariant.1,
+      turn_in (λ x. x) (closed column k.Comma) refl 32 c.parts.self.levels c.parts.self.levels c.column-in-parts.new.self.levels c.parts.list.items c.column-in-parts.result c.in_ok-list-2.list (left_of c.parts.self) (left_of c.column-in-parts.new.self)
+          refl c.column-in-parts.ensures.levels room (sym c.sees.ensures ∙ c.parts-test.true) c.column-in-parts.ensures.value c.in_ok-list-2.ensures
           ∙ c.parts.invariant.2,
-      omega (arith, c.in_ok-push-2.ensures.len, c.push-in-parts.new.self.ok.0, c.parts.list.ok.0),
+      omega (arith, appended_len c.parts.list.items c.column-in-parts.result c.in_ok-list-2.list c.in_ok-list-2.ensures, room),
     )
 
 pub returns-clause-value : goal.returns-clause-value
 unfolding closed ended column name
 returns-clause-value c =
-    begun (λ x. x) (Some 31) (closed column k.Comma) (closed column k.Comma) c.args.self.now.levels c.column.new.self.levels (left_of c.args.self.now) (left_of c.column.new.self) c.in_ok-column.field-0 c.new-list.result.items c.push.new.self.items
-    c.in_ok-column.ensures.levels c.in_ok-column.ensures.value c.new-list.ensures.items c.in_ok-push.ensures.items
+    begun_in (λ x. x) (Some 31) (closed column k.Comma) (closed column k.Comma) c.args.self.now.levels c.column.new.self.levels (left_of c.args.self.now) (left_of c.column.new.self) c.new.result.items c.column.result c.in_ok-list.list
+    c.column.ensures.levels c.column.ensures.value c.new.ensures.items c.in_ok-list.ensures
     ∙ sym c.parts.invariant.2
     ∙ stops (λ x. x) (closed column k.Comma) refl (Some (32 - length c.parts.list.items)) c.parts.self.levels c.parts.list.items (left_of c.parts.self) (sym c.sees.ensures ∙ c.parts-test.false) ∙ ap (λ z. (Ok z, left_of c.parts.self)) (map-id c.parts.list.items)
 
@@ -59,7 +58,7 @@ pub returns-then-len-eq-COLUMNS_MAX-clause-value : goal.returns-then-len-eq-COLU
 unfolding closed ended column name
 returns-then-len-eq-COLUMNS_MAX-clause-value c =
     let all : length c.parts.list.items ≡ 32 = omega (arith, c.parts.list.ok.0) in
-    begun (λ x. x) (Some 31) (closed column k.Comma) (closed column k.Comma) c.args.self.now.levels c.column.new.self.levels (left_of c.args.self.now) (left_of c.column.new.self) c.in_ok-column.field-0 c.new-list.result.items c.push.new.self.items
-    c.in_ok-column.ensures.levels c.in_ok-column.ensures.value c.new-list.ensures.items c.in_ok-push.ensures.items
+    begun_in (λ x. x) (Some 31) (closed column k.Comma) (closed column k.Comma) c.args.self.now.levels c.column.new.self.levels (left_of c.args.self.now) (left_of c.column.new.self) c.new.result.items c.column.result c.in_ok-list.list
+    c.column.ensures.levels c.column.ensures.value c.new.ensures.items c.in_ok-list.ensures
     ∙ sym c.parts.invariant.2
     ∙ overfull (λ x. x) (closed column k.Comma) refl (Some (32 - length c.parts.list.items)) c.parts.self.levels c.parts.list.items (left_of c.parts.self) (sym c.sees.ensures ∙ c.parts-test.true) (no_room 32 (length c.parts.list.items) all)

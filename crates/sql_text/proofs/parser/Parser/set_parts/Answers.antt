@@ -7,50 +7,49 @@ use Rattle.std.specs.Global.{Global}
 use Rattle.vo_spec.specs.declared.tables.SetPart.{SetPart}
 use Rattle.sql_text.specs.Rules.{before, listed}
 use Rattle.sql_text.specs.Commands.{set_part}
-use Rattle.sql_text.proofs.Repeats.{turn, turn_fails, begun, begun_fails, stops, overfull, fewer, has_room, one_fewer, no_room}
+use Rattle.sql_text.proofs.Repeats.{turn_in, turn_stops, begun_in, begun_stops, appended_len, stops, overfull, fewer_in, no_room}
 use Rattle.sql_text.proofs.parser.Parser.set_parts.Goals as goal
 
-pub returns-in_err-set_part-clause-value : goal.returns-in_err-set_part-clause-value
+pub returns-in_err-list-clause-value : goal.returns-in_err-list-clause-value
 unfolding before listed
-returns-in_err-set_part-clause-value c =
-    let f = begun_fails (λ x. x) (Some 31) (set_part) (before k.Comma set_part) (λ (v : Vec SetPart Global). v.items) c.args.self.now.levels (left_of c.args.self.now) (left_of c.set_part.new.self) c.in_err-set_part.field-0.0 _ (λ z. z) (λ s. refl) refl
-    c.in_err-set_part.ensures.value in
+returns-in_err-list-clause-value c =
+    let f = begun_stops (λ x. x) (Some 31) (set_part) (before k.Comma set_part) (λ (v : Vec SetPart Global). v.items) c.args.self.now.levels (left_of c.args.self.now) (left_of c.set_part.new.self) c.new.result.items c.set_part.result c.in_err-list.field-0.0 _ (λ z. z) (λ s. refl) refl
+    c.set_part.ensures.value c.in_err-list.ensures in
     search rules
 
-pub returns-in_err-next_set_part-clause-value : goal.returns-in_err-next_set_part-clause-value
+pub returns-in_err-list-2-clause-value : goal.returns-in_err-list-2-clause-value
 unfolding before listed
-returns-in_err-next_set_part-clause-value c =
+returns-in_err-list-2-clause-value c =
     let room : length c.parts.list.items < 32 = omega (arith, c.parts.list.ok.0) in
-    let f = turn_fails (λ x. x) (before k.Comma set_part) refl (λ (v : Vec SetPart Global). v.items) (Some (32 - length c.parts.list.items)) c.parts.self.levels c.parts.self.levels c.parts.list.items (left_of c.parts.self) (left_of c.next_set_part.new.self) c.in_err-next_set_part.field-0.0 _
-    (λ z. z) (λ s. refl) refl (has_room 32 (length c.parts.list.items) room) (sym c.sees.ensures ∙ c.parts-test.true)
-    (begun (λ x. x) (Some 31) (set_part) (before k.Comma set_part) c.args.self.now.levels c.set_part.new.self.levels (left_of c.args.self.now) (left_of c.set_part.new.self) c.in_ok-set_part.field-0 c.new-list.result.items c.push.new.self.items
-    c.in_ok-set_part.ensures.levels c.in_ok-set_part.ensures.value c.new-list.ensures.items c.in_ok-push.ensures.items
+    let f = turn_stops (λ x. x) (before k.Comma set_part) refl (λ (v : Vec SetPart Global). v.items) 32 c.parts.self.levels c.parts.self.levels c.parts.list.items c.next_set_part.result (left_of c.parts.self) (left_of c.next_set_part.new.self) c.in_err-list-2.field-0.0 _
+    (λ z. z) (λ s. refl) refl room (sym c.sees.ensures ∙ c.parts-test.true)
+    (begun_in (λ x. x) (Some 31) (set_part) (before k.Comma set_part) c.args.self.now.levels c.set_part.new.self.levels (left_of c.args.self.now) (left_of c.set_part.new.self) c.new.result.items c.set_part.result c.in_ok-list.list
+    c.set_part.ensures.levels c.set_part.ensures.value c.new.ensures.items c.in_ok-list.ensures
     ∙ sym c.parts.invariant.2)
-    c.in_err-next_set_part.ensures.value in
+    c.next_set_part.ensures.value c.in_err-list-2.ensures in
     search rules
 
 pub parts-smaller : goal.parts-smaller
 unfolding before listed
-parts-smaller c = fewer (λ x. x) (before k.Comma set_part) refl c.parts.self.levels (left_of c.parts.self) c.in_ok-next_set_part.field-0 (left_of c.next_set_part.new.self) c.in_ok-next_set_part.ensures.value
+parts-smaller c = fewer_in (λ x. x) (before k.Comma set_part) refl c.parts.self.levels c.parts.list.items c.next_set_part.result c.in_ok-list-2.list (left_of c.parts.self) (left_of c.next_set_part.new.self) c.next_set_part.ensures.value c.in_ok-list-2.ensures
 
 pub parts-preserved : goal.parts-preserved
 unfolding before listed
 parts-preserved c =
     let room : length c.parts.list.items < 32 = omega (arith, c.parts.list.ok.0) in (
-      c.in_ok-next_set_part.ensures.list ∙ c.parts.invariant.0,
-      c.in_ok-next_set_part.ensures.levels ∙ c.parts.invariant.1,
-      turn (λ x. x) (before k.Comma set_part) refl (Some (32 - length c.parts.list.items)) (Some (32 - length c.push-in-parts.new.self.items)) c.parts.self.levels c.parts.self.levels c.next_set_part.new.self.levels c.parts.list.items c.push-in-parts.new.self.items
-          c.in_ok-next_set_part.field-0 (left_of c.parts.self) (left_of c.next_set_part.new.self) refl c.in_ok-next_set_part.ensures.levels (has_room 32 (length c.parts.list.items) room) (one_fewer 32 c.parts.list.items c.push-in-parts.new.self.items c.in_ok-next_set_part.field-0 c.in_ok-push-2.ensures.items room) (sym c.sees.ensures ∙ c.parts-test.true)
-          c.in_ok-next_set_part.ensures.value c.in_ok-push-2.ensures.items
+      c.next_set_part.ensures.list ∙ c.parts.invariant.0,
+      c.next_set_part.ensures.levels ∙ c.parts.invariant.1,
+      turn_in (λ x. x) (before k.Comma set_part) refl 32 c.parts.self.levels c.parts.self.levels c.next_set_part.new.self.levels c.parts.list.items c.next_set_part.result c.in_ok-list-2.list (left_of c.parts.self) (left_of c.next_set_part.new.self)
+          refl c.next_set_part.ensures.levels room (sym c.sees.ensures ∙ c.parts-test.true) c.next_set_part.ensures.value c.in_ok-list-2.ensures
           ∙ c.parts.invariant.2,
-      omega (arith, c.in_ok-push-2.ensures.len, c.push-in-parts.new.self.ok.0, c.parts.list.ok.0),
+      omega (arith, appended_len c.parts.list.items c.next_set_part.result c.in_ok-list-2.list c.in_ok-list-2.ensures, room),
     )
 
 pub returns-clause-value : goal.returns-clause-value
 unfolding before listed
 returns-clause-value c =
-    begun (λ x. x) (Some 31) (set_part) (before k.Comma set_part) c.args.self.now.levels c.set_part.new.self.levels (left_of c.args.self.now) (left_of c.set_part.new.self) c.in_ok-set_part.field-0 c.new-list.result.items c.push.new.self.items
-    c.in_ok-set_part.ensures.levels c.in_ok-set_part.ensures.value c.new-list.ensures.items c.in_ok-push.ensures.items
+    begun_in (λ x. x) (Some 31) (set_part) (before k.Comma set_part) c.args.self.now.levels c.set_part.new.self.levels (left_of c.args.self.now) (left_of c.set_part.new.self) c.new.result.items c.set_part.result c.in_ok-list.list
+    c.set_part.ensures.levels c.set_part.ensures.value c.new.ensures.items c.in_ok-list.ensures
     ∙ sym c.parts.invariant.2
     ∙ stops (λ x. x) (before k.Comma set_part) refl (Some (32 - length c.parts.list.items)) c.parts.self.levels c.parts.list.items (left_of c.parts.self) (sym c.sees.ensures ∙ c.parts-test.false) ∙ ap (λ z. (Ok z, left_of c.parts.self)) (map-id c.parts.list.items)
 
@@ -58,7 +57,7 @@ pub returns-then-len-eq-COLUMNS_MAX-clause-value : goal.returns-then-len-eq-COLU
 unfolding before listed
 returns-then-len-eq-COLUMNS_MAX-clause-value c =
     let all : length c.parts.list.items ≡ 32 = omega (arith, c.parts.list.ok.0) in
-    begun (λ x. x) (Some 31) (set_part) (before k.Comma set_part) c.args.self.now.levels c.set_part.new.self.levels (left_of c.args.self.now) (left_of c.set_part.new.self) c.in_ok-set_part.field-0 c.new-list.result.items c.push.new.self.items
-    c.in_ok-set_part.ensures.levels c.in_ok-set_part.ensures.value c.new-list.ensures.items c.in_ok-push.ensures.items
+    begun_in (λ x. x) (Some 31) (set_part) (before k.Comma set_part) c.args.self.now.levels c.set_part.new.self.levels (left_of c.args.self.now) (left_of c.set_part.new.self) c.new.result.items c.set_part.result c.in_ok-list.list
+    c.set_part.ensures.levels c.set_part.ensures.value c.new.ensures.items c.in_ok-list.ensures
     ∙ sym c.parts.invariant.2
     ∙ overfull (λ x. x) (before k.Comma set_part) refl (Some (32 - length c.parts.list.items)) c.parts.self.levels c.parts.list.items (left_of c.parts.self) (sym c.sees.ensures ∙ c.parts-test.true) (no_room 32 (length c.parts.list.items) all)
