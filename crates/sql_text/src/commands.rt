@@ -205,17 +205,6 @@ impl<'a> Parser<'a> {
         self.closed_by(values, TokenKind::RightParen)
     }
 
-    /// VALUES ( literals )
-    #[tactic(auto, unfolding(crate::specs::Rules::before))]
-    fn values_clause(&mut self, alloc: Global) -> Result<List<Value>, Halt>
-        ensures value { Reads (λ x. x) (before k.Values (in_parens (listed (Some 31) k.Comma literal))) self.old result self.new }
-        ensures levels { self.new.levels ≡ self.old.levels }
-        ensures list { self.new.list.now ≡ self.old.list.now }
-    {
-        self.want(TokenKind::Values)?;
-        self.row(alloc)
-    }
-
     #[tactic(auto, unfolding(crate::specs::Commands::insert, crate::specs::Rules::before))]
     fn insert(&mut self, alloc: Global) -> Result<Command, Halt>
         ensures value { Reads (λ x. x) insert self.old result self.new }
@@ -225,7 +214,8 @@ impl<'a> Parser<'a> {
         self.want(TokenKind::Insert)?;
         self.want(TokenKind::Into)?;
         let name = self.name(alloc)?;
-        let values = self.values_clause(alloc)?;
+        self.want(TokenKind::Values)?;
+        let values = self.row(alloc)?;
         Ok(Command::Insert { name, values })
     }
 
@@ -328,7 +318,8 @@ impl<'a> Parser<'a> {
         self.want(TokenKind::Delete)?;
         self.want(TokenKind::From)?;
         let name = self.name(alloc)?;
-        let SetPart { column, value } = self.row_clause(alloc)?;
+        self.want(TokenKind::Where)?;
+        let SetPart { column, value } = self.set_part(alloc)?;
         Ok(Command::Delete {
             name,
             column,
