@@ -1,9 +1,8 @@
 -- What a parse by the commands says of what the words ask for.
-use Rattle.std.proofs.Common.{◌≡◌, ◌≢◌, List, [], ◌∷◌, true, None, Option, subst, sym, ap, inl, inr, refl}
+use Rattle.std.proofs.Common.{◌≡◌, ◌≢◌, List, [], ◌∷◌, true, None, Option, ap, inl, inr, refl}
 use Rattle.clap.proofs.OnLiterals.{clap_on_literals}
-use Rattle.clap.specs.Words.{App, Text, HasMatchesOf, HasKind, Kinds, IsAmong, kind_of, is_simple, is_simple_and_free, fault_of, subcommand_of, subcommand_rows_of}
+use Rattle.clap.specs.Words.{App, Text, HasMatchesOf, HasKind, Kinds, kind_of, is_simple, is_simple_and_free, fault_of, subcommand_of, subcommand_rows_of}
 use Rattle.clap.specs.declared.error.Error.{Error}
-use Rattle.clap.specs.declared.error.kind.ErrorKind.{ErrorKind}
 use Rattle.clap.specs.declared.error.kind.ErrorKind.TheVariants.{OutOfMemory}
 use Rattle.clap.specs.declared.parser.matches.ArgMatches.{ArgMatches}
 use Rattle.vo_words.specs.Asked.{Asked, asked_by, asked_if, asked_in}

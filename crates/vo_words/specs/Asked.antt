@@ -1,5 +1,5 @@
 -- What words ask for.
-use Rattle.std.specs.Prelude.{ℕ, List, [], ◌∷◌, Option, Some, None, option_map, option_and_then, cond, codes, if◌then◌else◌}
+use Rattle.std.specs.Prelude.{ℕ, List, [], ◌∷◌, Option, Some, None, option_map, option_and_then, codes, if◌then◌else◌}
 use Rattle.std.specs.Option.{option_map_or}
 use Rattle.std.specs.Str.{bytes_eq}
 use Rattle.clap.specs.Words.{Row, Text, first_of, fault_of, subcommand_of}
@@ -53,15 +53,20 @@ audit_asked rows = with_word (codes "key") rows (λ key. with_word (codes "journ
     with_word (codes "query") rows (λ query. with_word (codes "reply") rows (λ reply.
     Some (Audit key journal query reply)))))
 
+-- what a command about a query and its reply asks for
+abbrev pub reply_asked : Text → List Row → Option Asked
+reply_asked name rows =
+    if bytes_eq name (codes "answer") then answer_asked rows
+    else (if bytes_eq name (codes "check") then check_asked rows
+    else (if bytes_eq name (codes "audit") then audit_asked rows
+    else None))
+
 -- what a command asks for, by its name and its words
 abbrev pub command_asked : Text → List Row → Option Asked
 command_asked name rows =
     if bytes_eq name (codes "keygen") then keygen_asked rows
     else (if bytes_eq name (codes "seal") then seal_asked rows
-    else (if bytes_eq name (codes "answer") then answer_asked rows
-    else (if bytes_eq name (codes "check") then check_asked rows
-    else (if bytes_eq name (codes "audit") then audit_asked rows
-    else None))))
+    else reply_asked name rows)
 
 abbrev pub asked_in : Option (Text × List Row) → Option Asked
 asked_in used = option_and_then (λ used. command_asked used.0 used.1) used

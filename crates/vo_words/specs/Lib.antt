@@ -3,3 +3,4 @@ pub mod Asked
 pub mod Commands
 pub mod Height
 pub mod Request
+pub mod Forms

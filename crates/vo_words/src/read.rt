@@ -1,7 +1,7 @@
 //! The words, read by the commands.
 ghost use Rattle.std.specs.Prelude.{◌≡◌, map, option_map, string_bytes, IfOk, IsTrue, ◌↔◌};
 ghost use Rattle.clap.specs.Words.{kind_of, found_of, rows_of, first_of, subcommand_rows_of};
-ghost use Rattle.vo_words.specs.Asked.{asked_by, asked_in, keygen_asked, seal_asked, answer_asked, check_asked, audit_asked, given_height, given_least, height_number};
+ghost use Rattle.vo_words.specs.Asked.{asked_by, asked_in, keygen_asked, seal_asked, answer_asked, check_asked, audit_asked, reply_asked, given_height, given_least, height_number};
 ghost use Rattle.vo_words.specs.Height.{number_of};
 ghost use Rattle.vo_words.specs.Request.{asked};
 
@@ -43,7 +43,16 @@ fn request_in<'a>(matches: &ArgMatches<'a>) -> Option<Request<'a>>
         keygen_request(used)
     } else if name == "seal" {
         seal_request(used)
-    } else if name == "answer" {
+    } else {
+        reply_request(name, used)
+    }
+}
+
+/// What a command about a query and its reply asks for.
+fn reply_request<'a>(name: &str, used: &ArgMatches<'a>) -> Option<Request<'a>>
+    ensures { option_map asked result ≡ reply_asked name.now (rows_of (found_of used.now)) }
+{
+    if name == "answer" {
         answer_request(used)
     } else if name == "check" {
         check_request(used)

@@ -1,7 +1,7 @@
 //! What the words ask for.
 
 /// The height of a tree of one-time keys: it signs 2^5 or 2^10 times.
-#[derive(Clone, Copy, Debug, PartialEq, Eq)]
+#[derive(Clone, Copy, Debug)]
 pub enum Height {
     Five,
     Ten,
@@ -22,7 +22,7 @@ impl Height {
 }
 
 /// A command and its words. A file is given by its name, and a query by its text.
-#[derive(Clone, Copy, Debug, PartialEq, Eq)]
+#[derive(Clone, Copy, Debug)]
 pub enum Request<'a> {
     Keygen {
         seed: &'a str,

@@ -1,0 +1,14 @@
+use Rattle.std.proofs.Common.{◌∙◌, ap}
+use Rattle.clap.specs.Words.{app_of, with_rule}
+use Rattle.vo_words.specs.Forms.{rule_for}
+use Rattle.vo_words.proofs.Folds.{one_more}
+use Rattle.vo_words.proofs.commands.command.Goals as goal
+
+pub loop-takes-preserved : goal.loop-takes-preserved
+loop-takes-preserved c = record {
+  shape = one_more with_rule rule_for _ _ _ _ _ _ c.loop-takes-test.true
+      (c.in_ok-command.ensures.shape c.argument.ensures.local ∙ ap (with_rule (app_of c.loop-takes.command)) c.argument.ensures.rule)
+      c.loop-takes.invariant.shape;
+  local = let globals = c.in_ok-command.ensures.globals in
+      rw (c.loop-takes.invariant.local, c.argument.ensures.local) at globals;
+}

@@ -1,0 +1,14 @@
+-- What `clap` holds a command's words and options to.
+use Rattle.std.specs.Prelude.{map}
+use Rattle.clap.specs.Words.{App, Rule}
+use Rattle.vo_words.specs.Commands.{command_of, word_rule, option_rule}
+use Rattle.vo_words.specs.declared.commands.Form.{Form}
+use Rattle.vo_words.specs.declared.commands.Takes.{Takes}
+use Rattle.vo_words.specs.declared.commands.Takes.TheVariants.{Word, Named}
+
+abbrev pub rule_for : Takes → Rule
+rule_for (Word id) = word_rule id.now
+rule_for (Named id) = option_rule id.now
+
+abbrev pub app_for : Form → App
+app_for form = command_of form.name.now (map rule_for form.takes.now)
