@@ -66,8 +66,10 @@ fn add_command<'a>(
 ) -> Result<Command<'a>, AllocError>
     ensures { IfOk result (λ made. app_of made ≡ with_command (app_of program.entry) (app_for form.now)) }
 {
-    let command = command(alloc, form)?;
-    program.subcommand(command)
+    match command(alloc, form) {
+        Ok(command) => program.subcommand(command),
+        Err(error) => Err(error),
+    }
 }
 
 fn command<'a>(alloc: Global, form: &Form<'a>) -> Result<Command<'a>, AllocError>
