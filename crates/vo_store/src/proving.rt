@@ -89,6 +89,32 @@ fn two_proofs<'t>(
     Ok(proofs)
 }
 
+/// The proofs of a table that is joined with itself: one.
+fn proofs_of_both<'t>(
+    alloc: Global,
+    tree: &'t Tree,
+    left: Need,
+    rights: Vec<Need>,
+) -> Result<Vec<PartTree<'t>>, AllocError>
+    ensures { IfOk result (λ proofs. trees_of proofs ≡ pruned (left ∷ rights.items) tree.now ∷ []) }
+{
+    let proof = proof_of_both(alloc, tree, left, rights)?;
+    one_proof(alloc, proof)
+}
+
+/// The proofs of two tables: the left one's, and that of the right one for its needs.
+fn proofs_of_each<'t>(
+    alloc: Global,
+    left: PartTree<'t>,
+    tree: &'t Tree,
+    rights: &[Need],
+) -> Result<Vec<PartTree<'t>>, AllocError>
+    ensures { IfOk result (λ proofs. trees_of proofs ≡ part_of left.entry ∷ pruned rights.now tree.now ∷ []) }
+{
+    let right = prune(alloc, tree, rights)?;
+    two_proofs(alloc, left, right)
+}
+
 /// The proofs of a join, by the left table's own proof.
 fn joined_proofs<'t>(
     alloc: Global,
@@ -110,10 +136,10 @@ fn joined_proofs<'t>(
     let rights = needs_by_proof(alloc, tables, sides, query, &need, &proof)?;
     if same_table(sides) {
         let tree = tree_of(tables, sides.left.table);
-        one_proof(alloc, proof_of_both(alloc, tree, need, rights)?)
+        proofs_of_both(alloc, tree, need, rights)
     } else {
         let tree = tree_of(tables, right.table);
-        two_proofs(alloc, proof, prune(alloc, tree, &rights)?)
+        proofs_of_each(alloc, proof, tree, &rights)
     }
 }
 

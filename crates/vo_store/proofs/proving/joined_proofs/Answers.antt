@@ -1,8 +1,6 @@
 use Rattle.std.proofs.Common.{◌≡◌, true, false, [], ◌∷◌, length, ap, sym, subst, ◌∙◌, IfOk}
 use Rattle.vo_spec.specs.Conditions.{query_of}
 use Rattle.vo_spec.specs.Results.{side_at}
-use Rattle.vo_spec.specs.Trees.{RowTree}
-use Rattle.vo_spec.specs.Pruned.{pruned}
 use Rattle.vo_spec.specs.Needs.{same_table}
 use Rattle.vo_spec.specs.Honest.{stored_tree}
 use Rattle.mb_tree.specs.View.{part_of}
@@ -25,12 +23,10 @@ returns-then-same_table c =
     let q = query_of c.args.query.now in
     let held = sides_seen c.args.sides.now in
     let same : same_table (sides_seen c.args.sides.now) ≡ true = cc in
-    let made : part_of c.in_ok-proof_of_both.field-0 ≡ pruned (c.args.need ∷ c.in_ok-rights.rights.items) c.tree_of-tree.result.now = c.in_ok-proof_of_both.ensures in
-    subst (λ trees. IfOk c.one_proof.result (λ proofs. trees_of proofs ≡ trees))
-    (ap (λ (proof : RowTree). proof ∷ []) made
-    ∙ sym (same_by c.args.tables.now c.requires.standing q held c.requires.bound c.requires.right c.args.need c.requires.need (part_of c.args.proof) c.requires.proof
+    subst (λ trees. IfOk c.proofs_of_both.result (λ proofs. trees_of proofs ≡ trees))
+    (sym (same_by c.args.tables.now c.requires.standing q held c.requires.bound c.requires.right c.args.need c.requires.need (part_of c.args.proof) c.requires.proof
     c.in_ok-rights.rights.items c.in_ok-rights.ensures same c.tree_of-tree.result.now c.tree_of-tree.ensures))
-    c.one_proof.ensures
+    c.proofs_of_both.ensures
 
 pub returns : goal.returns
 returns c =
@@ -41,10 +37,7 @@ returns c =
     let two : length (sides_seen c.args.sides.now) ≡ 2 = ap (λ r. length (beside c.args.sides.now.left r)) c.requires.joined in
     let right_tree : c.tree_of-tree-else-same_table.result.now ≡ stored_tree c.args.tables.now (side_at (sides_seen c.args.sides.now) 1).table =
     c.tree_of-tree-else-same_table.ensures ∙ ap (λ r. stored_tree c.args.tables.now (side_at (beside c.args.sides.now.left r) 1).table) (sym c.requires.joined) in
-    let made : part_of c.in_ok-prune.field-0 ≡ pruned c.in_ok-rights.rights.items c.tree_of-tree-else-same_table.result.now =
-    rw c.deref.ensures.value at c.in_ok-prune.ensures in
-    subst (λ trees. IfOk c.two_proofs.result (λ proofs. trees_of proofs ≡ trees))
-    (ap (λ (proof : RowTree). part_of c.args.proof ∷ proof ∷ []) made
-    ∙ sym (two_by c.args.tables.now c.requires.standing q held c.requires.bound c.requires.right c.args.need c.requires.need (part_of c.args.proof) c.requires.proof
+    subst (λ trees. IfOk c.proofs_of_each.result (λ proofs. trees_of proofs ≡ trees))
+    (sym (two_by c.args.tables.now c.requires.standing q held c.requires.bound c.requires.right c.args.need c.requires.need (part_of c.args.proof) c.requires.proof
     c.in_ok-rights.rights.items c.in_ok-rights.ensures two apart c.tree_of-tree-else-same_table.result.now right_tree))
-    c.two_proofs.ensures
+    (rw c.deref.ensures.value at c.proofs_of_each.ensures)
