@@ -1,9 +1,12 @@
 //! Calls of bytes: values, their keys, columns, and batches of commands.
+ghost use Rattle.vo_spec.specs.Lent.{value_of};
+ghost use Rattle.vo_spec.specs.Values.{FitsValue};
+
 use crate::line::BytesCall;
 use line_pieces::{shown, word};
 use row_bytes::{
-    Cursor, FormFault, Value, copy_onto, copy_values, key_of, own_value, put_value, take_columns,
-    take_kind, take_value, value_of_key,
+    Cursor, FormFault, Value, ValueRef, copy_onto, copy_values, key_of, own_value, put_value,
+    take_columns, take_kind, take_value, value_of_key,
 };
 use std::alloc::Global;
 use std::io;
@@ -24,17 +27,29 @@ pub fn answer(alloc: Global, call: BytesCall, bytes: &[u8]) -> io::Result<String
 /// The value in front with its bytes, or its fault; and what is left.
 fn value(alloc: Global, bytes: &[u8]) -> io::Result<String> {
     let mut cursor = Cursor::new(bytes);
-    let taken = take_value(&mut cursor);
+    let said = match take_value(&mut cursor) {
+        Ok(value) => spelled(alloc, value)?,
+        Err(fault) => shown(alloc, &fault)?,
+    };
     let left = hex::encode(alloc, cursor.rest())?;
-    match taken {
-        Ok(value) => {
-            let value = own_value(alloc, value)?;
-            let mut written = Vec::new(alloc);
-            put_value(&mut written, &value)?;
-            Ok(format!(in alloc; "{value:?} {} {left}", hex::encode(alloc, &written)?)?)
-        }
-        Err(fault) => Ok(format!(in alloc; "{fault:?} {left}")?),
-    }
+    Ok(format!(in alloc; "{said} {left}")?)
+}
+
+/// A value, and its bytes.
+fn spelled(alloc: Global, value: ValueRef<'_>) -> io::Result<String>
+    requires { FitsValue (value_of value) }
+{
+    let value = own_value(alloc, value)?;
+    let digits = digits_of(alloc, &value)?;
+    Ok(format!(in alloc; "{value:?} {digits}")?)
+}
+
+fn digits_of(alloc: Global, value: &Value) -> io::Result<String>
+    requires { FitsValue value.now }
+{
+    let mut bytes = Vec::new(alloc);
+    put_value(&mut bytes, value)?;
+    Ok(hex::encode(alloc, &bytes)?)
 }
 
 /// The values that the bytes are, or the fault of the first that has one.

@@ -1,9 +1,9 @@
 //! A line: the word of a call, and its byte strings.
-use line_pieces::{NoAnswer, put_piece};
+use line_pieces::{NoAnswer, call_named, put_piece};
 use std::alloc::Global;
 
 /// The calls that are asked of a text.
-#[derive(Clone, Copy, PartialEq, Eq, Debug)]
+#[derive(Clone, Copy)]
 pub enum TextCall {
     Query,
     Batch,
@@ -19,7 +19,7 @@ pub enum TextCall {
 }
 
 /// The calls that are asked of bytes.
-#[derive(Clone, Copy, PartialEq, Eq, Debug)]
+#[derive(Clone, Copy)]
 pub enum BytesCall {
     Read,
     Value,
@@ -30,7 +30,7 @@ pub enum BytesCall {
 }
 
 /// The calls that are asked of a query, on the tables of the catalog.
-#[derive(Clone, Copy, PartialEq, Eq, Debug)]
+#[derive(Clone, Copy)]
 pub enum PlanCall {
     Trees,
     LeftNeed,
@@ -39,7 +39,7 @@ pub enum PlanCall {
     Run,
 }
 
-#[derive(Clone, Copy, PartialEq, Eq, Debug)]
+#[derive(Clone, Copy)]
 pub enum Call {
     Text(TextCall),
     Bytes(BytesCall),
@@ -47,6 +47,34 @@ pub enum Call {
     Catalog,
     Clear,
 }
+
+/// The calls by their words.
+const CALLS: [(&str, Call); 24] = [
+    ("query", Call::Text(TextCall::Query)),
+    ("batch", Call::Text(TextCall::Batch)),
+    ("script", Call::Text(TextCall::Script)),
+    ("print_query", Call::Text(TextCall::PrintQuery)),
+    ("print_batch", Call::Text(TextCall::PrintBatch)),
+    ("bytes", Call::Text(TextCall::Bytes)),
+    ("apply", Call::Text(TextCall::Apply)),
+    ("step", Call::Text(TextCall::Step)),
+    ("result", Call::Text(TextCall::Result)),
+    ("count", Call::Text(TextCall::Count)),
+    ("length", Call::Text(TextCall::Length)),
+    ("read", Call::Bytes(BytesCall::Read)),
+    ("value", Call::Bytes(BytesCall::Value)),
+    ("values", Call::Bytes(BytesCall::Values)),
+    ("key", Call::Bytes(BytesCall::Key)),
+    ("key_value", Call::Bytes(BytesCall::KeyValue)),
+    ("columns", Call::Bytes(BytesCall::Columns)),
+    ("trees", Call::Plan(PlanCall::Trees)),
+    ("left_need", Call::Plan(PlanCall::LeftNeed)),
+    ("right_need", Call::Plan(PlanCall::RightNeed)),
+    ("right_needs", Call::Plan(PlanCall::RightNeeds)),
+    ("run", Call::Plan(PlanCall::Run)),
+    ("catalog", Call::Catalog),
+    ("clear", Call::Clear),
+];
 
 /// A call with its byte strings, the second of which most calls leave empty.
 #[derive(Drop)]
@@ -61,7 +89,7 @@ pub fn read_line(alloc: Global, line: &str) -> Result<Line, NoAnswer> {
     let (word, digits) = line.split_once(' ').unwrap_or((line, ""));
     let (bytes, more) = digits.split_once('/').unwrap_or((digits, ""));
     Ok(Line {
-        call: call_of(word).ok_or(NoAnswer::NoSuchLine)?,
+        call: call_named(&CALLS, word).ok_or(NoAnswer::NoSuchLine)?,
         bytes: bytes_of(alloc, bytes)?,
         more: bytes_of(alloc, more)?,
     })
@@ -74,34 +102,4 @@ fn bytes_of(alloc: Global, pieces: &str) -> Result<Vec<u8>, NoAnswer> {
         put_piece(alloc, &mut bytes, piece)?;
     }
     Ok(bytes)
-}
-
-fn call_of(word: &str) -> Option<Call> {
-    match word {
-        "query" => Some(Call::Text(TextCall::Query)),
-        "batch" => Some(Call::Text(TextCall::Batch)),
-        "script" => Some(Call::Text(TextCall::Script)),
-        "print_query" => Some(Call::Text(TextCall::PrintQuery)),
-        "print_batch" => Some(Call::Text(TextCall::PrintBatch)),
-        "bytes" => Some(Call::Text(TextCall::Bytes)),
-        "apply" => Some(Call::Text(TextCall::Apply)),
-        "step" => Some(Call::Text(TextCall::Step)),
-        "result" => Some(Call::Text(TextCall::Result)),
-        "count" => Some(Call::Text(TextCall::Count)),
-        "length" => Some(Call::Text(TextCall::Length)),
-        "read" => Some(Call::Bytes(BytesCall::Read)),
-        "value" => Some(Call::Bytes(BytesCall::Value)),
-        "values" => Some(Call::Bytes(BytesCall::Values)),
-        "key" => Some(Call::Bytes(BytesCall::Key)),
-        "key_value" => Some(Call::Bytes(BytesCall::KeyValue)),
-        "columns" => Some(Call::Bytes(BytesCall::Columns)),
-        "trees" => Some(Call::Plan(PlanCall::Trees)),
-        "left_need" => Some(Call::Plan(PlanCall::LeftNeed)),
-        "right_need" => Some(Call::Plan(PlanCall::RightNeed)),
-        "right_needs" => Some(Call::Plan(PlanCall::RightNeeds)),
-        "run" => Some(Call::Plan(PlanCall::Run)),
-        "catalog" => Some(Call::Catalog),
-        "clear" => Some(Call::Clear),
-        _ => None,
-    }
 }

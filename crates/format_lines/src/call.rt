@@ -1,7 +1,8 @@
 //! The words of calls.
+use line_pieces::call_named;
 
 /// The calls that a line can ask for.
-#[derive(Clone, Copy, PartialEq, Eq, Debug)]
+#[derive(Clone, Copy)]
 pub enum Call {
     Keep,
     Digest,
@@ -41,70 +42,47 @@ pub enum Call {
     Answer,
 }
 
+/// The calls by their words.
+const CALLS: [(&str, Call); 36] = [
+    ("digest", Call::Digest),
+    ("hash", Call::Hash),
+    ("collision", Call::Collision),
+    ("digit", Call::Digit),
+    ("checksum", Call::Checksum),
+    ("ots_public", Call::OtsPublic),
+    ("ots_sign", Call::OtsSign),
+    ("candidate", Call::Candidate),
+    ("make", Call::Make),
+    ("copy", Call::Copy),
+    ("node", Call::Node),
+    ("sign", Call::Sign),
+    ("key", Call::Key),
+    ("leaf", Call::Leaf),
+    ("verify", Call::Verify),
+    ("value", Call::Value),
+    ("attribute", Call::Attribute),
+    ("cell", Call::Cell),
+    ("row", Call::Row),
+    ("closed", Call::Closed),
+    ("whole", Call::Whole),
+    ("hide", Call::Hide),
+    ("hide_cells", Call::HideCells),
+    ("keep", Call::Keep),
+    ("catalog", Call::Catalog),
+    ("record", Call::Record),
+    ("reply", Call::Reply),
+    ("proofs", Call::Proofs),
+    ("begin", Call::Begin),
+    ("slots", Call::Slots),
+    ("entries", Call::Entries),
+    ("journal", Call::Journal),
+    ("seal", Call::Seal),
+    ("owned", Call::Owned),
+    ("taken", Call::Taken),
+    ("answer", Call::Answer),
+];
+
 /// The call of a word.
 pub fn call_of(word: &str) -> Option<Call> {
-    key_call(word)
-        .or(row_call(word))
-        .or(format_call(word))
-        .or(journal_call(word))
-}
-
-fn key_call(word: &str) -> Option<Call> {
-    match word {
-        "digest" => Some(Call::Digest),
-        "hash" => Some(Call::Hash),
-        "collision" => Some(Call::Collision),
-        "digit" => Some(Call::Digit),
-        "checksum" => Some(Call::Checksum),
-        "ots_public" => Some(Call::OtsPublic),
-        "ots_sign" => Some(Call::OtsSign),
-        "candidate" => Some(Call::Candidate),
-        "make" => Some(Call::Make),
-        "copy" => Some(Call::Copy),
-        "node" => Some(Call::Node),
-        "sign" => Some(Call::Sign),
-        "key" => Some(Call::Key),
-        "leaf" => Some(Call::Leaf),
-        "verify" => Some(Call::Verify),
-        _ => None,
-    }
-}
-
-fn row_call(word: &str) -> Option<Call> {
-    match word {
-        "value" => Some(Call::Value),
-        "attribute" => Some(Call::Attribute),
-        "cell" => Some(Call::Cell),
-        "row" => Some(Call::Row),
-        "closed" => Some(Call::Closed),
-        "whole" => Some(Call::Whole),
-        "hide" => Some(Call::Hide),
-        "hide_cells" => Some(Call::HideCells),
-        _ => None,
-    }
-}
-
-fn format_call(word: &str) -> Option<Call> {
-    match word {
-        "keep" => Some(Call::Keep),
-        "catalog" => Some(Call::Catalog),
-        "record" => Some(Call::Record),
-        "reply" => Some(Call::Reply),
-        "proofs" => Some(Call::Proofs),
-        "begin" => Some(Call::Begin),
-        _ => None,
-    }
-}
-
-fn journal_call(word: &str) -> Option<Call> {
-    match word {
-        "slots" => Some(Call::Slots),
-        "entries" => Some(Call::Entries),
-        "journal" => Some(Call::Journal),
-        "seal" => Some(Call::Seal),
-        "owned" => Some(Call::Owned),
-        "taken" => Some(Call::Taken),
-        "answer" => Some(Call::Answer),
-        _ => None,
-    }
+    call_named(&CALLS, word)
 }

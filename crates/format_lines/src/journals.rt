@@ -24,11 +24,18 @@ pub fn slots(alloc: Global, strings: &[Vec<u8>]) -> Result<String, NoAnswer> {
     };
     let slots = read_slots(alloc, bytes)?;
     let mut line = format!(in alloc; "{:?}", slots.ending)?;
-    for entry in slots.entries.as_slice() {
+    put_shown_slots(alloc, &mut line, slots.entries.as_slice())?;
+    Ok(line)
+}
+
+fn put_shown_slots(alloc: Global, line: &mut String, entries: &[Entry]) -> Result<(), NoAnswer>
+    requires { AllByRecursion FitsEntry entries.now }
+{
+    for entry in entries {
         line.push(' ')?;
         line.push_str(&shown_slot(alloc, entry)?)?;
     }
-    Ok(line)
+    Ok(())
 }
 
 fn shown_slot(alloc: Global, entry: &Entry) -> Result<String, NoAnswer>
@@ -44,16 +51,27 @@ pub fn entries(alloc: Global, strings: &[Vec<u8>]) -> Result<String, NoAnswer> {
     let [bytes] = strings else {
         return Err(NoAnswer::NoSuchLine);
     };
-    let entries = match read_entries(alloc, bytes) {
-        Ok(entries) => entries,
-        Err(fault) => return Ok(format!(in alloc; "{fault:?}")?),
-    };
+    match read_entries(alloc, bytes) {
+        Ok(entries) => shown_entries(alloc, entries.as_slice()),
+        Err(fault) => Ok(format!(in alloc; "{fault:?}")?),
+    }
+}
+
+fn shown_entries(alloc: Global, entries: &[Entry]) -> Result<String, NoAnswer>
+    requires { AllByRecursion FitsEntry entries.now }
+{
     let mut line = format!(in alloc; "{}", entries.len())?;
-    for entry in entries.as_slice() {
+    for entry in entries {
         line.push(' ')?;
-        line.push_str(&hex::encode(alloc, entry_bytes(alloc, entry)?)?)?;
+        line.push_str(&shown_entry(alloc, entry)?)?;
     }
     Ok(line)
+}
+
+fn shown_entry(alloc: Global, entry: &Entry) -> Result<String, NoAnswer>
+    requires { FitsEntry entry.now }
+{
+    Ok(hex::encode(alloc, entry_bytes(alloc, entry)?)?)
 }
 
 /// The journal of a journal's entries, with nothing behind its closed gate.

@@ -13,10 +13,8 @@ pub fn make(alloc: Global, kept: &mut Kept, strings: &[Vec<u8>]) -> Result<Strin
     };
     let id = array_of::<16>(id)?;
     let seed = array_of::<32>(seed)?;
-    let key = key_of(alloc, id, seed, set_of(set)?, number_of(height)?)?;
-    let answer = public(alloc, &key)?;
-    kept.key = Some(key);
-    Ok(answer)
+    kept.key = Some(key_of(alloc, id, seed, set_of(set)?, number_of(height)?)?);
+    public(alloc, kept.secret()?)
 }
 
 /// Keys are made of these heights alone.
@@ -40,10 +38,8 @@ fn public(alloc: Global, key: &SecretKey) -> Result<String, NoAnswer> {
 
 /// Keeps a copy of the key in its place, and has its public key.
 pub fn copy(alloc: Global, kept: &mut Kept) -> Result<String, NoAnswer> {
-    let copy = kept.secret()?.copy(alloc)?;
-    let answer = public(alloc, &copy)?;
-    kept.key = Some(copy);
-    Ok(answer)
+    kept.key = Some(kept.secret()?.copy(alloc)?);
+    public(alloc, kept.secret()?)
 }
 
 /// A node of the key's tree.
@@ -75,10 +71,13 @@ pub fn key(alloc: Global, strings: &[Vec<u8>]) -> Result<String, NoAnswer> {
     let [bytes] = strings else {
         return Err(NoAnswer::NoSuchLine);
     };
-    let key = match PublicKey::read(bytes) {
-        Ok(key) => key,
-        Err(fault) => return Ok(format!(in alloc; "{fault:?}")?),
-    };
+    match PublicKey::read(bytes) {
+        Ok(key) => shown_key(alloc, &key),
+        Err(fault) => Ok(format!(in alloc; "{fault:?}")?),
+    }
+}
+
+fn shown_key(alloc: Global, key: &PublicKey) -> Result<String, NoAnswer> {
     let id = hex::encode(alloc, key.id())?;
     let bytes = hex::encode(alloc, key.bytes(alloc)?)?;
     let leaves = key.leaf_count();

@@ -1,4 +1,9 @@
 //! Calls of replies and proofs.
+ghost use Rattle.std.specs.Prelude.{map};
+ghost use Rattle.vo_spec.specs.Replies.{FitsProofs, FitsReply};
+ghost use Rattle.mb_tree.specs.View.{part_of};
+ghost use Rattle.vo_format.specs.View.{reply_of};
+
 use crate::arguments::array_of;
 use crate::keys::read_key;
 use crate::records::unread;
@@ -6,7 +11,9 @@ use line_pieces::NoAnswer;
 use lms_sign::PublicKey;
 use sql_text::parse_query;
 use std::alloc::Global;
-use vo_format::{begin_proofs, read_proofs, read_reply, write_proofs, write_reply};
+use vo_format::{
+    PartTree, Reply, begin_proofs, read_proofs, read_reply, write_proofs, write_reply,
+};
 use vo_spec::QueryText;
 use vo_store::reply_by;
 
@@ -15,14 +22,19 @@ pub fn reply(alloc: Global, strings: &[Vec<u8>]) -> Result<String, NoAnswer> {
     let [bytes] = strings else {
         return Err(NoAnswer::NoSuchLine);
     };
-    let reply = match read_reply(alloc, bytes) {
-        Ok(reply) => reply,
-        Err(fault) => return unread(alloc, fault),
-    };
+    match read_reply(alloc, bytes) {
+        Ok(reply) => shown_reply(alloc, &reply),
+        Err(fault) => unread(alloc, fault),
+    }
+}
+
+fn shown_reply(alloc: Global, reply: &Reply<'_>) -> Result<String, NoAnswer>
+    requires { FitsReply (reply_of reply.now) }
+{
     let version = reply.rec.version;
     let length = reply.signature.len();
     let trees = reply.trees.len();
-    let bytes = hex::encode(alloc, write_reply(alloc, &reply)?)?;
+    let bytes = hex::encode(alloc, write_reply(alloc, reply)?)?;
     Ok(format!(in alloc; "{version} {length} {trees} {bytes}")?)
 }
 
@@ -31,11 +43,16 @@ pub fn proofs(alloc: Global, strings: &[Vec<u8>]) -> Result<String, NoAnswer> {
     let [bytes] = strings else {
         return Err(NoAnswer::NoSuchLine);
     };
-    let trees = match read_proofs(alloc, bytes) {
-        Ok(trees) => trees,
-        Err(fault) => return unread(alloc, fault),
-    };
-    let bytes = hex::encode(alloc, write_proofs(alloc, &trees)?)?;
+    match read_proofs(alloc, bytes) {
+        Ok(trees) => shown_proofs(alloc, &trees),
+        Err(fault) => unread(alloc, fault),
+    }
+}
+
+fn shown_proofs(alloc: Global, trees: &[PartTree<'_>]) -> Result<String, NoAnswer>
+    requires { FitsProofs (map part_of trees.now) }
+{
+    let bytes = hex::encode(alloc, write_proofs(alloc, trees)?)?;
     Ok(format!(in alloc; "{} {bytes}", trees.len())?)
 }
 

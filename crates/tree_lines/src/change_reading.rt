@@ -99,9 +99,15 @@ fn take_sets(alloc: Global, cursor: &mut Cursor<'_>) -> Result<List<SetCell>, Re
     let count = cursor.take_byte().ok_or(ReadFault::BadForm)?;
     let mut sets = Vec::new(alloc);
     for _ in 0..count {
-        let column = cursor.take_byte().ok_or(ReadFault::BadForm)?;
-        let value = take_value_of(alloc, cursor)?;
-        sets.push(SetCell { column, value })?;
+        sets.push(take_set(alloc, cursor)?)?;
     }
     Ok(List::from_vec(sets))
+}
+
+fn take_set(alloc: Global, cursor: &mut Cursor<'_>) -> Result<SetCell, ReadFault>
+    ensures { IfOk result (λ set. FitsValue set.value) }
+{
+    let column = cursor.take_byte().ok_or(ReadFault::BadForm)?;
+    let value = take_value_of(alloc, cursor)?;
+    Ok(SetCell { column, value })
 }

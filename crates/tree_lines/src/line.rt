@@ -1,9 +1,10 @@
 //! A line: the word of a call, and its byte strings.
+use line_pieces::call_named;
 use std::alloc::Global;
 use std::io;
 
 /// The calls that a line can ask for.
-#[derive(Clone, Copy, PartialEq, Eq, Debug)]
+#[derive(Clone, Copy)]
 pub enum Call {
     Clear,
     Apply,
@@ -27,6 +28,30 @@ pub enum Call {
     Read,
 }
 
+/// The calls by their words.
+const CALLS: [(&str, Call); 20] = [
+    ("clear", Call::Clear),
+    ("apply", Call::Apply),
+    ("step", Call::Step),
+    ("refusal", Call::Refusal),
+    ("proof", Call::Proof),
+    ("catalog", Call::Catalog),
+    ("rows", Call::Rows),
+    ("root", Call::Root),
+    ("change", Call::Change),
+    ("prove", Call::Prove),
+    ("prune", Call::Prune),
+    ("agree", Call::Agree),
+    ("work", Call::Work),
+    ("after", Call::After),
+    ("judge", Call::Judge),
+    ("scan", Call::Scan),
+    ("canonical", Call::Canonical),
+    ("digest", Call::Digest),
+    ("preimage", Call::Preimage),
+    ("read", Call::Read),
+];
+
 /// A call with its byte strings, which are empty where the line has none.
 #[derive(Drop)]
 pub struct Line {
@@ -39,7 +64,7 @@ pub struct Line {
 pub fn read_line(alloc: Global, line: &str) -> io::Result<Option<Line>> {
     let (word, digits) = line.split_once(' ').unwrap_or((line, ""));
     let (first, second) = digits.split_once(' ').unwrap_or((digits, ""));
-    let Some(call) = call_of(word) else {
+    let Some(call) = call_named(&CALLS, word) else {
         return Ok(None);
     };
     let Ok(first) = hex::decode(alloc, first) else {
@@ -53,30 +78,4 @@ pub fn read_line(alloc: Global, line: &str) -> io::Result<Option<Line>> {
         first,
         second,
     }))
-}
-
-fn call_of(word: &str) -> Option<Call> {
-    match word {
-        "clear" => Some(Call::Clear),
-        "apply" => Some(Call::Apply),
-        "step" => Some(Call::Step),
-        "refusal" => Some(Call::Refusal),
-        "proof" => Some(Call::Proof),
-        "catalog" => Some(Call::Catalog),
-        "rows" => Some(Call::Rows),
-        "root" => Some(Call::Root),
-        "change" => Some(Call::Change),
-        "prove" => Some(Call::Prove),
-        "prune" => Some(Call::Prune),
-        "agree" => Some(Call::Agree),
-        "work" => Some(Call::Work),
-        "after" => Some(Call::After),
-        "judge" => Some(Call::Judge),
-        "scan" => Some(Call::Scan),
-        "canonical" => Some(Call::Canonical),
-        "digest" => Some(Call::Digest),
-        "preimage" => Some(Call::Preimage),
-        "read" => Some(Call::Read),
-        _ => None,
-    }
 }

@@ -31,10 +31,13 @@ use std::io::{self, BufRead, BufReader};
 use stored_tables::StoredTables;
 
 fn main(rt: HostRuntime) -> io::Result<()> {
+    answer_lines(&rt, &mut StoredTables::new(rt.alloc()))
+}
+
+fn answer_lines(rt: &HostRuntime, tables: &mut StoredTables) -> io::Result<()> {
     let alloc = rt.alloc();
-    let mut tables = StoredTables::new(alloc);
     for line in BufReader::new(alloc, rt.reader())?.lines(alloc) {
-        let answer = answer(alloc, &mut tables, &line?)?;
+        let answer = answer(alloc, tables, &line?)?;
         println!(rt; "{answer}")?;
     }
     Ok(())

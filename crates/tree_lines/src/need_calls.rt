@@ -12,12 +12,15 @@ use vo_spec::Need;
 
 /// The rows that a scan for a need gives.
 pub fn scanned(alloc: Global, need: &[u8], part: &[u8]) -> io::Result<String> {
-    let need = match read_need(alloc, need) {
-        Ok(need) => need,
-        Err(fault) => return shown(alloc, &fault),
-    };
+    match read_need(alloc, need) {
+        Ok(need) => scanned_for(alloc, &need, part),
+        Err(fault) => shown(alloc, &fault),
+    }
+}
+
+fn scanned_for(alloc: Global, need: &Need, part: &[u8]) -> io::Result<String> {
     match read_part(alloc, part) {
-        Ok(part) => shown(alloc, &scan(alloc, &part, &need)),
+        Ok(part) => shown(alloc, &scan(alloc, &part, need)),
         Err(fault) => shown(alloc, &fault),
     }
 }

@@ -29,14 +29,21 @@ pub fn read_needs(alloc: Global, bytes: &[u8]) -> Result<Vec<Need>, ReadFault> {
 }
 
 fn take_need(alloc: Global, cursor: &mut Cursor<'_>) -> Result<Need, ReadFault> {
+    let interval = take_interval(alloc, cursor)?;
+    let columns = take_columns(alloc, cursor)?;
+    Ok(Need { interval, columns })
+}
+
+fn take_interval(alloc: Global, cursor: &mut Cursor<'_>) -> Result<Interval, ReadFault> {
     let low = take_bound(alloc, cursor)?;
     let high = take_bound(alloc, cursor)?;
+    Ok(Interval { low, high })
+}
+
+fn take_columns(alloc: Global, cursor: &mut Cursor<'_>) -> Result<List<u8>, ReadFault> {
     let count = cursor.take_byte().ok_or(ReadFault::BadForm)?;
     let columns = cursor.take_bytes(count as usize).ok_or(ReadFault::BadForm)?;
-    Ok(Need {
-        interval: Interval { low, high },
-        columns: List::from_vec(Vec::from_slice(alloc, columns)?),
-    })
+    Ok(List::from_vec(Vec::from_slice(alloc, columns)?))
 }
 
 fn take_bound(alloc: Global, cursor: &mut Cursor<'_>) -> Result<Bound, ReadFault> {

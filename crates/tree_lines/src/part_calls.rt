@@ -17,11 +17,17 @@ use vo_format::PartTree;
 
 /// The part tree after a change, or why it isn't changed.
 pub fn worked(alloc: Global, change: &[u8], part: &[u8]) -> io::Result<String> {
-    let (op, part) = match read_both(alloc, change, part) {
-        Ok(both) => both,
-        Err(fault) => return shown(alloc, &fault),
-    };
-    match part_after(alloc, &part, &op) {
+    match read_both(alloc, change, part) {
+        Ok((op, part)) => worked_on(alloc, &part, &op),
+        Err(fault) => shown(alloc, &fault),
+    }
+}
+
+fn worked_on(alloc: Global, part: &PartTree<'_>, op: &Op) -> io::Result<String>
+    requires fits { FitsPart (part_of part.now) }
+    requires change { FitsOp op.now }
+{
+    match part_after(alloc, part, op) {
         Ok(new) => spelled(alloc, &new),
         Err(fault) => shown(alloc, &fault),
     }
@@ -53,15 +59,26 @@ fn read_both<'b>(
 
 /// The digest of the part tree after some changes in turn, or why one of them isn't done.
 pub fn worked_in_turn(alloc: Global, changes: &[u8], part: &[u8]) -> io::Result<String> {
-    let ops = match read_changes(alloc, changes) {
-        Ok(ops) => ops,
-        Err(fault) => return shown(alloc, &fault),
-    };
-    let part = match read_part(alloc, part) {
-        Ok(part) => part,
-        Err(fault) => return shown(alloc, &fault),
-    };
-    match part_after_all(alloc, part, &ops) {
+    match read_changes(alloc, changes) {
+        Ok(ops) => worked_by_all(alloc, &ops, part),
+        Err(fault) => shown(alloc, &fault),
+    }
+}
+
+fn worked_by_all(alloc: Global, ops: &[Op], part: &[u8]) -> io::Result<String>
+    requires { All FitsOp ops.now }
+{
+    match read_part(alloc, part) {
+        Ok(part) => digest_after(alloc, part, ops),
+        Err(fault) => shown(alloc, &fault),
+    }
+}
+
+fn digest_after(alloc: Global, part: PartTree<'_>, ops: &[Op]) -> io::Result<String>
+    requires fits { FitsPart (part_of part) }
+    requires changes { All FitsOp ops.now }
+{
+    match part_after_all(alloc, part, ops) {
         Ok(new) => digits(alloc, new.node_digest()),
         Err(fault) => shown(alloc, &fault),
     }

@@ -4,18 +4,24 @@ ghost use Rattle.vo_spec.specs.Batches.{FitsBatch};
 
 use crate::answers::{digits, spelled};
 use line_pieces::{shown, word};
-use std::alloc::Global;
+use std::alloc::{AllocError, Global};
 use std::io;
 use stored_tables::StoredTables;
-use table_list::read_batch;
+use table_list::{ApplyFault, read_batch};
+use vo_spec::{Batch, CatalogTable, Command, CommandFault};
 
 /// The digest of the table `t` after a batch, or why the batch is refused.
 pub fn applied(alloc: Global, tables: &mut StoredTables, batch: &[u8]) -> io::Result<String> {
-    let batch = match read_batch(alloc, batch) {
-        Ok(batch) => batch,
-        Err(fault) => return shown(alloc, &fault),
-    };
-    if let Err(fault) = tables.apply_batch(alloc, &batch) {
+    match read_batch(alloc, batch) {
+        Ok(batch) => applied_to(alloc, tables, &batch),
+        Err(fault) => shown(alloc, &fault),
+    }
+}
+
+fn applied_to(alloc: Global, tables: &mut StoredTables, batch: &Batch) -> io::Result<String>
+    requires { FitsBatch batch.now.commands }
+{
+    if let Err(fault) = tables.apply_batch(alloc, batch) {
         return shown(alloc, &fault);
     }
     match tables.find(b"t") {
@@ -26,43 +32,71 @@ pub fn applied(alloc: Global, tables: &mut StoredTables, batch: &[u8]) -> io::Re
 
 /// Why each command of a batch is refused, or that it is applied, by itself.
 pub fn stepped(alloc: Global, tables: &mut StoredTables, batch: &[u8]) -> io::Result<String> {
-    let batch = match read_batch(alloc, batch) {
-        Ok(batch) => batch,
-        Err(fault) => return shown(alloc, &fault),
-    };
+    match read_batch(alloc, batch) {
+        Ok(batch) => shown(
+            alloc,
+            &apply_each(alloc, tables, batch.commands.as_slice())?,
+        ),
+        Err(fault) => shown(alloc, &fault),
+    }
+}
+
+fn apply_each(
+    alloc: Global,
+    tables: &mut StoredTables,
+    commands: &[Command],
+) -> Result<Vec<Option<ApplyFault>>, AllocError>
+    requires { FitsBatch commands.now }
+{
     let mut faults = Vec::new(alloc);
-    for command in batch.commands.as_slice() {
-        match tables.apply(alloc, command) {
+    for command in commands {
+        let fault = match tables.apply(alloc, command) {
             Ok(next) => {
                 *tables = next;
-                faults.push(None)?;
+                None
             }
-            Err(fault) => faults.push(Some(fault))?,
-        }
+            Err(fault) => Some(fault),
+        };
+        faults.push(fault)?;
     }
-    shown(alloc, &faults)
+    Ok(faults)
 }
 
 /// Why each command of a batch is refused on the tables as they are, without a look at the rows.
 pub fn refusals(alloc: Global, tables: &StoredTables, batch: &[u8]) -> io::Result<String> {
-    let batch = match read_batch(alloc, batch) {
-        Ok(batch) => batch,
-        Err(fault) => return shown(alloc, &fault),
-    };
+    match read_batch(alloc, batch) {
+        Ok(batch) => shown(
+            alloc,
+            &refusals_of(alloc, tables, batch.commands.as_slice())?,
+        ),
+        Err(fault) => shown(alloc, &fault),
+    }
+}
+
+fn refusals_of(
+    alloc: Global,
+    tables: &StoredTables,
+    commands: &[Command],
+) -> Result<Vec<Option<CommandFault>>, AllocError> {
     let mut faults = Vec::new(alloc);
-    for command in batch.commands.as_slice() {
+    for command in commands {
         faults.push(tables.refusal(command))?;
     }
-    shown(alloc, &faults)
+    Ok(faults)
 }
 
 /// The proof of a batch's one command, if it has one.
 pub fn proof_of(alloc: Global, tables: &StoredTables, batch: &[u8]) -> io::Result<String> {
-    let batch = match read_batch(alloc, batch) {
-        Ok(batch) => batch,
-        Err(fault) => return shown(alloc, &fault),
-    };
-    let [command] = batch.commands.as_slice() else {
+    match read_batch(alloc, batch) {
+        Ok(batch) => proof_of_one(alloc, tables, batch.commands.as_slice()),
+        Err(fault) => shown(alloc, &fault),
+    }
+}
+
+fn proof_of_one(alloc: Global, tables: &StoredTables, commands: &[Command]) -> io::Result<String>
+    requires { FitsBatch commands.now }
+{
+    let [command] = commands else {
         return word(alloc, "not one command");
     };
     match tables.command_proof(alloc, command)? {
@@ -74,13 +108,21 @@ pub fn proof_of(alloc: Global, tables: &StoredTables, batch: &[u8]) -> io::Resul
 /// The name, the number of rows and the root of each table, as they stay where the tables are shared.
 pub fn catalog_of(alloc: Global, tables: &StoredTables) -> io::Result<String> {
     let catalog = tables.share(alloc)?.catalog(alloc)?;
+    shown(alloc, &each_described(alloc, catalog.tables.as_slice())?)
+}
+
+fn each_described(alloc: Global, tables: &[CatalogTable]) -> io::Result<Vec<String>> {
     let mut words = Vec::new(alloc);
-    for table in catalog.tables.as_slice() {
-        let name = hex::encode(alloc, table.name.as_bytes())?;
-        let root = digits(alloc, table.root)?;
-        words.push(format!(in alloc; "{name} {} {root}", table.rows)?)?;
+    for table in tables {
+        words.push(described(alloc, table)?)?;
     }
-    shown(alloc, &words)
+    Ok(words)
+}
+
+fn described(alloc: Global, table: &CatalogTable) -> io::Result<String> {
+    let name = hex::encode(alloc, table.name.as_bytes())?;
+    let root = digits(alloc, table.root)?;
+    Ok(format!(in alloc; "{name} {} {root}", table.rows)?)
 }
 
 /// The rows of the plain table `t`.

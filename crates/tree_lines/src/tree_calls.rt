@@ -41,12 +41,17 @@ fn counted(alloc: Global, tree: &Tree) -> io::Result<String> {
 /// The number of rows and the digest of the tree that a change makes, or why there is none, and of the tree itself,
 /// which stays.
 pub fn changed(alloc: Global, tables: &StoredTables, change: &[u8]) -> io::Result<String> {
-    let op = match read_change(alloc, change) {
-        Ok(op) => op,
-        Err(fault) => return shown(alloc, &fault),
-    };
+    match read_change(alloc, change) {
+        Ok(op) => changed_by(alloc, tables, &op),
+        Err(fault) => shown(alloc, &fault),
+    }
+}
+
+fn changed_by(alloc: Global, tables: &StoredTables, op: &Op) -> io::Result<String>
+    requires { FitsOp op.now }
+{
     match tables.find(b"t") {
-        Some(table) => new_and_old(alloc, &table.tree, &op),
+        Some(table) => new_and_old(alloc, &table.tree, op),
         None => word(alloc, "no table"),
     }
 }
@@ -86,12 +91,15 @@ fn tree_after(alloc: Global, tree: &Tree, op: &Op) -> Result<Tree, UpdateFault>
 
 /// The proof of a change.
 pub fn proved(alloc: Global, tables: &StoredTables, change: &[u8]) -> io::Result<String> {
-    let op = match read_change(alloc, change) {
-        Ok(op) => op,
-        Err(fault) => return shown(alloc, &fault),
-    };
+    match read_change(alloc, change) {
+        Ok(op) => proved_of(alloc, tables, &op),
+        Err(fault) => shown(alloc, &fault),
+    }
+}
+
+fn proved_of(alloc: Global, tables: &StoredTables, op: &Op) -> io::Result<String> {
     match tables.find(b"t") {
-        Some(table) => spelled(alloc, &proof_of(alloc, &table.tree, &op)?),
+        Some(table) => spelled(alloc, &proof_of(alloc, &table.tree, op)?),
         None => word(alloc, "no table"),
     }
 }
@@ -106,12 +114,15 @@ fn proof_of<'b>(alloc: Global, tree: &'b Tree, op: &Op) -> Result<PartTree<'b>, 
 
 /// The proof of some needs.
 pub fn pruned(alloc: Global, tables: &StoredTables, needs: &[u8]) -> io::Result<String> {
-    let needs = match read_needs(alloc, needs) {
-        Ok(needs) => needs,
-        Err(fault) => return shown(alloc, &fault),
-    };
+    match read_needs(alloc, needs) {
+        Ok(needs) => pruned_for(alloc, tables, &needs),
+        Err(fault) => shown(alloc, &fault),
+    }
+}
+
+fn pruned_for(alloc: Global, tables: &StoredTables, needs: &[Need]) -> io::Result<String> {
     match tables.find(b"t") {
-        Some(table) => spelled(alloc, &part_for(alloc, &table.tree, &needs)?),
+        Some(table) => spelled(alloc, &part_for(alloc, &table.tree, needs)?),
         None => word(alloc, "no table"),
     }
 }
@@ -126,12 +137,17 @@ fn part_for<'b>(alloc: Global, tree: &'b Tree, needs: &[Need]) -> Result<PartTre
 
 /// Whether a part tree of the tree's digest prunes it.
 pub fn agreed(alloc: Global, tables: &StoredTables, part: &[u8]) -> io::Result<String> {
-    let part = match read_part(alloc, part) {
-        Ok(part) => part,
-        Err(fault) => return shown(alloc, &fault),
-    };
+    match read_part(alloc, part) {
+        Ok(part) => agreed_by(alloc, tables, &part),
+        Err(fault) => shown(alloc, &fault),
+    }
+}
+
+fn agreed_by(alloc: Global, tables: &StoredTables, part: &PartTree<'_>) -> io::Result<String>
+    requires { FitsPart (part_of part.now) }
+{
     match tables.find(b"t") {
-        Some(table) => compared(alloc, &part, &table.tree),
+        Some(table) => compared(alloc, part, &table.tree),
         None => word(alloc, "no table"),
     }
 }
