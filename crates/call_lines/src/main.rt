@@ -27,8 +27,11 @@ use calls::State;
 use std::io::{self, BufRead, BufReader};
 
 fn main(rt: HostRuntime) -> io::Result<()> {
+    answer_lines(&rt, &mut State::new(rt.alloc()))
+}
+
+fn answer_lines(rt: &HostRuntime, state: &mut State) -> io::Result<()> {
     let alloc = rt.alloc();
-    let mut state = State::new(alloc);
     for line in BufReader::new(alloc, rt.reader())?.lines(alloc) {
         let answer = state.answer(alloc, &line?)?;
         println!(rt; "{answer}")?;

@@ -36,10 +36,13 @@ use kept::Kept;
 use std::io::{self, BufRead, BufReader};
 
 fn main(rt: HostRuntime) -> io::Result<()> {
+    answer_lines(&rt, &mut Kept::new(rt.alloc()))
+}
+
+fn answer_lines(rt: &HostRuntime, kept: &mut Kept) -> io::Result<()> {
     let alloc = rt.alloc();
-    let mut kept = Kept::new(alloc);
     for line in BufReader::new(alloc, rt.reader())?.lines(alloc) {
-        let answer = answer(alloc, &mut kept, &line?)?;
+        let answer = answer(alloc, kept, &line?)?;
         println!(rt; "{answer}")?;
     }
     Ok(())

@@ -23,10 +23,13 @@ use folder::Folder;
 use std::io::{self, BufRead, BufReader};
 
 fn main(rt: HostRuntime) -> io::Result<()> {
+    answer_lines(&rt, &mut Folder::new(rt.alloc()))
+}
+
+fn answer_lines(rt: &HostRuntime, folder: &mut Folder) -> io::Result<()> {
     let alloc = rt.alloc();
-    let mut folder = Folder::new(alloc);
     for line in BufReader::new(alloc, rt.reader())?.lines(alloc) {
-        let answer = answer(alloc, &mut folder, &line?)?;
+        let answer = answer(alloc, folder, &line?)?;
         println!(rt; "{answer}")?;
     }
     Ok(())
