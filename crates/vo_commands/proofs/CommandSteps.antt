@@ -71,12 +71,23 @@ module _ (name query reply key : List ℕ) (least : ℕ) (q : Query) (is : IsQue
           of_file (with_key told name) key (λ x. OfQuery query (λ y. with_file told reply reply_limit (λ z. Checks x least y z))) r k
           (of_query query q (λ y. with_file told reply reply_limit (λ z. Checks key least y z)) r is a)
 
-module _ (name journal query reply key held : List ℕ) (q : Query) (is : IsQueryText query q) (r : Result Report Stop) where
+-- what the rest of the work says of a text's query, or a stop at the text
+pub query_told : (text : List ℕ) (q : Query) (rest : Files → Query → Due) (o : Option Files) (r : Result Report Stop) → IsQueryText text q
+    → IfSome o (λ told. Answers (rest told q) r) → IfSome o (λ told. Answers (OfQuery text (rest told)) r)
+query_told text q rest None r is a = tt
+query_told text q rest (Some told) r is a = of_query text q (rest told) r is a
+
+pub query_stops : {A : Type 0} (view : A → Query) (text : List ℕ) (rest : Files → Query → Due) (o : Option Files) (stop : Stop)
+    → ReadsText view (IsQueryText text) (IsRefusedQuery text) (Err stop) → IfSome o (λ told. Answers (OfQuery text (rest told)) (Err stop))
+query_stops view text rest None stop reads = tt
+query_stops view text rest (Some told) stop reads = of_no_query view text stop (rest told) reads
+
+module _ (name journal query reply key held : List ℕ) (r : Result Report Stop) where
   abbrev after_journal : Files → List ℕ → List ℕ → Due
   after_journal told x y = OfQuery query (λ z. with_file told reply reply_limit (λ w. Audits x y z w))
 
   abbrev Audited : Files → Type 0
-  Audited told = Answers (with_file told reply reply_limit (λ w. Audits key held q w)) r
+  Audited told = Answers (after_journal told key held) r
 
   pub audit_told : (o p s : Option Files) → p ≡ o → s ≡ p → IfSome o (KeyIs name key) → IfSome p (FileIs journal journal_limit held) → IfSome s Audited
       → IfSome o (λ told. Answers (audit_due name journal query reply told) r)
@@ -87,20 +98,18 @@ module _ (name journal query reply key held : List ℕ) (q : Query) (is : IsQuer
       step None k j a = tt
       step (Some told) k j a =
           of_file (with_key told name) key (λ x. with_file told journal journal_limit (after_journal told x)) r k
-          (of_file (with_file told journal journal_limit) held (after_journal told key) r j
-          (of_query query q (λ z. with_file told reply reply_limit (λ w. Audits key held z w)) r is a))
+          (of_file (with_file told journal journal_limit) held (after_journal told key) r j a)
 
-module _ (name journal query key held : List ℕ) (q : Query) (is : IsQueryText query q) where
+module _ (name journal query key held : List ℕ) where
   pub answer_told : (o p : Option Files) (r : Result Report Stop) → p ≡ o → IfSome o (KeyIs name key) → IfSome p (FileIs journal journal_limit held)
-      → Answers (Replies key held q) r → IfSome o (λ told. Answers (answer_due name journal query told) r)
+      → Answers (OfQuery query (λ z. Replies key held z)) r → IfSome o (λ told. Answers (answer_due name journal query told) r)
   answer_told o p r same k j a = step o k (subst (λ z. IfSome z (FileIs journal journal_limit held)) same j)
     where
       step : (o : Option Files) → IfSome o (KeyIs name key) → IfSome o (FileIs journal journal_limit held) → IfSome o (λ told. Answers (answer_due name journal query told) r)
       step None k j = tt
       step (Some told) k j =
           of_file (with_key told name) key (λ x. with_file told journal journal_limit (λ y. OfQuery query (λ z. Replies x y z))) r k
-          (of_file (with_file told journal journal_limit) held (λ y. OfQuery query (λ z. Replies key y z)) r j
-          (of_query query q (λ z. Replies key held z) r is a))
+          (of_file (with_file told journal journal_limit) held (λ y. OfQuery query (λ z. Replies key y z)) r j a)
 
 -- Scripts.
 
@@ -163,12 +172,19 @@ two_there o p a b x y z same first second = step o first (subst (λ o. IfSome o 
     step None first second = tt
     step (Some told) first second = λ there. no_miss (told b) y z there.1.0 second ∙ no_miss (told a) x y there.0 first
 
-pub three_there : (o p s : Option Files) (a b c : List ℕ) (x y z w : ℕ) → p ≡ o → s ≡ p → IfSome o (Missed a x y) → IfSome p (Missed b y z) → IfSome s (Missed c z w)
+abbrev OneThere : List ℕ → ℕ → ℕ → Files → Type 0
+OneThere name before after told = HoldsEach told (name ∷ []) → after ≡ before
+
+pub one_there : (o : Option Files) (a : List ℕ) (x y : ℕ) → IfSome o (Missed a x y) → IfSome o (OneThere a x y)
+one_there None a x y miss = tt
+one_there (Some told) a x y miss = λ there. no_miss (told a) x y there.0 miss
+
+pub three_there : (o p s : Option Files) (a b c : List ℕ) (x y z w : ℕ) → p ≡ o → s ≡ p → IfSome o (Missed a x y) → IfSome p (Missed b y z) → IfSome s (OneThere c z w)
     → IfSome o (λ told. HoldsEach told (a ∷ b ∷ c ∷ []) → w ≡ x)
 three_there o p s a b c x y z w same also first second third =
-    step o first (subst (λ o. IfSome o (Missed b y z)) same second) (subst (λ o. IfSome o (Missed c z w)) (also ∙ same) third)
+    step o first (subst (λ o. IfSome o (Missed b y z)) same second) (subst (λ o. IfSome o (OneThere c z w)) (also ∙ same) third)
   where
-    step : (o : Option Files) → IfSome o (Missed a x y) → IfSome o (Missed b y z) → IfSome o (Missed c z w)
+    step : (o : Option Files) → IfSome o (Missed a x y) → IfSome o (Missed b y z) → IfSome o (OneThere c z w)
         → IfSome o (λ told. HoldsEach told (a ∷ b ∷ c ∷ []) → w ≡ x)
     step None first second third = tt
-    step (Some told) first second third = λ there. no_miss (told c) z w there.1.1.0 third ∙ no_miss (told b) y z there.1.0 second ∙ no_miss (told a) x y there.0 first
+    step (Some told) first second third = λ there. third there.1.1 ∙ no_miss (told b) y z there.1.0 second ∙ no_miss (told a) x y there.0 first

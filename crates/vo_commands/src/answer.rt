@@ -2,7 +2,7 @@
 ghost use Rattle.std.specs.Prelude.{◌≡◌, ◌≤◌, [], ◌∷◌, IfSome, IsErrOf};
 ghost use Rattle.outside.specs.Rose.{Rose};
 ghost use Rattle.vo_spec.specs.Conditions.{query_of};
-ghost use Rattle.vo_commands.specs.Dues.{HoldsEach, answer_due, Replies};
+ghost use Rattle.vo_commands.specs.Dues.{HoldsEach, answer_due, OfQuery, Replies};
 ghost use Rattle.vo_commands.specs.Reports.{Answers};
 
 use crate::audit::JOURNAL_LIMIT;
@@ -35,8 +35,18 @@ pub fn answer<F: Shelf>(
 {
     let key = take_key(alloc, files, key)?;
     let journal = take_file(alloc, files, journal, JOURNAL_LIMIT)?;
-    let query = query_in(alloc, query)?;
-    replied(alloc, key, &journal, &query)
+    answer_query(alloc, key, &journal, query)
+}
+
+/// The same by the bytes of the journal.
+fn answer_query(alloc: Global, key: PublicKey, journal: &[u8], query: &str) -> Result<Report, Stop>
+    ensures told { Answers (OfQuery query.now (λ q. Replies key journal.now q)) result }
+    ensures inside { IsErrOf result Stop.Outside → ⊥ }
+{
+    match query_in(alloc, query) {
+        Ok(query) => replied(alloc, key, journal, &query),
+        Err(stop) => Err(stop),
+    }
 }
 
 fn replied(alloc: Global, key: PublicKey, journal: &[u8], query: &QueryText) -> Result<Report, Stop>

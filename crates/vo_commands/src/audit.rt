@@ -3,7 +3,7 @@ ghost use Rattle.std.specs.Prelude.{◌≡◌, ◌≤◌, [], ◌∷◌, is_some
 ghost use Rattle.outside.specs.Miss.{CountsMiss};
 ghost use Rattle.outside.specs.Rose.{Rose};
 ghost use Rattle.vo_spec.specs.Conditions.{query_of};
-ghost use Rattle.vo_commands.specs.Dues.{HoldsEach, audit_due, with_file, reply_limit, Audits};
+ghost use Rattle.vo_commands.specs.Dues.{HoldsEach, audit_due, OfQuery, with_file, reply_limit, Audits};
 ghost use Rattle.vo_commands.specs.Reports.{Answers};
 
 use crate::check::REPLY_LIMIT;
@@ -41,8 +41,30 @@ pub fn audit<F: Shelf>(
 {
     let key = take_key(alloc, files, key)?;
     let journal = take_file(alloc, files, journal, JOURNAL_LIMIT)?;
-    let query = query_in(alloc, query)?;
-    audit_file(alloc, files, &key, &journal, &query, reply)
+    audit_query(alloc, files, &key, &journal, query, reply)
+}
+
+/// The same by the bytes of the journal.
+fn audit_query<F: Shelf>(
+    alloc: Global,
+    files: &mut F,
+    key: &PublicKey,
+    journal: &[u8],
+    query: &str,
+    reply: &str,
+) -> Result<Report, Stop>
+    ensures told { IfSome (F.contents files.old)
+        (λ told. Answers (OfQuery query.now (λ q. with_file told reply.now reply_limit (λ bytes. Audits key.now journal.now q bytes))) result) }
+    ensures kept { F.contents files.new ≡ F.contents files.old }
+    ensures counts { F.faults files.old ≤ F.faults files.new }
+    ensures cause { IsErrOf result Stop.Outside → Rose (F.faults files.old) (F.faults files.new) }
+    ensures misses { IfSome (F.contents files.old)
+        (λ told. HoldsEach told (reply.now ∷ []) → F.misses files.new ≡ F.misses files.old) }
+{
+    match query_in(alloc, query) {
+        Ok(query) => audit_file(alloc, files, key, journal, &query, reply),
+        Err(stop) => Err(stop),
+    }
 }
 
 /// The same of the reply in a file.

@@ -3,11 +3,11 @@ use Rattle.vo_commands.proofs.audit.audit.Goals as goal
 
 pub returns-clause-told : goal.returns-clause-told
 returns-clause-told g c =
-    audit_told c.args.key.now c.args.journal.now c.args.query.now c.args.reply.now _ _ _ c.in_ok-query.ensures _ _ _ _
+    audit_told c.args.key.now c.args.journal.now c.args.query.now c.args.reply.now _ _ _ _ _ _
     c.in_ok-key.ensures.kept c.in_ok-journal.ensures.kept c.in_ok-key.ensures.told c.in_ok-journal.ensures.told
-    (rw c.deref.ensures.value at c.audit_file.ensures.told)
+    (rw c.deref.ensures.value at c.audit_query.ensures.told)
 
 pub returns-clause-misses : goal.returns-clause-misses
 returns-clause-misses g c =
     three_there _ _ _ c.args.key.now c.args.journal.now c.args.reply.now _ _ _ _
-    c.in_ok-key.ensures.kept c.in_ok-journal.ensures.kept c.in_ok-key.ensures.misses c.in_ok-journal.ensures.misses c.audit_file.ensures.misses
+    c.in_ok-key.ensures.kept c.in_ok-journal.ensures.kept c.in_ok-key.ensures.misses c.in_ok-journal.ensures.misses c.audit_query.ensures.misses
