@@ -23,18 +23,34 @@ pub fn answer(
 
 fn called(alloc: Global, tables: &mut Tables, call: TextCall, text: &str) -> io::Result<String> {
     match call {
-        TextCall::Query => shown(alloc, &parse_query(alloc, text)),
-        TextCall::Batch => shown(alloc, &parse_batch(alloc, text)),
-        TextCall::Script => shown(alloc, &parse_script(alloc, text)),
+        TextCall::Query => read_query(alloc, text),
+        TextCall::Batch => read_batch(alloc, text),
+        TextCall::Script => read_script(alloc, text),
         TextCall::Apply => shown(alloc, &applied(alloc, tables, text)),
         TextCall::Step => shown(alloc, &stepped(alloc, tables, text)),
-        TextCall::Result => shown(alloc, &asked(alloc, tables, text)),
+        TextCall::Result => result_of(alloc, tables, text),
         TextCall::PrintQuery => printed_query(alloc, text),
         TextCall::PrintBatch => printed_batch(alloc, text),
         TextCall::Bytes => written(alloc, text),
         TextCall::Count => shown(alloc, &batch_count(alloc, text)),
         TextCall::Length => shown(alloc, &text.len()),
     }
+}
+
+fn read_query(alloc: Global, text: &str) -> io::Result<String> {
+    shown(alloc, &parse_query(alloc, text))
+}
+
+fn read_batch(alloc: Global, text: &str) -> io::Result<String> {
+    shown(alloc, &parse_batch(alloc, text))
+}
+
+fn read_script(alloc: Global, text: &str) -> io::Result<String> {
+    shown(alloc, &parse_script(alloc, text))
+}
+
+fn result_of(alloc: Global, tables: &Tables, text: &str) -> io::Result<String> {
+    shown(alloc, &asked(alloc, tables, text))
 }
 
 /// The text that the query of a text is printed as.
@@ -113,6 +129,8 @@ fn stepped(
 
 /// What the query of a text gives on the tables.
 fn asked(alloc: Global, tables: &Tables, text: &str) -> Result<Outcome, SqlFault> {
-    let query = parse_query(alloc, text)?;
-    result(alloc, tables, &query).or(Err(SqlFault::Memory))
+    match parse_query(alloc, text) {
+        Ok(query) => result(alloc, tables, &query).or(Err(SqlFault::Memory)),
+        Err(fault) => Err(fault),
+    }
 }

@@ -72,7 +72,13 @@ pub fn answer_by(alloc: Global, strings: &[Vec<u8>]) -> Result<String, NoAnswer>
         return Err(NoAnswer::NoSuchLine);
     };
     let key = read_key(key)?;
-    answer_to(alloc, key, &read_query(alloc, query)?, journal)
+    let Ok(query) = str::from_utf8(query) else {
+        return Err(NoAnswer::NoSuchLine);
+    };
+    match parse_query(alloc, query) {
+        Ok(query) => answer_to(alloc, key, &query, journal),
+        Err(_) => Err(NoAnswer::NoSuchLine),
+    }
 }
 
 fn answer_to(
@@ -84,16 +90,5 @@ fn answer_to(
     match reply_by(alloc, key, journal, query) {
         Ok(reply) => Ok(hex::encode(alloc, reply)?),
         Err(fault) => Ok(format!(in alloc; "{fault:?}")?),
-    }
-}
-
-/// The query of a text.
-fn read_query(alloc: Global, text: &[u8]) -> Result<QueryText, NoAnswer> {
-    let Ok(text) = str::from_utf8(text) else {
-        return Err(NoAnswer::NoSuchLine);
-    };
-    match parse_query(alloc, text) {
-        Ok(query) => Ok(query),
-        Err(_) => Err(NoAnswer::NoSuchLine),
     }
 }

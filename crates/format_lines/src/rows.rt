@@ -1,4 +1,6 @@
 //! Calls of values and rows.
+ghost use Rattle.vo_spec.specs.Fits.{FitsRow};
+
 use crate::arguments::{column_of, digest_in};
 use crate::hashing::shown;
 use crate::reading::{read_cell, read_row, read_value, read_values};
@@ -65,7 +67,13 @@ pub fn hide(alloc: Global, strings: &[Vec<u8>]) -> Result<String, NoAnswer> {
         key: Key::from_vec(Vec::new(alloc)),
         cells: read_values(alloc, values)?,
     };
-    match hidden(alloc, &row, columns)? {
+    hide_row(alloc, &row, columns)
+}
+
+fn hide_row(alloc: Global, row: &Row, columns: &[u8]) -> Result<String, NoAnswer>
+    requires { FitsRow row.now }
+{
+    match hidden(alloc, row, columns)? {
         RowPart::Digest(digest) => shown(alloc, digest),
         RowPart::Cells(cells) => shown_cells(alloc, cells.as_slice()),
     }
@@ -84,11 +92,16 @@ pub fn hide_cells(alloc: Global, strings: &[Vec<u8>]) -> Result<String, NoAnswer
 /// How many cells there are, and each as its value or its digest.
 fn shown_cells(alloc: Global, cells: &[Cell<'_>]) -> Result<String, NoAnswer> {
     let mut line = format!(in alloc; "{}", cells.len())?;
+    put_shown_cells(alloc, &mut line, cells)?;
+    Ok(line)
+}
+
+fn put_shown_cells(alloc: Global, line: &mut String, cells: &[Cell<'_>]) -> Result<(), NoAnswer> {
     for cell in cells {
         line.push(' ')?;
         line.push_str(&shown_cell(alloc, cell)?)?;
     }
-    Ok(line)
+    Ok(())
 }
 
 fn shown_cell(alloc: Global, cell: &Cell<'_>) -> Result<String, NoAnswer> {

@@ -19,30 +19,43 @@ fn bytes(alloc: Global, text: &str) -> Result<Vec<u8>, AllocError> {
 fn sinks(rt: HostRuntime) -> Result<(), Fail> {
     let mut sink = MemSink::new(rt.alloc(), fails_at(rt.alloc(), 1, 2)?);
     let put = (sink.put(b"ab"), sink.put(b"cde"), sink.put(b"f"));
-    assert_eq!(rt; put, (Ok(()), Err(PutFault::Failed), Ok(())));
-    assert_eq!(rt; sink.written(), b"abcdf".as_slice());
-    assert_eq!(rt; MemSink::new(rt.alloc(), Never).put(b"x"), Ok(()));
+    assert_eq!(rt;
+        (put, sink.written()),
+        ((Ok(()), Err(PutFault::Failed), Ok(())), b"abcdf".as_slice())
+    );
     Ok(())
 }
 
 #[test]
+fn quiet_sinks(rt: HostRuntime) {
+    let put = MemSink::new(rt.alloc(), Never).put(b"x");
+    assert_eq!(rt; put, Ok(()));
+}
+
+fn shelf_of_a_seed(alloc: Global) -> Result<MemShelf<FailAt>, AllocError> {
+    let name = String::from_str(alloc, "seed")?;
+    let bytes = bytes(alloc, "123")?;
+    let files = vec![in alloc; NamedFile { name, bytes }]?;
+    Ok(MemShelf::new(files, fails_at(alloc, 2, 0)?))
+}
+
+#[test]
 fn shelves(rt: HostRuntime) -> Result<(), Fail> {
-    let name = String::from_str(rt.alloc(), "seed")?;
-    let file = NamedFile {
-        name,
-        bytes: bytes(rt.alloc(), "123")?,
-    };
-    let files = vec![in rt.alloc(); file]?;
-    let mut shelf = MemShelf::new(files, fails_at(rt.alloc(), 2, 0)?);
+    let mut shelf = shelf_of_a_seed(rt.alloc())?;
     let taken = shelf.take(rt.alloc(), "seed", 3)?;
-    assert_eq!(rt; taken.as_slice(), b"123".as_slice());
     let faults = (
         shelf.take(rt.alloc(), "seed", 2).err(),
         shelf.take(rt.alloc(), "seed", 3).err(),
         shelf.take(rt.alloc(), "see", 3).err(),
     );
     let failed = Some(TakeFault::Failed);
-    assert_eq!(rt; faults, (Some(TakeFault::TooLong), failed, failed));
+    assert_eq!(rt;
+        (taken.as_slice(), faults),
+        (
+            b"123".as_slice(),
+            (Some(TakeFault::TooLong), failed, failed)
+        )
+    );
     Ok(())
 }
 
@@ -69,11 +82,17 @@ fn keeps_what_was_put(rt: HostRuntime) -> Result<(), Fail> {
     let coming = vec![in rt.alloc(); bytes(rt.alloc(), "")?]?;
     let mut net = MemNet::new(rt.alloc(), coming, fails_at(rt.alloc(), 2, 1)?)?;
     let called = (net.listen("here"), net.next(), net.put(b"zz"));
-    assert_eq!(rt; called, (Ok(()), Ok(()), Err(PutFault::Failed)));
-    assert_eq!(rt; net.sent(), b"z".as_slice());
+    let is_sent = net.sent() == b"z".as_slice();
     net.close();
     let past = net.past().first().map(|sent| sent.as_slice());
-    assert_eq!(rt; past, Some(b"z".as_slice()));
+    assert_eq!(rt;
+        (called, is_sent, past),
+        (
+            (Ok(()), Ok(()), Err(PutFault::Failed)),
+            true,
+            Some(b"z".as_slice())
+        )
+    );
     Ok(())
 }
 
@@ -86,13 +105,18 @@ fn disks(rt: HostRuntime) -> Result<(), Fail> {
         disk.write_at(1, b"BC"),
         disk.sync(),
     );
-    assert_eq!(rt;
-        (written, disk.len(), disk.moment()),
-        ((Ok(()), Ok(()), Ok(())), Ok(7), 3)
-    );
-    assert_eq!(rt; disk.seen(), b"aBC\0\0xy".as_slice());
+    let found = (disk.len(), disk.moment());
     let mut buffer = [0u8; 2];
-    assert_eq!(rt; (disk.read(2, &mut buffer), buffer), (Ok(()), *b"C\0"));
+    let read = (disk.read(2, &mut buffer), buffer);
+    assert_eq!(rt;
+        (written, found, read, disk.seen()),
+        (
+            (Ok(()), Ok(()), Ok(())),
+            (Ok(7), 3),
+            (Ok(()), *b"C\0"),
+            b"aBC\0\0xy".as_slice()
+        )
+    );
     Ok(())
 }
 
@@ -101,7 +125,7 @@ fn failing_disks(rt: HostRuntime) -> Result<(), Fail> {
     let failing = fails_at(rt.alloc(), 0, 1)?;
     let mut disk = MemDisk::new(rt.alloc(), bytes(rt.alloc(), "abc")?, failing)?;
     disk.reserve(4, 4, 1)?;
-    assert_eq!(rt; disk.write_at(0, b"ABCD"), Err(Failed));
-    assert_eq!(rt; disk.seen(), b"Abc".as_slice());
+    let written = disk.write_at(0, b"ABCD");
+    assert_eq!(rt; (written, disk.seen()), (Err(Failed), b"Abc".as_slice()));
     Ok(())
 }

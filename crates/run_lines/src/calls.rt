@@ -21,14 +21,16 @@ fn answered(alloc: Global, folder: &mut Folder, line: &str) -> Result<String, No
             Ok("cleared".to_string(alloc)?)
         }
         Line::Keep(name, bytes) => kept(alloc, folder, name, bytes),
-        Line::Splice(name, splice) => {
-            let bytes = spliced(alloc, folder, &splice)?;
-            kept(alloc, folder, name, bytes)
-        }
-        Line::Run(attempt) => shown(alloc, &folder.run(alloc, attempt)?),
+        Line::Splice(name, splice) => kept_spliced(alloc, folder, name, &splice),
+        Line::Run(attempt) => ran(alloc, folder, attempt),
         Line::Make(name, attempt) => made(alloc, folder, name, attempt),
-        Line::Words(words) => Ok(format!(in alloc; "{:?}", read_words(alloc, &words)?)?),
+        Line::Words(words) => asked(alloc, &words),
     }
+}
+
+/// What the words ask for.
+fn asked(alloc: Global, words: &[String]) -> Result<String, NoAnswer> {
+    Ok(format!(in alloc; "{:?}", read_words(alloc, words)?)?)
 }
 
 /// Keeps a file, and says how long it is.
@@ -43,6 +45,16 @@ fn kept(
     Ok(answer)
 }
 
+fn kept_spliced(
+    alloc: Global,
+    folder: &mut Folder,
+    name: String,
+    splice: &Splice,
+) -> Result<String, NoAnswer> {
+    let bytes = spliced(alloc, folder, splice)?;
+    kept(alloc, folder, name, bytes)
+}
+
 fn spliced(alloc: Global, folder: &Folder, splice: &Splice) -> Result<Vec<u8>, NoAnswer> {
     let Some(bytes) = folder.find(&splice.from) else {
         return Err(NoAnswer::NoSuchLine);
@@ -53,6 +65,11 @@ fn spliced(alloc: Global, folder: &Folder, splice: &Splice) -> Result<Vec<u8>, N
     all.extend_from_slice(&splice.bytes)?;
     all.extend_from_slice(back)?;
     Ok(all)
+}
+
+fn ran(alloc: Global, folder: &Folder, attempt: Attempt) -> Result<String, NoAnswer> {
+    let ended = folder.run(alloc, attempt)?;
+    shown(alloc, &ended)
 }
 
 /// Runs the program, and keeps what it writes.

@@ -47,18 +47,10 @@ impl Folder {
     }
 
     pub fn run(&self, alloc: Global, attempt: Attempt) -> Result<Ended, AllocError> {
-        let mut shelf = MemShelf::new(copies(alloc, &self.files)?, FailAt::new(attempt.taking));
-        let mut disk = MemDisk::new(alloc, Vec::new(alloc), Never)?;
-        let mut net = MemNet::new(alloc, Vec::new(alloc), Never)?;
+        let files = copies(alloc, &self.files)?;
+        let mut shelf = MemShelf::new(files, FailAt::new(attempt.taking));
         let mut out = MemSink::new(alloc, FailAt::new(attempt.putting));
-        let status = run(
-            alloc,
-            &attempt.words,
-            &mut shelf,
-            &mut disk,
-            &mut net,
-            &mut out,
-        );
+        let status = run_over(alloc, &attempt.words, &mut shelf, &mut out)?;
         Ok(Ended {
             status,
             written: Vec::from_slice(alloc, out.written())?,
@@ -66,13 +58,28 @@ impl Folder {
     }
 }
 
+/// Runs the program over these, with nothing on its disk and nobody to talk to.
+fn run_over(
+    alloc: Global,
+    words: &[String],
+    shelf: &mut MemShelf<FailAt>,
+    out: &mut MemSink<FailAt>,
+) -> Result<u8, AllocError> {
+    let mut disk = MemDisk::new(alloc, Vec::new(alloc), Never)?;
+    let mut net = MemNet::new(alloc, Vec::new(alloc), Never)?;
+    Ok(run(alloc, words, shelf, &mut disk, &mut net, out))
+}
+
 fn copies(alloc: Global, files: &[NamedFile]) -> Result<Vec<NamedFile>, AllocError> {
     let mut all = Vec::new(alloc);
     for file in files {
-        all.push(NamedFile {
-            name: String::from_str(alloc, &file.name)?,
-            bytes: Vec::from_slice(alloc, &file.bytes)?,
-        })?;
+        all.push(copy_of(alloc, file)?)?;
     }
     Ok(all)
+}
+
+fn copy_of(alloc: Global, file: &NamedFile) -> Result<NamedFile, AllocError> {
+    let name = String::from_str(alloc, &file.name)?;
+    let bytes = Vec::from_slice(alloc, &file.bytes)?;
+    Ok(NamedFile { name, bytes })
 }

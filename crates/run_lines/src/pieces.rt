@@ -34,12 +34,13 @@ pub fn take_bytes(alloc: Global, pieces: &mut Pieces<'_>) -> Result<Vec<u8>, NoA
 pub fn take_words(alloc: Global, pieces: &mut Pieces<'_>) -> Result<Vec<String>, NoAnswer> {
     let mut words = Vec::new(alloc);
     for piece in pieces {
-        let mut bytes = Vec::new(alloc);
-        put_piece(alloc, &mut bytes, piece)?;
-        match String::from_utf8(bytes) {
-            Ok(word) => words.push(word)?,
-            Err(_) => return Err(NoAnswer::NoSuchLine),
-        }
+        words.push(word_of(alloc, piece)?)?;
     }
     Ok(words)
+}
+
+fn word_of(alloc: Global, piece: &str) -> Result<String, NoAnswer> {
+    let mut bytes = Vec::new(alloc);
+    put_piece(alloc, &mut bytes, piece)?;
+    String::from_utf8(bytes).or(Err(NoAnswer::NoSuchLine))
 }

@@ -8,17 +8,22 @@ use std::{env, fs};
 fn takes_a_file(rt: HostRuntime) -> Result<(), Fail> {
     let folder = env::temp_dir(&rt)?;
     let name = format!(in rt.alloc(); "{}/taken_by_a_test_of_files", folder.display())?;
-    fs::write(&rt, name.as_str(), b"abc")?;
-    let mut files = FolderFiles::new(&rt);
-    let taken = files.take(rt.alloc(), &name, 3)?;
-    assert_eq!(rt; taken.as_slice(), b"abc".as_slice());
-    let too_long = files.take(rt.alloc(), &name, 2).err();
-    let faults = files.faults;
-    fs::remove_file(&rt, name.as_str())?;
-    let removed = files.take(rt.alloc(), &name, 3).err();
-    assert_eq!(rt;
-        (too_long, faults, removed, files.faults),
-        (Some(TakeFault::TooLong), 0, Some(TakeFault::Failed), 1)
-    );
+    assert!(rt; takes(&rt, &mut FolderFiles::new(&rt), &name)?);
     Ok(())
+}
+
+fn takes(
+    rt: &HostRuntime,
+    files: &mut FolderFiles<'_, HostRuntime>,
+    name: &str,
+) -> Result<bool, Fail> {
+    fs::write(rt, name, b"abc")?;
+    let taken = files.take(rt.alloc(), name, 3)?;
+    let too_long = files.take(rt.alloc(), name, 2).err();
+    let faults = files.faults;
+    fs::remove_file(rt, name)?;
+    let removed = files.take(rt.alloc(), name, 3).err();
+    let refused = (too_long, faults, removed, files.faults);
+    let due = (Some(TakeFault::TooLong), 0, Some(TakeFault::Failed), 1);
+    Ok(taken.as_slice() == b"abc".as_slice() && refused == due)
 }

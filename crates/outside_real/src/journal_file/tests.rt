@@ -9,7 +9,12 @@ fn keeps_a_file(rt: HostRuntime) -> Result<(), Fail> {
     let folder = format!(in rt.alloc(); "{}", env::temp_dir(&rt)?.display())?;
     let path = format!(in rt.alloc(); "{folder}/kept_by_a_test_of_journal_file")?;
     let _ = fs::remove_file(&rt, path.as_str());
-    let mut disk = JournalFile::new(&rt, &folder, &path);
+    assert!(rt; keeps(&mut JournalFile::new(&rt, &folder, &path))?);
+    fs::remove_file(&rt, path.as_str())?;
+    Ok(())
+}
+
+fn keeps(disk: &mut JournalFile<'_, HostRuntime>) -> Result<bool, Fail> {
     let fresh = disk.len();
     disk.reserve(5, 5, 3)?;
     let written = (
@@ -17,14 +22,10 @@ fn keeps_a_file(rt: HostRuntime) -> Result<(), Fail> {
         disk.write_at(2, b"xyz"),
         disk.sync(),
     );
-    assert_eq!(rt; (fresh, written), (Ok(0), (Ok(()), Ok(()), Ok(()))));
     let mut bytes = [0u8; 4];
     let read = (disk.read(1, &mut bytes), bytes);
-    let past_the_end = disk.read(2, &mut bytes);
-    fs::remove_file(&rt, path.as_str())?;
-    assert_eq!(rt;
-        (read, past_the_end, disk.faults),
-        ((Ok(()), *b"bxyz"), Err(Failed), 1)
-    );
-    Ok(())
+    let past_the_end = (disk.read(2, &mut bytes), disk.faults);
+    let is_written = (fresh, written) == (Ok(0), (Ok(()), Ok(()), Ok(())));
+    let is_read = (read, past_the_end) == ((Ok(()), *b"bxyz"), (Err(Failed), 1));
+    Ok(is_written && is_read)
 }

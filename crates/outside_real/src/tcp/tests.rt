@@ -7,29 +7,40 @@ use std::test::Fail;
 #[test]
 fn passes_bytes_each_way(rt: HostRuntime) -> Result<(), Fail> {
     let mut server = Tcp::new(&rt);
+    let mut client = Tcp::new(&rt);
+    assert!(rt; connects(&rt, &mut server, &mut client)?);
+    assert!(rt; talks(&mut server, &mut client));
+    assert_eq!(rt; (server.faults, client.faults), (0, 0));
+    Ok(())
+}
+
+fn connects(
+    rt: &HostRuntime,
+    server: &mut Tcp<'_, HostRuntime>,
+    client: &mut Tcp<'_, HostRuntime>,
+) -> Result<bool, Fail> {
     let listening = server.listen("127.0.0.1:0");
     let listener = server.listener.as_ref().ok_or("listening")?;
     let addr = format!(in rt.alloc(); "{}", listener.local_addr()?)?;
-    let mut client = Tcp::new(&rt);
-    let opened = (listening, client.connect(&addr), server.next());
-    assert_eq!(rt; opened, (Ok(()), Ok(()), Ok(())));
+    let connected = (client.connect(&addr), server.next());
+    Ok((listening, connected) == (Ok(()), (Ok(()), Ok(()))))
+}
+
+fn talks(server: &mut Tcp<'_, HostRuntime>, client: &mut Tcp<'_, HostRuntime>) -> bool {
     let mut bytes = [0u8; 4];
     let asked = (client.put(b"ask"), server.get(&mut bytes));
     let told = (server.put(b"told"), client.get(&mut bytes), bytes);
     server.close();
-    let closed = client.get(&mut [0u8; 4]);
-    assert_eq!(rt;
-        (asked, told, closed),
-        ((Ok(()), Ok(3)), (Ok(()), Ok(4), *b"told"), Ok(0))
-    );
-    assert_eq!(rt; (server.faults, client.faults), (0, 0));
-    Ok(())
+    let closed = client.get(&mut bytes);
+    asked == (Ok(()), Ok(3)) && told == (Ok(()), Ok(4), *b"told") && closed == Ok(0)
 }
 
 #[test]
 fn fails_without_a_connection(rt: HostRuntime) {
     let mut tcp = Tcp::new(&rt);
     let failed = (tcp.put(b"x"), tcp.next(), tcp.connect("no address"));
-    assert_eq!(rt; failed, (Err(PutFault::Failed), Err(Failed), Err(Failed)));
-    assert_eq!(rt; tcp.faults, 3);
+    assert_eq!(rt;
+        (failed, tcp.faults),
+        ((Err(PutFault::Failed), Err(Failed), Err(Failed)), 3)
+    );
 }
