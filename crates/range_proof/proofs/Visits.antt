@@ -7,7 +7,7 @@ use Rattle.vo_spec.specs.declared.keys.Bound.TheVariants.{Absent, Inclusive, Exc
 use Rattle.vo_spec.specs.declared.needs.Need.{Need}
 use Rattle.vo_spec.specs.Values.{key_lt}
 use Rattle.vo_spec.specs.Scans.{is_above, is_below, in_interval, is_empty_interval, ends_above, begins_below, visits}
-use Rattle.vo_spec.specs.Pruned.{going_in, going_on, named}
+use Rattle.vo_spec.specs.Pruned.{going_in, going_on, named, is_any}
 use Rattle.vo_spec.specs.Standing.{is_from, is_before}
 use Rattle.vo_laws.proofs.KeyOrder.{key_lt_back, key_le_le, key_lt_le, key_lt_lt}
 use Rattle.vo_laws.proofs.SeenLaws.{empty_has_none}
@@ -31,7 +31,7 @@ named_kept stays key f (n ∷ ns) = step (stays n) refl (named_kept stays key f 
 
 -- at the root, where needs without keys are left out
 pub suffice_in : (needs : List Need) → Suffice needs (going_in needs) None None
-suffice_in needs key e =
+suffice_in needs some key e =
     named_kept (λ need. not (is_empty_interval need.interval)) key
     (λ need left_out. empty_has_none need.interval key (not-false (is_empty_interval need.interval) left_out)) needs
 
@@ -81,12 +81,17 @@ sooner_parts (Some a) (Some b) key e = step (key_lt b a) refl e
     step true f g = (key_lt_lt key b a g f, g)
     step false f g = (g, key_lt_le key a b g f)
 
+-- what is left of a list was there before
+any_before : {A : Type 0} (stays : A → Bool) (xs : List A) → is_any (filter stays xs) ≡ true → is_any xs ≡ true
+any_before stays [] e = e
+any_before stays (x ∷ xs) e = refl
+
 -- at a child, where those are left out that don't go on to it
 pub suffice_on : (all going : List Need) (from to lower upper : Option (List ℕ)) → Suffice all going from to
     → Suffice all (going_on going lower upper) (later from lower) (sooner to upper)
-suffice_on all going from to lower upper s key e =
+suffice_on all going from to lower upper s some key e =
     let ends = and_parts (is_from (later from lower) key) (is_before (sooner to upper) key) e in
     let above = later_parts from lower key ends.0 in
     let below = sooner_parts to upper key ends.1 in
     named_kept (λ need. visits need.interval lower upper) key (passed lower upper key above.1 below.1) going
-    ∙ s key (and_from (is_from from key) (is_before to key) above.0 below.0)
+    ∙ s (any_before (λ need. visits need.interval lower upper) going some) key (and_from (is_from from key) (is_before to key) above.0 below.0)

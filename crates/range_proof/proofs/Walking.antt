@@ -1,6 +1,9 @@
 -- One child further in a node: what a walk makes of the children to come, and what it says of them.
-use Rattle.std.proofs.Common.{◌≡◌, ℕ, ◌+◌, ◌<◌, ◌≤◌, Bool, true, false, ◌||◌, List, [], ◌∷◌, ◌++◌, length, get_or, drop, Option, Err, refl, sym, ap, ◌∙◌, slice_get}
+use Rattle.std.proofs.Common.{◌≡◌, ℕ, ◌+◌, ◌<◌, ◌≤◌, Bool, true, false, ◌||◌, List, [], ◌∷◌, ◌++◌, length, map, get_or, drop, Option, Err, refl, sym, ap, ◌∙◌, slice_get}
 use Rattle.std.proofs.lemmas.List.{drop_more, drop_all}
+use Rattle.std.proofs.lemmas.Bool.{eqb-true, eqb-false}
+use Rattle.std.specs.Prelude.{◌==◌, Vec}
+use Rattle.std.specs.Borrow.{Bor}
 use Rattle.vo_spec.specs.declared.cells.PartEntry.{PartEntry}
 use Rattle.vo_spec.specs.declared.trees.ScanFault.{ScanFault}
 use Rattle.vo_spec.specs.declared.trees.ScanFault.TheVariants.{Missing, Memory}
@@ -11,6 +14,7 @@ use Rattle.vo_spec.specs.Pruned.{Walk, walk_for, is_any, misses, misses_in, goes
 use Rattle.mb_tree.specs.declared.parts.PartTree.{PartTree}
 use Rattle.mb_tree.specs.View.{part_of, parts_of}
 use Rattle.range_proof.specs.Judging.{Judges}
+use Rattle.range_proof.specs.Lending.{lent_need}
 use Rattle.range_proof.proofs.Steps.{part_at, first_at, rest_at}
 
 -- children before others
@@ -90,3 +94,19 @@ pruned_none needs [] (stub d) e = refl
 pruned_none needs [] (leaf es) e = refl
 pruned_none needs [] (inner ss ps) e = refl
 pruned_none needs (n ∷ ns) t e = absurd (cc)
+
+-- a list lends some need exactly where it has a length
+none_in : (going : List (Bor Need)) → length going ≡ 0 → is_any (map lent_need going) ≡ false
+none_in [] e = refl
+none_in (need ∷ needs) e = absurd (cc)
+
+some_in : (going : List (Bor Need)) → (length going ≡ 0 → ⊥) → is_any (map lent_need going) ≡ true
+some_in [] e = absurd (e refl)
+some_in (need ∷ needs) e = refl
+
+module _ {Z : Type 0} (going : Vec (Bor Need) Z) where
+  pub none_lent : (going.len == 0) ≡ true → is_any (map lent_need going.items) ≡ false
+  none_lent e = none_in going.items (sym going.ok.0 ∙ eqb-true going.len 0 e)
+
+  pub some_lent : (going.len == 0) ≡ false → is_any (map lent_need going.items) ≡ true
+  some_lent e = some_in going.items (λ none. eqb-false going.len 0 e (going.ok.0 ∙ none))

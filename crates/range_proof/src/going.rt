@@ -1,5 +1,5 @@
 //! The needs whose scans visit a node.
-ghost use Rattle.std.specs.Prelude.{◌≡◌, map, IfOk};
+ghost use Rattle.std.specs.Prelude.{◌≡◌, [], map, IfOk, OnOk};
 ghost use Rattle.std.specs.Option.{option_copied};
 ghost use Rattle.vo_spec.specs.Pruned.{going_in as first_going, going_on as next_going};
 ghost use Rattle.range_proof.specs.Lending.{lent_need};
@@ -32,21 +32,23 @@ pub fn going_in<'n>(alloc: Global, needs: &[&'n Need]) -> Result<Vec<&'n Need>, 
     Ok(going)
 }
 
-/// Those of them whose scans go on to the child between these separators.
-pub fn going_on<'n>(
-    alloc: Global,
+/// Puts into the empty list those of the needs whose scans go on to the child between these separators.
+// Always inlined: most children have none, and a call would take as long as telling that.
+#[inline(always)]
+pub fn put_going_on<'n>(
+    going: &mut Vec<&'n Need>,
     needs: &[&'n Need],
     lower: Option<&[u8]>,
     upper: Option<&[u8]>,
-) -> Result<Vec<&'n Need>, AllocError>
-    ensures { IfOk result (λ going. map lent_need going.items
+) -> Result<(), AllocError>
+    requires { going.now.items ≡ [] }
+    ensures { OnOk result (map lent_need going.new.items
         ≡ next_going (map lent_need needs.now) (option_copied lower.entry) (option_copied upper.entry)) }
 {
-    let mut going = Vec::new(alloc);
     for need in needs {
         if visits(&need.interval, lower, upper) {
             going.push(*need)?;
         }
     }
-    Ok(going)
+    Ok(())
 }

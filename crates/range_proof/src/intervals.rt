@@ -67,6 +67,8 @@ pub fn is_empty_interval(interval: &Interval) -> bool
 }
 
 /// Whether a scan that visits a node goes on to its child between these separators.
+// Asked of each need at each child: a call would take as long as most of what it does.
+#[inline(always)]
 pub fn visits(interval: &Interval, lower: Option<&[u8]>, upper: Option<&[u8]>) -> bool
     ensures { result ≡ does_visit interval.now (option_copied lower.entry) (option_copied upper.entry) }
 {

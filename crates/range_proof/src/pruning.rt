@@ -1,11 +1,12 @@
 //! The proof for some needs that a whole tree has.
-ghost use Rattle.std.specs.Prelude.{◌≡◌, map, slice_get, IfOk};
+ghost use Rattle.std.specs.Prelude.{◌≡◌, true, map, slice_get, IfOk};
 ghost use Rattle.std.specs.Option.{option_copied};
 ghost use Rattle.vo_spec.specs.Cells.{whole_entry};
 ghost use Rattle.vo_spec.specs.Trees.{row_family, open_parts};
-ghost use Rattle.vo_spec.specs.Pruned.{pruned, pruned_by, pruned_in, walk_for, shown_entry};
+ghost use Rattle.vo_spec.specs.Pruned.{pruned, pruned_by, pruned_in, walk_for, is_any, going_on, shown_entry};
 ghost use Rattle.mb_tree.specs.Whole.{value_of};
 ghost use Rattle.mb_tree.specs.View.{part_of};
+ghost use Rattle.range_proof.specs.Lending.{lent_need};
 
 use crate::going::lend_needs;
 use crate::visitors::Visitors;
@@ -21,21 +22,22 @@ pub fn prune<'b>(alloc: Global, tree: &'b Tree, needs: &[Need]) -> Result<PartTr
 {
     let all = lend_needs(alloc, needs)?;
     let visitors = Visitors::of_root(alloc, &all)?;
-    prune_branch(alloc, tree.root(), &visitors)
+    if visitors.is_empty() {
+        return Ok(PartTree::Stub(tree.root().node_digest()));
+    }
+    open_branch(alloc, tree.root(), &visitors)
 }
 
 #[cycle(prune)]
-fn prune_branch<'b>(
+fn open_branch<'b>(
     alloc: Global,
     branch: &'b Branch,
     visitors: &Visitors<'_, 'b>,
 ) -> Result<PartTree<'b>, AllocError>
+    requires { is_any visitors.now.going ≡ true }
     ensures { IfOk result (λ part. part_of part
         ≡ pruned_by (walk_for visitors.now.all) row_family visitors.now.going branch.now) }
 {
-    if visitors.is_empty() {
-        return Ok(PartTree::Stub(branch.node_digest()));
-    }
     match branch.node() {
         Node::Leaf(entries) => Ok(PartTree::Leaf(prune_entries(alloc, entries, visitors)?)),
         Node::Inner {
@@ -66,11 +68,35 @@ fn prune_children<'b>(
     let mut lower = None;
     for (place, child) in children.iter().enumerate() {
         let upper = separator_at(separators, place);
-        let onward = visitors.onward(alloc, lower, upper)?;
-        parts.push(prune_branch(alloc, child, &onward)?)?;
+        let mut going = Vec::new(alloc);
+        visitors.put_going_on(&mut going, lower, upper)?;
+        if going.is_empty() {
+            parts.push(PartTree::Stub(child.node_digest()))?;
+        } else {
+            parts.push(open_child(alloc, child, visitors, going, lower, upper)?)?;
+        }
         lower = upper;
     }
     Ok(Nodes::from_vec(parts))
+}
+
+// Never inlined: most children are stubs, and the loop over them is the shorter without it.
+#[inline(never)]
+#[cycle(prune)]
+fn open_child<'n, 'b>(
+    alloc: Global,
+    child: &'b Branch,
+    visitors: &Visitors<'n, 'b>,
+    going: Vec<&'n Need>,
+    lower: Option<&'b [u8]>,
+    upper: Option<&'b [u8]>,
+) -> Result<PartTree<'b>, AllocError>
+    requires value { map lent_need going.items ≡ going_on visitors.now.going (option_copied lower) (option_copied upper) }
+    requires some { is_any (map lent_need going.items) ≡ true }
+    ensures { IfOk result (λ part. part_of part
+        ≡ pruned_by (walk_for visitors.now.all) row_family (map lent_need going.entry.items) child.now) }
+{
+    open_branch(alloc, child, &visitors.at_child(going, lower, upper))
 }
 
 fn separator_at(separators: &[Rc<Key>], place: usize) -> Option<&[u8]>

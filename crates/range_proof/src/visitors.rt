@@ -1,10 +1,10 @@
 //! The needs as they come to a node of a tree.
-ghost use Rattle.std.specs.Prelude.{◌≡◌, map, not, IfOk};
+ghost use Rattle.std.specs.Prelude.{◌≡◌, [], map, not, IfOk, OnOk};
 ghost use Rattle.std.specs.Option.{option_copied};
 ghost use Rattle.vo_spec.specs.Pruned.{going_in as first_going, going_on as next_going, is_any, named as named_by};
 ghost use Rattle.range_proof.specs.Lending.{lent_need};
 
-use crate::going::{going_in, going_on};
+use crate::going::{going_in, put_going_on};
 use crate::intervals::{is_between, later, sooner};
 use crate::naming::named;
 use std::alloc::{AllocError, Global};
@@ -16,7 +16,8 @@ use vo_spec::Need;
 pub struct Visitors<'n, 'k> {
     all: &'n [&'n Need],
     going: Vec<&'n Need>,
-    // The node's place in the tree: no other need has a key from the one separator on and before the other.
+    // The node's place in the tree, where some visit it: no other need has a key from the one separator on
+    // and before the other.
     lower: Option<&'k [u8]>,
     upper: Option<&'k [u8]>,
 }
@@ -47,6 +48,47 @@ impl<'n, 'k> Visitors<'n, 'k> {
         })
     }
 
+    /// Puts into the empty list those of them whose scans go on to the child between these separators.
+    #[inline(always)]
+    pub fn put_going_on(
+        &self,
+        going: &mut Vec<&'n Need>,
+        lower: Option<&[u8]>,
+        upper: Option<&[u8]>,
+    ) -> Result<(), AllocError>
+        requires { going.now.items ≡ [] }
+        ensures { OnOk result (map lent_need going.new.items
+            ≡ next_going self.now.going (option_copied lower.entry) (option_copied upper.entry)) }
+    {
+        put_going_on(going, &self.going, lower, upper)
+    }
+
+    /// These as they come to the child between these separators, to which they alone go on.
+    pub fn at_child(
+        &self,
+        going: Vec<&'n Need>,
+        lower: Option<&'k [u8]>,
+        upper: Option<&'k [u8]>,
+    ) -> Visitors<'n, 'k>
+        requires { map lent_need going.items ≡ next_going self.now.going (option_copied lower) (option_copied upper) }
+        ensures { result ≡ record { all = self.now.all; going = map lent_need going.entry.items } }
+    {
+        if going.is_empty() {
+            return Visitors {
+                all: self.all,
+                going,
+                lower: None,
+                upper: None,
+            };
+        }
+        Visitors {
+            all: self.all,
+            going,
+            lower: later(self.lower, lower),
+            upper: sooner(self.upper, upper),
+        }
+    }
+
     /// Those of them that go on to the child between these separators.
     pub fn onward(
         &self,
@@ -59,12 +101,9 @@ impl<'n, 'k> Visitors<'n, 'k> {
           going = next_going self.now.going (option_copied lower.entry) (option_copied upper.entry);
         }) }
     {
-        Ok(Visitors {
-            all: self.all,
-            going: going_on(alloc, &self.going, lower, upper)?,
-            lower: later(self.lower, lower),
-            upper: sooner(self.upper, upper),
-        })
+        let mut going = Vec::new(alloc);
+        self.put_going_on(&mut going, lower, upper)?;
+        Ok(self.at_child(going, lower, upper))
     }
 
     /// Whether there are none.
@@ -79,7 +118,8 @@ impl<'n, 'k> Visitors<'n, 'k> {
     pub fn named(&self, alloc: Global, key: &[u8]) -> Result<Vec<u8>, AllocError>
         ensures { IfOk result (λ columns. columns.items ≡ named_by self.now.all key.now) }
     {
-        if self.going.len() < self.all.len() && is_between(self.lower, self.upper, key) {
+        let fewer = !self.going.is_empty() && self.going.len() < self.all.len();
+        if fewer && is_between(self.lower, self.upper, key) {
             named(alloc, &self.going, key)
         } else {
             named(alloc, self.all, key)

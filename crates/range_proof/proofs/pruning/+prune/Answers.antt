@@ -1,30 +1,38 @@
-use Rattle.std.proofs.Common.{◌≡◌, ◌≤◌, false, map, sym, ◌∙◌, arith}
+use Rattle.std.proofs.Common.{◌≡◌, ◌≤◌, false, map, sym, ap, ◌∙◌, arith}
 use Rattle.std.proofs.lemmas.List.{map_push}
-use Rattle.std.proofs.lemmas.Bool.{not-true}
-use Rattle.vo_spec.specs.Parts.{levels, levels_in}
+use Rattle.vo_spec.specs.Parts.{stub, levels, levels_in}
 use Rattle.vo_spec.specs.Trees.{open_parts}
 use Rattle.vo_spec.specs.Pruned.{walk_for, is_any}
 use Rattle.mb_tree.specs.Whole.{value_of}
 use Rattle.mb_tree.proofs.RowLaws.{branch_falls}
-use Rattle.range_proof.proofs.Walking.{pruned_none, prune_step, prune_end}
+use Rattle.range_proof.specs.Lending.{lent_need}
+use Rattle.range_proof.proofs.Walking.{pruned_none, none_lent, some_lent, prune_step, prune_end}
 use Rattle.range_proof.proofs.pruning.+prune.Goals as goal
+use Rattle.range_proof.proofs.pruning.+prune.Goals.{prune_children-then-is_empty+in_ok-push, prune_children-else-is_empty+in_ok-open_child+in_ok-push-2}
 
-pub prune_branch-returns-then-is_empty : goal.prune_branch-returns-then-is_empty
-prune_branch-returns-then-is_empty t c =
-    let none_go : is_any c.args.visitors.now.going ≡ false = not-true (is_any c.args.visitors.now.going) (sym c.is_empty.ensures ∙ c.if-is_empty.true) in
-    rw c.node_digest.ensures.value (sym (pruned_none c.args.visitors.now.all c.args.visitors.now.going c.args.branch.now none_go))
-
-pub prune_children-prune_branch-requires : goal.prune_children-prune_branch-requires
-prune_children-prune_branch-requires t c =
+pub prune_children-open_child-requires : goal.prune_children-open_child-requires
+prune_children-open_child-requires t c =
     let falls : levels c.index-children-place.result ≤ levels_in (open_parts c.args.children.now) = branch_falls _ _ _ c.loop-place-test.true c.index-children-place.is in
-    (omega arith, tt)
+    let some = some_lent c.put_going_on.new.going (sym c.is_empty.ensures ∙ c.if-is_empty.false) in
+    (omega arith, (c.in_ok-put_going_on.ensures, some))
 
 pub prune_children-loop-place-preserved : goal.prune_children-loop-place-preserved
 prune_children-loop-place-preserved t c =
     let keys = map value_of c.args.separators.now in
-    let made = rw (c.in_ok-onward.ensures, c.separator_at-upper.ensures) at c.in_ok-prune_branch.ensures in
-    rw (c.in_ok-push.ensures.items, map_push, c.separator_at-upper.ensures)
-    (prune_step (walk_for c.args.visitors.now.all) c.args.visitors.now.going _ keys c.loop-place.place _ _ _ _ _ c.loop-place-test.true c.index-children-place.is made c.loop-place.invariant)
+    let walk = walk_for c.args.visitors.now.all in
+    let child = c.index-children-place.result in
+    elim c.if-is_empty.branch [
+      | prune_children-then-is_empty+in_ok-push w ↦
+          let none_go : is_any (map lent_need c.put_going_on.new.going.items) ≡ false = none_lent c.put_going_on.new.going (sym c.is_empty.ensures ∙ w.if-is_empty.true) in
+          let unvisited = rw (c.in_ok-put_going_on.ensures, c.separator_at-upper.ensures) at none_go in
+          let made = ap stub w.node_digest.ensures.value ∙ sym (pruned_none c.args.visitors.now.all _ child unvisited) in
+          rw (w.parts-is, w.in_ok-push.ensures.items, map_push, c.separator_at-upper.ensures)
+          (prune_step walk c.args.visitors.now.going _ keys c.loop-place.place _ child _ _ _ c.loop-place-test.true c.index-children-place.is made c.loop-place.invariant)
+      | prune_children-else-is_empty+in_ok-open_child+in_ok-push-2 w ↦
+          let made = rw (c.in_ok-put_going_on.ensures, c.separator_at-upper.ensures) at w.in_ok-open_child.ensures in
+          rw (w.parts-is, w.in_ok-push-2.ensures.items, map_push, c.separator_at-upper.ensures)
+          (prune_step walk c.args.visitors.now.going _ keys c.loop-place.place _ child _ _ _ c.loop-place-test.true c.index-children-place.is made c.loop-place.invariant)
+    ]
 
 pub prune_children-returns : goal.prune_children-returns
 prune_children-returns t c =

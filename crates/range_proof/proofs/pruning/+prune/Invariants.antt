@@ -8,11 +8,14 @@ use Rattle.mb_tree.specs.View.{part_of}
 use Rattle.range_proof.proofs.Walking.{onto}
 use Rattle.range_proof.proofs.pruning.+prune.Given as goal
 
-abbrev pub decreases-prune_branch : goal.decreases-prune_branch
-decreases-prune_branch l = 2 * levels l.branch.now
+abbrev pub decreases-open_branch : goal.decreases-open_branch
+decreases-open_branch l = 3 * levels l.branch.now
 
 abbrev pub decreases-prune_children : goal.decreases-prune_children
-decreases-prune_children l = 2 * levels_in (open_parts l.children.now) + 1
+decreases-prune_children l = 3 * levels_in (open_parts l.children.now) + 2
+
+abbrev pub decreases-open_child : goal.decreases-open_child
+decreases-open_child l = 3 * levels l.child.now + 1
 
 -- with what becomes of the children to come, these are all
 abbrev pub invariant-prune_children-loop-place : goal.invariant-prune_children-loop-place

@@ -2,7 +2,7 @@ use Rattle.std.proofs.Common.{◌≡◌, map, take}
 use Rattle.std.specs.Option.{option_copied}
 use Rattle.vo_spec.specs.Pruned.{going_on}
 use Rattle.range_proof.specs.Lending.{lent_need}
-use Rattle.range_proof.proofs.going.going_on.Given as goal
+use Rattle.range_proof.proofs.going.put_going_on.Given as goal
 
 -- those of the needs so far
 abbrev pub invariant-loop-need : goal.invariant-loop-need
