@@ -96,11 +96,12 @@ def journal_entries(journal):
     return entries
 
 
-def instructions(words, given=b""):
-    """All instructions of a run, with this for its input."""
+def instructions(words, given=b"", tunables=""):
+    """All instructions of a run, with this for its input and these settings of glibc."""
     with tempfile.NamedTemporaryFile() as counts:
         subprocess.run(["valgrind", "--tool=callgrind", f"--callgrind-out-file={counts.name}", *words],
-                       input=given, stdout=subprocess.DEVNULL, stderr=subprocess.DEVNULL, check=True)
+                       input=given, env={**os.environ, "GLIBC_TUNABLES": tunables},
+                       stdout=subprocess.DEVNULL, stderr=subprocess.DEVNULL, check=True)
         text = open(counts.name, encoding="utf-8", errors="replace").read()
     return int(re.search(r"^(?:summary|totals): (\d+)", text, re.M).group(1))
 

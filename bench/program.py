@@ -15,9 +15,9 @@ def run(*words, out=os.devnull):
         subprocess.run([PROGRAM, *words], stdout=sink, check=True)
 
 
-def instructions(*words):
-    """All instructions of a run."""
-    return costs.instructions([PROGRAM, *words])
+def instructions(*words, tunables=""):
+    """All instructions of a run, with these settings of glibc."""
+    return costs.instructions([PROGRAM, *words], tunables=tunables)
 
 
 def block_instructions():

@@ -95,3 +95,16 @@ suffice_on all going from to lower upper s some key e =
     let below = sooner_parts to upper key ends.1 in
     named_kept (λ need. visits need.interval lower upper) key (passed lower upper key above.1 below.1) going
     ∙ s (any_before (λ need. visits need.interval lower upper) going some) key (and_from (is_from from key) (is_before to key) above.0 below.0)
+
+-- of a need alone
+pub goes_alone : (need : Need) (lower upper : Option (List ℕ)) → visits need.interval lower upper ≡ true → going_on (need ∷ []) lower upper ≡ need ∷ []
+goes_alone need lower upper e = ap (λ b. cond b (need ∷ []) []) e
+
+pub passes_by : (need : Need) (lower upper : Option (List ℕ)) → visits need.interval lower upper ≡ false → going_on (need ∷ []) lower upper ≡ []
+passes_by need lower upper e = ap (λ b. cond b (need ∷ []) []) e
+
+pub suffice_alone : (all : List Need) (need : Need) (from to lower upper : Option (List ℕ)) → Suffice all (need ∷ []) from to → visits need.interval lower upper ≡ true
+    → Suffice all (need ∷ []) (later from lower) (sooner to upper)
+suffice_alone all need from to lower upper s e =
+    let onward : Suffice all (going_on (need ∷ []) lower upper) (later from lower) (sooner to upper) = suffice_on all (need ∷ []) from to lower upper s in
+    rw (goes_alone need lower upper e) at onward

@@ -75,6 +75,14 @@ pub fn visits(interval: &Interval, lower: Option<&[u8]>, upper: Option<&[u8]>) -
     ends_above(&interval.low, upper) && begins_below(&interval.high, lower)
 }
 
+/// The same, with the interval's end asked first.
+#[inline(always)]
+pub fn visits_from_end(interval: &Interval, lower: Option<&[u8]>, upper: Option<&[u8]>) -> bool
+    ensures { result ≡ does_visit interval.now (option_copied lower.entry) (option_copied upper.entry) }
+{
+    begins_below(&interval.high, lower) && ends_above(&interval.low, upper)
+}
+
 fn ends_above(low: &Bound, upper: Option<&[u8]>) -> bool
     ensures { result ≡ ends_above low.now (option_copied upper.entry) }
 {

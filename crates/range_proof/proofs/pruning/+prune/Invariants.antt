@@ -14,12 +14,12 @@ decreases-open_branch l = 3 * levels l.branch.now
 abbrev pub decreases-prune_children : goal.decreases-prune_children
 decreases-prune_children l = 3 * levels_in (open_parts l.children.now) + 2
 
-abbrev pub decreases-open_child : goal.decreases-open_child
-decreases-open_child l = 3 * levels l.child.now + 1
+abbrev pub decreases-prune_each : goal.decreases-prune_each
+decreases-prune_each l = 3 * levels_in (open_parts l.children.now) + 1
 
 -- with what becomes of the children to come, these are all
-abbrev pub invariant-prune_children-loop-place : goal.invariant-prune_children-loop-place
-invariant-prune_children-loop-place l =
+abbrev pub invariant-prune_each-loop-place : goal.invariant-prune_each-loop-place
+invariant-prune_each-loop-place l =
     onto (map part_of l.parts.items)
     (pruned_in (walk_for l.visitors.all) row_family l.visitors.going (option_copied l.lower) (drop l.place (map value_of l.separators)) (open_parts (drop l.place l.children)))
     ≡ pruned_in (walk_for l.visitors.all) row_family l.visitors.going None (map value_of l.separators) (open_parts l.children)

@@ -1,7 +1,7 @@
 use Rattle.std.proofs.Common.{◌≡◌, map, take}
 use Rattle.vo_spec.specs.Cells.{whole_entry}
 use Rattle.vo_spec.specs.Pruned.{shown_entry}
-use Rattle.range_proof.proofs.pruning.prune_entries.Given as goal
+use Rattle.range_proof.proofs.nodes.prune_entries.Given as goal
 
 -- the entries so far
 abbrev pub invariant-loop-entry : goal.invariant-loop-entry

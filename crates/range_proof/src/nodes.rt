@@ -1,0 +1,73 @@
+//! What the proof for some needs has of a node that is open.
+ghost use Rattle.std.specs.Prelude.{◌≡◌, map, slice_get, IfOk};
+ghost use Rattle.std.specs.Option.{option_copied};
+ghost use Rattle.vo_spec.specs.Cells.{whole_entry};
+ghost use Rattle.vo_spec.specs.Parts.{inner};
+ghost use Rattle.vo_spec.specs.Pruned.{shown_entry};
+ghost use Rattle.mb_tree.specs.Whole.{value_of};
+ghost use Rattle.mb_tree.specs.View.{part_of};
+
+use crate::visitors::Visitors;
+use attr_digest::hide_cells;
+use mb_tree::{Nodes, PartTree, TreeEntry, lend_keys};
+use std::alloc::{AllocError, Global};
+use std::rc::Rc;
+use vo_spec::{Key, KeyPart, List, PartEntry, RowPart};
+
+/// The inner node of these children.
+pub fn inner_part<'b>(
+    alloc: Global,
+    separators: &'b [Rc<Key>],
+    children: Nodes<'b>,
+) -> Result<PartTree<'b>, AllocError>
+    ensures { IfOk result (λ part. part_of part ≡ inner (map value_of separators.now) children.entry) }
+{
+    let separators = lend_keys(alloc, separators)?;
+    Ok(PartTree::Inner {
+        separators,
+        children,
+    })
+}
+
+/// The separator behind the child at this place; none behind the last.
+pub fn separator_at(separators: &[Rc<Key>], place: usize) -> Option<&[u8]>
+    ensures { option_copied result ≡ slice_get (map value_of separators.now) place }
+{
+    match separators.get(place) {
+        Some(separator) => Some(separator.as_ref().as_bytes()),
+        None => None,
+    }
+}
+
+/// The leaf's entries with open what all needs name of them.
+pub fn prune_entries<'b>(
+    alloc: Global,
+    entries: &'b [TreeEntry],
+    visitors: &Visitors<'_, '_>,
+) -> Result<List<PartEntry<'b>>, AllocError>
+    ensures { IfOk result (λ shown. shown ≡ map (shown_entry visitors.now.all) (map whole_entry entries.now)) }
+{
+    let mut shown = Vec::with_capacity(alloc, entries.len())?;
+    for entry in entries {
+        shown.push(prune_entry(alloc, entry, visitors)?)?;
+    }
+    Ok(List::from_vec(shown))
+}
+
+fn prune_entry<'b>(
+    alloc: Global,
+    entry: &'b TreeEntry,
+    visitors: &Visitors<'_, '_>,
+) -> Result<PartEntry<'b>, AllocError>
+    ensures { IfOk result (λ shown. shown ≡ shown_entry visitors.now.all (whole_entry entry.now)) }
+{
+    let key = KeyPart::lent(entry.key().as_bytes());
+    let cells = entry.cells();
+    let columns = visitors.named(alloc, entry.key().as_bytes())?;
+    if columns.is_empty() {
+        let row = RowPart::Digest(cells.digest());
+        return Ok(PartEntry { key, row });
+    }
+    let row = RowPart::Cells(hide_cells(alloc, cells.values(), &columns)?);
+    Ok(PartEntry { key, row })
+}
