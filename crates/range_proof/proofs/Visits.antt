@@ -102,9 +102,3 @@ goes_alone need lower upper e = ap (λ b. cond b (need ∷ []) []) e
 
 pub passes_by : (need : Need) (lower upper : Option (List ℕ)) → visits need.interval lower upper ≡ false → going_on (need ∷ []) lower upper ≡ []
 passes_by need lower upper e = ap (λ b. cond b (need ∷ []) []) e
-
-pub suffice_alone : (all : List Need) (need : Need) (from to lower upper : Option (List ℕ)) → Suffice all (need ∷ []) from to → visits need.interval lower upper ≡ true
-    → Suffice all (need ∷ []) (later from lower) (sooner to upper)
-suffice_alone all need from to lower upper s e =
-    let onward : Suffice all (going_on (need ∷ []) lower upper) (later from lower) (sooner to upper) = suffice_on all (need ∷ []) from to lower upper s in
-    rw (goes_alone need lower upper e) at onward

@@ -9,11 +9,6 @@ pub record Visit : Type 0 where
   pub all : List Need
   pub going : List Need
 
--- the same where only one visits it
-pub record OnlyVisit : Type 0 where
-  pub all : List Need
-  pub need : Need
-
 -- of the keys between these separators, some of the needs, where there are any, name what all name
 abbrev pub Suffice : List Need → List Need → Option (List ℕ) → Option (List ℕ) → Type 0
 Suffice all going lower upper = is_any going ≡ true → (key : List ℕ) → is_between lower upper key ≡ true → named going key ≡ named all key

@@ -75,12 +75,22 @@ pub fn visits(interval: &Interval, lower: Option<&[u8]>, upper: Option<&[u8]>) -
     ends_above(&interval.low, upper) && begins_below(&interval.high, lower)
 }
 
-/// The same, with the interval's end asked first.
+/// The same, with that asked first which is likely to be false: whether the child ends above the interval's start,
+/// or, past a child that the scan goes on to, whether it begins below its end.
 #[inline(always)]
-pub fn visits_from_end(interval: &Interval, lower: Option<&[u8]>, upper: Option<&[u8]>) -> bool
+pub fn visits_from(
+    is_past: bool,
+    interval: &Interval,
+    lower: Option<&[u8]>,
+    upper: Option<&[u8]>,
+) -> bool
     ensures { result ≡ does_visit interval.now (option_copied lower.entry) (option_copied upper.entry) }
 {
-    begins_below(&interval.high, lower) && ends_above(&interval.low, upper)
+    if is_past {
+        begins_below(&interval.high, lower) && ends_above(&interval.low, upper)
+    } else {
+        visits(interval, lower, upper)
+    }
 }
 
 fn ends_above(low: &Bound, upper: Option<&[u8]>) -> bool

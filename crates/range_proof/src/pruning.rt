@@ -59,7 +59,7 @@ fn prune_children<'b>(
         ≡ pruned_in (walk_for visitors.now.all) row_family visitors.now.going None (map value_of separators.now) (open_parts children.now)) }
 {
     match visitors.only() {
-        Some(visitor) => follow_children(alloc, separators, children, &visitor),
+        Some(need) => follow_children(alloc, separators, children, visitors, need),
         None => prune_each(alloc, separators, children, visitors),
     }
 }

@@ -1,12 +1,11 @@
 //! The needs as they come to a node of a tree.
-ghost use Rattle.std.specs.Prelude.{◌≡◌, true, [], ◌∷◌, map, not, IfOk, IfSome, OnOk};
+ghost use Rattle.std.specs.Prelude.{◌≡◌, [], ◌∷◌, map, not, IfOk, IfSome, OnOk};
 ghost use Rattle.std.specs.Option.{option_copied};
 ghost use Rattle.vo_spec.specs.Pruned.{going_in as first_going, going_on as next_going, is_any, named as named_by};
-ghost use Rattle.vo_spec.specs.Scans.{visits as does_visit};
 ghost use Rattle.range_proof.specs.Lending.{lent_need};
 
 use crate::going::{going_in, put_going_on};
-use crate::intervals::{is_between, later, sooner, visits, visits_from_end};
+use crate::intervals::{is_between, later, sooner};
 use crate::naming::named;
 use std::alloc::{AllocError, Global};
 use std::marker::Model;
@@ -34,72 +33,6 @@ impl<'n, 'k> Model for Visitors<'n, 'k> {
     ghost view = { λ v. record { all = map lent_need v.all.now; going = map lent_need v.going.items } };
 
     ghost invariant = { λ v. Suffice (map lent_need v.all.now) (map lent_need v.going.items) (option_copied v.lower) (option_copied v.upper) };
-}
-
-/// The only one of some needs whose scan visits a node.
-#[derive(Drop)]
-pub struct Visitor<'n, 'k> {
-    all: &'n [&'n Need],
-    need: &'n Need,
-    // The node's place in the tree, as above.
-    lower: Option<&'k [u8]>,
-    upper: Option<&'k [u8]>,
-}
-
-impl<'n, 'k> Model for Visitor<'n, 'k> {
-    ghost use Rattle.std.specs.Prelude.{[], ◌∷◌, map};
-    ghost use Rattle.std.specs.Option.{option_copied};
-    ghost use Rattle.range_proof.specs.Lending.{lent_need};
-    ghost use Rattle.range_proof.specs.Visiting.{OnlyVisit, Suffice};
-
-    ghost Value = { OnlyVisit };
-
-    ghost view = { λ v. record { all = map lent_need v.all.now; need = v.need.now } };
-
-    ghost invariant = { λ v. Suffice (map lent_need v.all.now) (v.need.now ∷ []) (option_copied v.lower) (option_copied v.upper) };
-}
-
-impl<'n, 'k> Visitor<'n, 'k> {
-    /// Whether its scan goes on to the child between these separators. What is asked first is what is likely to
-    /// be false: before the child to which it has gone on, whether the child ends above its interval's start,
-    /// and past that one, whether the child begins below its end.
-    #[inline(always)]
-    pub fn goes_on(&self, is_past: bool, lower: Option<&[u8]>, upper: Option<&[u8]>) -> bool
-        ensures { result ≡ does_visit self.now.need.interval (option_copied lower.entry) (option_copied upper.entry) }
-    {
-        if is_past {
-            visits_from_end(&self.need.interval, lower, upper)
-        } else {
-            visits(&self.need.interval, lower, upper)
-        }
-    }
-
-    /// It as it comes to the child between these separators, to which it goes on.
-    pub fn at_child(&self, lower: Option<&'k [u8]>, upper: Option<&'k [u8]>) -> Visitor<'n, 'k>
-        requires { does_visit self.now.need.interval (option_copied lower) (option_copied upper) ≡ true }
-        ensures { result ≡ self.now }
-    {
-        Visitor {
-            all: self.all,
-            need: self.need,
-            lower: later(self.lower, lower),
-            upper: sooner(self.upper, upper),
-        }
-    }
-
-    /// It as a list of one.
-    pub fn alone(&self, alloc: Global) -> Result<Visitors<'n, 'k>, AllocError>
-        ensures { IfOk result (λ v. v ≡ record { all = self.now.all; going = self.now.need ∷ [] }) }
-    {
-        let mut going = Vec::new(alloc);
-        going.push(self.need)?;
-        Ok(Visitors {
-            all: self.all,
-            going,
-            lower: self.lower,
-            upper: self.upper,
-        })
-    }
 }
 
 impl<'n, 'k> Visitors<'n, 'k> {
@@ -173,17 +106,12 @@ impl<'n, 'k> Visitors<'n, 'k> {
         Ok(self.at_child(going, lower, upper))
     }
 
-    /// The only one, if there is one alone.
-    pub fn only(&self) -> Option<Visitor<'n, 'k>>
-        ensures { IfSome result (λ v. (v.all ≡ self.now.all) × (v.need ∷ [] ≡ self.now.going)) }
+    /// The only one, where there is one alone.
+    pub fn only(&self) -> Option<&'n Need>
+        ensures { IfSome result (λ need. need.now ∷ [] ≡ self.now.going) }
     {
         if self.going.len() == 1 {
-            Some(Visitor {
-                all: self.all,
-                need: self.going[0],
-                lower: self.lower,
-                upper: self.upper,
-            })
+            Some(self.going[0])
         } else {
             None
         }

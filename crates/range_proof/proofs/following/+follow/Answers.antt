@@ -10,7 +10,7 @@ use Rattle.mb_tree.proofs.RowLaws.{branch_falls}
 use Rattle.range_proof.proofs.Visits.{goes_alone, passes_by}
 use Rattle.range_proof.proofs.Walking.{pruned_none, prune_step, prune_end}
 use Rattle.range_proof.proofs.following.+follow.Goals as goal
-use Rattle.range_proof.proofs.following.+follow.Goals.{follow_children-then-goes_on+in_ok-follow+in_ok-push, follow_children-else-goes_on+in_ok-push-2}
+use Rattle.range_proof.proofs.following.+follow.Goals.{follow_children-then-visits_from+in_ok-follow+in_ok-push, follow_children-else-visits_from+in_ok-push-2}
 
 pub follow_children-follow-requires : goal.follow_children-follow-requires
 follow_children-follow-requires t c =
@@ -20,19 +20,18 @@ follow_children-follow-requires t c =
 pub follow_children-loop-place-preserved : goal.follow_children-loop-place-preserved
 follow_children-loop-place-preserved t c =
     let keys = map value_of c.args.separators.now in
-    let all = c.args.visitor.now.all in
-    let need = c.args.visitor.now.need in
+    let all = c.args.visitors.now.all in
+    let need = c.args.need.now in
     let lower = option_copied c.loop-place.lower in
     let upper = slice_get keys c.loop-place.place in
     let child = c.index-children-place.result in
-    elim c.if-goes_on.branch [
-      | follow_children-then-goes_on+in_ok-follow+in_ok-push w ↦
+    elim c.if-visits_from.branch [
+      | follow_children-then-visits_from+in_ok-follow+in_ok-push w ↦
           let visited : visits need.interval lower upper ≡ true = cc in
-          let followed = rw w.at_child-onward.ensures at w.in_ok-follow.ensures in
-          let made = followed ∙ ap (λ going. pruned_by (walk_for all) row_family going child) (sym (goes_alone need lower upper visited)) in
+          let made = w.in_ok-follow.ensures ∙ ap (λ going. pruned_by (walk_for all) row_family going child) (sym (goes_alone need lower upper visited)) in
           rw (w.parts-is, w.lower-is, w.in_ok-push.ensures.items, map_push, c.separator_at-upper.ensures)
           (prune_step (walk_for all) (need ∷ []) _ keys c.loop-place.place _ child _ _ _ c.loop-place-test.true c.index-children-place.is made c.loop-place.invariant)
-      | follow_children-else-goes_on+in_ok-push-2 w ↦
+      | follow_children-else-visits_from+in_ok-push-2 w ↦
           let passed : visits need.interval lower upper ≡ false = cc in
           let made = ap stub w.node_digest.ensures.value ∙ sym (pruned_none all _ child (ap is_any (passes_by need lower upper passed))) in
           rw (w.parts-is, w.lower-is, w.in_ok-push-2.ensures.items, map_push, c.separator_at-upper.ensures)
@@ -42,4 +41,4 @@ follow_children-loop-place-preserved t c =
 pub follow_children-returns : goal.follow_children-returns
 follow_children-returns t c =
     c.from_vec.ensures
-    ∙ prune_end (walk_for c.args.visitor.now.all) (c.args.visitor.now.need ∷ []) _ (map value_of c.args.separators.now) c.loop-place.place _ _ _ c.loop-place-test.false c.loop-place.invariant
+    ∙ prune_end (walk_for c.args.visitors.now.all) (c.args.need.now ∷ []) _ (map value_of c.args.separators.now) c.loop-place.place _ _ _ c.loop-place-test.false c.loop-place.invariant

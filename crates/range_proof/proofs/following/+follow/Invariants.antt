@@ -18,5 +18,5 @@ decreases-follow_children l = 2 * levels_in (open_parts l.children.now) + 1
 abbrev pub invariant-follow_children-loop-place : goal.invariant-follow_children-loop-place
 invariant-follow_children-loop-place l =
     onto (map part_of l.parts.items)
-    (pruned_in (walk_for l.visitor.all) row_family (l.visitor.need ∷ []) (option_copied l.lower) (drop l.place (map value_of l.separators)) (open_parts (drop l.place l.children)))
-    ≡ pruned_in (walk_for l.visitor.all) row_family (l.visitor.need ∷ []) None (map value_of l.separators) (open_parts l.children)
+    (pruned_in (walk_for l.visitors.all) row_family (l.need ∷ []) (option_copied l.lower) (drop l.place (map value_of l.separators)) (open_parts (drop l.place l.children)))
+    ≡ pruned_in (walk_for l.visitors.all) row_family (l.need ∷ []) None (map value_of l.separators) (open_parts l.children)
