@@ -10,11 +10,14 @@ ghost use Rattle.vo_spec.specs.TreeBytes.{cell_form, entry_form, row_form};
 use std::alloc::AllocError;
 use vo_spec::{Cell, Digest, PartEntry, RowPart, ValueRef, u16_bytes, u64_bytes};
 
-/// Puts a digest at the end.
-pub fn put_digest(out: &mut Vec<u8>, digest: Digest) -> Result<(), AllocError>
-    ensures { OnOk result (out.new.items ≡ out.old.items ++ digest) }
+/// Puts what is hidden at the end: a zero, and its digest.
+// As one piece: most of a reply is this, and each piece that is put takes a call.
+pub fn put_hidden(out: &mut Vec<u8>, digest: &Digest) -> Result<(), AllocError>
+    ensures { OnOk result (out.new.items ≡ out.old.items ++ 0 ∷ digest.now) }
 {
-    out.extend_from_slice(digest.as_bytes())
+    let mut hidden = [0; 33];
+    hidden[1..].copy_from_slice(digest.as_bytes());
+    out.extend_from_slice(&hidden)
 }
 
 /// Puts a key or a separator behind its length at the end.
@@ -58,10 +61,7 @@ fn put_cell(out: &mut Vec<u8>, cell: &Cell<'_>) -> Result<(), AllocError>
     ensures { OnOk result (out.new.items ≡ out.old.items ++ cell_form cell.now) }
 {
     match cell {
-        Cell::Hidden(digest) => {
-            out.push(0)?;
-            put_digest(out, *digest)
-        }
+        Cell::Hidden(digest) => put_hidden(out, digest),
         Cell::Shown(value) => {
             out.push(1)?;
             put_shown(out, value.as_ref())
@@ -86,10 +86,7 @@ fn put_row(out: &mut Vec<u8>, row: &RowPart<'_>) -> Result<(), AllocError>
     ensures { OnOk result (out.new.items ≡ out.old.items ++ row_form row.now) }
 {
     match row {
-        RowPart::Digest(digest) => {
-            out.push(0)?;
-            put_digest(out, *digest)
-        }
+        RowPart::Digest(digest) => put_hidden(out, digest),
         RowPart::Cells(cells) => put_cells(out, cells.as_slice()),
     }
 }

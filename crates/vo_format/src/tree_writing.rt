@@ -7,7 +7,7 @@ ghost use Rattle.vo_spec.specs.Fits.{FitsPart, FitsEach, FitsEntry, FitsKey, Fit
 ghost use Rattle.vo_spec.specs.TreeBytes.{entry_form, tree_bytes};
 ghost use Rattle.mb_tree.specs.View.{part_of, parts_of};
 
-use crate::entry_writing::{put_digest, put_entry, put_key};
+use crate::entry_writing::{put_entry, put_hidden, put_key};
 use mb_tree::PartTree;
 use std::alloc::AllocError;
 use vo_spec::{KeyPart, PartEntry};
@@ -20,10 +20,7 @@ pub fn put_tree(out: &mut Vec<u8>, tree: &PartTree<'_>) -> Result<(), AllocError
     ensures { OnOk result (out.new.items ≡ out.old.items ++ tree_bytes (part_of tree.now)) }
 {
     match tree {
-        PartTree::Stub(digest) => {
-            out.push(0)?;
-            put_digest(out, *digest)
-        }
+        PartTree::Stub(digest) => put_hidden(out, digest),
         PartTree::Leaf(entries) => put_leaf(out, entries.as_slice()),
         PartTree::Inner {
             separators,
