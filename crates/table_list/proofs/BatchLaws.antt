@@ -1,25 +1,22 @@
 -- A batch that is read is spelled so, and what is spelled so is read.
-use Rattle.std.proofs.Common.{◌≡◌, ℕ, zero, suc, ◌+◌, ◌^◌, ◌<◌, ◌≤◌, Bool, true, false, cond, eqb, leb, ltb, List, [], ◌∷◌, ◌++◌, length, take, drop, Option, Some, None, Result, Ok, Err, refl, sym, ap, subst, ◌∙◌, append_assoc, append-nil, arith, inl, inr, ◌⊎◌}
+use Rattle.std.proofs.Common.{◌≡◌, ℕ, ◌^◌, ◌<◌, ◌≤◌, false, cond, eqb, leb, ltb, List, [], ◌∷◌, ◌++◌, length, take, drop, Option, Some, None, Result, Ok, Err, refl, sym, ap, subst, ◌∙◌, append_assoc, append-nil, arith, inl, inr}
 use Rattle.std.specs.Prelude.{IfOk}
 use Rattle.std.specs.List.{AllByRecursion, flat_map}
 use Rattle.std.proofs.lemmas.Bool.{eqb-true, ltb-false, le-ltb, leb-true, le-leb}
 use Rattle.std.proofs.lemmas.List.{take_at, drop_at, take-append-drop, length-append, length-take}
-use Rattle.vo_spec.specs.declared.values.Value.{Value}
 use Rattle.vo_spec.specs.declared.tables.Batch.{Batch}
 use Rattle.vo_spec.specs.declared.tables.SetPart.{SetPart}
 use Rattle.vo_spec.specs.declared.tables.Command.{Command}
 use Rattle.vo_spec.specs.declared.tables.Command.TheVariants.{Create, Drop, Insert, Update, Delete}
 use Rattle.vo_spec.specs.Bytes.{IsBytes, u16_bytes, u16_of, short_string}
-use Rattle.vo_spec.specs.Names.{FitsName}
 use Rattle.vo_spec.specs.Values.{value_bytes, FitsValue}
 use Rattle.vo_spec.specs.Batches.{counted, column_bytes, set_bytes, command_bytes, batch_bytes, FitCounted, FitsColumn, FitsSet, FitsCommand, FitsBatch, IsBatch, most_commands, most_batch_bytes}
 use Rattle.row_bytes.specs.declared.read_fault.ReadFault.{ReadFault}
-use Rattle.row_bytes.specs.declared.read_fault.ReadFault.TheVariants.{BadForm, Memory}
 use Rattle.row_bytes.specs.Reading.{u16_at}
-use Rattle.row_bytes.specs.Fields.{◌>>=◌, name_at, column_at, columns_at, count_at, times, whole}
+use Rattle.row_bytes.specs.Fields.{name_at, column_at, columns_at, times, whole}
 use Rattle.row_bytes.proofs.Readers.{IsBytes-rest, IsBytes-take, IsBytes-drop, chosen}
 use Rattle.row_bytes.proofs.ValueLaws.{u16_same, u16_again, u16_length}
-use Rattle.table_list.specs.BatchReading.{Reader, one, two, three, four, any_value_at, set_part, set_at, values_at, sets_at, create_at, drop_at as dropped_at, insert_at, update_at, delete_at, command_at, commands_at, batch_of, BatchRead}
+use Rattle.table_list.specs.BatchReading.{Reader, one, two, three, any_value_at, set_part, set_at, values_at, sets_at, create_at, drop_at as dropped_at, insert_at, update_at, delete_at, command_at, commands_at, batch_of, BatchRead}
 use Rattle.table_list.proofs.ReaderLaws.{Took, IsReader, some_is, bound, no_some, took_then, names_read, columns_are_read, values_read, many_read, next_found, next_again, times_found, times_again}
 
 -- the last of things in turn

@@ -1,8 +1,8 @@
 -- Of what fits: each part fits.
-use Rattle.std.proofs.Common.{◌≡◌, ℕ, zero, suc, ◌+◌, ◌<◌, ◌≤◌, Bool, true, false, ◌&&◌, leb, List, [], ◌∷◌, length, get_or, arith, subst, sym}
+use Rattle.std.proofs.Common.{◌≡◌, ℕ, zero, suc, ◌<◌, ◌≤◌, List, [], ◌∷◌, length, get_or, arith, subst, sym}
 use Rattle.std.specs.List.{AllByRecursion}
 use Rattle.std.proofs.lemmas.Bool.{leb-true}
-use Rattle.vo_spec.specs.Names.{is_name, FitsName}
+use Rattle.vo_spec.specs.Names.{FitsName}
 use Rattle.table_list.proofs.ReaderLaws.{all_true}
 
 pub name_is_short : (name : List ℕ) → FitsName name → length name ≤ 63

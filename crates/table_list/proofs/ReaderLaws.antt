@@ -1,5 +1,5 @@
 -- Laws of readers: what one reads is spelled so and fits, and what fits and is spelled is read.
-use Rattle.std.proofs.Common.{◌≡◌, ℕ, zero, suc, ◌+◌, ◌-◌, ◌^◌, ◌<◌, ◌≤◌, Bool, true, false, ◌&&◌, cond, eqb, leb, ltb, List, [], ◌∷◌, ◌++◌, length, take, drop, Option, Some, None, Result, Ok, Err, refl, sym, ap, subst, ◌∙◌, append_assoc, arith, inl, inr, ◌⊎◌}
+use Rattle.std.proofs.Common.{◌≡◌, ℕ, zero, suc, ◌≤◌, Bool, true, false, ◌&&◌, eqb, leb, ltb, List, [], ◌∷◌, ◌++◌, length, take, drop, Option, Some, None, Result, Ok, Err, refl, sym, ap, subst, ◌∙◌, append_assoc, arith, inl, inr}
 use Rattle.std.specs.List.{AllByRecursion, flat_map}
 use Rattle.std.specs.Result.{result_ok}
 use Rattle.std.proofs.lemmas.Bool.{eqb-true, ltb-false, le-ltb, leb-true, le-leb}
@@ -8,15 +8,15 @@ use Rattle.vo_spec.specs.declared.values.Kind.{Kind}
 use Rattle.vo_spec.specs.declared.values.Kind.TheVariants as kind
 use Rattle.vo_spec.specs.declared.values.Value.{Value}
 use Rattle.vo_spec.specs.declared.tables.Column.{Column}
-use Rattle.vo_spec.specs.Bytes.{IsBytes, u16_bytes, u16_of, short_string}
+use Rattle.vo_spec.specs.Bytes.{IsBytes, short_string}
 use Rattle.vo_spec.specs.Names.{is_name, FitsName}
 use Rattle.vo_spec.specs.Values.{type_byte, value_bytes, FitsValue}
 use Rattle.vo_spec.specs.Batches.{counted, column_bytes, FitCounted, FitsColumn, most_columns}
 use Rattle.row_bytes.specs.declared.fault.FormFault.{FormFault}
-use Rattle.row_bytes.specs.Reading.{byte_at, bytes_at, u16_at, value_at}
-use Rattle.row_bytes.specs.Fields.{◌>>=◌, where_true, short_string_at, name_at, kind_of_byte, kind_at, column_at, count_at, columns_at, times}
-use Rattle.row_bytes.proofs.Readers.{IsBytes-rest, IsBytes-take, IsBytes-drop, IsBytes-after, chosen}
-use Rattle.row_bytes.proofs.ValueLaws.{u16_same, u16_again, u16_length, value_spells, value_read}
+use Rattle.row_bytes.specs.Reading.{byte_at, bytes_at, value_at}
+use Rattle.row_bytes.specs.Fields.{◌>>=◌, where_true, short_string_at, name_at, kind_of_byte, kind_at, column_at, count_at, times}
+use Rattle.row_bytes.proofs.Readers.{IsBytes-rest, IsBytes-drop, IsBytes-after, chosen}
+use Rattle.row_bytes.proofs.ValueLaws.{value_spells, value_read}
 use Rattle.table_list.specs.BatchReading.{Reader, any_value_at}
 
 -- what was in front, and what is behind it

@@ -9,9 +9,10 @@ use Rattle.vo_spec.specs.declared.tables.Table.{Table}
 use Rattle.vo_spec.specs.declared.tables.Schema.{Schema}
 use Rattle.vo_spec.specs.declared.queries.Source.{Source}
 use Rattle.vo_spec.specs.declared.queries.Join.{Join}
+use Rattle.vo_spec.specs.declared.queries.Outcome.TheVariants.{Rows}
 use Rattle.vo_spec.specs.Conditions.{Query}
 use Rattle.vo_spec.specs.Tables.{Heading, heading_of, table_named, rows_named}
-use Rattle.vo_spec.specs.Results.{Side, Line, line_of, lines_at, sides, side_of, no_schema, place_value, shown_places, is_answer, combinations, answer_rows}
+use Rattle.vo_spec.specs.Results.{Side, Line, line_of, lines_at, sides, side_of, no_schema, place_value, shown_places, is_answer, combinations, answer_rows, header, outcome, binding_fault, result}
 use Rattle.table_list.specs.PlainLines.{lines_named}
 use Rattle.table_list.proofs.PlainLaws.{heading_by_name}
 
@@ -83,3 +84,11 @@ right_lines tables q ss j is e =
     ap (λ l. lines_at tables l 1) e
     ∙ ap (λ (o : Option Join). lines_at tables (side_of (map heading_of tables) q.left ∷ map (side_of (map heading_of tables)) (option_to_list (option_map (λ (k : Join). k.right) o))) 1) is
     ∙ source_lines tables j.right
+
+-- the answer of a query that passes all tests
+pub answered : (q : Query) (tables : List Table) (ss : List Side) → binding_fault (map heading_of tables) q ≡ None → ss ≡ sides (map heading_of tables) q
+    → Rows (header ss q.items) (answer_rows ss q (lines_at tables ss 0) (λ _. lines_at tables ss 1)) ≡ result q tables
+unfolding result
+answered q tables ss passed are =
+    ap (λ (s : List Side). Rows (header s q.items) (answer_rows s q (lines_at tables s 0) (λ _. lines_at tables s 1))) are
+    ∙ ap (λ fault. let s = sides (map heading_of tables) q in outcome fault (header s q.items) (answer_rows s q (lines_at tables s 0) (λ _. lines_at tables s 1))) (sym passed)

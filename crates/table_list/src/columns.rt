@@ -143,16 +143,22 @@ pub(crate) fn is_bad_schema(columns: &[Column], key: &[u8]) -> bool
         || same_kind(kind_at(columns, column_number(columns, key)), Kind::Bool)
 }
 
+fn copy_column(alloc: Global, column: &Column) -> Result<Column, AllocError>
+    ensures { IfOk result (λ copy. copy ≡ column.now) }
+{
+    Ok(Column {
+        name: column.name.copy(alloc)?,
+        kind: column.kind,
+    })
+}
+
 /// The columns, each copied.
 pub fn copy_columns(alloc: Global, columns: &[Column]) -> Result<List<Column>, AllocError>
     ensures { IfOk result (λ copy. copy ≡ columns.now) }
 {
     let mut copy = Vec::with_capacity(alloc, columns.len())?;
     for column in columns {
-        copy.push(Column {
-            name: column.name.copy(alloc)?,
-            kind: column.kind,
-        })?;
+        copy.push(copy_column(alloc, column)?)?;
     }
     Ok(List::from_vec(copy))
 }

@@ -3,7 +3,8 @@ ghost use Rattle.std.specs.Prelude.{◌≡◌, [], map, IfOk, IsTrue, is_some, N
 ghost use Rattle.std.specs.List.{AllByRecursion};
 ghost use Rattle.vo_spec.specs.Conditions.{query_of};
 ghost use Rattle.vo_spec.specs.Tables.{heading_of};
-ghost use Rattle.vo_spec.specs.Results.{sides as sides_of, answer_rows, lines_at};
+ghost use Rattle.vo_spec.specs.declared.queries.Outcome.TheVariants.{Rows};
+ghost use Rattle.vo_spec.specs.Results.{sides as sides_of, header as header_of, answer_rows, lines_at};
 ghost use Rattle.vo_spec.specs.Results.{result as result_of};
 ghost use Rattle.table_list.specs.Sided.{sides_seen};
 ghost use Rattle.table_list.specs.PlainLines.{IsKeyed};
@@ -74,6 +75,22 @@ fn answer_rows<'r, P: PlainLines>(
     }
 }
 
+/// The answer of a query that passes all tests.
+fn answered<P: PlainLines>(
+    alloc: Global,
+    tables: &P,
+    sides: &Sides<'_>,
+    query: &QueryText,
+) -> Result<Outcome, AllocError>
+    requires { sides_seen sides.now ≡ sides_of (map heading_of (P.tables tables.now)) (query_of query.now) }
+    ensures { IfOk result (λ outcome. outcome ≡ Rows (header_of (sides_seen sides.now) query.now.items)
+        (answer_rows (sides_seen sides.now) (query_of query.now) (lines_at (P.tables tables.now) (sides_seen sides.now) 0) (λ _. lines_at (P.tables tables.now) (sides_seen sides.now) 1))) }
+{
+    let header = header(alloc, sides, &query.items)?;
+    let rows = answer_rows(alloc, tables, sides, query)?;
+    Ok(Outcome::Rows { header, rows })
+}
+
 #[tactic(auto, unfolding(vo_spec::specs::Results::result))]
 fn outcome<P: PlainLines>(
     alloc: Global,
@@ -83,10 +100,7 @@ fn outcome<P: PlainLines>(
     ensures { IfOk result (λ outcome. outcome ≡ result_of (query_of query.now) (P.tables tables.now)) }
 {
     match bind(alloc, tables, query) {
-        Ok(sides) => Ok(Outcome::Rows {
-            header: header(alloc, &sides, &query.items)?,
-            rows: answer_rows(alloc, tables, &sides, query)?,
-        }),
+        Ok(sides) => answered(alloc, tables, &sides, query),
         Err(BindFault::Wrong(fault)) => Ok(Outcome::Wrong(fault)),
         Err(BindFault::Memory) => Err(AllocError),
     }

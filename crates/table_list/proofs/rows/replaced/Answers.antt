@@ -1,4 +1,4 @@
-use Rattle.std.proofs.Common.{List, take, drop, length, sym, ap, subst, ◌++◌, ◌∙◌, ◌≡◌}
+use Rattle.std.proofs.Common.{List, take, drop, subst, ◌++◌, ◌≡◌}
 use Rattle.vo_spec.specs.declared.values.Row.{Row}
 use Rattle.table_list.specs.Chunks.{rows_in, chunks_in, joined}
 use Rattle.table_list.proofs.ChunkLaws.{replaced_rows}

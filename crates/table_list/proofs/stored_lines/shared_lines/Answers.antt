@@ -1,11 +1,10 @@
-use Rattle.std.proofs.Common.{◌≡◌, ◌+◌, ◌++◌, ◌<◌, true, List, length, map, take, sym, ap, subst, ◌∙◌, arith}
+use Rattle.std.proofs.Common.{◌≡◌, ◌++◌, ◌<◌, true, List, length, map, take, sym, ap, subst, ◌∙◌, arith}
 use Rattle.std.proofs.lemmas.List.{length-map, map-append}
 use Rattle.vo_spec.specs.declared.values.Row.{Row}
 use Rattle.vo_spec.specs.Checks.{key_kind}
 use Rattle.vo_spec.specs.Results.{line_of}
 use Rattle.table_list.specs.Chunks.{rows_in, chunks_in, joined, chunk_at}
 use Rattle.table_list.specs.KeyWidths.{have_width}
-use Rattle.table_list.specs.PlainLines.{row_line}
 use Rattle.table_list.proofs.ChunkLaws.{shared_chunk, joined_next}
 use Rattle.table_list.proofs.WidthLaws.{chunk_wide}
 use Rattle.table_list.proofs.stored_lines.shared_lines.Goals as goal
