@@ -13,16 +13,17 @@ use std::alloc::{AllocError, Global};
 use stored_tables::{BatchFault, StoredTables};
 use vo_spec::{Batch, Entry};
 
-/// The tables behind an entry of no matter which batch, if its record is that of these tables as version 0.
-pub(crate) fn recorded_first(
+/// The tables behind an entry of no matter which batch, if its record is that of these tables as this version.
+pub(crate) fn recorded(
     alloc: Global,
     key: &PublicKey,
+    version: u64,
     tables: StoredTables,
     entry: &Entry,
 ) -> Result<Option<StoredTables>, AllocError>
-    ensures { IfOk result (λ after. GoesOn (IsRecorded key.now 0 tables entry.now) tables after) }
+    ensures { IfOk result (λ after. GoesOn (IsRecorded key.now version tables entry.now) tables after) }
 {
-    if is_recorded(alloc, key, 0, &tables, entry)? {
+    if is_recorded(alloc, key, version, &tables, entry)? {
         Ok(Some(tables))
     } else {
         Ok(None)
@@ -41,13 +42,7 @@ pub(crate) fn taken_on(
     ensures { IfOk result (λ after. GoesOn (IsTakenOn key.now version tables entry.now) (after_work tables entry.now.batch.commands) after) }
 {
     match after_batch(alloc, tables, &entry.batch)? {
-        Some(after) => {
-            if is_recorded(alloc, key, version, &after, entry)? {
-                Ok(Some(after))
-            } else {
-                Ok(None)
-            }
-        }
+        Some(after) => recorded(alloc, key, version, after, entry),
         None => Ok(None),
     }
 }
@@ -81,13 +76,7 @@ pub(crate) fn honest_on(
     ensures { IfOk result (λ after. GoesOn (IsHonestOn key.now version tables entry.now) (after_work tables entry.now.batch.commands) after) }
 {
     match proved_on(alloc, tables, entry)? {
-        Some(after) => {
-            if is_recorded(alloc, key, version, &after, entry)? {
-                Ok(Some(after))
-            } else {
-                Ok(None)
-            }
-        }
+        Some(after) => recorded(alloc, key, version, after, entry),
         None => Ok(None),
     }
 }

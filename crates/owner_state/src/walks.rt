@@ -6,7 +6,7 @@ ghost use Rattle.vo_spec.specs.Honest.{honest_trees};
 ghost use Rattle.vo_spec.specs.Owners.{AreOwned, AreTaken};
 ghost use Rattle.owner_state.specs.Walking.{GoesOn, StopsAt};
 
-use crate::entry_checks::{honest_first, honest_on, recorded_first, taken_on};
+use crate::entry_checks::{honest_first, honest_on, recorded, taken_on};
 use crate::journals::JournalFault;
 use lms_sign::PublicKey;
 use std::alloc::{AllocError, Global};
@@ -52,7 +52,7 @@ fn taken_behind(
     ensures { IfOk result (λ after. GoesOn (AreTaken key.now (earlier.now ++ entry.now ∷ [])) (honest_trees (batches_of (drop 1 (earlier.now ++ entry.now ∷ [])))) after) }
 {
     if earlier.is_empty() {
-        recorded_first(alloc, key, tables, entry)
+        recorded(alloc, key, 0, tables, entry)
     } else {
         taken_on(alloc, key, earlier.len() as u64, tables, entry)
     }

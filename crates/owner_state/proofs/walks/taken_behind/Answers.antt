@@ -6,8 +6,8 @@ use Rattle.owner_state.proofs.walks.taken_behind.Goals as goal
 
 pub returns-then-is_empty : goal.returns-then-is_empty
 returns-then-is_empty c =
-    IfOk-weaker c.recorded_first.result _ _
-    (λ found g. taken_at_first c.args.key.now c.args.earlier.now c.args.tables c.args.entry.now found (eqb-true (length c.args.earlier.now) 0 (sym c.if-is_empty.ensures)) c.requires.tables g) c.recorded_first.ensures
+    IfOk-weaker c.recorded.result _ _
+    (λ found g. taken_at_first c.args.key.now c.args.earlier.now c.args.tables c.args.entry.now found (eqb-true (length c.args.earlier.now) 0 (sym c.if-is_empty.ensures)) c.requires.tables g) c.recorded.ensures
 
 pub returns-else-is_empty : goal.returns-else-is_empty
 returns-else-is_empty c =
