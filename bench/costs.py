@@ -96,14 +96,37 @@ def journal_entries(journal):
     return entries
 
 
-def instructions(words, given=b"", tunables=""):
-    """All instructions of a run, with this for its input and these settings of glibc."""
+def profile(words, given=b""):
+    """What callgrind writes of a run, with this for its input."""
     with tempfile.NamedTemporaryFile() as counts:
         subprocess.run(["valgrind", "--tool=callgrind", f"--callgrind-out-file={counts.name}", *words],
-                       input=given, env={**os.environ, "GLIBC_TUNABLES": tunables},
-                       stdout=subprocess.DEVNULL, stderr=subprocess.DEVNULL, check=True)
-        text = open(counts.name, encoding="utf-8", errors="replace").read()
-    return int(re.search(r"^(?:summary|totals): (\d+)", text, re.M).group(1))
+                       input=given, stdout=subprocess.DEVNULL, stderr=subprocess.DEVNULL, check=True)
+        return open(counts.name, encoding="utf-8", errors="replace").read()
+
+
+def all_of(profile):
+    """All instructions that callgrind counted."""
+    return int(re.search(r"^(?:summary|totals): (\d+)", profile, re.M).group(1))
+
+
+def own_of(profile, program):
+    """Those of them that are the program's own, and not the C library's."""
+    total, paths, own, is_call = 0, {}, False, False
+    for line in profile.splitlines():
+        if named := re.match(r"(c?)ob=(\(\d+\))(?: (.+))?", line):
+            called, number, path = named.groups()
+            paths.setdefault(number, path)
+            own = own if called else paths[number] == os.path.realpath(program)
+        elif cost := re.match(r"[-+*\d]\d* (\d+)$", line):
+            total += int(cost[1]) if own and not is_call else 0
+        # the line behind it has what the called function took
+        is_call = line.startswith("calls=")
+    return total
+
+
+def instructions(words, given=b""):
+    """All instructions of a run, with this for its input."""
+    return all_of(profile(words, given))
 
 
 def signing_blocks(entries, height):

@@ -15,9 +15,15 @@ def run(*words, out=os.devnull):
         subprocess.run([PROGRAM, *words], stdout=sink, check=True)
 
 
-def instructions(*words, tunables=""):
-    """All instructions of a run, with these settings of glibc."""
-    return costs.instructions([PROGRAM, *words], tunables=tunables)
+def instructions(*words):
+    """All instructions of a run."""
+    return costs.instructions([PROGRAM, *words])
+
+
+def all_and_own(*words):
+    """All instructions of a run, and those that are the program's own."""
+    profile = costs.profile([PROGRAM, *words])
+    return costs.all_of(profile), costs.own_of(profile, PROGRAM)
 
 
 def block_instructions():
