@@ -48,6 +48,7 @@ fn open_branch<'b>(
     }
 }
 
+/// The node's children. Most nodes far from the root have one visitor alone, which needs no lists.
 #[cycle(prune)]
 fn prune_children<'b>(
     alloc: Global,

@@ -1,5 +1,5 @@
 //! The needs as they come to a node of a tree.
-ghost use Rattle.std.specs.Prelude.{◌≡◌, [], ◌∷◌, map, not, IfOk, IfSome, OnOk};
+ghost use Rattle.std.specs.Prelude.{◌≡◌, ◌≢◌, [], ◌∷◌, length, map, not, IfOk, IfSome, IsNone, OnOk};
 ghost use Rattle.std.specs.Option.{option_copied};
 ghost use Rattle.vo_spec.specs.Pruned.{going_in as first_going, going_on as next_going, is_any, named as named_by};
 ghost use Rattle.range_proof.specs.Lending.{lent_need};
@@ -49,6 +49,7 @@ impl<'n, 'k> Visitors<'n, 'k> {
     }
 
     /// Puts into the empty list those of them whose scans go on to the child between these separators.
+    // Inlined as what it calls is.
     #[inline(always)]
     pub fn put_going_on(
         &self,
@@ -108,7 +109,8 @@ impl<'n, 'k> Visitors<'n, 'k> {
 
     /// The only one, where there is one alone.
     pub fn only(&self) -> Option<&'n Need>
-        ensures { IfSome result (λ need. need.now ∷ [] ≡ self.now.going) }
+        ensures some { IfSome result (λ need. need.now ∷ [] ≡ self.now.going) }
+        ensures none { IsNone result → length self.now.going ≢ 1 }
     {
         if self.going.len() == 1 {
             Some(self.going[0])
