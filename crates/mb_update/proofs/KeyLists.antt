@@ -5,7 +5,7 @@ use Rattle.std.specs.declared.rc.Rc.{Rc}
 use Rattle.std.specs.declared.alloc.Global.{Global}
 use Rattle.vo_spec.specs.Fits.{FitsKey}
 use Rattle.mb_tree.specs.Whole.{value_of}
-use Rattle.mb_update.specs.declared.halving.Halves.{Halves}
+use Rattle.mb_update.specs.declared.cutting.Halves.{Halves}
 use Rattle.mb_update.specs.Placing.{AreCut}
 
 abbrev pub Keys : Type 0

@@ -23,7 +23,7 @@ use Rattle.mb_tree.specs.Whole.{value_of, whole_of}
 use Rattle.mb_update.specs.Changing.{ChangesTo, Grows}
 use Rattle.mb_update.specs.Placing.{placed, children_of, AreCut}
 use Rattle.mb_update.specs.Settling.{divided}
-use Rattle.mb_update.specs.declared.halving.Halves.{Halves}
+use Rattle.mb_update.specs.declared.cutting.Halves.{Halves}
 use Rattle.mb_update.proofs.KeyLists.{Keys, HalvedKeys}
 
 above : (n : ℕ) → 16 < n → nat_le n 16 ≡ false

@@ -4,7 +4,7 @@ use Rattle.vo_spec.specs.declared.cells.PartEntry.{PartEntry}
 use Rattle.vo_spec.specs.Parts.{inner}
 use Rattle.vo_spec.specs.Trees.{RowTree, open_parts}
 use Rattle.vo_spec.specs.Inserts.{Grown, one, two, Children}
-use Rattle.mb_update.specs.declared.halving.Halves.{Halves}
+use Rattle.mb_update.specs.declared.cutting.Halves.{Halves}
 
 abbrev pub children_of : List (List ℕ) → List RowTree → Children PartEntry (Unit {0})
 children_of ss ts = record { separators = ss; parts = open_parts ts }

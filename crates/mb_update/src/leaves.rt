@@ -10,6 +10,7 @@ ghost use Rattle.mb_update.specs.Changing.{Grows, IsGrown};
 ghost use Rattle.mb_update.specs.Settling.{divided};
 
 use crate::grown::Grown;
+use crate::limits::{FEWEST, MOST};
 use crate::places::{has_key, place_for};
 use crate::splicing::with_one;
 use mb_tree::{Branch, TreeEntry};
@@ -50,10 +51,10 @@ fn split_leaf(alloc: Global, entries: Vec<TreeEntry>) -> Result<Grown<Branch, Rc
     requires { length entries.items ≤ most_in_node + 1 }
     ensures { IfOk result (λ grown. IsGrown grown (split row_family (map whole_entry entries.items))) }
 {
-    if entries.len() <= 16 {
+    if entries.len() <= MOST {
         return Ok(Grown::One(Branch::leaf(alloc, entries)?));
     }
-    cut_leaf(alloc, entries, 8)
+    cut_leaf(alloc, entries, FEWEST)
 }
 
 /// Two leaves of these entries, the left one with so many of them.

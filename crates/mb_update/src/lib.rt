@@ -4,12 +4,13 @@
 mod agreeing;
 mod contents;
 mod copying;
+mod cutting;
 mod growing;
 mod grown;
-mod halving;
 mod inserting;
 mod joining;
 mod leaves;
+mod limits;
 mod neighbours;
 mod nodes;
 mod ops;

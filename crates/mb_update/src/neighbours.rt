@@ -12,6 +12,7 @@ ghost use Rattle.mb_update.specs.Settling.{evened, CanDivide};
 use crate::contents::{close, share_node, size};
 use crate::grown::Grown;
 use crate::joining::{divide, join};
+use crate::limits::FEWEST;
 use mb_tree::{Branch, Node};
 use std::alloc::{AllocError, Global};
 use std::rc::Rc;
@@ -72,7 +73,7 @@ fn even(
     requires last { size_of (whole_of all) ≤ at + most_in_node }
     ensures { IfOk result (λ grown. IsGrown grown (evened neighbour at (whole_of all))) }
 {
-    if neighbour <= 8 {
+    if neighbour <= FEWEST {
         return Ok(Grown::One(close(alloc, all)?));
     }
     divide(alloc, all, at)

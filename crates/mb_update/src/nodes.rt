@@ -11,8 +11,9 @@ ghost use Rattle.mb_update.specs.Changing.{IsGrown, FitsGrown, grown_of};
 ghost use Rattle.mb_update.specs.Placing.{placed, children_of};
 ghost use Rattle.mb_update.specs.Settling.{divided};
 
+use crate::cutting::cut;
 use crate::grown::{Grown, into_lists};
-use crate::halving::cut;
+use crate::limits::{FEWEST, MOST};
 use crate::sharing::spliced_keys;
 use crate::splicing::spliced;
 use mb_tree::Branch;
@@ -54,10 +55,10 @@ fn split_inner(
     requires keys { All FitsKey (map value_of separators.items) }
     ensures { IfOk result (λ grown. IsGrown grown (split row_family (children_of (map value_of separators.items) children.items))) }
 {
-    if children.len() <= 16 {
+    if children.len() <= MOST {
         return Ok(Grown::One(Branch::inner(alloc, separators, children)?));
     }
-    cut_inner(alloc, separators, children, 8)
+    cut_inner(alloc, separators, children, FEWEST)
 }
 
 /// Two inner nodes of these children, the left one with so many of them.

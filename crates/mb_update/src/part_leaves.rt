@@ -11,6 +11,7 @@ ghost use Rattle.mb_update.specs.Changing.{ChangesTo, grown_part};
 
 use crate::copying::{keyed, shown_cell};
 use crate::grown::Grown;
+use crate::limits::{FEWEST, MOST};
 use crate::places::{has_key, place_for};
 use crate::splicing::{Again, with_one};
 use mb_tree::PartTree;
@@ -79,10 +80,10 @@ fn split_leaf<'b>(
 ) -> Result<Grown<PartTree<'b>, KeyPart<'b>>, AllocError>
     ensures { IfOk result (λ grown. split row_family entries.entry.items ≡ grown_part grown) }
 {
-    if entries.len() <= 16 {
+    if entries.len() <= MOST {
         return Ok(Grown::One(leaf_of(entries)));
     }
-    cut_leaf(alloc, entries, 8)
+    cut_leaf(alloc, entries, FEWEST)
 }
 
 /// Two leaves of these entries, the left one with so many of them.

@@ -9,6 +9,7 @@ ghost use Rattle.mb_update.specs.Changing.{ChangesTo, grown_part};
 ghost use Rattle.mb_update.specs.Shrunken.{shrunk_of};
 
 use crate::grown::Grown;
+use crate::limits::FEWEST;
 use crate::part_leaves::{cut_leaf, leaf_of};
 use crate::part_moving::{after_copied, before_copied};
 use crate::part_nodes::{cut_inner, inner_of};
@@ -64,7 +65,7 @@ fn leaf_with_left<'b>(
 {
     let neighbour = left.len();
     let all = after_copied(alloc, left, right)?;
-    if neighbour <= 8 {
+    if neighbour <= FEWEST {
         return Ok(Grown::One(leaf_of(all)));
     }
     cut_leaf(alloc, all, neighbour - 1)
@@ -84,7 +85,7 @@ fn inner_with_left<'b>(
 {
     let keys = keys_after(alloc, separators, key, keys)?;
     let trees = after_copied(alloc, children, trees)?;
-    if children.len() <= 8 {
+    if children.len() <= FEWEST {
         return Ok(Grown::One(inner_of(keys, trees)));
     }
     cut_inner(keys, trees, separators.len(), children.len() - 1)
@@ -162,7 +163,7 @@ fn leaf_with_right<'b>(
 {
     let place = left.len() + 1;
     let all = before_copied(alloc, left, right)?;
-    if right.len() <= 8 {
+    if right.len() <= FEWEST {
         return Ok(Grown::One(leaf_of(all)));
     }
     cut_leaf(alloc, all, place)
@@ -185,7 +186,7 @@ fn inner_with_right<'b>(
     let keys = with_key(alloc, keys, key)?;
     let keys = before_copied(alloc, keys, separators)?;
     let trees = before_copied(alloc, trees, children)?;
-    if children.len() <= 8 {
+    if children.len() <= FEWEST {
         return Ok(Grown::One(inner_of(keys, trees)));
     }
     cut_inner(keys, trees, place, at)

@@ -8,8 +8,9 @@ ghost use Rattle.mb_tree.specs.View.{part_of, parts_of};
 ghost use Rattle.mb_update.specs.Changing.{grown_part};
 ghost use Rattle.mb_update.specs.Placing.{placed, children_of};
 
+use crate::cutting::{Halves, cut};
 use crate::grown::{Grown, into_lists};
-use crate::halving::{Halves, cut};
+use crate::limits::{FEWEST, MOST};
 use crate::splicing::spliced;
 use mb_tree::{Nodes, PartTree};
 use std::alloc::{AllocError, Global};
@@ -41,10 +42,10 @@ fn split_inner<'b>(
     requires { length separators.items + 1 ≡ length children.items }
     ensures { IfOk result (λ grown. split row_family (children_of separators.entry.items (map part_of children.entry.items)) ≡ grown_part grown) }
 {
-    if children.len() <= 16 {
+    if children.len() <= MOST {
         return Ok(Grown::One(inner_of(separators, children)));
     }
-    cut_inner(separators, children, 8, 8)
+    cut_inner(separators, children, FEWEST, FEWEST)
 }
 
 /// Two nodes of these, the left one with so many of the children, and with all but the last of so many

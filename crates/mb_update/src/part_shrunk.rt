@@ -5,6 +5,7 @@ ghost use Rattle.vo_spec.specs.Removes.{is_small};
 ghost use Rattle.mb_tree.specs.View.{part_of};
 ghost use Rattle.mb_update.specs.Shrunken.{shrunk_of};
 
+use crate::limits::FEWEST;
 use crate::part_nodes::inner_of;
 use mb_tree::PartTree;
 use vo_spec::{KeyPart, List, PartEntry};
@@ -26,8 +27,8 @@ impl<'b> Shrunk<'b> {
         ensures { result ≡ is_small (shrunk_of self.now) }
     {
         match self {
-            Shrunk::Leaf(entries) => entries.len() < 8,
-            Shrunk::Inner { children, .. } => children.len() < 8,
+            Shrunk::Leaf(entries) => entries.len() < FEWEST,
+            Shrunk::Inner { children, .. } => children.len() < FEWEST,
         }
     }
 

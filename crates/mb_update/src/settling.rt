@@ -11,6 +11,7 @@ ghost use Rattle.mb_update.specs.Settling.{paired, settled};
 
 use crate::contents::{close, size};
 use crate::grown::{Grown, into_lists};
+use crate::limits::FEWEST;
 use crate::neighbours::{with_left, with_right};
 use crate::sharing::{shared_keys, spliced_keys};
 use crate::splicing::{spliced, with_one};
@@ -37,7 +38,7 @@ pub fn settle(
     ensures value { ChangesTo whole_of result (result_map node_of (settled place (map value_of separators.now) children.now (whole_of child))) }
     ensures loose { IfOk result (λ node. IsWithin 1 (whole_of node)) }
 {
-    if size(&child) >= 8 {
+    if size(&child) >= FEWEST {
         let branch = close(alloc, child)?;
         return Ok(with_child(alloc, separators, children, place, branch)?);
     }

@@ -4,14 +4,14 @@ use Rattle.vo_spec.specs.Inserts.{one}
 use Rattle.mb_update.proofs.PartNeighbours.{part_right_one, part_right_two}
 use Rattle.mb_update.proofs.part_neighbours.inner_with_right.Goals as goal
 
-pub returns-then-children-le8 : goal.returns-then-children-le8
-returns-then-children-le8 c =
+pub returns-then-children-le-FEWEST : goal.returns-then-children-le-FEWEST
+returns-then-children-le-FEWEST c =
     let keys = c.in_ok-keys-2.ensures ∙ ap (λ l. l ++ c.args.separators.now) c.in_ok-keys.ensures ∙ append_assoc c.args.keys.items (c.args.key.now ∷ []) c.args.separators.now in
-    part_right_one c.args.keys.items c.args.separators.now _ c.args.key.now c.args.trees.items c.args.children.now _ keys c.in_ok-trees.ensures c.if-children-le8.true ∙ ap (λ t. Ok (one t)) (sym c.inner_of.ensures)
+    part_right_one c.args.keys.items c.args.separators.now _ c.args.key.now c.args.trees.items c.args.children.now _ keys c.in_ok-trees.ensures c.if-children-le-FEWEST.true ∙ ap (λ t. Ok (one t)) (sym c.inner_of.ensures)
 
 pub cut_inner-requires : goal.cut_inner-requires
 cut_inner-requires c =
-    let many : 8 < length c.args.children.now = c.if-children-le8.false in
+    let many : 8 < length c.args.children.now = c.if-children-le-FEWEST.false in
     let keys = ap length (c.in_ok-keys-2.ensures ∙ ap (λ l. l ++ c.args.separators.now) c.in_ok-keys.ensures ∙ append_assoc c.args.keys.items (c.args.key.now ∷ []) c.args.separators.now) in
     let trees = ap length c.in_ok-trees.ensures in
     record {
@@ -23,5 +23,5 @@ cut_inner-requires c =
 pub returns : goal.returns
 returns c =
     let keys = c.in_ok-keys-2.ensures ∙ ap (λ l. l ++ c.args.separators.now) c.in_ok-keys.ensures ∙ append_assoc c.args.keys.items (c.args.key.now ∷ []) c.args.separators.now in
-    let all = part_right_two c.args.keys.items c.args.separators.now _ c.args.key.now c.args.trees.items c.args.children.now _ keys c.in_ok-trees.ensures (c.len-place.result + 2) (c.len-at.result + 1) (omega arith) (omega arith) c.if-children-le8.false in
+    let all = part_right_two c.args.keys.items c.args.separators.now _ c.args.key.now c.args.trees.items c.args.children.now _ keys c.in_ok-trees.ensures (c.len-place.result + 2) (c.len-at.result + 1) (omega arith) (omega arith) c.if-children-le-FEWEST.false in
     IfOk-weaker c.cut_inner.result _ _ (λ grown h. all ∙ ap Ok (sym h)) c.cut_inner.ensures

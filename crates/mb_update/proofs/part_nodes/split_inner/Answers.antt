@@ -3,8 +3,8 @@ use Rattle.std.proofs.lemmas.Result.{IfOk-weaker}
 use Rattle.mb_update.proofs.PartNodes.{part_whole, part_split}
 use Rattle.mb_update.proofs.part_nodes.split_inner.Goals as goal
 
-pub returns-then-len-le16 : goal.returns-then-len-le16
-returns-then-len-le16 c = part_whole c.args.separators.items c.args.children.items c.inner_of.result (omega arith) c.inner_of.ensures
+pub returns-then-len-le-MOST : goal.returns-then-len-le-MOST
+returns-then-len-le-MOST c = part_whole c.args.separators.items c.args.children.items c.inner_of.result (omega arith) c.inner_of.ensures
 
 pub returns : goal.returns
 returns c =

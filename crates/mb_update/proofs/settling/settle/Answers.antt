@@ -6,8 +6,8 @@ use Rattle.mb_update.specs.Contents.{IsWithin}
 use Rattle.mb_update.proofs.SettledNodes.{placed_within}
 use Rattle.mb_update.proofs.settling.settle.Goals as goal
 
-pub returns-then-size-ge8-clause-loose : goal.returns-then-size-ge8-clause-loose
-returns-then-size-ge8-clause-loose c =
+pub returns-then-size-ge-FEWEST-clause-loose : goal.returns-then-size-ge-FEWEST-clause-loose
+returns-then-size-ge-FEWEST-clause-loose c =
     let ss = map value_of c.args.separators.now in
     let between : length ss + 1 ≡ length c.args.children.now = omega (arith, length-map c.args.separators.now value_of, c.requires.between) in
     let P : RowTree → Type 0 = λ t. IsWithin 1 t in
