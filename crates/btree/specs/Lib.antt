@@ -1,0 +1,5 @@
+pub mod Agreeing
+pub mod Answers
+pub mod Nodes
+pub mod Placing
+pub mod Shapes

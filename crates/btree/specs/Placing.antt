@@ -1,0 +1,59 @@
+-- The separators and children of an inner node after one or two of its children have changed.
+use Rattle.std.specs.Prelude.{ℕ, zero, suc, ◌+◌, ◌-◌, ◌<◌, ◌≤◌, nat_lt, nat_le, if◌then◌else◌, List, [], ◌∷◌, ◌++◌, length, take, drop, slice_index_or, Result, Ok, Err}
+use Rattle.vo_spec.specs.declared.trees.UpdateFault.{UpdateFault}
+use Rattle.vo_spec.specs.declared.trees.UpdateFault.TheVariants.{Missing, NoRow}
+use Rattle.vo_spec.specs.Parts.{Part, Parts, stub, leaf, inner, none, more, Family, count}
+use Rattle.vo_spec.specs.Fits.{most_in_node}
+use Rattle.vo_spec.specs.Inserts.{half, result_map, Grown, one, two, Children, first_key, take_parts, drop_parts, split_leaf, split_inner}
+use Rattle.vo_spec.specs.Removes.{joined_parts, is_small, with_left, with_right}
+use Rattle.btree.specs.Nodes.{Kid, listed, made, kids_of, keys_of}
+
+-- the node that has these
+abbrev pub node_of : {E M : Type 0} → Children E M → Part E M
+node_of c = inner c.separators c.parts
+
+module _ {E M : Type 0} (family : Family E M) where
+  -- with this in the place of the children with the numbers from i to j, and of the separators between them
+  abbrev pub spliced : ℕ → ℕ → List (List ℕ) → List (Kid E M) → Grown E M → Children E M
+  spliced i j ss ks grown = record {
+    separators = take i ss ++ keys_of grown ++ drop j ss;
+    parts = listed (take i ks ++ kids_of family grown ++ drop (j + 1) ks);
+  }
+
+  -- the node as two, the first with so many of its entries or children
+  abbrev pub divided : ℕ → Part E M → Grown E M
+  divided i (stub d) = one (stub d)
+  divided i (leaf es) = two (leaf (take i es)) (first_key family (drop i es)) (leaf (drop i es))
+  divided i (inner ss ps) = two (inner (take (i - 1) ss) (take_parts i ps)) (slice_index_or ss (i - 1) []) (inner (drop i ss) (drop_parts i ps))
+
+  -- a node of too many as two
+  abbrev pub split : Part E M → Grown E M
+  split (stub d) = one (stub d)
+  split (leaf es) = split_leaf family es
+  split (inner ss ps) = split_inner family (record { separators = ss; parts = ps })
+
+  -- two that were merged stay one, but where the sibling has more than it needs
+  abbrev pub evened : ℕ → ℕ → Part E M → Grown E M
+  evened sibling i t = if nat_lt half sibling then divided i t else one t
+
+  -- an underfull node in the place of the child of this number, and its sibling
+  abbrev pub borrowed : ℕ → List (List ℕ) → List (Kid E M) → Part E M → Result (Children E M) UpdateFault
+  borrowed zero ss ks t = result_map (spliced 0 1 ss ks) (with_right family t (slice_index_or ss 0 []) (slice_index_or ks 1 (made family t)).1)
+  borrowed (suc i) ss ks t = result_map (spliced i (i + 1) ss ks) (with_left family (slice_index_or ks i (made family t)).1 (slice_index_or ss i []) t)
+
+  -- a node that may be underfull in the place of the child of this number
+  abbrev pub settled : ℕ → List (List ℕ) → List (Kid E M) → Part E M → Result (Children E M) UpdateFault
+  settled i ss ks t = if is_small t then borrowed i ss ks t else Ok (spliced i i ss ks (one t))
+
+module _ {E M : Type 0} where
+  -- two nodes of one kind as one, with the separator between them
+  abbrev pub merged : Part E M → List ℕ → Part E M → Result (Part E M) UpdateFault
+  merged (leaf es) s (leaf fs) = Ok (leaf (es ++ fs))
+  merged (inner ss ps) s (inner ts qs) = Ok (inner (ss ++ s ∷ ts) (joined_parts ps qs))
+  merged _ s _ = Err Missing
+
+  -- both of the two have enough to be nodes
+  abbrev pub CanDivide : ℕ → Part E M → Type 0
+  CanDivide i (stub d) = ⊥
+  CanDivide i (leaf es) = i < length es
+  CanDivide i (inner ss ps) = (2 ≤ i) × (i + 2 ≤ count ps)

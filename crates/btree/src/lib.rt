@@ -1,0 +1,16 @@
+//! B-trees of any family: insertion, removal with its rebalancing, and replacement, written once over a
+//! trait for a node.
+#![tactic(auto)]
+
+mod keyed;
+mod limits;
+mod lists;
+mod node;
+mod siblings;
+mod try_clone;
+
+pub use keyed::{Keyed, has_key, position_above, position_of};
+pub use limits::{MAX_FILL, MIN_FILL};
+pub use node::{Contents, NodeView, TreeNode};
+pub use siblings::Siblings;
+pub use try_clone::{TryClone, try_clone_all};
