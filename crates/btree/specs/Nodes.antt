@@ -44,6 +44,12 @@ abbrev pub keys_of : {E M : Type 0} → Grown E M → List (List ℕ)
 keys_of (one t) = []
 keys_of (two left key right) = key ∷ []
 
+-- just these, and these separators
+pub record HasNodes {K N : Type 0} (siblings : Siblings K N) (separators : List K) (nodes : List N) : Type 0 where
+  pub keys : siblings.separators.items ≡ separators
+  pub are : siblings.nodes.items ≡ nodes
+
+-- one node, or two with the separator between them, as they are seen
 pub record IsGrown {K N E M : Type 0} (family : Family E M) (key : K → List ℕ) (kid : N → Kid E M) (siblings : Siblings K N) (grown : Grown E M) : Type 0 where
   pub keys : map key siblings.separators.items ≡ keys_of grown
   pub nodes : map kid siblings.nodes.items ≡ kids_of family grown

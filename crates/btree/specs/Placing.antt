@@ -1,12 +1,12 @@
 -- The separators and children of an inner node after one or two of its children have changed.
-use Rattle.std.specs.Prelude.{ℕ, zero, suc, ◌+◌, ◌-◌, ◌<◌, ◌≤◌, nat_lt, nat_le, if◌then◌else◌, List, [], ◌∷◌, ◌++◌, length, take, drop, slice_index_or, Result, Ok, Err}
+use Rattle.std.specs.Prelude.{◌≡◌, ℕ, zero, suc, ◌+◌, ◌-◌, ◌<◌, ◌≤◌, nat_lt, if◌then◌else◌, List, [], ◌∷◌, ◌++◌, length, take, drop, slice_index_or, Result, Ok, Err}
 use Rattle.vo_spec.specs.declared.trees.UpdateFault.{UpdateFault}
-use Rattle.vo_spec.specs.declared.trees.UpdateFault.TheVariants.{Missing, NoRow}
-use Rattle.vo_spec.specs.Parts.{Part, Parts, stub, leaf, inner, none, more, Family, count}
-use Rattle.vo_spec.specs.Fits.{most_in_node}
+use Rattle.vo_spec.specs.declared.trees.UpdateFault.TheVariants.{Missing}
+use Rattle.vo_spec.specs.Parts.{Part, stub, leaf, inner, Family, count}
 use Rattle.vo_spec.specs.Inserts.{half, result_map, Grown, one, two, Children, first_key, take_parts, drop_parts, split_leaf, split_inner}
 use Rattle.vo_spec.specs.Removes.{joined_parts, is_small, with_left, with_right}
 use Rattle.btree.specs.Nodes.{Kid, listed, made, kids_of, keys_of}
+use Rattle.btree.specs.declared.split.Halves.{Halves}
 
 -- the node that has these
 abbrev pub node_of : {E M : Type 0} → Children E M → Part E M
@@ -57,3 +57,10 @@ module _ {E M : Type 0} where
   CanDivide i (stub d) = ⊥
   CanDivide i (leaf es) = i < length es
   CanDivide i (inner ss ps) = (2 ≤ i) × (i + 2 ≤ count ps)
+
+-- those of these separators and children, cut after so many; the last of the first separators goes between
+pub record AreCut {K N : Type 0} (at : ℕ) (halves : Halves K N) (ss : List K) (ns : List N) : Type 0 where
+  pub first_keys : take at ss ≡ halves.before.items ++ halves.separator ∷ []
+  pub first : halves.left.items ≡ take at ns
+  pub last_keys : halves.after.items ≡ drop at ss
+  pub last : halves.right.items ≡ drop at ns

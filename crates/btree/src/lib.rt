@@ -2,13 +2,17 @@
 //! trait for a node.
 #![tactic(auto)]
 
+mod contents;
+mod insertion;
 mod keyed;
 mod limits;
 mod lists;
 mod node;
 mod siblings;
+mod split;
 mod try_clone;
 
+pub use insertion::insert;
 pub use keyed::{Keyed, has_key, position_above, position_of};
 pub use limits::{MAX_FILL, MIN_FILL};
 pub use node::{Contents, NodeView, TreeNode};

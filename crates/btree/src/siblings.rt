@@ -1,5 +1,6 @@
 //! What comes in a node's place: one node, or two with a separator between them.
-ghost use Rattle.std.specs.Prelude.{◌≡◌, ◌∷◌, [], IfOk};
+ghost use Rattle.std.specs.Prelude.{◌∷◌, [], IfOk};
+ghost use Rattle.btree.specs.Nodes.{HasNodes};
 
 use crate::lists::{list_of_one, list_of_two};
 use std::alloc::{AllocError, Global};
@@ -13,8 +14,7 @@ pub struct Siblings<K, N> {
 
 impl<K: Drop, N: Drop> Siblings<K, N> {
     pub fn one(alloc: Global, node: N) -> Result<Siblings<K, N>, AllocError>
-        ensures separators { IfOk result (λ siblings. siblings.separators.items ≡ []) }
-        ensures nodes { IfOk result (λ siblings. siblings.nodes.items ≡ node ∷ []) }
+        ensures { IfOk result (λ siblings. HasNodes siblings [] (node ∷ [])) }
     {
         Ok(Siblings {
             separators: Vec::new(alloc),
@@ -23,8 +23,7 @@ impl<K: Drop, N: Drop> Siblings<K, N> {
     }
 
     pub fn two(alloc: Global, left: N, separator: K, right: N) -> Result<Siblings<K, N>, AllocError>
-        ensures separators { IfOk result (λ siblings. siblings.separators.items ≡ separator ∷ []) }
-        ensures nodes { IfOk result (λ siblings. siblings.nodes.items ≡ left ∷ right ∷ []) }
+        ensures { IfOk result (λ siblings. HasNodes siblings (separator ∷ []) (left ∷ right ∷ [])) }
     {
         let nodes = list_of_two(alloc, left, right)?;
         let separators = list_of_one(alloc, separator)?;

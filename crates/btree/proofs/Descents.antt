@@ -1,0 +1,72 @@
+-- A search by the number of the child to which it goes.
+use Rattle.std.proofs.Common.{◌≡◌, ℕ, suc, ◌+◌, Bool, true, false, cond, not, List, [], ◌∷◌, length, map, get_or, Result, Ok, Err, refl, sym, ap, ◌∙◌, arith, add-one}
+use Rattle.std.specs.List.{position_or_len}
+use Rattle.vo_spec.specs.declared.trees.UpdateFault.{UpdateFault}
+use Rattle.vo_spec.specs.Values.{key_lt}
+use Rattle.vo_spec.specs.Parts.{inner, Family}
+use Rattle.vo_spec.specs.Inserts.{Grown, one, two, result_map, after_child, put_grown, split_inner, grow, grow_in}
+use Rattle.btree.specs.Nodes.{Kid, listed}
+use Rattle.btree.specs.Placing.{spliced, split, node_of}
+
+pub place_keys : {K : Type 0} (key_of : K → List ℕ) (key : List ℕ) (ks : List K) → position_or_len (λ k. key_lt key (key_of k)) ks ≡ position_or_len (key_lt key) (map key_of ks)
+place_keys key_of key [] = refl
+place_keys key_of key (k ∷ ks) = ap (λ n. cond (not (key_lt key (key_of k))) (1 + n) 0) (place_keys key_of key ks)
+
+pub map_map : {A B C : Type 0} (f : A → B) (g : B → C) (h : A → C) (r : Result A UpdateFault) → ((a : A) → g (f a) ≡ h a) → result_map g (result_map f r) ≡ result_map h r
+map_map f g h (Ok a) e = ap Ok (e a)
+map_map f g h (Err fault) e = refl
+
+pub map_same : {A B : Type 0} (f g : A → B) (r : Result A UpdateFault) → ((a : A) → f a ≡ g a) → result_map f r ≡ result_map g r
+map_same f g (Ok a) e = ap Ok (e a)
+map_same f g (Err fault) e = refl
+
+module _ {E M : Type 0} (family : Family E M) where
+  put_first : (ss : List (List ℕ)) (k : Kid E M) (ks : List (Kid E M)) (g : Grown E M) → put_grown family ss (listed ks) g ≡ spliced family 0 0 ss (k ∷ ks) g
+  put_first ss k ks (one t) = refl
+  put_first ss k ks (two left key right) = refl
+
+  pub spliced_next : (i j : ℕ) (s : List ℕ) (ss : List (List ℕ)) (k : Kid E M) (ks : List (Kid E M)) (g : Grown E M)
+      → after_child k.0 k.1 (s ∷ ss) (spliced family i j ss ks g) ≡ spliced family (suc i) (suc j) (s ∷ ss) (k ∷ ks) g
+  spliced_next i j s ss k ks g = rw (add-one j, add-one (suc j)) refl
+
+  -- the first separator is above the key, or not
+  grow_step : (b : Bool) (i j : ℕ) (e : E) (s : List ℕ) (ss : List (List ℕ)) (k : Kid E M) (ks : List (Kid E M)) (c : Kid E M)
+      → j ≡ suc i → c ≡ get_or (k ∷ ks) (cond (not b) j 0) c
+      → (c ≡ get_or ks i c → grow_in family e ss (listed ks) ≡ result_map (spliced family i i ss ks) (grow family e c.1))
+      → cond b (result_map (put_grown family (s ∷ ss) (listed ks)) (grow family e k.1)) (result_map (after_child k.0 k.1 (s ∷ ss)) (grow_in family e ss (listed ks)))
+      ≡ result_map (spliced family (cond (not b) j 0) (cond (not b) j 0) (s ∷ ss) (k ∷ ks)) (grow family e c.1)
+  grow_step true i j e s ss k ks c next is on =
+      map_same (put_grown family (s ∷ ss) (listed ks)) (spliced family 0 0 (s ∷ ss) (k ∷ ks)) (grow family e k.1) (put_first (s ∷ ss) k ks)
+      ∙ ap (λ (u : Kid E M). result_map (spliced family 0 0 (s ∷ ss) (k ∷ ks)) (grow family e u.1)) (sym is)
+  grow_step false i j e s ss k ks c next is on =
+      ap (result_map (after_child k.0 k.1 (s ∷ ss))) (on (is ∙ ap (λ n. get_or (k ∷ ks) n c) next))
+      ∙ map_map (spliced family i i ss ks) (after_child k.0 k.1 (s ∷ ss)) (spliced family (suc i) (suc i) (s ∷ ss) (k ∷ ks)) (grow family e c.1) (spliced_next i i s ss k ks)
+      ∙ ap (λ n. result_map (spliced family n n (s ∷ ss) (k ∷ ks)) (grow family e c.1)) (sym next)
+
+  grow_at : (e : E) (ss : List (List ℕ)) (ks : List (Kid E M)) (c : Kid E M) → length ss + 1 ≡ length ks
+      → c ≡ get_or ks (position_or_len (key_lt (family.key e)) ss) c
+      → grow_in family e ss (listed ks) ≡ result_map (spliced family (position_or_len (key_lt (family.key e)) ss) (position_or_len (key_lt (family.key e)) ss) ss ks) (grow family e c.1)
+  grow_at e [] [] c h is = absurd (omega arith)
+  grow_at e [] (k ∷ ks) c h is =
+      map_same (put_grown family [] (listed ks)) (spliced family 0 0 [] (k ∷ ks)) (grow family e k.1) (put_first [] k ks)
+      ∙ ap (λ (u : Kid E M). result_map (spliced family 0 0 [] (k ∷ ks)) (grow family e u.1)) (sym is)
+  grow_at e (s ∷ ss) [] c h is = absurd (omega arith)
+  grow_at e (s ∷ ss) (k ∷ ks) c h is =
+      let i = position_or_len (key_lt (family.key e)) ss in
+      grow_step (key_lt (family.key e) s) i (1 + i) e s ss k ks c (omega arith) is (λ here. grow_at e ss ks c (omega arith) here)
+
+  -- The child of the number to which the search for the entry's key goes.
+  module _ (e : E) (ss : List (List ℕ)) (ks : List (Kid E M)) (place : ℕ) (between : length ss + 1 ≡ length ks) (at : place ≡ position_or_len (key_lt (family.key e)) ss) where
+    pub child_grows : (c : Kid E M) → c ≡ get_or ks place c
+        → grow family e (inner ss (listed ks)) ≡ result_map (split_inner family) (result_map (spliced family place place ss ks) (grow family e c.1))
+    child_grows c is =
+        ap (result_map (split_inner family))
+        (grow_at e ss ks c between (is ∙ ap (λ n. get_or ks n c) at)
+        ∙ ap (λ n. result_map (spliced family n n ss ks) (grow family e c.1)) (sym at))
+
+    pub inner_grows : (c : Kid E M) (g : Grown E M) → c ≡ get_or ks place c → grow family e c.1 ≡ Ok g
+        → grow family e (inner ss (listed ks)) ≡ Ok (split family (node_of (spliced family place place ss ks g)))
+    inner_grows c g is grows = child_grows c is ∙ ap (λ r. result_map (split_inner family) (result_map (spliced family place place ss ks) r)) grows
+
+    pub inner_grow_fails : (c : Kid E M) (fault : UpdateFault) → c ≡ get_or ks place c → grow family e c.1 ≡ Err fault → grow family e (inner ss (listed ks)) ≡ Err fault
+    inner_grow_fails c fault is fails = child_grows c is ∙ ap (λ r. result_map (split_inner family) (result_map (spliced family place place ss ks) r)) fails

@@ -1,0 +1,119 @@
+//! Insertion.
+ghost use Rattle.std.specs.Prelude.{◌≡◌, ◌≤◌, ◌+◌, [], ◌∷◌, length, map, IfOk};
+ghost use Rattle.vo_spec.specs.Parts.{leaf, inner};
+ghost use Rattle.vo_spec.specs.Fits.{most_in_node};
+ghost use Rattle.vo_spec.specs.Inserts.{Grown, grow, inserted_by, root_of as root_of_grown};
+ghost use Rattle.btree.specs.Answers.{Answers};
+ghost use Rattle.btree.specs.Nodes.{listed, IsGrown};
+ghost use Rattle.btree.specs.Shapes.{IsShaped, AreShaped};
+
+use crate::contents::put_siblings;
+use crate::keyed::{Keyed, has_key, position_above};
+use crate::lists::with_item;
+use crate::node::{Contents, NodeView, TreeNode};
+use crate::siblings::Siblings;
+use crate::split::split;
+use std::alloc::{AllocError, Global};
+use vo_spec::UpdateFault;
+
+/// The tree with this entry before the first of a greater key.
+pub fn insert<N: TreeNode>(alloc: Global, tree: &N::Tree, entry: N::Entry) -> Result<N, UpdateFault>
+    requires { IsShaped (N.seen tree.now) }
+    ensures { Answers (λ node t. (N.kid node).1 ≡ t) result (inserted_by N.family (N.entry entry) (N.seen tree.now)) }
+{
+    match insert_below::<N>(alloc, tree, entry) {
+        Ok(siblings) => Ok(root_of(alloc, siblings)?),
+        Err(fault) => Err(fault),
+    }
+}
+
+/// What comes in the place of the tree's root.
+#[cycle(insert)]
+fn insert_below<N: TreeNode>(
+    alloc: Global,
+    tree: &N::Tree,
+    entry: N::Entry,
+) -> Result<Siblings<N::Key, N>, UpdateFault>
+    requires { IsShaped (N.seen tree.now) }
+    ensures { Answers (IsGrown N.family N.Key.key N.kid) result (grow N.family (N.entry entry) (N.seen tree.now)) }
+{
+    match N::open(tree) {
+        NodeView::Stub(_) => Err(UpdateFault::Missing),
+        NodeView::Leaf(entries) => insert_in_leaf::<N>(alloc, entries, entry),
+        NodeView::Inner {
+            separators,
+            children,
+        } => insert_in_child(alloc, separators, children, entry),
+    }
+}
+
+fn insert_in_leaf<N: TreeNode>(
+    alloc: Global,
+    entries: &[N::Entry],
+    entry: N::Entry,
+) -> Result<Siblings<N::Key, N>, UpdateFault>
+    requires { length entries.now ≤ most_in_node }
+    ensures { Answers (IsGrown N.family N.Key.key N.kid) result (grow N.family (N.entry entry) (leaf (map N.entry entries.now))) }
+{
+    if has_key(entries, entry.key_bytes()) {
+        return Err(UpdateFault::DuplicateKey);
+    }
+    let place = position_above(entries, entry.key_bytes());
+    let all = with_item(alloc, entries, place, place, entry)?;
+    Ok(split::<N>(alloc, Contents::Leaf(all))?)
+}
+
+#[cycle(insert)]
+fn insert_in_child<N: TreeNode>(
+    alloc: Global,
+    separators: &[N::Key],
+    children: &[N],
+    entry: N::Entry,
+) -> Result<Siblings<N::Key, N>, UpdateFault>
+    requires least { 2 ≤ length children.now }
+    requires most { length children.now ≤ most_in_node }
+    requires between { length separators.now + 1 ≡ length children.now }
+    requires shaped { AreShaped (listed (map N.kid children.now)) }
+    ensures { Answers (IsGrown N.family N.Key.key N.kid) result
+        (grow N.family (N.entry entry) (inner (map N.Key.key separators.now) (listed (map N.kid children.now)))) }
+{
+    let place = position_above(separators, entry.key_bytes());
+    match insert_below::<N>(alloc, children[place].tree(), entry) {
+        Ok(siblings) => {
+            let contents = put_siblings(alloc, separators, children, place, place, siblings)?;
+            Ok(split::<N>(alloc, contents)?)
+        },
+        Err(fault) => Err(fault),
+    }
+}
+
+/// The root that these make: one that was split gets a new root of two children.
+fn root_of<N: TreeNode>(alloc: Global, siblings: Siblings<N::Key, N>) -> Result<N, AllocError>
+    requires some { 1 ≤ length siblings.nodes.items }
+    requires most { length siblings.nodes.items ≤ 2 }
+    requires between { length siblings.separators.items + 1 ≡ length siblings.nodes.items }
+    ensures { IfOk result (λ root. (grown : Grown N.Plain N.Mark) → IsGrown N.family N.Key.key N.kid siblings grown
+        → (N.kid root).1 ≡ root_of_grown N.family grown) }
+{
+    if siblings.nodes.len() == 1 {
+        return Ok(only(siblings.nodes));
+    }
+    N::close(
+        alloc,
+        Contents::Inner {
+            separators: siblings.separators,
+            children: siblings.nodes,
+        },
+    )
+}
+
+fn only<T: Drop>(items: Vec<T>) -> T
+    requires { length items.items ≡ 1 }
+    ensures { items.items ≡ result ∷ [] }
+{
+    let mut items = items;
+    match items.pop() {
+        Some(item) => item,
+        None => unreachable!(),
+    }
+}

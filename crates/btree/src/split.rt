@@ -1,0 +1,143 @@
+//! A node of too many made two.
+ghost use Rattle.std.specs.Prelude.{◌≡◌, ◌≤◌, ◌<◌, ◌+◌, length, map, IfOk};
+ghost use Rattle.vo_spec.specs.Parts.{leaf, inner};
+ghost use Rattle.vo_spec.specs.Fits.{most_in_node};
+ghost use Rattle.btree.specs.Nodes.{contents_of, listed, made, IsGrown};
+ghost use Rattle.btree.specs.Placing.{split as split_of, divided, CanDivide, AreCut};
+ghost use Rattle.btree.specs.Shapes.{size_of, IsLinked};
+
+use crate::contents::fill_of;
+use crate::limits::{MAX_FILL, MIN_FILL};
+use crate::node::{Contents, TreeNode};
+use crate::siblings::Siblings;
+use std::alloc::{AllocError, Global};
+
+/// The node of these contents, or two where there is one too many.
+pub fn split<N: TreeNode>(
+    alloc: Global,
+    contents: Contents<N::Key, N::Entry, N>,
+) -> Result<Siblings<N::Key, N>, AllocError>
+    requires linked { IsLinked 2 (contents_of N.Key.key N.entry N.kid contents) }
+    requires most { size_of (contents_of N.Key.key N.entry N.kid contents) ≤ most_in_node + 1 }
+    ensures { IfOk result (λ siblings. IsGrown N.family N.Key.key N.kid siblings (split_of N.family (contents_of N.Key.key N.entry N.kid contents))) }
+{
+    if fill_of::<N>(&contents) <= MAX_FILL {
+        return Siblings::one(alloc, N::close(alloc, contents)?);
+    }
+    divide::<N>(alloc, contents, MIN_FILL)
+}
+
+/// Two nodes of these contents, the left one with so many entries or children.
+pub fn divide<N: TreeNode>(
+    alloc: Global,
+    contents: Contents<N::Key, N::Entry, N>,
+    at: usize,
+) -> Result<Siblings<N::Key, N>, AllocError>
+    requires linked { IsLinked 2 (contents_of N.Key.key N.entry N.kid contents) }
+    requires two { CanDivide at (contents_of N.Key.key N.entry N.kid contents) }
+    requires first { at ≤ most_in_node }
+    requires last { size_of (contents_of N.Key.key N.entry N.kid contents) ≤ at + most_in_node }
+    ensures { IfOk result (λ siblings. IsGrown N.family N.Key.key N.kid siblings (divided N.family at (contents_of N.Key.key N.entry N.kid contents))) }
+{
+    match contents {
+        Contents::Leaf(entries) => divide_leaf::<N>(alloc, entries, at),
+        Contents::Inner {
+            separators,
+            children,
+        } => divide_inner::<N>(alloc, separators, children, at),
+    }
+}
+
+fn divide_leaf<N: TreeNode>(
+    alloc: Global,
+    entries: Vec<N::Entry>,
+    at: usize,
+) -> Result<Siblings<N::Key, N>, AllocError>
+    requires within { at < length entries.items }
+    requires first { at ≤ most_in_node }
+    requires last { length entries.items ≤ at + most_in_node }
+    ensures { IfOk result (λ siblings. IsGrown N.family N.Key.key N.kid siblings (divided N.family at (leaf (map N.entry entries.items)))) }
+{
+    let mut left = entries;
+    let right = left.split_off(at)?;
+    let separator = N::separator(alloc, &right[0])?;
+    let left = N::close(alloc, Contents::Leaf(left))?;
+    let right = N::close(alloc, Contents::Leaf(right))?;
+    Siblings::two(alloc, left, separator, right)
+}
+
+fn divide_inner<N: TreeNode>(
+    alloc: Global,
+    separators: Vec<N::Key>,
+    children: Vec<N>,
+    at: usize,
+) -> Result<Siblings<N::Key, N>, AllocError>
+    requires least { 2 ≤ at }
+    requires within { at + 2 ≤ length children.items }
+    requires first { at ≤ most_in_node }
+    requires last { length children.items ≤ at + most_in_node }
+    requires between { length separators.items + 1 ≡ length children.items }
+    ensures { IfOk result (λ siblings. IsGrown N.family N.Key.key N.kid siblings
+        (divided N.family at (inner (map N.Key.key separators.items) (listed (map N.kid children.items))))) }
+{
+    let halves = cut(separators, children, at)?;
+    let left = close_inner(alloc, halves.before, halves.left)?;
+    let right = close_inner(alloc, halves.after, halves.right)?;
+    Siblings::two(alloc, left, halves.separator, right)
+}
+
+fn close_inner<N: TreeNode>(
+    alloc: Global,
+    separators: Vec<N::Key>,
+    children: Vec<N>,
+) -> Result<N, AllocError>
+    requires least { 2 ≤ length children.items }
+    requires most { length children.items ≤ most_in_node }
+    requires between { length separators.items + 1 ≡ length children.items }
+    ensures { IfOk result (λ node. N.kid node ≡ made N.family (inner (map N.Key.key separators.items) (listed (map N.kid children.items)))) }
+{
+    N::close(
+        alloc,
+        Contents::Inner {
+            separators,
+            children,
+        },
+    )
+}
+
+/// What goes left, the separator between, and what goes right.
+#[derive(Drop)]
+pub struct Halves<K, N> {
+    pub before: Vec<K>,
+    pub left: Vec<N>,
+    pub separator: K,
+    pub after: Vec<K>,
+    pub right: Vec<N>,
+}
+
+/// So many of the children go left, and as many separators, of which the last goes between.
+fn cut<K: Drop, N: Drop>(
+    separators: Vec<K>,
+    children: Vec<N>,
+    at: usize,
+) -> Result<Halves<K, N>, AllocError>
+    requires some { 0 < at }
+    requires keys { at ≤ length separators.items }
+    requires children { at ≤ length children.items }
+    ensures { IfOk result (λ halves. AreCut at halves separators.items children.items) }
+{
+    let mut left = children;
+    let right = left.split_off(at)?;
+    let mut before = separators;
+    let after = before.split_off(at)?;
+    match before.pop() {
+        Some(separator) => Ok(Halves {
+            before,
+            left,
+            separator,
+            after,
+            right,
+        }),
+        None => unreachable!(),
+    }
+}
