@@ -5,3 +5,7 @@ pub mod Positions
 pub mod Splits
 pub mod Divisions
 pub mod Insertions
+pub mod Merges
+pub mod Removals
+pub mod Rebalances
+pub mod FirstPlaces
