@@ -1,1 +1,4 @@
+pub mod AgreeingResults
+pub mod InsertLimits
+pub mod OkResults
 pub mod Positions
