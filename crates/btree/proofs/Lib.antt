@@ -1,4 +1,6 @@
 pub mod AgreeingResults
 pub mod InsertLimits
 pub mod OkResults
+pub mod RemoveLimits
+pub mod ReplaceLimits
 pub mod Positions
