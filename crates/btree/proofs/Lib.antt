@@ -1,5 +1,6 @@
 pub mod AgreeingResults
 pub mod InsertLimits
+pub mod InsertedEntries
 pub mod OkResults
 pub mod RemoveLimits
 pub mod ReplaceLimits
