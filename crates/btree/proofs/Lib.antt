@@ -1,8 +1,10 @@
 pub mod AgreeingResults
+pub mod FirstEntries
 pub mod InsertLimits
 pub mod InsertedEntries
 pub mod OkResults
 pub mod RemoveLimits
 pub mod RemovedEntries
 pub mod ReplaceLimits
+pub mod ReplacedEntries
 pub mod Positions

@@ -1,5 +1,5 @@
--- Where an `Ok` comes from.
-use Rattle.std.proofs.Common.{◌≡◌, Bool, true, false, cond, Result, Ok, Err, refl}
+-- Results that are made of others, and where an `Ok` among them comes from.
+use Rattle.std.proofs.Common.{◌≡◌, Bool, true, false, cond, Result, Ok, Err, refl, ap}
 use Rattle.vo_spec.specs.declared.trees.UpdateFault.{UpdateFault}
 use Rattle.vo_spec.specs.Firsts.{and_then}
 use Rattle.vo_spec.specs.Inserts.{result_map}
@@ -35,3 +35,9 @@ pub chosen : {A R : Type 0} (b : Bool) (x y : Result A UpdateFault) (a : A)
     → cond b x y ≡ Ok a → (x ≡ Ok a → R) → (y ≡ Ok a → R) → R
 chosen true x y a h f g = f h
 chosen false x y a h f g = g h
+
+-- one value made into another in two steps
+pub map_map : {A B C : Type 0} (f : A → B) (g : B → C) (h : A → C) (r : Result A UpdateFault)
+    → ((a : A) → g (f a) ≡ h a) → result_map g (result_map f r) ≡ result_map h r
+map_map f g h (Ok a) same = ap Ok (same a)
+map_map f g h (Err fault) same = refl
