@@ -1,10 +1,12 @@
 pub mod AgreeingResults
 pub mod FirstEntries
 pub mod InsertLimits
+pub mod InsertPrunes
 pub mod InsertedEntries
 pub mod OkResults
+pub mod Positions
+pub mod PrunedLists
 pub mod RemoveLimits
 pub mod RemovedEntries
 pub mod ReplaceLimits
 pub mod ReplacedEntries
-pub mod Positions

@@ -2,4 +2,5 @@ pub mod Agreeing
 pub mod Answers
 pub mod Nodes
 pub mod Placing
+pub mod Pruning
 pub mod Shapes
