@@ -36,3 +36,15 @@ pub agrees_chosen : {A : Type 0} (R : A → A → Type 0) (b : Bool) (w x y z : 
     → Agrees R w y → Agrees R x z → Agrees R (cond b w x) (cond b y z)
 agrees_chosen R true w x y z h g = h
 agrees_chosen R false w x y z h g = g
+
+pub agrees_weaker : {A : Type 0} (R S : A → A → Type 0) (r s : Result A UpdateFault)
+    → ((x y : A) → R x y → S x y) → Agrees R r s → Agrees S r s
+agrees_weaker R S (Ok x) (Ok y) on h = on x y h
+agrees_weaker R S (Ok x) (Err other) on h = absurd h
+agrees_weaker R S (Err DuplicateKey) (Ok y) on h = absurd h
+agrees_weaker R S (Err DuplicateKey) (Err other) on h = h
+agrees_weaker R S (Err NoRow) (Ok y) on h = absurd h
+agrees_weaker R S (Err NoRow) (Err other) on h = h
+agrees_weaker R S (Err Missing) s on h = tt
+agrees_weaker R S (Err Memory) (Ok y) on h = absurd h
+agrees_weaker R S (Err Memory) (Err other) on h = h

@@ -7,6 +7,8 @@ pub mod OkResults
 pub mod Positions
 pub mod PrunedLists
 pub mod RemoveLimits
+pub mod RemovePrunes
 pub mod RemovedEntries
 pub mod ReplaceLimits
+pub mod ReplacePrunes
 pub mod ReplacedEntries
