@@ -3,6 +3,7 @@
 #![tactic(auto)]
 
 mod keyed;
+mod laws;
 mod limits;
 mod lists;
 mod node;
@@ -10,6 +11,7 @@ mod siblings;
 mod try_clone;
 
 pub use keyed::{Keyed, has_key, position_above, position_of};
+pub use laws::{PruningFamily, insertions_agree, removals_agree, replacements_agree};
 pub use limits::{MAX_FILL, MIN_FILL};
 pub use node::{Contents, NodeView, TreeNode};
 pub use siblings::Siblings;
