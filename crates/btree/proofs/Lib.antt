@@ -1,5 +1,6 @@
 pub mod AgreeingResults
 pub mod FirstEntries
+pub mod FoundEntries
 pub mod InsertLimits
 pub mod InsertPrunes
 pub mod InsertedEntries

@@ -1,5 +1,6 @@
 pub mod Agreeing
 pub mod Answers
+pub mod Finding
 pub mod Nodes
 pub mod Placing
 pub mod Pruning
