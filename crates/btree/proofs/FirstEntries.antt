@@ -3,7 +3,7 @@ use Rattle.std.proofs.Common.{◌≡◌, ℕ, suc, ◌+◌, ◌<◌, ◌≤◌, 
 use Rattle.std.specs.List.{position_or_len}
 use Rattle.vo_spec.specs.declared.trees.UpdateFault.{UpdateFault}
 use Rattle.vo_spec.specs.declared.trees.UpdateFault.TheVariants.{NoRow}
-use Rattle.vo_spec.specs.Parts.{Part, leaf, Family}
+use Rattle.vo_spec.specs.Parts.{leaf, Family}
 use Rattle.vo_spec.specs.Inserts.{result_map, has_key}
 use Rattle.vo_spec.specs.Removes.{without_entry, shrink, edit_entry, edited_by}
 use Rattle.btree.proofs.OkResults.{map_map}

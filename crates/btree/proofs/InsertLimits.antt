@@ -99,7 +99,7 @@ module _ {E M : Type 0} (family : Family E M) (FitsE : E → Type 0) (key_fits :
     where
       step : (b : Bool) → nat_le (count c.parts) 16 ≡ b
           → FitsGrown FitsE (cond b (one (inner c.separators c.parts))
-              (two (inner (take 7 c.separators) (take_parts half c.parts)) (get_or c.separators 7 []) (inner (drop half c.separators) (drop_parts half c.parts))))
+          (two (inner (take 7 c.separators) (take_parts half c.parts)) (get_or c.separators 7 []) (inner (drop half c.separators) (drop_parts half c.parts))))
       step true h = (omega (arith, fits.least), grind (arith, nat_tests), fits.between, fits.keys, fits.parts)
       step false h =
           let many : 16 < count c.parts = grind (arith, nat_tests) in

@@ -30,8 +30,11 @@ module _ {E M : Type 0} (family : Family E M) (EntryPrunes : E → E → Type 0)
     put_grown_prunes ss ps qs rest (two left key right) (one t) z = absurd z
     put_grown_prunes ss ps qs rest (two left key right) (two first other last) z = (
       ap (λ k. k ∷ ss) z.1,
-      (same_mark left first z.0, open_prunes family EntryPrunes left first z.0,
-      (same_mark right last z.2, open_prunes family EntryPrunes right last z.2, rest)),
+      (
+        same_mark left first z.0,
+        open_prunes family EntryPrunes left first z.0,
+        (same_mark right last z.2, open_prunes family EntryPrunes right last z.2, rest),
+      ),
     )
 
     root_prunes : (g h : Grown E M) → GrownPrunes g h → PrunesBy family EntryPrunes (root_of family g) (root_of family h)
@@ -40,8 +43,11 @@ module _ {E M : Type 0} (family : Family E M) (EntryPrunes : E → E → Type 0)
     root_prunes (two left key right) (one t) z = absurd z
     root_prunes (two left key right) (two first other last) z = (
       ap (λ k. k ∷ []) z.1,
-      (same_mark left first z.0, open_prunes family EntryPrunes left first z.0,
-      (same_mark right last z.2, open_prunes family EntryPrunes right last z.2, tt)),
+      (
+        same_mark left first z.0,
+        open_prunes family EntryPrunes left first z.0,
+        (same_mark right last z.2, open_prunes family EntryPrunes right last z.2, tt),
+      ),
     )
 
 module _ {E M : Type 0} (family : Family E M) (EntryPrunes : E → E → Type 0) (same_key : KeepsKeys family EntryPrunes) where

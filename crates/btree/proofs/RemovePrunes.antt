@@ -8,7 +8,7 @@ use Rattle.vo_spec.specs.Removes.{joined_parts, is_small, settled_root, without_
 use Rattle.btree.specs.Agreeing.{Agrees}
 use Rattle.btree.specs.Pruning.{OpenPrunes, KeepsKeys, KeepsMarks}
 use Rattle.btree.proofs.AgreeingResults.{agrees_map, agrees_then, agrees_chosen}
-use Rattle.btree.proofs.PrunedLists.{zip_length, zip_take, zip_drop, zip_join, zip_first, zip_has, each_count, each_take, each_drop, each_join, open_prunes}
+use Rattle.btree.proofs.PrunedLists.{zip_length, zip_take, zip_drop, zip_join, zip_first, zip_has, each_count, each_take, each_drop, each_join}
 use Rattle.btree.proofs.InsertPrunes.{GrownPrunes, ChildrenPrune, put_grown_prunes}
 
 module _ {E M : Type 0} (family : Family E M) (EntryPrunes : E → E → Type 0) (same_key : KeepsKeys family EntryPrunes) where

@@ -1,5 +1,5 @@
 -- A replacement in what prunes a tree.
-use Rattle.std.proofs.Common.{◌≡◌, ℕ, cond, bytes_eq, List, [], ◌∷◌, drop, Result, Ok, refl, subst, slice_get}
+use Rattle.std.proofs.Common.{ℕ, cond, bytes_eq, List, [], ◌∷◌, drop, Result, refl, subst, slice_get}
 use Rattle.std.specs.List.{AllZip}
 use Rattle.vo_spec.specs.declared.trees.UpdateFault.{UpdateFault}
 use Rattle.vo_spec.specs.Parts.{Part, Parts, stub, leaf, inner, none, more, Family, PrunesBy, PrunesEach}
