@@ -1,5 +1,7 @@
 pub mod Agreeing
 pub mod Answers
+pub mod Finding
 pub mod Nodes
 pub mod Placing
+pub mod Pruning
 pub mod Shapes

@@ -5,6 +5,7 @@
 mod contents;
 mod insertion;
 mod keyed;
+mod laws;
 mod limits;
 mod lists;
 mod merge;
@@ -18,6 +19,7 @@ mod try_clone;
 
 pub use insertion::insert;
 pub use keyed::{Keyed, has_key, position_above, position_of};
+pub use laws::{PruningFamily, insertions_agree, removals_agree, replacements_agree};
 pub use limits::{MAX_FILL, MIN_FILL};
 pub use node::{Contents, NodeView, TreeNode};
 pub use removal::remove;
