@@ -13,6 +13,7 @@ mod node;
 mod rebalance;
 mod removal;
 mod replacement;
+mod row_parts;
 mod siblings;
 mod split;
 mod try_clone;
