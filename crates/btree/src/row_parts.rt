@@ -8,10 +8,7 @@ use vo_spec::{Cell, CellValue, Key, KeyPart, List, PartEntry, RowPart};
 
 impl TryClone for KeyPart<'_> {
     fn try_clone(&self, alloc: Global) -> Result<Self, AllocError> {
-        Ok(KeyPart::owned(Key::from_vec(Vec::from_slice(
-            alloc,
-            self.as_bytes(),
-        )?)))
+        Ok(KeyPart::owned(Key::from_vec(Vec::from_slice(alloc, self.as_bytes())?)))
     }
 }
 
