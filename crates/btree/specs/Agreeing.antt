@@ -2,7 +2,6 @@
 use Rattle.std.specs.Prelude.{◌≡◌, Result, Ok, Err}
 use Rattle.vo_spec.specs.declared.trees.UpdateFault.{UpdateFault}
 use Rattle.vo_spec.specs.declared.trees.UpdateFault.TheVariants.{Missing}
-use Rattle.vo_spec.specs.Trees.{RowTree, Prunes}
 
 -- Missing, or the same fault, or what stands in this relation to the other's
 abbrev pub Agrees : {A : Type 0} → (A → A → Type 0) → Result A UpdateFault → Result A UpdateFault → Type 0
@@ -10,7 +9,3 @@ Agrees R (Err Missing) right = Unit {0}
 Agrees R (Err fault) (Err other) = fault ≡ other
 Agrees R (Ok x) (Ok y) = R x y
 Agrees R _ _ = ⊥
-
--- what the part becomes prunes what the tree becomes
-abbrev pub GoesOnPruning : Result RowTree UpdateFault → Result RowTree UpdateFault → Type 0
-GoesOnPruning = Agrees Prunes

@@ -1,6 +1,7 @@
 //! Whole trees.
 ghost use Rattle.std.specs.Prelude.{◌≡◌, ◌++◌, [], length, IfOk, OnOk, OnErr};
 ghost use Rattle.vo_spec.specs.Parts.{leaf, entries};
+ghost use Rattle.vo_spec.specs.Fits.{FitsPart};
 ghost use Rattle.vo_spec.specs.Trees.{digest};
 ghost use Rattle.vo_spec.specs.Standing.{IsShown, rows_in};
 ghost use Rattle.mb_tree.specs.Standing.{IsWhole};
@@ -50,8 +51,10 @@ impl Tree {
     }
 
     pub fn root(&self) -> &Branch
-        ensures { result.now ≡ self.now }
+        ensures value { result.now ≡ self.now }
+        ensures fits { FitsPart self.now }
     {
+        let _node = self.root.node();
         &self.root
     }
 

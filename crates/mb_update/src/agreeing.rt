@@ -7,7 +7,7 @@ ghost use Rattle.vo_spec.specs.Inserts.{inserted};
 ghost use Rattle.std.specs.Prelude.{ℕ, List};
 ghost use Rattle.vo_spec.specs.Tables.{CellChange};
 ghost use Rattle.vo_spec.specs.Removes.{removed, replaced};
-ghost use Rattle.mb_update.specs.Agreeing.{GoesOnPruning};
+ghost use Rattle.mb_update.specs.Changing.{GoesOnPruning};
 
 /// Where a part prunes a tree, an insertion into the part is Missing, or it has the fault of the insertion
 /// into the tree, or it gives what prunes the tree that comes of that. So it is where the part's new entry

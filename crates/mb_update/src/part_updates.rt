@@ -3,17 +3,61 @@ ghost use Rattle.std.specs.Prelude.{◌≡◌, map, IfOk};
 ghost use Rattle.vo_spec.specs.Cells.{whole_entry};
 ghost use Rattle.vo_spec.specs.Fits.{FitsPart, FitsRow};
 ghost use Rattle.vo_spec.specs.Inserts.{inserted};
+ghost use Rattle.vo_spec.specs.Removes.{removed, replaced};
 ghost use Rattle.mb_tree.specs.View.{part_of};
 ghost use Rattle.mb_update.specs.Changing.{ChangesTo};
+ghost use Rattle.mb_update.specs.Sets.{change_of, FitsSets};
 
 use crate::ops::SetCell;
-use crate::part_inserting::insert;
-use crate::part_removing::remove;
-use crate::part_replacing::replace;
+use crate::part_rows::{entry_of, entry_with};
 use crate::updates::Updates;
+use btree::{find, insert, remove, set};
 use mb_tree::PartTree;
 use std::alloc::Global;
-use vo_spec::{Key, Row, UpdateFault};
+use vo_spec::{Key, PartEntry, Row, UpdateFault};
+
+/// The part with this entry.
+fn insert_entry<'b>(
+    alloc: Global,
+    tree: &PartTree<'b>,
+    entry: PartEntry<'b>,
+) -> Result<PartTree<'b>, UpdateFault>
+    requires { FitsPart (part_of tree.now) }
+    ensures { ChangesTo part_of result (inserted entry.entry (part_of tree.now)) }
+{
+    insert::<PartTree<'b>>(alloc, tree, entry)
+}
+
+/// The part with these cells in the row of this key.
+fn replace_cells<'b>(
+    alloc: Global,
+    tree: &PartTree<'b>,
+    key: &[u8],
+    sets: &[SetCell],
+) -> Result<PartTree<'b>, UpdateFault>
+    requires { FitsPart (part_of tree.now) }
+    ensures { ChangesTo part_of result (replaced key.now (map change_of sets.now) (part_of tree.now)) }
+{
+    match find::<PartTree<'b>>(tree, key) {
+        Ok(old) => match entry_with(alloc, old, sets) {
+            Ok(entry) => set::<PartTree<'b>>(alloc, tree, key, entry),
+            Err(fault) => Err(fault),
+        },
+        Err(fault) => Err(fault),
+    }
+}
+
+/// The part without the row of this key.
+fn remove_row<'b>(
+    alloc: Global,
+    tree: &PartTree<'b>,
+    key: &[u8],
+) -> Result<PartTree<'b>, UpdateFault>
+    requires { FitsPart (part_of tree.now) }
+    ensures { ChangesTo part_of result (removed key.now (part_of tree.now)) }
+{
+    remove::<PartTree<'b>>(alloc, tree, key)
+}
 
 /// The new tree is a copy of what is open, and shows every cell that the change gives.
 impl<'b> Updates for PartTree<'b> {
@@ -33,7 +77,8 @@ impl<'b> Updates for PartTree<'b> {
         ensures change { ChangesTo part_of result (inserted (whole_entry row.now) (part_of self.now)) }
         ensures within { IfOk result (λ change. FitsPart (part_of change)) }
     {
-        insert(alloc, self, row)
+        let entry = entry_of(alloc, row)?;
+        insert_entry(alloc, self, entry)
     }
 
     fn replace(
@@ -41,11 +86,20 @@ impl<'b> Updates for PartTree<'b> {
         alloc: Global,
         key: &Key,
         sets: &[SetCell],
-    ) -> Result<PartTree<'b>, UpdateFault> {
-        replace(alloc, self, key.as_bytes(), sets)
+    ) -> Result<PartTree<'b>, UpdateFault>
+        requires fits { FitsSets sets.now }
+        requires within { FitsPart (part_of self.now) }
+        ensures change { ChangesTo part_of result (replaced key.now (map change_of sets.now) (part_of self.now)) }
+        ensures within { IfOk result (λ change. FitsPart (part_of change)) }
+    {
+        replace_cells(alloc, self, key.as_bytes(), sets)
     }
 
-    fn remove(&self, alloc: Global, key: &Key) -> Result<PartTree<'b>, UpdateFault> {
-        remove(alloc, self, key.as_bytes())
+    fn remove(&self, alloc: Global, key: &Key) -> Result<PartTree<'b>, UpdateFault>
+        requires { FitsPart (part_of self.now) }
+        ensures change { ChangesTo part_of result (removed key.now (part_of self.now)) }
+        ensures within { IfOk result (λ change. FitsPart (part_of change)) }
+    {
+        remove_row(alloc, self, key.as_bytes())
     }
 }

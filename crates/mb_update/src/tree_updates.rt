@@ -1,17 +1,86 @@
 //! The changes of whole trees.
-ghost use Rattle.std.specs.Prelude.{◌<◌, ◌^◌, ◌-◌, length};
+ghost use Rattle.std.specs.Prelude.{◌≡◌, ◌<◌, ◌^◌, ◌-◌, length, map};
+ghost use Rattle.vo_spec.specs.Cells.{whole_entry};
+ghost use Rattle.vo_spec.specs.Fits.{FitsRow};
+ghost use Rattle.vo_spec.specs.Inserts.{inserted};
 ghost use Rattle.vo_spec.specs.Parts.{entries};
+ghost use Rattle.vo_spec.specs.Removes.{removed, replaced};
+ghost use Rattle.mb_update.specs.Changing.{ChangesTo, exchanged};
+ghost use Rattle.mb_update.specs.Sets.{change_of, FitsSets};
 
-use crate::inserting::insert;
 use crate::ops::SetCell;
-use crate::removing::remove;
-use crate::replacing::replace;
+use crate::tree_rows::entry_with;
 use crate::updates::Updates;
-use mb_tree::Tree;
+use btree::{find, insert, remove, set};
+use mb_tree::{Branch, Tree, TreeEntry};
 use std::alloc::Global;
 use vo_spec::{Key, Row, UpdateFault};
 
-/// The new tree shares with the old one all but what the change makes new.
+/// The tree with this row, which is moved into it. It shares with the old one all but the path to the
+/// row's leaf.
+pub fn insert_row(alloc: Global, tree: &Tree, row: Row) -> Result<Tree, UpdateFault>
+    requires fits { FitsRow row }
+    requires room { length (entries tree.now) < 2 ^ 32 - 1 }
+    ensures { ChangesTo (λ t. t) result (inserted (whole_entry row) tree.now) }
+{
+    let entry = TreeEntry::of_row(alloc, row)?;
+    insert_entry(alloc, tree, entry)
+}
+
+fn insert_entry(alloc: Global, tree: &Tree, entry: TreeEntry) -> Result<Tree, UpdateFault>
+    requires { length (entries tree.now) < 2 ^ 32 - 1 }
+    ensures { ChangesTo (λ t. t) result (inserted (whole_entry entry) tree.now) }
+{
+    let rows = tree.row_count();
+    match insert::<Branch>(alloc, tree.root(), entry) {
+        Ok(root) => Ok(Tree::of_root(root, rows + 1)),
+        Err(fault) => Err(fault),
+    }
+}
+
+/// The tree with these values in the row of this key.
+fn replace_cells(
+    alloc: Global,
+    tree: &Tree,
+    key: &[u8],
+    sets: &[SetCell],
+) -> Result<Tree, UpdateFault>
+    requires { FitsSets sets.now }
+    ensures { ChangesTo (λ t. t) result (replaced key.now (map change_of sets.now) tree.now) }
+{
+    match find::<Branch>(tree.root(), key) {
+        Ok(old) => {
+            let entry = entry_with(alloc, old, sets)?;
+            set_entry(alloc, tree, key, entry)
+        },
+        Err(fault) => Err(fault),
+    }
+}
+
+/// The tree with this in the place of the entry of the key, which it has.
+fn set_entry(alloc: Global, tree: &Tree, key: &[u8], entry: TreeEntry) -> Result<Tree, UpdateFault>
+    ensures { ChangesTo (λ t. t) result (exchanged key.now (whole_entry entry) tree.now) }
+{
+    let rows = tree.row_count();
+    match set::<Branch>(alloc, tree.root(), key, entry) {
+        Ok(root) => Ok(Tree::of_root(root, rows)),
+        Err(fault) => Err(fault),
+    }
+}
+
+/// The tree without the row of this key.
+fn remove_row(alloc: Global, tree: &Tree, key: &[u8]) -> Result<Tree, UpdateFault>
+    ensures { ChangesTo (λ t. t) result (removed key.now tree.now) }
+{
+    let rows = tree.row_count();
+    match remove::<Branch>(alloc, tree.root(), key) {
+        Ok(root) => Ok(Tree::of_root(root, rows - 1)),
+        Err(fault) => Err(fault),
+    }
+}
+
+/// The new tree shares with the old one all but what the change makes new: the path to the row's leaf, and
+/// the siblings that gave to a node of it or were merged with one.
 impl Updates for Tree {
     type Change = Tree;
 
@@ -24,14 +93,15 @@ impl Updates for Tree {
     ghost CanChange = { λ tree. Unit {0} };
 
     fn insert(&self, alloc: Global, row: &Row) -> Result<Tree, UpdateFault> {
-        insert(alloc, self, row)
+        let entry = TreeEntry::new(alloc, row)?;
+        insert_entry(alloc, self, entry)
     }
 
     fn replace(&self, alloc: Global, key: &Key, sets: &[SetCell]) -> Result<Tree, UpdateFault> {
-        replace(alloc, self, key.as_bytes(), sets)
+        replace_cells(alloc, self, key.as_bytes(), sets)
     }
 
     fn remove(&self, alloc: Global, key: &Key) -> Result<Tree, UpdateFault> {
-        remove(alloc, self, key.as_bytes())
+        remove_row(alloc, self, key.as_bytes())
     }
 }

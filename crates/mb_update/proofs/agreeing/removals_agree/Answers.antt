@@ -1,4 +1,4 @@
-use Rattle.mb_update.proofs.PrunedRemovals.{removed_agrees}
+use Rattle.mb_update.proofs.RowPruning.{removed_agrees}
 use Rattle.mb_update.proofs.agreeing.removals_agree.Goals as goal
 
 pub returns : goal.returns

@@ -1,4 +1,4 @@
-use Rattle.mb_update.proofs.PrunedReplacements.{replaced_agrees}
+use Rattle.mb_update.proofs.RowPruning.{replaced_agrees}
 use Rattle.mb_update.proofs.agreeing.replacements_agree.Goals as goal
 
 pub returns : goal.returns
