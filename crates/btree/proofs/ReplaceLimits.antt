@@ -19,7 +19,8 @@ record FitParts {E M : Type 0} (FitsE : E → Type 0) (ps : Parts E M) (n : ℕ)
 
 module _ {E M : Type 0} (family : Family E M) (FitsE : E → Type 0) where
   module _ (edit : E → Result E UpdateFault) (edit_fits : (e f : E) → FitsE e → edit e ≡ Ok f → FitsE f) (key : List ℕ) where
-    entries_fit : (es fs : List E) → All FitsE es → edit_entry family edit key es ≡ Ok fs → FitEntries FitsE fs (length es)
+    entries_fit : (es fs : List E) → All FitsE es → edit_entry family edit key es ≡ Ok fs
+        → FitEntries FitsE fs (length es)
     entries_fit [] fs all h = absurd (cc)
     entries_fit (e ∷ es) fs all h =
         let first = All-head FitsE e es all in
@@ -33,7 +34,8 @@ module _ {E M : Type 0} (family : Family E M) (FitsE : E → Type 0) where
         subst P (sym m.made) (record { count = omega (arith, others.count); each = All-cons FitsE e m.value first others.each }))
 
     mutual
-      pub edited_fits : (t u : Part E M) → FitsBy FitsE t → edited_by family edit key t ≡ Ok u → FitsBy FitsE u
+      pub edited_fits : (t u : Part E M) → FitsBy FitsE t → edited_by family edit key t ≡ Ok u
+          → FitsBy FitsE u
       edited_fits (stub d) u fits h = absurd (cc)
       edited_fits (leaf es) u fits h =
           let m = mapped leaf (edit_entry family edit key es) u h in
@@ -46,7 +48,8 @@ module _ {E M : Type 0} (family : Family E M) (FitsE : E → Type 0) where
           let P : Part E M → Type 0 = λ x. FitsBy FitsE x in
           subst P (sym m.made) (omega (arith, set.count, fits.0), omega (arith, set.count, fits.1), omega (arith, set.count, fits.2), fits.3, set.each)
 
-      in_fits : (ss : List (List ℕ)) (ps qs : Parts E M) → FitsEach FitsE ps → edited_in family edit key ss ps ≡ Ok qs
+      in_fits : (ss : List (List ℕ)) (ps qs : Parts E M) → FitsEach FitsE ps
+          → edited_in family edit key ss ps ≡ Ok qs
           → FitParts FitsE qs (count ps)
       in_fits ss none qs fits h = absurd (cc)
       in_fits ss (more k p ps) qs fits h =

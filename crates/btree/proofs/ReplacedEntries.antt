@@ -63,7 +63,8 @@ module _ {E : Type 0} (key_of : E → List ℕ) (edit : E → Result E UpdateFau
   each_between P e [] ys h = h.0
   each_between P e (x ∷ xs) ys h = each_between P e xs ys h.1
 
-  each_with : (P : E → Type 0) (e f : E) (xs ys : List E) → P f → AllByRecursion P (xs ++ e ∷ ys) → AllByRecursion P (xs ++ f ∷ ys)
+  each_with : (P : E → Type 0) (e f : E) (xs ys : List E) → P f → AllByRecursion P (xs ++ e ∷ ys)
+      → AllByRecursion P (xs ++ f ∷ ys)
   each_with P e f [] ys new h = (new, h.1)
   each_with P e f (x ∷ xs) ys new h = (h.0, each_with P e f xs ys new h.1)
 
@@ -82,7 +83,8 @@ module _ {E M : Type 0} (family : Family E M) (edit : E → Result E UpdateFault
 
   leaf_step : (b : Bool) (e : E) (es fs : List E) → bytes_eq (family.key e) key ≡ b
       → cond b (result_map (λ f. f ∷ es) (edit e)) (result_map (λ gs. e ∷ gs) (edit_entry family edit key es)) ≡ Ok fs
-      → ((gs : List E) → edit_entry family edit key es ≡ Ok gs → EditsTree es gs) → EditsTree (e ∷ es) fs
+      → ((gs : List E) → edit_entry family edit key es ≡ Ok gs → EditsTree es gs)
+      → EditsTree (e ∷ es) fs
   leaf_step true e es fs has h on =
       let m = mapped (λ f. f ∷ es) (edit e) fs h in
       record { before = []; after = es; old = e; new = m.value; was = refl; is = m.made; has = has; edits = m.ok }
@@ -95,7 +97,8 @@ module _ {E M : Type 0} (family : Family E M) (edit : E → Result E UpdateFault
   leaf_edits (e ∷ es) fs h = leaf_step (bytes_eq (family.key e) key) e es fs refl h (λ gs made. leaf_edits es gs made)
 
   mutual
-    pub edited_edits : (t u : Part E M) → edited_by family edit key t ≡ Ok u → EditsTree (entries t) (entries u)
+    pub edited_edits : (t u : Part E M) → edited_by family edit key t ≡ Ok u
+        → EditsTree (entries t) (entries u)
     edited_edits (stub d) u h = absurd (cc)
     edited_edits (leaf es) u h =
         let m = mapped leaf (edit_entry family edit key es) u h in
@@ -104,7 +107,8 @@ module _ {E M : Type 0} (family : Family E M) (edit : E → Result E UpdateFault
         let m = mapped (inner ss) (edited_in family edit key ss ps) u h in
         edits_same family.key edit key (entries_in ps) (entries_in m.value) (entries u) (children_edited ss ps m.value m.ok) (ap entries m.made)
 
-    children_edited : (ss : List (List ℕ)) (ps qs : Parts E M) → edited_in family edit key ss ps ≡ Ok qs → EditsTree (entries_in ps) (entries_in qs)
+    children_edited : (ss : List (List ℕ)) (ps qs : Parts E M) → edited_in family edit key ss ps ≡ Ok qs
+        → EditsTree (entries_in ps) (entries_in qs)
     children_edited ss none qs h = absurd (cc)
     children_edited ss (more m p ps) qs h =
         chosen _ _ _ qs h
