@@ -13,7 +13,7 @@ use Rattle.vo_spec.specs.Removes.{edit_entry, edited_by, edited_in}
 use Rattle.btree.specs.Finding.{found_entry, found, found_in}
 use Rattle.btree.specs.Nodes.{Kid, listed}
 use Rattle.btree.proofs.FirstEntries.{first_place}
-use Rattle.btree.proofs.OkResults.{ok_same, chosen}
+use Rattle.btree.proofs.OkResults.{ok_same, cond_ok}
 
 -- the edit of what was found, and then what is made of the new entry
 abbrev with_edit : {E A : Type 0} → (E → Result E UpdateFault) → (E → Result A UpdateFault) → Result E UpdateFault → Result A UpdateFault
@@ -171,13 +171,13 @@ module _ {E M : Type 0} (family : Family E M) (key : List ℕ) where
     found_in_has : (ss : List (List ℕ)) (ps : Parts E M) (c : E) → found_in family key ss ps ≡ Ok c
         → bytes_eq (family.key c) key ≡ true
     found_in_has ss none c h = absurd (cc)
-    found_in_has ss (more m p ps) c h = chosen _ _ _ c h (found_has p c) (found_in_has (drop 1 ss) ps c)
+    found_in_has ss (more m p ps) c h = cond_ok _ _ _ c h (found_has p c) (found_in_has (drop 1 ss) ps c)
 
   module _ (FitsE : E → Type 0) where
     found_entry_fits : (es : List E) (c : E) → All FitsE es → found_entry family key es ≡ Ok c → FitsE c
     found_entry_fits [] c fits h = absurd (cc)
     found_entry_fits (e ∷ es) c fits h =
-        chosen _ _ _ c h
+        cond_ok _ _ _ c h
         (λ here. let P : E → Type 0 = λ x. FitsE x in subst P (ok_same e c here) (All-head FitsE e es fits))
         (found_entry_fits es c (All-tail FitsE e es fits))
 
@@ -190,4 +190,4 @@ module _ {E M : Type 0} (family : Family E M) (key : List ℕ) where
       found_in_fits : (ss : List (List ℕ)) (ps : Parts E M) (c : E) → FitsEach FitsE ps
           → found_in family key ss ps ≡ Ok c → FitsE c
       found_in_fits ss none c fits h = absurd (cc)
-      found_in_fits ss (more m p ps) c fits h = chosen _ _ _ c h (found_fits p c fits.0) (found_in_fits (drop 1 ss) ps c fits.1)
+      found_in_fits ss (more m p ps) c fits h = cond_ok _ _ _ c h (found_fits p c fits.0) (found_in_fits (drop 1 ss) ps c fits.1)

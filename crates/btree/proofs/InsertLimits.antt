@@ -8,7 +8,7 @@ use Rattle.vo_spec.specs.Values.{key_lt}
 use Rattle.vo_spec.specs.Parts.{Part, Parts, stub, leaf, inner, none, more, Family, count}
 use Rattle.vo_spec.specs.Fits.{FitsKey, FitsBy, FitsEach}
 use Rattle.vo_spec.specs.Inserts.{Grown, one, two, Children, half, result_map, take_parts, drop_parts, after_child, has_key, put_entry, first_key, split_leaf, split_inner, put_grown, grow, grow_in, root_of, inserted_by}
-use Rattle.btree.proofs.OkResults.{ok_same, mapped, chosen}
+use Rattle.btree.proofs.OkResults.{ok_same, map_ok, cond_ok}
 
 -- Some of a node's children.
 
@@ -154,7 +154,7 @@ module _ {E M : Type 0} (family : Family E M) (FitsE : E → Type 0) (key_fits :
       → result_map (put_grown family ss ps) (grow family e p) ≡ Ok c
       → FitsChildren FitsE c (count ps + 1)
   here_fits e ss p ps c same keys parts grows h =
-      let m = mapped (put_grown family ss ps) (grow family e p) c h in
+      let m = map_ok (put_grown family ss ps) (grow family e p) c h in
       let P : Children E M → Type 0 = λ x. FitsChildren FitsE x (count ps + 1) in
       subst P (sym m.made) (put_grown_fits ss ps m.value same keys parts (grows m.value m.ok))
 
@@ -165,7 +165,7 @@ module _ {E M : Type 0} (family : Family E M) (FitsE : E → Type 0) (key_fits :
       grow_fits (stub d) g fits h = absurd (cc)
       grow_fits (leaf es) g fits h = leaf_fits (has_key family (family.key e) es) e es g new fits.0 fits.1 h
       grow_fits (inner ss ps) g fits h =
-          let m = mapped (split_inner family) (grow_in family e ss ps) g h in
+          let m = map_ok (split_inner family) (grow_in family e ss ps) g h in
           let P : Grown E M → Type 0 = λ x. FitsGrown FitsE x in
           subst P (sym m.made) (split_inner_fits m.value (count ps) fits.0 fits.1 (grow_in_fits ss ps m.value fits.2 fits.3 fits.4 m.ok))
 
@@ -176,9 +176,9 @@ module _ {E M : Type 0} (family : Family E M) (FitsE : E → Type 0) (key_fits :
       grow_in_fits [] (more k p ps) c between keys parts h =
           here_fits e [] p ps c (omega arith) keys parts.1 (λ g grown. grow_fits p g parts.0 grown) h
       grow_in_fits (s ∷ ss) (more k p ps) c between keys parts h =
-          chosen _ _ _ c h
+          cond_ok _ _ _ c h
           (λ here. here_fits e (s ∷ ss) p ps c (omega arith) keys parts.1 (λ g grown. grow_fits p g parts.0 grown) here)
-          (λ on. let m = mapped (after_child k p (s ∷ ss)) (grow_in family e ss ps) c on in
+          (λ on. let m = map_ok (after_child k p (s ∷ ss)) (grow_in family e ss ps) c on in
           let P : Children E M → Type 0 = λ x. FitsChildren FitsE x (count ps + 1) in
           subst P (sym m.made)
           (after_child_fits k s ss p (count ps) m.value (All-head FitsKey s ss keys) parts.0
@@ -192,6 +192,6 @@ module _ {E M : Type 0} (family : Family E M) (FitsE : E → Type 0) (key_fits :
     pub inserted_fits : (t u : Part E M) → FitsBy FitsE t → inserted_by family e t ≡ Ok u
         → FitsBy FitsE u
     inserted_fits t u fits h =
-        let m = mapped (root_of family) (grow family e t) u h in
+        let m = map_ok (root_of family) (grow family e t) u h in
         let P : Part E M → Type 0 = λ x. FitsBy FitsE x in
         subst P (sym m.made) (root_fits m.value (grow_fits t m.value fits m.ok))

@@ -8,7 +8,7 @@ use Rattle.vo_spec.specs.Inserts.{Grown, one, two, Children, half, result_map, g
 use Rattle.btree.specs.Agreeing.{Agrees}
 use Rattle.btree.specs.Pruning.{KeepsKeys, KeepsMarks}
 use Rattle.btree.specs.Pruning as pruning
-use Rattle.btree.proofs.AgreeingResults.{agrees_map, agrees_chosen}
+use Rattle.btree.proofs.AgreeingResults.{agrees_map, agrees_cond}
 use Rattle.btree.proofs.PrunedLists.{zip_length, zip_take, zip_drop, zip_first, zip_has, each_count, each_take, each_drop, open_prunes}
 
 module _ {E M : Type 0} (family : Family E M) (EntryPrunes : E → E → Type 0) where
@@ -148,7 +148,7 @@ module _ {E M : Type 0} (family : Family E M) (EntryPrunes : E → E → Type 0)
               subst (λ k. Agrees ChildrenPrune (grow_in family e ss (more m p ps))
               (cond (goes_here k (slice_get ss 0)) (result_map (put_grown family ss qs) (grow family f q)) (result_map (after_child n q ss) (grow_in family f (drop 1 ss) qs))))
               (same_key e f new)
-              (agrees_chosen ChildrenPrune (goes_here (family.key e) (slice_get ss 0)) _ _ _ _
+              (agrees_cond ChildrenPrune (goes_here (family.key e) (slice_get ss 0)) _ _ _ _
               (agrees_map GrownPrunes ChildrenPrune (put_grown family ss ps) (put_grown family ss qs) _ _
               (put_grown_prunes same_mark ss ps qs z.2) (grow_agrees p q z.1))
               (agrees_map ChildrenPrune ChildrenPrune (after_child m p ss) (after_child n q ss) _ _

@@ -6,7 +6,7 @@ use Rattle.vo_spec.specs.declared.trees.UpdateFault.TheVariants.{DuplicateKey}
 use Rattle.vo_spec.specs.Values.{key_lt}
 use Rattle.vo_spec.specs.Parts.{Part, Parts, stub, leaf, inner, none, more, Family, entries, entries_in}
 use Rattle.vo_spec.specs.Inserts.{Grown, one, two, Children, half, take_parts, drop_parts, after_child, has_key, put_entry, first_key, split_leaf, split_inner, put_grown, grow, grow_in, root_of, inserted_by}
-use Rattle.btree.proofs.OkResults.{ok_same, mapped, chosen}
+use Rattle.btree.proofs.OkResults.{ok_same, map_ok, cond_ok}
 
 -- the second list is the first with the entry somewhere in it
 pub record Puts {E : Type 0} (e : E) (xs ys : List E) : Type 0 where
@@ -125,21 +125,21 @@ module _ {E M : Type 0} (family : Family E M) where
       grow_puts (stub d) g h = absurd (cc)
       grow_puts (leaf es) g h = leaf_puts (has_key family (family.key e) es) es g h
       grow_puts (inner ss ps) g h =
-          let m = mapped (split_inner family) (grow_in family e ss ps) g h in
+          let m = map_ok (split_inner family) (grow_in family e ss ps) g h in
           puts_same e _ _ _ (grow_in_puts ss ps m.value m.ok) (sym (split_inner_step _ m.value _ _ _) ∙ ap entries_of (sym m.made))
 
       grow_in_puts : (ss : List (List ℕ)) (ps : Parts E M) (c : Children E M)
           → grow_in family e ss ps ≡ Ok c → Puts e (entries_in ps) (entries_in c.parts)
       grow_in_puts ss none c h = absurd (cc)
       grow_in_puts ss (more k p ps) c h =
-          chosen _ _ _ c h
-          (λ here. let m = mapped (put_grown family ss ps) (grow family e p) c here in
+          cond_ok _ _ _ c h
+          (λ here. let m = map_ok (put_grown family ss ps) (grow family e p) c here in
           puts_same e _ _ _ (before_others e (entries_in ps) _ _ (grow_puts p m.value m.ok)) (sym (put_grown_entries ss ps m.value) ∙ ap (λ x. entries_in x.parts) (sym m.made)))
-          (λ on. let m = mapped (after_child k p ss) (grow_in family e (drop 1 ss) ps) c on in
+          (λ on. let m = map_ok (after_child k p ss) (grow_in family e (drop 1 ss) ps) c on in
           puts_same e _ _ _ (after_others e (entries p) _ _ (grow_in_puts (drop 1 ss) ps m.value m.ok)) (ap (λ x. entries_in x.parts) (sym m.made)))
 
     pub inserted_puts : (t u : Part E M) → inserted_by family e t ≡ Ok u
         → Puts e (entries t) (entries u)
     inserted_puts t u h =
-        let m = mapped (root_of family) (grow family e t) u h in
+        let m = map_ok (root_of family) (grow family e t) u h in
         puts_same e _ _ _ (grow_puts t m.value m.ok) (sym (root_entries m.value) ∙ ap entries (sym m.made))

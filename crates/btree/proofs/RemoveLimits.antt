@@ -11,7 +11,7 @@ use Rattle.vo_spec.specs.Fits.{FitsKey, FitsBy, FitsEach}
 use Rattle.vo_spec.specs.Inserts.{Grown, one, two, Children, result_map, take_parts, drop_parts, after_child, first_key, has_key, put_grown}
 use Rattle.vo_spec.specs.Removes.{joined_parts, is_small, settled_root, without_entry, with_left, with_right, settle_first, settle_next, shrink, shrink_in, shrink_after, removed_by}
 use Rattle.btree.specs.Placing.{node_of}
-use Rattle.btree.proofs.OkResults.{ok_same, mapped, then_made, chosen}
+use Rattle.btree.proofs.OkResults.{ok_same, map_ok, then_ok, cond_ok}
 use Rattle.btree.proofs.InsertLimits.{FitsGrown, first_fits, take_count, drop_count, take_fits, drop_fits}
 
 module _ {E M : Type 0} (FitsE : E → Type 0) where
@@ -224,7 +224,7 @@ module _ {E M : Type 0} (family : Family E M) (FitsE : E → Type 0) (key_fits :
       → cond b (result_map (put_grown family ss qs) (with_right family p s q)) (Ok (put_grown family (s ∷ ss) (more m q qs) (one p))) ≡ Ok c
       → FitsOneFewer FitsE c (count qs + 2)
   first_fewer true s ss m q qs p c small same keys beside parts fits h =
-      let r = mapped (put_grown family ss qs) (with_right family p s q) c h in
+      let r = map_ok (put_grown family ss qs) (with_right family p s q) c h in
       same_fewer (put_grown family ss qs r.value) c (count qs + 2) (count qs + 2) (sym r.made) refl
       (put_fewer ss qs r.value same (All-tail FitsKey s ss keys) parts (right_fits p q s r.value fits small beside (All-head FitsKey s ss keys) r.ok))
   first_fewer false s ss m q qs p c large same keys beside parts fits h =
@@ -238,7 +238,7 @@ module _ {E M : Type 0} (family : Family E M) (FitsE : E → Type 0) (key_fits :
       → cond b (result_map (put_grown family ss ps) (with_left family l s p)) (Ok (after_child m l (s ∷ ss) (put_grown family ss ps (one p)))) ≡ Ok c
       → FitsOneFewer FitsE c (count ps + 2)
   next_fewer true s ss m l ps p c small same keys beside parts fits h =
-      let r = mapped (put_grown family ss ps) (with_left family l s p) c h in
+      let r = map_ok (put_grown family ss ps) (with_left family l s p) c h in
       same_fewer (put_grown family ss ps r.value) c (count ps + 2) (count ps + 2) (sym r.made) refl
       (put_fewer ss ps r.value same (All-tail FitsKey s ss keys) parts (left_fits l p s r.value beside fits small (All-head FitsKey s ss keys) r.ok))
   next_fewer false s ss m l ps p c large same keys beside parts fits h =
@@ -267,7 +267,7 @@ module _ {E M : Type 0} (family : Family E M) (FitsE : E → Type 0) (key_fits :
       → and_then (settle_next family m l (s ∷ ss) ps) (shrink family key p) ≡ Ok c
       → FitsOneFewer FitsE c (count ps + 1 + 1)
   next_fits key m l s ss p ps c same keys left parts shrinks h =
-      let r = then_made (settle_next family m l (s ∷ ss) ps) (shrink family key p) c h in
+      let r = then_ok (settle_next family m l (s ∷ ss) ps) (shrink family key p) c h in
       same_fewer c c (count ps + 2) (count ps + 1 + 1) refl (omega arith)
       (next_fewer (is_small r.value) s ss m l ps r.value c refl same keys left parts (shrinks r.value r.ok) r.made)
 
@@ -279,7 +279,7 @@ module _ {E M : Type 0} (family : Family E M) (FitsE : E → Type 0) (key_fits :
       shrink_fits (leaf es) q fits h =
           leaf_shrinks (has_key family key es) es (without_entry family key es) q (omega (arith, without_count key es, fits.0)) (without_fits key es fits.1) h
       shrink_fits (inner ss ps) q fits h =
-          let m = mapped node_of (shrink_in family key ss ps) q h in
+          let m = map_ok node_of (shrink_in family key ss ps) q h in
           let P : Part E M → Type 0 = λ x. FitsRemaining FitsE x in
           subst P (sym m.made) (node_fits (count ps) m.value fits.0 fits.1 (in_fits ss ps m.value fits.0 fits.2 fits.3 fits.4 m.ok))
 
@@ -290,8 +290,8 @@ module _ {E M : Type 0} (family : Family E M) (FitsE : E → Type 0) (key_fits :
       in_fits ss (more m p none) c least between keys parts h = absurd (omega arith)
       in_fits [] (more m p (more n q qs)) c least between keys parts h = absurd (omega arith)
       in_fits (s ∷ ss) (more m p (more n q qs)) c least between keys parts h =
-          chosen _ _ _ c h
-          (λ here. let r = then_made (settle_first family (s ∷ ss) (more n q qs)) (shrink family key p) c here in
+          cond_ok _ _ _ c h
+          (λ here. let r = then_ok (settle_first family (s ∷ ss) (more n q qs)) (shrink family key p) c here in
           same_fewer c c (count qs + 2) (count qs + 1 + 1) refl (omega arith)
           (first_fewer (is_small r.value) s ss n q qs r.value c refl (omega arith) keys parts.1.0 parts.1.1 (shrink_fits p r.value parts.0 r.ok) r.made))
           (λ on. after_fits m p s ss (more n q qs) c (omega arith) keys parts.0 parts.1 on)
@@ -302,9 +302,9 @@ module _ {E M : Type 0} (family : Family E M) (FitsE : E → Type 0) (key_fits :
       after_fits m l s ss none c between keys left parts h = absurd (omega arith)
       after_fits m l s [] (more n p ps) c between keys left parts h = next_fits key m l s [] p ps c (omega arith) keys left parts.1 (λ q shrinks. shrink_fits p q parts.0 shrinks) h
       after_fits m l s (r ∷ ss) (more n p ps) c between keys left parts h =
-          chosen _ _ _ c h
+          cond_ok _ _ _ c h
           (λ here. next_fits key m l s (r ∷ ss) p ps c (omega arith) keys left parts.1 (λ q shrinks. shrink_fits p q parts.0 shrinks) here)
-          (λ on. let u = mapped (after_child m l (s ∷ r ∷ ss)) (shrink_after family key n p (r ∷ ss) ps) c on in
+          (λ on. let u = map_ok (after_child m l (s ∷ r ∷ ss)) (shrink_after family key n p (r ∷ ss) ps) c on in
           same_fewer (after_child m l (s ∷ r ∷ ss) u.value) c (count ps + 1 + 1) (count ps + 1 + 1) (sym u.made) refl
           (after_fewer m s (r ∷ ss) l (count ps + 1) u.value (All-head FitsKey s (r ∷ ss) keys) left (after_fits n p r ss ps u.value (omega arith) (All-tail FitsKey s (r ∷ ss) keys) parts.0 parts.1 u.ok)))
 
@@ -318,6 +318,6 @@ module _ {E M : Type 0} (family : Family E M) (FitsE : E → Type 0) (key_fits :
   pub removed_fits : (key : List ℕ) (t u : Part E M) → FitsBy FitsE t → removed_by family key t ≡ Ok u
       → FitsBy FitsE u
   removed_fits key t u fits h =
-      let m = mapped settled_root (shrink family key t) u h in
+      let m = map_ok settled_root (shrink family key t) u h in
       let P : Part E M → Type 0 = λ x. FitsBy FitsE x in
       subst P (sym m.made) (root_fits m.value (shrink_fits key t m.value fits m.ok))

@@ -8,7 +8,7 @@ use Rattle.vo_spec.specs.Removes.{joined_parts, is_small, settled_root, without_
 use Rattle.btree.specs.Agreeing.{Agrees}
 use Rattle.btree.specs.Pruning.{KeepsKeys, KeepsMarks}
 use Rattle.btree.specs.Pruning as pruning
-use Rattle.btree.proofs.AgreeingResults.{agrees_map, agrees_then, agrees_chosen}
+use Rattle.btree.proofs.AgreeingResults.{agrees_map, agrees_then, agrees_cond}
 use Rattle.btree.proofs.PrunedLists.{zip_length, zip_take, zip_drop, zip_join, zip_first, zip_has, each_count, each_take, each_drop, each_join}
 use Rattle.btree.proofs.InsertPrunes.{put_grown_prunes}
 use Rattle.btree.proofs.InsertPrunes as inserts
@@ -178,7 +178,7 @@ module _ {E M : Type 0} (family : Family E M) (EntryPrunes : E → E → Type 0)
       first_settles ss (more m q qs) (more n r rs) p t y z =
           subst (λ b. Agrees ChildrenPrune (settle_first family ss (more m q qs) p) (cond b (result_map (put_grown family (drop 1 ss) rs) (with_right family t (get_or ss 0 []) r)) (Ok (put_grown family ss (more n r rs) (one t)))))
           (as_underfull p t z)
-          (agrees_chosen ChildrenPrune (is_small p) _ _ _ _
+          (agrees_cond ChildrenPrune (is_small p) _ _ _ _
           (agrees_map GrownPrunes ChildrenPrune (put_grown family (drop 1 ss) qs) (put_grown family (drop 1 ss) rs) _ _ (put_grown_prunes family EntryPrunes same_mark (drop 1 ss) qs rs y.2) (right_agrees (get_or ss 0 []) p t q r z y.1))
           (put_grown_prunes family EntryPrunes same_mark ss (more m q qs) (more n r rs) y (one p) (one t) z))
 
@@ -188,7 +188,7 @@ module _ {E M : Type 0} (family : Family E M) (EntryPrunes : E → E → Type 0)
       next_settles m n l k ss ps qs p t same x y z =
           subst (λ b. Agrees ChildrenPrune (settle_next family m l ss ps p) (cond b (result_map (put_grown family (drop 1 ss) qs) (with_left family k (get_or ss 0 []) t)) (Ok (after_child n k ss (put_grown family (drop 1 ss) qs (one t))))))
           (as_underfull p t z)
-          (agrees_chosen ChildrenPrune (is_small p) _ _ _ _
+          (agrees_cond ChildrenPrune (is_small p) _ _ _ _
           (agrees_map GrownPrunes ChildrenPrune (put_grown family (drop 1 ss) ps) (put_grown family (drop 1 ss) qs) _ _ (put_grown_prunes family EntryPrunes same_mark (drop 1 ss) ps qs y) (left_agrees (get_or ss 0 []) l k p t x z))
           (after_prunes m n l k ss (put_grown family (drop 1 ss) ps (one p)) (put_grown family (drop 1 ss) qs (one t)) same x (put_grown_prunes family EntryPrunes same_mark (drop 1 ss) ps qs y (one p) (one t) z)))
 
@@ -224,7 +224,7 @@ module _ {E M : Type 0} (family : Family E M) (EntryPrunes : E → E → Type 0)
           in_agrees ss none (more m p ps) z = absurd z
           in_agrees ss (more m p ps) none z = absurd z
           in_agrees ss (more m p ps) (more n q qs) z =
-              agrees_chosen ChildrenPrune (goes_here key (slice_get ss 0)) _ _ _ _
+              agrees_cond ChildrenPrune (goes_here key (slice_get ss 0)) _ _ _ _
               (agrees_then OpenPrunes ChildrenPrune (settle_first family ss ps) (settle_first family ss qs) _ _ (λ u v h. first_settles ss ps qs u v z.2 h) (shrink_agrees p q z.1))
               (after_agrees m n p q ss ps qs z.0 z.1 z.2)
 
@@ -235,7 +235,7 @@ module _ {E M : Type 0} (family : Family E M) (EntryPrunes : E → E → Type 0)
           after_agrees m n l k ss none (more j p ps) same y z = absurd z
           after_agrees m n l k ss (more j p ps) none same y z = absurd z
           after_agrees m n l k ss (more j p ps) (more i q qs) same y z =
-              agrees_chosen ChildrenPrune (goes_here key (slice_get ss 1)) _ _ _ _
+              agrees_cond ChildrenPrune (goes_here key (slice_get ss 1)) _ _ _ _
               (agrees_then OpenPrunes ChildrenPrune (settle_next family m l ss ps) (settle_next family n k ss qs) _ _ (λ u v h. next_settles m n l k ss ps qs u v same y z.2 h) (shrink_agrees p q z.1))
               (agrees_map ChildrenPrune ChildrenPrune (after_child m l ss) (after_child n k ss) _ _ (λ c d h. after_prunes m n l k ss c d same y h) (after_agrees j i p q (drop 1 ss) ps qs z.0 z.1 z.2))
 

@@ -7,7 +7,7 @@ use Rattle.vo_spec.specs.Parts.{Part, Parts, stub, leaf, inner, none, more, Fami
 use Rattle.vo_spec.specs.Inserts.{half, Grown, one, two, Children, has_key, first_key, take_parts, drop_parts, after_child, put_grown}
 use Rattle.vo_spec.specs.Removes.{joined_parts, is_small, settled_root, without_entry, with_left, with_right, settle_first, settle_next, shrink, shrink_in, shrink_after, removed_by}
 use Rattle.btree.specs.Placing.{node_of}
-use Rattle.btree.proofs.OkResults.{ok_same, mapped, then_made, chosen}
+use Rattle.btree.proofs.OkResults.{ok_same, map_ok, then_ok, cond_ok}
 use Rattle.btree.proofs.InsertedEntries.{Puts, entries_of, after_others, before_others, take_drop_parts, put_grown_entries, puts_count, all_fixed, fixed_all}
 
 -- the second list is the first without one of its entries of this key
@@ -118,8 +118,8 @@ module _ {E M : Type 0} (family : Family E M) where
       → entries_in c.parts ≡ entries t ++ entries_in ps
   first_entries ss none t c h = ap (λ (x : Children E M). entries_in x.parts) (sym (ok_same _ c h))
   first_entries ss (more m u ps) t c h =
-      chosen (is_small t) _ _ c h
-      (λ underfull. let made = mapped (put_grown family (drop 1 ss) ps) (with_right family t (get_or ss 0 []) u) c underfull in
+      cond_ok (is_small t) _ _ c h
+      (λ underfull. let made = map_ok (put_grown family (drop 1 ss) ps) (with_right family t (get_or ss 0 []) u) c underfull in
       ap (λ (x : Children E M). entries_in x.parts) made.made
       ∙ put_grown_entries family (drop 1 ss) ps made.value
       ∙ ap (λ l. l ++ entries_in ps) (right_entries t (get_or ss 0 []) u made.value made.ok)
@@ -130,8 +130,8 @@ module _ {E M : Type 0} (family : Family E M) where
       → settle_next family m left ss ps t ≡ Ok c
       → entries_in c.parts ≡ entries left ++ (entries t ++ entries_in ps)
   next_entries m left ss ps t c h =
-      chosen (is_small t) _ _ c h
-      (λ underfull. let made = mapped (put_grown family (drop 1 ss) ps) (with_left family left (get_or ss 0 []) t) c underfull in
+      cond_ok (is_small t) _ _ c h
+      (λ underfull. let made = map_ok (put_grown family (drop 1 ss) ps) (with_left family left (get_or ss 0 []) t) c underfull in
       ap (λ (x : Children E M). entries_in x.parts) made.made
       ∙ put_grown_entries family (drop 1 ss) ps made.value
       ∙ ap (λ l. l ++ entries_in ps) (left_entries left (get_or ss 0 []) t made.value made.ok)
@@ -168,7 +168,7 @@ module _ {E M : Type 0} (family : Family E M) where
       shrink_takes (stub d) u h = absurd (cc)
       shrink_takes (leaf es) u h = leaf_takes (has_key family key es) es u refl h
       shrink_takes (inner ss ps) u h =
-          let m = mapped node_of (shrink_in family key ss ps) u h in
+          let m = map_ok node_of (shrink_in family key ss ps) u h in
           takes_same family.key key (entries_in ps) (entries_in m.value.parts) (entries u) (shrink_in_takes ss ps m.value m.ok) (ap entries (sym m.made))
 
       shrink_in_takes : (ss : List (List ℕ)) (ps : Parts E M) (c : Children E M)
@@ -176,8 +176,8 @@ module _ {E M : Type 0} (family : Family E M) where
           → TakesKey (entries_in ps) (entries_in c.parts)
       shrink_in_takes ss none c h = absurd (cc)
       shrink_in_takes ss (more k p ps) c h =
-          chosen _ _ _ c h
-          (λ here. let m = then_made (settle_first family ss ps) (shrink family key p) c here in
+          cond_ok _ _ _ c h
+          (λ here. let m = then_ok (settle_first family ss ps) (shrink family key p) c here in
           takes_same family.key key (entries p ++ entries_in ps) (entries m.value ++ entries_in ps) (entries_in c.parts)
           (before_taken family.key key (entries_in ps) (entries p) (entries m.value) (shrink_takes p m.value m.ok)) (sym (first_entries ss ps m.value c m.made)))
           (λ on. shrink_after_takes k p ss ps c on)
@@ -187,17 +187,17 @@ module _ {E M : Type 0} (family : Family E M) where
           → TakesKey (entries left ++ entries_in ps) (entries_in c.parts)
       shrink_after_takes k left ss none c h = absurd (cc)
       shrink_after_takes k left ss (more n p ps) c h =
-          chosen _ _ _ c h
-          (λ here. let m = then_made (settle_next family k left ss ps) (shrink family key p) c here in
+          cond_ok _ _ _ c h
+          (λ here. let m = then_ok (settle_next family k left ss ps) (shrink family key p) c here in
           takes_same family.key key (entries left ++ (entries p ++ entries_in ps)) (entries left ++ (entries m.value ++ entries_in ps)) (entries_in c.parts)
           (after_taken family.key key (entries left) _ _ (before_taken family.key key (entries_in ps) (entries p) (entries m.value) (shrink_takes p m.value m.ok)))
           (sym (next_entries k left ss ps m.value c m.made)))
-          (λ on. let m = mapped (after_child k left ss) (shrink_after family key n p (drop 1 ss) ps) c on in
+          (λ on. let m = map_ok (after_child k left ss) (shrink_after family key n p (drop 1 ss) ps) c on in
           takes_same family.key key (entries left ++ (entries p ++ entries_in ps)) (entries left ++ entries_in m.value.parts) (entries_in c.parts)
           (after_taken family.key key (entries left) _ _ (shrink_after_takes n p (drop 1 ss) ps m.value m.ok)) (ap (λ (x : Children E M). entries_in x.parts) (sym m.made)))
 
     pub removed_takes : (t u : Part E M) → removed_by family key t ≡ Ok u
         → TakesKey (entries t) (entries u)
     removed_takes t u h =
-        let m = mapped settled_root (shrink family key t) u h in
+        let m = map_ok settled_root (shrink family key t) u h in
         takes_same family.key key (entries t) (entries m.value) (entries u) (shrink_takes t m.value m.ok) (sym (settled_entries m.value) ∙ ap entries (sym m.made))

@@ -8,7 +8,7 @@ use Rattle.vo_spec.specs.Removes.{edit_entry, edited_by, edited_in}
 use Rattle.btree.specs.Agreeing.{Agrees}
 use Rattle.btree.specs.Pruning.{KeepsKeys, KeepsMarks}
 use Rattle.btree.specs.Pruning as pruning
-use Rattle.btree.proofs.AgreeingResults.{agrees_map, agrees_chosen, agrees_weaker}
+use Rattle.btree.proofs.AgreeingResults.{agrees_map, agrees_cond, agrees_weaker}
 use Rattle.btree.proofs.PrunedLists.{open_prunes}
 
 module _ {E M : Type 0} (family : Family E M) (EntryPrunes : E → E → Type 0) where
@@ -36,7 +36,7 @@ module _ {E M : Type 0} (family : Family E M) (EntryPrunes : E → E → Type 0)
           subst (λ k. Agrees Zip (edit_entry family edit key (e ∷ es))
           (cond (bytes_eq k key) (result_map (λ g. g ∷ fs) (other f)) (result_map (λ gs. f ∷ gs) (edit_entry family other key fs))))
           (same_key e f z.0)
-          (agrees_chosen Zip (bytes_eq (family.key e) key) _ _ _ _
+          (agrees_cond Zip (bytes_eq (family.key e) key) _ _ _ _
           (agrees_map EntryPrunes Zip (λ g. g ∷ es) (λ g. g ∷ fs) _ _ (λ x y h. (h, z.1)) (edits_agree e f z.0))
           (agrees_map Zip Zip (λ gs. e ∷ gs) (λ gs. f ∷ gs) _ _ (λ xs ys h. (z.0, h)) (entry_agrees es fs z.1)))
 
@@ -60,7 +60,7 @@ module _ {E M : Type 0} (family : Family E M) (EntryPrunes : E → E → Type 0)
         in_agrees ss none (more m p ps) z = absurd z
         in_agrees ss (more m p ps) none z = absurd z
         in_agrees ss (more m p ps) (more n q qs) z =
-            agrees_chosen Each (goes_here key (slice_get ss 0)) _ _ _ _
+            agrees_cond Each (goes_here key (slice_get ss 0)) _ _ _ _
             (agrees_map OpenPrunes Each (λ u. more (family.mark u) u ps) (λ u. more (family.mark u) u qs) _ _
             (λ u v h. (same_mark u v h, open_prunes family EntryPrunes u v h, z.2)) (open_agrees p q z.1))
             (agrees_map Each Each (more m p) (more n q) _ _ (λ us vs h. (z.0, z.1, h)) (in_agrees (drop 1 ss) ps qs z.2))
