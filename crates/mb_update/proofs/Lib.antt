@@ -22,3 +22,6 @@ pub mod PrunedRemovals
 pub mod PrunedReplacements
 pub mod ShrunkFits
 pub mod ReplacedFits
+pub mod RowEntries
+pub mod RowLimits
+pub mod RowPruning

@@ -1,0 +1,87 @@
+-- Changes of a tree of so many rows, with every cell shown, give such trees.
+use Rattle.std.proofs.Common.{◌≡◌, ℕ, ◌+◌, ◌-◌, ◌≤◌, List, [], ◌∷◌, length, map, Ok, refl, sym, ap, ◌∙◌, arith, slice_set}
+use Rattle.std.proofs.lemmas.List.{map-set}
+use Rattle.vo_spec.specs.declared.values.Value.{Value}
+use Rattle.vo_spec.specs.declared.values.Row.{Row}
+use Rattle.vo_spec.specs.declared.cells.Cell.TheVariants.{Shown}
+use Rattle.vo_spec.specs.declared.cells.PartEntry.{PartEntry}
+use Rattle.vo_spec.specs.Tables.{CellChange, changed_cells}
+use Rattle.vo_spec.specs.Cells.{whole_cells, whole_entry}
+use Rattle.vo_spec.specs.Parts.{entries}
+use Rattle.vo_spec.specs.Trees.{RowTree, row_family, key_in}
+use Rattle.vo_spec.specs.Inserts.{inserted}
+use Rattle.vo_spec.specs.Removes.{set_cells, set_row, removed, replaced}
+use Rattle.vo_spec.specs.Standing.{row_in, shown_values}
+use Rattle.mb_tree.specs.Standing.{IsWhole}
+use Rattle.mb_update.specs.Sets.{changed_by}
+use Rattle.btree.proofs.OkResults.{ok_same}
+use Rattle.btree.proofs.InsertedEntries.{puts_count, puts_fixed, inserted_puts}
+use Rattle.btree.proofs.RemovedEntries.{takes_count, takes_fixed, removed_takes}
+use Rattle.btree.proofs.ReplacedEntries.{edits_count, edits_fixed, edited_edits}
+
+-- the entry of the row that an entry shows, which is the entry itself where every cell is shown
+abbrev shown_again : PartEntry → PartEntry
+shown_again e = whole_entry (row_in e)
+
+map_map : (xs : List PartEntry) → map whole_entry (map row_in xs) ≡ map shown_again xs
+map_map [] = refl
+map_map (x ∷ xs) = ap (λ l. shown_again x ∷ l) (map_map xs)
+
+values_shown : (vs : List Value) → shown_values (whole_cells vs) ≡ vs
+values_shown [] = refl
+values_shown (v ∷ vs) = ap (λ rest. v ∷ rest) (values_shown vs)
+
+whole_again : (row : Row) → shown_again (whole_entry row) ≡ whole_entry row
+whole_again row = ap (λ vs. whole_entry (record { key = row.key; cells = vs })) (values_shown row.cells)
+
+all_shown : (t : RowTree) (n : ℕ) → IsWhole t n → map shown_again (entries t) ≡ entries t
+all_shown t n w = sym (map_map (entries t)) ∙ sym w.shown
+
+whole_of_shown : (t : RowTree) (n : ℕ) → map shown_again (entries t) ≡ entries t → n ≡ length (entries t) → IsWhole t n
+whole_of_shown t n shown counted = record { shown = sym shown ∙ sym (map_map (entries t)); counted = counted }
+
+pub inserted_whole : (row : Row) (t u : RowTree) (n : ℕ) → IsWhole t n → inserted (whole_entry row) t ≡ Ok u → IsWhole u (n + 1)
+inserted_whole row t u n w h =
+    let puts = inserted_puts row_family (whole_entry row) t u h in
+    whole_of_shown u (n + 1)
+    (puts_fixed shown_again (whole_entry row) (entries t) (entries u) puts (whole_again row) (all_shown t n w))
+    (omega (arith, w.counted, puts_count (whole_entry row) (entries t) (entries u) puts))
+
+pub record Shortened (u : RowTree) (n : ℕ) : Type 0 where
+  pub some : 1 ≤ n
+  pub whole : IsWhole u (n - 1)
+
+pub removed_whole : (key : List ℕ) (t u : RowTree) (n : ℕ) → IsWhole t n → removed key t ≡ Ok u → Shortened u n
+removed_whole key t u n w h =
+    let takes = removed_takes row_family key t u h in
+    let count = takes_count key_in key (entries t) (entries u) takes in
+    record {
+      some = omega (arith, w.counted);
+      whole = whole_of_shown u (n - 1)
+          (takes_fixed key_in key shown_again (entries t) (entries u) takes (all_shown t n w))
+          (omega (arith, w.counted));
+    }
+
+-- A row whose values are replaced.
+
+cells_set : (changes : List CellChange) (values : List Value) → set_cells changes (whole_cells values) ≡ whole_cells (changed_cells changes values)
+cells_set [] values = refl
+cells_set (c ∷ changes) values =
+    ap (set_cells changes) (sym (map-set Shown values c.column c.value)) ∙ cells_set changes (slice_set values c.column c.value)
+
+pub row_set : (changes : List CellChange) (row : Row) → set_row changes (whole_entry row) ≡ Ok (whole_entry (changed_by changes row))
+row_set changes row = rw (cells_set changes row.cells) refl
+
+set_shown : (changes : List CellChange) (e f : PartEntry) → shown_again e ≡ e → set_row changes e ≡ Ok f → shown_again f ≡ f
+set_shown changes e f shown sets =
+    let new = changed_by changes (row_in e) in
+    let is : whole_entry new ≡ f = ok_same (whole_entry new) f (sym (row_set changes (row_in e)) ∙ ap (set_row changes) shown ∙ sets) in
+    ap shown_again (sym is) ∙ whole_again new ∙ is
+
+pub replaced_whole : (key : List ℕ) (changes : List CellChange) (t u : RowTree) (n : ℕ) → IsWhole t n → replaced key changes t ≡ Ok u → IsWhole u n
+replaced_whole key changes t u n w h =
+    let edits = edited_edits row_family (set_row changes) key t u h in
+    let count = edits_count key_in (set_row changes) key (entries t) (entries u) edits in
+    whole_of_shown u n
+    (edits_fixed key_in (set_row changes) key shown_again (entries t) (entries u) edits (set_shown changes) (all_shown t n w))
+    (omega (arith, w.counted))
