@@ -32,10 +32,10 @@ agrees_map R S f g (Err Missing) s on h = tt
 agrees_map R S f g (Err Memory) (Ok y) on h = absurd h
 agrees_map R S f g (Err Memory) (Err other) on h = h
 
-pub agrees_chosen : {A : Type 0} (R : A → A → Type 0) (b : Bool) (w x y z : Result A UpdateFault)
+pub agrees_cond : {A : Type 0} (R : A → A → Type 0) (b : Bool) (w x y z : Result A UpdateFault)
     → Agrees R w y → Agrees R x z → Agrees R (cond b w x) (cond b y z)
-agrees_chosen R true w x y z h g = h
-agrees_chosen R false w x y z h g = g
+agrees_cond R true w x y z h g = h
+agrees_cond R false w x y z h g = g
 
 pub agrees_weaker : {A : Type 0} (R S : A → A → Type 0) (r s : Result A UpdateFault)
     → ((x y : A) → R x y → S x y) → Agrees R r s → Agrees S r s

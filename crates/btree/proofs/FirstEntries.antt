@@ -10,15 +10,18 @@ use Rattle.btree.proofs.OkResults.{map_map}
 
 -- Steps of the recursions over entries.
 
-absent_step : (b rest : Bool) (n i j : ℕ) → j ≡ suc i → suc n ≤ cond (not b) j 0 → (n ≤ i → rest ≡ false) → b || rest ≡ false
+absent_step : (b rest : Bool) (n i j : ℕ) → j ≡ suc i → suc n ≤ cond (not b) j 0
+    → (n ≤ i → rest ≡ false) → b || rest ≡ false
 absent_step true rest n i j next h on = absurd (omega arith)
 absent_step false rest n i j next h on = on (omega arith)
 
-there_step : (b rest : Bool) (n i j : ℕ) → j ≡ suc i → cond (not b) j 0 < suc n → (i < n → rest ≡ true) → b || rest ≡ true
+there_step : (b rest : Bool) (n i j : ℕ) → j ≡ suc i → cond (not b) j 0 < suc n → (i < n → rest ≡ true)
+    → b || rest ≡ true
 there_step true rest n i j next h on = refl
 there_step false rest n i j next h on = on (omega arith)
 
-without_step : {E : Type 0} (b : Bool) (i j : ℕ) (e : E) (es rest : List E) → j ≡ suc i → rest ≡ take i es ++ drop (i + 1) es
+without_step : {E : Type 0} (b : Bool) (i j : ℕ) (e : E) (es rest : List E) → j ≡ suc i
+    → rest ≡ take i es ++ drop (i + 1) es
     → cond b es (e ∷ rest) ≡ take (cond (not b) j 0) (e ∷ es) ++ drop (cond (not b) j 0 + 1) (e ∷ es)
 without_step true i j e es rest next h = refl
 without_step false i j e es rest next h = ap (λ l. e ∷ l) h ∙ rw (next, add-one i, add-one (suc i)) refl
@@ -27,7 +30,8 @@ without_step false i j e es rest next h = ap (λ l. e ∷ l) h ∙ rw (next, add
 abbrev pub with_entry : {E : Type 0} → ℕ → List E → E → List E
 with_entry i es f = take i es ++ f ∷ drop (i + 1) es
 
-with_entry_next : {E : Type 0} (i : ℕ) (e : E) (es : List E) (f : E) → e ∷ with_entry i es f ≡ with_entry (suc i) (e ∷ es) f
+with_entry_next : {E : Type 0} (i : ℕ) (e : E) (es : List E) (f : E)
+    → e ∷ with_entry i es f ≡ with_entry (suc i) (e ∷ es) f
 with_entry_next i e es f = rw (add-one i, add-one (suc i)) refl
 
 module _ {E M : Type 0} (family : Family E M) (key : List ℕ) where
@@ -48,7 +52,8 @@ module _ {E M : Type 0} (family : Family E M) (key : List ℕ) where
 
   -- A leaf without the entry, and one that has none.
 
-  without_at : (es : List E) → without_entry family key es ≡ take (first_place es) es ++ drop (first_place es + 1) es
+  without_at : (es : List E)
+      → without_entry family key es ≡ take (first_place es) es ++ drop (first_place es + 1) es
   without_at [] = refl
   without_at (e ∷ es) =
       let i = first_place es in
@@ -61,14 +66,16 @@ module _ {E M : Type 0} (family : Family E M) (key : List ℕ) where
       ∙ ap (λ l. Ok (leaf l)) (without_at es)
       ∙ rw at refl
 
-  pub no_row : (es : List E) (place : ℕ) → place ≡ first_place es → length es ≤ place → shrink family key (leaf es) ≡ Err NoRow
+  pub no_row : (es : List E) (place : ℕ) → place ≡ first_place es → length es ≤ place
+      → shrink family key (leaf es) ≡ Err NoRow
   no_row es place at past =
       ap (λ b. cond b (Ok (leaf (without_entry family key es))) (Err NoRow)) (key_absent es (omega arith))
 
   -- A leaf with another entry in its place, and one that has none.
 
   module _ (edit : E → Result E UpdateFault) where
-    edit_step : (b : Bool) (i j : ℕ) (e : E) (es : List E) (c : E) → j ≡ suc i → cond (not b) j 0 < suc (length es)
+    edit_step : (b : Bool) (i j : ℕ) (e : E) (es : List E) (c : E) → j ≡ suc i
+        → cond (not b) j 0 < suc (length es)
         → c ≡ get_or (e ∷ es) (cond (not b) j 0) c
         → (i < length es → c ≡ get_or es i c → edit_entry family edit key es ≡ result_map (with_entry i es) (edit c))
         → cond b (result_map (λ f. f ∷ es) (edit e)) (result_map (λ fs. e ∷ fs) (edit_entry family edit key es))
@@ -86,8 +93,10 @@ module _ {E M : Type 0} (family : Family E M) (key : List ℕ) where
         let i = first_place es in
         edit_step (bytes_eq (family.key e) key) i (1 + i) e es c (omega arith) lt is (λ within here. edit_at es c within here)
 
-    absent_edit : (b : Bool) (n i j : ℕ) (e : E) (es : List E) (rest : Result (List E) UpdateFault) → j ≡ suc i → suc n ≤ cond (not b) j 0
-        → (n ≤ i → rest ≡ Err NoRow) → cond b (result_map (λ f. f ∷ es) (edit e)) (result_map (λ fs. e ∷ fs) rest) ≡ Err NoRow
+    absent_edit : (b : Bool) (n i j : ℕ) (e : E) (es : List E) (rest : Result (List E) UpdateFault)
+        → j ≡ suc i → suc n ≤ cond (not b) j 0
+        → (n ≤ i → rest ≡ Err NoRow)
+        → cond b (result_map (λ f. f ∷ es) (edit e)) (result_map (λ fs. e ∷ fs) rest) ≡ Err NoRow
     absent_edit true n i j e es rest next h on = absurd (omega arith)
     absent_edit false n i j e es rest next h on = ap (result_map (λ fs. e ∷ fs)) (on (omega arith))
 
@@ -97,7 +106,8 @@ module _ {E M : Type 0} (family : Family E M) (key : List ℕ) where
         let i = first_place es in
         absent_edit (bytes_eq (family.key e) key) (length es) i (1 + i) e es (edit_entry family edit key es) (omega arith) h (none_edited es)
 
-    pub leaf_edited : (es : List E) (place : ℕ) (c : E) → place ≡ first_place es → place < length es → c ≡ get_or es place c
+    pub leaf_edited : (es : List E) (place : ℕ) (c : E) → place ≡ first_place es → place < length es
+        → c ≡ get_or es place c
         → edited_by family edit key (leaf es) ≡ result_map (λ f. leaf (with_entry place es f)) (edit c)
     leaf_edited es place c at lt is =
         ap (result_map leaf) (edit_at es c (omega arith) (is ∙ ap (λ n. get_or es n c) at))

@@ -8,7 +8,7 @@ use Rattle.vo_spec.specs.Values.{key_lt}
 use Rattle.vo_spec.specs.Parts.{Part, Parts, stub, leaf, inner, none, more, Family, count}
 use Rattle.vo_spec.specs.Fits.{FitsKey, FitsBy, FitsEach}
 use Rattle.vo_spec.specs.Inserts.{Grown, one, two, Children, half, result_map, take_parts, drop_parts, after_child, has_key, put_entry, first_key, split_leaf, split_inner, put_grown, grow, grow_in, root_of, inserted_by}
-use Rattle.btree.proofs.OkResults.{ok_same, mapped, chosen}
+use Rattle.btree.proofs.OkResults.{ok_same, map_ok, cond_ok}
 
 -- Some of a node's children.
 
@@ -59,7 +59,8 @@ module _ {E M : Type 0} (family : Family E M) (FitsE : E → Type 0) (key_fits :
   first_fits [] all = omega arith
   first_fits (e ∷ es) all = key_fits e (All-head FitsE e es all)
 
-  split_leaf_fits : (es : List E) → length es ≤ 17 → All FitsE es → FitsGrown FitsE (split_leaf family es)
+  split_leaf_fits : (es : List E) → length es ≤ 17 → All FitsE es
+      → FitsGrown FitsE (split_leaf family es)
   split_leaf_fits es few all = step (nat_le (length es) 16) refl
     where
       step : (b : Bool) → nat_le (length es) 16 ≡ b
@@ -94,7 +95,8 @@ module _ {E M : Type 0} (family : Family E M) (FitsE : E → Type 0) (key_fits :
 
   -- Inner nodes.
 
-  split_inner_fits : (c : Children E M) (n : ℕ) → 2 ≤ n → n ≤ 16 → FitsChildren FitsE c n → FitsGrown FitsE (split_inner family c)
+  split_inner_fits : (c : Children E M) (n : ℕ) → 2 ≤ n → n ≤ 16 → FitsChildren FitsE c n
+      → FitsGrown FitsE (split_inner family c)
   split_inner_fits c n least most fits = step (nat_le (count c.parts) 16) refl
     where
       step : (b : Bool) → nat_le (count c.parts) 16 ≡ b
@@ -114,15 +116,18 @@ module _ {E M : Type 0} (family : Family E M) (FitsE : E → Type 0) (key_fits :
             (omega arith, omega arith, omega arith, All-drop FitsKey 8 c.separators fits.keys, drop_fits FitsE 8 c.parts fits.parts),
           )
 
-  put_grown_fits : (ss : List (List ℕ)) (ps : Parts E M) (g : Grown E M) → length ss ≡ count ps → All FitsKey ss
-      → FitsEach FitsE ps → FitsGrown FitsE g → FitsChildren FitsE (put_grown family ss ps g) (count ps + 1)
+  put_grown_fits : (ss : List (List ℕ)) (ps : Parts E M) (g : Grown E M) → length ss ≡ count ps
+      → All FitsKey ss
+      → FitsEach FitsE ps → FitsGrown FitsE g
+      → FitsChildren FitsE (put_grown family ss ps g) (count ps + 1)
   put_grown_fits ss ps (one t) same keys parts fits =
       record { between = omega arith; keys = keys; parts = (fits, parts); least = omega arith; most = omega arith }
   put_grown_fits ss ps (two left key right) same keys parts fits =
       record { between = omega arith; keys = All-cons FitsKey key ss fits.1 keys; parts = (fits.0, (fits.2, parts)); least = omega arith; most = omega arith }
 
   after_child_fits : (m : M) (s : List ℕ) (ss : List (List ℕ)) (p : Part E M) (n : ℕ) (c : Children E M)
-      → FitsKey s → FitsBy FitsE p → FitsChildren FitsE c n → FitsChildren FitsE (after_child m p (s ∷ ss) c) (n + 1)
+      → FitsKey s → FitsBy FitsE p → FitsChildren FitsE c n
+      → FitsChildren FitsE (after_child m p (s ∷ ss) c) (n + 1)
   after_child_fits m s ss p n c key part fits = record {
     between = omega (arith, fits.between);
     keys = All-cons FitsKey s c.separators key fits.keys;
@@ -134,40 +139,46 @@ module _ {E M : Type 0} (family : Family E M) (FitsE : E → Type 0) (key_fits :
   -- Nodes with the entry.
 
   leaf_fits : (b : Bool) (e : E) (es : List E) (g : Grown E M) → FitsE e → length es ≤ 16 → All FitsE es
-      → cond b (Err DuplicateKey) (Ok (split_leaf family (put_entry family e es))) ≡ Ok g → FitsGrown FitsE g
+      → cond b (Err DuplicateKey) (Ok (split_leaf family (put_entry family e es))) ≡ Ok g
+      → FitsGrown FitsE g
   leaf_fits true e es g new few all h = absurd (cc)
   leaf_fits false e es g new few all h =
       let P : Grown E M → Type 0 = λ x. FitsGrown FitsE x in
       subst P (ok_same _ g h) (split_leaf_fits (put_entry family e es) (omega (arith, put_count e es)) (put_fits e new es all))
 
   -- where the search goes to the first child
-  here_fits : (e : E) (ss : List (List ℕ)) (p : Part E M) (ps : Parts E M) (c : Children E M) → length ss ≡ count ps
-      → All FitsKey ss → FitsEach FitsE ps → ((g : Grown E M) → grow family e p ≡ Ok g → FitsGrown FitsE g)
-      → result_map (put_grown family ss ps) (grow family e p) ≡ Ok c → FitsChildren FitsE c (count ps + 1)
+  here_fits : (e : E) (ss : List (List ℕ)) (p : Part E M) (ps : Parts E M) (c : Children E M)
+      → length ss ≡ count ps
+      → All FitsKey ss → FitsEach FitsE ps
+      → ((g : Grown E M) → grow family e p ≡ Ok g → FitsGrown FitsE g)
+      → result_map (put_grown family ss ps) (grow family e p) ≡ Ok c
+      → FitsChildren FitsE c (count ps + 1)
   here_fits e ss p ps c same keys parts grows h =
-      let m = mapped (put_grown family ss ps) (grow family e p) c h in
+      let m = map_ok (put_grown family ss ps) (grow family e p) c h in
       let P : Children E M → Type 0 = λ x. FitsChildren FitsE x (count ps + 1) in
       subst P (sym m.made) (put_grown_fits ss ps m.value same keys parts (grows m.value m.ok))
 
   module _ (e : E) (new : FitsE e) where
     mutual
-      pub grow_fits : (t : Part E M) (g : Grown E M) → FitsBy FitsE t → grow family e t ≡ Ok g → FitsGrown FitsE g
+      pub grow_fits : (t : Part E M) (g : Grown E M) → FitsBy FitsE t → grow family e t ≡ Ok g
+          → FitsGrown FitsE g
       grow_fits (stub d) g fits h = absurd (cc)
       grow_fits (leaf es) g fits h = leaf_fits (has_key family (family.key e) es) e es g new fits.0 fits.1 h
       grow_fits (inner ss ps) g fits h =
-          let m = mapped (split_inner family) (grow_in family e ss ps) g h in
+          let m = map_ok (split_inner family) (grow_in family e ss ps) g h in
           let P : Grown E M → Type 0 = λ x. FitsGrown FitsE x in
           subst P (sym m.made) (split_inner_fits m.value (count ps) fits.0 fits.1 (grow_in_fits ss ps m.value fits.2 fits.3 fits.4 m.ok))
 
-      grow_in_fits : (ss : List (List ℕ)) (ps : Parts E M) (c : Children E M) → length ss + 1 ≡ count ps → All FitsKey ss
+      grow_in_fits : (ss : List (List ℕ)) (ps : Parts E M) (c : Children E M) → length ss + 1 ≡ count ps
+          → All FitsKey ss
           → FitsEach FitsE ps → grow_in family e ss ps ≡ Ok c → FitsChildren FitsE c (count ps)
       grow_in_fits ss none c between keys parts h = absurd (cc)
       grow_in_fits [] (more k p ps) c between keys parts h =
           here_fits e [] p ps c (omega arith) keys parts.1 (λ g grown. grow_fits p g parts.0 grown) h
       grow_in_fits (s ∷ ss) (more k p ps) c between keys parts h =
-          chosen _ _ _ c h
+          cond_ok _ _ _ c h
           (λ here. here_fits e (s ∷ ss) p ps c (omega arith) keys parts.1 (λ g grown. grow_fits p g parts.0 grown) here)
-          (λ on. let m = mapped (after_child k p (s ∷ ss)) (grow_in family e ss ps) c on in
+          (λ on. let m = map_ok (after_child k p (s ∷ ss)) (grow_in family e ss ps) c on in
           let P : Children E M → Type 0 = λ x. FitsChildren FitsE x (count ps + 1) in
           subst P (sym m.made)
           (after_child_fits k s ss p (count ps) m.value (All-head FitsKey s ss keys) parts.0
@@ -178,8 +189,9 @@ module _ {E M : Type 0} (family : Family E M) (FitsE : E → Type 0) (key_fits :
     root_fits (two left key right) fits =
         (omega arith, omega arith, refl, All-cons FitsKey key [] fits.1 (All-nil FitsKey), (fits.0, (fits.2, tt)))
 
-    pub inserted_fits : (t u : Part E M) → FitsBy FitsE t → inserted_by family e t ≡ Ok u → FitsBy FitsE u
+    pub inserted_fits : (t u : Part E M) → FitsBy FitsE t → inserted_by family e t ≡ Ok u
+        → FitsBy FitsE u
     inserted_fits t u fits h =
-        let m = mapped (root_of family) (grow family e t) u h in
+        let m = map_ok (root_of family) (grow family e t) u h in
         let P : Part E M → Type 0 = λ x. FitsBy FitsE x in
         subst P (sym m.made) (root_fits m.value (grow_fits t m.value fits m.ok))

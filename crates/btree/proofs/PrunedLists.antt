@@ -42,13 +42,15 @@ module _ {E : Type 0} (EntryPrunes : E → E → Type 0) where
 
 module _ {E M : Type 0} (family : Family E M) (EntryPrunes : E → E → Type 0) where
   module _ (same_key : KeepsKeys family EntryPrunes) where
-    pub zip_first : (es fs : List E) → AllZip EntryPrunes es fs → first_key family es ≡ first_key family fs
+    pub zip_first : (es fs : List E) → AllZip EntryPrunes es fs
+        → first_key family es ≡ first_key family fs
     zip_first [] [] z = refl
     zip_first [] (f ∷ fs) z = absurd z
     zip_first (e ∷ es) [] z = absurd z
     zip_first (e ∷ es) (f ∷ fs) z = same_key e f z.0
 
-    pub zip_has : (key : List ℕ) (es fs : List E) → AllZip EntryPrunes es fs → has_key family key es ≡ has_key family key fs
+    pub zip_has : (key : List ℕ) (es fs : List E) → AllZip EntryPrunes es fs
+        → has_key family key es ≡ has_key family key fs
     zip_has key [] [] z = refl
     zip_has key [] (f ∷ fs) z = absurd z
     zip_has key (e ∷ es) [] z = absurd z
@@ -79,14 +81,16 @@ module _ {E M : Type 0} (family : Family E M) (EntryPrunes : E → E → Type 0)
   each_drop zero (more m p ps) (more k q qs) z = z
   each_drop (suc n) (more m p ps) (more k q qs) z = each_drop n ps qs z.2
 
-  pub each_join : (ps qs rs ts : Parts E M) → Each ps qs → Each rs ts → Each (joined_parts ps rs) (joined_parts qs ts)
+  pub each_join : (ps qs rs ts : Parts E M) → Each ps qs → Each rs ts
+      → Each (joined_parts ps rs) (joined_parts qs ts)
   each_join none none rs ts y z = z
   each_join none (more m p ps) rs ts y z = absurd y
   each_join (more m p ps) none rs ts y z = absurd y
   each_join (more m p ps) (more n q qs) rs ts y z = (y.0, y.1, each_join ps qs rs ts y.2 z)
 
   -- what is open prunes as well
-  pub open_prunes : (p t : Part E M) → OpenPrunes family EntryPrunes p t → PrunesBy family EntryPrunes p t
+  pub open_prunes : (p t : Part E M) → OpenPrunes family EntryPrunes p t
+      → PrunesBy family EntryPrunes p t
   open_prunes (stub d) t z = absurd z
   open_prunes (leaf es) t z = z
   open_prunes (inner ss ps) t z = z

@@ -7,7 +7,7 @@ use Rattle.vo_spec.specs.Parts.{Part, Parts, stub, leaf, inner, none, more, Fami
 use Rattle.vo_spec.specs.Inserts.{half, Grown, one, two, Children, has_key, first_key, take_parts, drop_parts, after_child, put_grown}
 use Rattle.vo_spec.specs.Removes.{joined_parts, is_small, settled_root, without_entry, with_left, with_right, settle_first, settle_next, shrink, shrink_in, shrink_after, removed_by}
 use Rattle.btree.specs.Placing.{node_of}
-use Rattle.btree.proofs.OkResults.{ok_same, mapped, then_made, chosen}
+use Rattle.btree.proofs.OkResults.{ok_same, map_ok, then_ok, cond_ok}
 use Rattle.btree.proofs.InsertedEntries.{Puts, entries_of, after_others, before_others, take_drop_parts, put_grown_entries, puts_count, all_fixed, fixed_all}
 
 -- the second list is the first without one of its entries of this key
@@ -35,20 +35,23 @@ module _ {E : Type 0} (key_of : E → List ℕ) (key : List ℕ) where
   pub takes_count : (xs ys : List E) → Takes key_of key xs ys → length xs ≡ length ys + 1
   takes_count xs ys t = puts_count t.entry ys xs t.puts
 
-  pub takes_fixed : (f : E → E) (xs ys : List E) → Takes key_of key xs ys → map f xs ≡ xs → map f ys ≡ ys
+  pub takes_fixed : (f : E → E) (xs ys : List E) → Takes key_of key xs ys → map f xs ≡ xs
+      → map f ys ≡ ys
   takes_fixed f xs ys t h =
       let p = t.puts in
       let is : map f (p.before ++ t.entry ∷ p.after) ≡ p.before ++ t.entry ∷ p.after = ap (map f) (sym p.is) ∙ h ∙ p.is in
       ap (map f) p.was ∙ fixed_all f _ (all_without (λ x. f x ≡ x) t.entry p.before p.after (all_fixed f _ is)) ∙ sym p.was
     where
-      all_without : (P : E → Type 0) (e : E) (us vs : List E) → AllByRecursion P (us ++ e ∷ vs) → AllByRecursion P (us ++ vs)
+      all_without : (P : E → Type 0) (e : E) (us vs : List E) → AllByRecursion P (us ++ e ∷ vs)
+          → AllByRecursion P (us ++ vs)
       all_without P e [] vs h = h.1
       all_without P e (u ∷ us) vs h = (h.0, all_without P e us vs h.1)
 
 -- Two nodes and what comes of them have the same entries.
 
 module _ {E M : Type 0} where
-  joined_entries : (ps qs : Parts E M) → entries_in (joined_parts ps qs) ≡ entries_in ps ++ entries_in qs
+  joined_entries : (ps qs : Parts E M)
+      → entries_in (joined_parts ps qs) ≡ entries_in ps ++ entries_in qs
   joined_entries none qs = refl
   joined_entries (more m p ps) qs = ap (λ l. entries p ++ l) (joined_entries ps qs) ∙ sym (append_assoc (entries p) (entries_in ps) (entries_in qs))
 
@@ -86,7 +89,8 @@ module _ {E M : Type 0} (family : Family E M) where
   leaf_right true n ls rs = append_assoc ls (take n rs) (drop n rs) ∙ ap (λ l. ls ++ l) (take-append-drop n rs)
   leaf_right false n ls rs = refl
 
-  left_entries : (t : Part E M) (s : List ℕ) (u : Part E M) (g : Grown E M) → with_left family t s u ≡ Ok g → entries_of g ≡ entries t ++ entries u
+  left_entries : (t : Part E M) (s : List ℕ) (u : Part E M) (g : Grown E M)
+      → with_left family t s u ≡ Ok g → entries_of g ≡ entries t ++ entries u
   left_entries (stub d) s u g h = absurd (cc)
   left_entries (leaf ls) s (stub d) g h = absurd (cc)
   left_entries (leaf ls) s (leaf rs) g h = ap entries_of (sym (ok_same _ g h)) ∙ leaf_left (nat_lt half (length ls)) (length ls - 1) ls rs
@@ -97,7 +101,8 @@ module _ {E M : Type 0} (family : Family E M) where
       ap entries_of (sym (ok_same _ g h))
       ∙ inner_left (nat_lt half (count ps)) (count ps - 1) (get_or ls (length ls - 1) []) (take (length ls - 1) ls) (s ∷ rs) (ls ++ s ∷ rs) ps qs
 
-  right_entries : (t : Part E M) (s : List ℕ) (u : Part E M) (g : Grown E M) → with_right family t s u ≡ Ok g → entries_of g ≡ entries t ++ entries u
+  right_entries : (t : Part E M) (s : List ℕ) (u : Part E M) (g : Grown E M)
+      → with_right family t s u ≡ Ok g → entries_of g ≡ entries t ++ entries u
   right_entries (stub d) s u g h = absurd (cc)
   right_entries (leaf ls) s (stub d) g h = absurd (cc)
   right_entries (leaf ls) s (leaf rs) g h = ap entries_of (sym (ok_same _ g h)) ∙ leaf_right (nat_lt half (length rs)) 1 ls rs
@@ -108,12 +113,13 @@ module _ {E M : Type 0} (family : Family E M) where
       ap entries_of (sym (ok_same _ g h))
       ∙ inner_right (nat_lt half (count qs)) 1 (get_or rs 0 []) (ls ++ s ∷ []) (drop 1 rs) (ls ++ s ∷ rs) ps qs
 
-  first_entries : (ss : List (List ℕ)) (ps : Parts E M) (t : Part E M) (c : Children E M) → settle_first family ss ps t ≡ Ok c
+  first_entries : (ss : List (List ℕ)) (ps : Parts E M) (t : Part E M) (c : Children E M)
+      → settle_first family ss ps t ≡ Ok c
       → entries_in c.parts ≡ entries t ++ entries_in ps
   first_entries ss none t c h = ap (λ (x : Children E M). entries_in x.parts) (sym (ok_same _ c h))
   first_entries ss (more m u ps) t c h =
-      chosen (is_small t) _ _ c h
-      (λ underfull. let made = mapped (put_grown family (drop 1 ss) ps) (with_right family t (get_or ss 0 []) u) c underfull in
+      cond_ok (is_small t) _ _ c h
+      (λ underfull. let made = map_ok (put_grown family (drop 1 ss) ps) (with_right family t (get_or ss 0 []) u) c underfull in
       ap (λ (x : Children E M). entries_in x.parts) made.made
       ∙ put_grown_entries family (drop 1 ss) ps made.value
       ∙ ap (λ l. l ++ entries_in ps) (right_entries t (get_or ss 0 []) u made.value made.ok)
@@ -121,10 +127,11 @@ module _ {E M : Type 0} (family : Family E M) where
       (λ enough. ap (λ (x : Children E M). entries_in x.parts) (sym (ok_same _ c enough)))
 
   next_entries : (m : M) (left : Part E M) (ss : List (List ℕ)) (ps : Parts E M) (t : Part E M) (c : Children E M)
-      → settle_next family m left ss ps t ≡ Ok c → entries_in c.parts ≡ entries left ++ (entries t ++ entries_in ps)
+      → settle_next family m left ss ps t ≡ Ok c
+      → entries_in c.parts ≡ entries left ++ (entries t ++ entries_in ps)
   next_entries m left ss ps t c h =
-      chosen (is_small t) _ _ c h
-      (λ underfull. let made = mapped (put_grown family (drop 1 ss) ps) (with_left family left (get_or ss 0 []) t) c underfull in
+      cond_ok (is_small t) _ _ c h
+      (λ underfull. let made = map_ok (put_grown family (drop 1 ss) ps) (with_left family left (get_or ss 0 []) t) c underfull in
       ap (λ (x : Children E M). entries_in x.parts) made.made
       ∙ put_grown_entries family (drop 1 ss) ps made.value
       ∙ ap (λ l. l ++ entries_in ps) (left_entries left (get_or ss 0 []) t made.value made.ok)
@@ -137,12 +144,15 @@ module _ {E M : Type 0} (family : Family E M) where
     abbrev TakesKey : List E → List E → Type 0
     TakesKey = Takes family.key key
 
-    without_step : (b c : Bool) (e : E) (es : List E) → bytes_eq (family.key e) key ≡ b → (b || c) ≡ true
-        → (c ≡ true → TakesKey es (without_entry family key es)) → TakesKey (e ∷ es) (cond b es (e ∷ without_entry family key es))
+    without_step : (b c : Bool) (e : E) (es : List E) → bytes_eq (family.key e) key ≡ b
+        → (b || c) ≡ true
+        → (c ≡ true → TakesKey es (without_entry family key es))
+        → TakesKey (e ∷ es) (cond b es (e ∷ without_entry family key es))
     without_step true c e es has h on = record { entry = e; has = has; puts = record { before = []; after = es; was = refl; is = refl } }
     without_step false c e es has h on = after_taken family.key key (e ∷ []) es (without_entry family key es) (on h)
 
-    pub without_takes : (es : List E) → has_key family key es ≡ true → TakesKey es (without_entry family key es)
+    pub without_takes : (es : List E) → has_key family key es ≡ true
+        → TakesKey es (without_entry family key es)
     without_takes [] h = absurd (cc)
     without_takes (e ∷ es) h = without_step (bytes_eq (family.key e) key) (has_key family key es) e es refl h (without_takes es)
 
@@ -153,37 +163,41 @@ module _ {E M : Type 0} (family : Family E M) where
     leaf_takes false es u has h = absurd (cc)
 
     mutual
-      pub shrink_takes : (t u : Part E M) → shrink family key t ≡ Ok u → TakesKey (entries t) (entries u)
+      pub shrink_takes : (t u : Part E M) → shrink family key t ≡ Ok u
+          → TakesKey (entries t) (entries u)
       shrink_takes (stub d) u h = absurd (cc)
       shrink_takes (leaf es) u h = leaf_takes (has_key family key es) es u refl h
       shrink_takes (inner ss ps) u h =
-          let m = mapped node_of (shrink_in family key ss ps) u h in
+          let m = map_ok node_of (shrink_in family key ss ps) u h in
           takes_same family.key key (entries_in ps) (entries_in m.value.parts) (entries u) (shrink_in_takes ss ps m.value m.ok) (ap entries (sym m.made))
 
-      shrink_in_takes : (ss : List (List ℕ)) (ps : Parts E M) (c : Children E M) → shrink_in family key ss ps ≡ Ok c
+      shrink_in_takes : (ss : List (List ℕ)) (ps : Parts E M) (c : Children E M)
+          → shrink_in family key ss ps ≡ Ok c
           → TakesKey (entries_in ps) (entries_in c.parts)
       shrink_in_takes ss none c h = absurd (cc)
       shrink_in_takes ss (more k p ps) c h =
-          chosen _ _ _ c h
-          (λ here. let m = then_made (settle_first family ss ps) (shrink family key p) c here in
+          cond_ok _ _ _ c h
+          (λ here. let m = then_ok (settle_first family ss ps) (shrink family key p) c here in
           takes_same family.key key (entries p ++ entries_in ps) (entries m.value ++ entries_in ps) (entries_in c.parts)
           (before_taken family.key key (entries_in ps) (entries p) (entries m.value) (shrink_takes p m.value m.ok)) (sym (first_entries ss ps m.value c m.made)))
           (λ on. shrink_after_takes k p ss ps c on)
 
       shrink_after_takes : (k : M) (left : Part E M) (ss : List (List ℕ)) (ps : Parts E M) (c : Children E M)
-          → shrink_after family key k left ss ps ≡ Ok c → TakesKey (entries left ++ entries_in ps) (entries_in c.parts)
+          → shrink_after family key k left ss ps ≡ Ok c
+          → TakesKey (entries left ++ entries_in ps) (entries_in c.parts)
       shrink_after_takes k left ss none c h = absurd (cc)
       shrink_after_takes k left ss (more n p ps) c h =
-          chosen _ _ _ c h
-          (λ here. let m = then_made (settle_next family k left ss ps) (shrink family key p) c here in
+          cond_ok _ _ _ c h
+          (λ here. let m = then_ok (settle_next family k left ss ps) (shrink family key p) c here in
           takes_same family.key key (entries left ++ (entries p ++ entries_in ps)) (entries left ++ (entries m.value ++ entries_in ps)) (entries_in c.parts)
           (after_taken family.key key (entries left) _ _ (before_taken family.key key (entries_in ps) (entries p) (entries m.value) (shrink_takes p m.value m.ok)))
           (sym (next_entries k left ss ps m.value c m.made)))
-          (λ on. let m = mapped (after_child k left ss) (shrink_after family key n p (drop 1 ss) ps) c on in
+          (λ on. let m = map_ok (after_child k left ss) (shrink_after family key n p (drop 1 ss) ps) c on in
           takes_same family.key key (entries left ++ (entries p ++ entries_in ps)) (entries left ++ entries_in m.value.parts) (entries_in c.parts)
           (after_taken family.key key (entries left) _ _ (shrink_after_takes n p (drop 1 ss) ps m.value m.ok)) (ap (λ (x : Children E M). entries_in x.parts) (sym m.made)))
 
-    pub removed_takes : (t u : Part E M) → removed_by family key t ≡ Ok u → TakesKey (entries t) (entries u)
+    pub removed_takes : (t u : Part E M) → removed_by family key t ≡ Ok u
+        → TakesKey (entries t) (entries u)
     removed_takes t u h =
-        let m = mapped settled_root (shrink family key t) u h in
+        let m = map_ok settled_root (shrink family key t) u h in
         takes_same family.key key (entries t) (entries m.value) (entries u) (shrink_takes t m.value m.ok) (sym (settled_entries m.value) ∙ ap entries (sym m.made))

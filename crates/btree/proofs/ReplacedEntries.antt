@@ -5,7 +5,7 @@ use Rattle.vo_spec.specs.declared.trees.UpdateFault.{UpdateFault}
 use Rattle.vo_spec.specs.Parts.{Part, Parts, stub, leaf, inner, none, more, Family, entries, entries_in}
 use Rattle.vo_spec.specs.Inserts.{result_map}
 use Rattle.vo_spec.specs.Removes.{edit_entry, edited_by, edited_in}
-use Rattle.btree.proofs.OkResults.{mapped, chosen}
+use Rattle.btree.proofs.OkResults.{map_ok, cond_ok}
 use Rattle.btree.proofs.InsertedEntries.{all_fixed, fixed_all}
 
 -- the second list is the first with one entry of this key edited
@@ -63,7 +63,8 @@ module _ {E : Type 0} (key_of : E → List ℕ) (edit : E → Result E UpdateFau
   each_between P e [] ys h = h.0
   each_between P e (x ∷ xs) ys h = each_between P e xs ys h.1
 
-  each_with : (P : E → Type 0) (e f : E) (xs ys : List E) → P f → AllByRecursion P (xs ++ e ∷ ys) → AllByRecursion P (xs ++ f ∷ ys)
+  each_with : (P : E → Type 0) (e f : E) (xs ys : List E) → P f → AllByRecursion P (xs ++ e ∷ ys)
+      → AllByRecursion P (xs ++ f ∷ ys)
   each_with P e f [] ys new h = (new, h.1)
   each_with P e f (x ∷ xs) ys new h = (h.0, each_with P e f xs ys new h.1)
 
@@ -82,12 +83,13 @@ module _ {E M : Type 0} (family : Family E M) (edit : E → Result E UpdateFault
 
   leaf_step : (b : Bool) (e : E) (es fs : List E) → bytes_eq (family.key e) key ≡ b
       → cond b (result_map (λ f. f ∷ es) (edit e)) (result_map (λ gs. e ∷ gs) (edit_entry family edit key es)) ≡ Ok fs
-      → ((gs : List E) → edit_entry family edit key es ≡ Ok gs → EditsTree es gs) → EditsTree (e ∷ es) fs
+      → ((gs : List E) → edit_entry family edit key es ≡ Ok gs → EditsTree es gs)
+      → EditsTree (e ∷ es) fs
   leaf_step true e es fs has h on =
-      let m = mapped (λ f. f ∷ es) (edit e) fs h in
+      let m = map_ok (λ f. f ∷ es) (edit e) fs h in
       record { before = []; after = es; old = e; new = m.value; was = refl; is = m.made; has = has; edits = m.ok }
   leaf_step false e es fs has h on =
-      let m = mapped (λ gs. e ∷ gs) (edit_entry family edit key es) fs h in
+      let m = map_ok (λ gs. e ∷ gs) (edit_entry family edit key es) fs h in
       edits_same family.key edit key (e ∷ es) (e ∷ m.value) fs (after_edited family.key edit key (e ∷ []) es m.value (on m.value m.ok)) m.made
 
   leaf_edits : (es fs : List E) → edit_entry family edit key es ≡ Ok fs → EditsTree es fs
@@ -95,22 +97,24 @@ module _ {E M : Type 0} (family : Family E M) (edit : E → Result E UpdateFault
   leaf_edits (e ∷ es) fs h = leaf_step (bytes_eq (family.key e) key) e es fs refl h (λ gs made. leaf_edits es gs made)
 
   mutual
-    pub edited_edits : (t u : Part E M) → edited_by family edit key t ≡ Ok u → EditsTree (entries t) (entries u)
+    pub edited_edits : (t u : Part E M) → edited_by family edit key t ≡ Ok u
+        → EditsTree (entries t) (entries u)
     edited_edits (stub d) u h = absurd (cc)
     edited_edits (leaf es) u h =
-        let m = mapped leaf (edit_entry family edit key es) u h in
+        let m = map_ok leaf (edit_entry family edit key es) u h in
         edits_same family.key edit key es m.value (entries u) (leaf_edits es m.value m.ok) (ap entries m.made)
     edited_edits (inner ss ps) u h =
-        let m = mapped (inner ss) (edited_in family edit key ss ps) u h in
+        let m = map_ok (inner ss) (edited_in family edit key ss ps) u h in
         edits_same family.key edit key (entries_in ps) (entries_in m.value) (entries u) (children_edited ss ps m.value m.ok) (ap entries m.made)
 
-    children_edited : (ss : List (List ℕ)) (ps qs : Parts E M) → edited_in family edit key ss ps ≡ Ok qs → EditsTree (entries_in ps) (entries_in qs)
+    children_edited : (ss : List (List ℕ)) (ps qs : Parts E M) → edited_in family edit key ss ps ≡ Ok qs
+        → EditsTree (entries_in ps) (entries_in qs)
     children_edited ss none qs h = absurd (cc)
     children_edited ss (more m p ps) qs h =
-        chosen _ _ _ qs h
-        (λ here. let made = mapped (λ q. more (family.mark q) q ps) (edited_by family edit key p) qs here in
+        cond_ok _ _ _ qs h
+        (λ here. let made = map_ok (λ q. more (family.mark q) q ps) (edited_by family edit key p) qs here in
         edits_same family.key edit key (entries p ++ entries_in ps) (entries made.value ++ entries_in ps) (entries_in qs)
         (before_edited family.key edit key (entries_in ps) (entries p) (entries made.value) (edited_edits p made.value made.ok)) (ap entries_in made.made))
-        (λ on. let made = mapped (more m p) (edited_in family edit key (drop 1 ss) ps) qs on in
+        (λ on. let made = map_ok (more m p) (edited_in family edit key (drop 1 ss) ps) qs on in
         edits_same family.key edit key (entries p ++ entries_in ps) (entries p ++ entries_in made.value) (entries_in qs)
         (after_edited family.key edit key (entries p) (entries_in ps) (entries_in made.value) (children_edited (drop 1 ss) ps made.value made.ok)) (ap entries_in made.made))
