@@ -3,3 +3,4 @@ pub mod BranchLaws
 pub mod RowLaws
 pub mod NodeLaws
 pub mod OpenNodes
+pub mod Layouts

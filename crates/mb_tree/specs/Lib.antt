@@ -5,3 +5,4 @@ pub mod Hashed
 pub mod Whole
 pub mod WholeSizes
 pub mod Standing
+pub mod Writing

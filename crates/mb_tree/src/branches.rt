@@ -5,8 +5,8 @@ ghost use Rattle.vo_spec.specs.Parts.{leaf, inner};
 ghost use Rattle.vo_spec.specs.Trees.{digest, open_parts};
 ghost use Rattle.vo_spec.specs.Fits.{FitsPart, most_in_node};
 
-use crate::branch_digest::{inner_digest, leaf_digest};
 use crate::entries::TreeEntry;
+use crate::hashing::{inner_digest, leaf_digest};
 use crate::tree_key::TreeKey;
 use std::alloc::{AllocError, Global};
 use std::marker::Model;

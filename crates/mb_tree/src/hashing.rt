@@ -1,28 +1,35 @@
-//! What is hashed of a node before its children or rows.
-ghost use Rattle.std.specs.Prelude.{◌≡◌, ◌∷◌, [], ◌++◌, ◌≤◌, length};
-ghost use Rattle.vo_spec.specs.Bytes.{string};
-ghost use Rattle.vo_spec.specs.Fits.{FitsKey, most_in_node};
-ghost use Rattle.attr_digest.specs.Adding.{Adds};
-ghost use Rattle.tagged_hash.specs.Holding.{Holds};
+//! Digests of nodes.
+ghost use Rattle.std.specs.Prelude.{◌≡◌, ◌≤◌, length, All};
+ghost use Rattle.vo_spec.specs.Sha256.{sha256};
+ghost use Rattle.vo_spec.specs.Fits.{most_in_node};
+ghost use Rattle.mb_tree.specs.Writing.{leaf_layout, inner_layout};
 
+use crate::layout::{NodeItem, write_inner, write_leaf};
 use tagged_hash::Hasher;
-use vo_spec::u16_bytes;
+use vo_spec::Digest;
 
-/// A hasher of the node's first byte and the count of its entries or children.
-pub fn begin(tag: u8, count: usize) -> Hasher
-    requires { count ≤ most_in_node }
-    ensures { Holds result (tag ∷ count ∷ []) }
+/// The digest of a leaf of these entries.
+pub fn leaf_digest<E: NodeItem>(entries: &[E]) -> Digest
+    requires count { length entries.now ≤ most_in_node }
+    requires can { All E.CanWrite entries.now }
+    ensures value { result ≡ sha256 (leaf_layout E.bytes entries.now) }
+    ensures fits { All E.Fits entries.now }
 {
     let mut hasher = Hasher::new();
-    hasher.add(&[tag, count as u8]);
-    hasher
+    let Ok(()) = write_leaf(&mut hasher, entries);
+    hasher.end()
 }
 
-/// Adds a key or a separator behind its length.
-pub fn add_key(hasher: &mut Hasher, key: &[u8])
-    requires { FitsKey key.now }
-    ensures { Adds hasher.old hasher.new (string key.now) }
+/// The digest of an inner node of these children.
+pub fn inner_digest<K: NodeItem, C: NodeItem>(separators: &[K], children: &[C]) -> Digest
+    requires count { length children.now ≤ most_in_node }
+    requires can_keys { All K.CanWrite separators.now }
+    requires can { All C.CanWrite children.now }
+    ensures value { result ≡ sha256 (inner_layout K.bytes C.bytes separators.now children.now) }
+    ensures keys { All K.Fits separators.now }
+    ensures fits { All C.Fits children.now }
 {
-    hasher.add(&u16_bytes(key.len() as u16));
-    hasher.add(key);
+    let mut hasher = Hasher::new();
+    let Ok(()) = write_inner(&mut hasher, separators, children);
+    hasher.end()
 }

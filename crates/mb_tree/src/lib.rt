@@ -1,19 +1,22 @@
 //! Merkle B-trees, whole and in part.
 #![tactic(auto)]
 
-mod branch_digest;
 mod branch_node;
 mod branches;
 mod entries;
 mod hashing;
+mod layout;
 mod lending;
 mod part_digest;
+mod part_items;
 mod part_node;
 mod parts;
+mod preimage_writer;
 mod preimages;
 mod rows;
 mod tree;
 mod tree_key;
+mod whole_items;
 
 pub use branches::{Branch, Node};
 pub use entries::{HashedCells, TreeEntry};

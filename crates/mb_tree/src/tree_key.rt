@@ -7,8 +7,8 @@ use std::marker::Model;
 use std::rc::Rc;
 use vo_spec::Key;
 
-/// A key or separator of a whole tree, no longer than a key may be. Entries, separators and trees that have it
-/// in common share it. Contracts see its bytes.
+/// A key or a separator of a whole tree, no longer than a key may be. Entries, separators and trees
+/// that have it in common share it. Contracts see its bytes.
 #[derive(Drop)]
 pub struct TreeKey {
     key: Rc<Key>,

@@ -1,0 +1,17 @@
+-- Preimages of nodes as they are written, by what each item of a node has in them.
+use Rattle.std.specs.Prelude.{ℕ, List, ◌∷◌, ◌++◌, length, flat_map}
+
+-- these bytes come after all that were there
+module _ {W : Type 0} (Holds : W → List ℕ → Type 0) where
+  pub record Writes (old new : W) (bytes : List ℕ) : Type 0 where
+    pub writes : (before : List ℕ) → Holds old before → Holds new (before ++ bytes)
+
+abbrev pub leaf_layout : {E : Type 0} → (E → List ℕ) → List E → List ℕ
+leaf_layout entry es = 3 ∷ length es ∷ flat_map entry es
+
+-- an inner node's bytes before its children's
+abbrev pub head_layout : {K : Type 0} → (K → List ℕ) → List K → ℕ → List ℕ
+head_layout separator ks children = 4 ∷ children ∷ flat_map separator ks
+
+abbrev pub inner_layout : {K C : Type 0} → (K → List ℕ) → (C → List ℕ) → List K → List C → List ℕ
+inner_layout separator child ks cs = head_layout separator ks (length cs) ++ flat_map child cs

@@ -1,0 +1,44 @@
+//! Rows, separators and children of whole trees in the preimages of nodes.
+ghost use Rattle.vo_spec.specs.Bytes.{string};
+ghost use Rattle.vo_spec.specs.Cells.{entry_bytes, whole_entry};
+ghost use Rattle.vo_spec.specs.Trees.{digest};
+ghost use Rattle.vo_spec.specs.Fits.{FitsKey, FitsPart, FitsRow};
+
+use crate::branches::Branch;
+use crate::entries::TreeEntry;
+use crate::layout::{NodeItem, write_key};
+use crate::preimage_writer::PreimageWriter;
+use crate::tree_key::TreeKey;
+
+impl NodeItem for TreeEntry {
+    ghost bytes = { λ row. entry_bytes (whole_entry row) };
+
+    ghost Fits = { FitsRow };
+
+    fn write_to<W: PreimageWriter>(&self, writer: &mut W) -> Result<(), W::Fault> {
+        let cells = self.cells();
+        let _values = cells.values();
+        write_key(writer, self.key().as_bytes())?;
+        writer.write(cells.digest().as_bytes())
+    }
+}
+
+impl NodeItem for TreeKey {
+    ghost bytes = { string };
+
+    ghost Fits = { FitsKey };
+
+    fn write_to<W: PreimageWriter>(&self, writer: &mut W) -> Result<(), W::Fault> {
+        write_key(writer, self.as_bytes())
+    }
+}
+
+impl NodeItem for Branch {
+    ghost bytes = { digest };
+
+    ghost Fits = { FitsPart };
+
+    fn write_to<W: PreimageWriter>(&self, writer: &mut W) -> Result<(), W::Fault> {
+        writer.write(self.node_digest().as_bytes())
+    }
+}
