@@ -20,7 +20,7 @@ ghost use Rattle.stored_tables.specs.Ready.{IsReady};
 
 use crate::table::{StoredTable, copy_schema};
 use mb_tree::Tree;
-use mb_update::{SetCell, UpdateFault, Updates};
+use mb_update::{SetCell, UpdateFault, Updates, insert_row};
 use std::alloc::{AllocError, Global};
 use std::slice;
 use table_list::{ApplyFault, cell_number, column_number, key_at, row_of};
@@ -62,7 +62,7 @@ fn with_row(alloc: Global, table: &StoredTable, values: &[Value]) -> Result<Stor
     ensures { Gives stored_of result (table_after (Insert [] values.now) (stored_of table.now)) }
 {
     let row = row_of(alloc, &table.schema, values)?;
-    let change = table.tree.insert(alloc, &row);
+    let change = insert_row(alloc, &table.tree, row);
     with_tree(alloc, table, change)
 }
 
