@@ -25,6 +25,7 @@ pub mod TreeFits
 pub mod ChangedFits
 pub mod TreeLevels
 pub mod StoredFits
+pub mod WalkLaws
 pub mod PrunedLaws
 pub mod ReplyTrees
 pub mod NamedFits

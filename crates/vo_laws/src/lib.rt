@@ -3,6 +3,7 @@
 #![tactic(auto)]
 
 pub mod changes;
+pub mod digests;
 pub mod journals;
 
 ghost use Rattle.std.specs.Prelude.{◌≡◌, ◌≢◌, ℕ, ◌^◌, ◌≤◌, ◌<◌, List, [], ◌∷◌, None, Ok, length};
