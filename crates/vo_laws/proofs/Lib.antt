@@ -40,3 +40,5 @@ pub mod EntryLaws
 pub mod SealedLaws
 pub mod NeedLaws
 pub mod CatalogSpelling
+pub mod OneProof
+pub mod WholeScans

@@ -48,7 +48,7 @@ none_hidden : (columns : List ℕ) (row : RowPart) → ((c : ℕ) → IsIn c col
 none_hidden [] row f = refl
 none_hidden (c ∷ columns) row f = or_from (is_none (value_in row c)) (hides_any columns row) (f c (inl refl)) (none_hidden columns row (λ x i. f x (inr i)))
 
-row_complete : (columns : List ℕ) (values : List Value) → AreBelow (length values) columns → hides_any columns (shown_row columns (whole_row values)) ≡ false
+pub row_complete : (columns : List ℕ) (values : List Value) → AreBelow (length values) columns → hides_any columns (shown_row columns (whole_row values)) ≡ false
 row_complete [] values below = refl
 row_complete (c ∷ columns) values below =
     none_hidden (c ∷ columns) (Cells (shown_cells (c ∷ columns) 0 (whole_cells values)))
