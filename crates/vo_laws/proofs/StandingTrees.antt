@@ -20,6 +20,7 @@ use Rattle.vo_spec.specs.Trees.{RowTree, key_in, row_family}
 use Rattle.vo_spec.specs.Inserts.{result_map, has_key, put_entry, inserted}
 use Rattle.vo_spec.specs.Removes.{without_entry, edit_entry, set_cells, set_row, removed, replaced}
 use Rattle.vo_spec.specs.Standing.{AreRising, StandsFor}
+pub use Rattle.vo_laws.specs.Changing.{Inserts}
 use Rattle.vo_laws.specs.Changing.{Changes}
 use Rattle.vo_laws.proofs.ListLaws.{each_mapped}
 use Rattle.vo_laws.proofs.Growing.{keys_in, other_back}
@@ -46,14 +47,6 @@ whole_put row (r ∷ rows) = step (key_lt row.key r.key) (whole_put row rows)
         ≡ map whole_entry (cond b (row ∷ r ∷ rows) (r ∷ put_row row rows))
     step true rest = refl
     step false rest = ap (λ z. whole_entry r ∷ z) rest
-
--- what an insertion gives of a tree that stands for these rows
-abbrev pub Inserts : Row → List Row → Result RowTree UpdateFault → Type 0
-Inserts row rows (Ok t) = (has_row row.key rows ≡ false) × StandsFor t (put_row row rows)
-Inserts row rows (Err DuplicateKey) = has_row row.key rows ≡ true
-Inserts row rows (Err NoRow) = ⊥
-Inserts row rows (Err Missing) = ⊥
-Inserts row rows (Err Memory) = ⊥
 
 pub inserted_stands : (row : Row) (t : RowTree) (rows : List Row) → StandsFor t rows → Inserts row rows (inserted (whole_entry row) t)
 inserted_stands row t rows stands = step (inserted (whole_entry row) t) (tree_grows (whole_entry row) t stands.tree)
