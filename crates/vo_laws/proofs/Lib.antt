@@ -42,3 +42,6 @@ pub mod NeedLaws
 pub mod CatalogSpelling
 pub mod OneProof
 pub mod WholeScans
+pub mod PathProofs
+pub mod RemovalProofs
+pub mod UpdateProofLaws
