@@ -2,6 +2,7 @@ mod WorkedRows
 mod WorkedTrees
 pub mod KeyOrder
 pub mod ListLaws
+pub mod NodeBounds
 pub mod ScanLaws
 pub mod SeenLaws
 pub mod ValueOrder
