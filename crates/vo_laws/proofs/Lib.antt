@@ -5,6 +5,7 @@ pub mod ListLaws
 pub mod NodeBounds
 pub mod ScanLaws
 pub mod SeenLaws
+pub mod WholeScans
 pub mod ValueOrder
 pub mod ConditionLaws
 pub mod AnswerLaws
@@ -28,6 +29,7 @@ pub mod TreeLevels
 pub mod StoredFits
 pub mod WalkLaws
 pub mod PrunedLaws
+pub mod OneProof
 pub mod ReplyTrees
 pub mod NamedFits
 pub mod Complete
@@ -41,8 +43,6 @@ pub mod EntryLaws
 pub mod SealedLaws
 pub mod NeedLaws
 pub mod CatalogSpelling
-pub mod OneProof
-pub mod WholeScans
 pub mod PathProofs
 pub mod RemovalProofs
 pub mod UpdateProofLaws

@@ -1,8 +1,9 @@
 -- The proof of a tree for some needs is canonical, and the only part of the tree that is.
-use Rattle.std.proofs.Common.{◌≡◌, ℕ, suc, ◌+◌, ◌<◌, Bool, true, false, cond, List, [], ◌∷◌, None, map, length, inl, inr, refl, sym, ap, subst, arith}
+use Rattle.std.proofs.Common.{◌≡◌, ℕ, zero, suc, ◌+◌, ◌<◌, Bool, true, false, cond, List, [], ◌∷◌, None, map, length, inl, inr, refl, sym, ap, subst, arith}
 use Rattle.std.specs.Prelude.{◌==◌, not, filter, flat_map, slice_get, is_none}
 use Rattle.std.specs.List.{AllByRecursion}
-use Rattle.std.proofs.lemmas.Bool.{cases_Bool, or_cases, or_parts, not-false, eqb-true}
+use Rattle.std.proofs.lemmas.Bool.{cases_Bool, or_cases, or_parts, or_from, not-false, eqb-true, eq-eqb}
+use Rattle.vo_spec.specs.declared.values.Value.{Value}
 use Rattle.vo_spec.specs.declared.values.Row.{Row}
 use Rattle.vo_spec.specs.declared.needs.Need.{Need}
 use Rattle.vo_spec.specs.declared.cells.Cell.{Cell}
@@ -10,35 +11,53 @@ use Rattle.vo_spec.specs.declared.cells.Cell.TheVariants.{Shown, Hidden}
 use Rattle.vo_spec.specs.declared.cells.RowPart.{RowPart}
 use Rattle.vo_spec.specs.declared.cells.RowPart.TheVariants.{Digest as Closed, Cells}
 use Rattle.vo_spec.specs.declared.cells.PartEntry.{PartEntry}
-use Rattle.vo_spec.specs.Cells.{cell_digest, row_digest, whole_entry, shown_value, value_in, CellsPrune, RowPrunes, EntryPrunes}
+use Rattle.vo_spec.specs.Cells.{cell_digest, row_digest, whole_cells, whole_entry, whole_row, shown_value, value_in, CellsPrune, RowPrunes, EntryPrunes}
 use Rattle.vo_spec.specs.Trees.{RowTree, row_family, Prunes}
 use Rattle.vo_spec.specs.Scans.{in_interval}
 use Rattle.vo_spec.specs.Pruned.{going_in, is_any, named, has_column, hides_any, shows_beyond, row_beyond, shown_cell, shown_cells, shown_row, shown_entry, walk_for, IsCanonical, pruned}
 use Rattle.vo_spec.specs.Standing.{StandsFor, fewest_in_root}
 use Rattle.vo_laws.specs.Columns.{HasColumns, HaveColumns}
-use Rattle.vo_laws.proofs.ListLaws.{each_both, none_any}
+use Rattle.vo_laws.proofs.ListLaws.{IsIn, each_of, each_weaker, each_both, any_in, none_any}
 use Rattle.vo_laws.proofs.WalkLaws.{only_part}
 use Rattle.vo_laws.proofs.PrunedLaws.{walk_complete, pruned_bare}
-use Rattle.vo_laws.proofs.ReplyTrees.{row_complete}
 
--- It is canonical.
+-- It is canonical: where rows have the columns that are to be shown, these are shown.
 
-named_there : (needs : List Need) (row : Row) → AllByRecursion (λ (need : Need). HasColumns need row) needs → AllByRecursion (λ c. c < length row.cells) (named needs row.key)
+abbrev pub AreBelow : ℕ → List ℕ → Type 0
+AreBelow n = AllByRecursion (λ c. c < n)
+
+shown_there : (columns : List ℕ) (column : ℕ) (values : List Value) (i : ℕ) → i < length values → has_column columns (column + i) ≡ true
+    → is_none (shown_value (slice_get (shown_cells columns column (whole_cells values)) i)) ≡ false
+shown_there columns column [] i lt e = absurd (omega arith)
+shown_there columns column (v ∷ values) zero lt e =
+    let same : column + 0 ≡ column = omega arith in
+    rw (subst (λ c. has_column columns c ≡ true) same e) refl
+shown_there columns column (v ∷ values) (suc i) lt e =
+    let same : column + suc i ≡ column + 1 + i = omega arith in
+    shown_there columns (column + 1) values i (omega arith) (subst (λ c. has_column columns c ≡ true) same e)
+
+none_hidden : (columns : List ℕ) (row : RowPart) → ((c : ℕ) → IsIn c columns → is_none (value_in row c) ≡ false) → hides_any columns row ≡ false
+none_hidden [] row f = refl
+none_hidden (c ∷ columns) row f = or_from (is_none (value_in row c)) (hides_any columns row) (f c (inl refl)) (none_hidden columns row (λ x i. f x (inr i)))
+
+row_complete : (columns : List ℕ) (values : List Value) → AreBelow (length values) columns → hides_any columns (shown_row columns (whole_row values)) ≡ false
+row_complete [] values below = refl
+row_complete (c ∷ columns) values below =
+    none_hidden (c ∷ columns) (Cells (shown_cells (c ∷ columns) 0 (whole_cells values)))
+    (λ x i. shown_there (c ∷ columns) 0 values x (each_of (λ y. y < length values) (c ∷ columns) below x i)
+    (subst (λ z. has_column (c ∷ columns) z ≡ true) (from_none x) (any_in (λ y. y == x) (c ∷ columns) x i (eq-eqb x x refl))))
+  where
+    from_none : (x : ℕ) → x ≡ 0 + x
+    from_none x = omega arith
+
+named_there : (needs : List Need) (row : Row) → AllByRecursion (λ (need : Need). HasColumns need row) needs → AreBelow (length row.cells) (named needs row.key)
 named_there [] row all = tt
 named_there (need ∷ needs) row all = step (in_interval need.interval row.key) refl (named_there needs row all.1)
   where
-    step : (b : Bool) → in_interval need.interval row.key ≡ b → AllByRecursion (λ c. c < length row.cells) (named needs row.key)
-        → AllByRecursion (λ c. c < length row.cells) (flat_map (λ (n : Need). n.columns) (cond b (need ∷ filter (λ (n : Need). in_interval n.interval row.key) needs) (filter (λ (n : Need). in_interval n.interval row.key) needs)))
+    step : (b : Bool) → in_interval need.interval row.key ≡ b → AreBelow (length row.cells) (named needs row.key)
+        → AreBelow (length row.cells) (flat_map (λ (n : Need). n.columns) (cond b (need ∷ filter (λ (n : Need). in_interval n.interval row.key) needs) (filter (λ (n : Need). in_interval n.interval row.key) needs)))
     step true inside rest = each_both (λ c. c < length row.cells) need.columns (named needs row.key) (all.0 inside) rest
     step false outside rest = rest
-
-first_have : (row : Row) (rows : List Row) (needs : List Need) → AllByRecursion (HaveColumns (row ∷ rows)) needs → AllByRecursion (λ (need : Need). HasColumns need row) needs
-first_have row rows [] all = tt
-first_have row rows (need ∷ needs) all = (all.0.0, first_have row rows needs all.1)
-
-rest_have : (row : Row) (rows : List Row) (needs : List Need) → AllByRecursion (HaveColumns (row ∷ rows)) needs → AllByRecursion (HaveColumns rows) needs
-rest_have row rows [] all = tt
-rest_have row rows (need ∷ needs) all = (all.0.1, rest_have row rows needs all.1)
 
 abbrev IsComplete : List Need → PartEntry → Type 0
 IsComplete needs e = hides_any (named needs e.key) (shown_entry needs e).row ≡ false
@@ -46,8 +65,8 @@ IsComplete needs e = hides_any (named needs e.key) (shown_entry needs e).row ≡
 entries_complete : (needs : List Need) (rows : List Row) → AllByRecursion (HaveColumns rows) needs → AllByRecursion (IsComplete needs) (map whole_entry rows)
 entries_complete needs [] all = tt
 entries_complete needs (row ∷ rows) all = (
-  row_complete (named needs row.key) row.cells (named_there needs row (first_have row rows needs all)),
-  entries_complete needs rows (rest_have row rows needs all),
+  row_complete (named needs row.key) row.cells (named_there needs row (each_weaker (HaveColumns (row ∷ rows)) (λ (need : Need). HasColumns need row) (λ need have. have.0) needs all)),
+  entries_complete needs rows (each_weaker (HaveColumns (row ∷ rows)) (HaveColumns rows) (λ need have. have.1) needs all),
 )
 
 pub pruned_canonical : (needs : List Need) (t : RowTree) (rows : List Row) → StandsFor t rows → AllByRecursion (HaveColumns rows) needs → IsCanonical needs (pruned needs t)

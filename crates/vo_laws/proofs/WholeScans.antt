@@ -1,6 +1,6 @@
 -- A scan of a tree that stands for rows gives those in the need's interval.
 use Rattle.std.proofs.Common.{◌≡◌, ℕ, zero, suc, ◌<◌, Bool, true, false, cond, List, [], ◌∷◌, Option, Some, None, map, length, inl, inr, refl, sym, ap, ◌∙◌, arith}
-use Rattle.std.specs.Prelude.{◌⊎◌, filter, slice_get}
+use Rattle.std.specs.Prelude.{◌⊎◌, slice_get}
 use Rattle.std.specs.List.{AllByRecursion}
 use Rattle.vo_spec.specs.declared.values.Value.{Value}
 use Rattle.vo_spec.specs.declared.values.Row.{Row}
@@ -13,7 +13,7 @@ use Rattle.vo_spec.specs.Scans.{in_interval, is_empty_interval, put_before, valu
 use Rattle.vo_spec.specs.Standing.{StandsFor}
 use Rattle.vo_laws.specs.Columns.{HaveColumns, seen_row}
 use Rattle.vo_laws.proofs.ScanLaws.{Gives, sound, scan_is_filter}
-use Rattle.vo_laws.proofs.SeenLaws.{empty_has_none}
+use Rattle.vo_laws.proofs.SeenLaws.{rows_in, none_kept}
 
 cell_there : (cells : List Value) (c : ℕ) → c < length cells → shown_value (slice_get (whole_cells cells) c) ≡ Some (value_at cells c)
 cell_there [] c below = absurd (omega arith)
@@ -24,29 +24,21 @@ values_there : (cells : List Value) (columns : List ℕ) → AllByRecursion (λ 
 values_there cells [] below = refl
 values_there cells (c ∷ columns) below = rw (cell_there cells c below.0, values_there cells columns below.1) refl
 
--- the rows of the need's interval
-abbrev rows_for : Need → List Row → List Row
-rows_for need = filter (λ (row : Row). in_interval need.interval row.key)
-
-rows_seen : (need : Need) (rows : List Row) → HaveColumns rows need → seen_entries need (map whole_entry rows) ≡ Some (map (seen_row need.columns) (rows_for need rows))
+rows_seen : (need : Need) (rows : List Row) → HaveColumns rows need → seen_entries need (map whole_entry rows) ≡ Some (map (seen_row need.columns) (rows_in need.interval rows))
 rows_seen need [] have = refl
 rows_seen need (row ∷ rows) have = step (in_interval need.interval row.key) refl (rows_seen need rows have.1)
   where
-    step : (b : Bool) → in_interval need.interval row.key ≡ b → seen_entries need (map whole_entry rows) ≡ Some (map (seen_row need.columns) (rows_for need rows))
+    step : (b : Bool) → in_interval need.interval row.key ≡ b → seen_entries need (map whole_entry rows) ≡ Some (map (seen_row need.columns) (rows_in need.interval rows))
         → cond b (put_before (with_key row.key (values_in (whole_row row.cells) need.columns)) (seen_entries need (map whole_entry rows))) (seen_entries need (map whole_entry rows))
-        ≡ Some (map (seen_row need.columns) (cond b (row ∷ rows_for need rows) (rows_for need rows)))
+        ≡ Some (map (seen_row need.columns) (cond b (row ∷ rows_in need.interval rows) (rows_in need.interval rows)))
     step true inside rest = rw (values_there row.cells need.columns (have.0 inside), rest) refl
     step false outside rest = rest
 
-none_inside : (need : Need) (rows : List Row) → is_empty_interval need.interval ≡ true → rows_for need rows ≡ []
-none_inside need [] e = refl
-none_inside need (row ∷ rows) e = rw (empty_has_none need.interval row.key e) (none_inside need rows e)
-
-pub whole_scan : (need : Need) (t : RowTree) (rows : List Row) → StandsFor t rows → HaveColumns rows need → seen need t ≡ Some (map (seen_row need.columns) (rows_for need rows))
+pub whole_scan : (need : Need) (t : RowTree) (rows : List Row) → StandsFor t rows → HaveColumns rows need → seen need t ≡ Some (map (seen_row need.columns) (rows_in need.interval rows))
 whole_scan need t rows stands have = step (is_empty_interval need.interval) refl
   where
-    step : (b : Bool) → is_empty_interval need.interval ≡ b → cond b (Some []) (seen_in need t) ≡ Some (map (seen_row need.columns) (rows_for need rows))
-    step true e = rw (none_inside need rows e) refl
+    step : (b : Bool) → is_empty_interval need.interval ≡ b → cond b (Some []) (seen_in need t) ≡ Some (map (seen_row need.columns) (rows_in need.interval rows))
+    step true e = rw (none_kept need.interval rows e) refl
     step false e = scan_is_filter need t stands.tree ∙ ap (seen_entries need) stands.rows_are ∙ rows_seen need rows have
 
 -- Of a part of a tree it misses something, or gives what it gives of the tree.
