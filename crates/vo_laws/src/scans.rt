@@ -8,10 +8,14 @@ ghost use Rattle.vo_spec.specs.Scans.{in_interval, seen};
 ghost use Rattle.vo_spec.specs.Standing.{StandsFor};
 ghost use Rattle.vo_laws.specs.Columns.{HaveColumns, seen_row};
 
-/// Of a tree that stands for rows, a scan for a need gives the rows with their keys in its interval, where these
-/// have its columns. Of a part of a tree it misses something, or gives what it gives of the tree.
+/// Of a tree that stands for rows, a scan for a need gives the rows with their keys in its interval,
+/// where these have its columns. Of a part of a tree it misses something, or gives what it gives of the
+/// tree.
 pub fn scans_filter_the_rows()
-    ensures whole { (need : Need) (t : RowTree) (rows : List Row) → StandsFor t rows → HaveColumns rows need
-        → seen need t ≡ Some (map (seen_row need.columns) (filter (λ row. in_interval need.interval row.key) rows)) }
-    ensures part { (need : Need) (p t : RowTree) → Prunes p t → (seen need p ≡ None) ⊎ (seen need p ≡ seen need t) }
+    ensures whole { (need : Need) (t : RowTree) (rows : List Row) → StandsFor t rows
+        → HaveColumns rows need
+        → let inside : List Row = filter (λ row. in_interval need.interval row.key) rows in
+        seen need t ≡ Some (map (seen_row need.columns) inside) }
+    ensures part { (need : Need) (p t : RowTree) → Prunes p t
+        → (seen need p ≡ None) ⊎ (seen need p ≡ seen need t) }
 {}
