@@ -2,8 +2,10 @@ mod WorkedRows
 mod WorkedTrees
 pub mod KeyOrder
 pub mod ListLaws
+pub mod NodeBounds
 pub mod ScanLaws
 pub mod SeenLaws
+pub mod WholeScans
 pub mod ValueOrder
 pub mod ConditionLaws
 pub mod AnswerLaws
@@ -25,7 +27,9 @@ pub mod TreeFits
 pub mod ChangedFits
 pub mod TreeLevels
 pub mod StoredFits
+pub mod WalkLaws
 pub mod PrunedLaws
+pub mod OneProof
 pub mod ReplyTrees
 pub mod NamedFits
 pub mod Complete
@@ -39,3 +43,6 @@ pub mod EntryLaws
 pub mod SealedLaws
 pub mod NeedLaws
 pub mod CatalogSpelling
+pub mod PathProofs
+pub mod RemovalProofs
+pub mod UpdateProofLaws

@@ -1,9 +1,9 @@
 -- The trees of an honest reply: each proof is complete and bare, of its table's shape and root.
-use Rattle.std.proofs.Common.{◌≡◌, ℕ, zero, suc, ◌+◌, ◌<◌, Bool, true, false, cond, List, [], ◌∷◌, Some, None, length, map, inl, inr, refl, sym, subst, arith}
-use Rattle.std.specs.Prelude.{◌==◌, filter, find, flat_map, remove, slice_get, bytes_eq, is_none}
+use Rattle.std.proofs.Common.{◌≡◌, ℕ, ◌+◌, Bool, true, false, cond, List, [], ◌∷◌, Some, None, length, map, refl, sym, subst}
+use Rattle.std.specs.Prelude.{find, remove, bytes_eq}
 use Rattle.std.specs.Option.{option_map_or}
 use Rattle.std.specs.List.{list_all, AllByRecursion}
-use Rattle.std.proofs.lemmas.Bool.{and_parts, and_from, or_from, eq-eqb}
+use Rattle.std.proofs.lemmas.Bool.{and_parts, and_from}
 use Rattle.std.proofs.lemmas.Slice.Eq.{bytes_eq-Decides}
 use Rattle.vo_spec.specs.declared.values.Value.{Value}
 use Rattle.vo_spec.specs.declared.values.Row.{Row}
@@ -12,79 +12,40 @@ use Rattle.vo_spec.specs.declared.tables.Schema.{Schema}
 use Rattle.vo_spec.specs.declared.tables.Table.{Table}
 use Rattle.vo_spec.specs.declared.needs.Need.{Need}
 use Rattle.vo_spec.specs.declared.cells.Cell.TheVariants.{Shown, Hidden}
-use Rattle.vo_spec.specs.declared.cells.RowPart.{RowPart}
 use Rattle.vo_spec.specs.declared.cells.RowPart.TheVariants.{Digest as Closed, Cells}
 use Rattle.vo_spec.specs.declared.cells.PartEntry.{PartEntry}
 use Rattle.vo_spec.specs.Values.{kind_of, same_kind}
 use Rattle.vo_spec.specs.Tables.{are_of_kinds}
-use Rattle.vo_spec.specs.Cells.{cell_digest, row_digest, whole_cells, whole_row, whole_entry, shown_value, value_in}
+use Rattle.vo_spec.specs.Cells.{cell_digest, row_digest, whole_cells, whole_row, whole_entry}
 use Rattle.vo_spec.specs.Parts.{leaf, entries}
-use Rattle.vo_spec.specs.Trees.{RowTree, row_family, digest}
-use Rattle.vo_spec.specs.Scans.{in_interval}
-use Rattle.vo_spec.specs.Pruned.{going_in, is_any, named, has_column, hides_any, shown_cell, shown_cells, shown_row, shown_entry, walk_for, is_missing, pruned}
-use Rattle.vo_spec.specs.Standing.{StandsFor, fewest_in_root}
+use Rattle.vo_spec.specs.Trees.{RowTree, digest}
+use Rattle.vo_spec.specs.Pruned.{going_in, is_any, named, has_column, shown_cell, shown_cells, shown_row, shown_entry, walk_for, is_missing, pruned}
+use Rattle.vo_spec.specs.Standing.{StandsFor}
 use Rattle.vo_spec.specs.Checks.{key_kind, is_key_of, shows_kind, cells_fit, row_fits, entry_fits, has_shape, table_named, has_table_shape, root_fault}
 use Rattle.vo_spec.specs.Honest.{Stored, StandForTables, catalog_of, stored_tree}
-use Rattle.vo_laws.proofs.ListLaws.{IsIn, each_of, each_both, any_in}
-use Rattle.vo_laws.proofs.CommandLaws.{HasKinds, FitsTable, each_filter}
-use Rattle.vo_laws.proofs.PrunedLaws.{digest_same, walk_each, walk_complete, pruned_prunes}
+use Rattle.vo_laws.specs.Columns.{HaveColumns}
+use Rattle.vo_laws.proofs.ListLaws.{each_weaker}
+use Rattle.vo_laws.proofs.CommandLaws.{HasKinds, FitsTable}
+use Rattle.vo_laws.proofs.PrunedLaws.{digest_same, walk_each, pruned_prunes}
+pub use Rattle.vo_laws.proofs.OneProof.{AreBelow}
+use Rattle.vo_laws.proofs.OneProof.{pruned_canonical}
 
--- Cells of columns that are there are shown where they are to be.
-
-abbrev pub AreBelow : ℕ → List ℕ → Type 0
-AreBelow n = AllByRecursion (λ c. c < n)
-
-shown_there : (columns : List ℕ) (column : ℕ) (values : List Value) (i : ℕ) → i < length values → has_column columns (column + i) ≡ true
-    → is_none (shown_value (slice_get (shown_cells columns column (whole_cells values)) i)) ≡ false
-shown_there columns column [] i lt e = absurd (omega arith)
-shown_there columns column (v ∷ values) zero lt e =
-    let same : column + 0 ≡ column = omega arith in
-    rw (subst (λ c. has_column columns c ≡ true) same e) refl
-shown_there columns column (v ∷ values) (suc i) lt e =
-    let same : column + suc i ≡ column + 1 + i = omega arith in
-    shown_there columns (column + 1) values i (omega arith) (subst (λ c. has_column columns c ≡ true) same e)
-
-none_hidden : (columns : List ℕ) (row : RowPart) → ((c : ℕ) → IsIn c columns → is_none (value_in row c) ≡ false) → hides_any columns row ≡ false
-none_hidden [] row f = refl
-none_hidden (c ∷ columns) row f = or_from (is_none (value_in row c)) (hides_any columns row) (f c (inl refl)) (none_hidden columns row (λ x i. f x (inr i)))
-
-row_complete : (columns : List ℕ) (values : List Value) → AreBelow (length values) columns → hides_any columns (shown_row columns (whole_row values)) ≡ false
-row_complete [] values below = refl
-row_complete (c ∷ columns) values below =
-    none_hidden (c ∷ columns) (Cells (shown_cells (c ∷ columns) 0 (whole_cells values)))
-    (λ x i. shown_there (c ∷ columns) 0 values x (each_of (λ y. y < length values) (c ∷ columns) below x i)
-    (subst (λ z. has_column (c ∷ columns) z ≡ true) (from_none x) (any_in (λ y. y == x) (c ∷ columns) x i (eq-eqb x x refl))))
-  where
-    from_none : (x : ℕ) → x ≡ 0 + x
-    from_none x = omega arith
-
--- the columns that needs name for a key are below a number, if those of each need are
+-- the columns of each need are below a number
 abbrev pub AreBounded : ℕ → List Need → Type 0
 AreBounded n = AllByRecursion (λ (need : Need). AreBelow n need.columns)
-
-named_below : (n : ℕ) (needs : List Need) (key : List ℕ) → AreBounded n needs → AreBelow n (named needs key)
-named_below n needs key all = joined_below (filter (λ (need : Need). in_interval need.interval key) needs) (each_filter (λ (need : Need). AreBelow n need.columns) (λ (need : Need). in_interval need.interval key) needs all)
-  where
-    joined_below : (ns : List Need) → AreBounded n ns → AreBelow n (flat_map (λ (need : Need). need.columns) ns)
-    joined_below [] all = tt
-    joined_below (need ∷ ns) all = each_both (λ c. c < n) need.columns (flat_map (λ (x : Need). x.columns) ns) all.0 (joined_below ns all.1)
 
 abbrev pub HasCells : ℕ → Row → Type 0
 HasCells n row = length row.cells ≡ n
 
-entries_complete : (n : ℕ) (needs : List Need) (rows : List Row) → AreBounded n needs → AllByRecursion (HasCells n) rows
-    → AllByRecursion (λ (e : PartEntry). hides_any (named needs e.key) (shown_entry needs e).row ≡ false) (map whole_entry rows)
-entries_complete n needs [] all cells = tt
-entries_complete n needs (row ∷ rows) all cells = (
-  row_complete (named needs row.key) row.cells (subst (λ k. AreBelow k (named needs row.key)) (sym cells.0) (named_below n needs row.key all)),
-  entries_complete n needs rows all cells.1,
-)
+rows_have : (n : ℕ) (need : Need) (rows : List Row) → AreBelow n need.columns → AllByRecursion (HasCells n) rows → HaveColumns rows need
+rows_have n need [] below cells = tt
+rows_have n need (row ∷ rows) below cells = (λ inside. subst (λ k. AreBelow k need.columns) (sym cells.0) below, rows_have n need rows below cells.1)
 
 pub pruned_complete : (n : ℕ) (needs : List Need) (t : RowTree) (rows : List Row) → StandsFor t rows → AreBounded n needs → AllByRecursion (HasCells n) rows
     → is_missing needs (pruned needs t) ≡ false
 pruned_complete n needs t rows stands all cells =
-    walk_complete (walk_for needs) (going_in needs) (fewest_in_root row_family t) stands.tree.height None None t stands.tree.shape
-    (subst (AllByRecursion (λ (e : PartEntry). hides_any (named needs e.key) (shown_entry needs e).row ≡ false)) (sym stands.rows_are) (entries_complete n needs rows all cells))
+    (pruned_canonical needs t rows stands
+    (each_weaker (λ (need : Need). AreBelow n need.columns) (HaveColumns rows) (λ need below. rows_have n need rows below cells) needs all)).complete
 
 -- Shape.
 

@@ -21,10 +21,11 @@ use Rattle.vo_spec.specs.Parts.{stub, leaf, inner, none, more, entries, entries_
 use Rattle.vo_spec.specs.Trees.{RowTree, RowTrees, row_family, Prunes}
 use Rattle.vo_spec.specs.Scans.{is_above, is_below, in_interval, is_empty_interval, ends_above, begins_below, visits, put_before, joined, values_in, with_key, seen_entries, seen_in, seen_in_each, seen}
 use Rattle.vo_spec.specs.Pruned.{walk_for, misses, misses_in, going_in, going_on, is_any, named, hides_any, is_missing}
-use Rattle.vo_spec.specs.Standing.{is_from, is_before, is_up_to, is_between, is_within, IsNode, AreNodes, IsTree, fewest_in_root}
+use Rattle.vo_spec.specs.Standing.{is_from, is_before, IsNode, AreNodes, IsTree, fewest_in_root}
 use Rattle.vo_spec.specs.Inserts.{half}
 use Rattle.vo_laws.proofs.KeyOrder.{key_lt_back, key_le_le, key_lt_le}
-use Rattle.vo_laws.proofs.ListLaws.{IsIn, each_of, each_both, each_weaker, none_any, in_filter, in_flat_map}
+use Rattle.vo_laws.proofs.NodeBounds.{Between, node_between}
+use Rattle.vo_laws.proofs.ListLaws.{IsIn, each_of, each_weaker, none_any, in_filter, in_flat_map}
 
 -- What the one gives, so does the other.
 
@@ -265,76 +266,33 @@ passed_by interval lower upper key e from before = elim (and_cases (ends_above i
     outside_high true f = f
     outside_high false f = refl
 
--- The keys of a whole tree are between its bounds.
-
-narrower_before : (lower upper : Option (List ℕ)) (s key : List ℕ) → is_within lower upper s ≡ true → is_before (Some s) key ≡ true
-    → is_before upper key ≡ true
-narrower_before lower None s key e b = refl
-narrower_before lower (Some u) s key e b =
-    key_lt_le key s u b (not-true (key_lt u s) (and_parts (is_from lower s) (not (key_lt u s)) e).1)
-
-narrower_from : (lower upper : Option (List ℕ)) (s key : List ℕ) → is_within lower upper s ≡ true → is_from (Some s) key ≡ true
-    → is_from lower key ≡ true
-narrower_from None upper s key e b = refl
-narrower_from (Some l) upper s key e b =
-    not_from_false (key_lt key l)
-    (key_le_le l s key (not-true (key_lt s l) (and_parts (not (key_lt s l)) (is_up_to upper s) e).0) (not-true (key_lt key s) b))
-
-abbrev pub Between : Option (List ℕ) → Option (List ℕ) → PartEntry → Type 0
-Between lower upper e = is_between lower upper e.key ≡ true
-
-pub left_between : (lower upper : Option (List ℕ)) (s : List ℕ) → is_within lower upper s ≡ true → (e : PartEntry) → Between lower (Some s) e → Between lower upper e
-left_between lower upper s b e h = let p = and_parts (is_from lower e.key) (key_lt e.key s) h in
-    and_from (is_from lower e.key) (is_before upper e.key) p.0 (narrower_before lower upper s e.key b p.1)
-
-pub right_between : (lower upper : Option (List ℕ)) (s : List ℕ) → is_within lower upper s ≡ true → (e : PartEntry) → Between (Some s) upper e → Between lower upper e
-right_between lower upper s b e h = let p = and_parts (not (key_lt e.key s)) (is_before upper e.key) h in
-    and_from (is_from lower e.key) (is_before upper e.key) (narrower_from lower upper s e.key b p.0) p.1
-
-mutual
-  pub node_between : (fewest height : ℕ) (lower upper : Option (List ℕ)) (t : RowTree) → IsNode row_family fewest height lower upper t
-      → AllByRecursion (Between lower upper) (entries t)
-  node_between fewest height lower upper (stub d) n = absurd n
-  node_between fewest height lower upper (leaf es) n = n.3
-  node_between fewest height lower upper (inner ss ps) n = nodes_between (height - 1) lower upper ss ps n.3
-
-  pub nodes_between : (height : ℕ) (lower upper : Option (List ℕ)) (ss : List (List ℕ)) (ps : RowTrees) → AreNodes row_family height lower upper ss ps
-      → AllByRecursion (Between lower upper) (entries_in ps)
-  nodes_between height lower upper ss none n = absurd n
-  nodes_between height lower upper [] (more m p none) n = each_both (Between lower upper) (entries p) [] (node_between half height lower upper p n.1) tt
-  nodes_between height lower upper [] (more m p (more k q ps)) n = absurd n
-  nodes_between height lower upper (s ∷ ss) (more m p ps) n =
-      each_both (Between lower upper) (entries p) (entries_in ps)
-      (each_weaker (Between lower (Some s)) (Between lower upper) (left_between lower upper s n.1) (entries p) (node_between half height lower (Some s) p n.2))
-      (each_weaker (Between (Some s) upper) (Between lower upper) (right_between lower upper s n.1) (entries_in ps) (nodes_between height (Some s) upper ss ps n.3))
-
 -- of a child: it is visited and gives what it has, or it has nothing to give
 child_scanned : (need : Need) (near lower upper : Option (List ℕ)) (p : RowTree) (x : Option (List SeenRow))
     → ((key : List ℕ) → is_from lower key ≡ true → is_from near key ≡ true)
-    → AllByRecursion (Between lower upper) (entries p) → seen_in need p ≡ seen_entries need (entries p)
+    → AllByRecursion (Between row_family lower upper) (entries p) → seen_in need p ≡ seen_entries need (entries p)
     → cond (visits need.interval near upper) (joined (seen_in need p) x) x ≡ joined (seen_entries need (entries p)) x
 child_scanned need near lower upper p x near_is all e = step (visits need.interval near upper) refl
   where
-    outside : visits need.interval near upper ≡ false → (f : PartEntry) → Between lower upper f → in_interval need.interval f.key ≡ false
+    outside : visits need.interval near upper ≡ false → (f : PartEntry) → Between row_family lower upper f → in_interval need.interval f.key ≡ false
     outside v f b = let parts = and_parts (is_from lower f.key) (is_before upper f.key) b in
         passed_by need.interval near upper f.key v (near_is f.key parts.0) parts.1
 
     step : (b : Bool) → visits need.interval near upper ≡ b → cond b (joined (seen_in need p) x) x ≡ joined (seen_entries need (entries p)) x
     step true v = ap (λ z. joined z x) e
     step false v =
-        let none_here : seen_entries need (entries p) ≡ Some [] = none_inside need (entries p) (each_weaker (Between lower upper) (λ (f : PartEntry). in_interval need.interval f.key ≡ false) (outside v) (entries p) all) in
+        let none_here : seen_entries need (entries p) ≡ Some [] = none_inside need (entries p) (each_weaker (Between row_family lower upper) (λ (f : PartEntry). in_interval need.interval f.key ≡ false) (outside v) (entries p) all) in
         sym (ap (λ z. joined z x) none_here ∙ joined_nothing x)
 
-weaker_upper : (lower upper : Option (List ℕ)) (e : PartEntry) → Between lower upper e → Between lower None e
+weaker_upper : (lower upper : Option (List ℕ)) (e : PartEntry) → Between row_family lower upper e → Between row_family lower None e
 weaker_upper lower upper e b = and_from (is_from lower e.key) true (and_parts (is_from lower e.key) (is_before upper e.key) b).0 refl
 
 last_scanned : (need : Need) (near lower upper : Option (List ℕ)) (p : RowTree)
     → ((key : List ℕ) → is_from lower key ≡ true → is_from near key ≡ true)
-    → AllByRecursion (Between lower upper) (entries p) → seen_in need p ≡ seen_entries need (entries p)
+    → AllByRecursion (Between row_family lower upper) (entries p) → seen_in need p ≡ seen_entries need (entries p)
     → cond (visits need.interval near None) (joined (seen_in need p) (Some [])) (Some []) ≡ seen_entries need (entries p ++ [])
 last_scanned need near lower upper p near_is all e =
     rw (entries_joined need (entries p) [])
-    (child_scanned need near lower None p (Some []) near_is (each_weaker (Between lower upper) (Between lower None) (weaker_upper lower upper) (entries p) all) e)
+    (child_scanned need near lower None p (Some []) near_is (each_weaker (Between row_family lower upper) (Between row_family lower None) (weaker_upper lower upper) (entries p) all) e)
 
 mutual
   node_scanned : (need : Need) (fewest height : ℕ) (lower upper : Option (List ℕ)) (t : RowTree) → IsNode row_family fewest height lower upper t
@@ -348,12 +306,12 @@ mutual
       → seen_in_each need near ss ps ≡ seen_entries need (entries_in ps)
   nodes_scanned need height near lower upper ss none near_is n = absurd n
   nodes_scanned need height near lower upper [] (more m p none) near_is n =
-      last_scanned need near lower upper p near_is (node_between half height lower upper p n.1) (node_scanned need half height lower upper p n.1)
+      last_scanned need near lower upper p near_is (node_between row_family half height lower upper p n.1) (node_scanned need half height lower upper p n.1)
   nodes_scanned need height near lower upper [] (more m p (more k q ps)) near_is n = absurd n
   nodes_scanned need height near lower upper (s ∷ ss) (more m p ps) near_is n =
       rw (nodes_scanned need height (Some s) (Some s) upper ss ps (λ key f. f) n.3, entries_joined need (entries p) (entries_in ps))
       (child_scanned need near lower (Some s) p (seen_entries need (entries_in ps)) near_is
-      (node_between half height lower (Some s) p n.2) (node_scanned need half height lower (Some s) p n.2))
+      (node_between row_family half height lower (Some s) p n.2) (node_scanned need half height lower (Some s) p n.2))
 
 -- A scan of a whole tree is a filter of its entries.
 pub scan_is_filter : (need : Need) (t : RowTree) → IsTree row_family t → seen_in need t ≡ seen_entries need (entries t)

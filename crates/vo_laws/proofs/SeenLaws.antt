@@ -128,7 +128,7 @@ line_alike schema columns x row s column i = step (column == schema.key) refl i
 abbrev pub rows_in : Interval → List Row → List Row
 rows_in interval = filter (λ (row : Row). in_interval interval row.key)
 
-none_kept : (interval : Interval) (rows : List Row) → is_empty_interval interval ≡ true → rows_in interval rows ≡ []
+pub none_kept : (interval : Interval) (rows : List Row) → is_empty_interval interval ≡ true → rows_in interval rows ≡ []
 none_kept interval [] e = refl
 none_kept interval (row ∷ rows) e = rw (empty_has_none interval row.key e) (none_kept interval rows e)
 

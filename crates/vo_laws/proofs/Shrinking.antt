@@ -1,10 +1,8 @@
 -- Children of which one may have become small: what they settle into stands between the same bounds.
 use Rattle.std.proofs.Common.{◌≡◌, ℕ, ◌+◌, ◌≤◌, Bool, true, false, cond, List, [], ◌∷◌, ◌++◌, Option, Some, Result, Ok, Err, length, refl, sym, ap, ◌∙◌, subst, arith, append_assoc}
 use Rattle.std.proofs.lemmas.Bool.{ltb-false}
-use Rattle.vo_spec.specs.declared.cells.PartEntry.{PartEntry}
 use Rattle.vo_spec.specs.declared.trees.UpdateFault.{UpdateFault}
-use Rattle.vo_spec.specs.Parts.{stub, leaf, inner, none, more, count, entries, entries_in}
-use Rattle.vo_spec.specs.Trees.{RowTree, RowTrees, row_family}
+use Rattle.vo_spec.specs.Parts.{Part, Parts, Family, stub, leaf, inner, none, more, count, entries, entries_in}
 use Rattle.vo_spec.specs.Inserts.{half, result_map, Grown, one, two, Children, after_child, put_grown}
 use Rattle.vo_spec.specs.Removes.{is_small, with_left, with_right, settle_first, settle_next}
 use Rattle.vo_spec.specs.Standing.{is_within, AreRising, IsNode, AreNodes}
@@ -17,118 +15,119 @@ abbrev pub bound_above : Option (List ℕ) → List (List ℕ) → Option (List 
 bound_above upper [] = upper
 bound_above upper (s ∷ ss) = Some s
 
--- the children after one, behind these separators
-abbrev pub AreBehind : ℕ → Option (List ℕ) → Option (List ℕ) → List (List ℕ) → RowTrees → Type 0
-AreBehind height lower upper [] none = Unit {0}
-AreBehind height lower upper [] (more m p ps) = ⊥
-AreBehind height lower upper (s ∷ ss) ps = (is_within lower upper s ≡ true) × AreNodes row_family height (Some s) upper ss ps
-
-pub first_child : (height : ℕ) (lower upper : Option (List ℕ)) (ss : List (List ℕ)) (m : Unit {0}) (p : RowTree) (ps : RowTrees)
-    → AreNodes row_family height lower upper ss (more m p ps) → IsNode row_family half height lower (bound_above upper ss) p × AreBehind height lower upper ss ps
-first_child height lower upper [] m p none n = (n.1, tt)
-first_child height lower upper [] m p (more o q ps) n = absurd n
-first_child height lower upper (s ∷ ss) m p ps n = (n.2, (n.1, n.3))
-
--- One or two nodes in a child's place.
-
-children_put : (height : ℕ) (lower upper : Option (List ℕ)) (ss : List (List ℕ)) (ps : RowTrees) (g : Grown PartEntry (Unit {0}))
-    → IsGrown half height lower (bound_above upper ss) g → AreBehind height lower upper ss ps
-    → AreNodes row_family height lower upper (put_grown row_family ss ps g).separators (put_grown row_family ss ps g).parts
-children_put height lower upper [] none (one p) g others = (refl, g.0)
-children_put height lower upper [] none (two left key right) g others = (refl, g.0, g.1, (refl, g.2))
-children_put height lower upper [] (more m q ps) grown g others = absurd others
-children_put height lower upper (s ∷ ss) ps (one p) g others = (refl, others.0, g.0, others.1)
-children_put height lower upper (s ∷ ss) ps (two left key right) g others =
-    (refl, wider lower upper s key others.0 g.0, g.1, (refl, behind lower upper s key others.0 g.0, g.2, others.1))
-
-entries_put : (ss : List (List ℕ)) (ps : RowTrees) (g : Grown PartEntry (Unit {0})) → entries_in (put_grown row_family ss ps g).parts ≡ grown_entries g ++ entries_in ps
-entries_put ss ps (one p) = refl
-entries_put ss ps (two left key right) = sym (append_assoc (entries left) (entries right) (entries_in ps))
-
 -- with one of them removed there are as many children as before, or one fewer
 abbrev IsAbout : ℕ → ℕ → Type 0
 IsAbout n after = (n ≤ after + 1) × (after ≤ n)
 
-count_put : (ss : List (List ℕ)) (ps : RowTrees) (g : Grown PartEntry (Unit {0})) → IsAbout (count ps + 1 + 1) (count (put_grown row_family ss ps g).parts)
-count_put ss ps (one p) = (omega arith, omega arith)
-count_put ss ps (two left key right) = (omega arith, omega arith)
+module _ {E M : Type 0} (family : Family E M) where
+  -- the children after one, behind these separators
+  abbrev pub AreBehind : ℕ → Option (List ℕ) → Option (List ℕ) → List (List ℕ) → Parts E M → Type 0
+  AreBehind height lower upper [] none = Unit {0}
+  AreBehind height lower upper [] (more m p ps) = ⊥
+  AreBehind height lower upper (s ∷ ss) ps = (is_within lower upper s ≡ true) × AreNodes family height (Some s) upper ss ps
 
--- what children with these entries settle into, so many before
-abbrev pub ChildrenSettle : ℕ → Option (List ℕ) → Option (List ℕ) → List PartEntry → ℕ → Result (Children PartEntry (Unit {0})) UpdateFault → Type 0
-ChildrenSettle height lower upper es n (Ok c) =
-    AreNodes row_family height lower upper c.separators c.parts × (entries_in c.parts ≡ es) × (n ≤ count c.parts + 1) × (count c.parts ≤ n)
-ChildrenSettle height lower upper es n (Err fault) = ⊥
+  pub first_child : (height : ℕ) (lower upper : Option (List ℕ)) (ss : List (List ℕ)) (m : M) (p : Part E M) (ps : Parts E M)
+      → AreNodes family height lower upper ss (more m p ps) → IsNode family half height lower (bound_above upper ss) p × AreBehind height lower upper ss ps
+  first_child height lower upper [] m p none n = (n.1, tt)
+  first_child height lower upper [] m p (more o q ps) n = absurd n
+  first_child height lower upper (s ∷ ss) m p ps n = (n.2, (n.1, n.3))
 
--- the bounds of two neighbours
-nearer : (height : ℕ) (lower upper : Option (List ℕ)) (s : List ℕ) (ss : List (List ℕ)) (ps : RowTrees) → is_within lower upper s ≡ true → AreBehind height (Some s) upper ss ps
-    → (is_within lower (bound_above upper ss) s ≡ true) × AreBehind height lower upper ss ps
-nearer height lower upper s [] none w others = (w, tt)
-nearer height lower upper s [] (more m p ps) w others = absurd others
-nearer height lower upper s (t ∷ ss) ps w others = let n = narrower lower upper s t w others.0 in (n.1, (n.0, others.1))
+  -- One or two nodes in a child's place.
 
-neighbours_put : (height : ℕ) (lower upper : Option (List ℕ)) (ss : List (List ℕ)) (ps : RowTrees) (xs ys : List PartEntry) (r : Result (Grown PartEntry (Unit {0})) UpdateFault)
-    → AreBehind height lower upper ss ps → Settles height lower (bound_above upper ss) (xs ++ ys) r
-    → ChildrenSettle height lower upper (xs ++ (ys ++ entries_in ps)) (count ps + 1 + 1) (result_map (put_grown row_family ss ps) r)
-neighbours_put height lower upper ss ps xs ys (Err fault) others g = absurd g
-neighbours_put height lower upper ss ps xs ys (Ok grown) others g =
-    let n = count_put ss ps grown in (
-      children_put height lower upper ss ps grown g.0 others,
-      entries_put ss ps grown ∙ ap (λ z. z ++ entries_in ps) g.1 ∙ append_assoc xs ys (entries_in ps),
-      n.0,
-      n.1,
-    )
+  children_put : (height : ℕ) (lower upper : Option (List ℕ)) (ss : List (List ℕ)) (ps : Parts E M) (g : Grown E M)
+      → IsGrown family half height lower (bound_above upper ss) g → AreBehind height lower upper ss ps
+      → AreNodes family height lower upper (put_grown family ss ps g).separators (put_grown family ss ps g).parts
+  children_put height lower upper [] none (one p) g others = (refl, g.0)
+  children_put height lower upper [] none (two left key right) g others = (refl, g.0, g.1, (refl, g.2))
+  children_put height lower upper [] (more m q ps) grown g others = absurd others
+  children_put height lower upper (s ∷ ss) ps (one p) g others = (refl, others.0, g.0, others.1)
+  children_put height lower upper (s ∷ ss) ps (two left key right) g others =
+      (refl, wider lower upper s key others.0 g.0, g.1, (refl, behind lower upper s key others.0 g.0, g.2, others.1))
 
-large_again : (height : ℕ) (lower upper : Option (List ℕ)) (p : RowTree) → is_small p ≡ false → IsNode row_family 7 height lower upper p → IsNode row_family half height lower upper p
-large_again height lower upper (stub d) e n = absurd n
-large_again height lower upper (leaf es) e n = (n.0, ltb-false (length es) 8 e, n.2, n.3)
-large_again height lower upper (inner ss ps) e n = (n.0, ltb-false (count ps) 8 e, n.2, n.3)
+  entries_put : (ss : List (List ℕ)) (ps : Parts E M) (g : Grown E M) → entries_in (put_grown family ss ps g).parts ≡ grown_entries g ++ entries_in ps
+  entries_put ss ps (one p) = refl
+  entries_put ss ps (two left key right) = sym (append_assoc (entries left) (entries right) (entries_in ps))
 
--- A first child that has lost an entry, before others.
-pub first_settles : (height : ℕ) (lower upper : Option (List ℕ)) (s : List ℕ) (ss : List (List ℕ)) (p : RowTree) (m : Unit {0}) (q : RowTree) (qs : RowTrees)
-    → is_within lower upper s ≡ true → IsNode row_family 7 height lower (Some s) p → AreNodes row_family height (Some s) upper ss (more m q qs)
-    → AreRising (keys_in (entries p ++ (entries q ++ entries_in qs)))
-    → ChildrenSettle height lower upper (entries p ++ (entries q ++ entries_in qs)) (count qs + 1 + 1) (settle_first row_family (s ∷ ss) (more m q qs) p)
-first_settles height lower upper s ss p m q qs w node nodes rising = step (is_small p) refl
-  where
-    next : IsNode row_family half height (Some s) (bound_above upper ss) q × AreBehind height (Some s) upper ss qs
-    next = first_child height (Some s) upper ss m q qs nodes
+  count_put : (ss : List (List ℕ)) (ps : Parts E M) (g : Grown E M) → IsAbout (count ps + 1 + 1) (count (put_grown family ss ps g).parts)
+  count_put ss ps (one p) = (omega arith, omega arith)
+  count_put ss ps (two left key right) = (omega arith, omega arith)
 
-    near : (is_within lower (bound_above upper ss) s ≡ true) × AreBehind height lower upper ss qs
-    near = nearer height lower upper s ss qs w next.1
+  -- what children with these entries settle into, so many before
+  abbrev pub ChildrenSettle : ℕ → Option (List ℕ) → Option (List ℕ) → List E → ℕ → Result (Children E M) UpdateFault → Type 0
+  ChildrenSettle height lower upper es n (Ok c) =
+      AreNodes family height lower upper c.separators c.parts × (entries_in c.parts ≡ es) × (n ≤ count c.parts + 1) × (count c.parts ≤ n)
+  ChildrenSettle height lower upper es n (Err fault) = ⊥
 
-    both_rise : AreRising (keys_in (entries p ++ entries q))
-    both_rise = rising_left (entries p ++ entries q) (entries_in qs) (subst (λ z. AreRising (keys_in z)) (sym (append_assoc (entries p) (entries q) (entries_in qs))) rising)
+  -- the bounds of two neighbours
+  nearer : (height : ℕ) (lower upper : Option (List ℕ)) (s : List ℕ) (ss : List (List ℕ)) (ps : Parts E M) → is_within lower upper s ≡ true → AreBehind height (Some s) upper ss ps
+      → (is_within lower (bound_above upper ss) s ≡ true) × AreBehind height lower upper ss ps
+  nearer height lower upper s [] none w others = (w, tt)
+  nearer height lower upper s [] (more m p ps) w others = absurd others
+  nearer height lower upper s (t ∷ ss) ps w others = let n = narrower lower upper s t w others.0 in (n.1, (n.0, others.1))
 
-    step : (b : Bool) → is_small p ≡ b
-        → ChildrenSettle height lower upper (entries p ++ (entries q ++ entries_in qs)) (count qs + 1 + 1)
-        (cond b (result_map (put_grown row_family ss qs) (with_right row_family p s q)) (Ok (put_grown row_family (s ∷ ss) (more m q qs) (one p))))
-    step true e =
-        neighbours_put height lower upper ss qs (entries p) (entries q) (with_right row_family p s q) near.1
-        (right_settles height lower (bound_above upper ss) s p q near.0 node next.0 e both_rise)
-    step false e = ((refl, w, large_again height lower (Some s) p e node, nodes), refl, omega arith, omega arith)
+  neighbours_put : (height : ℕ) (lower upper : Option (List ℕ)) (ss : List (List ℕ)) (ps : Parts E M) (xs ys : List E) (r : Result (Grown E M) UpdateFault)
+      → AreBehind height lower upper ss ps → Settles family height lower (bound_above upper ss) (xs ++ ys) r
+      → ChildrenSettle height lower upper (xs ++ (ys ++ entries_in ps)) (count ps + 1 + 1) (result_map (put_grown family ss ps) r)
+  neighbours_put height lower upper ss ps xs ys (Err fault) others g = absurd g
+  neighbours_put height lower upper ss ps xs ys (Ok grown) others g =
+      let n = count_put ss ps grown in (
+        children_put height lower upper ss ps grown g.0 others,
+        entries_put ss ps grown ∙ ap (λ z. z ++ entries_in ps) g.1 ∙ append_assoc xs ys (entries_in ps),
+        n.0,
+        n.1,
+      )
 
--- A later child that has lost an entry, behind the one before it.
-pub next_settles : (height : ℕ) (lower upper : Option (List ℕ)) (s : List ℕ) (ss : List (List ℕ)) (m : Unit {0}) (left p : RowTree) (ps : RowTrees)
-    → is_within lower upper s ≡ true → IsNode row_family half height lower (Some s) left → IsNode row_family 7 height (Some s) (bound_above upper ss) p
-    → AreBehind height (Some s) upper ss ps → AreRising (keys_in (entries left ++ (entries p ++ entries_in ps)))
-    → ChildrenSettle height lower upper (entries left ++ (entries p ++ entries_in ps)) (count ps + 1 + 1) (settle_next row_family m left (s ∷ ss) ps p)
-next_settles height lower upper s ss m left p ps w before node others rising = step (is_small p) refl
-  where
-    near : (is_within lower (bound_above upper ss) s ≡ true) × AreBehind height lower upper ss ps
-    near = nearer height lower upper s ss ps w others
+  large_again : (height : ℕ) (lower upper : Option (List ℕ)) (p : Part E M) → is_small p ≡ false → IsNode family 7 height lower upper p → IsNode family half height lower upper p
+  large_again height lower upper (stub d) e n = absurd n
+  large_again height lower upper (leaf es) e n = (n.0, ltb-false (length es) 8 e, n.2, n.3)
+  large_again height lower upper (inner ss ps) e n = (n.0, ltb-false (count ps) 8 e, n.2, n.3)
 
-    both_rise : AreRising (keys_in (entries left ++ entries p))
-    both_rise = rising_left (entries left ++ entries p) (entries_in ps) (subst (λ z. AreRising (keys_in z)) (sym (append_assoc (entries left) (entries p) (entries_in ps))) rising)
+  -- A first child that has lost an entry, before others.
+  pub first_settles : (height : ℕ) (lower upper : Option (List ℕ)) (s : List ℕ) (ss : List (List ℕ)) (p : Part E M) (m : M) (q : Part E M) (qs : Parts E M)
+      → is_within lower upper s ≡ true → IsNode family 7 height lower (Some s) p → AreNodes family height (Some s) upper ss (more m q qs)
+      → AreRising (keys_in family (entries p ++ (entries q ++ entries_in qs)))
+      → ChildrenSettle height lower upper (entries p ++ (entries q ++ entries_in qs)) (count qs + 1 + 1) (settle_first family (s ∷ ss) (more m q qs) p)
+  first_settles height lower upper s ss p m q qs w node nodes rising = step (is_small p) refl
+    where
+      next : IsNode family half height (Some s) (bound_above upper ss) q × AreBehind height (Some s) upper ss qs
+      next = first_child height (Some s) upper ss m q qs nodes
 
-    step : (b : Bool) → is_small p ≡ b
-        → ChildrenSettle height lower upper (entries left ++ (entries p ++ entries_in ps)) (count ps + 1 + 1)
-        (cond b (result_map (put_grown row_family ss ps) (with_left row_family left s p)) (Ok (after_child m left (s ∷ ss) (put_grown row_family ss ps (one p)))))
-    step true e =
-        neighbours_put height lower upper ss ps (entries left) (entries p) (with_left row_family left s p) near.1
-        (left_settles height lower (bound_above upper ss) s left p near.0 before node e both_rise)
-    step false e = (
-      (refl, w, before, children_put height (Some s) upper ss ps (one p) (large_again height (Some s) (bound_above upper ss) p e node, root_few p) others),
-      refl,
-      omega arith,
-      omega arith,
-    )
+      near : (is_within lower (bound_above upper ss) s ≡ true) × AreBehind height lower upper ss qs
+      near = nearer height lower upper s ss qs w next.1
+
+      both_rise : AreRising (keys_in family (entries p ++ entries q))
+      both_rise = rising_left family (entries p ++ entries q) (entries_in qs) (subst (λ z. AreRising (keys_in family z)) (sym (append_assoc (entries p) (entries q) (entries_in qs))) rising)
+
+      step : (b : Bool) → is_small p ≡ b
+          → ChildrenSettle height lower upper (entries p ++ (entries q ++ entries_in qs)) (count qs + 1 + 1)
+          (cond b (result_map (put_grown family ss qs) (with_right family p s q)) (Ok (put_grown family (s ∷ ss) (more m q qs) (one p))))
+      step true e =
+          neighbours_put height lower upper ss qs (entries p) (entries q) (with_right family p s q) near.1
+          (right_settles family height lower (bound_above upper ss) s p q near.0 node next.0 e both_rise)
+      step false e = ((refl, w, large_again height lower (Some s) p e node, nodes), refl, omega arith, omega arith)
+
+  -- A later child that has lost an entry, behind the one before it.
+  pub next_settles : (height : ℕ) (lower upper : Option (List ℕ)) (s : List ℕ) (ss : List (List ℕ)) (m : M) (left p : Part E M) (ps : Parts E M)
+      → m ≡ family.mark left → is_within lower upper s ≡ true → IsNode family half height lower (Some s) left → IsNode family 7 height (Some s) (bound_above upper ss) p
+      → AreBehind height (Some s) upper ss ps → AreRising (keys_in family (entries left ++ (entries p ++ entries_in ps)))
+      → ChildrenSettle height lower upper (entries left ++ (entries p ++ entries_in ps)) (count ps + 1 + 1) (settle_next family m left (s ∷ ss) ps p)
+  next_settles height lower upper s ss m left p ps mark w before node others rising = step (is_small p) refl
+    where
+      near : (is_within lower (bound_above upper ss) s ≡ true) × AreBehind height lower upper ss ps
+      near = nearer height lower upper s ss ps w others
+
+      both_rise : AreRising (keys_in family (entries left ++ entries p))
+      both_rise = rising_left family (entries left ++ entries p) (entries_in ps) (subst (λ z. AreRising (keys_in family z)) (sym (append_assoc (entries left) (entries p) (entries_in ps))) rising)
+
+      step : (b : Bool) → is_small p ≡ b
+          → ChildrenSettle height lower upper (entries left ++ (entries p ++ entries_in ps)) (count ps + 1 + 1)
+          (cond b (result_map (put_grown family ss ps) (with_left family left s p)) (Ok (after_child m left (s ∷ ss) (put_grown family ss ps (one p)))))
+      step true e =
+          neighbours_put height lower upper ss ps (entries left) (entries p) (with_left family left s p) near.1
+          (left_settles family height lower (bound_above upper ss) s left p near.0 before node e both_rise)
+      step false e = (
+        (mark, w, before, children_put height (Some s) upper ss ps (one p) (large_again height (Some s) (bound_above upper ss) p e node, root_few family p) others),
+        refl,
+        omega arith,
+        omega arith,
+      )

@@ -20,6 +20,7 @@ use Rattle.vo_spec.specs.Trees.{RowTree, key_in, row_family}
 use Rattle.vo_spec.specs.Inserts.{result_map, has_key, put_entry, inserted}
 use Rattle.vo_spec.specs.Removes.{without_entry, edit_entry, set_cells, set_row, removed, replaced}
 use Rattle.vo_spec.specs.Standing.{AreRising, StandsFor}
+pub use Rattle.vo_laws.specs.Changing.{Inserts}
 use Rattle.vo_laws.specs.Changing.{Changes}
 use Rattle.vo_laws.proofs.ListLaws.{each_mapped}
 use Rattle.vo_laws.proofs.Growing.{keys_in, other_back}
@@ -47,21 +48,13 @@ whole_put row (r ∷ rows) = step (key_lt row.key r.key) (whole_put row rows)
     step true rest = refl
     step false rest = ap (λ z. whole_entry r ∷ z) rest
 
--- what an insertion gives of a tree that stands for these rows
-abbrev pub Inserts : Row → List Row → Result RowTree UpdateFault → Type 0
-Inserts row rows (Ok t) = (has_row row.key rows ≡ false) × StandsFor t (put_row row rows)
-Inserts row rows (Err DuplicateKey) = has_row row.key rows ≡ true
-Inserts row rows (Err NoRow) = ⊥
-Inserts row rows (Err Missing) = ⊥
-Inserts row rows (Err Memory) = ⊥
-
 pub inserted_stands : (row : Row) (t : RowTree) (rows : List Row) → StandsFor t rows → Inserts row rows (inserted (whole_entry row) t)
-inserted_stands row t rows stands = step (inserted (whole_entry row) t) (tree_grows (whole_entry row) t stands.tree)
+inserted_stands row t rows stands = step (inserted (whole_entry row) t) (tree_grows row_family (whole_entry row) t stands.tree)
   where
     has : has_key row_family row.key (entries t) ≡ has_row row.key rows
     has = has_in row.key t rows stands
 
-    step : (r : Result RowTree UpdateFault) → TreeGrows (whole_entry row) (entries t) r → Inserts row rows r
+    step : (r : Result RowTree UpdateFault) → TreeGrows row_family (whole_entry row) (entries t) r → Inserts row rows r
     step (Ok u) g = (sym has ∙ g.0, record { tree = g.1; rows_are = g.2 ∙ ap (put_entry row_family (whole_entry row)) stands.rows_are ∙ whole_put row rows })
     step (Err DuplicateKey) g = sym has ∙ g
     step (Err NoRow) g = absurd g
@@ -70,16 +63,16 @@ inserted_stands row t rows stands = step (inserted (whole_entry row) t) (tree_gr
 
 -- Changes of the row of a key.
 
-rows_rise : (t : RowTree) (rows : List Row) → StandsFor t rows → AreRising (keys_in (map whole_entry rows))
-rows_rise t rows stands = subst (λ z. AreRising (keys_in z)) stands.rows_are stands.tree.rising
+rows_rise : (t : RowTree) (rows : List Row) → StandsFor t rows → AreRising (keys_in row_family (map whole_entry rows))
+rows_rise t rows stands = subst (λ z. AreRising (keys_in row_family z)) stands.rows_are stands.tree.rising
 
 pub removed_stands : (key : List ℕ) (t : RowTree) (rows : List Row) → StandsFor t rows → Changes key rows (without_row key rows) (removed key t)
-removed_stands key t rows stands = step (removed key t) (tree_shrinks key t stands.tree)
+removed_stands key t rows stands = step (removed key t) (tree_shrinks row_family key t stands.tree)
   where
     has : has_key row_family key (entries t) ≡ has_row key rows
     has = has_in key t rows stands
 
-    step : (r : Result RowTree UpdateFault) → TreeShrinks key (entries t) r → Changes key rows (without_row key rows) r
+    step : (r : Result RowTree UpdateFault) → TreeShrinks row_family key (entries t) r → Changes key rows (without_row key rows) r
     step (Ok u) g = (sym has ∙ g.0, record { tree = g.1; rows_are = g.2 ∙ ap (without_entry row_family key) stands.rows_are ∙ whole_without key rows (rows_rise t rows stands) })
     step (Err DuplicateKey) g = absurd g
     step (Err NoRow) g = sym has ∙ g
@@ -101,7 +94,7 @@ others_unchanged : (key : List ℕ) (changes : List CellChange) (rows : List Row
 others_unchanged key changes [] all = refl
 others_unchanged key changes (row ∷ rows) all = rw (other_back row.key key all.0, others_unchanged key changes rows all.1) refl
 
-whole_edited : (key : List ℕ) (changes : List CellChange) (rows : List Row) → AreRising (keys_in (map whole_entry rows))
+whole_edited : (key : List ℕ) (changes : List CellChange) (rows : List Row) → AreRising (keys_in row_family (map whole_entry rows))
     → edit_entry row_family (set_row changes) key (map whole_entry rows)
     ≡ cond (has_row key rows) (Ok (map whole_entry (map (changed_row key changes) rows))) (Err NoRow)
 whole_edited key changes [] r = refl
@@ -136,14 +129,14 @@ set_row_keeps changes e f is = step e.row is
 
 pub replaced_stands : (key : List ℕ) (changes : List CellChange) (t : RowTree) (rows : List Row) → StandsFor t rows
     → Changes key rows (map (changed_row key changes) rows) (replaced key changes t)
-replaced_stands key changes t rows stands = step (replaced key changes t) (has_row key rows) refl edited (tree_edits (set_row changes) (set_row_keeps changes) key t stands.tree)
+replaced_stands key changes t rows stands = step (replaced key changes t) (has_row key rows) refl edited (tree_edits row_family (set_row changes) (set_row_keeps changes) key t stands.tree)
   where
     edited : edit_entry row_family (set_row changes) key (entries t) ≡ cond (has_row key rows) (Ok (map whole_entry (map (changed_row key changes) rows))) (Err NoRow)
     edited = ap (edit_entry row_family (set_row changes) key) stands.rows_are ∙ whole_edited key changes rows (rows_rise t rows stands)
 
     step : (r : Result RowTree UpdateFault) (b : Bool) → has_row key rows ≡ b
         → edit_entry row_family (set_row changes) key (entries t) ≡ cond b (Ok (map whole_entry (map (changed_row key changes) rows))) (Err NoRow)
-        → TreeEdits (set_row changes) key (entries t) r → Changes key rows (map (changed_row key changes) rows) r
+        → TreeEdits row_family (set_row changes) key (entries t) r → Changes key rows (map (changed_row key changes) rows) r
     step (Ok u) true has is g = (has, record { tree = g.1; rows_are = cc })
     step (Ok u) false has is g = absurd (cc)
     step (Err fault) true has is g = absurd (cc)

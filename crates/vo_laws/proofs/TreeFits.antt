@@ -1,5 +1,5 @@
 -- Trees within the limits of their bytes: a tree that insertion makes keeps them, and so do its proofs.
-use Rattle.std.proofs.Common.{◌≡◌, ℕ, zero, suc, ◌+◌, ◌-◌, ◌≤◌, Bool, true, false, cond, List, [], ◌∷◌, Option, Some, Result, Ok, Err, length, take, drop, refl, arith}
+use Rattle.std.proofs.Common.{◌≡◌, ℕ, zero, suc, ◌+◌, ◌-◌, ◌≤◌, Bool, true, false, cond, List, [], ◌∷◌, Option, Some, Result, Ok, Err, length, take, drop, arith}
 use Rattle.std.specs.Prelude.{nat_le, slice_get, slice_index_or}
 use Rattle.std.specs.List.{AllByRecursion}
 use Rattle.std.proofs.lemmas.List.Elements.{All-from_recursion}
@@ -12,6 +12,7 @@ use Rattle.vo_spec.specs.Fits.{FitsKey, FitsEntry, FitsEach, FitsPart}
 use Rattle.vo_spec.specs.Inserts.{half, result_map, goes_here, Grown, one, two, Children, take_parts, drop_parts, after_child, has_key, put_entry, first_key, split_leaf, split_inner, put_grown, grow, grow_in, root_of, inserted}
 use Rattle.vo_spec.specs.Standing.{IsNode, AreNodes, fewest_in_root}
 use Rattle.vo_laws.proofs.ListLaws.{each_left, each_right, each_both}
+use Rattle.vo_laws.proofs.NodeBounds as bounds
 use Rattle.vo_laws.proofs.Growing.{put_each}
 use Rattle.vo_laws.proofs.Grown.{root_few}
 
@@ -107,7 +108,7 @@ leaf_grown_separated e es fits all = step (has_key row_family e.key es)
   where
     step : (b : Bool) → SeparatedGrown (cond b (Err DuplicateKey) (Ok (split_leaf row_family (put_entry row_family e es))))
     step true = tt
-    step false = leaf_separated (put_entry row_family e es) (put_each KeyFits e es fits all)
+    step false = leaf_separated (put_entry row_family e es) (put_each row_family KeyFits e es fits all)
 
 mutual
   node_separated : (e : PartEntry) (t : RowTree) → KeyFits e → AllByRecursion KeyFits (entries t) → Separated t → SeparatedGrown (grow row_family e t)
@@ -140,10 +141,7 @@ tree_separated e t fits all s = root_separated (grow row_family e t) (node_separ
 -- A whole tree with such separators and entries that fit is within the limits.
 
 pub separators_counted : (height : ℕ) (lower upper : Option (List ℕ)) (ss : List (List ℕ)) (ps : RowTrees) → AreNodes row_family height lower upper ss ps → length ss + 1 ≡ count ps
-separators_counted height lower upper ss none n = absurd n
-separators_counted height lower upper [] (more m p none) n = refl
-separators_counted height lower upper [] (more m p (more o q ps)) n = absurd n
-separators_counted height lower upper (s ∷ ss) (more m p ps) n = let rest : length ss + 1 ≡ count ps = separators_counted height (Some s) upper ss ps n.3 in omega arith
+separators_counted = bounds.separators_counted row_family
 
 mutual
   pub node_fits : (fewest height : ℕ) (lower upper : Option (List ℕ)) (t : RowTree) → fewest_in_root row_family t ≤ fewest → IsNode row_family fewest height lower upper t
@@ -161,9 +159,9 @@ mutual
   pub nodes_fit : (height : ℕ) (lower upper : Option (List ℕ)) (ss : List (List ℕ)) (ps : RowTrees) → AreNodes row_family height lower upper ss ps
       → AreSeparated ps → AllByRecursion FitsEntry (entries_in ps) → FitsEach FitsEntry ps
   nodes_fit height lower upper ss none n s all = tt
-  nodes_fit height lower upper [] (more m p none) n s all = (node_fits half height lower upper p (root_few p) n.1 s.0 (each_left FitsEntry (entries p) [] all), tt)
+  nodes_fit height lower upper [] (more m p none) n s all = (node_fits half height lower upper p (root_few row_family p) n.1 s.0 (each_left FitsEntry (entries p) [] all), tt)
   nodes_fit height lower upper [] (more m p (more o q ps)) n s all = absurd n
   nodes_fit height lower upper (x ∷ ss) (more m p ps) n s all = (
-    node_fits half height lower (Some x) p (root_few p) n.2 s.0 (each_left FitsEntry (entries p) (entries_in ps) all),
+    node_fits half height lower (Some x) p (root_few row_family p) n.2 s.0 (each_left FitsEntry (entries p) (entries_in ps) all),
     nodes_fit height (Some x) upper ss ps n.3 s.1 (each_right FitsEntry (entries p) (entries_in ps) all),
   )

@@ -1,2 +1,4 @@
 pub mod Changing
 pub mod Sealing
+pub mod Columns
+pub mod UpdateProofs

@@ -3,7 +3,10 @@
 #![tactic(auto)]
 
 pub mod changes;
+pub mod digests;
 pub mod journals;
+pub mod needs;
+pub mod scans;
 
 ghost use Rattle.std.specs.Prelude.{◌≡◌, ◌≢◌, ℕ, ◌^◌, ◌≤◌, ◌<◌, List, [], ◌∷◌, None, Ok, length};
 ghost use Rattle.std.specs.List.{AllByRecursion, AllZip};
