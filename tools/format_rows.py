@@ -202,6 +202,10 @@ def catalog_rows():
     tables = [b"\3t%02d" % place + BY_TRUTH[2:].replace(b"\3\0", b"\1\0", 1) for place in range(65)]
     yield "catalog", b"\0\x40" + b"".join(tables[:64])
     yield "catalog", b"\0\x41" + b"".join(tables)
+    # as many columns as there can be and the longest name, and one more of each
+    for columns, length in (32, 63), (33, 63), (32, 64):
+        shape = bytes([columns]) + b"".join(b"\3c%02d\1" % place for place in range(columns)) + b"\0"
+        yield "catalog", b"\0\1" + bytes([length]) + b"t" * length + shape + bytes(40)
     # the wrong order, and one table twice
     yield "catalog", b"\0\2" + REVOKED + PRICES
     yield "catalog", b"\0\2" + PRICES + PRICES
@@ -233,6 +237,8 @@ ROWS = (b"\x01\x02\x00\x08\x80" + bytes(6) + b"\x01\x01\x01\x01\x02\x00\x03ann"
 STUB = b"\x00" + b"g" * 32
 HIDDEN = (b"\x01\x02\x00\x01k\x01\x03\x00" + b"i" * 32 + b"\x01\x03\x01\x01\x01" + b"\xff" * 8
           + b"\x00\x01m\x00" + b"e" * 32)
+# eleven levels of nodes with two children, and twelve
+DEEPEST, TOO_DEEP = (b"\2\2\0\0" * levels + b"\1\0" * (levels + 1) for levels in (10, 11))
 VERSION_3 = b"VREC0123456789abcdef" + bytes(7) + b"\x03" + b"c" * 32
 ONE_TABLE = b"\x00\x01\x01t\x02\x02id\x01\x04name\x02\x00" + bytes(7) + b"\x02" + b"r" * 32
 
@@ -245,6 +251,8 @@ def reply_rows():
     yield "reply", front + b"\2" + ROWS
     yield "reply", front + b"\1" + ROWS + b"\0"
     yield "reply", front + b"\0" + ROWS
+    yield "reply", front + b"\1" + DEEPEST
+    yield "reply", front + b"\1" + TOO_DEEP
     # as many trees as there can be
     yield "reply", front + b"\xff" + b"\1\0" * 255
     # no trees and no tables, and that of another word
@@ -266,6 +274,8 @@ def proof_rows():
     yield "proofs", b"VOU1\0\0"
     yield "begin", b"\0\2"
     yield "begin", b"\3\xe8"
+    yield "proofs", b"VOU1\0\1" + DEEPEST
+    yield "proofs", b"VOU1\0\1" + TOO_DEEP
     # another word, a byte more, and a tree too few
     yield "proofs", b"VOU2\0\0"
     yield "proofs", b"VOU1\0\1" + ROWS + b"\0"
@@ -313,6 +323,33 @@ def slot_rows():
     for data in closed + damaged:
         yield "slots", data
         yield "entries", data
+
+
+def counted(data):
+    return lms.u32(len(data)) + data
+
+
+def lone_slot(batch=b"\0\0", signature=b""):
+    """The slot of an entry 0, and no gate behind it."""
+    record = b"VREC" + ID + bytes(8) + b"\xaa" * 32
+    return b"\1" + counted(b"VOE1" + counted(batch) + counted(b"VOU1\0\0") + record + counted(signature))
+
+
+def insert(texts):
+    """The bytes of an INSERT of texts of these lengths."""
+    return b"\3\1t" + bytes([len(texts)]) + b"".join(b"\2" + length.to_bytes(2, "big") + b"x" * length for length in texts)
+
+
+def limit_rows():
+    """Parts of an entry as long as they can be, and longer: the damage is behind an entry that can be read."""
+    for length in 65_536, 65_537:
+        yield "entries", lone_slot(signature=bytes(length))
+    for commands in 1_000, 1_001:
+        yield "entries", lone_slot(batch=commands.to_bytes(2, "big") + b"\2\1t" * commands)
+    # 1,048,576 bytes of a batch, and one more
+    front = b"\0\x20" + insert([1024] * 32) * 31
+    for last in 903, 904:
+        yield "entries", lone_slot(batch=front + insert([1024] * 28 + [last]))
 
 
 OWNER_SEED = bytes(range(16, 48))
@@ -406,5 +443,6 @@ def rows():
     yield from reply_rows()
     yield from proof_rows()
     yield from slot_rows()
+    yield from limit_rows()
     yield from journal_rows()
     yield from answer_rows()

@@ -16,10 +16,10 @@ STUB = Stub(b"g" * 32)
 
 def rows():
     """All rows, those of each kind of case behind one another."""
-    for cases in (whole_trees, part_trees, bytes_of_trees, bytes_of_no_trees, commands, refused_commands, refused_batches,
-                  command_proofs, changes, runs, three_levels, runs_on_parts, changes_beside_a_stub, odd_leaves,
-                  odd_inner_nodes, moves, proofs, growing_proofs, judged_parts, judged_proofs, needs_of_a_leaf,
-                  needs_of_the_empty_tree, needs_of_two_leaves, agreeing_rows, agreeing_trees):
+    for cases in (whole_trees, longest_keys, part_trees, bytes_of_trees, bytes_of_no_trees, commands, refused_commands,
+                  refused_batches, command_proofs, changes, runs, three_levels, runs_on_parts, changes_beside_a_stub,
+                  odd_leaves, odd_inner_nodes, moves, proofs, growing_proofs, judged_parts, judged_proofs,
+                  needs_of_a_leaf, needs_of_the_empty_tree, needs_of_two_leaves, agreeing_rows, agreeing_trees):
         yield from cases()
 
 
@@ -103,6 +103,14 @@ def whole_trees():
     yield from (*made, root(tables.tree), tables.apply(sql(*inserts([17]))), root(tables.tree), tables.rows(), tables.catalog())
 
 
+def longest_keys():
+    # 17 keys of 255 letters, one of which is the separator of two leaves
+    tables, keys = Twin(), ("k" * 254 + letter for letter in "abcdefghijklmnopq")
+    yield tables.clear()
+    yield tables.apply(sql("CREATE TABLE t (id TEXT, PRIMARY KEY (id))", *(f"INSERT INTO t VALUES ('{key}')" for key in keys)))
+    yield root(tables.tree)
+
+
 def part_trees():
     two = grown([Op("insert", key(1), cells=(text_value("ann"),)), Op("insert", key(3), cells=(text_value("bob"),))])
     first, second = two.entries
@@ -133,11 +141,12 @@ def hidden_leaf():
 def bytes_of_trees():
     for part in (EMPTY, STUB, shown(1, 3), hidden_leaf(), Inner([b"g"], [STUB, hidden_leaf()])):
         yield read(part)
-    # the most entries, children, levels, bytes of a key and cells
+    # the most entries, children, levels, bytes of a key and of a separator, cells and bytes of a text
     yield read(closed(*range(16)))
     yield read(inner(range(15), [EMPTY] * 16))
     yield from (read(nested(levels)) for levels in (2, 10, 11))
-    yield from (read(Leaf([Entry(b"k" * 255, ())])), read(Leaf([Entry(b"k", (bool_value(True),) * 31)])))
+    yield from (read(Leaf([Entry(b"k" * 255, ())])), read(Inner([b"k" * 255], [EMPTY, EMPTY])))
+    yield from (read(Leaf([Entry(b"k", cells)])) for cells in ((bool_value(True),) * 31, (text_value("x" * 1024),)))
 
 
 def bytes_of_no_trees():
@@ -147,9 +156,10 @@ def bytes_of_no_trees():
         b"", b"\3\0", b"\1\1\0\1k\2\0", b"\1\1\0\1k\1\1\2\3\1", stub[:-1],
         # a value of no kind, an entry too few, and a byte left over
         b"\1\1\0\1k\1\1\1\4", b"\1\3" + hidden[2:], b"\1\0\0",
-        # too many entries, cells and bytes of a key
+        # too many entries, cells, bytes of a key and of a separator, and bytes of a text
         b"\1\x11", b"\1\x11" + b"\0\0\1\0" * 17, b"\1\1\0\1k\1\x20", b"\1\1\0\1k\1\x20" + b"\1\3\1" * 32,
-        b"\1\1\1\0", b"\1\1\1\0" + b"k" * 256 + b"\1\0",
+        b"\1\1\1\0", b"\1\1\1\0" + b"k" * 256 + b"\1\0", b"\2\2\1\0" + b"k" * 256 + b"\1\0" * 2,
+        b"\1\1\0\1k\1\1\1\2\4\1" + b"x" * 1025,
         # no child, one, and 17
         b"\2\0", b"\2\1" + stub, b"\2\x11" + b"\0\0" * 16 + b"\1\0" * 17,
     ]

@@ -1,8 +1,17 @@
 //! The program: an owner, a store, clients and auditors of outsourced tables.
 #![tactic(auto)]
 
+ghost use Rattle.std.specs.Prelude.{◌≡◌, ◌≢◌, map, string_bytes, IfOk, IfErr, IfSome};
+ghost use Rattle.std.specs.IoError.{error_kind};
+ghost use Rattle.outside.specs.Rose.{Rose};
+ghost use Rattle.vo_words.specs.Asked.{asked_by};
+ghost use Rattle.vo_commands.specs.Dues.{Exactly, Ends, due_to, refused_words};
+
+use outside::{Disk, Net, Shelf, Sink};
 use outside_real::{FolderFiles, JournalFile, StandardOutput, Tcp};
+use std::alloc::Global;
 use std::env;
+use std::io::{self, ErrorKind};
 use std::process::ExitCode;
 use std::rt::Env;
 use vo_commands::run;
@@ -12,10 +21,9 @@ fn main(rt: HostRuntime) -> ExitCode {
     let mut disk = JournalFile::new(&rt, ".", "owner.journal");
     let mut net = Tcp::new(&rt);
     let mut out = StandardOutput::new(&rt);
-    let words = words(&rt);
-    ExitCode::from(run(
+    ExitCode::from(run_on_words(
         rt.alloc(),
-        &words,
+        words(&rt),
         &mut files,
         &mut disk,
         &mut net,
@@ -23,10 +31,35 @@ fn main(rt: HostRuntime) -> ExitCode {
     ))
 }
 
-/// The words of the command line. Words that aren't text ask for nothing, as no words do.
-fn words(rt: &(impl Env + AllocGlobal)) -> Vec<String> {
-    match env::args(rt) {
-        Ok(args) => args.collect(rt.alloc()).unwrap_or(Vec::new(rt.alloc())),
-        Err(_) => Vec::new(rt.alloc()),
+/// The words of the command line, the program's name first.
+fn words(rt: &(impl Env + AllocGlobal)) -> io::Result<Vec<String>> {
+    Ok(env::args(rt)?.collect(rt.alloc())?)
+}
+
+/// Runs the program on the words of the command line, if they could be collected. Words that aren't text
+/// ask for nothing, as no words do.
+#[tactic(auto, using(crate::proofs::NoWords::no_words))]
+fn run_on_words<F: Shelf, D: Disk, N: Net, S: Sink>(
+    alloc: Global,
+    words: io::Result<Vec<String>>,
+    files: &mut F,
+    disk: &mut D,
+    net: &mut N,
+    out: &mut S,
+) -> u8
+    ensures lines { IfOk words (λ words.
+        IfSome (due_to (F.contents files.old) (asked_by (map string_bytes words.items))) (λ due.
+        Ends due (Rose (F.faults files.old) (F.faults files.new)) (Rose (S.faults out.old) (S.faults out.new))
+        result (S.written out.old) (S.written out.new))) }
+    ensures memory { IfErr words (λ error. error_kind error ≡ ErrorKind.OutOfMemory → result ≡ 4) }
+    ensures silent { IfErr words (λ error. error_kind error ≡ ErrorKind.OutOfMemory → out.new ≡ out.old) }
+    ensures no_text { IfErr words (λ error. error_kind error ≢ ErrorKind.OutOfMemory
+        → Ends (Exactly refused_words) (Rose (F.faults files.old) (F.faults files.new))
+        (Rose (S.faults out.old) (S.faults out.new)) result (S.written out.old) (S.written out.new)) }
+{
+    match words {
+        Ok(words) => run(alloc, &words, files, disk, net, out),
+        Err(error) if error.kind() == ErrorKind::OutOfMemory => 4,
+        Err(_) => run(alloc, &[], files, disk, net, out),
     }
 }

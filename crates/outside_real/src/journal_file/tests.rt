@@ -1,4 +1,4 @@
-//! A file that is made, written, put down and read.
+//! A file that is made, written, put down, read and found again.
 use super::JournalFile;
 use outside::{Disk, Failed};
 use std::test::Fail;
@@ -10,6 +10,11 @@ fn keeps_a_file(rt: HostRuntime) -> Result<(), Fail> {
     let path = format!(in rt.alloc(); "{folder}/kept_by_a_test_of_journal_file")?;
     let _ = fs::remove_file(&rt, path.as_str());
     assert!(rt; keeps(&mut JournalFile::new(&rt, &folder, &path))?);
+    let kept = fs::read(&rt, path.as_str())?;
+    assert_eq!(rt; kept.as_slice(), b"abxyz".as_slice());
+    assert!(rt; finds(&mut JournalFile::new(&rt, &folder, &path)));
+    let mut elsewhere = JournalFile::new(&rt, "no/such/folder", &path);
+    assert_eq!(rt; (elsewhere.len(), elsewhere.faults), (Err(Failed), 1));
     fs::remove_file(&rt, path.as_str())?;
     Ok(())
 }
@@ -28,4 +33,11 @@ fn keeps(disk: &mut JournalFile<'_, HostRuntime>) -> Result<bool, Fail> {
     let is_written = (fresh, written) == (Ok(0), (Ok(()), Ok(()), Ok(())));
     let is_read = (read, past_the_end) == ((Ok(()), *b"bxyz"), (Err(Failed), 1));
     Ok(is_written && is_read)
+}
+
+/// What was written is there for who opens the file again.
+fn finds(disk: &mut JournalFile<'_, HostRuntime>) -> bool {
+    let mut bytes = [0u8; 5];
+    let found = (disk.len(), disk.read(0, &mut bytes), bytes);
+    found == (Ok(5), Ok(()), *b"abxyz")
 }

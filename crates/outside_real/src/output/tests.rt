@@ -1,9 +1,57 @@
-//! Bytes that are put on standard output.
+//! Bytes that are put on standard output, and where they come.
 use super::StandardOutput;
-use outside::Sink;
+use outside::{PutFault, Sink};
+use std::cell::RefCell;
+use std::fmt::Display;
+use std::io::{self, ErrorKind};
+use std::test::Fail;
+
+/// An output that keeps what is written, and has room for so many bytes.
+#[derive(Drop)]
+struct Kept {
+    bytes: RefCell<Vec<u8>>,
+    room: usize,
+}
+
+impl Print for Kept {
+    fn print<D: Display + Drop>(&self, _value: D) -> io::Result<()> {
+        Err(ErrorKind::Unsupported.into())
+    }
+
+    fn println<D: Display + Drop>(&self, _value: D) -> io::Result<()> {
+        Err(ErrorKind::Unsupported.into())
+    }
+
+    fn write_all(&self, bytes: &[u8]) -> io::Result<()> {
+        match self.bytes.try_borrow_mut() {
+            Ok(mut kept) if bytes.len() <= self.room.saturating_sub(kept.len()) => {
+                Ok(kept.extend_from_slice(bytes)?)
+            }
+            _ => Err(ErrorKind::WriteZero.into()),
+        }
+    }
+}
 
 #[test]
-fn writes(rt: HostRuntime) {
+fn writes_each_piece_once(rt: HostRuntime) -> Result<(), Fail> {
+    let bytes = RefCell::new(Vec::new(rt.alloc()));
+    let kept = Kept { bytes, room: 7 };
+    let mut output = StandardOutput::new(&kept);
+    let put = (
+        output.put(b"ab\n"),
+        output.put(b""),
+        output.put(b"\xff\0cd"),
+        output.put(b"e"),
+    );
+    let due = (Ok(()), Ok(()), Ok(()), Err(PutFault::Failed));
+    assert_eq!(rt; (put, output.faults), (due, 1));
+    let written = kept.bytes.into_inner();
+    assert_eq!(rt; written.as_slice(), b"ab\n\xff\0cd".as_slice());
+    Ok(())
+}
+
+#[test]
+fn writes_to_the_system(rt: HostRuntime) {
     let mut output = StandardOutput::new(&rt);
     let put = output.put(b"put by a test\n");
     assert_eq!(rt; (put, output.faults), (Ok(()), 0));

@@ -26,13 +26,32 @@ fn connects(
     Ok((listening, connected) == (Ok(()), (Ok(()), Ok(()))))
 }
 
+/// Whether the bytes that are put at one end come at the other, in their order and once, and then the end.
 fn talks(server: &mut Tcp<'_, HostRuntime>, client: &mut Tcp<'_, HostRuntime>) -> bool {
-    let mut bytes = [0u8; 4];
-    let asked = (client.put(b"ask"), server.get(&mut bytes));
-    let told = (server.put(b"told"), client.get(&mut bytes), bytes);
+    let asked = (client.put(b"ask"), got::<3>(server));
+    let told = (
+        server.put(b"told"),
+        server.put(b" twice"),
+        got::<10>(client),
+    );
+    let thanked = (client.put(b"thanks"), got::<6>(server));
     server.close();
-    let closed = client.get(&mut bytes);
-    asked == (Ok(()), Ok(3)) && told == (Ok(()), Ok(4), *b"told") && closed == Ok(0)
+    let closed = client.get(&mut [0u8; 4]);
+    asked == (Ok(()), Ok(*b"ask"))
+        && told == (Ok(()), Ok(()), Ok(*b"told twice"))
+        && thanked == (Ok(()), Ok(*b"thanks"))
+        && closed == Ok(0)
+}
+
+/// The next bytes, taken four at a time.
+fn got<const N: usize>(tcp: &mut Tcp<'_, HostRuntime>) -> Result<[u8; N], Failed> {
+    let mut bytes = [0u8; N];
+    for piece in bytes.chunks_mut(4) {
+        if tcp.get(piece)? != piece.len() {
+            return Err(Failed);
+        }
+    }
+    Ok(bytes)
 }
 
 #[test]
