@@ -5,3 +5,4 @@ pub mod Positions
 pub mod Splits
 pub mod Divisions
 pub mod Insertions
+pub mod RemainingSizes

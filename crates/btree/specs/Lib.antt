@@ -3,3 +3,4 @@ pub mod Answers
 pub mod Nodes
 pub mod Placing
 pub mod Shapes
+pub mod Steps

@@ -10,6 +10,7 @@ mod lists;
 mod node;
 mod siblings;
 mod split;
+mod steps;
 mod try_clone;
 
 pub use insertion::insert;
@@ -17,4 +18,5 @@ pub use keyed::{Keyed, has_key, position_above, position_of};
 pub use limits::{MAX_FILL, MIN_FILL};
 pub use node::{Contents, NodeView, TreeNode};
 pub use siblings::Siblings;
+pub use steps::{Step, remaining, removal_step, search_step, sibling_of};
 pub use try_clone::{TryClone, try_clone_all};
