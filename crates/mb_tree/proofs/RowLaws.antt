@@ -1,6 +1,5 @@
 -- The rows that nodes of whole trees have.
-use Rattle.std.proofs.Common.{◌≡◌, ℕ, zero, suc, ◌+◌, ◌<◌, ◌≤◌, List, [], ◌∷◌, ◌++◌, length, get_or, map, flat_map, refl, sym, ap, ◌∙◌, arith}
-use Rattle.std.specs.declared.rc.Rc.{Rc}
+use Rattle.std.proofs.Common.{◌≡◌, ℕ, zero, suc, ◌<◌, ◌≤◌, List, [], ◌∷◌, ◌++◌, length, get_or, map, flat_map, refl, sym, ap, ◌∙◌, arith}
 use Rattle.std.specs.declared.vec.Vec.{Vec}
 use Rattle.std.specs.declared.alloc.Global.{Global}
 use Rattle.std.proofs.lemmas.List.{map-append}
@@ -11,7 +10,7 @@ use Rattle.vo_spec.specs.Parts.{leaf, inner, entries, entries_in, levels, levels
 use Rattle.vo_spec.specs.Trees.{RowTree, open_parts}
 use Rattle.mb_tree.specs.declared.branches.Node.{Node}
 use Rattle.mb_tree.specs.declared.branches.Node.TheVariants.{Inner}
-use Rattle.mb_tree.specs.Whole.{value_of, whole_of}
+use Rattle.mb_tree.specs.Whole.{whole_of}
 use Rattle.vo_spec.specs.Standing.{shown_values, row_in, rows_in}
 
 shown_whole : (vs : List Value) → shown_values (whole_cells vs) ≡ vs
@@ -31,9 +30,9 @@ rows_in_inner ss [] = refl
 rows_in_inner ss (t ∷ ts) =
     map-append row_in (entries t) (entries_in (open_parts ts)) ∙ ap (λ rest. rows_in t ++ rest) (rows_in_inner ss ts)
 
-pub node_rows : (n : Node) (t : RowTree) (ss : Vec (Rc (List ℕ) Global) Global) (ts : Vec RowTree Global) → whole_of n ≡ t → n ≡ Inner ss ts → rows_in t ≡ flat_map rows_in ts.items
+pub node_rows : (n : Node) (t : RowTree) (ss : Vec (List ℕ) Global) (ts : Vec RowTree Global) → whole_of n ≡ t → n ≡ Inner ss ts → rows_in t ≡ flat_map rows_in ts.items
 node_rows n t ss ts whole is =
-    ap rows_in (sym whole) ∙ ap (λ m. rows_in (whole_of m)) is ∙ rows_in_inner (map value_of ss.items) ts.items
+    ap rows_in (sym whole) ∙ ap (λ m. rows_in (whole_of m)) is ∙ rows_in_inner ss.items ts.items
 
 -- a child has fewer levels than its parent
 pub branch_falls : (ts : List RowTree) (i : ℕ) (t : RowTree) → i < length ts → t ≡ get_or ts i t → levels t ≤ levels_in (open_parts ts)

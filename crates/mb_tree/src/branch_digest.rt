@@ -6,14 +6,13 @@ ghost use Rattle.vo_spec.specs.Parts.{leaf, inner};
 ghost use Rattle.vo_spec.specs.Trees.{digest, open_parts};
 ghost use Rattle.vo_spec.specs.Fits.{FitsPart, FitsKey, FitsRow, most_in_node};
 ghost use Rattle.attr_digest.specs.Adding.{Adds};
-ghost use Rattle.mb_tree.specs.Whole.{value_of};
 
 use crate::branches::Branch;
 use crate::entries::TreeEntry;
 use crate::hashing::{add_key, begin};
-use std::rc::Rc;
+use crate::tree_key::TreeKey;
 use tagged_hash::Hasher;
-use vo_spec::{Digest, Key};
+use vo_spec::Digest;
 
 /// The digest of a leaf of these entries.
 pub fn leaf_digest(entries: &[TreeEntry]) -> Digest
@@ -40,10 +39,10 @@ fn add_entry(hasher: &mut Hasher, entry: &TreeEntry)
 
 /// The digest of an inner node of these children.
 #[tactic(auto, using(crate::proofs::BranchLaws::count_open_parts, crate::proofs::BranchLaws::child_bytes_open_parts))]
-pub fn inner_digest(separators: &[Rc<Key>], children: &[Branch]) -> Digest
-    requires most { length children.now ≤ most_in_node }
-    requires keys { All FitsKey (map value_of separators.now) }
-    ensures value { result ≡ digest (inner (map value_of separators.now) (open_parts children.now)) }
+pub fn inner_digest(separators: &[TreeKey], children: &[Branch]) -> Digest
+    requires { length children.now ≤ most_in_node }
+    ensures value { result ≡ digest (inner separators.now (open_parts children.now)) }
+    ensures keys { All FitsKey separators.now }
     ensures fits { All FitsPart children.now }
 {
     let mut hasher = begin(4, children.len());
@@ -54,11 +53,11 @@ pub fn inner_digest(separators: &[Rc<Key>], children: &[Branch]) -> Digest
     hasher.end()
 }
 
-fn add_separators(hasher: &mut Hasher, separators: &[Rc<Key>])
-    requires { All FitsKey (map value_of separators.now) }
-    ensures { Adds hasher.old hasher.new (flat_map string (map value_of separators.now)) }
+fn add_separators(hasher: &mut Hasher, separators: &[TreeKey])
+    ensures value { Adds hasher.old hasher.new (flat_map string separators.now) }
+    ensures fits { All FitsKey separators.now }
 {
     for separator in separators {
-        add_key(hasher, separator.as_ref().as_bytes());
+        add_key(hasher, separator.as_bytes());
     }
 }

@@ -1,16 +1,17 @@
 //! The nodes of whole trees, each with all below it.
-ghost use Rattle.std.specs.Prelude.{◌≡◌, ◌+◌, ◌≤◌, length, map, IfOk, All};
+ghost use Rattle.std.specs.Prelude.{◌≡◌, ◌+◌, ◌≤◌, length, map, IfOk};
 ghost use Rattle.vo_spec.specs.Cells.{whole_entry};
 ghost use Rattle.vo_spec.specs.Parts.{leaf, inner};
 ghost use Rattle.vo_spec.specs.Trees.{digest, open_parts};
-ghost use Rattle.vo_spec.specs.Fits.{FitsPart, FitsKey, most_in_node};
+ghost use Rattle.vo_spec.specs.Fits.{FitsPart, most_in_node};
 
 use crate::branch_digest::{inner_digest, leaf_digest};
 use crate::entries::TreeEntry;
+use crate::tree_key::TreeKey;
 use std::alloc::{AllocError, Global};
 use std::marker::Model;
 use std::rc::Rc;
-use vo_spec::{Digest, Key};
+use vo_spec::Digest;
 
 /// A node and all below it, with its digest. Trees share the branches that they have in common. Contracts
 /// see it as a tree, as they see parts of trees.
@@ -26,7 +27,7 @@ pub struct Branch {
 pub enum Node {
     Leaf(Vec<TreeEntry>),
     Inner {
-        separators: Vec<Rc<Key>>,
+        separators: Vec<TreeKey>,
         children: Vec<Branch>,
     },
 }
@@ -56,7 +57,7 @@ impl Model for Branch {
 }
 
 impl Branch {
-    ghost use Rattle.mb_tree.specs.Whole.{whole_of, value_of};
+    ghost use Rattle.mb_tree.specs.Whole.{whole_of};
 
     /// A leaf of these entries.
     #[tactic(auto, using(crate::proofs::BranchLaws::rows_fit))]
@@ -75,14 +76,13 @@ impl Branch {
     #[tactic(auto, using(crate::proofs::BranchLaws::branches_fit, crate::proofs::BranchLaws::count_open_parts))]
     pub fn inner(
         alloc: Global,
-        separators: Vec<Rc<Key>>,
+        separators: Vec<TreeKey>,
         children: Vec<Branch>,
     ) -> Result<Branch, AllocError>
         requires least { 2 ≤ length children.items }
         requires most { length children.items ≤ most_in_node }
         requires between { length separators.items + 1 ≡ length children.items }
-        requires keys { All FitsKey (map value_of separators.items) }
-        ensures { IfOk result (λ branch. branch ≡ inner (map value_of separators.items) (open_parts children.items)) }
+        ensures { IfOk result (λ branch. branch ≡ inner separators.items (open_parts children.items)) }
     {
         let digest = inner_digest(&separators, &children);
         Ok(Branch {

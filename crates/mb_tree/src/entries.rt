@@ -3,6 +3,7 @@ ghost use Rattle.std.specs.Prelude.{◌≡◌, IfOk};
 ghost use Rattle.vo_spec.specs.Cells.{row_digest as row_digest_of, whole_row};
 ghost use Rattle.vo_spec.specs.Fits.{FitsCells, FitsKey, FitsRow};
 
+use crate::tree_key::TreeKey;
 use attr_digest::whole_row_digest;
 use std::alloc::{AllocError, Global};
 use std::marker::Model;
@@ -54,38 +55,55 @@ impl HashedCells {
 /// An entry of a whole tree, which contracts see as its row. Trees that have the row in common share it.
 #[derive(Drop)]
 pub struct TreeEntry {
-    key: Rc<Key>,
+    key: TreeKey,
     cells: Rc<HashedCells>,
 }
 
 impl Model for TreeEntry {
     ghost use Rattle.vo_spec.specs.declared.values.Row.{Row as PlainRow};
-    ghost use Rattle.vo_spec.specs.Fits.{FitsKey};
 
     ghost Value = { PlainRow };
 
-    ghost view = { λ entry. record { key = entry.key.value; cells = entry.cells.value } };
-
-    ghost invariant = { λ entry. FitsKey entry.key.value };
+    ghost view = { λ entry. record { key = entry.key; cells = entry.cells.value } };
 }
 
 impl TreeEntry {
+    /// The row's entry, by a copy of the row.
     pub fn new(alloc: Global, row: &Row) -> Result<TreeEntry, AllocError>
         requires { FitsRow row.now }
         ensures { IfOk result (λ entry. entry ≡ row.now) }
     {
-        let cells = HashedCells::new(copy_values(alloc, row.cells.as_slice())?);
-        Ok(TreeEntry {
-            key: Rc::new(alloc, row.key.copy(alloc)?)?,
-            cells: Rc::new(alloc, cells)?,
-        })
+        let key = TreeKey::new(alloc, row.key.copy(alloc)?)?;
+        TreeEntry::of_parts(alloc, key, copy_values(alloc, row.cells.as_slice())?)
+    }
+
+    /// The row's entry, of which nothing is copied.
+    pub fn of_row(alloc: Global, row: Row) -> Result<TreeEntry, AllocError>
+        requires { FitsRow row }
+        ensures { IfOk result (λ entry. entry ≡ row) }
+    {
+        let Row { key, cells } = row;
+        TreeEntry::of_parts(alloc, TreeKey::new(alloc, key)?, cells)
+    }
+
+    /// The entry of a row with this key and these values behind it, of which nothing is copied.
+    pub fn of_parts(
+        alloc: Global,
+        key: TreeKey,
+        cells: List<Value>,
+    ) -> Result<TreeEntry, AllocError>
+        requires { FitsCells cells }
+        ensures { IfOk result (λ entry. entry ≡ record { key = key; cells = cells }) }
+    {
+        let cells = Rc::new(alloc, HashedCells::new(cells))?;
+        Ok(TreeEntry { key, cells })
     }
 
     pub fn key(&self) -> &Key
         ensures value { result.now ≡ self.now.key }
         ensures fits { FitsKey self.now.key }
     {
-        self.key.as_ref()
+        self.key.as_key()
     }
 
     pub fn cells(&self) -> &HashedCells
@@ -99,15 +117,15 @@ impl TreeEntry {
         ensures { IfOk result (λ entry. entry ≡ self.now) }
     {
         Ok(TreeEntry {
-            key: self.key.clone()?,
+            key: self.key.share()?,
             cells: self.cells.clone()?,
         })
     }
 
     /// The entry's key once more.
-    pub fn share_key(&self) -> Result<Rc<Key>, AllocError>
-        ensures { IfOk result (λ key. key.value ≡ self.now.key) }
+    pub fn share_key(&self) -> Result<TreeKey, AllocError>
+        ensures { IfOk result (λ key. key ≡ self.now.key) }
     {
-        self.key.clone()
+        self.key.share()
     }
 }

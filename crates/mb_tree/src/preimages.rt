@@ -6,15 +6,14 @@ ghost use Rattle.vo_spec.specs.Parts.{inner, leaf_bytes};
 ghost use Rattle.vo_spec.specs.Trees.{digest, preimage, row_family, open_parts};
 ghost use Rattle.vo_spec.specs.Fits.{FitsPart, FitsEach, FitsEntry, FitsKey, most_in_node};
 ghost use Rattle.mb_tree.specs.View.{part_of, parts_of};
-ghost use Rattle.mb_tree.specs.Whole.{value_of};
 
 use crate::branches::{Branch, Node};
 use crate::entries::TreeEntry;
 use crate::parts::PartTree;
+use crate::tree_key::TreeKey;
 use attr_digest::row_digest;
 use std::alloc::{AllocError, Global};
-use std::rc::Rc;
-use vo_spec::{Digest, Key, KeyPart, PartEntry, u16_bytes};
+use vo_spec::{Digest, KeyPart, PartEntry, u16_bytes};
 
 impl PartTree<'_> {
     /// The bytes whose digest is that of the tree. A stub has none.
@@ -126,12 +125,11 @@ fn rows_preimage(alloc: Global, entries: &[TreeEntry]) -> Result<Vec<u8>, AllocE
 #[tactic(auto, using(crate::proofs::BranchLaws::count_open_parts, crate::proofs::BranchLaws::child_bytes_open_parts))]
 fn branches_preimage(
     alloc: Global,
-    separators: &[Rc<Key>],
+    separators: &[TreeKey],
     children: &[Branch],
 ) -> Result<Vec<u8>, AllocError>
-    requires most { length children.now ≤ most_in_node }
-    requires keys { All FitsKey (map value_of separators.now) }
-    ensures { IfOk result (λ bytes. bytes.items ≡ preimage (inner (map value_of separators.now) (open_parts children.now))) }
+    requires { length children.now ≤ most_in_node }
+    ensures { IfOk result (λ bytes. bytes.items ≡ preimage (inner separators.now (open_parts children.now))) }
 {
     let mut out = begin(alloc, 4, children.len())?;
     put_separators(&mut out, separators)?;
@@ -141,12 +139,11 @@ fn branches_preimage(
     Ok(out)
 }
 
-fn put_separators(out: &mut Vec<u8>, separators: &[Rc<Key>]) -> Result<(), AllocError>
-    requires { All FitsKey (map value_of separators.now) }
-    ensures { OnOk result (out.new.items ≡ out.old.items ++ flat_map string (map value_of separators.now)) }
+fn put_separators(out: &mut Vec<u8>, separators: &[TreeKey]) -> Result<(), AllocError>
+    ensures { OnOk result (out.new.items ≡ out.old.items ++ flat_map string separators.now) }
 {
     for separator in separators {
-        put_key(out, separator.as_ref().as_bytes())?;
+        put_key(out, separator.as_bytes())?;
     }
     Ok(())
 }

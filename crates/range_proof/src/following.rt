@@ -2,16 +2,14 @@
 ghost use Rattle.std.specs.Prelude.{◌≡◌, [], ◌∷◌, map, IfOk};
 ghost use Rattle.vo_spec.specs.Trees.{row_family, open_parts};
 ghost use Rattle.vo_spec.specs.Pruned.{pruned_by, pruned_in, walk_for};
-ghost use Rattle.mb_tree.specs.Whole.{value_of};
 ghost use Rattle.mb_tree.specs.View.{part_of};
 
 use crate::intervals::visits_from;
 use crate::nodes::{inner_part, prune_entries, separator_at};
 use crate::visitors::Visitors;
-use mb_tree::{Branch, Node, Nodes, PartTree};
+use mb_tree::{Branch, Node, Nodes, PartTree, TreeKey};
 use std::alloc::{AllocError, Global};
-use std::rc::Rc;
-use vo_spec::{Key, Need};
+use vo_spec::Need;
 
 #[cycle(follow)]
 fn follow<'b>(
@@ -39,13 +37,13 @@ fn follow<'b>(
 #[cycle(follow)]
 pub fn follow_children<'b>(
     alloc: Global,
-    separators: &'b [Rc<Key>],
+    separators: &'b [TreeKey],
     children: &'b [Branch],
     visitors: &Visitors<'_, 'b>,
     need: &Need,
 ) -> Result<Nodes<'b>, AllocError>
     ensures { IfOk result (λ parts. parts
-        ≡ pruned_in (walk_for visitors.now.all) row_family (need.now ∷ []) None (map value_of separators.now) (open_parts children.now)) }
+        ≡ pruned_in (walk_for visitors.now.all) row_family (need.now ∷ []) None separators.now (open_parts children.now)) }
 {
     let mut parts = Vec::with_capacity(alloc, children.len())?;
     let mut is_past = false;

@@ -4,23 +4,21 @@ ghost use Rattle.std.specs.Option.{option_copied};
 ghost use Rattle.vo_spec.specs.Cells.{whole_entry};
 ghost use Rattle.vo_spec.specs.Parts.{inner};
 ghost use Rattle.vo_spec.specs.Pruned.{shown_entry};
-ghost use Rattle.mb_tree.specs.Whole.{value_of};
 ghost use Rattle.mb_tree.specs.View.{part_of};
 
 use crate::visitors::Visitors;
 use attr_digest::hide_cells;
-use mb_tree::{Nodes, PartTree, TreeEntry, lend_keys};
+use mb_tree::{Nodes, PartTree, TreeEntry, TreeKey, lend_keys};
 use std::alloc::{AllocError, Global};
-use std::rc::Rc;
-use vo_spec::{Key, KeyPart, List, PartEntry, RowPart};
+use vo_spec::{KeyPart, List, PartEntry, RowPart};
 
 /// The inner node of these children.
 pub fn inner_part<'b>(
     alloc: Global,
-    separators: &'b [Rc<Key>],
+    separators: &'b [TreeKey],
     children: Nodes<'b>,
 ) -> Result<PartTree<'b>, AllocError>
-    ensures { IfOk result (λ part. part_of part ≡ inner (map value_of separators.now) children.entry) }
+    ensures { IfOk result (λ part. part_of part ≡ inner separators.now children.entry) }
 {
     let separators = lend_keys(alloc, separators)?;
     Ok(PartTree::Inner {
@@ -30,11 +28,11 @@ pub fn inner_part<'b>(
 }
 
 /// The separator behind the child at this place; none behind the last.
-pub fn separator_at(separators: &[Rc<Key>], place: usize) -> Option<&[u8]>
-    ensures { option_copied result ≡ slice_get (map value_of separators.now) place }
+pub fn separator_at(separators: &[TreeKey], place: usize) -> Option<&[u8]>
+    ensures { option_copied result ≡ slice_get separators.now place }
 {
     match separators.get(place) {
-        Some(separator) => Some(separator.as_ref().as_bytes()),
+        Some(separator) => Some(separator.as_bytes()),
         None => None,
     }
 }

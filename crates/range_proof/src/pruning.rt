@@ -2,17 +2,15 @@
 ghost use Rattle.std.specs.Prelude.{◌≡◌, true, map, IfOk};
 ghost use Rattle.vo_spec.specs.Trees.{row_family, open_parts};
 ghost use Rattle.vo_spec.specs.Pruned.{pruned, pruned_by, pruned_in, walk_for, is_any};
-ghost use Rattle.mb_tree.specs.Whole.{value_of};
 ghost use Rattle.mb_tree.specs.View.{part_of};
 
 use crate::following::follow_children;
 use crate::going::lend_needs;
 use crate::nodes::{inner_part, prune_entries, separator_at};
 use crate::visitors::Visitors;
-use mb_tree::{Branch, Node, Nodes, PartTree, Tree};
+use mb_tree::{Branch, Node, Nodes, PartTree, Tree, TreeKey};
 use std::alloc::{AllocError, Global};
-use std::rc::Rc;
-use vo_spec::{Key, Need};
+use vo_spec::Need;
 
 /// The part of the tree that is the proof for these needs.
 pub fn prune<'b>(alloc: Global, tree: &'b Tree, needs: &[Need]) -> Result<PartTree<'b>, AllocError>
@@ -52,12 +50,12 @@ fn open_branch<'b>(
 #[cycle(prune)]
 fn prune_children<'b>(
     alloc: Global,
-    separators: &'b [Rc<Key>],
+    separators: &'b [TreeKey],
     children: &'b [Branch],
     visitors: &Visitors<'_, 'b>,
 ) -> Result<Nodes<'b>, AllocError>
     ensures { IfOk result (λ parts. parts
-        ≡ pruned_in (walk_for visitors.now.all) row_family visitors.now.going None (map value_of separators.now) (open_parts children.now)) }
+        ≡ pruned_in (walk_for visitors.now.all) row_family visitors.now.going None separators.now (open_parts children.now)) }
 {
     match visitors.only() {
         Some(need) => follow_children(alloc, separators, children, visitors, need),
@@ -68,12 +66,12 @@ fn prune_children<'b>(
 #[cycle(prune)]
 fn prune_each<'b>(
     alloc: Global,
-    separators: &'b [Rc<Key>],
+    separators: &'b [TreeKey],
     children: &'b [Branch],
     visitors: &Visitors<'_, 'b>,
 ) -> Result<Nodes<'b>, AllocError>
     ensures { IfOk result (λ parts. parts
-        ≡ pruned_in (walk_for visitors.now.all) row_family visitors.now.going None (map value_of separators.now) (open_parts children.now)) }
+        ≡ pruned_in (walk_for visitors.now.all) row_family visitors.now.going None separators.now (open_parts children.now)) }
 {
     let mut parts = Vec::with_capacity(alloc, children.len())?;
     let mut lower = None;

@@ -5,7 +5,6 @@ use Rattle.vo_spec.specs.Parts.{stub, levels, levels_in}
 use Rattle.vo_spec.specs.Trees.{row_family, open_parts}
 use Rattle.vo_spec.specs.Scans.{visits}
 use Rattle.vo_spec.specs.Pruned.{walk_for, pruned_by, is_any}
-use Rattle.mb_tree.specs.Whole.{value_of}
 use Rattle.mb_tree.proofs.RowLaws.{branch_falls}
 use Rattle.range_proof.proofs.Visits.{goes_alone, passes_by}
 use Rattle.range_proof.proofs.Walking.{pruned_none, prune_step, prune_end}
@@ -19,7 +18,7 @@ follow_children-follow-requires t c =
 
 pub follow_children-loop-place-preserved : goal.follow_children-loop-place-preserved
 follow_children-loop-place-preserved t c =
-    let keys = map value_of c.args.separators.now in
+    let keys = c.args.separators.now in
     let all = c.args.visitors.now.all in
     let need = c.args.need.now in
     let lower = option_copied c.loop-place.lower in
@@ -41,4 +40,4 @@ follow_children-loop-place-preserved t c =
 pub follow_children-returns : goal.follow_children-returns
 follow_children-returns t c =
     c.from_vec.ensures
-    ∙ prune_end (walk_for c.args.visitors.now.all) (c.args.need.now ∷ []) _ (map value_of c.args.separators.now) c.loop-place.place _ _ _ c.loop-place-test.false c.loop-place.invariant
+    ∙ prune_end (walk_for c.args.visitors.now.all) (c.args.need.now ∷ []) _ c.args.separators.now c.loop-place.place _ _ _ c.loop-place-test.false c.loop-place.invariant

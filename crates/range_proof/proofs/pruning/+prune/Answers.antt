@@ -3,7 +3,6 @@ use Rattle.std.proofs.lemmas.List.{map_push}
 use Rattle.vo_spec.specs.Parts.{stub, levels, levels_in}
 use Rattle.vo_spec.specs.Trees.{open_parts}
 use Rattle.vo_spec.specs.Pruned.{walk_for, is_any}
-use Rattle.mb_tree.specs.Whole.{value_of}
 use Rattle.mb_tree.proofs.RowLaws.{branch_falls}
 use Rattle.range_proof.specs.Lending.{lent_need}
 use Rattle.range_proof.proofs.Walking.{pruned_none, none_lent, some_lent, prune_step, prune_end}
@@ -18,7 +17,7 @@ prune_each-open_branch-requires t c =
 
 pub prune_each-loop-place-preserved : goal.prune_each-loop-place-preserved
 prune_each-loop-place-preserved t c =
-    let keys = map value_of c.args.separators.now in
+    let keys = c.args.separators.now in
     let walk = walk_for c.args.visitors.now.all in
     let child = c.index-children-place.result in
     elim c.if-is_empty.branch [
@@ -37,4 +36,4 @@ prune_each-loop-place-preserved t c =
 pub prune_each-returns : goal.prune_each-returns
 prune_each-returns t c =
     c.from_vec.ensures
-    ∙ prune_end (walk_for c.args.visitors.now.all) c.args.visitors.now.going _ (map value_of c.args.separators.now) c.loop-place.place _ _ _ c.loop-place-test.false c.loop-place.invariant
+    ∙ prune_end (walk_for c.args.visitors.now.all) c.args.visitors.now.going _ c.args.separators.now c.loop-place.place _ _ _ c.loop-place-test.false c.loop-place.invariant

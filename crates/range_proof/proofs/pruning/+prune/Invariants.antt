@@ -3,7 +3,6 @@ use Rattle.std.specs.Option.{option_copied}
 use Rattle.vo_spec.specs.Parts.{levels, levels_in}
 use Rattle.vo_spec.specs.Trees.{row_family, open_parts}
 use Rattle.vo_spec.specs.Pruned.{pruned_in, walk_for}
-use Rattle.mb_tree.specs.Whole.{value_of}
 use Rattle.mb_tree.specs.View.{part_of}
 use Rattle.range_proof.proofs.Walking.{onto}
 use Rattle.range_proof.proofs.pruning.+prune.Given as goal
@@ -21,5 +20,5 @@ decreases-prune_each l = 3 * levels_in (open_parts l.children.now) + 1
 abbrev pub invariant-prune_each-loop-place : goal.invariant-prune_each-loop-place
 invariant-prune_each-loop-place l =
     onto (map part_of l.parts.items)
-    (pruned_in (walk_for l.visitors.all) row_family l.visitors.going (option_copied l.lower) (drop l.place (map value_of l.separators)) (open_parts (drop l.place l.children)))
-    ≡ pruned_in (walk_for l.visitors.all) row_family l.visitors.going None (map value_of l.separators) (open_parts l.children)
+    (pruned_in (walk_for l.visitors.all) row_family l.visitors.going (option_copied l.lower) (drop l.place l.separators) (open_parts (drop l.place l.children)))
+    ≡ pruned_in (walk_for l.visitors.all) row_family l.visitors.going None l.separators (open_parts l.children)
