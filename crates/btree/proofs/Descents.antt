@@ -1,11 +1,12 @@
 -- A search by the number of the child to which it goes.
-use Rattle.std.proofs.Common.{◌≡◌, ℕ, suc, ◌+◌, Bool, true, false, cond, not, List, [], ◌∷◌, length, map, get_or, Result, Ok, Err, refl, sym, ap, ◌∙◌, arith, add-one}
+use Rattle.std.proofs.Common.{◌≡◌, ℕ, suc, ◌+◌, Bool, true, false, cond, not, List, [], ◌∷◌, length, map, get_or, Result, Ok, Err, refl, sym, ap, ◌∙◌, arith, add-one, ◌<◌, ◌++◌, take, drop}
 use Rattle.std.specs.List.{position_or_len}
 use Rattle.vo_spec.specs.declared.trees.UpdateFault.{UpdateFault}
 use Rattle.vo_spec.specs.Values.{key_lt}
-use Rattle.vo_spec.specs.Parts.{inner, Family}
+use Rattle.vo_spec.specs.Parts.{Part, Parts, inner, more, Family}
 use Rattle.vo_spec.specs.Inserts.{Grown, one, two, result_map, after_child, put_grown, split_inner, grow, grow_in}
-use Rattle.btree.specs.Nodes.{Kid, listed}
+use Rattle.vo_spec.specs.Removes.{edited_by, edited_in}
+use Rattle.btree.specs.Nodes.{Kid, listed, made}
 use Rattle.btree.specs.Placing.{spliced, split, node_of}
 
 pub place_keys : {K : Type 0} (key_of : K → List ℕ) (key : List ℕ) (ks : List K) → position_or_len (λ k. key_lt key (key_of k)) ks ≡ position_or_len (key_lt key) (map key_of ks)
@@ -21,7 +22,7 @@ map_same f g (Ok a) e = ap Ok (e a)
 map_same f g (Err fault) e = refl
 
 module _ {E M : Type 0} (family : Family E M) where
-  put_first : (ss : List (List ℕ)) (k : Kid E M) (ks : List (Kid E M)) (g : Grown E M) → put_grown family ss (listed ks) g ≡ spliced family 0 0 ss (k ∷ ks) g
+  pub put_first : (ss : List (List ℕ)) (k : Kid E M) (ks : List (Kid E M)) (g : Grown E M) → put_grown family ss (listed ks) g ≡ spliced family 0 0 ss (k ∷ ks) g
   put_first ss k ks (one t) = refl
   put_first ss k ks (two left key right) = refl
 
@@ -70,3 +71,43 @@ module _ {E M : Type 0} (family : Family E M) where
 
     pub inner_grow_fails : (c : Kid E M) (fault : UpdateFault) → c ≡ get_or ks place c → grow family e c.1 ≡ Err fault → grow family e (inner ss (listed ks)) ≡ Err fault
     inner_grow_fails c fault is fails = child_grows c is ∙ ap (λ r. result_map (split_inner family) (result_map (spliced family place place ss ks) r)) fails
+
+  -- With another entry in a leaf below.
+
+  module _ (edit : E → Result E UpdateFault) (key : List ℕ) where
+    abbrev with_kid : ℕ → List (Kid E M) → Part E M → Parts E M
+    with_kid i ks q = listed (take i ks ++ made family q ∷ drop (i + 1) ks)
+
+    kid_next : (i : ℕ) (k : Kid E M) (ks : List (Kid E M)) (q : Part E M) → more k.0 k.1 (with_kid i ks q) ≡ with_kid (suc i) (k ∷ ks) q
+    kid_next i k ks q = rw (add-one i, add-one (suc i)) refl
+
+    edited_step : (b : Bool) (i j : ℕ) (ss : List (List ℕ)) (k : Kid E M) (ks : List (Kid E M)) (c : Kid E M) → j ≡ suc i → cond (not b) j 0 < suc (length ks) → c ≡ get_or (k ∷ ks) (cond (not b) j 0) c
+        → (i < length ks → c ≡ get_or ks i c → edited_in family edit key ss (listed ks) ≡ result_map (with_kid i ks) (edited_by family edit key c.1))
+        → cond b (result_map (λ q. more (family.mark q) q (listed ks)) (edited_by family edit key k.1)) (result_map (more k.0 k.1) (edited_in family edit key ss (listed ks)))
+        ≡ result_map (with_kid (cond (not b) j 0) (k ∷ ks)) (edited_by family edit key c.1)
+    edited_step true i j ss k ks c next lt is on = ap (λ (u : Kid E M). result_map (with_kid 0 (k ∷ ks)) (edited_by family edit key u.1)) (sym is)
+    edited_step false i j ss k ks c next lt is on =
+        ap (result_map (more k.0 k.1)) (on (omega arith) (is ∙ ap (λ n. get_or (k ∷ ks) n c) next))
+        ∙ map_map (with_kid i ks) (more k.0 k.1) (with_kid (suc i) (k ∷ ks)) (edited_by family edit key c.1) (kid_next i k ks)
+        ∙ ap (λ n. result_map (with_kid n (k ∷ ks)) (edited_by family edit key c.1)) (sym next)
+
+    edited_at : (ss : List (List ℕ)) (ks : List (Kid E M)) (c : Kid E M) → position_or_len (key_lt key) ss < length ks → c ≡ get_or ks (position_or_len (key_lt key) ss) c
+        → edited_in family edit key ss (listed ks) ≡ result_map (with_kid (position_or_len (key_lt key) ss) ks) (edited_by family edit key c.1)
+    edited_at ss [] c lt is = absurd (omega arith)
+    edited_at [] (k ∷ ks) c lt is = ap (λ (u : Kid E M). result_map (with_kid 0 (k ∷ ks)) (edited_by family edit key u.1)) (sym is)
+    edited_at (s ∷ ss) (k ∷ ks) c lt is =
+        let i = position_or_len (key_lt key) ss in
+        edited_step (key_lt key s) i (1 + i) ss k ks c (omega arith) lt is (λ within here. edited_at ss ks c within here)
+
+    module _ (ss : List (List ℕ)) (ks : List (Kid E M)) (place : ℕ) (at : place ≡ position_or_len (key_lt key) ss) (c : Kid E M) (lt : place < length ks) (is : c ≡ get_or ks place c) where
+      child_edited : edited_by family edit key (inner ss (listed ks)) ≡ result_map (λ q. inner ss (with_kid place ks q)) (edited_by family edit key c.1)
+      child_edited =
+          ap (result_map (inner ss)) (edited_at ss ks c (omega arith) (is ∙ ap (λ n. get_or ks n c) at))
+          ∙ map_map (with_kid (position_or_len (key_lt key) ss) ks) (inner ss) (λ q. inner ss (with_kid (position_or_len (key_lt key) ss) ks q)) (edited_by family edit key c.1) (λ q. refl)
+          ∙ ap (λ n. result_map (λ q. inner ss (with_kid n ks q)) (edited_by family edit key c.1)) (sym at)
+
+      pub inner_edited : (q : Part E M) → edited_by family edit key c.1 ≡ Ok q → edited_by family edit key (inner ss (listed ks)) ≡ Ok (inner ss (with_kid place ks q))
+      inner_edited q edited = child_edited ∙ ap (result_map (λ q. inner ss (with_kid place ks q))) edited
+
+      pub inner_edit_fails : (fault : UpdateFault) → edited_by family edit key c.1 ≡ Err fault → edited_by family edit key (inner ss (listed ks)) ≡ Err fault
+      inner_edit_fails fault fails = child_edited ∙ ap (result_map (λ q. inner ss (with_kid place ks q))) fails

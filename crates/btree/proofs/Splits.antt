@@ -71,14 +71,15 @@ module _ {E M : Type 0} (family : Family E M) where
       )
 
   -- a node with what has come in the place of some of its children
-  pub record Placed (n : ℕ) (c : Children E M) : Type 0 where
+  pub record Placed (i j n : ℕ) (g : Grown E M) (c : Children E M) : Type 0 where
+    pub number : count c.parts + (j + 1) ≡ n + i + length (kids_of family g)
     pub between : length c.separators + 1 ≡ count c.parts
-    pub least : n ≤ count c.parts
-    pub most : count c.parts ≤ n + 1
+    pub least : n + i - j ≤ count c.parts
+    pub most : count c.parts ≤ n + i - j + 1
 
-  pub placed : (i j : ℕ) (ss : List (List ℕ)) (ks : List (Kid E M)) (g : Grown E M) → i ≤ j → j < length ks → length ss + 1 ≡ length ks → Placed (length ks + i - j) (spliced family i j ss ks g)
+  pub placed : (i j : ℕ) (ss : List (List ℕ)) (ks : List (Kid E M)) (g : Grown E M) → i ≤ j → j < length ks → length ss + 1 ≡ length ks → Placed i j (length ks) g (spliced family i j ss ks g)
   placed i j ss ks g order at between =
       let n = numbered g in
       let children : count (spliced family i j ss ks g).parts + (j + 1) ≡ length ks + i + length (kids_of family g) = spliced_children i j ss ks g order at in
       let separators : length (spliced family i j ss ks g).separators + j ≡ length ss + i + length (keys_of g) = spliced_separators i j ss ks g order (omega arith) in
-      record { between = omega (arith, n.between); least = omega (arith, n.some); most = omega (arith, n.most) }
+      record { number = children; between = omega (arith, n.between); least = omega (arith, n.some); most = omega (arith, n.most) }

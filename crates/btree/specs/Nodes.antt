@@ -35,6 +35,10 @@ module _ {E M : Type 0} (family : Family E M) where
   abbrev pub made : Part E M → Kid E M
   made t = (family.mark t, t)
 
+  -- the node is this, made anew
+  abbrev pub IsMade : {N : Type 0} → (N → Kid E M) → N → Part E M → Type 0
+  IsMade kid node t = kid node ≡ made t
+
   -- what comes in a node's place, as children and the separators between them
   abbrev pub kids_of : Grown E M → List (Kid E M)
   kids_of (one t) = made t ∷ []

@@ -46,6 +46,11 @@ module _ {E M : Type 0} (family : Family E M) where
   settled i ss ks t = if is_small t then borrowed i ss ks t else Ok (spliced i i ss ks (one t))
 
 module _ {E M : Type 0} where
+  -- a node that can be looked into
+  abbrev pub opened : Part E M → Result (Part E M) UpdateFault
+  opened (stub d) = Err Missing
+  opened t = Ok t
+
   -- two nodes of one kind as one, with the separator between them
   abbrev pub merged : Part E M → List ℕ → Part E M → Result (Part E M) UpdateFault
   merged (leaf es) s (leaf fs) = Ok (leaf (es ++ fs))

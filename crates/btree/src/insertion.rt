@@ -9,7 +9,7 @@ ghost use Rattle.btree.specs.Shapes.{IsShaped, AreShaped};
 
 use crate::contents::put_siblings;
 use crate::keyed::{Keyed, has_key, position_above};
-use crate::lists::with_item;
+use crate::lists::{only, with_item};
 use crate::node::{Contents, NodeView, TreeNode};
 use crate::siblings::Siblings;
 use crate::split::split;
@@ -105,15 +105,4 @@ fn root_of<N: TreeNode>(alloc: Global, siblings: Siblings<N::Key, N>) -> Result<
             children: siblings.nodes,
         },
     )
-}
-
-fn only<T: Drop>(items: Vec<T>) -> T
-    requires { length items.items ≡ 1 }
-    ensures { items.items ≡ result ∷ [] }
-{
-    let mut items = items;
-    match items.pop() {
-        Some(item) => item,
-        None => unreachable!(),
-    }
 }

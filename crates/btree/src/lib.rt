@@ -5,9 +5,14 @@
 mod contents;
 mod insertion;
 mod keyed;
+mod laws;
 mod limits;
 mod lists;
+mod merge;
 mod node;
+mod rebalance;
+mod removal;
+mod replacement;
 mod siblings;
 mod split;
 mod steps;
@@ -15,8 +20,11 @@ mod try_clone;
 
 pub use insertion::insert;
 pub use keyed::{Keyed, has_key, position_above, position_of};
+pub use laws::{PruningFamily, insertions_agree, removals_agree, replacements_agree};
 pub use limits::{MAX_FILL, MIN_FILL};
 pub use node::{Contents, NodeView, TreeNode};
+pub use removal::remove;
+pub use replacement::set;
 pub use siblings::Siblings;
 pub use steps::{Step, remaining, removal_step, search_step, sibling_of};
 pub use try_clone::{TryClone, try_clone_all};

@@ -67,3 +67,15 @@ pub fn appended<T: Drop>(first: Vec<T>, second: Vec<T>) -> Result<Vec<T>, AllocE
     all.append(&mut second)?;
     Ok(all)
 }
+
+/// The item of a list of one.
+pub fn only<T: Drop>(items: Vec<T>) -> T
+    requires { length items.items ≡ 1 }
+    ensures { items.items ≡ result ∷ [] }
+{
+    let mut items = items;
+    match items.pop() {
+        Some(item) => item,
+        None => unreachable!(),
+    }
+}

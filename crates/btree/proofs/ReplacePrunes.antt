@@ -1,0 +1,57 @@
+-- A replacement in what prunes a tree.
+use Rattle.std.proofs.Common.{ℕ, cond, bytes_eq, List, [], ◌∷◌, drop, Result, refl, subst, slice_get}
+use Rattle.std.specs.List.{AllZip}
+use Rattle.vo_spec.specs.declared.trees.UpdateFault.{UpdateFault}
+use Rattle.vo_spec.specs.Parts.{Part, Parts, stub, leaf, inner, none, more, Family, PrunesBy, PrunesEach}
+use Rattle.vo_spec.specs.Inserts.{result_map, goes_here}
+use Rattle.vo_spec.specs.Removes.{edit_entry, edited_by, edited_in}
+use Rattle.btree.specs.Agreeing.{Agrees}
+use Rattle.btree.specs.Pruning.{OpenPrunes, KeepsKeys, KeepsMarks}
+use Rattle.btree.proofs.AgreeingResults.{agrees_map, agrees_chosen, agrees_weaker}
+use Rattle.btree.proofs.PrunedLists.{open_prunes}
+
+module _ {E M : Type 0} (family : Family E M) (EntryPrunes : E → E → Type 0) (same_key : KeepsKeys family EntryPrunes) (same_mark : KeepsMarks family EntryPrunes) where
+  -- two edits that agree on an entry and what prunes it
+  module _ (edit other : E → Result E UpdateFault) (edits_agree : (e f : E) → EntryPrunes e f → Agrees EntryPrunes (edit e) (other f)) (key : List ℕ) where
+    entry_agrees : (es fs : List E) → AllZip EntryPrunes es fs
+        → Agrees (AllZip EntryPrunes) (edit_entry family edit key es) (edit_entry family other key fs)
+    entry_agrees [] [] z = refl
+    entry_agrees [] (f ∷ fs) z = absurd z
+    entry_agrees (e ∷ es) [] z = absurd z
+    entry_agrees (e ∷ es) (f ∷ fs) z =
+        subst (λ k. Agrees (AllZip EntryPrunes) (edit_entry family edit key (e ∷ es))
+        (cond (bytes_eq k key) (result_map (λ g. g ∷ fs) (other f)) (result_map (λ gs. f ∷ gs) (edit_entry family other key fs))))
+        (same_key e f z.0)
+        (agrees_chosen (AllZip EntryPrunes) (bytes_eq (family.key e) key) _ _ _ _
+        (agrees_map EntryPrunes (AllZip EntryPrunes) (λ g. g ∷ es) (λ g. g ∷ fs) _ _ (λ x y h. (h, z.1)) (edits_agree e f z.0))
+        (agrees_map (AllZip EntryPrunes) (AllZip EntryPrunes) (λ gs. e ∷ gs) (λ gs. f ∷ gs) _ _ (λ xs ys h. (z.0, h)) (entry_agrees es fs z.1)))
+
+    mutual
+      open_agrees : (p t : Part E M) → PrunesBy family EntryPrunes p t
+          → Agrees (OpenPrunes family EntryPrunes) (edited_by family edit key p) (edited_by family other key t)
+      open_agrees (stub d) t z = tt
+      open_agrees (leaf es) (stub d) z = absurd z
+      open_agrees (leaf es) (leaf fs) z =
+          agrees_map (AllZip EntryPrunes) (OpenPrunes family EntryPrunes) leaf leaf _ _ (λ xs ys h. h) (entry_agrees es fs z)
+      open_agrees (leaf es) (inner ss ps) z = absurd z
+      open_agrees (inner ss ps) (stub d) z = absurd z
+      open_agrees (inner ss ps) (leaf es) z = absurd z
+      open_agrees (inner ss ps) (inner ts qs) z =
+          agrees_map (PrunesEach family EntryPrunes) (OpenPrunes family EntryPrunes) (inner ss) (inner ts) _ _ (λ xs ys h. (z.0, h))
+          (subst (λ us. Agrees (PrunesEach family EntryPrunes) (edited_in family edit key ss ps) (edited_in family other key us qs)) z.0 (in_agrees ss ps qs z.1))
+
+      in_agrees : (ss : List (List ℕ)) (ps qs : Parts E M) → PrunesEach family EntryPrunes ps qs
+          → Agrees (PrunesEach family EntryPrunes) (edited_in family edit key ss ps) (edited_in family other key ss qs)
+      in_agrees ss none none z = tt
+      in_agrees ss none (more m p ps) z = absurd z
+      in_agrees ss (more m p ps) none z = absurd z
+      in_agrees ss (more m p ps) (more n q qs) z =
+          agrees_chosen (PrunesEach family EntryPrunes) (goes_here key (slice_get ss 0)) _ _ _ _
+          (agrees_map (OpenPrunes family EntryPrunes) (PrunesEach family EntryPrunes) (λ u. more (family.mark u) u ps) (λ u. more (family.mark u) u qs) _ _
+          (λ u v h. (same_mark u v h, open_prunes family EntryPrunes u v h, z.2)) (open_agrees p q z.1))
+          (agrees_map (PrunesEach family EntryPrunes) (PrunesEach family EntryPrunes) (more m p) (more n q) _ _ (λ us vs h. (z.0, z.1, h)) (in_agrees (drop 1 ss) ps qs z.2))
+
+    pub edited_agrees : (p t : Part E M) → PrunesBy family EntryPrunes p t
+        → Agrees (PrunesBy family EntryPrunes) (edited_by family edit key p) (edited_by family other key t)
+    edited_agrees p t z =
+        agrees_weaker (OpenPrunes family EntryPrunes) (PrunesBy family EntryPrunes) _ _ (open_prunes family EntryPrunes) (open_agrees p t z)
