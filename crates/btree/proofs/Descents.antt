@@ -8,14 +8,11 @@ use Rattle.vo_spec.specs.Inserts.{Grown, one, two, result_map, after_child, put_
 use Rattle.vo_spec.specs.Removes.{edited_by, edited_in}
 use Rattle.btree.specs.Nodes.{Kid, listed, made}
 use Rattle.btree.specs.Placing.{spliced, split, node_of}
+use Rattle.btree.proofs.OkResults.{map_map}
 
 pub place_keys : {K : Type 0} (key_of : K → List ℕ) (key : List ℕ) (ks : List K) → position_or_len (λ k. key_lt key (key_of k)) ks ≡ position_or_len (key_lt key) (map key_of ks)
 place_keys key_of key [] = refl
 place_keys key_of key (k ∷ ks) = ap (λ n. cond (not (key_lt key (key_of k))) (1 + n) 0) (place_keys key_of key ks)
-
-pub map_map : {A B C : Type 0} (f : A → B) (g : B → C) (h : A → C) (r : Result A UpdateFault) → ((a : A) → g (f a) ≡ h a) → result_map g (result_map f r) ≡ result_map h r
-map_map f g h (Ok a) e = ap Ok (e a)
-map_map f g h (Err fault) e = refl
 
 pub map_same : {A B : Type 0} (f g : A → B) (r : Result A UpdateFault) → ((a : A) → f a ≡ g a) → result_map f r ≡ result_map g r
 map_same f g (Ok a) e = ap Ok (e a)

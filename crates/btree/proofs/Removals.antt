@@ -9,7 +9,8 @@ use Rattle.vo_spec.specs.Inserts.{Grown, one, two, result_map, after_child, put_
 use Rattle.vo_spec.specs.Removes.{is_small, with_left, with_right, settle_first, settle_next, shrink, shrink_in, shrink_after}
 use Rattle.btree.specs.Nodes.{Kid, listed}
 use Rattle.btree.specs.Placing.{node_of, spliced, borrowed, settled}
-use Rattle.btree.proofs.Descents.{map_map, map_same, spliced_next}
+use Rattle.btree.proofs.OkResults.{map_map}
+use Rattle.btree.proofs.Descents.{map_same, spliced_next}
 
 then_same : {A B : Type 0} (f g : A → Result B UpdateFault) (r : Result A UpdateFault) → ((a : A) → f a ≡ g a) → and_then f r ≡ and_then g r
 then_same f g (Ok a) e = e a

@@ -2,3 +2,4 @@ pub mod PartLaws
 pub mod BranchLaws
 pub mod RowLaws
 pub mod NodeLaws
+pub mod OpenNodes

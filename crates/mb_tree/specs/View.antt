@@ -1,5 +1,8 @@
 -- Parts of trees as contracts see them.
-use Rattle.std.specs.Prelude.{List, map}
+use Rattle.std.specs.Prelude.{ℕ, List, map}
+use Rattle.vo_spec.specs.declared.cells.PartEntry.{PartEntry}
+use Rattle.btree.specs.declared.node.Contents.{Contents}
+use Rattle.btree.specs.Nodes.{Kid, contents_of}
 use Rattle.mb_tree.specs.declared.parts.PartTree.{PartTree}
 use Rattle.mb_tree.specs.declared.parts.PartTree.TheVariants.{Stub, Leaf, Inner}
 use Rattle.vo_spec.specs.Parts.{stub, leaf, inner}
@@ -12,3 +15,11 @@ part_of (Inner separators children) = inner separators children
 
 abbrev pub parts_of : List PartTree → RowTrees
 parts_of ps = open_parts (map part_of ps)
+
+-- as a child: its parent holds nothing beside it
+abbrev pub part_kid : PartTree → Kid PartEntry (Unit {0})
+part_kid p = (tt, part_of p)
+
+-- what a node is to have
+abbrev pub part_contents : Contents (List ℕ) PartEntry PartTree → RowTree
+part_contents = contents_of (λ k. k) (λ e. e) part_kid

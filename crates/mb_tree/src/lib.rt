@@ -2,11 +2,13 @@
 #![tactic(auto)]
 
 mod branch_digest;
+mod branch_node;
 mod branches;
 mod entries;
 mod hashing;
 mod lending;
 mod part_digest;
+mod part_node;
 mod parts;
 mod preimages;
 mod rows;
