@@ -13,7 +13,7 @@ use Rattle.btree.specs.Nodes.{Kid, listed}
 use Rattle.btree.specs.Placing.{node_of}
 use Rattle.btree.specs.Shapes.{size_of}
 use Rattle.btree.specs.Steps.{count_of_merged, size_if_alike, count_rebalanced, count_remaining, remaining_by}
-use Rattle.btree.proofs.Descents.{map_map}
+use Rattle.btree.proofs.OkResults.{map_map}
 use Rattle.btree.proofs.Listed.{count_listed, kid_at}
 
 -- children without what their parent holds beside them
