@@ -15,6 +15,7 @@ pub mod OkResults
 pub mod Positions
 pub mod PrunedLists
 pub mod Rebalances
+pub mod RemainingSizes
 pub mod Removals
 pub mod RemoveLimits
 pub mod RemovePrunes

@@ -5,3 +5,4 @@ pub mod Nodes
 pub mod Placing
 pub mod Pruning
 pub mod Shapes
+pub mod Steps

@@ -17,6 +17,7 @@ mod row_parts;
 mod search;
 mod siblings;
 mod split;
+mod steps;
 mod try_clone;
 
 pub use insertion::insert;
@@ -28,4 +29,5 @@ pub use removal::remove;
 pub use replacement::set;
 pub use search::find;
 pub use siblings::Siblings;
+pub use steps::{Step, remaining, removal_step, search_step, sibling_of};
 pub use try_clone::{TryClone, try_clone_all};

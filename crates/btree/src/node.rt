@@ -10,6 +10,7 @@ use std::alloc::{AllocError, Global};
 use vo_spec::Digest;
 
 /// What a node has, lent.
+#[derive(Drop)]
 pub enum NodeView<'a, K, E, N> {
     Stub(Digest),
     Leaf(&'a [E]),
