@@ -1,16 +1,18 @@
-"""What the tools share: where the programs are, what is built here, and the implementation that it is compared with."""
+"""What the tools share: where programs are, what is built here, and what that is compared with."""
 import os
 import subprocess
 import sys
 
 TOP = os.path.dirname(os.path.dirname(os.path.abspath(__file__)))
 
-# What is built: all that docs/FORMATS.md has. The other implementation counts its own steps, of which these are the first 6:
-# tables, queries and joins, signed versions, and the commands keygen, seal, answer, check and audit. Still to come are an
-# owner with roots alone, a served store, NULL, indexes and totals.
+# What is built: all that docs/FORMATS.md has. The other implementation counts its own steps, of
+# which these are the first 6: tables, queries and joins, signed versions, and the commands keygen,
+# seal, answer, check and audit. Still to come are an owner with roots alone, a served store, NULL,
+# indexes and totals.
 STAGE = "6"
 
-# It signs what comparisons and benches make, one journal after the other, so nothing that is kept may be signed by it.
+# It signs what comparisons and benches make, one journal after the other: nothing that is kept may
+# be signed by it.
 SEED = os.path.join(TOP, "tools/throwaway.seed")
 
 # The independent implementation is the module `vo_ref` in this folder.
@@ -29,7 +31,8 @@ def program(name, variable="VO_PROGRAM"):
 def build(name):
     """Builds the program of a crate, where it isn't built."""
     if not os.access(program(name), os.X_OK):
-        subprocess.run(["rt", "run"], cwd=crate(name), stdout=subprocess.DEVNULL, stderr=subprocess.DEVNULL, check=False)
+        silent = {"stdout": subprocess.DEVNULL, "stderr": subprocess.DEVNULL}
+        subprocess.run(["rt", "run"], cwd=crate(name), check=False, **silent)
 
 
 def load_reference(tool):
