@@ -6,7 +6,7 @@ import subprocess
 import tempfile
 
 TOP = os.path.dirname(os.path.dirname(os.path.abspath(__file__)))
-SEED = os.path.join(TOP, "examples/seed")
+SEED = os.path.join(TOP, "tools/throwaway.seed")
 CHAINS = 34  # of a one-time key of 8-bit digits
 
 LOAD = r"""

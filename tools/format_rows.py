@@ -409,7 +409,7 @@ def read_rows(public, journal):
     yield "record", reply[4:64]
 
 
-# that of the key of the examples
+# that of the seed of all comparisons, tools/throwaway.seed
 EXAMPLE_SEED = bytes(3 + 7 * place for place in range(32))
 
 

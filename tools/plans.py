@@ -164,7 +164,7 @@ def query_pair(catalog, word, text, more=b""):
     return line(word, text, more), by_name(lambda: planned(catalog, text, answer))
 
 
-# -- rows of tools/rows
+# -- rows of tools/call_rows
 
 def values_in(text):
     """The values of SQL literals in parentheses."""

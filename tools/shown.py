@@ -1,4 +1,4 @@
-"""Values of the other implementation as the programs show them for debugging."""
+"""Values of the other implementation, as `call_lines` shows its own for debugging."""
 
 KINDS = {1: "Int", 2: "Text", 3: "Bool"}
 SIGNS = {"=": "Eq", "<>": "Ne", "<": "Lt", "<=": "Le", ">": "Gt", ">=": "Ge"}
