@@ -9,9 +9,6 @@ pub mod Spots
 pub mod SpotEdits
 pub mod TableLaws
 pub mod Applied
-pub mod ReaderLaws
-pub mod BatchLaws
-pub mod Fitting
 pub mod FirstLaws
 pub mod Passing
 pub mod ShownLaws

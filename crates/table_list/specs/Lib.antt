@@ -5,7 +5,6 @@ pub mod StoredTables
 pub mod Named
 pub mod Changes
 pub mod Batched
-pub mod BatchReading
 pub mod Sided
 pub mod Binding
 pub mod Shown

@@ -3,8 +3,6 @@
 
 mod answering;
 mod applying;
-mod batch_reading;
-mod batch_writing;
 mod bind_fault;
 mod binding;
 mod cells;
@@ -39,8 +37,6 @@ mod table_rows;
 mod tables;
 
 pub use answering::{push_alone, push_pairs};
-pub use batch_reading::read_batch;
-pub use batch_writing::{batch_bytes, put_columns, put_name};
 pub use bind_fault::BindFault;
 pub use binding::bind;
 pub use cells::cell_number;
@@ -61,7 +57,3 @@ pub use shown::shown_places;
 pub use sides::{Place, Side, Sides};
 pub use table_rows::TableRow;
 pub use tables::{Tables, apply, apply_batch};
-pub use vo_spec::{
-    Batch, Cmp, Column, Command, CommandFault, Cond, Items, Join, Operand, Outcome, QueryFault,
-    QueryText, Ref, Schema, SetPart, Source, Table,
-};
