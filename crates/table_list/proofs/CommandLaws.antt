@@ -1,17 +1,14 @@
 -- What a command makes of tables, by its refusals and its change.
 use Rattle.std.proofs.Common.{◌≡◌, ℕ, Bool, true, false, cond, List, [], map, Option, Some, None, Result, Ok, Err, refl, sym, ap, ◌∙◌}
-use Rattle.std.specs.Prelude.{bytes_eq}
 use Rattle.std.specs.Option.{option_map_or}
-use Rattle.vo_spec.specs.declared.values.Value.{Value}
 use Rattle.vo_spec.specs.declared.tables.Table.{Table}
-use Rattle.vo_spec.specs.declared.tables.SetPart.{SetPart}
 use Rattle.vo_spec.specs.declared.tables.Command.{Command}
 use Rattle.vo_spec.specs.declared.tables.Command.TheVariants.{Create, Drop, Insert, Update, Delete}
 use Rattle.vo_spec.specs.declared.tables.CommandFault.{CommandFault}
 use Rattle.vo_spec.specs.declared.tables.CommandFault.TheVariants.{NoTable, DuplicateKey, NoRow}
 use Rattle.vo_spec.specs.Firsts.{first_of, unless, and_then}
 use Rattle.vo_spec.specs.Values.{key_of}
-use Rattle.vo_spec.specs.Tables.{Tests, Heading, heading_of, heading_named, table_named, on_table, insert_tests, update_tests, delete_tests, refusal, changed, apply, row_of, has_row, put_row, without_row, changed_row, cell_changes, with_rows}
+use Rattle.vo_spec.specs.Tables.{Tests, Heading, heading_of, heading_named, table_named, on_table, insert_tests, update_tests, delete_tests, refusal, changed, apply, row_of, has_row}
 use Rattle.table_list.specs.Headings.{command_name}
 use Rattle.table_list.specs.Changes.{row_fault, fault_by_rows, changed_tables}
 use Rattle.table_list.proofs.PlainLaws.{heading_by_name}

@@ -1,15 +1,13 @@
 -- Commands keep that names differ, and keys.
-use Rattle.std.proofs.Common.{◌≡◌, ℕ, ◌+◌, ◌<◌, Bool, true, false, not, ◌&&◌, ◌||◌, cond, List, [], ◌∷◌, map, filter, length, Option, Some, None, Result, Ok, Err, refl, sym, ap, subst, ◌∙◌}
+use Rattle.std.proofs.Common.{◌≡◌, ℕ, ◌+◌, Bool, true, false, not, ◌&&◌, ◌||◌, cond, List, [], ◌∷◌, map, filter, length, Some, None, Result, Ok, Err, refl, sym, ap, subst, ◌∙◌}
 use Rattle.std.specs.Prelude.{bytes_eq, nat_lt, nat_le, ◌==◌, option_map, is_some}
 use Rattle.std.specs.Option.{option_map_or}
 use Rattle.std.specs.List.{list_all, list_any}
 use Rattle.std.proofs.lemmas.Bool.{and_parts, and_from, or_parts, or_from, ltb-true}
 use Rattle.std.proofs.lemmas.Slice.Eq.{bytes_eq-Decides}
 use Rattle.vo_spec.specs.declared.values.Value.{Value}
-use Rattle.vo_spec.specs.declared.values.Row.{Row}
 use Rattle.vo_spec.specs.declared.tables.Column.{Column}
 use Rattle.vo_spec.specs.declared.tables.Table.{Table}
-use Rattle.vo_spec.specs.declared.tables.SetPart.{SetPart}
 use Rattle.vo_spec.specs.declared.tables.Command.{Command}
 use Rattle.vo_spec.specs.declared.tables.Command.TheVariants.{Create, Drop, Insert, Update, Delete}
 use Rattle.vo_spec.specs.declared.tables.CommandFault.{CommandFault}
@@ -18,7 +16,7 @@ use Rattle.vo_spec.specs.Firsts.{first_of, and_then}
 use Rattle.vo_spec.specs.declared.values.Kind.TheVariants as kind
 use Rattle.vo_spec.specs.Values.{same_kind, key_of, key_lt}
 use Rattle.vo_spec.specs.Checks.{key_kind}
-use Rattle.vo_spec.specs.Tables.{Tests, Heading, heading_of, heading_named, table_named, on_table, most_tables, most_rows, most_key, is_bad_schema, column_at, column_number, has_column, has_twice, insert_tests, refusal, apply, apply_from, numbered, put_table, row_of, value_at, are_of_kinds, cell_changes}
+use Rattle.vo_spec.specs.Tables.{Tests, heading_of, heading_named, table_named, most_tables, most_rows, most_key, is_bad_schema, column_at, column_number, has_column, has_twice, insert_tests, refusal, apply, apply_from, numbered, put_table, row_of, value_at, are_of_kinds, cell_changes}
 use Rattle.table_list.specs.KeyWidths.{have_width}
 use Rattle.table_list.specs.Kept.{is_keyed, AreKept}
 use Rattle.table_list.specs.Headings.{command_name}

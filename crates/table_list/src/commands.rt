@@ -3,7 +3,7 @@ ghost use Rattle.std.specs.Prelude.{◌≡◌, ◌≤◌, map, not, filter, byte
 ghost use Rattle.std.specs.List.{position_or_len};
 ghost use Rattle.vo_spec.specs.Values.{key_lt};
 ghost use Rattle.vo_spec.specs.Batches.{FitsCommand};
-ghost use Rattle.vo_spec.specs.Tables.{apply, heading_of, refusal, put_table, with_rows, column_number};
+ghost use Rattle.vo_spec.specs.Tables.{apply, heading_of, refusal, put_table};
 ghost use Rattle.table_list.specs.Changes.{Gives, new_table, rows_after, table_after, changed_tables, row_fault, fault_by_rows};
 ghost use Rattle.table_list.specs.Headings.{command_name};
 

@@ -1,5 +1,5 @@
 //! Tables, and what commands and batches make of them.
-ghost use Rattle.std.specs.Prelude.{◌≡◌, ◌≤◌, [], length, IfOk, OnErr};
+ghost use Rattle.std.specs.Prelude.{◌≡◌, ◌≤◌, [], length, OnErr};
 ghost use Rattle.std.specs.List.{AllByRecursion};
 ghost use Rattle.vo_spec.specs.Tables.{apply, apply_batch};
 ghost use Rattle.vo_spec.specs.Batches.{FitsCommand, FitsBatch};
@@ -10,7 +10,7 @@ ghost use Rattle.table_list.specs.Kept.{AreKept};
 use crate::commands::apply_command;
 use crate::copies::copy_tables;
 use crate::fault::{ApplyFault, BatchFault};
-use std::alloc::{AllocError, Global};
+use std::alloc::Global;
 use std::marker::Model;
 use vo_spec::{Batch, Command, Table};
 

@@ -1,7 +1,7 @@
-use Rattle.std.proofs.Common.{◌≡◌, Some, None, map, sym, ap, ◌∙◌}
+use Rattle.std.proofs.Common.{Some, map, sym, ap, ◌∙◌}
 use Rattle.std.specs.Prelude.{option_map}
 use Rattle.std.proofs.lemmas.List.{length-map}
-use Rattle.vo_spec.specs.Tables.{Heading, heading_of, heading_named}
+use Rattle.vo_spec.specs.Tables.{heading_of, heading_named}
 use Rattle.table_list.proofs.PlainLaws.{heading_by_name}
 use Rattle.table_list.proofs.commands.refusal.Goals as goal
 
