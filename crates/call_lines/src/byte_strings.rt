@@ -3,6 +3,7 @@ ghost use Rattle.vo_spec.specs.Lent.{value_of};
 ghost use Rattle.vo_spec.specs.Values.{FitsValue};
 
 use crate::line::BytesCall;
+use batch_format::read_batch;
 use line_pieces::{shown, word};
 use row_bytes::{
     Cursor, FormFault, Value, ValueRef, copy_onto, copy_values, key_of, own_value, put_value,
@@ -10,7 +11,6 @@ use row_bytes::{
 };
 use std::alloc::Global;
 use std::io;
-use table_list::read_batch;
 
 /// The answer to a call of bytes.
 pub fn answer(alloc: Global, call: BytesCall, bytes: &[u8]) -> io::Result<String> {

@@ -1,12 +1,12 @@
 //! Calls of texts, and of tables by texts. Values are shown as for debugging.
 use crate::line::TextCall;
+use batch_format::batch_bytes;
 use line_pieces::{shown, word};
 use sql_text::{SqlFault, parse_batch, parse_query, parse_script, print_batch, print_query};
 use std::alloc::{AllocError, Global};
 use std::io;
-use table_list::{
-    ApplyFault, BatchFault, Outcome, Tables, apply, apply_batch, batch_bytes, result,
-};
+use table_list::{ApplyFault, BatchFault, Tables, apply, apply_batch, result};
+use vo_spec::Outcome;
 
 /// The answer to a call of these bytes, which are to be a text.
 pub fn answer(

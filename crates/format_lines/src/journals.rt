@@ -8,13 +8,13 @@ use crate::arguments::number_of;
 use crate::kept::Kept;
 use crate::keys::read_key;
 use crate::records::shown_catalog;
+use batch_format::read_batch;
 use line_pieces::NoAnswer;
 use owner_state::{
     Entry, OwnedJournal, TakenJournal, entry_bytes, journal_bytes, put_slot, read_entries,
     read_owned, read_slots, read_taken, seal as sealed,
 };
 use std::alloc::Global;
-use table_list::read_batch;
 use vo_spec::{Batch, List};
 
 /// How a journal ends, and the slots of its entries again.

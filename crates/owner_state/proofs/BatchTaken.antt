@@ -8,9 +8,9 @@ use Rattle.vo_spec.specs.Batches.{IsBatch}
 use Rattle.row_bytes.specs.declared.read_fault.ReadFault.{ReadFault}
 use Rattle.row_bytes.specs.declared.read_fault.ReadFault.TheVariants.{BadForm, Memory}
 use Rattle.row_bytes.specs.Fields.{block_at, FoundOr}
-use Rattle.table_list.specs.BatchReading.{batch_of, BatchRead}
-use Rattle.table_list.proofs.ReaderLaws.{no_some}
-use Rattle.table_list.proofs.BatchLaws.{batch_found, batch_again}
+use Rattle.batch_format.specs.BatchReading.{batch_of, BatchRead}
+use Rattle.batch_format.proofs.ReaderLaws.{no_some}
+use Rattle.batch_format.proofs.BatchLaws.{batch_found, batch_again}
 use Rattle.owner_state.specs.Reading.{batch_at}
 
 -- something, or nothing

@@ -7,7 +7,7 @@ use Rattle.vo_spec.specs.Bytes.{IsBytes, u32_bytes, u32_of, block}
 use Rattle.row_bytes.specs.Reading.{bytes_at, u32_at}
 use Rattle.row_bytes.specs.Fields.{◌>>=◌, where_true, block_at}
 use Rattle.row_bytes.proofs.Readers.{IsBytes-take, IsBytes-drop, IsBytes-after, chosen}
-use Rattle.table_list.proofs.ReaderLaws.{Took, IsReader, some_is, bound, tested, took_then, no_some, next_found, next_again}
+use Rattle.batch_format.proofs.ReaderLaws.{Took, IsReader, some_is, bound, tested, took_then, no_some, next_found, next_again}
 use Rattle.version_record.proofs.RecordLaws.{bytes_read}
 use Rattle.owner_state.specs.Reading.{within, limited_at}
 

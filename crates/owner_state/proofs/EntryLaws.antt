@@ -10,9 +10,9 @@ use Rattle.vo_spec.specs.Records.{FitsRecord, record_bytes, magic}
 use Rattle.vo_spec.specs.Journals.{FitsEntry, entry_bytes, slot, most_proofs, most_signature}
 use Rattle.row_bytes.proofs.Readers.{IsBytes-rest, chosen}
 use Rattle.row_bytes.proofs.ValueLaws.{u64_length}
-use Rattle.table_list.specs.BatchReading.{batch_of, one, two, three, four}
-use Rattle.table_list.proofs.ReaderLaws.{Took, IsReader, took_then, no_some, next_found, next_again}
-use Rattle.table_list.proofs.BatchLaws.{one_found, batch_found, batch_again}
+use Rattle.batch_format.specs.BatchReading.{batch_of, one, two, three, four}
+use Rattle.batch_format.proofs.ReaderLaws.{Took, IsReader, took_then, no_some, next_found, next_again}
+use Rattle.batch_format.proofs.BatchLaws.{one_found, batch_found, batch_again}
 use Rattle.version_record.specs.Reading.{record_at}
 use Rattle.version_record.proofs.RecordLaws.{words_read, records_read, whole_is}
 use Rattle.owner_state.specs.Reading.{within, limited_at, batch_at, entry_with, entry_at, entry_of, slot_at}

@@ -9,7 +9,7 @@ use Rattle.vo_spec.specs.Journals.{FitsEntry, slot, Begins, IsClosed, IsJournal,
 use Rattle.row_bytes.specs.Reading.{u32_at}
 use Rattle.row_bytes.specs.Fields.{block_at, Found}
 use Rattle.row_bytes.proofs.Readers.{IsBytes-after}
-use Rattle.table_list.proofs.ReaderLaws.{some_is, no_some}
+use Rattle.batch_format.proofs.ReaderLaws.{some_is, no_some}
 use Rattle.owner_state.specs.Reading.{within, entry_of, slot_at}
 use Rattle.owner_state.specs.Endings.{StopsAt, EndsClosed, EndsAt, EndsSo, behind}
 use Rattle.owner_state.specs.declared.slot_reading.Ending.{Ending}

@@ -7,7 +7,7 @@ use Rattle.vo_spec.specs.Journals.{most_proofs, most_signature}
 use Rattle.row_bytes.specs.declared.read_fault.ReadFault.{ReadFault}
 use Rattle.row_bytes.specs.declared.read_fault.ReadFault.TheVariants.{BadForm, Memory}
 use Rattle.row_bytes.specs.Fields.{◌>>=◌, where_true, word_at, block_at, whole}
-use Rattle.table_list.specs.BatchReading.{Reader, four, batch_of}
+use Rattle.batch_format.specs.BatchReading.{Reader, four, batch_of}
 use Rattle.version_record.specs.Reading.{record_at}
 
 -- what the bytes of a block are, all of them

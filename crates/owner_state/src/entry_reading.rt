@@ -1,12 +1,12 @@
 //! Reading entries.
 ghost use Rattle.std.specs.Prelude.{◌≡◌, ℕ};
 ghost use Rattle.row_bytes.specs.Fields.{Found, FoundOr};
-ghost use Rattle.table_list.specs.BatchReading.{batch_of, BatchRead};
+ghost use Rattle.batch_format.specs.BatchReading.{batch_of, BatchRead};
 ghost use Rattle.owner_state.specs.Reading.{limited_at, batch_at, entry_at, entry_of, slot_at, EntryRead};
 
+use batch_format::read_batch;
 use row_bytes::{Cursor, ReadFault};
 use std::alloc::Global;
-use table_list::read_batch;
 use version_record::take_record;
 use vo_spec::{Batch, Entry, List};
 

@@ -4,8 +4,8 @@ ghost use Rattle.vo_spec.specs.Bytes.{block};
 ghost use Rattle.vo_spec.specs.Batches.{batch_bytes};
 ghost use Rattle.vo_spec.specs.Journals.{FitsEntry, entry_bytes};
 
+use batch_format::batch_bytes;
 use std::alloc::{AllocError, Global};
-use table_list::batch_bytes;
 use version_record::record_bytes;
 use vo_spec::{Entry, u32_bytes};
 

@@ -4,8 +4,8 @@ ghost use Rattle.std.specs.List.{AllByRecursion};
 ghost use Rattle.vo_spec.specs.Journals.{FitsEntry, slot, journal_bytes};
 
 use crate::entry_writing::{entry_length, put_entry};
+use batch_format::batch_bytes;
 use std::alloc::{AllocError, Global};
-use table_list::batch_bytes;
 use vo_spec::{Entry, u32_bytes};
 
 /// Puts an open slot with the entry at the end.

@@ -12,11 +12,12 @@ ghost use Rattle.vo_laws.proofs.CommandLaws.{FitTables};
 ghost use Rattle.stored_tables.specs.Working.{work_from};
 ghost use Rattle.stored_tables.specs.Plain.{GivesPlain};
 
+use crate::sharing::spliced;
 use crate::table::StoredTable;
 use crate::working::worked;
 use std::alloc::{AllocError, Global};
 use std::rc::Rc;
-use table_list::{ApplyFault, BatchFault, spliced};
+use table_list::{ApplyFault, BatchFault};
 use vo_spec::Command;
 
 /// The same tables once more.

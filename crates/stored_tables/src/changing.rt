@@ -5,11 +5,12 @@ ghost use Rattle.stored_tables.specs.View.{stored_in, stored_of};
 ghost use Rattle.stored_tables.specs.Working.{made_stored};
 
 use crate::placing::place_for;
-use crate::table::{StoredTable, copy_schema};
+use crate::sharing::spliced;
+use crate::table::StoredTable;
 use mb_tree::Tree;
 use std::alloc::{AllocError, Global};
 use std::rc::Rc;
-use table_list::{column_number, copy_columns, spliced};
+use table_list::{column_number, copy_columns, copy_schema};
 use vo_spec::{Column, Name, Schema};
 
 /// The table that a CREATE makes.

@@ -7,13 +7,12 @@ ghost use Rattle.stored_tables.specs.View.{proof_list, stored_in, stored_of};
 ghost use Rattle.stored_tables.specs.Standing.{IsStanding};
 
 use crate::placing::place_of;
-use crate::refusing::table_named;
 use crate::row_changes::key_of;
 use crate::table::StoredTable;
 use mb_tree::PartTree;
 use std::alloc::{AllocError, Global};
 use std::rc::Rc;
-use table_list::key_at;
+use table_list::{command_name, key_at};
 use update_proof::{insert_proof, remove_proof, replace_proof};
 use vo_spec::Command;
 
@@ -26,7 +25,7 @@ pub(crate) fn proof_of<'t>(
     ensures honest { IfOk result (λ proof. proof_list proof ≡ command_proof command.now (stored_in tables.now)) }
     ensures fits { IfOk result (λ proof. AllByRecursion FitsTree (proof_list proof)) }
 {
-    match place_of(tables, table_named(command)) {
+    match place_of(tables, command_name(command)) {
         None => Ok(None),
         Some(place) => proof_on(alloc, place.table, command),
     }

@@ -9,6 +9,7 @@ mod placing;
 mod plain;
 mod refusing;
 mod row_changes;
+mod sharing;
 mod table;
 mod tables;
 mod working;

@@ -3,9 +3,10 @@ ghost use Rattle.std.specs.Prelude.{◌≡◌, map, IfOk};
 ghost use Rattle.stored_tables.specs.View.{stored_in, stored_of};
 ghost use Rattle.stored_tables.specs.Plain.{plain_table};
 
-use crate::table::{StoredTable, copy_schema};
+use crate::table::StoredTable;
 use std::alloc::{AllocError, Global};
 use std::rc::Rc;
+use table_list::copy_schema;
 use vo_spec::Table;
 
 fn plain_table(alloc: Global, table: &StoredTable) -> Result<Table, AllocError>

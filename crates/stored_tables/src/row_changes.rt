@@ -18,12 +18,12 @@ ghost use Rattle.stored_tables.specs.View.{stored_of};
 ghost use Rattle.stored_tables.specs.Working.{table_after, with_new_tree};
 ghost use Rattle.stored_tables.specs.Ready.{IsReady};
 
-use crate::table::{StoredTable, copy_schema};
+use crate::table::StoredTable;
 use mb_tree::Tree;
 use mb_update::{SetCell, UpdateFault, Updates, insert_row};
 use std::alloc::{AllocError, Global};
 use std::slice;
-use table_list::{ApplyFault, cell_number, column_number, key_at, row_of};
+use table_list::{ApplyFault, cell_number, column_number, copy_schema, key_at, row_of};
 use vo_spec::{Command, CommandFault, Key, Schema, SetPart, Value};
 
 /// The key of one value.

@@ -1,12 +1,11 @@
 //! A table as its tree.
-ghost use Rattle.std.specs.Prelude.{◌≡◌, IfOk};
+ghost use Rattle.std.specs.Prelude.{◌≡◌};
 ghost use Rattle.vo_spec.specs.Honest.{stored_heading};
 ghost use Rattle.table_list.specs.Headings.{heading_seen};
 ghost use Rattle.stored_tables.specs.View.{stored_of};
 
 use mb_tree::Tree;
-use std::alloc::{AllocError, Global};
-use table_list::{HeadingRef, copy_columns};
+use table_list::HeadingRef;
 use vo_spec::{Name, Schema};
 
 /// A table of rows, which its tree has.
@@ -27,13 +26,4 @@ impl StoredTable {
             count: self.tree.row_count(),
         }
     }
-}
-
-pub(crate) fn copy_schema(alloc: Global, schema: &Schema) -> Result<Schema, AllocError>
-    ensures { IfOk result (λ copy. copy ≡ schema.now) }
-{
-    Ok(Schema {
-        columns: copy_columns(alloc, schema.columns.as_slice())?,
-        key: schema.key,
-    })
 }

@@ -11,12 +11,12 @@ ghost use Rattle.stored_tables.specs.Ready.{changes_rows};
 
 use crate::changing::{exchanged, new_table, with_table, without_table};
 use crate::placing::place_of;
-use crate::refusing::{fault_of, table_named};
+use crate::refusing::fault_of;
 use crate::row_changes::changed_table;
 use crate::table::StoredTable;
 use std::alloc::Global;
 use std::rc::Rc;
-use table_list::ApplyFault;
+use table_list::{ApplyFault, command_name};
 use vo_spec::{Column, Command, Name};
 
 fn created(
@@ -45,7 +45,7 @@ fn changed_rows(
     requires allowed { refusal command.now (map stored_heading (stored_in tables.now)) ≡ None }
     ensures { Gives (λ new. stored_in new.items) result (changed_trees command.now (stored_in tables.now)) }
 {
-    match place_of(tables, table_named(command)) {
+    match place_of(tables, command_name(command)) {
         None => unreachable!(),
         Some(place) => match changed_table(alloc, place.table, command) {
             Ok(table) => Ok(exchanged(alloc, tables, place.at, table)?),

@@ -1,14 +1,10 @@
 pub mod Headings
-pub mod Rising
-pub mod Chunks
-pub mod StoredTables
-pub mod Named
+pub mod KeyWidths
+pub mod Kept
 pub mod Changes
 pub mod Batched
-pub mod BatchReading
 pub mod Sided
 pub mod Binding
 pub mod Shown
-pub mod KeyWidths
 pub mod Answers
 pub mod PlainLines

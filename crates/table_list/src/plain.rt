@@ -1,12 +1,13 @@
 //! Plain tables, as a query reads them.
-ghost use Rattle.std.specs.Prelude.{◌≡◌, List, map, option_map, true, refl, IfOk};
+ghost use Rattle.std.specs.Prelude.{◌≡◌, List, map, true, refl, IfOk};
 ghost use Rattle.std.specs.List.{list_all};
 ghost use Rattle.vo_spec.specs.declared.tables.Table.{Table as Plain};
-ghost use Rattle.vo_spec.specs.Tables.{heading_of, table_named};
+ghost use Rattle.vo_spec.specs.Tables.{heading_of};
 ghost use Rattle.vo_spec.specs.Results.{line_of};
 ghost use Rattle.table_list.specs.KeyWidths.{have_width};
 ghost use Rattle.table_list.specs.PlainLines.{lines_named, row_line};
 
+use crate::named::table_named;
 use crate::schemas::Schemas;
 use crate::table_rows::TableRow;
 use std::alloc::{AllocError, Global};
@@ -21,18 +22,6 @@ pub(crate) trait PlainLines: Schemas {
         ensures { IfOk result (λ lines. map row_line lines.items ≡ lines_named name.now (tables self.now)) };
 
     ghost headings_same: { (t : Self) → Self.headings t ≡ map heading_of (tables t) };
-}
-
-/// The first table of this name.
-fn table_named<'t>(tables: &'t [Table], name: &[u8]) -> Option<&'t Table>
-    ensures { option_map (λ t. t.now) result ≡ table_named name.now tables.now }
-{
-    for table in tables {
-        if table.name.as_bytes() == name {
-            return Some(table);
-        }
-    }
-    None
 }
 
 /// A list of plain tables.

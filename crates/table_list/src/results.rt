@@ -110,7 +110,8 @@ fn outcome<P: PlainLines>(
 pub fn result(alloc: Global, tables: &Tables, query: &QueryText) -> Result<Outcome, AllocError>
     ensures { IfOk result (λ outcome. outcome ≡ result_of (query_of query.now) tables.now) }
 {
-    outcome(alloc, tables, query)
+    let tables = tables.as_slice();
+    outcome(alloc, &TableSlice { tables }, query)
 }
 
 /// The same on a list of tables.

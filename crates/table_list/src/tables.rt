@@ -1,44 +1,39 @@
 //! Tables, and what commands and batches make of them.
-ghost use Rattle.std.specs.Prelude.{◌≡◌, ◌≤◌, [], length, IfOk, OnErr};
+ghost use Rattle.std.specs.Prelude.{◌≡◌, ◌≤◌, [], length, OnErr};
 ghost use Rattle.std.specs.List.{AllByRecursion};
 ghost use Rattle.vo_spec.specs.Tables.{apply, apply_batch};
 ghost use Rattle.vo_spec.specs.Batches.{FitsCommand, FitsBatch};
-ghost use Rattle.table_list.specs.StoredTables.{tables_in};
-ghost use Rattle.table_list.specs.Named.{Differ};
 ghost use Rattle.table_list.specs.Batched.{BatchGives};
 ghost use Rattle.table_list.specs.Changes.{Gives};
+ghost use Rattle.table_list.specs.Kept.{AreKept};
 
-use crate::applying::applied;
+use crate::commands::apply_command;
+use crate::copies::copy_tables;
 use crate::fault::{ApplyFault, BatchFault};
-use crate::kept::Stored;
-use crate::sharing::spliced;
-use std::alloc::{AllocError, Global};
+use std::alloc::Global;
 use std::marker::Model;
-use std::rc::Rc;
-use vo_spec::{Batch, Command};
+use vo_spec::{Batch, Command, Table};
 
 /// Plain tables, which contracts see as the list of them.
 #[derive(Drop)]
 pub struct Tables {
-    tables: Vec<Rc<Stored>>,
+    tables: Vec<Table>,
 }
 
 impl Model for Tables {
     ghost use Rattle.std.specs.Prelude.{List};
     ghost use Rattle.vo_spec.specs.declared.tables.Table.{Table};
-    ghost use Rattle.table_list.specs.StoredTables.{tables_in};
-    ghost use Rattle.table_list.specs.Named.{Differ};
+    ghost use Rattle.table_list.specs.Kept.{AreKept};
 
     ghost Value = { List Table };
 
-    ghost view = { λ t. tables_in t.tables.items };
+    ghost view = { λ t. t.tables.items };
 
-    ghost invariant = { λ t. Differ (tables_in t.tables.items) };
+    ghost invariant = { λ t. AreKept t.tables.items };
 }
 
 impl Tables {
     /// No tables.
-    #[tactic(auto, unfolding(crate::specs::Named::Differ))]
     pub fn new(alloc: Global) -> Tables
         ensures { result ≡ [] }
     {
@@ -47,9 +42,9 @@ impl Tables {
         }
     }
 
-    pub(crate) fn as_slice(&self) -> &[Rc<Stored>]
-        ensures value { tables_in result.now ≡ self.now }
-        ensures differ { Differ (tables_in result.now) }
+    pub(crate) fn as_slice(&self) -> &[Table]
+        ensures value { result.now ≡ self.now }
+        ensures kept { AreKept result.now }
     {
         self.tables.as_slice()
     }
@@ -61,26 +56,24 @@ pub fn apply(alloc: Global, tables: &mut Tables, command: &Command) -> Result<()
     ensures answer { Gives (λ _. tables.new) result (apply command.now tables.old) }
     ensures err { OnErr result (tables.new ≡ tables.old) }
 {
-    let new = applied(alloc, tables.tables.as_slice(), command)?;
+    let new = apply_command(alloc, tables.tables.as_slice(), command)?;
     tables.tables = new;
     Ok(())
 }
 
-/// The tables after a list of commands.
-fn applied_in_turn(
+/// The tables after commands in turn.
+fn apply_commands(
     alloc: Global,
-    tables: &[Rc<Stored>],
+    tables: &[Table],
     commands: &[Command],
-) -> Result<Vec<Rc<Stored>>, BatchFault>
-    requires differ { Differ (tables_in tables.now) }
+) -> Result<Vec<Table>, BatchFault>
     requires fits { AllByRecursion FitsCommand commands.now }
     requires count { length commands.now ≤ 1000 }
-    ensures answer { BatchGives (λ new. tables_in new.items) result (apply_batch commands.now (tables_in tables.now)) }
-    ensures differ { IfOk result (λ new. Differ (tables_in new.items)) }
+    ensures { BatchGives (λ new. new.items) result (apply_batch commands.now tables.now) }
 {
-    let mut new = shared(alloc, tables)?;
+    let mut new = copy_tables(alloc, tables)?;
     for (index, command) in commands.iter().enumerate() {
-        match applied(alloc, new.as_slice(), command) {
+        match apply_command(alloc, new.as_slice(), command) {
             Ok(next) => new = next,
             Err(ApplyFault::Refused(fault)) => {
                 let index = index as u64;
@@ -92,12 +85,6 @@ fn applied_in_turn(
     Ok(new)
 }
 
-fn shared(alloc: Global, tables: &[Rc<Stored>]) -> Result<Vec<Rc<Stored>>, AllocError>
-    ensures { IfOk result (λ new. tables_in new.items ≡ tables_in tables.now) }
-{
-    Ok(spliced(alloc, tables, 0, 0, &[])?)
-}
-
 /// Applies the commands of a batch, all or none. A refused batch leaves the tables, and so does want of
 /// memory.
 pub fn apply_batch(alloc: Global, tables: &mut Tables, batch: &Batch) -> Result<(), BatchFault>
@@ -105,7 +92,7 @@ pub fn apply_batch(alloc: Global, tables: &mut Tables, batch: &Batch) -> Result<
     ensures answer { BatchGives (λ _. tables.new) result (apply_batch batch.now.commands tables.old) }
     ensures err { OnErr result (tables.new ≡ tables.old) }
 {
-    let new = applied_in_turn(alloc, tables.tables.as_slice(), batch.commands.as_slice())?;
+    let new = apply_commands(alloc, tables.tables.as_slice(), batch.commands.as_slice())?;
     tables.tables = new;
     Ok(())
 }

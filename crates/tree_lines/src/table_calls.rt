@@ -3,11 +3,12 @@ ghost use Rattle.std.specs.Prelude.{IfOk};
 ghost use Rattle.vo_spec.specs.Batches.{FitsBatch};
 
 use crate::answers::{digits, spelled};
+use batch_format::read_batch;
 use line_pieces::{shown, word};
 use std::alloc::{AllocError, Global};
 use std::io;
 use stored_tables::StoredTables;
-use table_list::{ApplyFault, read_batch};
+use table_list::ApplyFault;
 use vo_spec::{Batch, CatalogTable, Command, CommandFault};
 
 /// The digest of the table `t` after a batch, or why the batch is refused.

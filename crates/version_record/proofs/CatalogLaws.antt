@@ -17,9 +17,9 @@ use Rattle.row_bytes.specs.declared.read_fault.ReadFault.{ReadFault}
 use Rattle.row_bytes.specs.Reading.{byte_at, bytes_at, u16_at, u64_at}
 use Rattle.row_bytes.specs.Fields.{◌>>=◌, where_true, times, whole}
 use Rattle.row_bytes.proofs.Readers.{IsBytes-rest}
-use Rattle.table_list.specs.BatchReading.{Reader}
-use Rattle.table_list.proofs.ReaderLaws.{Took, IsReader, some_is, bound, tested, took_then, all_true, names_read, next_found, next_again, times_found, times_again}
-use Rattle.table_list.proofs.BatchLaws.{columns_law, u16_found, u16_read}
+use Rattle.batch_format.specs.BatchReading.{Reader}
+use Rattle.batch_format.proofs.ReaderLaws.{Took, IsReader, some_is, bound, tested, took_then, all_true, names_read, next_found, next_again, times_found, times_again}
+use Rattle.batch_format.proofs.BatchLaws.{columns_law, u16_found, u16_read}
 use Rattle.version_record.specs.Reading.{schema_at, catalog_table_at, catalog_at, is_schema, names_of, CatalogRead}
 use Rattle.version_record.proofs.RecordLaws.{bytes_read, u64s_read, whole_is}
 

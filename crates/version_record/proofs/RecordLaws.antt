@@ -11,9 +11,9 @@ use Rattle.row_bytes.specs.Reading.{bytes_at, u64_at}
 use Rattle.row_bytes.specs.Fields.{where_true, word_at, whole}
 use Rattle.row_bytes.proofs.Readers.{IsBytes-take, IsBytes-drop, chosen}
 use Rattle.row_bytes.proofs.ValueLaws.{u64_same, u64_again, u64_below, u64_length}
-use Rattle.table_list.specs.BatchReading.{one, two, three}
-use Rattle.table_list.proofs.ReaderLaws.{Took, IsReader, some_is, bound, tested, took_then, no_some, next_found, next_again}
-use Rattle.table_list.proofs.BatchLaws.{one_found}
+use Rattle.batch_format.specs.BatchReading.{one, two, three}
+use Rattle.batch_format.proofs.ReaderLaws.{Took, IsReader, some_is, bound, tested, took_then, no_some, next_found, next_again}
+use Rattle.batch_format.proofs.BatchLaws.{one_found}
 use Rattle.version_record.specs.Reading.{record_at}
 
 -- So many bytes, numbers, and bytes that are given.

@@ -4,9 +4,10 @@ ghost use Rattle.vo_spec.specs.Records.{FitsCatalogTable, catalog_table_bytes};
 ghost use Rattle.row_bytes.specs.Fields.{FoundOr};
 ghost use Rattle.version_record.specs.Reading.{schema_at, catalog_table_at, is_schema};
 
+use batch_format::{put_columns, put_name};
 use row_bytes::{Cursor, ReadFault, take_columns};
 use std::alloc::{AllocError, Global};
-use table_list::{has_twice, kind_at, put_columns, put_name, same_kind};
+use table_list::{has_twice, kind_at, same_kind};
 use vo_spec::{CatalogTable, Digest, Kind, Name, Schema, u64_bytes};
 
 /// What the catalog says of the table that comes next.

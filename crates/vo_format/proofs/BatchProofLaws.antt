@@ -16,9 +16,9 @@ use Rattle.row_bytes.specs.declared.read_fault.ReadFault.TheVariants.{BadForm}
 use Rattle.row_bytes.specs.Reading.{u16_at}
 use Rattle.row_bytes.specs.Fields.{◌>>=◌, where_true, times, whole}
 use Rattle.row_bytes.proofs.Readers.{chosen}
-use Rattle.table_list.specs.BatchReading.{Reader}
-use Rattle.table_list.proofs.ReaderLaws.{Took, bound, tested, took_then, no_some, next_found, next_again, times_found, times_again}
-use Rattle.table_list.proofs.BatchLaws.{u16_found, u16_read}
+use Rattle.batch_format.specs.BatchReading.{Reader}
+use Rattle.batch_format.proofs.ReaderLaws.{Took, bound, tested, took_then, no_some, next_found, next_again, times_found, times_again}
+use Rattle.batch_format.proofs.BatchLaws.{u16_found, u16_read}
 use Rattle.version_record.proofs.RecordLaws.{words_read, whole_is}
 use Rattle.mb_tree.specs.declared.parts.PartTree.{PartTree}
 use Rattle.vo_format.specs.View.{trees_of, ReadsAs}

@@ -10,7 +10,7 @@ use Rattle.vo_spec.specs.Values.{type_byte}
 use Rattle.vo_spec.specs.Batches.{FitsColumn, counted, column_bytes}
 use Rattle.vo_spec.specs.Records.{catalog_table_bytes, catalog_bytes, FitsCatalogTable, FitsCatalog}
 use Rattle.row_bytes.proofs.ValueLaws.{u16_length, u64_length}
-use Rattle.table_list.proofs.Fitting.{name_is_short}
+use Rattle.batch_format.proofs.Fitting.{name_is_short}
 
 pieces_short : {A : Type 0} (Fits : A → Type 0) (spell : A → List ℕ) (most : ℕ) → ((x : A) → Fits x → length (spell x) ≤ most)
     → (xs : List A) → AllByRecursion Fits xs → length (flat_map spell xs) ≤ length xs * most

@@ -12,9 +12,9 @@ use Rattle.vo_spec.specs.Fits.{FitsCell, FitsRowPart, FitsEntry, most_cells}
 use Rattle.vo_spec.specs.TreeBytes.{cell_form, row_form, entry_form}
 use Rattle.row_bytes.specs.Reading.{bytes_at}
 use Rattle.row_bytes.proofs.Readers.{IsBytes-rest}
-use Rattle.table_list.specs.BatchReading.{one, any_value_at}
-use Rattle.table_list.proofs.ReaderLaws.{Took, IsReader, took_then, no_some, values_read, next_found, next_again}
-use Rattle.table_list.proofs.BatchLaws.{one_found}
+use Rattle.batch_format.specs.BatchReading.{one, any_value_at}
+use Rattle.batch_format.proofs.ReaderLaws.{Took, IsReader, took_then, no_some, values_read, next_found, next_again}
+use Rattle.batch_format.proofs.BatchLaws.{one_found}
 use Rattle.version_record.proofs.RecordLaws.{bytes_read}
 use Rattle.vo_format.specs.Reading.{cell_at, cells_at, row_at, part_entry, entry_at}
 use Rattle.vo_format.proofs.Fields.{few_read, keys_read, tagged_found, tagged_again, pick}

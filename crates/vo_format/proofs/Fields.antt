@@ -11,9 +11,9 @@ use Rattle.vo_spec.specs.Batches.{counted}
 use Rattle.row_bytes.specs.Reading.{byte_at, bytes_at, u16_at, u32_at}
 use Rattle.row_bytes.specs.Fields.{◌>>=◌, where_true, string_at, block_at, times}
 use Rattle.row_bytes.proofs.Readers.{IsBytes-rest, IsBytes-take, IsBytes-drop, chosen}
-use Rattle.table_list.specs.BatchReading.{Reader, one}
-use Rattle.table_list.proofs.ReaderLaws.{Took, IsReader, some_is, bound, tested, took_then, all_true, no_some, next_found, next_again, times_found, times_again}
-use Rattle.table_list.proofs.BatchLaws.{one_found, u16_found, u16_read}
+use Rattle.batch_format.specs.BatchReading.{Reader, one}
+use Rattle.batch_format.proofs.ReaderLaws.{Took, IsReader, some_is, bound, tested, took_then, all_true, no_some, next_found, next_again, times_found, times_again}
+use Rattle.batch_format.proofs.BatchLaws.{one_found, u16_found, u16_read}
 use Rattle.version_record.proofs.RecordLaws.{bytes_read}
 use Rattle.vo_format.specs.Reading.{count_within, key_at}
 

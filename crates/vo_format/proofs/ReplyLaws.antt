@@ -17,9 +17,9 @@ use Rattle.row_bytes.specs.declared.read_fault.ReadFault.TheVariants.{BadForm}
 use Rattle.row_bytes.specs.Reading.{byte_at}
 use Rattle.row_bytes.specs.Fields.{◌>>=◌, where_true, block_at, whole}
 use Rattle.row_bytes.proofs.Readers.{IsBytes-rest}
-use Rattle.table_list.specs.BatchReading.{Reader, one, two}
-use Rattle.table_list.proofs.ReaderLaws.{Took, IsReader, some_is, bound, tested, took_then, no_some, next_found, next_again, times_found, times_again}
-use Rattle.table_list.proofs.BatchLaws.{one_found}
+use Rattle.batch_format.specs.BatchReading.{Reader, one, two}
+use Rattle.batch_format.proofs.ReaderLaws.{Took, IsReader, some_is, bound, tested, took_then, no_some, next_found, next_again, times_found, times_again}
+use Rattle.batch_format.proofs.BatchLaws.{one_found}
 use Rattle.version_record.specs.Reading.{record_at, catalog_at}
 use Rattle.version_record.proofs.RecordLaws.{words_read, records_read, whole_is}
 use Rattle.version_record.proofs.CatalogLaws.{is_catalog, is_read}

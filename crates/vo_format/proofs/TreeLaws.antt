@@ -13,8 +13,8 @@ use Rattle.row_bytes.specs.Reading.{bytes_at}
 use Rattle.row_bytes.specs.declared.read_fault.ReadFault.{ReadFault}
 use Rattle.row_bytes.specs.Fields.{FoundOr, times}
 use Rattle.row_bytes.proofs.Readers.{IsBytes-rest}
-use Rattle.table_list.specs.BatchReading.{one, two}
-use Rattle.table_list.proofs.ReaderLaws.{Took, IsReader, some_is, bound, took_then, no_some, next_found, next_again, times_found, times_again}
+use Rattle.batch_format.specs.BatchReading.{one, two}
+use Rattle.batch_format.proofs.ReaderLaws.{Took, IsReader, some_is, bound, took_then, no_some, next_found, next_again, times_found, times_again}
 use Rattle.version_record.proofs.RecordLaws.{bytes_read}
 use Rattle.mb_tree.specs.declared.parts.PartTree.{PartTree}
 use Rattle.mb_tree.specs.View.{part_of}

@@ -16,7 +16,7 @@ use Rattle.vo_spec.specs.Journals.{most_signature, most_proofs}
 use Rattle.vo_spec.specs.Replies.{Reply}
 use Rattle.row_bytes.specs.Reading.{byte_at, bytes_at, u16_at}
 use Rattle.row_bytes.specs.Fields.{◌>>=◌, where_true, string_at, block_at, word_at, times, whole}
-use Rattle.table_list.specs.BatchReading.{Reader, one, two, any_value_at}
+use Rattle.batch_format.specs.BatchReading.{Reader, one, two, any_value_at}
 use Rattle.version_record.specs.Reading.{record_at, catalog_at}
 
 -- Entries.

@@ -4,7 +4,7 @@ ghost use Rattle.vo_spec.specs.declared.cells.Cell.TheVariants.{Shown};
 ghost use Rattle.vo_spec.specs.declared.cells.RowPart.TheVariants.{Cells, Digest as Closed};
 ghost use Rattle.row_bytes.specs.Reading.{bytes_at};
 ghost use Rattle.row_bytes.specs.Fields.{Found, FoundOr, times};
-ghost use Rattle.table_list.specs.BatchReading.{any_value_at, one};
+ghost use Rattle.batch_format.specs.BatchReading.{any_value_at, one};
 ghost use Rattle.vo_format.specs.Reading.{cell_at, cells_at, count_within, entry_at, key_at, row_at};
 
 use row_bytes::{Cursor, ReadFault, take_value};
@@ -44,7 +44,7 @@ pub fn take_key<'b>(cursor: &mut Cursor<'b>) -> Option<KeyPart<'b>>
     }
 }
 
-#[tactic(auto, unfolding(table_list::specs::BatchReading::any_value_at))]
+#[tactic(auto, unfolding(batch_format::specs::BatchReading::any_value_at))]
 fn take_shown<'b>(cursor: &mut Cursor<'b>) -> Option<Cell<'b>>
     ensures { Found (λ cell. cell) result cursor.new (one Shown any_value_at cursor.old) }
 {

@@ -7,7 +7,7 @@ ghost use Rattle.vo_spec.specs.Trees.{RowTree};
 ghost use Rattle.vo_spec.specs.TreeBytes.{tree_bytes};
 ghost use Rattle.row_bytes.specs.Reading.{bytes_at};
 ghost use Rattle.row_bytes.specs.Fields.{FoundOr, times};
-ghost use Rattle.table_list.specs.BatchReading.{one};
+ghost use Rattle.batch_format.specs.BatchReading.{one};
 ghost use Rattle.mb_tree.specs.View.{part_of};
 ghost use Rattle.vo_format.specs.Reading.{entry_at, inner_at, key_at, leaf_at, node_at, tree_at};
 ghost use Rattle.vo_format.specs.View.{trees_of};

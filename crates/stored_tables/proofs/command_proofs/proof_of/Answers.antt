@@ -10,14 +10,14 @@ pub returns-in-None-clause-honest : goal.returns-in-None-clause-honest
 returns-in-None-clause-honest c =
     let command = c.args.command.now in
     let stored = stored_in c.args.tables.now in
-    sym (proof_nowhere command stored (unlike_lent _ (command_name command) stored c.table_named.ensures c.in-None.ensures))
+    sym (proof_nowhere command stored (unlike_lent _ (command_name command) stored c.command_name.ensures c.in-None.ensures))
 
 pub returns-in-Some-clause-honest : goal.returns-in-Some-clause-honest
 returns-in-Some-clause-honest c =
     let command = c.args.command.now in
     let stored = stored_in c.args.tables.now in
     let s = lent_stored c.in-Some.place.table in
-    as_found c.proof_on.result command stored s (proof_at command stored c.in-Some.place.at s (at_lent _ (command_name command) stored c.in-Some.place.at s c.table_named.ensures c.in-Some.ensures))
+    as_found c.proof_on.result command stored s (proof_at command stored c.in-Some.place.at s (at_lent _ (command_name command) stored c.in-Some.place.at s c.command_name.ensures c.in-Some.ensures))
     c.proof_on.ensures
 
 pub returns-in-Some-clause-fits : goal.returns-in-Some-clause-fits

@@ -14,7 +14,7 @@ pub unreachable-requires : goal.unreachable-requires
 unreachable-requires c =
     let command = c.args.command.now in
     let stored = stored_in c.args.tables.now in
-    rows_nowhere command stored c.requires.rows (unlike_lent _ (command_name command) stored c.table_named.ensures c.in-None.ensures) c.requires.allowed
+    rows_nowhere command stored c.requires.rows (unlike_lent _ (command_name command) stored c.command_name.ensures c.in-None.ensures) c.requires.allowed
 
 pub changed_table-requires : goal.changed_table-requires
 changed_table-requires c =
@@ -22,7 +22,7 @@ changed_table-requires c =
     let stored = stored_in c.args.tables.now in
     let s = lent_stored c.in-Some.place.table in
     ready command stored c.in-Some.place.at s c.requires.rows c.requires.standing c.requires.fits c.requires.allowed
-    (at_lent _ (command_name command) stored c.in-Some.place.at s c.table_named.ensures c.in-Some.ensures)
+    (at_lent _ (command_name command) stored c.in-Some.place.at s c.command_name.ensures c.in-Some.ensures)
 
 pub returns-in_ok-exchanged-in-Ok : goal.returns-in_ok-exchanged-in-Ok
 returns-in_ok-exchanged-in-Ok c =
@@ -31,7 +31,7 @@ returns-in_ok-exchanged-in-Ok c =
     let s = lent_stored c.in-Some.place.table in
     rows_changed command stored c.requires.rows
     ∙ table_changed (command_name command) command stored _ c.in-Some.place.at s _
-    (at_lent _ (command_name command) stored c.in-Some.place.at s c.table_named.ensures c.in-Some.ensures) c.in-Ok.ensures c.in_ok-exchanged-in-Ok.ensures
+    (at_lent _ (command_name command) stored c.in-Some.place.at s c.command_name.ensures c.in-Some.ensures) c.in-Ok.ensures c.in_ok-exchanged-in-Ok.ensures
 
 pub returns-in-Err : goal.returns-in-Err
 returns-in-Err c =
@@ -40,4 +40,4 @@ returns-in-Err c =
     let s = lent_stored c.in-Some.place.table in
     subst (Gives (λ (new : Vec (Rc StoredTable Global) Global). stored_in new.items) (Err c.in-Err.fault)) (sym (rows_changed command stored c.requires.rows))
     (table_refused (λ (new : Vec (Rc StoredTable Global) Global). stored_in new.items) (command_name command) command stored c.in-Some.place.at s c.in-Err.fault
-    (at_lent _ (command_name command) stored c.in-Some.place.at s c.table_named.ensures c.in-Some.ensures) c.in-Err.ensures)
+    (at_lent _ (command_name command) stored c.in-Some.place.at s c.command_name.ensures c.in-Some.ensures) c.in-Err.ensures)

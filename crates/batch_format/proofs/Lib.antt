@@ -1,0 +1,3 @@
+pub mod ReaderLaws
+pub mod BatchLaws
+pub mod Fitting

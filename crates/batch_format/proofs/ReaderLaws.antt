@@ -1,0 +1,223 @@
+-- Laws of readers: what one reads is spelled so and fits, and what fits and is spelled is read.
+use Rattle.std.proofs.Common.{◌≡◌, ℕ, zero, suc, ◌≤◌, Bool, true, false, ◌&&◌, eqb, leb, ltb, List, [], ◌∷◌, ◌++◌, length, take, drop, Option, Some, None, Result, Ok, Err, refl, sym, ap, subst, ◌∙◌, append_assoc, arith, inl, inr}
+use Rattle.std.specs.List.{AllByRecursion, flat_map}
+use Rattle.std.specs.Result.{result_ok}
+use Rattle.std.proofs.lemmas.Bool.{eqb-true, ltb-false, le-ltb, leb-true, le-leb}
+use Rattle.std.proofs.lemmas.List.{take_at, drop_at, take-append-drop, length-append, length-take}
+use Rattle.vo_spec.specs.declared.values.Kind.{Kind}
+use Rattle.vo_spec.specs.declared.values.Kind.TheVariants as kind
+use Rattle.vo_spec.specs.declared.values.Value.{Value}
+use Rattle.vo_spec.specs.declared.tables.Column.{Column}
+use Rattle.vo_spec.specs.Bytes.{IsBytes, short_string}
+use Rattle.vo_spec.specs.Names.{is_name, FitsName}
+use Rattle.vo_spec.specs.Values.{type_byte, value_bytes, FitsValue}
+use Rattle.vo_spec.specs.Batches.{counted, column_bytes, FitCounted, FitsColumn, most_columns}
+use Rattle.row_bytes.specs.declared.fault.FormFault.{FormFault}
+use Rattle.row_bytes.specs.Reading.{byte_at, bytes_at, value_at}
+use Rattle.row_bytes.specs.Fields.{◌>>=◌, where_true, short_string_at, name_at, kind_of_byte, kind_at, column_at, count_at, times}
+use Rattle.row_bytes.proofs.Readers.{IsBytes-rest, IsBytes-drop, IsBytes-after, chosen}
+use Rattle.row_bytes.proofs.ValueLaws.{value_spells, value_read}
+use Rattle.batch_format.specs.BatchReading.{Reader, any_value_at}
+
+-- what was in front, and what is behind it
+pub record Took (bytes text rest : List ℕ) : Type 0 where
+  pub parts : bytes ≡ text ++ rest
+  pub behind : IsBytes rest
+
+pub record IsReader {A : Type 0} (read : Reader A) (spelling : A → List ℕ) (Fits : A → Type 0) : Type 0 where
+  pub found : (bytes : List ℕ) (x : A) (rest : List ℕ) → IsBytes bytes → read bytes ≡ Some (x, rest) → Took bytes (spelling x) rest × Fits x
+  pub again : (x : A) (rest : List ℕ) → Fits x → read (spelling x ++ rest) ≡ Some (x, rest)
+
+-- Steps.
+
+pub some_is : {A : Type 0} (x y : A) → Some x ≡ Some y → x ≡ y
+some_is x y e = cc
+
+pub bound : {A B : Type 0} (o : Option A) (next : A → Option B) (y : B) → (o >>= next) ≡ Some y → (x : A) × (o ≡ Some x) × (next x ≡ Some y)
+bound None next y e = absurd cc
+bound (Some x) next y e = (x, refl, e)
+
+pub tested : {A : Type 0} (b : Bool) (x y : A) → where_true b x ≡ Some y → (b ≡ true) × (x ≡ y)
+tested true x y e = (refl, cc)
+tested false x y e = absurd cc
+
+pub took_then : (a x b y c : List ℕ) → Took a x b → Took b y c → Took a (x ++ y) c
+took_then a x b y c p q = record { parts = p.parts ∙ ap (λ (t : List ℕ). x ++ t) q.parts ∙ sym (append_assoc x y c); behind = q.behind }
+
+pub all_true : (a b : Bool) → (a && b) ≡ true → (a ≡ true) × (b ≡ true)
+all_true true b e = (refl, e)
+all_true false b e = absurd cc
+
+pub no_some : {A : Type 0} (x : A) → None ≡ Some x → ⊥
+no_some x e = cc
+
+-- Names.
+
+short_found : (bytes text rest : List ℕ) → IsBytes bytes → short_string_at bytes ≡ Some (text, rest) → Took bytes (short_string text) rest
+unfolding short_string_at byte_at bytes_at
+short_found [] text rest fits e = absurd cc
+short_found (count ∷ bytes) text rest fits e =
+    elim (chosen (ltb (length bytes) count) None (Some (take count bytes, drop count bytes)) (Some (text, rest)) e) [
+      | inl a ↦ absurd (no_some (text, rest) a.1)
+      | inr a ↦
+          let long : count ≤ length bytes = ltb-false _ _ a.0 in
+          let len : length (take count bytes) ≡ count = omega (arith, length-take count bytes) in
+          let is : (take count bytes, drop count bytes) ≡ (text, rest) = some_is (take count bytes, drop count bytes) (text, rest) a.1 in
+          subst (λ (p : List ℕ × List ℕ). Took (count ∷ bytes) (short_string p.0) p.1) is
+          (record {
+            parts = ap (λ (t : List ℕ). count ∷ t) (sym (take-append-drop count bytes)) ∙ ap (λ (n : ℕ). n ∷ take count bytes ++ drop count bytes) (sym len);
+            behind = IsBytes-drop count bytes (IsBytes-rest count bytes fits);
+          })
+    ]
+
+short_again : (text rest : List ℕ) → short_string_at (short_string text ++ rest) ≡ Some (text, rest)
+unfolding short_string_at byte_at bytes_at
+short_again text rest =
+    let long : ltb (length (text ++ rest)) (length text) ≡ false = le-ltb _ _ (omega (arith, length-append text rest)) in
+    rw (long, take_at text rest (length text) refl, drop_at text rest (length text) refl) refl
+
+name_found : (bytes name rest : List ℕ) → IsBytes bytes → name_at bytes ≡ Some (name, rest) → Took bytes (short_string name) rest × FitsName name
+unfolding name_at
+name_found bytes name rest fits e =
+    let b = bound (short_string_at bytes) (λ name. where_true (is_name name.0) name) (name, rest) e in
+    let t = tested (is_name b.0.0) b.0 (name, rest) b.2 in
+    subst (λ (p : List ℕ × List ℕ). Took bytes (short_string p.0) p.1 × FitsName p.0) t.1 (short_found bytes b.0.0 b.0.1 fits b.1, t.0)
+
+name_again : (name rest : List ℕ) → FitsName name → name_at (short_string name ++ rest) ≡ Some (name, rest)
+unfolding name_at
+name_again name rest fits = rw (short_again name rest, fits) refl
+
+pub names_read : IsReader name_at short_string FitsName
+names_read = record { found = name_found; again = name_again }
+
+-- Kinds and columns.
+
+kind_spelled : (byte : ℕ) (k : Kind) → kind_of_byte byte ≡ Some k → byte ≡ type_byte k
+kind_spelled byte k e =
+    elim (chosen (eqb byte 1) (Some kind.Int) _ (Some k) e) [
+      | inl a ↦ eqb-true byte 1 a.0 ∙ ap type_byte (some_is kind.Int k a.1)
+      | inr a ↦ elim (chosen (eqb byte 2) (Some kind.Text) _ (Some k) a.1) [
+        | inl b ↦ eqb-true byte 2 b.0 ∙ ap type_byte (some_is kind.Text k b.1)
+        | inr b ↦ elim (chosen (eqb byte 3) (Some kind.Bool) None (Some k) b.1) [
+          | inl c ↦ eqb-true byte 3 c.0 ∙ ap type_byte (some_is kind.Bool k c.1)
+          | inr c ↦ absurd (no_some k c.1)
+        ]
+      ]
+    ]
+
+kind_read : (k : Kind) → kind_of_byte (type_byte k) ≡ Some k
+kind_read kind.Int = refl
+kind_read kind.Text = refl
+kind_read kind.Bool = refl
+
+kind_found : (bytes : List ℕ) (k : Kind) (rest : List ℕ) → IsBytes bytes → kind_at bytes ≡ Some (k, rest) → Took bytes (type_byte k ∷ []) rest
+unfolding kind_at byte_at
+kind_found [] k rest fits e = absurd cc
+kind_found (byte ∷ bytes) k rest fits e =
+    let b = bound (kind_of_byte byte) (λ k. Some (k, bytes)) (k, rest) e in
+    let is : (b.0, bytes) ≡ (k, rest) = some_is (b.0, bytes) (k, rest) b.2 in
+    subst (λ (p : Kind × List ℕ). Took (byte ∷ bytes) (type_byte p.0 ∷ []) p.1) is
+    (record { parts = ap (λ (n : ℕ). n ∷ bytes) (kind_spelled byte b.0 b.1); behind = IsBytes-rest byte bytes fits })
+
+kind_again : (k : Kind) (rest : List ℕ) → kind_at (type_byte k ∷ [] ++ rest) ≡ Some (k, rest)
+unfolding kind_at byte_at
+kind_again k rest = rw (kind_read k) refl
+
+column_found : (bytes : List ℕ) (c : Column) (rest : List ℕ) → IsBytes bytes → column_at bytes ≡ Some (c, rest) → Took bytes (column_bytes c) rest × FitsColumn c
+unfolding column_at
+column_found bytes c rest fits e =
+    let a = bound (name_at bytes) (λ name. kind_at name.1 >>= λ k. Some (record { name = name.0; kind = k.0 }, k.1)) (c, rest) e in
+    let b = bound (kind_at a.0.1) (λ k. Some (record { name = a.0.0; kind = k.0 }, k.1)) (c, rest) a.2 in
+    let n = name_found bytes a.0.0 a.0.1 fits a.1 in
+    let k = kind_found a.0.1 b.0.0 b.0.1 n.0.behind b.1 in
+    let made : Column × List ℕ = (record { name = a.0.0; kind = b.0.0 }, b.0.1) in
+    subst (λ (p : Column × List ℕ). Took bytes (column_bytes p.0) p.1 × FitsColumn p.0) (some_is made (c, rest) b.2)
+    (took_then bytes (short_string a.0.0) a.0.1 (type_byte b.0.0 ∷ []) b.0.1 n.0 k, n.1)
+
+column_again : (c : Column) (rest : List ℕ) → FitsColumn c → column_at (column_bytes c ++ rest) ≡ Some (c, rest)
+unfolding column_at
+column_again c rest fits =
+    ap column_at (append_assoc (short_string c.name) (type_byte c.kind ∷ []) rest)
+    ∙ rw (name_again c.name (type_byte c.kind ∷ [] ++ rest) fits, kind_again c.kind rest) refl
+
+pub columns_are_read : IsReader column_at column_bytes FitsColumn
+columns_are_read = record { found = column_found; again = column_again }
+
+-- Values.
+
+result_some : (r : Result (Value × List ℕ) FormFault) (x : Value × List ℕ) → result_ok r ≡ Some x → r ≡ Ok x
+result_some (Ok y) x e = cc
+result_some (Err fault) x e = absurd cc
+
+any_value_found : (bytes : List ℕ) (v : Value) (rest : List ℕ) → IsBytes bytes → any_value_at bytes ≡ Some (v, rest) → Took bytes (value_bytes v) rest × FitsValue v
+unfolding any_value_at
+any_value_found bytes v rest fits e =
+    let s = value_spells bytes v rest fits (result_some (value_at bytes) (v, rest) e) in
+    (record { parts = s.parts; behind = IsBytes-after (value_bytes v) rest bytes s.parts fits }, s.fits)
+
+any_value_again : (v : Value) (rest : List ℕ) → FitsValue v → any_value_at (value_bytes v ++ rest) ≡ Some (v, rest)
+unfolding any_value_at
+any_value_again v rest fits = rw (value_read v rest fits) refl
+
+pub values_read : IsReader any_value_at value_bytes FitsValue
+values_read = record { found = any_value_found; again = any_value_again }
+
+-- So many in a row.
+
+module _ {A : Type 0} (read : Reader A) (spelling : A → List ℕ) (Fits : A → Type 0) (law : IsReader read spelling Fits) where
+  pub times_found : (count : ℕ) (bytes : List ℕ) (xs : List A) (rest : List ℕ) → IsBytes bytes → times read count bytes ≡ Some (xs, rest)
+      → Took bytes (flat_map spelling xs) rest × (length xs ≡ count) × AllByRecursion Fits xs
+  times_found zero bytes xs rest fits e =
+      subst (λ (p : List A × List ℕ). Took bytes (flat_map spelling p.0) p.1 × (length p.0 ≡ 0) × AllByRecursion Fits p.0) (some_is ([], bytes) (xs, rest) e)
+      (record { parts = refl; behind = fits }, refl, tt)
+  times_found (suc count) bytes xs rest fits e =
+      let a = bound (read bytes) (λ first. times read count first.1 >>= λ others. Some (first.0 ∷ others.0, others.1)) (xs, rest) e in
+      let b = bound (times read count a.0.1) (λ others. Some (a.0.0 ∷ others.0, others.1)) (xs, rest) a.2 in
+      let first = law.found bytes a.0.0 a.0.1 fits a.1 in
+      let others = times_found count a.0.1 b.0.0 b.0.1 first.0.behind b.1 in
+      let made : List A × List ℕ = (a.0.0 ∷ b.0.0, b.0.1) in
+      subst (λ (p : List A × List ℕ). Took bytes (flat_map spelling p.0) p.1 × (length p.0 ≡ suc count) × AllByRecursion Fits p.0) (some_is made (xs, rest) b.2)
+      (took_then bytes (spelling a.0.0) a.0.1 (flat_map spelling b.0.0) b.0.1 first.0 others.0, ap suc others.1, (first.1, others.2))
+
+  pub times_again : (xs : List A) (rest : List ℕ) → AllByRecursion Fits xs → times read (length xs) (flat_map spelling xs ++ rest) ≡ Some (xs, rest)
+  times_again [] rest fits = refl
+  times_again (x ∷ xs) rest fits =
+      ap (times read (suc (length xs))) (append_assoc (spelling x) (flat_map spelling xs) rest)
+      ∙ rw (law.again x (flat_map spelling xs ++ rest) fits.0, times_again xs rest fits.1) refl
+
+  -- behind a byte that says how many
+  abbrev pub many_at : Reader (List A)
+  many_at bytes = count_at bytes >>= λ count. times read count.0 count.1
+
+  many_found : (bytes : List ℕ) (xs : List A) (rest : List ℕ) → IsBytes bytes → many_at bytes ≡ Some (xs, rest) → Took bytes (counted spelling xs) rest × FitCounted Fits xs
+  unfolding count_at byte_at
+  many_found [] xs rest fits e = absurd cc
+  many_found (count ∷ bytes) xs rest fits e =
+      let a = bound (where_true (leb 1 count && leb count most_columns) (count, bytes)) (λ count. times read count.0 count.1) (xs, rest) e in
+      let t = tested (leb 1 count && leb count most_columns) (count, bytes) a.0 a.1 in
+      let both = all_true (leb 1 count) (leb count most_columns) t.0 in
+      let is : times read count bytes ≡ Some (xs, rest) = ap (λ (p : ℕ × List ℕ). times read p.0 p.1) t.1 ∙ a.2 in
+      let f = times_found count bytes xs rest (IsBytes-rest count bytes fits) is in
+      let low : 1 ≤ length xs = omega (arith, leb-true 1 count both.0, f.1) in
+      let high : length xs ≤ most_columns = omega (arith, leb-true count most_columns both.1, f.1) in
+      (record { parts = ap (λ (n : ℕ). n ∷ bytes) (sym f.1) ∙ ap (λ (t : List ℕ). length xs ∷ t) f.0.parts; behind = f.0.behind }, (low, high, f.2))
+
+  many_again : (xs : List A) (rest : List ℕ) → FitCounted Fits xs → many_at (counted spelling xs ++ rest) ≡ Some (xs, rest)
+  unfolding count_at byte_at
+  many_again xs rest fits = rw (le-leb 1 (length xs) fits.0, le-leb (length xs) most_columns fits.1, times_again xs rest fits.2) refl
+
+  pub many_read : IsReader many_at (counted spelling) (FitCounted Fits)
+  many_read = record { found = many_found; again = many_again }
+
+-- Things in turn.
+
+pub next_found : {A B : Type 0} {read : Reader A} {spelling : A → List ℕ} {Fits : A → Type 0} → IsReader read spelling Fits → (next : A → Reader B) (bytes : List ℕ) (y : B × List ℕ) → IsBytes bytes
+    → (read bytes >>= λ x. next x.0 x.1) ≡ Some y → (x : A) × (rest : List ℕ) × Took bytes (spelling x) rest × Fits x × (next x rest ≡ Some y)
+next_found {read = read} law next bytes y fits e =
+    let b = bound (read bytes) (λ x. next x.0 x.1) y e in
+    let f = law.found bytes b.0.0 b.0.1 fits b.1 in
+    (b.0.0, b.0.1, f.0, f.1, b.2)
+
+pub next_again : {A B : Type 0} {read : Reader A} {spelling : A → List ℕ} {Fits : A → Type 0} → IsReader read spelling Fits → (next : A → Reader B) (x : A) (rest : List ℕ) → Fits x
+    → (read (spelling x ++ rest) >>= λ x. next x.0 x.1) ≡ next x rest
+next_again law next x rest fits = rw (law.again x rest fits) refl

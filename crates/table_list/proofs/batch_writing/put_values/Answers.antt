@@ -1,6 +1,0 @@
-use Rattle.vo_spec.specs.Values.{FitsValue}
-use Rattle.table_list.proofs.Fitting.{item_fits}
-use Rattle.table_list.proofs.batch_writing.put_values.Goals as goal
-
-pub put_value-requires : goal.put_value-requires
-put_value-requires c = item_fits FitsValue c.args.values.now c.loop-value.value-index _ c.requires.2 c.loop-value-test.true c.value-item.is

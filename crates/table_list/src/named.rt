@@ -1,0 +1,42 @@
+//! Tables by their names.
+ghost use Rattle.std.specs.Prelude.{◌≡◌, option_map};
+ghost use Rattle.vo_spec.specs.Tables.{heading_of, table_named};
+ghost use Rattle.table_list.specs.Headings.{command_name, heading_seen};
+
+use crate::refusal::HeadingRef;
+use vo_spec::{Command, Table};
+
+/// The first table of this name.
+pub(crate) fn table_named<'t>(tables: &'t [Table], name: &[u8]) -> Option<&'t Table>
+    ensures { option_map (λ t. t.now) result ≡ table_named name.now tables.now }
+{
+    for table in tables {
+        if table.name.as_bytes() == name {
+            return Some(table);
+        }
+    }
+    None
+}
+
+pub(crate) fn heading_of(table: &Table) -> HeadingRef<'_>
+    ensures { heading_seen result ≡ heading_of table.now }
+{
+    HeadingRef {
+        name: table.name.as_bytes(),
+        schema: &table.schema,
+        count: table.rows.len() as u64,
+    }
+}
+
+/// The name of the table that the command names.
+pub fn command_name(command: &Command) -> &[u8]
+    ensures { result.now ≡ command_name command.now }
+{
+    match command {
+        Command::Create { name, .. } => name.as_bytes(),
+        Command::Drop { name } => name.as_bytes(),
+        Command::Insert { name, .. } => name.as_bytes(),
+        Command::Update { name, .. } => name.as_bytes(),
+        Command::Delete { name, .. } => name.as_bytes(),
+    }
+}
