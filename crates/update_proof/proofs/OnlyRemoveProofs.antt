@@ -96,7 +96,7 @@ module _ (key : List ℕ) where
   as_small_after p t z there = go (shrink row_family key p) (shrink row_family key t) refl refl (shrink_agrees row_family EntryPrunes same_key same_mark key p t z) there
     where
       go : (r s : Result RowTree UpdateFault) → shrink row_family key p ≡ r → shrink row_family key t ≡ s → Agrees (OpenPrunes row_family EntryPrunes) r s → lacks r ≡ false → becomes_small key p ≡ becomes_small key t
-      go (Ok x) (Ok y) e f a l = small_when key p x e ∙ as_underfull row_family EntryPrunes same_key x y a ∙ sym (small_when key t y f)
+      go (Ok x) (Ok y) e f a l = small_when key p x e ∙ as_underfull row_family EntryPrunes x y a ∙ sym (small_when key t y f)
       go (Ok x) (Err fault) e f a l = absurd a
       go (Err DuplicateKey) (Ok y) e f a l = absurd a
       go (Err DuplicateKey) (Err fault) e f a l = quiet_when key p DuplicateKey e ∙ sym (quiet_when key t fault f)
