@@ -7,14 +7,8 @@ ghost use Rattle.counted_trees.specs.Views.{counted_contents, entry_of, tree_of}
 
 use crate::entry::{Entry, NumberKey};
 use crate::subtree::{Node, Subtree};
-use btree::{Contents, NodeView, TreeNode, TryClone};
+use btree::{Contents, NodeView, TreeNode};
 use std::alloc::{AllocError, Global};
-
-impl TryClone for Subtree {
-    fn try_clone(&self, _alloc: Global) -> Result<Subtree, AllocError> {
-        self.share()
-    }
-}
 
 impl TreeNode for Subtree {
     type Tree = Node;

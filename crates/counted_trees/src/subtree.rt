@@ -5,6 +5,7 @@ ghost use Rattle.btree.specs.Shapes.{IsShaped};
 ghost use Rattle.counted_trees.specs.Views.{tree_of};
 
 use crate::entry::{Entry, NumberKey};
+use btree::TryClone;
 use std::alloc::{AllocError, Global};
 use std::marker::Model;
 use std::rc::Rc;
@@ -77,11 +78,10 @@ impl Subtree {
     {
         self.node.as_ref()
     }
+}
 
-    /// The same subtree once more.
-    pub fn share(&self) -> Result<Subtree, AllocError>
-        ensures { IfOk result (λ same. same ≡ self.now) }
-    {
+impl TryClone for Subtree {
+    fn try_clone(&self, _alloc: Global) -> Result<Subtree, AllocError> {
         Ok(Subtree {
             count: self.count,
             node: self.node.clone()?,
