@@ -52,8 +52,8 @@ module _ (ss : List Side) (q : Query) where
   late_same None left rest met = refl
   late_same (Some c) left rest met =
       let lefts : all_hold (place_value (left ∷ rest)) (conjuncts_where true (bound_condition ss c)) ≡ true =
-          left_same ss (place_value (left ∷ rest)) c
-          ∙ same_left ss (ref_value ss (left ∷ rest)) (ref_value ss (left ∷ [])) c (left_alone left rest (condition_refs c)) ∙ met in
+      left_same ss (place_value (left ∷ rest)) c
+      ∙ same_left ss (ref_value ss (left ∷ rest)) (ref_value ss (left ∷ [])) c (left_alone left rest (condition_refs c)) ∙ met in
       ap (λ b. b && all_hold (place_value (left ∷ rest)) (conjuncts_where false (bound_condition ss c))) (sym lefts)
       ∙ conjuncts_hold (place_value (left ∷ rest)) (bound_condition ss c) ∙ truth_same ss (place_value (left ∷ rest)) c
 
@@ -120,6 +120,6 @@ module _ (ss : List Side) (q : Query) where
       ap (λ ls. plan_rows p ls (λ left. lines_at tables ss 1)) (same_filter (meets_left p) (meets_by_names ss q) (meets_same ss q) (lines_at tables ss 0))
       ∙ rows_kept (lines_at tables ss 0) (λ left. lines_at tables ss 1) (λ left. lines_at tables ss 1) (λ left. refl)
       ∙ flat_map_kept (answers_of ss q q.join (λ left. lines_at tables ss 1)) (meets_by_names ss q) (lines_at tables ss 0)
-          (each_from (λ x. meets_by_names ss q x ≡ false → answers_of ss q q.join (λ left. lines_at tables ss 1) x ≡ []) (lines_at tables ss 0)
-          (λ x i e. failing_gives_none ss q x e q.join (λ left. lines_at tables ss 1)))
+      (each_from (λ x. meets_by_names ss q x ≡ false → answers_of ss q q.join (λ left. lines_at tables ss 1) x ≡ []) (lines_at tables ss 0)
+      (λ x i e. failing_gives_none ss q x e q.join (λ left. lines_at tables ss 1)))
       ∙ sym (answer_rows_are ss q (lines_at tables ss 0) (λ left. lines_at tables ss 1))

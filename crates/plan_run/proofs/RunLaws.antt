@@ -88,7 +88,7 @@ module _ (p : QueryPlan) (ts : List RowTree) (tree : RowTree) (tree_is : tree �
     pub run_done : (r : Result Ran ScanFault) (shown : Shown) → Shows (Ok shown) p lefts (right_tree p.query.sides ts) → RanOf r p shown → Runs r p ts
     run_done (Ok ran) shown s h = (
       or_from (is_unseen (tree_at ts 0) p.left_need) (list_any (is_unseen (right_tree p.query.sides ts)) (needs_of p (lefts_seen p (tree_at ts 0)))) left_seen
-      (ap (λ ls. list_any (is_unseen (right_tree p.query.sides ts)) (needs_of p ls)) (sym lefts_are) ∙ s.0),
+          (ap (λ ls. list_any (is_unseen (right_tree p.query.sides ts)) (needs_of p ls)) (sym lefts_are) ∙ s.0),
       h.0 ∙ s.1 ∙ ap (λ ls. plan_rows p ls (rights_seen p (right_tree p.query.sides ts))) lefts_are,
       h.1 ∙ ap (grouped p.query.sides p.left_need) (s.2 ∙ ap (needs_of p) lefts_are),
     )

@@ -35,11 +35,7 @@ fn show_seen(
 
 /// The rows that the trees show for the plan, and what it needs of each tree. Trees are those of the tables
 /// that its query uses, the left one first.
-pub fn run_plan(
-    alloc: Global,
-    plan: &Plan<'_>,
-    trees: &[PartTree<'_>],
-) -> Result<Ran, ScanFault>
+pub fn run_plan(alloc: Global, plan: &Plan<'_>, trees: &[PartTree<'_>]) -> Result<Ran, ScanFault>
     requires { length trees.now ≡ length (tables_used (sides_seen plan.now.query.now.sides)) }
     ensures { Runs result (plan_seen plan.now) (map part_of trees.now) }
 {

@@ -34,11 +34,7 @@ fn rows_alone(
     Ok(rows)
 }
 
-fn show_alone(
-    alloc: Global,
-    plan: &Plan<'_>,
-    lefts: &[SeenLine<'_>],
-) -> Result<Shown, ScanFault>
+fn show_alone(alloc: Global, plan: &Plan<'_>, lefts: &[SeenLine<'_>]) -> Result<Shown, ScanFault>
     requires { plan.now.query.now.join ≡ None }
     ensures { (tree : RowTree) → Shows result (plan_seen plan.now) (map line_seen lefts.now) tree }
 {

@@ -131,9 +131,9 @@ module _ (q : Query) (r : Reply) where
       → Gives result (proof_fault q r) (seen_outcome q r.catalog r.trees)
   bound_same e result given =
       let parts : proof_fault q r ≡ bound_fault (bound_query ss q) r =
-          bound_parts e ∙ ap (λ (ns : List (List Need)). first_some (trees_fault (tables_used ss) r ∷ needs_fault (zip ns r.trees) ∷ [])) (sym (needs_same ss q r.trees)) in
+      bound_parts e ∙ ap (λ (ns : List (List Need)). first_some (trees_fault (tables_used ss) r ∷ needs_fault (zip ns r.trees) ∷ [])) (sym (needs_same ss q r.trees)) in
       let shown : seen_outcome q r.catalog r.trees ≡ shown_for (plan_of (bound_query ss q)) r =
-          bound_outcome e ∙ ap (λ (rows : List (List Value)). Rows (header ss q.items) rows) (sym (rows_same ss q r.trees)) in
+      bound_outcome e ∙ ap (λ (rows : List (List Value)). Rows (header ss q.items) rows) (sym (rows_same ss q r.trees)) in
       rw (parts, shown) given
 
   pub wrong_refused : (f : QueryFault) → faults ≡ Some f → (fault : CheckFault) → Passes (Err fault) (trees_fault [] r) → Passes (Err fault) (proof_fault q r)
