@@ -1,12 +1,12 @@
 //! Queries bound to the tables of a catalog.
 ghost use Rattle.std.specs.Prelude.{◌≡◌, None, map, option_map, IfOk};
-ghost use Rattle.vo_spec.specs.Conditions.{condition_of, query_of};
+ghost use Rattle.vo_spec.specs.Conditions.{conditions, condition_of, query_of};
 ghost use Rattle.vo_spec.specs.Records.{headings};
 ghost use Rattle.vo_spec.specs.Results.{sides as sides_of, side_of, missing_table, binding_fault};
 ghost use Rattle.table_list.specs.Sided.{side_seen, sides_seen};
 ghost use Rattle.table_list.specs.Binding.{Passes};
-ghost use Rattle.query_plan.specs.BoundQueries.{bound_term, bound_condition, bound_join, bound_query};
-ghost use Rattle.query_plan.specs.BoundViews.{term_seen, condition_seen, join_seen, query_seen};
+ghost use Rattle.query_plan.specs.BoundQueries.{bound_term, bound_condition, bound_conditions, bound_join, bound_query};
+ghost use Rattle.query_plan.specs.BoundViews.{term_seen, parts_seen, condition_seen, join_seen, query_seen};
 
 use crate::bound_cond::{BoundCond, BoundOperand};
 use crate::bound_query::{BoundJoin, Query};
@@ -25,7 +25,6 @@ fn bind_operand<'q>(sides: &Sides<'_>, operand: &'q Operand) -> BoundOperand<'q>
 }
 
 #[cycle(bind_condition)]
-#[tactic(auto, using(crate::proofs::BoundLaws::bound_parts))]
 fn bind_condition<'q>(
     alloc: Global,
     sides: &Sides<'_>,
@@ -60,7 +59,7 @@ fn bind_parts<'q>(
     sides: &Sides<'_>,
     parts: &'q [Cond],
 ) -> Result<List<BoundCond<'q>>, AllocError>
-    ensures { IfOk result (λ bound. map condition_seen bound ≡ map (λ c. bound_condition (sides_seen sides.now) (condition_of c)) parts.now) }
+    ensures { IfOk result (λ bound. parts_seen (map condition_seen bound) ≡ bound_conditions (sides_seen sides.now) (conditions (map condition_of parts.now))) }
 {
     let mut bound = Vec::with_capacity(alloc, parts.len())?;
     for part in parts {
