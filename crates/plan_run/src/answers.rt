@@ -9,9 +9,9 @@ ghost use Rattle.plan_run.specs.Lines.{line_seen};
 ghost use Rattle.plan_run.specs.Answers.{are_joined, answer_at, pair_answers};
 
 use crate::lines::SeenLine;
-use query_plan::{BoundJoin, Place, PlaceValues, Plan, all_hold};
+use query_plan::{BoundJoin, LeftRow, Place, PlaceValues, Plan, RowPair, all_hold};
 use std::alloc::{AllocError, Global};
-use table_list::{Joined, compare_values};
+use table_list::compare_values;
 use vo_spec::{List, Schema, SeenRow, Value};
 
 fn are_joined<V: PlaceValues>(rows: &V, join: &Option<BoundJoin>) -> bool
@@ -55,48 +55,37 @@ fn push_answer<V: PlaceValues>(
 }
 
 /// Puts what the plan shows of a left row alone at the end of the answer.
-pub fn push_alone<'r>(
+pub fn push_alone(
     alloc: Global,
-    plan: &'r Plan<'r>,
-    left: &'r SeenLine<'r>,
+    plan: &Plan<'_>,
+    left: &SeenLine<'_>,
     out: &mut Vec<List<Value>>,
 ) -> Result<(), AllocError>
     ensures { OnOk result (out.new.items ≡ out.old.items ++ answer_at (plan_seen plan.now) (place_value (line_seen left.now ∷ []))) }
 {
-    let right: Option<&'r SeenLine<'r>> = None;
-    let rows = Joined {
-        sides: &plan.query.sides,
-        left,
-        right,
-    };
-    push_answer(alloc, plan, &rows, out)
+    push_answer(alloc, plan, &LeftRow { left }, out)
 }
 
 fn push_pair<'r>(
     alloc: Global,
-    plan: &'r Plan<'r>,
-    left: &'r SeenLine<'r>,
-    right: &'r SeenLine<'r>,
+    plan: &Plan<'_>,
+    left: &'r SeenLine<'_>,
+    right: &'r SeenLine<'_>,
     out: &mut Vec<List<Value>>,
 ) -> Result<(), AllocError>
     ensures { OnOk result (out.new.items ≡ out.old.items ++ answer_at (plan_seen plan.now) (place_value (line_seen left.now ∷ line_seen right.now ∷ []))) }
 {
-    let rows = Joined {
-        sides: &plan.query.sides,
-        left,
-        right: Some(right),
-    };
-    push_answer(alloc, plan, &rows, out)
+    push_answer(alloc, plan, &RowPair { left, right }, out)
 }
 
 /// Puts what the plan shows of a left row beside each of the right rows that were seen for it at the end of
 /// the answer.
-pub fn push_pairs<'r>(
+pub fn push_pairs(
     alloc: Global,
-    plan: &'r Plan<'r>,
-    left: &'r SeenLine<'r>,
-    schema: &'r Schema,
-    seen: &'r [SeenRow],
+    plan: &Plan<'_>,
+    left: &SeenLine<'_>,
+    schema: &Schema,
+    seen: &[SeenRow],
     out: &mut Vec<List<Value>>,
 ) -> Result<(), AllocError>
     ensures { OnOk result (out.new.items ≡ out.old.items ++ pair_answers (plan_seen plan.now) (map (seen_line schema.now plan.now.right_cells) seen.now) (line_seen left.now)) }
@@ -104,7 +93,7 @@ pub fn push_pairs<'r>(
     let cells = plan.right_cells.as_slice();
     for row in seen {
         let right = SeenLine { schema, cells, row };
-        push_pair(alloc, plan, left, &right, out)?;
+        push_pair(alloc, plan, &*left, &right, out)?;
     }
     Ok(())
 }

@@ -13,12 +13,13 @@ use vo_spec::SeenRow;
 /// Of the rows that were seen for the left need, as lines, those that meet the left condition.
 pub fn lefts_of<'r>(
     alloc: Global,
-    plan: &'r Plan<'r>,
+    plan: &'r Plan<'_>,
     seen: &'r [SeenRow],
 ) -> Result<Vec<SeenLine<'r>>, AllocError>
     ensures { IfOk result (λ lefts. map line_seen lefts.items ≡ filter (meets_left (plan_seen plan.now)) (map (seen_line plan.now.query.now.sides.left.schema.now plan.now.left_need.columns) seen.now)) }
 {
-    let schema = plan.query.sides.left.schema;
+    let query = plan.query;
+    let schema = query.sides.left.schema;
     let cells = plan.left_need.columns.as_slice();
     let mut lefts = Vec::new(alloc);
     for row in seen {

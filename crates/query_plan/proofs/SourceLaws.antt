@@ -42,7 +42,7 @@ left_there hs q e = (first_none (missing_table hs q.left) _ (tables_there hs q e
 pub right_there : (hs : List Heading) (q : Query) (j : Join) → q.join ≡ Some j → binding_fault hs q ≡ None → missing_table hs j.right ≡ None
 right_there hs q j is e =
     let both : first_some (missing_table hs q.left ∷ missing_table hs j.right ∷ []) ≡ None =
-        subst (λ (o : Option Join). first_some (map (missing_table hs) (q.left ∷ option_to_list (option_map (λ (k : Join). k.right) o))) ≡ None) is (tables_there hs q e) in
+    subst (λ (o : Option Join). first_some (map (missing_table hs) (q.left ∷ option_to_list (option_map (λ (k : Join). k.right) o))) ≡ None) is (tables_there hs q e) in
     (first_none (missing_table hs j.right) [] (first_none (missing_table hs q.left) (missing_table hs j.right ∷ []) both).1).0
 
 -- there is a right source where there is a join

@@ -13,6 +13,7 @@ mod named;
 mod needs;
 mod planning;
 mod plans;
+mod rows;
 mod truths;
 mod used;
 
@@ -23,7 +24,8 @@ pub use copies::copy_need;
 pub use needs::{is_narrow, meets_left, right_need};
 pub use planning::plan;
 pub use plans::Plan;
+pub use rows::{LeftRow, PlaceValues, RowPair};
 pub use table_list::{BindFault, Line, Place, Side, Sides, header};
-pub use truths::{PlaceValues, all_hold};
+pub use truths::all_hold;
 pub use used::{has_one_tree, same_table, tables_used};
 pub use vo_spec::{Catalog, Interval, Need, QueryText};

@@ -1,5 +1,5 @@
 //! What a left row needs of the right tree, and whether it needs anything.
-ghost use Rattle.std.specs.Prelude.{◌≡◌, ◌≤◌, ◌↔◌, [], ◌∷◌, None, length, IfOk, IsTrue};
+ghost use Rattle.std.specs.Prelude.{◌≡◌, ◌≤◌, ◌↔◌, [], ◌∷◌, length, IfOk, IsTrue};
 ghost use Rattle.vo_spec.specs.Batches.{most_columns};
 ghost use Rattle.vo_spec.specs.Results.{schema_at, place_value};
 ghost use Rattle.table_list.specs.Sided.{sides_seen, place_seen};
@@ -12,10 +12,11 @@ use crate::bound_query::BoundJoin;
 use crate::copies::copy_cells;
 use crate::intervals::keys_that;
 use crate::plans::Plan;
+use crate::rows::{LeftRow, PlaceValues};
 use crate::truths::all_hold;
 use row_bytes::own_value;
 use std::alloc::{AllocError, Global};
-use table_list::{Joined, Line, Place, Sides};
+use table_list::{Line, Place, Sides};
 use vo_spec::{Cmp, Need, Value};
 
 /// Whether the source of this number has no more columns than a table may have.
@@ -28,23 +29,11 @@ pub fn is_narrow(sides: &Sides<'_>, side: usize) -> bool
     }
 }
 
-/// The left row without a right one.
-fn alone<'r, L: Line>(sides: &'r Sides<'r>, left: &'r L) -> Joined<'r, L, L>
-    ensures left { result.left.now ≡ left.now }
-    ensures right { result.right ≡ None }
-{
-    Joined {
-        sides,
-        left,
-        right: None,
-    }
-}
-
 /// Whether the left row meets the left condition. Other rows need no right row.
-pub fn meets_left<'r, L: Line>(plan: &'r Plan<'r>, left: &'r L) -> bool
+pub fn meets_left<L: Line>(plan: &Plan<'_>, left: &L) -> bool
     ensures { result ≡ meets_left (plan_seen plan.now) (L.line left.now) }
 {
-    all_hold(&plan.left, &alone(&plan.query.sides, left))
+    all_hold(&plan.left, &LeftRow { left })
 }
 
 /// ON's column of the left source.
@@ -59,28 +48,23 @@ fn left_column(join: BoundJoin) -> Place
 }
 
 /// The value by which a left row finds its right row.
-fn join_value<'r, L: Line>(
-    alloc: Global,
-    plan: &'r Plan<'r>,
-    join: BoundJoin,
-    left: &'r L,
-) -> Result<Value, AllocError>
+fn join_value<L: Line>(alloc: Global, join: BoundJoin, left: &L) -> Result<Value, AllocError>
     ensures { IfOk result (λ value. value ≡ place_value (L.line left.now ∷ []) (left_column (join_seen join))) }
 {
-    let rows = alone(&plan.query.sides, left);
-    own_value(alloc, rows.at(left_column(join)))
+    let rows = LeftRow { left };
+    own_value(alloc, rows.value(left_column(join)))
 }
 
 /// What the query needs of the right tree for this left row: the row whose key is ON's value.
-pub fn right_need<'r, L: Line>(
+pub fn right_need<L: Line>(
     alloc: Global,
-    plan: &'r Plan<'r>,
+    plan: &Plan<'_>,
     join: BoundJoin,
-    left: &'r L,
+    left: &L,
 ) -> Result<Need, AllocError>
     ensures { IfOk result (λ need. need ≡ right_need_of (plan_seen plan.now) (join_seen join) (L.line left.now)) }
 {
-    let value = join_value(alloc, plan, join, left)?;
+    let value = join_value(alloc, join, left)?;
     let interval = keys_that(alloc, Cmp::Eq, &value)?;
     let columns = copy_cells(alloc, plan.right_cells.as_slice())?;
     Ok(Need { interval, columns })

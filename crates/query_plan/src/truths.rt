@@ -1,34 +1,16 @@
 //! When rows of a query's sources meet a bound condition.
-ghost use Rattle.std.specs.Prelude.{◌≡◌, ◌∷◌, map, drop, option_map, option_to_list};
-ghost use Rattle.vo_spec.specs.declared.values.Value.{Value as Plain};
+ghost use Rattle.std.specs.Prelude.{◌≡◌, map, drop};
 ghost use Rattle.vo_spec.specs.Lent.{value_of};
 ghost use Rattle.vo_spec.specs.Conditions.{compares};
-ghost use Rattle.vo_spec.specs.Results.{Place as PlainPlace, place_value};
 ghost use Rattle.table_list.specs.Sided.{place_seen};
 ghost use Rattle.query_plan.specs.BoundConditions.{term_value, bound_truth, every_true, some_true, all_hold};
 ghost use Rattle.query_plan.specs.BoundViews.{term_seen, parts_seen, condition_seen, conjunct_seen};
 
 use crate::bound_cond::{BoundCond, BoundOperand, Conjunct};
+use crate::rows::PlaceValues;
 use std::cmp::Ordering;
-use table_list::{Joined, Line, Place, compare_values};
+use table_list::compare_values;
 use vo_spec::{Cmp, ValueRef};
-
-/// Rows, one of each source, as what they have at each column's place.
-pub trait PlaceValues {
-    ghost values: { Self → PlainPlace → Plain };
-
-    /// The value of the column at the place.
-    fn value(&self, place: Place) -> ValueRef<'_>
-        ensures { value_of result ≡ values self.now (place_seen place) };
-}
-
-impl<L: Line, R: Line> PlaceValues for Joined<'_, L, R> {
-    ghost values = { λ rows. place_value (L.line rows.left.now ∷ option_to_list (option_map (λ r. R.line r.now) rows.right)) };
-
-    fn value(&self, place: Place) -> ValueRef<'_> {
-        self.at(place)
-    }
-}
 
 fn compares(op: Cmp, ordering: Ordering) -> bool
     ensures { result ≡ compares op ordering }
