@@ -43,9 +43,9 @@ module _ (test : Line → Bool) (lines : List SeenLine) (i : ℕ) (s : SeenLine)
 
   pub any_step : (all : Bool) → i < length lines → s ≡ get_or lines i s → test (line_seen s) ≡ false → list_any test (map line_seen (drop i lines)) ≡ all
       → list_any test (map line_seen (drop (i + 1) lines)) ≡ all
-  any_step all lt is no e =
+  any_step all lt is passed e =
       let first : drop i lines ≡ s ∷ drop (i + 1) lines = drop_more lines i s lt ∙ ap (λ l. l ∷ drop (i + 1) lines) (sym is) in
-      ap (λ b. b || list_any test (map line_seen (drop (i + 1) lines))) (sym no) ∙ ap (λ ls. list_any test (map line_seen ls)) (sym first) ∙ e
+      ap (λ b. b || list_any test (map line_seen (drop (i + 1) lines))) (sym passed) ∙ ap (λ ls. list_any test (map line_seen ls)) (sym first) ∙ e
 
 -- rows that are kept as lines, where these meet a test
 module _ {A : Type 0} (test : Line → Bool) (g : A → Line) (xs : List A) (i : ℕ) (x : A) where

@@ -28,11 +28,12 @@ use Rattle.plan_run.proofs.RunLaws.{flat_same}
 kept_same : {B : Type 0} (test : Line → Bool) (f g : Line → List B) → ((x : Line) → test x ≡ true → f x ≡ g x) → (xs : List Line)
     → flat_map f (filter test xs) ≡ flat_map g (filter test xs)
 kept_same test f g e [] = refl
-kept_same {B} test f g e (x ∷ xs) = step (test x) refl
+kept_same {B} test f g e (x ∷ xs) = step (test x) refl (kept_same test f g e xs)
   where
-    step : (b : Bool) → test x ≡ b → flat_map f (cond b (x ∷ filter test xs) (filter test xs)) ≡ flat_map g (cond b (x ∷ filter test xs) (filter test xs))
-    step true is = ap (λ (ys : List B). ys ++ flat_map f (filter test xs)) (e x is) ∙ ap (λ (ys : List B). g x ++ ys) (kept_same test f g e xs)
-    step false is = kept_same test f g e xs
+    step : (b : Bool) → test x ≡ b → flat_map f (filter test xs) ≡ flat_map g (filter test xs)
+        → flat_map f (cond b (x ∷ filter test xs) (filter test xs)) ≡ flat_map g (cond b (x ∷ filter test xs) (filter test xs))
+    step true is rest = ap (λ (ys : List B). ys ++ flat_map f (filter test xs)) (e x is) ∙ ap (λ (ys : List B). g x ++ ys) rest
+    step false is rest = rest
 
 module _ (ss : List Side) (q : Query) where
   abbrev p : QueryPlan

@@ -52,9 +52,9 @@ module _ (p : QueryPlan) (lefts : List Line) (tree : RowTree) where
     pairs_shown (Err Missing) h = unseen_are ∙ h
     pairs_shown (Err Memory) h = tt
 
-  pub alone_shown : p.query.join ≡ None → (shown : Shown) → shown.rows.items ≡ flat_map (λ left. answer_at p (place_value (left ∷ []))) lefts → shown.needs.items ≡ []
-      → Shows (Ok shown) p lefts tree
-  alone_shown is shown rows needs = (ap (λ o. list_any (is_unseen tree) (needs_by o)) is, rows ∙ ap rows_by (sym is), needs ∙ ap needs_by (sym is))
+  pub alone_shown : p.query.join ≡ None → (rows : List (List Value)) → rows ≡ flat_map (λ left. answer_at p (place_value (left ∷ []))) lefts
+      → (list_any (is_unseen tree) (needs_of p lefts) ≡ false) × (rows ≡ plan_rows p lefts (rights_seen p tree)) × ([] ≡ needs_of p lefts)
+  alone_shown is rows are = (ap (λ o. list_any (is_unseen tree) (needs_by o)) is, are ∙ ap rows_by (sym is), ap needs_by (sym is))
 
 -- a query uses a table
 pub used_some : (ss : List Side) → 0 < length (tables_used ss)

@@ -33,7 +33,7 @@ use Rattle.query_plan.specs.BoundQueries.{bound_query}
 use Rattle.query_plan.specs.Plans.{QueryPlan, plan_of}
 use Rattle.query_plan.proofs.MeaningLaws.{left_need_same}
 use Rattle.plan_run.proofs.ByNames.{right_needs_same}
-use Rattle.vo_store.specs.Proving.{HasTable, HasTables, proofs_of, left_proof, rights_by_proof, plan_proofs}
+use Rattle.vo_store.specs.Proving.{HasTable, HasTables, proofs_of, tree_by, left_proof, rights_by_proof, plan_proofs}
 
 -- Tables of a catalog are those of the trees.
 
@@ -202,3 +202,21 @@ module _ (stored : List Stored) (standing : IsStanding stored) (q : Query) where
   -- the left proof shows all that is needed of it
   pub plan_shown : seen plan.left_need (left_proof plan stored) ≡ None → ⊥
   plan_shown u = first_shown (sym (ap (seen need) same_proof) ∙ ap (λ (n : Need). seen n (left_proof plan stored)) (sym same_need) ∙ u)
+
+-- The proofs of a plan, by whether there is one source, and whether the tables are one.
+module _ (p : QueryPlan) (stored : List Stored) where
+  abbrev made : Bool → Bool → List RowTree
+  made one same =
+      cond one (left_proof p stored ∷ []) (cond same (pruned (p.left_need ∷ rights_by_proof p stored) (tree_by p stored 0) ∷ []) (left_proof p stored ∷ pruned (rights_by_proof p stored) (tree_by p stored 1) ∷ []))
+
+  pub made_alone : (length p.query.sides == 1) ≡ true → left_proof p stored ∷ [] ≡ plan_proofs p stored
+  made_alone one = ap (λ b. made b (same_table p.query.sides)) (sym one)
+
+  module _ (two : (length p.query.sides == 1) ≡ false) (rights : List Need) (are : rights ≡ rights_by_proof p stored) where
+    pub made_of_both : same_table p.query.sides ≡ true → pruned (p.left_need ∷ rights) (tree_by p stored 0) ∷ [] ≡ plan_proofs p stored
+    made_of_both same =
+        ap (λ (ns : List Need). pruned (p.left_need ∷ ns) (tree_by p stored 0) ∷ []) are ∙ ap (made false) (sym same) ∙ ap (λ b. made b (same_table p.query.sides)) (sym two)
+
+    pub made_of_each : same_table p.query.sides ≡ false → left_proof p stored ∷ pruned rights (tree_by p stored 1) ∷ [] ≡ plan_proofs p stored
+    made_of_each other =
+        ap (λ (ns : List Need). left_proof p stored ∷ pruned ns (tree_by p stored 1) ∷ []) are ∙ ap (made false) (sym other) ∙ ap (λ b. made b (same_table p.query.sides)) (sym two)

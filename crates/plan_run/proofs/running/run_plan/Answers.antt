@@ -22,8 +22,8 @@ returns-in-Ok-show_seen c =
     run_done (plan_seen c.args.plan.now) (map part_of trees) (part_of c.index-trees-0.result) (first_tree trees _ lt c.index-trees-0.is)
     c.as_slice.result.now found c.ran_of.result c.in-Ok-show_seen.shown c.in-Ok-show_seen.ensures c.ran_of.ensures
 
-pub returns-in-Err-show_seen : goal.returns-in-Err-show_seen
-returns-in-Err-show_seen c =
+pub returns : goal.returns
+returns c =
     let trees = c.args.trees.now in
     let some = used_some (sides_seen c.args.plan.now.query.now.sides) in
     let lt : 0 < length c.args.trees.now = omega (arith, some, c.requires) in
