@@ -204,8 +204,9 @@ def catalog_rows():
     yield "catalog", b"\0\x41" + b"".join(tables)
     # as many columns as there can be and the longest name, and one more of each
     for columns, length in (32, 63), (33, 63), (32, 64):
-        shape = bytes([columns]) + b"".join(b"\3c%02d\1" % place for place in range(columns)) + b"\0"
-        yield "catalog", b"\0\1" + bytes([length]) + b"t" * length + shape + bytes(40)
+        named = b"".join(b"\3c%02d\1" % place for place in range(columns))
+        front = bytes([length]) + b"t" * length + bytes([columns]) + named
+        yield "catalog", b"\0\1" + front + b"\0" + bytes(40)
     # the wrong order, and one table twice
     yield "catalog", b"\0\2" + REVOKED + PRICES
     yield "catalog", b"\0\2" + PRICES + PRICES
@@ -332,16 +333,18 @@ def counted(data):
 def lone_slot(batch=b"\0\0", signature=b""):
     """The slot of an entry 0, and no gate behind it."""
     record = b"VREC" + ID + bytes(8) + b"\xaa" * 32
-    return b"\1" + counted(b"VOE1" + counted(batch) + counted(b"VOU1\0\0") + record + counted(signature))
+    front = b"VOE1" + counted(batch) + counted(b"VOU1\0\0")
+    return b"\1" + counted(front + record + counted(signature))
 
 
 def insert(texts):
     """The bytes of an INSERT of texts of these lengths."""
-    return b"\3\1t" + bytes([len(texts)]) + b"".join(b"\2" + length.to_bytes(2, "big") + b"x" * length for length in texts)
+    values = (b"\2" + length.to_bytes(2, "big") + b"x" * length for length in texts)
+    return b"\3\1t" + bytes([len(texts)]) + b"".join(values)
 
 
 def limit_rows():
-    """Parts of an entry as long as they can be, and longer: the damage is behind an entry that can be read."""
+    """Parts of an entry as long as they can be, and longer: damage behind an entry that can be read."""
     for length in 65_536, 65_537:
         yield "entries", lone_slot(signature=bytes(length))
     for commands in 1_000, 1_001:

@@ -16,10 +16,11 @@ STUB = Stub(b"g" * 32)
 
 def rows():
     """All rows, those of each kind of case behind one another."""
-    for cases in (whole_trees, longest_keys, part_trees, bytes_of_trees, bytes_of_no_trees, commands, refused_commands,
-                  refused_batches, command_proofs, changes, runs, three_levels, runs_on_parts, changes_beside_a_stub,
-                  odd_leaves, odd_inner_nodes, moves, proofs, growing_proofs, judged_parts, judged_proofs,
-                  needs_of_a_leaf, needs_of_the_empty_tree, needs_of_two_leaves, agreeing_rows, agreeing_trees):
+    for cases in (whole_trees, longest_keys, part_trees, bytes_of_trees, bytes_of_no_trees,
+                  commands, refused_commands, refused_batches, command_proofs, changes, runs,
+                  three_levels, runs_on_parts, changes_beside_a_stub, odd_leaves, odd_inner_nodes,
+                  moves, proofs, growing_proofs, judged_parts, judged_proofs, needs_of_a_leaf,
+                  needs_of_the_empty_tree, needs_of_two_leaves, agreeing_rows, agreeing_trees):
         yield from cases()
 
 
@@ -106,8 +107,9 @@ def whole_trees():
 def longest_keys():
     # 17 keys of 255 letters, one of which is the separator of two leaves
     tables, keys = Twin(), ("k" * 254 + letter for letter in "abcdefghijklmnopq")
+    put_each = (f"INSERT INTO t VALUES ('{key}')" for key in keys)
     yield tables.clear()
-    yield tables.apply(sql("CREATE TABLE t (id TEXT, PRIMARY KEY (id))", *(f"INSERT INTO t VALUES ('{key}')" for key in keys)))
+    yield tables.apply(sql("CREATE TABLE t (id TEXT, PRIMARY KEY (id))", *put_each))
     yield root(tables.tree)
 
 
@@ -141,12 +143,13 @@ def hidden_leaf():
 def bytes_of_trees():
     for part in (EMPTY, STUB, shown(1, 3), hidden_leaf(), Inner([b"g"], [STUB, hidden_leaf()])):
         yield read(part)
-    # the most entries, children, levels, bytes of a key and of a separator, cells and bytes of a text
+    # the most entries, children, levels, bytes of a key, of a separator and of a text, and cells
     yield read(closed(*range(16)))
     yield read(inner(range(15), [EMPTY] * 16))
     yield from (read(nested(levels)) for levels in (2, 10, 11))
     yield from (read(Leaf([Entry(b"k" * 255, ())])), read(Inner([b"k" * 255], [EMPTY, EMPTY])))
-    yield from (read(Leaf([Entry(b"k", cells)])) for cells in ((bool_value(True),) * 31, (text_value("x" * 1024),)))
+    for cells in (bool_value(True),) * 31, (text_value("x" * 1024),):
+        yield read(Leaf([Entry(b"k", cells)]))
 
 
 def bytes_of_no_trees():

@@ -7,7 +7,7 @@ use Rattle.vo_spec.specs.Fits.{most_in_node}
 use Rattle.vo_spec.specs.Inserts.{half, result_map, Grown, one, two, first_key, take_parts, drop_parts}
 use Rattle.vo_spec.specs.Removes.{joined_parts, with_left, with_right}
 use Rattle.btree.specs.Nodes.{Kid, listed}
-use Rattle.btree.specs.Placing.{merged, divided, CanDivide, evened}
+use Rattle.btree.specs.Placing.{merged, divided, CanDivide, redivided}
 use Rattle.btree.specs.Shapes.{size_of, IsLinked, IsWithin, IsShaped}
 
 -- Lists of entries, separators and children.
@@ -82,7 +82,7 @@ module _ {E M : Type 0} (family : Family E M) where
       let after : drop n (ls ++ s ∷ rs) ≡ s ∷ rs = drop_at ls (s ∷ rs) n (sym same) in
       rw (← same, before, between, after, take_within n ps qs within, drop_within n ps qs within) refl
 
-  pub with_left_joined : (t : Part E M) (s : List ℕ) (u : Part E M) → IsLinked 2 t → with_left family t s u ≡ result_map (evened family (size_of t) (size_of t - 1)) (merged t s u)
+  pub with_left_joined : (t : Part E M) (s : List ℕ) (u : Part E M) → IsLinked 2 t → with_left family t s u ≡ result_map (redivided family (size_of t) (size_of t - 1)) (merged t s u)
   with_left_joined (stub d) s u linked = refl
   with_left_joined (leaf ls) s (stub d) linked = refl
   with_left_joined (leaf ls) s (leaf rs) linked = ap Ok (step (nat_lt half (length ls)) refl)
@@ -123,7 +123,7 @@ module _ {E M : Type 0} (family : Family E M) where
       let right : drop_parts n (joined_parts ps qs) ≡ drop_parts 1 qs = ap (λ i. drop_parts i (joined_parts ps qs)) is ∙ drop_beyond 1 ps qs in
       rw (before, at, after, left, right) refl
 
-  pub with_right_joined : (t : Part E M) (s : List ℕ) (u : Part E M) → IsLinked 1 t → with_right family t s u ≡ result_map (evened family (size_of u) (size_of t + 1)) (merged t s u)
+  pub with_right_joined : (t : Part E M) (s : List ℕ) (u : Part E M) → IsLinked 1 t → with_right family t s u ≡ result_map (redivided family (size_of u) (size_of t + 1)) (merged t s u)
   with_right_joined (stub d) s u linked = refl
   with_right_joined (leaf ls) s (stub d) linked = refl
   with_right_joined (leaf ls) s (leaf rs) linked = ap Ok (leaves_right (nat_lt half (length rs)) ls rs)
@@ -193,22 +193,22 @@ module _ {E M : Type 0} (family : Family E M) where
   linked_less (leaf es) l = tt
   linked_less (inner ss ps) l = let least : 2 ≤ count ps = l.0 in (omega arith, l.1)
 
-  pub left_evened : (t : Part E M) (s : List ℕ) (u v : Part E M) (n at : ℕ) (g : Grown E M) → IsLinked 2 t → merged t s u ≡ Ok v → n ≡ size_of t → at ≡ size_of t - 1
-      → evened family n at v ≡ g → with_left family t s u ≡ Ok g
-  left_evened t s u v n at g linked is_merged is_n is_at is =
+  pub left_redivided : (t : Part E M) (s : List ℕ) (u v : Part E M) (n at : ℕ) (g : Grown E M) → IsLinked 2 t → merged t s u ≡ Ok v → n ≡ size_of t → at ≡ size_of t - 1
+      → redivided family n at v ≡ g → with_left family t s u ≡ Ok g
+  left_redivided t s u v n at g linked is_merged is_n is_at is =
       with_left_joined t s u linked
-      ∙ ap (result_map (evened family (size_of t) (size_of t - 1))) is_merged
-      ∙ ap (λ m. Ok (evened family m (size_of t - 1) v)) (sym is_n)
-      ∙ ap (λ m. Ok (evened family n m v)) (sym is_at)
+      ∙ ap (result_map (redivided family (size_of t) (size_of t - 1))) is_merged
+      ∙ ap (λ m. Ok (redivided family m (size_of t - 1) v)) (sym is_n)
+      ∙ ap (λ m. Ok (redivided family n m v)) (sym is_at)
       ∙ ap Ok is
 
-  pub right_evened : (t : Part E M) (s : List ℕ) (u v : Part E M) (n at : ℕ) (g : Grown E M) → IsLinked 1 t → merged t s u ≡ Ok v → n ≡ size_of u → at ≡ size_of t + 1
-      → evened family n at v ≡ g → with_right family t s u ≡ Ok g
-  right_evened t s u v n at g linked is_merged is_n is_at is =
+  pub right_redivided : (t : Part E M) (s : List ℕ) (u v : Part E M) (n at : ℕ) (g : Grown E M) → IsLinked 1 t → merged t s u ≡ Ok v → n ≡ size_of u → at ≡ size_of t + 1
+      → redivided family n at v ≡ g → with_right family t s u ≡ Ok g
+  right_redivided t s u v n at g linked is_merged is_n is_at is =
       with_right_joined t s u linked
-      ∙ ap (result_map (evened family (size_of u) (size_of t + 1))) is_merged
-      ∙ ap (λ m. Ok (evened family m (size_of t + 1) v)) (sym is_n)
-      ∙ ap (λ m. Ok (evened family n m v)) (sym is_at)
+      ∙ ap (result_map (redivided family (size_of u) (size_of t + 1))) is_merged
+      ∙ ap (λ m. Ok (redivided family m (size_of t + 1) v)) (sym is_n)
+      ∙ ap (λ m. Ok (redivided family n m v)) (sym is_at)
       ∙ ap Ok is
 
   pub merged_listed : (ks js : List (Kid E M)) → joined_parts (listed ks) (listed js) ≡ listed (ks ++ js)

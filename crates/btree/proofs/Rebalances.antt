@@ -13,7 +13,7 @@ use Rattle.vo_spec.specs.Removes.{is_small, with_left, with_right, settled_root}
 use Rattle.btree.specs.declared.node.Contents.{Contents}
 use Rattle.btree.specs.declared.node.Contents.TheVariants.{Leaf, Inner}
 use Rattle.btree.specs.Nodes.{Kid, listed, made, contents_of}
-use Rattle.btree.specs.Placing.{merged, opened, evened, spliced, borrowed, settled, node_of}
+use Rattle.btree.specs.Placing.{merged, opened, redivided, spliced, borrowed, rebalanced, node_of}
 use Rattle.btree.specs.Shapes.{size_of, IsLinked, IsWithin}
 use Rattle.btree.proofs.Merges.{merged_listed, with_left_joined, with_right_joined}
 use Rattle.btree.proofs.Splits.{placed}
@@ -86,10 +86,10 @@ module _ {E M : Type 0} (family : Family E M) where
   right_closed t s (inner ss ps) fault h = absurd (cc)
 
   pub left_apart : (t : Part E M) (s : List ℕ) (u : Part E M) (fault : UpdateFault) → IsLinked 2 t → merged t s u ≡ Err fault → with_left family t s u ≡ Err fault
-  left_apart t s u fault linked h = with_left_joined family t s u linked ∙ ap (result_map (evened family (size_of t) (size_of t - 1))) h
+  left_apart t s u fault linked h = with_left_joined family t s u linked ∙ ap (result_map (redivided family (size_of t) (size_of t - 1))) h
 
   pub right_apart : (t : Part E M) (s : List ℕ) (u : Part E M) (fault : UpdateFault) → IsLinked 1 t → merged t s u ≡ Err fault → with_right family t s u ≡ Err fault
-  right_apart t s u fault linked h = with_right_joined family t s u linked ∙ ap (result_map (evened family (size_of u) (size_of t + 1))) h
+  right_apart t s u fault linked h = with_right_joined family t s u linked ∙ ap (result_map (redivided family (size_of u) (size_of t + 1))) h
 
   -- A child that isn't underfull.
 
@@ -98,11 +98,8 @@ module _ {E M : Type 0} (family : Family E M) where
   enough (leaf es) many = let h : 8 ≤ length es = many in grind (arith, nat_tests)
   enough (inner ss ps) many = let h : 8 ≤ count ps = many in grind (arith, nat_tests)
 
-  pub settled_enough : (i : ℕ) (ss : List (List ℕ)) (ks : List (Kid E M)) (t : Part E M) → 8 ≤ size_of t → settled family i ss ks t ≡ Ok (spliced family i i ss ks (one t))
-  settled_enough i ss ks t many = ap (λ b. cond b (borrowed family i ss ks t) (Ok (spliced family i i ss ks (one t)))) (enough t many)
-
-  pub settled_few : (i : ℕ) (ss : List (List ℕ)) (ks : List (Kid E M)) (t : Part E M) → is_small t ≡ true → settled family i ss ks t ≡ borrowed family i ss ks t
-  settled_few i ss ks t small = ap (λ b. cond b (borrowed family i ss ks t) (Ok (spliced family i i ss ks (one t)))) small
+  pub rebalanced_enough : (i : ℕ) (ss : List (List ℕ)) (ks : List (Kid E M)) (t : Part E M) → 8 ≤ size_of t → rebalanced family i ss ks t ≡ Ok (spliced family i i ss ks (one t))
+  rebalanced_enough i ss ks t many = ap (λ b. cond b (borrowed family i ss ks t) (Ok (spliced family i i ss ks (one t)))) (enough t many)
 
   -- The node in which it has come.
 

@@ -1,13 +1,13 @@
 -- How many entries or children remain in the nodes on the path of a removal.
-use Rattle.std.proofs.Common.{◌≡◌, ℕ, zero, suc, ◌+◌, ◌-◌, ◌<◌, ◌≤◌, Bool, true, false, cond, not, ◌||◌, nat_lt, bytes_eq, List, [], ◌∷◌, length, map, drop, get_or, slice_get, Option, Some, None, Result, Ok, Err, refl, sym, ap, ◌∙◌, subst, arith}
+use Rattle.std.proofs.Common.{◌≡◌, ℕ, suc, ◌+◌, ◌-◌, ◌<◌, ◌≤◌, Bool, true, false, cond, not, ◌||◌, nat_lt, bytes_eq, List, [], ◌∷◌, length, map, drop, get_or, slice_get, Option, Some, None, Result, Ok, Err, refl, sym, ap, ◌∙◌, subst, arith}
 use Rattle.std.proofs.lemmas.List.{length-map}
 use Rattle.std.specs.List.{list_any, position_or_len}
 use Rattle.vo_spec.specs.declared.trees.UpdateFault.{UpdateFault}
 use Rattle.vo_spec.specs.declared.trees.UpdateFault.TheVariants.{NoRow, Missing}
 use Rattle.vo_spec.specs.Firsts.{and_then}
 use Rattle.vo_spec.specs.Values.{key_lt}
-use Rattle.vo_spec.specs.Parts.{Part, Parts, stub, leaf, inner, none, more, Family, count}
-use Rattle.vo_spec.specs.Inserts.{half, result_map, has_key, Grown, one, two, Children, after_child, put_grown}
+use Rattle.vo_spec.specs.Parts.{Part, Parts, stub, leaf, inner, more, Family, count}
+use Rattle.vo_spec.specs.Inserts.{half, result_map, has_key, one, two, Children, after_child, put_grown}
 use Rattle.vo_spec.specs.Removes.{is_small, without_entry, with_left, with_right, settle_first, settle_next, shrink, shrink_in, shrink_after}
 use Rattle.btree.specs.Nodes.{Kid, listed}
 use Rattle.btree.specs.Placing.{node_of}
@@ -140,9 +140,9 @@ module _ {E M : Type 0} (family : Family E M) where
   merged_right ss ps (inner ls us) s (inner rs qs) n h = ap (λ m. Ok m) (merge_step (nat_lt half (count qs)) ss ps _ _ _ _ n h)
 
   -- a first child that may have become underfull
-  first_settles : (ss : List (List ℕ)) (ks : List (Kid E M)) (c q : Part E M) → IsAlike c q
+  first_rebalances : (ss : List (List ℕ)) (ks : List (Kid E M)) (c q : Part E M) → IsAlike c q
       → counted (settle_first family ss (listed ks) q) ≡ count_remaining 0 (c ∷ trees_of ks) c (size_of q)
-  first_settles ss [] c q alike = step (nat_lt (size_of q) half)
+  first_rebalances ss [] c q alike = step (nat_lt (size_of q) half)
     where
       only : Result ℕ UpdateFault
       only = Ok 1
@@ -150,7 +150,7 @@ module _ {E M : Type 0} (family : Family E M) where
       step : (b : Bool) → only ≡ cond b only only
       step true = refl
       step false = refl
-  first_settles ss (k ∷ ks) c q alike = step (is_small q) (nat_lt (size_of q) half) alike.small
+  first_rebalances ss (k ∷ ks) c q alike = step (is_small q) (nat_lt (size_of q) half) alike.small
     where
       all : suc (suc (length (trees_of ks))) ≡ count (listed ks) + 2
       all =
@@ -167,9 +167,9 @@ module _ {E M : Type 0} (family : Family E M) where
       step false true e = absurd (cc)
 
   -- a later one, with the child before it
-  next_settles : (m : M) (left : Part E M) (ss : List (List ℕ)) (k : Kid E M) (ks : List (Kid E M)) (c q : Part E M) → IsAlike c q
+  next_rebalances : (m : M) (left : Part E M) (ss : List (List ℕ)) (k : Kid E M) (ks : List (Kid E M)) (c q : Part E M) → IsAlike c q
       → counted (settle_next family m left ss (listed ks) q) ≡ count_remaining 1 (left ∷ trees_of (k ∷ ks)) c (size_of q)
-  next_settles m left ss k ks c q alike = step (is_small q) (nat_lt (size_of q) half) alike.small
+  next_rebalances m left ss k ks c q alike = step (is_small q) (nat_lt (size_of q) half) alike.small
     where
       all : suc (suc (length (trees_of ks))) ≡ count (listed ks) + 2
       all =
@@ -215,7 +215,7 @@ module _ {E M : Type 0} (family : Family E M) where
     after_true : (m : M) (left : Part E M) (ss : List (List ℕ)) (k : Kid E M) (ks : List (Kid E M)) (c : Kid E M) → c ≡ k
         → counted (and_then (settle_next family m left ss (listed ks)) (shrink family key k.1)) ≡ and_then (count_remaining 1 (left ∷ trees_of (k ∷ ks)) c.1) (remaining_by family key c.1)
     after_true m left ss k ks c is =
-        then_counts (settle_next family m left ss (listed ks)) (count_remaining 1 (left ∷ trees_of (k ∷ ks)) k.1) (shrink family key k.1) (λ q h. next_settles m left ss k ks k.1 q (shrunk_alike key k.1 q h))
+        then_counts (settle_next family m left ss (listed ks)) (count_remaining 1 (left ∷ trees_of (k ∷ ks)) k.1) (shrink family key k.1) (λ q h. next_rebalances m left ss k ks k.1 q (shrunk_alike key k.1 q h))
         ∙ ap (λ (u : Kid E M). and_then (count_remaining 1 (left ∷ trees_of (k ∷ ks)) u.1) (remaining_by family key u.1)) (sym is)
 
     after_step : (b : Bool) (i j : ℕ) (m : M) (left : Part E M) (ss : List (List ℕ)) (k : Kid E M) (ks : List (Kid E M)) (c : Kid E M) → j ≡ suc i → cond (not b) j 0 < suc (length ks)
@@ -242,7 +242,7 @@ module _ {E M : Type 0} (family : Family E M) where
     first_true : (ss : List (List ℕ)) (k : Kid E M) (ks : List (Kid E M)) (c : Kid E M) → c ≡ k
         → counted (and_then (settle_first family ss (listed ks)) (shrink family key k.1)) ≡ and_then (count_remaining 0 (trees_of (k ∷ ks)) c.1) (remaining_by family key c.1)
     first_true ss k ks c is =
-        then_counts (settle_first family ss (listed ks)) (count_remaining 0 (trees_of (k ∷ ks)) k.1) (shrink family key k.1) (λ q h. first_settles ss ks k.1 q (shrunk_alike key k.1 q h))
+        then_counts (settle_first family ss (listed ks)) (count_remaining 0 (trees_of (k ∷ ks)) k.1) (shrink family key k.1) (λ q h. first_rebalances ss ks k.1 q (shrunk_alike key k.1 q h))
         ∙ ap (λ (u : Kid E M). and_then (count_remaining 0 (trees_of (k ∷ ks)) u.1) (remaining_by family key u.1)) (sym is)
 
     first_step : (b : Bool) (i j : ℕ) (ss : List (List ℕ)) (k : Kid E M) (ks : List (Kid E M)) (c : Kid E M) → j ≡ suc i → cond (not b) j 0 < suc (length ks)

@@ -169,23 +169,23 @@ module _ {E M : Type 0} (family : Family E M) (EntryPrunes : E → E → Type 0)
           → Prunes p q → ChildrenPrune c d → ChildrenPrune (after_child m p ss c) (after_child n q ss d)
       after_prunes m n p q ss c d same prunes h = (ap (λ l. take 1 ss ++ l) h.0, (same, prunes, h.1))
 
-      first_settles : (ss : List (List ℕ)) (ps qs : Parts E M) (p t : Part E M) → Each ps qs
+      first_rebalances : (ss : List (List ℕ)) (ps qs : Parts E M) (p t : Part E M) → Each ps qs
           → OpenPrunes p t
           → Agrees ChildrenPrune (settle_first family ss ps p) (settle_first family ss qs t)
-      first_settles ss none none p t y z = put_grown_prunes family EntryPrunes same_mark ss none none tt (one p) (one t) z
-      first_settles ss none (more m q qs) p t y z = absurd y
-      first_settles ss (more m q qs) none p t y z = absurd y
-      first_settles ss (more m q qs) (more n r rs) p t y z =
+      first_rebalances ss none none p t y z = put_grown_prunes family EntryPrunes same_mark ss none none tt (one p) (one t) z
+      first_rebalances ss none (more m q qs) p t y z = absurd y
+      first_rebalances ss (more m q qs) none p t y z = absurd y
+      first_rebalances ss (more m q qs) (more n r rs) p t y z =
           subst (λ b. Agrees ChildrenPrune (settle_first family ss (more m q qs) p) (cond b (result_map (put_grown family (drop 1 ss) rs) (with_right family t (get_or ss 0 []) r)) (Ok (put_grown family ss (more n r rs) (one t)))))
           (as_underfull p t z)
           (agrees_cond ChildrenPrune (is_small p) _ _ _ _
           (agrees_map GrownPrunes ChildrenPrune (put_grown family (drop 1 ss) qs) (put_grown family (drop 1 ss) rs) _ _ (put_grown_prunes family EntryPrunes same_mark (drop 1 ss) qs rs y.2) (right_agrees (get_or ss 0 []) p t q r z y.1))
           (put_grown_prunes family EntryPrunes same_mark ss (more m q qs) (more n r rs) y (one p) (one t) z))
 
-      next_settles : (m n : M) (l k : Part E M) (ss : List (List ℕ)) (ps qs : Parts E M) (p t : Part E M)
+      next_rebalances : (m n : M) (l k : Part E M) (ss : List (List ℕ)) (ps qs : Parts E M) (p t : Part E M)
           → m ≡ n → Prunes l k → Each ps qs → OpenPrunes p t
           → Agrees ChildrenPrune (settle_next family m l ss ps p) (settle_next family n k ss qs t)
-      next_settles m n l k ss ps qs p t same x y z =
+      next_rebalances m n l k ss ps qs p t same x y z =
           subst (λ b. Agrees ChildrenPrune (settle_next family m l ss ps p) (cond b (result_map (put_grown family (drop 1 ss) qs) (with_left family k (get_or ss 0 []) t)) (Ok (after_child n k ss (put_grown family (drop 1 ss) qs (one t))))))
           (as_underfull p t z)
           (agrees_cond ChildrenPrune (is_small p) _ _ _ _
@@ -225,7 +225,7 @@ module _ {E M : Type 0} (family : Family E M) (EntryPrunes : E → E → Type 0)
           in_agrees ss (more m p ps) none z = absurd z
           in_agrees ss (more m p ps) (more n q qs) z =
               agrees_cond ChildrenPrune (goes_here key (slice_get ss 0)) _ _ _ _
-              (agrees_then OpenPrunes ChildrenPrune (settle_first family ss ps) (settle_first family ss qs) _ _ (λ u v h. first_settles ss ps qs u v z.2 h) (shrink_agrees p q z.1))
+              (agrees_then OpenPrunes ChildrenPrune (settle_first family ss ps) (settle_first family ss qs) _ _ (λ u v h. first_rebalances ss ps qs u v z.2 h) (shrink_agrees p q z.1))
               (after_agrees m n p q ss ps qs z.0 z.1 z.2)
 
           after_agrees : (m n : M) (l k : Part E M) (ss : List (List ℕ)) (ps qs : Parts E M) → m ≡ n
@@ -236,7 +236,7 @@ module _ {E M : Type 0} (family : Family E M) (EntryPrunes : E → E → Type 0)
           after_agrees m n l k ss (more j p ps) none same y z = absurd z
           after_agrees m n l k ss (more j p ps) (more i q qs) same y z =
               agrees_cond ChildrenPrune (goes_here key (slice_get ss 1)) _ _ _ _
-              (agrees_then OpenPrunes ChildrenPrune (settle_next family m l ss ps) (settle_next family n k ss qs) _ _ (λ u v h. next_settles m n l k ss ps qs u v same y z.2 h) (shrink_agrees p q z.1))
+              (agrees_then OpenPrunes ChildrenPrune (settle_next family m l ss ps) (settle_next family n k ss qs) _ _ (λ u v h. next_rebalances m n l k ss ps qs u v same y z.2 h) (shrink_agrees p q z.1))
               (agrees_map ChildrenPrune ChildrenPrune (after_child m l ss) (after_child n k ss) _ _ (λ c d h. after_prunes m n l k ss c d same y h) (after_agrees j i p q (drop 1 ss) ps qs z.0 z.1 z.2))
 
         pub removed_agrees : (p t : Part E M) → Prunes p t

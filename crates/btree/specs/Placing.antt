@@ -33,8 +33,8 @@ module _ {E M : Type 0} (family : Family E M) where
   split (inner ss ps) = split_inner family (record { separators = ss; parts = ps })
 
   -- two that were merged stay one, but where the sibling has more than it needs
-  abbrev pub evened : ℕ → ℕ → Part E M → Grown E M
-  evened sibling i t = if nat_lt half sibling then divided i t else one t
+  abbrev pub redivided : ℕ → ℕ → Part E M → Grown E M
+  redivided sibling i t = if nat_lt half sibling then divided i t else one t
 
   -- an underfull node in the place of the child of this number, and its sibling
   abbrev pub borrowed : ℕ → List (List ℕ) → List (Kid E M) → Part E M → Result (Children E M) UpdateFault
@@ -42,8 +42,8 @@ module _ {E M : Type 0} (family : Family E M) where
   borrowed (suc i) ss ks t = result_map (spliced i (i + 1) ss ks) (with_left family (slice_index_or ks i (made family t)).1 (slice_index_or ss i []) t)
 
   -- a node that may be underfull in the place of the child of this number
-  abbrev pub settled : ℕ → List (List ℕ) → List (Kid E M) → Part E M → Result (Children E M) UpdateFault
-  settled i ss ks t = if is_small t then borrowed i ss ks t else Ok (spliced i i ss ks (one t))
+  abbrev pub rebalanced : ℕ → List (List ℕ) → List (Kid E M) → Part E M → Result (Children E M) UpdateFault
+  rebalanced i ss ks t = if is_small t then borrowed i ss ks t else Ok (spliced i i ss ks (one t))
 
 module _ {E M : Type 0} where
   -- a node that can be looked into

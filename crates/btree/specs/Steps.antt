@@ -2,7 +2,7 @@
 use Rattle.std.specs.Prelude.{ℕ, zero, suc, ◌-◌, Bool, false, nat_lt, if◌then◌else◌, List, length, Option, Some, None, slice_get, Result, Ok, Err}
 use Rattle.vo_spec.specs.declared.trees.UpdateFault.{UpdateFault}
 use Rattle.vo_spec.specs.declared.trees.UpdateFault.TheVariants.{Missing}
-use Rattle.vo_spec.specs.Parts.{Part, stub, leaf, inner, Family, count}
+use Rattle.vo_spec.specs.Parts.{Part, leaf, inner, Family, count}
 use Rattle.vo_spec.specs.Inserts.{half, result_map}
 use Rattle.vo_spec.specs.Removes.{shrink}
 use Rattle.btree.specs.Shapes.{size_of}

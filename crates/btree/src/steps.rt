@@ -23,6 +23,7 @@ pub struct Step {
 /// The step of a change that leaves no node underfull.
 pub fn search_step<K: Keyed>(separators: &[K], key: &[u8]) -> Step
     ensures child { result.child ≡ position_or_len (λ separator. is_less key.now (K.key separator)) separators.now }
+    ensures within { result.child ≤ length separators.now }
     ensures opens_sibling { result.opens_sibling ≡ false }
 {
     Step {
@@ -34,6 +35,7 @@ pub fn search_step<K: Keyed>(separators: &[K], key: &[u8]) -> Step
 /// The step of a removal.
 pub fn removal_step<N: TreeNode>(separators: &[N::Key], children: &[N], key: &[u8]) -> Step
     ensures child { result.child ≡ position_or_len (λ separator. is_less key.now (N.Key.key separator)) separators.now }
+    ensures within { result.child ≤ length separators.now }
     ensures opens_sibling { (child : N) → result.child < length children.now → child ≡ get_or children.now result.child child
         → result.opens_sibling ≡ opens_sibling_by N.family key.now (N.kid child).1 }
 {

@@ -1,18 +1,23 @@
 -- What prunes a tree and has nothing open is its digests.
 use Rattle.std.proofs.Common.{◌≡◌, ℕ, ◌+◌, Bool, true, false, ◌||◌, List, [], ◌∷◌, map, refl, ap}
-use Rattle.std.specs.List.{list_any}
+use Rattle.std.specs.List.{AllZip, list_any}
 use Rattle.vo_spec.specs.declared.cells.Cell.{Cell}
 use Rattle.vo_spec.specs.declared.cells.Cell.TheVariants.{Shown, Hidden}
 use Rattle.vo_spec.specs.declared.cells.RowPart.{RowPart}
 use Rattle.vo_spec.specs.declared.cells.RowPart.TheVariants.{Digest as Closed, Cells}
 use Rattle.vo_spec.specs.declared.cells.PartEntry.{PartEntry}
 use Rattle.vo_spec.specs.Cells.{CellsPrune, RowPrunes, EntryPrunes}
-use Rattle.vo_spec.specs.Parts.{stub, leaf, inner, none, more}
-use Rattle.vo_spec.specs.Trees.{RowTree, RowTrees, digest, Prunes}
+use Rattle.vo_spec.specs.Parts.{stub, leaf, inner, none, more, PrunesEach}
+use Rattle.vo_spec.specs.Trees.{RowTree, RowTrees, row_family, digest, Prunes}
 use Rattle.vo_spec.specs.Inserts.{stands_as_cells, closed_entry}
 use Rattle.vo_spec.specs.Removes.{hidden_cells, hidden_row, closed_parts}
 use Rattle.update_proof.specs.Closing.{is_open, any_open, shows_cells, is_shown, shows_any}
-use Rattle.mb_update.proofs.PrunedInserts.{Zip, Each}
+
+abbrev pub Zip : List PartEntry → List PartEntry → Type 0
+Zip = AllZip EntryPrunes
+
+abbrev pub Each : RowTrees → RowTrees → Type 0
+Each = PrunesEach row_family EntryPrunes
 
 pub record Neither (a b : Bool) : Type 0 where
   pub first : a ≡ false

@@ -4,9 +4,8 @@ use Rattle.vo_spec.specs.Parts.{stub, leaf, inner, none, more}
 use Rattle.vo_spec.specs.Trees.{RowTree, RowTrees, row_family, Prunes}
 use Rattle.vo_spec.specs.Pruned.{misses, misses_in, goes_beyond, goes_beyond_in, pruned_by, pruned_in}
 use Rattle.vo_spec.specs.Inserts.{walk_to, insert_misses, insert_goes_beyond, insert_proof}
-use Rattle.mb_update.proofs.PrunedInserts.{Each}
-use Rattle.update_proof.proofs.OpenPaths.{closed_off_path}
-use Rattle.update_proof.proofs.ClosedParts.{neither, entries_closed}
+use Rattle.update_proof.proofs.OpenedChildren.{closed_off_path}
+use Rattle.update_proof.proofs.ClosedParts.{Each, neither, entries_closed}
 
 module _ (key : List ℕ) where
   mutual

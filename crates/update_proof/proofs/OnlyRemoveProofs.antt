@@ -8,18 +8,27 @@ use Rattle.vo_spec.specs.Parts.{stub, leaf, inner, none, more}
 use Rattle.vo_spec.specs.Trees.{RowTree, RowTrees, digest, row_family, Prunes}
 use Rattle.vo_spec.specs.Inserts.{one, Children, result_map, goes_here, after_child, put_grown}
 use Rattle.vo_spec.specs.Removes.{is_small, with_left, with_right, settle_first, settle_next, shrink, shrink_in, shrink_after, closed_parts, becomes_small, look_at_if, neighbour_first, remove_proof, remove_proof_in, remove_proof_after}
-use Rattle.mb_update.specs.Agreeing.{Agrees}
+use Rattle.vo_spec.specs.Cells.{EntryPrunes}
+use Rattle.btree.specs.Agreeing.{Agrees}
+use Rattle.btree.specs.Placing.{node_of}
+use Rattle.btree.specs.Pruning.{OpenPrunes, KeepsKeys, KeepsMarks}
+use Rattle.btree.proofs.RemovePrunes.{as_underfull, shrink_agrees}
 use Rattle.update_proof.specs.Closing.{is_open, any_open}
 use Rattle.update_proof.specs.Proving.{lacks, remove_misses, neighbour_beyond, first_beyond, remove_goes_beyond, remove_beyond_in, remove_beyond_after}
-use Rattle.mb_update.specs.Placing.{node_of}
-use Rattle.mb_update.proofs.PrunedInserts.{Each}
-use Rattle.mb_update.proofs.PrunedRemovals.{ShrunkPrunes, as_small, shrink_agrees}
-use Rattle.update_proof.proofs.JudgedReplacements.{lacks_map}
-use Rattle.update_proof.proofs.JudgedRemovals.{small_when, quiet_when}
-use Rattle.update_proof.proofs.ClosedParts.{neither, entries_closed, part_closed, all_closed}
+use Rattle.update_proof.proofs.ReplacementPaths.{lacks_map}
+use Rattle.update_proof.proofs.ClosedParts.{Each, neither, entries_closed, part_closed, all_closed}
 
-abbrev Kids : Type 0
-Kids = Children PartEntry (Unit {0})
+same_key : KeepsKeys row_family EntryPrunes
+same_key e f z = z.key
+
+same_mark : KeepsMarks row_family EntryPrunes
+same_mark p t z = refl
+
+small_when : (key : List ℕ) (c q : RowTree) → shrink row_family key c ≡ Ok q → becomes_small key c ≡ is_small q
+small_when key c q h = rw h refl
+
+quiet_when : (key : List ℕ) (c : RowTree) (fault : UpdateFault) → shrink row_family key c ≡ Err fault → becomes_small key c ≡ false
+quiet_when key c fault h = rw h refl
 
 -- the first step isn't missing where both aren't
 first_there : {A B : Type 0} (f : A → Result B UpdateFault) (r : Result A UpdateFault) → lacks (and_then f r) ≡ false → lacks r ≡ false
@@ -84,10 +93,10 @@ neighbour_is true (inner ss ps) (inner ts qs) z h open_if = ap (inner ss) (all_c
 module _ (key : List ℕ) where
   -- whether a child becomes small is the same in the part and in the tree
   as_small_after : (p t : RowTree) → Prunes p t → lacks (shrink row_family key p) ≡ false → becomes_small key p ≡ becomes_small key t
-  as_small_after p t z there = go (shrink row_family key p) (shrink row_family key t) refl refl (shrink_agrees key p t z) there
+  as_small_after p t z there = go (shrink row_family key p) (shrink row_family key t) refl refl (shrink_agrees row_family EntryPrunes same_key same_mark key p t z) there
     where
-      go : (r s : Result RowTree UpdateFault) → shrink row_family key p ≡ r → shrink row_family key t ≡ s → Agrees ShrunkPrunes r s → lacks r ≡ false → becomes_small key p ≡ becomes_small key t
-      go (Ok x) (Ok y) e f a l = small_when key p x e ∙ as_small x y a ∙ sym (small_when key t y f)
+      go : (r s : Result RowTree UpdateFault) → shrink row_family key p ≡ r → shrink row_family key t ≡ s → Agrees (OpenPrunes row_family EntryPrunes) r s → lacks r ≡ false → becomes_small key p ≡ becomes_small key t
+      go (Ok x) (Ok y) e f a l = small_when key p x e ∙ as_underfull row_family EntryPrunes x y a ∙ sym (small_when key t y f)
       go (Ok x) (Err fault) e f a l = absurd a
       go (Err DuplicateKey) (Ok y) e f a l = absurd a
       go (Err DuplicateKey) (Err fault) e f a l = quiet_when key p DuplicateKey e ∙ sym (quiet_when key t fault f)

@@ -10,9 +10,8 @@ use Rattle.vo_spec.specs.Inserts.{result_map, goes_here, closed_entry}
 use Rattle.vo_spec.specs.Removes.{set_row, edit_entry, edited_by, edited_in, opened_row, hidden_row, closed_parts, path_to, path_in, replace_proof}
 use Rattle.update_proof.specs.Closing.{is_open, any_open, shows_cells, shows_any}
 use Rattle.update_proof.specs.Proving.{lacks, replace_misses, rows_beyond, replace_goes_beyond, replace_beyond_in}
-use Rattle.mb_update.proofs.PrunedInserts.{Zip, Each}
-use Rattle.update_proof.proofs.JudgedReplacements.{lacks_map}
-use Rattle.update_proof.proofs.ClosedParts.{neither, entry_closed, entries_closed, entry_hidden, part_closed, all_closed}
+use Rattle.update_proof.proofs.ReplacementPaths.{lacks_map}
+use Rattle.update_proof.proofs.ClosedParts.{Zip, Each, neither, entry_closed, entries_closed, entry_hidden, part_closed, all_closed}
 
 row_stands : (key : List ℕ) (r : RowPart) → lacks (set_row [] (record { key = key; row = r })) ≡ false → shows_cells (record { key = key; row = r }) ≡ true
 row_stands key (Closed d) h = absurd (cc)

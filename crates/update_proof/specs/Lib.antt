@@ -1,5 +1,3 @@
+pub mod Changes
 pub mod Closing
 pub mod Proving
-pub mod Neighbours
-pub mod Judging
-pub mod Losing

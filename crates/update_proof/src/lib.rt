@@ -2,16 +2,14 @@
 #![tactic(auto)]
 
 mod alone;
-mod judging;
-mod judging_removals;
-mod judging_replacements;
-mod looking;
-mod proving;
-mod proving_removals;
-mod proving_rows;
+mod change;
+mod closing;
+mod missing;
+mod opening;
+mod opening_rows;
+mod surplus;
+mod surplus_rows;
 
 pub use alone::proofs_are_alone;
-pub use judging::is_update_proof;
-pub use proving::{insert_proof, prune_update};
-pub use proving_removals::remove_proof;
-pub use proving_rows::replace_proof;
+pub use opening::{insert_proof, prune_update, remove_proof, replace_proof};
+pub use surplus::is_update_proof;

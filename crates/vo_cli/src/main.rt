@@ -36,8 +36,8 @@ fn words(rt: &(impl Env + AllocGlobal)) -> io::Result<Vec<String>> {
     Ok(env::args(rt)?.collect(rt.alloc())?)
 }
 
-/// Runs the program on the words of the command line, if they could be collected. Words that aren't text
-/// ask for nothing, as no words do.
+/// Runs the program on the words of the command line, if they could be collected. Words that
+/// aren't text ask for nothing, as no words do.
 #[tactic(auto, using(crate::proofs::NoWords::no_words))]
 fn run_on_words<F: Shelf, D: Disk, N: Net, S: Sink>(
     alloc: Global,

@@ -5,7 +5,7 @@ use Rattle.vo_spec.specs.Inserts.{one, result_map}
 use Rattle.btree.specs.Nodes.{contents_of}
 use Rattle.btree.specs.Placing.{node_of}
 use Rattle.btree.proofs.Divisions.{one_grown}
-use Rattle.btree.proofs.Rebalances.{settled_enough, one_within}
+use Rattle.btree.proofs.Rebalances.{rebalanced_enough, one_within}
 use Rattle.btree.proofs.rebalance.put_child.Goals as goal
 
 pub returns-clause-value : goal.returns-clause-value
@@ -13,7 +13,7 @@ returns-clause-value g c =
     let t = contents_of g.N.Key.Keyed.key g.N.TreeNode.entry g.N.TreeNode.kid c.args.child in
     let grown = one_grown g.N.Key.Keyed.key g.N.TreeNode.entry g.N.TreeNode.kid g.N.TreeNode.family t c.in_ok-close.field-0 c.in_ok-siblings.siblings c.in_ok-close.ensures c.in_ok-siblings.ensures in
     IfOk-weaker c.put_siblings.result _ _
-    (λ contents h. ap Ok (h (one t) grown) ∙ ap (result_map node_of) (sym (settled_enough g.N.TreeNode.family c.args.place (map g.N.Key.Keyed.key c.args.separators.now) (map g.N.TreeNode.kid c.args.children.now) t c.requires.enough)))
+    (λ contents h. ap Ok (h (one t) grown) ∙ ap (result_map node_of) (sym (rebalanced_enough g.N.TreeNode.family c.args.place (map g.N.Key.Keyed.key c.args.separators.now) (map g.N.TreeNode.kid c.args.children.now) t c.requires.enough)))
     c.put_siblings.ensures
 
 pub returns-clause-loose : goal.returns-clause-loose

@@ -1,0 +1,13 @@
+//! Trees of numbers that hold beside each child how many entries are below it. No program uses
+//! them: they show what a further kind of tree adds to the work that all kinds share.
+#![tactic(auto)]
+
+mod counted_node;
+mod entry;
+mod subtree;
+
+pub use entry::{Entry, NumberKey};
+pub use subtree::{Node, Subtree};
+
+#[cfg(test)]
+mod tests;

@@ -1,0 +1,82 @@
+-- What the proof of a change has open, by the steps of the change.
+use Rattle.std.specs.Prelude.{ℕ, ◌+◌, ◌-◌, Bool, true, false, ◌||◌, if◌then◌else◌, List, [], map, slice_set, slice_index_or}
+use Rattle.std.specs.List.{list_any}
+use Rattle.vo_spec.specs.declared.cells.PartEntry.{PartEntry}
+use Rattle.vo_spec.specs.Parts.{Part, Family, stub}
+use Rattle.vo_spec.specs.Trees.{RowTree}
+use Rattle.vo_spec.specs.Inserts.{closed_entry, insert_misses, insert_goes_beyond, insert_proof}
+use Rattle.vo_spec.specs.Removes.{opened_row, looked_at, replace_proof, remove_proof}
+use Rattle.btree.specs.Steps.{sibling_of, opens_sibling_by}
+use Rattle.mb_update.specs.declared.ops.Op.{Op}
+use Rattle.mb_update.specs.declared.ops.Op.TheVariants.{Insert, Replace, Remove}
+use Rattle.update_proof.specs.declared.change.Change.{Change}
+use Rattle.update_proof.specs.declared.change.Change.TheVariants.{Insertion, Replacement, Removal}
+use Rattle.update_proof.specs.Closing.{closed_tree, outside, shows_cells}
+use Rattle.update_proof.specs.Proving.{looked_beyond, replace_misses, remove_misses, rows_beyond, replace_goes_beyond, remove_goes_beyond}
+
+abbrev pub change_in : Op → Change
+change_in (Insert row) = Insertion
+change_in (Replace key sets) = Replacement
+change_in (Remove key) = Removal
+
+abbrev pub key_in : Op → List ℕ
+key_in (Insert row) = row.key
+key_in (Replace key sets) = key
+key_in (Remove key) = key
+
+-- the change leaves the child of a node underfull, so that its sibling is opened
+abbrev pub opens_sibling_in : {E M : Type 0} → Family E M → Change → List ℕ → Part E M → Bool
+opens_sibling_in family Insertion key t = false
+opens_sibling_in family Replacement key t = false
+opens_sibling_in family Removal key t = opens_sibling_by family key t
+
+-- what stands past the end of a list, where nobody looks
+abbrev pub child_at : ℕ → List RowTree → RowTree
+child_at i ts = slice_index_or ts i (stub [])
+
+-- The proof.
+
+abbrev pub rows_in_proof : Change → List ℕ → List PartEntry → List PartEntry
+rows_in_proof Insertion key es = map closed_entry es
+rows_in_proof Replacement key es = opened_row key es
+rows_in_proof Removal key es = map closed_entry es
+
+abbrev pub change_proof : Change → List ℕ → RowTree → RowTree
+change_proof Insertion = insert_proof
+change_proof Replacement = replace_proof
+change_proof Removal = remove_proof
+
+-- the children closed, but for the one of this number, in whose place this stands, and for the node of its sibling if that is opened
+abbrev pub opened_along : ℕ → Bool → RowTree → List RowTree → List RowTree
+opened_along i opens p ts =
+    if opens then slice_set (slice_set (map closed_tree ts) i p) (sibling_of i) (looked_at (child_at (sibling_of i) ts))
+    else slice_set (map closed_tree ts) i p
+
+-- What a part lacks.
+
+abbrev pub change_misses : Change → List ℕ → RowTree → Bool
+change_misses Insertion = insert_misses
+change_misses Replacement = replace_misses
+change_misses Removal = remove_misses
+
+-- the path to a key, or also the key's row
+abbrev pub path_misses : Bool → List ℕ → RowTree → Bool
+path_misses true = replace_misses
+path_misses false = insert_misses
+
+-- What a part has that the change doesn't look at.
+
+abbrev pub rows_go_beyond : Change → List ℕ → List PartEntry → Bool
+rows_go_beyond Insertion key es = list_any shows_cells es
+rows_go_beyond Replacement key es = rows_beyond key es
+rows_go_beyond Removal key es = list_any shows_cells es
+
+abbrev pub change_goes_beyond : Change → List ℕ → RowTree → Bool
+change_goes_beyond Insertion = insert_goes_beyond
+change_goes_beyond Replacement = replace_goes_beyond
+change_goes_beyond Removal = remove_goes_beyond
+
+-- beside the child of this number, and below its sibling's node if that is opened
+abbrev pub surplus_along : ℕ → Bool → List RowTree → Bool
+surplus_along i opens ts =
+    if opens then looked_beyond (child_at (sibling_of i) ts) || outside (i - 1) (i - 1 + 2) ts else outside i (i + 1) ts

@@ -1,0 +1,131 @@
+//! What of a tree must be open for a change.
+ghost use Rattle.std.specs.Prelude.{◌≡◌, ◌≤◌, ◌<◌, ◌+◌, length, map, slice_set, IfOk};
+ghost use Rattle.vo_spec.specs.Parts.{inner};
+ghost use Rattle.vo_spec.specs.Trees.{open_parts};
+ghost use Rattle.vo_spec.specs.Inserts.{insert_proof as proof_of_insertion};
+ghost use Rattle.vo_spec.specs.Removes.{remove_proof as proof_of_removal, replace_proof as proof_of_replacement};
+ghost use Rattle.mb_tree.specs.View.{part_of};
+ghost use Rattle.update_proof.specs.Changes.{change_proof, opened_along};
+ghost use Rattle.update_proof.specs.Proving.{update_proof};
+
+use crate::change::{Change, change_of, key_of, step_of};
+use crate::closing::{close_branches, open_node};
+use crate::opening_rows::open_rows;
+use btree::{Step, sibling_of};
+use mb_tree::{Branch, Node, Nodes, PartTree, Tree, TreeKey, lend_keys};
+use mb_update::Op;
+use std::alloc::{AllocError, Global};
+
+/// The proof of the change: what of the tree it looks at, and no more.
+pub fn prune_update<'b>(alloc: Global, tree: &'b Tree, op: &Op) -> Result<PartTree<'b>, AllocError>
+    ensures { IfOk result (λ part. part_of part ≡ update_proof op.now tree.now) }
+{
+    open_along(alloc, tree.root(), key_of(op), change_of(op))
+}
+
+/// The part of the tree that an insertion of this key looks at. Its keys are lent by the tree.
+pub fn insert_proof<'b>(
+    alloc: Global,
+    tree: &'b Tree,
+    key: &[u8],
+) -> Result<PartTree<'b>, AllocError>
+    ensures { IfOk result (λ part. part_of part ≡ proof_of_insertion key.now tree.now) }
+{
+    open_along(alloc, tree.root(), key, Change::Insertion)
+}
+
+/// The part of the tree that a replacement in the row of this key looks at. Its keys are lent by the tree.
+pub fn replace_proof<'b>(
+    alloc: Global,
+    tree: &'b Tree,
+    key: &[u8],
+) -> Result<PartTree<'b>, AllocError>
+    ensures { IfOk result (λ part. part_of part ≡ proof_of_replacement key.now tree.now) }
+{
+    open_along(alloc, tree.root(), key, Change::Replacement)
+}
+
+/// The part of the tree that a removal of this key looks at. Its keys are lent by the tree.
+pub fn remove_proof<'b>(
+    alloc: Global,
+    tree: &'b Tree,
+    key: &[u8],
+) -> Result<PartTree<'b>, AllocError>
+    ensures { IfOk result (λ part. part_of part ≡ proof_of_removal key.now tree.now) }
+{
+    open_along(alloc, tree.root(), key, Change::Removal)
+}
+
+/// The branch with the path to the key's leaf open, and the siblings of the nodes that are left underfull.
+#[cycle(open_along)]
+fn open_along<'b>(
+    alloc: Global,
+    branch: &'b Branch,
+    key: &[u8],
+    change: Change,
+) -> Result<PartTree<'b>, AllocError>
+    ensures { IfOk result (λ part. part_of part ≡ change_proof change key.now branch.now) }
+{
+    match branch.node() {
+        Node::Leaf(entries) => Ok(PartTree::Leaf(open_rows(alloc, entries, key, change)?)),
+        Node::Inner {
+            separators,
+            children,
+        } => {
+            let children = open_children(alloc, separators, children, key, change)?;
+            let separators = lend_keys(alloc, separators)?;
+            Ok(PartTree::Inner {
+                separators,
+                children,
+            })
+        },
+    }
+}
+
+#[cycle(open_along)]
+fn open_children<'b>(
+    alloc: Global,
+    separators: &[TreeKey],
+    children: &'b [Branch],
+    key: &[u8],
+    change: Change,
+) -> Result<Nodes<'b>, AllocError>
+    requires least { 2 ≤ length children.now }
+    requires between { length separators.now + 1 ≡ length children.now }
+    ensures { IfOk result (λ parts. inner separators.now parts ≡ change_proof change key.now (inner separators.now (open_parts children.now))) }
+{
+    let step = step_of(change, separators, children, key);
+    let part = open_along(alloc, &children[step.child], key, change)?;
+    open_beside(alloc, children, step, part)
+}
+
+/// The part in the place of the step's child, the node of its sibling if it is opened, and the other
+/// children closed.
+fn open_beside<'b>(
+    alloc: Global,
+    children: &'b [Branch],
+    step: Step,
+    part: PartTree<'b>,
+) -> Result<Nodes<'b>, AllocError>
+    requires at { step.child < length children.now }
+    requires least { 2 ≤ length children.now }
+    ensures { IfOk result (λ parts. parts ≡ open_parts (opened_along step.child step.opens_sibling (part_of part.entry) children.now)) }
+{
+    let parts = with_part(close_branches(alloc, children)?, step.child, part);
+    if !step.opens_sibling {
+        return Ok(Nodes::from_vec(parts));
+    }
+    let sibling = sibling_of(step.child);
+    let node = open_node(alloc, &children[sibling])?;
+    Ok(Nodes::from_vec(with_part(parts, sibling, node)))
+}
+
+/// The parts with this in the place of the one of this number.
+fn with_part<'b>(parts: Vec<PartTree<'b>>, place: usize, part: PartTree<'b>) -> Vec<PartTree<'b>>
+    requires { place < length parts.items }
+    ensures { map part_of result.items ≡ slice_set (map part_of parts.entry.items) place (part_of part.entry) }
+{
+    let mut parts = parts;
+    parts[place] = part;
+    parts
+}
