@@ -1,11 +1,12 @@
 -- What a plan shows of rows of its sources.
-use Rattle.std.specs.Prelude.{Bool, true, ◌&&◌, if◌then◌else◌, List, [], ◌∷◌, map, flat_map, Option, Some, None}
+use Rattle.std.specs.Prelude.{Bool, true, ◌&&◌, if◌then◌else◌, List, [], ◌∷◌, map, filter, flat_map, Option, Some, None}
 use Rattle.std.specs.Ordering.{is_eq}
 use Rattle.vo_spec.specs.declared.values.Value.{Value}
+use Rattle.vo_spec.specs.declared.tables.Table.{Table}
 use Rattle.vo_spec.specs.Values.{value_cmp}
-use Rattle.vo_spec.specs.Results.{Place, Line, place_value}
+use Rattle.vo_spec.specs.Results.{Place, Line, place_value, lines_at}
 use Rattle.query_plan.specs.BoundConditions.{all_hold}
-use Rattle.query_plan.specs.Plans.{QueryPlan}
+use Rattle.query_plan.specs.Plans.{QueryPlan, meets_left}
 
 -- whether ON's columns are equal
 abbrev pub are_joined : (Place → Value) → Option (Place × Place) → Bool
@@ -27,3 +28,8 @@ left_answers p (Some on) rights left = pair_answers p (rights left) left
 
 abbrev pub plan_rows : QueryPlan → List Line → (Line → List Line) → List (List Value)
 plan_rows p lefts rights = flat_map (left_answers p p.query.join rights) lefts
+
+-- what it shows of plain tables
+abbrev pub plain_rows : QueryPlan → List Table → List (List Value)
+plain_rows p tables =
+    plan_rows p (filter (meets_left p) (lines_at tables p.query.sides 0)) (λ left. lines_at tables p.query.sides 1)

@@ -3,6 +3,7 @@
 
 mod answers;
 mod keys;
+mod laws;
 mod lines;
 mod needing;
 mod pairs;
@@ -13,6 +14,7 @@ mod showing;
 mod shown;
 
 pub use answers::{push_alone, push_pairs};
+pub use laws::plans_keep_results;
 pub use lines::SeenLine;
 pub use needing::right_needs;
 pub use ran::Ran;
