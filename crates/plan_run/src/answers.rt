@@ -42,7 +42,7 @@ fn projected<V: PlaceValues>(
 /// joined and meet the late condition.
 fn push_answer<V: PlaceValues>(
     alloc: Global,
-    plan: &Plan<'_>,
+    plan: &Plan<'_, '_>,
     rows: &V,
     out: &mut Vec<List<Value>>,
 ) -> Result<(), AllocError>
@@ -57,7 +57,7 @@ fn push_answer<V: PlaceValues>(
 /// Puts what the plan shows of a left row alone at the end of the answer.
 pub fn push_alone(
     alloc: Global,
-    plan: &Plan<'_>,
+    plan: &Plan<'_, '_>,
     left: &SeenLine<'_>,
     out: &mut Vec<List<Value>>,
 ) -> Result<(), AllocError>
@@ -68,7 +68,7 @@ pub fn push_alone(
 
 fn push_pair<'r>(
     alloc: Global,
-    plan: &Plan<'_>,
+    plan: &Plan<'_, '_>,
     left: &'r SeenLine<'_>,
     right: &'r SeenLine<'_>,
     out: &mut Vec<List<Value>>,
@@ -82,7 +82,7 @@ fn push_pair<'r>(
 /// the answer.
 pub fn push_pairs(
     alloc: Global,
-    plan: &Plan<'_>,
+    plan: &Plan<'_, '_>,
     left: &SeenLine<'_>,
     schema: &Schema,
     seen: &[SeenRow],

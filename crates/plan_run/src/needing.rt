@@ -19,7 +19,7 @@ use vo_spec::{Need, ScanFault, SeenRow};
 /// What each of these left rows needs.
 fn needs_of_lefts(
     alloc: Global,
-    plan: &Plan<'_>,
+    plan: &Plan<'_, '_>,
     join: BoundJoin,
     lefts: &[SeenLine<'_>],
 ) -> Result<Vec<Need>, AllocError>
@@ -35,7 +35,7 @@ fn needs_of_lefts(
 /// What those of the rows need that meet the left condition.
 fn needs_of_seen(
     alloc: Global,
-    plan: &Plan<'_>,
+    plan: &Plan<'_, '_>,
     join: BoundJoin,
     seen: &[SeenRow],
 ) -> Result<Vec<Need>, AllocError>
@@ -48,7 +48,7 @@ fn needs_of_seen(
 /// What the query needs of the right tree by the left rows that the left tree shows for its need.
 pub fn right_needs(
     alloc: Global,
-    plan: &Plan<'_>,
+    plan: &Plan<'_, '_>,
     left: &PartTree<'_>,
 ) -> Result<Vec<Need>, ScanFault>
     ensures { FindsNeeds result (plan_seen plan.now) (part_of left.now) }

@@ -27,7 +27,7 @@ fn push_need(needs: &mut Vec<Need>, need: Need) -> Result<(), AllocError>
 /// Puts what the tree shows for the left row at the end, and what the row needs.
 fn push_left(
     alloc: Global,
-    plan: &Plan<'_>,
+    plan: &Plan<'_, '_>,
     join: BoundJoin,
     schema: &Schema,
     tree: &PartTree<'_>,
@@ -51,7 +51,7 @@ fn push_left(
 /// What the tree shows for these left rows, and what they need of it.
 pub(crate) fn show_pairs(
     alloc: Global,
-    plan: &Plan<'_>,
+    plan: &Plan<'_, '_>,
     join: BoundJoin,
     schema: &Schema,
     tree: &PartTree<'_>,

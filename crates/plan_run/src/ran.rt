@@ -41,7 +41,7 @@ fn grouped(
 }
 
 /// What was shown, with the needs of each tree.
-pub(crate) fn ran_of(alloc: Global, plan: &Plan<'_>, shown: Shown) -> Result<Ran, ScanFault>
+pub(crate) fn ran_of(alloc: Global, plan: &Plan<'_, '_>, shown: Shown) -> Result<Ran, ScanFault>
     ensures { RanOf result (plan_seen plan.now) shown }
 {
     let Shown { rows, needs } = shown;

@@ -20,7 +20,7 @@ use vo_spec::{ScanFault, SeenRow};
 /// What the trees show for the plan by the rows that the left one shows.
 fn show_seen(
     alloc: Global,
-    plan: &Plan<'_>,
+    plan: &Plan<'_, '_>,
     trees: &[PartTree<'_>],
     seen: &[SeenRow],
 ) -> Result<Shown, ScanFault>
@@ -35,7 +35,11 @@ fn show_seen(
 
 /// The rows that the trees show for the plan, and what it needs of each tree. Trees are those of the tables
 /// that its query uses, the left one first.
-pub fn run_plan(alloc: Global, plan: &Plan<'_>, trees: &[PartTree<'_>]) -> Result<Ran, ScanFault>
+pub fn run_plan(
+    alloc: Global,
+    plan: &Plan<'_, '_>,
+    trees: &[PartTree<'_>],
+) -> Result<Ran, ScanFault>
     requires { length trees.now ≡ length (tables_used (sides_seen plan.now.query.now.sides)) }
     ensures { Runs result (plan_seen plan.now) (map part_of trees.now) }
 {

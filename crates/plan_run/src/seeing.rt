@@ -13,7 +13,7 @@ use vo_spec::SeenRow;
 /// Of the rows that were seen for the left need, as lines, those that meet the left condition.
 pub fn lefts_of<'r>(
     alloc: Global,
-    plan: &'r Plan<'_>,
+    plan: &'r Plan<'_, '_>,
     seen: &'r [SeenRow],
 ) -> Result<Vec<SeenLine<'r>>, AllocError>
     ensures { IfOk result (λ lefts. map line_seen lefts.items ≡ filter (meets_left (plan_seen plan.now)) (map (seen_line plan.now.query.now.sides.left.schema.now plan.now.left_need.columns) seen.now)) }

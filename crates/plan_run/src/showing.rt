@@ -22,7 +22,7 @@ use vo_spec::{List, ScanFault, Value};
 /// The answer's rows of left rows that have no right ones.
 fn rows_alone(
     alloc: Global,
-    plan: &Plan<'_>,
+    plan: &Plan<'_, '_>,
     lefts: &[SeenLine<'_>],
 ) -> Result<Vec<List<Value>>, AllocError>
     ensures { IfOk result (λ rows. rows.items ≡ flat_map (λ left. answer_at (plan_seen plan.now) (place_value (left ∷ []))) (map line_seen lefts.now)) }
@@ -34,7 +34,11 @@ fn rows_alone(
     Ok(rows)
 }
 
-fn show_alone(alloc: Global, plan: &Plan<'_>, lefts: &[SeenLine<'_>]) -> Result<Shown, ScanFault>
+fn show_alone(
+    alloc: Global,
+    plan: &Plan<'_, '_>,
+    lefts: &[SeenLine<'_>],
+) -> Result<Shown, ScanFault>
     requires { plan.now.query.now.join ≡ None }
     ensures { (tree : RowTree) → Shows result (plan_seen plan.now) (map line_seen lefts.now) tree }
 {
@@ -60,7 +64,7 @@ fn right_tree<'t, 'b>(sides: &Sides<'_>, trees: &'t [PartTree<'b>]) -> &'t PartT
 /// What left rows show: alone, or in a join beside the rows that the right tree shows for them.
 pub(crate) fn show(
     alloc: Global,
-    plan: &Plan<'_>,
+    plan: &Plan<'_, '_>,
     trees: &[PartTree<'_>],
     lefts: &[SeenLine<'_>],
 ) -> Result<Shown, ScanFault>

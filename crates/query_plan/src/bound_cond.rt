@@ -24,6 +24,6 @@ pub enum BoundCond<'q> {
 
 /// A conjunct of a condition.
 #[derive(Clone, Copy)]
-pub struct Conjunct<'c> {
-    pub cond: &'c BoundCond<'c>,
+pub struct Conjunct<'c, 'q> {
+    pub cond: &'c BoundCond<'q>,
 }

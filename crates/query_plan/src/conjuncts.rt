@@ -42,10 +42,10 @@ fn is_operand_on_left(operand: &BoundOperand<'_>) -> bool
 }
 
 /// Puts a conjunct at the end, if it is one of those that are asked for.
-fn put_one<'c>(
-    cond: &'c BoundCond<'c>,
+fn put_one<'c, 'q>(
+    cond: &'c BoundCond<'q>,
     on_left: bool,
-    out: &mut Vec<Conjunct<'c>>,
+    out: &mut Vec<Conjunct<'c, 'q>>,
 ) -> Result<(), AllocError>
     ensures { OnOk result (map conjunct_seen out.new.items ≡ map conjunct_seen out.old.items ++ one_where on_left (condition_seen cond.now)) }
 {
@@ -56,10 +56,10 @@ fn put_one<'c>(
 }
 
 #[cycle(conjuncts)]
-fn put_conjuncts<'c>(
-    cond: &'c BoundCond<'c>,
+fn put_conjuncts<'c, 'q>(
+    cond: &'c BoundCond<'q>,
     on_left: bool,
-    out: &mut Vec<Conjunct<'c>>,
+    out: &mut Vec<Conjunct<'c, 'q>>,
 ) -> Result<(), AllocError>
     ensures { OnOk result (map conjunct_seen out.new.items ≡ map conjunct_seen out.old.items ++ conjuncts_where on_left (condition_seen cond.now)) }
 {
@@ -72,10 +72,10 @@ fn put_conjuncts<'c>(
 }
 
 #[cycle(conjuncts)]
-fn put_parts<'c>(
-    parts: &'c [BoundCond<'c>],
+fn put_parts<'c, 'q>(
+    parts: &'c [BoundCond<'q>],
     on_left: bool,
-    out: &mut Vec<Conjunct<'c>>,
+    out: &mut Vec<Conjunct<'c, 'q>>,
 ) -> Result<(), AllocError>
     ensures { OnOk result (map conjunct_seen out.new.items ≡ map conjunct_seen out.old.items ++ all_where on_left (parts_seen (map condition_seen parts.now))) }
 {
@@ -86,11 +86,11 @@ fn put_parts<'c>(
 }
 
 /// The conjuncts of the condition that are on left columns alone, or those that aren't.
-pub(crate) fn conjuncts<'c>(
+pub(crate) fn conjuncts<'c, 'q>(
     alloc: Global,
-    cond: &'c Option<BoundCond<'c>>,
+    cond: &'c Option<BoundCond<'q>>,
     on_left: bool,
-) -> Result<Vec<Conjunct<'c>>, AllocError>
+) -> Result<Vec<Conjunct<'c, 'q>>, AllocError>
     ensures { IfOk result (λ conds. map conjunct_seen conds.items ≡ option_map_or (conjuncts_where on_left) (option_map condition_seen cond.now) []) }
 {
     let mut conds = Vec::new(alloc);

@@ -30,7 +30,7 @@ pub fn is_narrow(sides: &Sides<'_>, side: usize) -> bool
 }
 
 /// Whether the left row meets the left condition. Other rows need no right row.
-pub fn meets_left<L: Line>(plan: &Plan<'_>, left: &L) -> bool
+pub fn meets_left<L: Line>(plan: &Plan<'_, '_>, left: &L) -> bool
     ensures { result ≡ meets_left (plan_seen plan.now) (L.line left.now) }
 {
     all_hold(&plan.left, &LeftRow { left })
@@ -58,7 +58,7 @@ fn join_value<L: Line>(alloc: Global, join: BoundJoin, left: &L) -> Result<Value
 /// What the query needs of the right tree for this left row: the row whose key is ON's value.
 pub fn right_need<L: Line>(
     alloc: Global,
-    plan: &Plan<'_>,
+    plan: &Plan<'_, '_>,
     join: BoundJoin,
     left: &L,
 ) -> Result<Need, AllocError>

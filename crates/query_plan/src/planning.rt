@@ -45,7 +45,7 @@ fn left_need(alloc: Global, query: &Query<'_>) -> Result<Need, AllocError>
 }
 
 /// The plan of a query over tables that have no more columns than a table may have.
-pub fn plan<'p>(alloc: Global, query: &'p Query<'p>) -> Result<Plan<'p>, AllocError>
+pub fn plan<'p, 'q>(alloc: Global, query: &'p Query<'q>) -> Result<Plan<'p, 'q>, AllocError>
     requires few_left { length (schema_at (sides_seen query.now.sides) 0).columns ≤ most_columns }
     requires few_right { length (schema_at (sides_seen query.now.sides) 1).columns ≤ most_columns }
     ensures { IfOk result (λ plan. plan_seen plan ≡ plan_of (query_seen query.now)) }

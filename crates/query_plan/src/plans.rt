@@ -5,13 +5,13 @@ use vo_spec::{List, Need};
 
 /// A query with what it needs of the left tree, and which cells of the right one.
 #[derive(Drop)]
-pub struct Plan<'p> {
-    pub query: &'p Query<'p>,
+pub struct Plan<'p, 'q> {
+    pub query: &'p Query<'q>,
     pub left_need: Need,
     /// The cells that each need of the right tree names.
     pub right_cells: List<u8>,
     /// The left condition: the conjuncts on left columns alone.
-    pub left: Vec<Conjunct<'p>>,
+    pub left: Vec<Conjunct<'p, 'q>>,
     /// The late condition: the other conjuncts.
-    pub late: Vec<Conjunct<'p>>,
+    pub late: Vec<Conjunct<'p, 'q>>,
 }

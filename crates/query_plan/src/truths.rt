@@ -77,7 +77,7 @@ fn some_true<V: PlaceValues>(parts: &[BoundCond<'_>], rows: &V) -> bool
 }
 
 /// Whether all of these conjuncts are true of the rows.
-pub fn all_hold<V: PlaceValues>(conjuncts: &[Conjunct<'_>], rows: &V) -> bool
+pub fn all_hold<V: PlaceValues>(conjuncts: &[Conjunct<'_, '_>], rows: &V) -> bool
     ensures { result ≡ all_hold (V.values rows.now) (map conjunct_seen conjuncts.now) }
 {
     for conjunct in conjuncts {
