@@ -6,8 +6,8 @@ use crate::line::PlanCall;
 use crate::runs;
 use line_pieces::{shown, word};
 use query_plan::{
-    CatalogSchemas, Line, Sides, bind, has_one_tree, is_narrow, left_need, meets_left, right_need,
-    same_table, tables_used,
+    Line, Plan, Query, bind, has_one_tree, is_narrow, meets_left, plan, right_need, same_table,
+    tables_used,
 };
 use sql_text::parse_query;
 use std::alloc::Global;
@@ -38,41 +38,37 @@ fn asked(
     query: &QueryText,
     more: &[u8],
 ) -> io::Result<String> {
-    let schemas = CatalogSchemas { catalog };
-    match bind(alloc, &schemas, query) {
-        Ok(sides) => bound(alloc, call, &sides, query, more),
+    match bind(alloc, catalog, query) {
+        Ok(query) => bound(alloc, call, &query, more),
         Err(fault) => shown(alloc, &fault),
     }
 }
 
-fn bound(
-    alloc: Global,
-    call: PlanCall,
-    sides: &Sides<'_>,
-    query: &QueryText,
-    more: &[u8],
-) -> io::Result<String> {
+fn bound(alloc: Global, call: PlanCall, query: &Query<'_>, more: &[u8]) -> io::Result<String> {
     match call {
-        PlanCall::Trees => trees(alloc, sides),
-        PlanCall::LeftNeed => left(alloc, sides, query),
-        PlanCall::RightNeed => right(alloc, sides, query, more),
-        PlanCall::RightNeeds => runs::right_needs_of(alloc, sides, query, more),
-        PlanCall::Run => runs::run(alloc, sides, query, more),
+        PlanCall::Trees => trees(alloc, query),
+        _ => planned(alloc, call, query, more),
+    }
+}
+
+fn planned(alloc: Global, call: PlanCall, query: &Query<'_>, more: &[u8]) -> io::Result<String> {
+    if !is_narrow(&query.sides, 0) || !is_narrow(&query.sides, 1) {
+        return word(alloc, "too wide");
+    }
+    let plan = plan(alloc, query)?;
+    match call {
+        PlanCall::Trees | PlanCall::LeftNeed => shown(alloc, &plan.left_need),
+        PlanCall::RightNeed => right(alloc, &plan, more),
+        PlanCall::RightNeeds => runs::right_needs_of(alloc, &plan, more),
+        PlanCall::Run => runs::run(alloc, &plan, more),
     }
 }
 
 /// Whether a table is joined with itself, whether one tree is read, and the tables whose trees are.
-fn trees(alloc: Global, sides: &Sides<'_>) -> io::Result<String> {
+fn trees(alloc: Global, query: &Query<'_>) -> io::Result<String> {
+    let sides = &query.sides;
     let names = tables_used(alloc, sides)?;
     Ok(format!(in alloc; "{} {} {names:?}", same_table(sides), has_one_tree(sides))?)
-}
-
-fn left(alloc: Global, sides: &Sides<'_>, query: &QueryText) -> io::Result<String> {
-    if !is_narrow(sides, 0) {
-        return word(alloc, "too wide");
-    }
-    let need = left_need(alloc, sides, query)?;
-    shown(alloc, &need)
 }
 
 /// A row as the values of its columns, past the end FALSE.
@@ -93,28 +89,20 @@ impl Line for Fields {
 }
 
 /// What the query needs for a left row of these values, none where the row doesn't meet the condition.
-fn right(alloc: Global, sides: &Sides<'_>, query: &QueryText, values: &[u8]) -> io::Result<String> {
+fn right(alloc: Global, plan: &Plan<'_>, values: &[u8]) -> io::Result<String> {
     match take_values(alloc, values)? {
-        Ok(values) => right_of(alloc, sides, query, &Fields { values }),
+        Ok(values) => right_of(alloc, plan, &Fields { values }),
         Err(fault) => shown(alloc, &fault),
     }
 }
 
-fn right_of(
-    alloc: Global,
-    sides: &Sides<'_>,
-    query: &QueryText,
-    row: &Fields,
-) -> io::Result<String> {
-    let Some(join) = &query.join else {
+fn right_of(alloc: Global, plan: &Plan<'_>, row: &Fields) -> io::Result<String> {
+    let Some(join) = plan.query.join else {
         return word(alloc, "no join");
     };
-    if !is_narrow(sides, 1) {
-        return word(alloc, "too wide");
-    }
-    if !meets_left(sides, query, row) {
+    if !meets_left(plan, row) {
         return word(alloc, "none");
     }
-    let need = right_need(alloc, sides, query, join, row)?;
+    let need = right_need(alloc, plan, join, row)?;
     shown(alloc, &need)
 }

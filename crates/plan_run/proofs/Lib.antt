@@ -1,3 +1,4 @@
-pub mod AnswerSteps
+mod AnswerSteps
+pub mod ByNames
 pub mod MissingLaws
-pub mod RunLaws
+mod RunLaws

@@ -1,20 +1,19 @@
 -- A tree that doesn't show what a need asks for misses something.
 use Rattle.std.proofs.Common.{◌≡◌, ℕ, suc, Bool, true, false, cond, List, [], ◌∷◌, Option, Some, None, length, map, inl, inr, refl, sym, ap, ◌∙◌, subst, arith}
-use Rattle.std.specs.Prelude.{◌==◌, ◌||◌, ◌⊎◌, zip, flat_map, is_none, option_map, option_to_list}
+use Rattle.std.specs.Prelude.{◌==◌, ◌||◌, ◌⊎◌, zip, flat_map, is_none, option_to_list}
 use Rattle.std.specs.List.{list_any}
 use Rattle.std.proofs.lemmas.Bool.{both_ways, or_left, or_right}
 use Rattle.vo_spec.specs.declared.needs.Need.{Need}
 use Rattle.vo_spec.specs.declared.needs.SeenRow.{SeenRow}
-use Rattle.vo_spec.specs.declared.queries.Join.{Join}
-use Rattle.vo_spec.specs.Conditions.{Query}
-use Rattle.vo_spec.specs.Results.{Side, Line, side_at, sources}
+use Rattle.vo_spec.specs.Results.{Side, Place, Line, side_at}
 use Rattle.vo_spec.specs.Trees.{RowTree}
 use Rattle.vo_spec.specs.Scans.{seen}
 use Rattle.vo_spec.specs.Pruned.{is_missing}
-use Rattle.vo_spec.specs.Needs.{left_need, right_need, right_needs, seen_lefts, same_table, tables_used, tree_at, right_tree}
+use Rattle.vo_spec.specs.Needs.{same_table, tables_used, tree_at, right_tree}
 use Rattle.vo_laws.proofs.ListLaws.{IsIn}
 use Rattle.vo_laws.proofs.ScanLaws.{Shows, complete}
-use Rattle.plan_run.specs.Running.{HasSources, is_unseen, is_any_missing, needs_of}
+use Rattle.query_plan.specs.Plans.{QueryPlan, right_need_of}
+use Rattle.plan_run.specs.Running.{is_unseen, lefts_seen, needs_of, stops, is_any_missing}
 
 shown_seen : {A : Type 0} (o : Option A) → Shows o → is_none o ≡ false
 shown_seen None s = absurd s
@@ -56,20 +55,24 @@ module _ (first second : List ℕ) (left : Need) (rights : List Need) where
   right_by true (t ∷ ts) e u = or_left _ _ (unseen_misses (left ∷ rights) t (or_right (is_unseen t left) (list_any (is_unseen t) rights) u))
   right_by false (t ∷ r ∷ ts) e u = or_right _ _ (or_left _ _ (unseen_misses rights r u))
 
-module _ (ss : List Side) (q : Query) (ts : List RowTree) where
-  pub left_missing : length ts ≡ length (tables_used ss) → is_unseen (tree_at ts 0) (left_need ss q) ≡ true → is_any_missing ss q ts ≡ true
-  left_missing e u = left_by (side_at ss 0).table (side_at ss 1).table (left_need ss q) (right_needs ss q ts) (length ss == 1 || same_table ss) ts e u
+either : (a b : Bool) → (a || b) ≡ true → (a ≡ true) ⊎ (b ≡ true)
+either true b e = inl refl
+either false b e = inr e
 
-pub right_missing : (ss : List Side) (q : Query) (ts : List RowTree) → length ts ≡ length (tables_used ss) → HasSources ss q
-    → list_any (is_unseen (right_tree ss ts)) (needs_of ss q (seen_lefts ss q ts)) ≡ true → is_any_missing ss q ts ≡ true
-right_missing ss q ts e has u = step q.join refl u
+-- where a scan stops, some tree misses something
+pub stopped_misses : (p : QueryPlan) (ts : List RowTree) → length ts ≡ length (tables_used p.query.sides)
+    → ((on : Place × Place) → p.query.join ≡ Some on → (length p.query.sides == 1) ≡ false) → stops p ts ≡ true → is_any_missing p ts ≡ true
+stopped_misses p ts e paired u =
+    elim (either (is_unseen (tree_at ts 0) p.left_need) (list_any (is_unseen (right_tree p.query.sides ts)) (needs_of p (lefts_seen p (tree_at ts 0)))) u) [
+      | inl l ↦ left_by (side_at p.query.sides 0).table (side_at p.query.sides 1).table p.left_need (needs_of p (lefts_seen p (tree_at ts 0))) (length p.query.sides == 1 || same_table p.query.sides) ts e l
+      | inr r ↦ step p.query.join refl r
+    ]
   where
-    joined : (j : Join) → q.join ≡ Some j → is_any_missing ss q ts ≡ true
-    joined j is =
-        let two : (length ss == 1) ≡ false = ap (λ n. n == 1) (has ∙ ap (λ o. length (q.left ∷ option_to_list (option_map (λ (k : Join). k.right) o))) is) in
-        right_by (side_at ss 0).table (side_at ss 1).table (left_need ss q) (right_needs ss q ts) (length ss == 1 || same_table ss) ts e
-        (subst (λ b. list_any (is_unseen (cond (b || same_table ss) (tree_at ts 0) (tree_at ts 1))) (right_needs ss q ts) ≡ true) (sym two) u)
+    joined : (on : Place × Place) → p.query.join ≡ Some on → list_any (is_unseen (right_tree p.query.sides ts)) (needs_of p (lefts_seen p (tree_at ts 0))) ≡ true → is_any_missing p ts ≡ true
+    joined on is r =
+        right_by (side_at p.query.sides 0).table (side_at p.query.sides 1).table p.left_need (needs_of p (lefts_seen p (tree_at ts 0))) (length p.query.sides == 1 || same_table p.query.sides) ts e
+        (subst (λ b. list_any (is_unseen (cond (b || same_table p.query.sides) (tree_at ts 0) (tree_at ts 1))) (needs_of p (lefts_seen p (tree_at ts 0))) ≡ true) (sym (paired on is)) r)
 
-    step : (o : Option Join) → q.join ≡ o → list_any (is_unseen (right_tree ss ts)) (flat_map (λ j. map (right_need ss q j) (seen_lefts ss q ts)) (option_to_list o)) ≡ true → is_any_missing ss q ts ≡ true
-    step None is u = absurd (cc)
-    step (Some j) is u = joined j is
+    step : (o : Option (Place × Place)) → p.query.join ≡ o → list_any (is_unseen (right_tree p.query.sides ts)) (flat_map (λ on. map (right_need_of p on) (lefts_seen p (tree_at ts 0))) (option_to_list o)) ≡ true → is_any_missing p ts ≡ true
+    step None is r = absurd (cc)
+    step (Some on) is r = joined on is (ap (λ o. list_any (is_unseen (right_tree p.query.sides ts)) (flat_map (λ on. map (right_need_of p on) (lefts_seen p (tree_at ts 0))) (option_to_list o))) is ∙ r)

@@ -2,39 +2,59 @@
 use Rattle.std.proofs.Common.{◌≡◌, ℕ, ◌<◌, Bool, true, false, cond, List, [], ◌∷◌, Option, Some, None, Result, Ok, Err, length, get_or, map, refl, sym, ap, ◌∙◌, append-nil, arith}
 use Rattle.std.specs.Prelude.{◌==◌, ◌||◌, filter, flat_map, is_none, option_to_list, unwrap_or}
 use Rattle.std.specs.List.{list_any}
+use Rattle.std.proofs.lemmas.Bool.{or_left, or_right, or_from}
+use Rattle.vo_spec.specs.declared.values.Value.{Value}
 use Rattle.vo_spec.specs.declared.trees.ScanFault.{ScanFault}
 use Rattle.vo_spec.specs.declared.trees.ScanFault.TheVariants.{Missing, Memory}
 use Rattle.vo_spec.specs.declared.needs.Need.{Need}
 use Rattle.vo_spec.specs.declared.needs.SeenRow.{SeenRow}
-use Rattle.vo_spec.specs.declared.queries.Join.{Join}
-use Rattle.vo_spec.specs.Conditions.{Query}
-use Rattle.vo_spec.specs.Results.{Side, Line, side_at, schema_at, answer_rows}
+use Rattle.vo_spec.specs.Results.{Side, Place, Line, side_at, schema_at, place_value}
 use Rattle.vo_spec.specs.Trees.{RowTree}
 use Rattle.vo_spec.specs.Scans.{seen}
-use Rattle.vo_spec.specs.Needs.{left_need, right_need, meets_left, seen_line, seen_lefts, same_table, tables_used, tree_at, right_tree}
+use Rattle.vo_spec.specs.Needs.{seen_line, same_table, tables_used, tree_at, right_tree}
 use Rattle.mb_tree.specs.declared.parts.PartTree.{PartTree}
 use Rattle.mb_tree.specs.View.{part_of}
 use Rattle.range_proof.specs.Finding.{Finds}
+use Rattle.query_plan.specs.Plans.{QueryPlan, right_need_of, meets_left}
 use Rattle.plan_run.specs.declared.ran.Ran.{Ran}
 use Rattle.plan_run.specs.declared.shown.Shown.{Shown}
-use Rattle.plan_run.specs.Running.{HasSources, Runs, RanOf, Shows, ShowsPairs, grouped, needs_of, pair_rights, rights_in, is_unseen}
-use Rattle.plan_run.proofs.AnswerSteps.{answers_same, any_map}
-use Rattle.plan_run.proofs.MissingLaws.{left_missing, right_missing}
+use Rattle.plan_run.specs.Answers.{answer_at, pair_answers, left_answers, plan_rows}
+use Rattle.plan_run.specs.Running.{Runs, RanOf, Shows, ShowsPairs, grouped, lefts_seen, rights_by, rights_seen, needs_of, is_unseen, stops}
+use Rattle.plan_run.proofs.AnswerSteps.{any_map}
 
--- a join's rows and needs are those of its query
-flat_one : {A : Type 0} (f : Join → List A) (o : Option Join) (j : Join) → o ≡ Some j → flat_map f (option_to_list o) ≡ f j
-flat_one f o j e = ap (λ p. flat_map f (option_to_list p)) e ∙ append-nil (f j)
+pub flat_same : {A B : Type 0} (f g : A → List B) → ((x : A) → f x ≡ g x) → (xs : List A) → flat_map f xs ≡ flat_map g xs
+flat_same f g e [] = refl
+flat_same f g e (x ∷ xs) = rw (e x, flat_same f g e xs) refl
 
-pub pairs_shown : (r : Result Shown ScanFault) (ss : List Side) (q : Query) (j : Join) (lefts : List Line) (tree : RowTree)
-    → q.join ≡ Some j → ShowsPairs r ss q j lefts tree → Shows r ss q lefts tree
-pairs_shown (Ok shown) ss q j lefts tree is h = (
-  h.0 ∙ answers_same ss q lefts (pair_rights ss q j tree) (rights_in ss q tree) (λ left. sym (flat_one (λ k. pair_rights ss q k tree left) q.join j is)),
-  h.1 ∙ sym (flat_one (λ k. map (right_need ss q k) lefts) q.join j is),
-)
-pairs_shown (Err Missing) ss q j lefts tree is h =
-    ap (list_any (is_unseen tree)) (flat_one (λ k. map (right_need ss q k) lefts) q.join j is)
-    ∙ any_map (is_unseen tree) (right_need ss q j) lefts ∙ h
-pairs_shown (Err Memory) ss q j lefts tree is h = tt
+module _ (p : QueryPlan) (lefts : List Line) (tree : RowTree) where
+  -- by whether there is a join
+  abbrev rows_by : Option (Place × Place) → List (List Value)
+  rows_by o = flat_map (left_answers p o (λ left. flat_map (λ on. rights_by p on tree left) (option_to_list o))) lefts
+
+  abbrev needs_by : Option (Place × Place) → List Need
+  needs_by o = flat_map (λ on. map (right_need_of p on) lefts) (option_to_list o)
+
+  module _ (on : Place × Place) (is : p.query.join ≡ Some on) where
+    needs_are : needs_of p lefts ≡ map (right_need_of p on) lefts
+    needs_are = ap needs_by is ∙ append-nil (map (right_need_of p on) lefts)
+
+    unseen_are : list_any (is_unseen tree) (needs_of p lefts) ≡ list_any (λ left. is_unseen tree (right_need_of p on left)) lefts
+    unseen_are = ap (list_any (is_unseen tree)) needs_are ∙ any_map (is_unseen tree) (right_need_of p on) lefts
+
+    rows_are : flat_map (λ left. pair_answers p (rights_by p on tree left) left) lefts ≡ plan_rows p lefts (rights_seen p tree)
+    rows_are =
+        flat_same (λ left. pair_answers p (rights_by p on tree left) left) (λ left. pair_answers p (flat_map (λ k. rights_by p k tree left) (on ∷ [])) left)
+        (λ left. ap (λ rights. pair_answers p rights left) (sym (append-nil (rights_by p on tree left)))) lefts
+        ∙ ap rows_by (sym is)
+
+    pub pairs_shown : (r : Result Shown ScanFault) → ShowsPairs r p on lefts tree → Shows r p lefts tree
+    pairs_shown (Ok shown) h = (unseen_are ∙ h.0, h.1 ∙ rows_are, h.2 ∙ sym needs_are)
+    pairs_shown (Err Missing) h = unseen_are ∙ h
+    pairs_shown (Err Memory) h = tt
+
+  pub alone_shown : p.query.join ≡ None → (rows : List (List Value)) → rows ≡ flat_map (λ left. answer_at p (place_value (left ∷ []))) lefts
+      → (list_any (is_unseen tree) (needs_of p lefts) ≡ false) × (rows ≡ plan_rows p lefts (rights_seen p tree)) × ([] ≡ needs_of p lefts)
+  alone_shown is rows are = (ap (λ o. list_any (is_unseen tree) (needs_by o)) is, are ∙ ap rows_by (sym is), ap needs_by (sym is))
 
 -- a query uses a table
 pub used_some : (ss : List Side) → 0 < length (tables_used ss)
@@ -48,34 +68,34 @@ pub first_tree : (trees : List PartTree) (t : PartTree) → 0 < length trees →
 first_tree [] t lt is = absurd (omega arith)
 first_tree (x ∷ trees) t lt is = ap part_of is
 
-module _ (ss : List Side) (q : Query) (ts : List RowTree) (need : Need) (tree : RowTree) (need_is : need ≡ left_need ss q) (tree_is : tree ≡ tree_at ts 0) where
-  pub left_fault : (fault : ScanFault) → length ts ≡ length (tables_used ss) → Finds {A = List SeenRow} (Err fault) (seen need tree) → Runs (Err fault) ss q ts
-  left_fault Missing e h =
-      left_missing ss q ts e (ap (λ p. is_unseen p (left_need ss q)) (sym tree_is) ∙ ap (λ n. is_unseen tree n) (sym need_is) ∙ ap is_none h)
-  left_fault Memory e h = tt
+module _ (p : QueryPlan) (ts : List RowTree) (tree : RowTree) (tree_is : tree ≡ tree_at ts 0) where
+  pub left_fault : (fault : ScanFault) → Finds {A = List SeenRow} (Err fault) (seen p.left_need tree) → Runs (Err fault) p ts
+  left_fault Missing h = or_left (is_unseen (tree_at ts 0) p.left_need) _ (ap (λ t. is_none (seen p.left_need t)) (sym tree_is) ∙ ap is_none h)
+  left_fault Memory h = tt
 
-  abbrev lefts_by : Need → Option (List SeenRow) → List Line
-  lefts_by n o = filter (meets_left ss q) (map (seen_line (schema_at ss 0) n.columns) (unwrap_or o []))
+  module _ (rows : List SeenRow) (found : seen p.left_need tree ≡ Some rows) where
+    abbrev lefts : List Line
+    lefts = filter (meets_left p) (map (seen_line (schema_at p.query.sides 0) p.left_need.columns) rows)
 
-  module _ (rows : List SeenRow) (found : seen need tree ≡ Some rows) where
-    lefts_are : filter (meets_left ss q) (map (seen_line (schema_at ss 0) need.columns) rows) ≡ seen_lefts ss q ts
+    lefts_are : lefts ≡ lefts_seen p (tree_at ts 0)
     lefts_are =
-        ap (lefts_by need) (sym found)
-        ∙ ap (λ n. lefts_by n (seen n tree)) need_is
-        ∙ ap (λ p. lefts_by (left_need ss q) (seen (left_need ss q) p)) tree_is
+        ap (λ (o : Option (List SeenRow)). filter (meets_left p) (map (seen_line (schema_at p.query.sides 0) p.left_need.columns) (unwrap_or o []))) (sym found)
+        ∙ ap (lefts_seen p) tree_is
 
-    pub run_done : (r : Result Ran ScanFault) (shown : Shown)
-        → Shows (Ok shown) ss q (filter (meets_left ss q) (map (seen_line (schema_at ss 0) need.columns) rows)) (right_tree ss ts)
-        → RanOf r ss need shown → Runs r ss q ts
+    left_seen : is_unseen (tree_at ts 0) p.left_need ≡ false
+    left_seen = ap (λ t. is_none (seen p.left_need t)) (sym tree_is) ∙ ap is_none found
+
+    pub run_done : (r : Result Ran ScanFault) (shown : Shown) → Shows (Ok shown) p lefts (right_tree p.query.sides ts) → RanOf r p shown → Runs r p ts
     run_done (Ok ran) shown s h = (
-      h.0 ∙ s.0 ∙ ap (λ ls. answer_rows ss q ls (rights_in ss q (right_tree ss ts))) lefts_are,
-      h.1 ∙ ap (λ n. grouped ss n shown.needs.items) need_is ∙ ap (grouped ss (left_need ss q)) (s.1 ∙ ap (needs_of ss q) lefts_are),
+      or_from (is_unseen (tree_at ts 0) p.left_need) (list_any (is_unseen (right_tree p.query.sides ts)) (needs_of p (lefts_seen p (tree_at ts 0)))) left_seen
+          (ap (λ ls. list_any (is_unseen (right_tree p.query.sides ts)) (needs_of p ls)) (sym lefts_are) ∙ s.0),
+      h.0 ∙ s.1 ∙ ap (λ ls. plan_rows p ls (rights_seen p (right_tree p.query.sides ts))) lefts_are,
+      h.1 ∙ ap (grouped p.query.sides p.left_need) (s.2 ∙ ap (needs_of p) lefts_are),
     )
     run_done (Err Missing) shown s h = absurd h
     run_done (Err Memory) shown s h = tt
 
-    pub right_fault : (fault : ScanFault) → length ts ≡ length (tables_used ss) → HasSources ss q
-        → Shows (Err fault) ss q (filter (meets_left ss q) (map (seen_line (schema_at ss 0) need.columns) rows)) (right_tree ss ts) → Runs (Err fault) ss q ts
-    right_fault Missing e has u =
-        right_missing ss q ts e has (ap (λ ls. list_any (is_unseen (right_tree ss ts)) (needs_of ss q ls)) (sym lefts_are) ∙ u)
-    right_fault Memory e has u = tt
+    pub right_fault : (fault : ScanFault) → Shows (Err fault) p lefts (right_tree p.query.sides ts) → Runs (Err fault) p ts
+    right_fault Missing u =
+        or_right (is_unseen (tree_at ts 0) p.left_need) _ (ap (λ ls. list_any (is_unseen (right_tree p.query.sides ts)) (needs_of p ls)) (sym lefts_are) ∙ u)
+    right_fault Memory u = tt

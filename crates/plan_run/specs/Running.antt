@@ -1,83 +1,102 @@
--- What running a query over part trees gives, and what it answers where something is missing.
-use Rattle.std.specs.Prelude.{◌≡◌, ℕ, Bool, true, List, [], ◌∷◌, ◌++◌, map, length, zip, flat_map, is_none, Option, None, option_to_list, Result, Ok, Err, IsTrue, ◌==◌, if◌then◌else◌}
+-- What running a plan over part trees gives, and what it answers where a scan stops.
+use Rattle.std.specs.Prelude.{◌≡◌, ℕ, Bool, true, false, ◌||◌, List, [], ◌∷◌, ◌++◌, map, length, zip, filter, flat_map, is_none, is_some, Option, None, option_to_list, Result, Ok, Err, IsTrue, ◌==◌, if◌then◌else◌}
 use Rattle.std.specs.List.{list_any}
 use Rattle.std.specs.Global.{Vec}
 use Rattle.vo_spec.specs.declared.trees.ScanFault.{ScanFault}
 use Rattle.vo_spec.specs.declared.trees.ScanFault.TheVariants.{Missing, Memory}
+use Rattle.vo_spec.specs.declared.values.Value.{Value}
 use Rattle.vo_spec.specs.declared.needs.Need.{Need}
-use Rattle.vo_spec.specs.declared.queries.Join.{Join}
-use Rattle.vo_spec.specs.Conditions.{Query}
-use Rattle.vo_spec.specs.Results.{Side, Line, sources, schema_at, answer_rows}
+use Rattle.vo_spec.specs.Results.{Side, Place, Line, schema_at, place_value}
 use Rattle.vo_spec.specs.Trees.{RowTree}
 use Rattle.vo_spec.specs.Scans.{seen}
 use Rattle.vo_spec.specs.Pruned.{is_missing}
-use Rattle.vo_spec.specs.Needs.{left_need, right_need, right_needs, needs, seen_lefts, seen_rights, seen_lines, tables_used}
+use Rattle.vo_spec.specs.Needs.{seen_lines, tables_used, tree_at, right_tree}
+use Rattle.query_plan.specs.Plans.{QueryPlan, right_need_of, meets_left}
+use Rattle.plan_run.specs.Answers.{answer_at, pair_answers, plan_rows}
 use Rattle.plan_run.specs.declared.ran.Ran.{Ran}
 use Rattle.plan_run.specs.declared.shown.Shown.{Shown}
 
--- there is a side for each source of the query
-abbrev pub HasSources : List Side → Query → Type 0
-HasSources ss q = length ss ≡ length (sources q)
-
--- some tree lacks something that the query needs of it
-abbrev pub is_any_missing : List Side → Query → List RowTree → Bool
-is_any_missing ss q trees = list_any (λ (t : List Need × RowTree). is_missing t.0 t.1) (zip (needs ss q trees) trees)
-
--- The rows that the trees show and the needs of each, or Missing where some tree lacks something; a want of
--- memory may come in any case.
-abbrev pub Runs : Result Ran ScanFault → List Side → Query → List RowTree → Type 0
-Runs (Ok ran) ss q trees =
-    (ran.rows ≡ answer_rows ss q (seen_lefts ss q trees) (seen_rights ss q trees)) × (ran.needs ≡ needs ss q trees)
-Runs (Err Missing) ss q trees = IsTrue (is_any_missing ss q trees)
-Runs (Err Memory) ss q trees = Unit {0}
-
--- The right rows that a tree shows for a left row.
-
-abbrev pub pair_rights : List Side → Query → Join → RowTree → Line → List Line
-pair_rights ss q j tree left = seen_lines (schema_at ss 1) (right_need ss q j left) tree
-
-abbrev pub rights_in : List Side → Query → RowTree → Line → List Line
-rights_in ss q tree left = flat_map (λ j. pair_rights ss q j tree left) (option_to_list q.join)
-
--- what left rows need of the right tree
-abbrev pub needs_of : List Side → Query → List Line → List Need
-needs_of ss q lefts = flat_map (λ j. map (right_need ss q j) lefts) (option_to_list q.join)
-
+-- the scan for the need stops
 abbrev pub is_unseen : RowTree → Need → Bool
 is_unseen tree need = is_none (seen need tree)
 
--- the same of left rows that are given
-abbrev pub Shows : Result Shown ScanFault → List Side → Query → List Line → RowTree → Type 0
-Shows (Ok shown) ss q lefts tree =
-    (shown.rows.items ≡ answer_rows ss q lefts (rights_in ss q tree)) × (shown.needs.items ≡ needs_of ss q lefts)
-Shows (Err Missing) ss q lefts tree = IsTrue (list_any (is_unseen tree) (needs_of ss q lefts))
-Shows (Err Memory) ss q lefts tree = Unit {0}
+-- the left rows that the left tree shows and that meet the left condition
+abbrev pub lefts_seen : QueryPlan → RowTree → List Line
+lefts_seen p tree = filter (meets_left p) (seen_lines (schema_at p.query.sides 0) p.left_need tree)
 
--- and of those of a join
-abbrev pub ShowsPairs : Result Shown ScanFault → List Side → Query → Join → List Line → RowTree → Type 0
-ShowsPairs (Ok shown) ss q j lefts tree =
-    (shown.rows.items ≡ answer_rows ss q lefts (pair_rights ss q j tree)) × (shown.needs.items ≡ map (right_need ss q j) lefts)
-ShowsPairs (Err Missing) ss q j lefts tree = IsTrue (list_any (λ left. is_unseen tree (right_need ss q j left)) lefts)
-ShowsPairs (Err Memory) ss q j lefts tree = Unit {0}
+-- the right rows that a tree shows for a left row
+abbrev pub rights_by : QueryPlan → Place × Place → RowTree → Line → List Line
+rights_by p on tree left = seen_lines (schema_at p.query.sides 1) (right_need_of p on left) tree
 
--- one left row more
-abbrev pub AddsPairs : Result (Unit {0}) ScanFault → Shown → Shown → List Side → Query → Join → Line → RowTree → Type 0
-AddsPairs (Ok done) old new ss q j left tree =
-    (new.rows.items ≡ old.rows.items ++ answer_rows ss q (left ∷ []) (pair_rights ss q j tree)) × (new.needs.items ≡ old.needs.items ++ right_need ss q j left ∷ [])
-AddsPairs (Err Missing) old new ss q j left tree = IsTrue (is_unseen tree (right_need ss q j left))
-AddsPairs (Err Memory) old new ss q j left tree = Unit {0}
+abbrev pub rights_seen : QueryPlan → RowTree → Line → List Line
+rights_seen p tree left = flat_map (λ on. rights_by p on tree left) (option_to_list p.query.join)
+
+-- what left rows need of the right tree
+abbrev pub needs_of : QueryPlan → List Line → List Need
+needs_of p lefts = flat_map (λ on. map (right_need_of p on) lefts) (option_to_list p.query.join)
 
 -- the needs of each tree, by those of the right rows
 abbrev pub grouped : List Side → Need → List Need → List (List Need)
 grouped ss left rights = if length (tables_used ss) == 1 then (left ∷ rights) ∷ [] else (left ∷ []) ∷ rights ∷ []
 
-abbrev pub RanOf : Result Ran ScanFault → List Side → Need → Shown → Type 0
-RanOf (Ok ran) ss left shown = (ran.rows ≡ shown.rows.items) × (ran.needs ≡ grouped ss left shown.needs.items)
-RanOf (Err Missing) ss left shown = ⊥
-RanOf (Err Memory) ss left shown = Unit {0}
+-- of the trees of a plan: the rows that they show, the needs of each, and whether a scan of them stops
 
--- The needs of the right tree by the rows that the left one shows, or Missing where it lacks some of them.
-abbrev pub FindsNeeds : Result (Vec Need) ScanFault → List Side → Query → RowTree → Type 0
-FindsNeeds (Ok found) ss q left = found.items ≡ right_needs ss q (left ∷ [])
-FindsNeeds (Err Missing) ss q left = seen (left_need ss q) left ≡ None
-FindsNeeds (Err Memory) ss q left = Unit {0}
+abbrev pub run_rows : QueryPlan → List RowTree → List (List Value)
+run_rows p trees = plan_rows p (lefts_seen p (tree_at trees 0)) (rights_seen p (right_tree p.query.sides trees))
+
+abbrev pub run_needs : QueryPlan → List RowTree → List (List Need)
+run_needs p trees = grouped p.query.sides p.left_need (needs_of p (lefts_seen p (tree_at trees 0)))
+
+abbrev pub stops : QueryPlan → List RowTree → Bool
+stops p trees =
+    is_unseen (tree_at trees 0) p.left_need
+    || list_any (is_unseen (right_tree p.query.sides trees)) (needs_of p (lefts_seen p (tree_at trees 0)))
+
+-- Where no scan stops, the rows that the trees show and the needs of each; Missing where one does. A want of
+-- memory may come in any case.
+abbrev pub Runs : Result Ran ScanFault → QueryPlan → List RowTree → Type 0
+Runs (Ok ran) p trees = (stops p trees ≡ false) × (ran.rows ≡ run_rows p trees) × (ran.needs ≡ run_needs p trees)
+Runs (Err Missing) p trees = stops p trees ≡ true
+Runs (Err Memory) p trees = Unit {0}
+
+-- the same of left rows that are given
+abbrev pub Shows : Result Shown ScanFault → QueryPlan → List Line → RowTree → Type 0
+Shows (Ok shown) p lefts tree =
+    (list_any (is_unseen tree) (needs_of p lefts) ≡ false) × (shown.rows.items ≡ plan_rows p lefts (rights_seen p tree)) × (shown.needs.items ≡ needs_of p lefts)
+Shows (Err Missing) p lefts tree = list_any (is_unseen tree) (needs_of p lefts) ≡ true
+Shows (Err Memory) p lefts tree = Unit {0}
+
+-- and of those of a join
+abbrev pub ShowsPairs : Result Shown ScanFault → QueryPlan → Place × Place → List Line → RowTree → Type 0
+ShowsPairs (Ok shown) p on lefts tree =
+    (list_any (λ left. is_unseen tree (right_need_of p on left)) lefts ≡ false)
+    × (shown.rows.items ≡ flat_map (λ left. pair_answers p (rights_by p on tree left) left) lefts)
+    × (shown.needs.items ≡ map (right_need_of p on) lefts)
+ShowsPairs (Err Missing) p on lefts tree = list_any (λ left. is_unseen tree (right_need_of p on left)) lefts ≡ true
+ShowsPairs (Err Memory) p on lefts tree = Unit {0}
+
+-- one left row more
+abbrev pub AddsPairs : Result (Unit {0}) ScanFault → Shown → Shown → QueryPlan → Place × Place → Line → RowTree → Type 0
+AddsPairs (Ok done) old new p on left tree =
+    (is_unseen tree (right_need_of p on left) ≡ false)
+    × (new.rows.items ≡ old.rows.items ++ pair_answers p (rights_by p on tree left) left)
+    × (new.needs.items ≡ old.needs.items ++ right_need_of p on left ∷ [])
+AddsPairs (Err Missing) old new p on left tree = is_unseen tree (right_need_of p on left) ≡ true
+AddsPairs (Err Memory) old new p on left tree = Unit {0}
+
+abbrev pub RanOf : Result Ran ScanFault → QueryPlan → Shown → Type 0
+RanOf (Ok ran) p shown = (ran.rows ≡ shown.rows.items) × (ran.needs ≡ grouped p.query.sides p.left_need shown.needs.items)
+RanOf (Err Missing) p shown = ⊥
+RanOf (Err Memory) p shown = Unit {0}
+
+-- The needs of the right tree by the rows that the left one shows, or Missing where the scan of it stops. A
+-- query without a join scans nothing.
+abbrev pub FindsNeeds : Result (Vec Need) ScanFault → QueryPlan → RowTree → Type 0
+FindsNeeds (Ok found) p left =
+    (IsTrue (is_some p.query.join) → is_unseen left p.left_need ≡ false) × (found.items ≡ needs_of p (lefts_seen p left))
+FindsNeeds (Err Missing) p left = IsTrue (is_some p.query.join) × (is_unseen left p.left_need ≡ true)
+FindsNeeds (Err Memory) p left = Unit {0}
+
+-- some tree lacks something that the plan needs of it
+abbrev pub is_any_missing : QueryPlan → List RowTree → Bool
+is_any_missing p trees = list_any (λ (t : List Need × RowTree). is_missing t.0 t.1) (zip (run_needs p trees) trees)

@@ -1,7 +1,9 @@
 //! What the trees of a reply show for a query, and what the query needs of each of them.
 #![tactic(auto)]
 
+mod answers;
 mod keys;
+mod laws;
 mod lines;
 mod needing;
 mod pairs;
@@ -11,6 +13,10 @@ mod seeing;
 mod showing;
 mod shown;
 
+pub use answers::{push_alone, push_pairs};
+pub use laws::plans_keep_results;
+pub use lines::SeenLine;
 pub use needing::right_needs;
 pub use ran::Ran;
 pub use running::run_plan;
+pub use seeing::lefts_of;

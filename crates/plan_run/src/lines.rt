@@ -12,7 +12,7 @@ use vo_spec::{Schema, SeenRow, Value, ValueRef};
 
 /// A row that was seen, as the values of its columns: those in its key and in the need's cells.
 #[derive(Clone, Copy)]
-pub(crate) struct SeenLine<'r> {
+pub struct SeenLine<'r> {
     pub schema: &'r Schema,
     pub cells: &'r [u8],
     pub row: &'r SeenRow,

@@ -1,12 +1,12 @@
 //! What a run gives: the answer's rows, and the needs of each tree.
 ghost use Rattle.std.specs.Prelude.{◌≡◌, IfOk};
 ghost use Rattle.table_list.specs.Sided.{sides_seen};
+ghost use Rattle.query_plan.specs.PlanViews.{plan_seen};
 ghost use Rattle.plan_run.specs.Running.{RanOf, grouped as groups};
 
 use crate::shown::Shown;
-use query_plan::has_one_tree;
+use query_plan::{Plan, Sides, copy_need, has_one_tree};
 use std::alloc::{AllocError, Global};
-use table_list::Sides;
 use vo_spec::{List, Need, ScanFault, Value};
 
 /// What the trees show for a query.
@@ -41,17 +41,13 @@ fn grouped(
 }
 
 /// What was shown, with the needs of each tree.
-pub(crate) fn ran_of(
-    alloc: Global,
-    sides: &Sides<'_>,
-    need: Need,
-    shown: Shown,
-) -> Result<Ran, ScanFault>
-    ensures { RanOf result (sides_seen sides.now) need shown }
+pub(crate) fn ran_of(alloc: Global, plan: &Plan<'_, '_>, shown: Shown) -> Result<Ran, ScanFault>
+    ensures { RanOf result (plan_seen plan.now) shown }
 {
     let Shown { rows, needs } = shown;
+    let left = copy_need(alloc, &plan.left_need)?;
     Ok(Ran {
         rows: List::from_vec(rows),
-        needs: grouped(alloc, sides, need, needs)?,
+        needs: grouped(alloc, &plan.query.sides, left, needs)?,
     })
 }

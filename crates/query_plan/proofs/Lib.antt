@@ -1,2 +1,5 @@
+pub mod BoundLaws
+pub mod MeaningLaws
 pub mod Naming
 pub mod Narrow
+pub mod SourceLaws

@@ -3,8 +3,8 @@ use Rattle.std.proofs.Common.{◌≡◌, ℕ, suc, ◌+◌, ◌-◌, ◌<◌, Bo
 use Rattle.std.specs.Prelude.{filter}
 use Rattle.vo_spec.specs.declared.tables.Schema.{Schema}
 use Rattle.vo_spec.specs.Tables.{cell_number}
-use Rattle.vo_spec.specs.Conditions.{Query}
-use Rattle.vo_spec.specs.Results.{Side, numbers_from}
+use Rattle.vo_spec.specs.Results.{numbers_from}
+use Rattle.query_plan.specs.BoundQueries.{BoundQuery}
 use Rattle.query_plan.specs.Named.{is_named_cell, cells_from}
 
 numbers_next : (i n : ℕ) → i < n → numbers_from i (n - i) ≡ i ∷ numbers_from (i + 1) (n - (i + 1))
@@ -12,23 +12,23 @@ numbers_next i n lt =
     let e : n - i ≡ suc (n - (i + 1)) = omega arith in
     ap (numbers_from i) e
 
-module _ (ss : List Side) (q : Query) (side : ℕ) (schema : Schema) (i n : ℕ) where
+module _ (b : BoundQuery) (side : ℕ) (schema : Schema) (i n : ℕ) where
   abbrev rest : List ℕ
-  rest = cells_from ss q side schema (i + 1) (n - (i + 1))
+  rest = cells_from b side schema (i + 1) (n - (i + 1))
 
-  cells_at : i < n → cells_from ss q side schema i (n - i) ≡ map (cell_number schema.key) (cond (is_named_cell ss q side schema.key i) (i ∷ filter (is_named_cell ss q side schema.key) (numbers_from (i + 1) (n - (i + 1)))) (filter (is_named_cell ss q side schema.key) (numbers_from (i + 1) (n - (i + 1)))))
-  cells_at lt = ap (λ ns. map (cell_number schema.key) (filter (is_named_cell ss q side schema.key) ns)) (numbers_next i n lt)
+  cells_at : i < n → cells_from b side schema i (n - i) ≡ map (cell_number schema.key) (cond (is_named_cell b side schema.key i) (i ∷ filter (is_named_cell b side schema.key) (numbers_from (i + 1) (n - (i + 1)))) (filter (is_named_cell b side schema.key) (numbers_from (i + 1) (n - (i + 1)))))
+  cells_at lt = ap (λ ns. map (cell_number schema.key) (filter (is_named_cell b side schema.key) ns)) (numbers_next i n lt)
 
-  pub step_named : (front all : List ℕ) → i < n → is_named_cell ss q side schema.key i ≡ true → front ++ cells_from ss q side schema i (n - i) ≡ all
-      → (front ++ cell_number schema.key i ∷ []) ++ cells_from ss q side schema (i + 1) (n - (i + 1)) ≡ all
+  pub step_named : (front all : List ℕ) → i < n → is_named_cell b side schema.key i ≡ true → front ++ cells_from b side schema i (n - i) ≡ all
+      → (front ++ cell_number schema.key i ∷ []) ++ cells_from b side schema (i + 1) (n - (i + 1)) ≡ all
   step_named front all lt named e =
-      let at : cells_from ss q side schema i (n - i) ≡ cell_number schema.key i ∷ rest =
-      cells_at lt ∙ ap (λ b. map (cell_number schema.key) (cond b (i ∷ filter (is_named_cell ss q side schema.key) (numbers_from (i + 1) (n - (i + 1)))) (filter (is_named_cell ss q side schema.key) (numbers_from (i + 1) (n - (i + 1)))))) named in
+      let at : cells_from b side schema i (n - i) ≡ cell_number schema.key i ∷ rest =
+      cells_at lt ∙ ap (λ t. map (cell_number schema.key) (cond t (i ∷ filter (is_named_cell b side schema.key) (numbers_from (i + 1) (n - (i + 1)))) (filter (is_named_cell b side schema.key) (numbers_from (i + 1) (n - (i + 1)))))) named in
       rw append_assoc (ap (λ cells. front ++ cells) (sym at) ∙ e)
 
-  pub step_passed : (front all : List ℕ) → i < n → is_named_cell ss q side schema.key i ≡ false → front ++ cells_from ss q side schema i (n - i) ≡ all
-      → front ++ cells_from ss q side schema (i + 1) (n - (i + 1)) ≡ all
+  pub step_passed : (front all : List ℕ) → i < n → is_named_cell b side schema.key i ≡ false → front ++ cells_from b side schema i (n - i) ≡ all
+      → front ++ cells_from b side schema (i + 1) (n - (i + 1)) ≡ all
   step_passed front all lt passed e =
-      let at : cells_from ss q side schema i (n - i) ≡ rest =
-      cells_at lt ∙ ap (λ b. map (cell_number schema.key) (cond b (i ∷ filter (is_named_cell ss q side schema.key) (numbers_from (i + 1) (n - (i + 1)))) (filter (is_named_cell ss q side schema.key) (numbers_from (i + 1) (n - (i + 1)))))) passed in
+      let at : cells_from b side schema i (n - i) ≡ rest =
+      cells_at lt ∙ ap (λ t. map (cell_number schema.key) (cond t (i ∷ filter (is_named_cell b side schema.key) (numbers_from (i + 1) (n - (i + 1)))) (filter (is_named_cell b side schema.key) (numbers_from (i + 1) (n - (i + 1)))))) passed in
       ap (λ cells. front ++ cells) (sym at) ∙ e

@@ -1,4 +1,8 @@
+pub mod BoundConditions
+pub mod BoundQueries
+pub mod BoundViews
 pub mod Catalogs
-pub mod Lefts
 pub mod Named
+pub mod Plans
+pub mod PlanViews
 pub mod Used

@@ -1,25 +1,32 @@
 -- The cells of a source that a query names.
-use Rattle.std.specs.Prelude.{ℕ, Bool, not, ◌&&◌, ◌==◌, List, map, length, filter}
-use Rattle.vo_spec.specs.declared.queries.Ref.{Ref}
+use Rattle.std.specs.Prelude.{ℕ, Bool, not, ◌&&◌, ◌||◌, ◌==◌, List, map, length, filter}
+use Rattle.std.specs.List.{list_any}
 use Rattle.vo_spec.specs.declared.tables.Schema.{Schema}
 use Rattle.vo_spec.specs.Tables.{cell_number}
-use Rattle.vo_spec.specs.Conditions.{Query}
-use Rattle.vo_spec.specs.Results.{Side, Place, place_of, numbers_from}
-use Rattle.vo_spec.specs.Needs.{is_place, is_named_column}
+use Rattle.vo_spec.specs.Results.{Place, schema_at, numbers_from}
+use Rattle.vo_spec.specs.Needs.{is_place, shows_all}
+use Rattle.query_plan.specs.BoundQueries.{BoundQuery, query_places}
 
--- the reference's column stands there
-abbrev pub means : List Side → Place → Ref → Bool
-means ss place r = is_place (place_of ss r) place
+-- this is the place
+abbrev pub is_at : Place → Place → Bool
+is_at at p = is_place p at
+
+-- the query names the column at the place
+abbrev pub names : BoundQuery → Place → Bool
+names b at = shows_all b.items || list_any (is_at at) (query_places b)
 
 -- the column is a cell, and the query names it
-abbrev pub is_named_cell : List Side → Query → ℕ → ℕ → ℕ → Bool
-is_named_cell ss q side key column = not (column == key) && is_named_column ss q side column
+abbrev pub is_named_cell : BoundQuery → ℕ → ℕ → ℕ → Bool
+is_named_cell b side key column = not (column == key) && names b (record { side = side; column = column })
 
 -- the cells that the query names of the source of this number, by that source's schema: of so many of its
 -- columns from one on, and of all
-abbrev pub cells_from : List Side → Query → ℕ → Schema → ℕ → ℕ → List ℕ
-cells_from ss q side schema first count =
-    map (cell_number schema.key) (filter (is_named_cell ss q side schema.key) (numbers_from first count))
+abbrev pub cells_from : BoundQuery → ℕ → Schema → ℕ → ℕ → List ℕ
+cells_from b side schema first count =
+    map (cell_number schema.key) (filter (is_named_cell b side schema.key) (numbers_from first count))
 
-abbrev pub cells_of : List Side → Query → ℕ → Schema → List ℕ
-cells_of ss q side schema = cells_from ss q side schema 0 (length schema.columns)
+abbrev pub cells_of : BoundQuery → ℕ → Schema → List ℕ
+cells_of b side schema = cells_from b side schema 0 (length schema.columns)
+
+abbrev pub bound_cells : BoundQuery → ℕ → List ℕ
+bound_cells b side = cells_of b side (schema_at b.sides side)

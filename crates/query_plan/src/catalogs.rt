@@ -9,8 +9,8 @@ use vo_spec::{Catalog, CatalogTable, Schema};
 
 /// A catalog to which queries are bound.
 #[derive(Clone, Copy)]
-pub struct CatalogSchemas<'c> {
-    pub catalog: &'c Catalog,
+pub(crate) struct CatalogSchemas<'c> {
+    pub(crate) catalog: &'c Catalog,
 }
 
 impl Schemas for CatalogSchemas<'_> {
@@ -21,7 +21,8 @@ impl Schemas for CatalogSchemas<'_> {
     }
 }
 
-fn find_schema<'c>(tables: &'c [CatalogTable], name: &[u8]) -> Option<&'c Schema>
+/// The schema of the first table of this name.
+pub(crate) fn find_schema<'c>(tables: &'c [CatalogTable], name: &[u8]) -> Option<&'c Schema>
     ensures { option_map (λ s. s.now) result ≡ schema_named name.now tables.now }
 {
     for table in tables {

@@ -1,62 +1,65 @@
 //! The interval of keys that a condition leaves of the left table.
 ghost use Rattle.std.specs.Prelude.{◌≡◌, map, drop, IfOk};
-ghost use Rattle.vo_spec.specs.Conditions.{conditions, condition_of};
-ghost use Rattle.vo_spec.specs.Results.{place_of};
-ghost use Rattle.vo_spec.specs.Needs.{is_left_key, test_interval, interval_of as interval_left, interval_of_all};
-ghost use Rattle.table_list.specs.Sided.{sides_seen};
+ghost use Rattle.table_list.specs.Sided.{place_seen};
+ghost use Rattle.query_plan.specs.BoundConditions.{is_left_key, comparison_interval, bound_interval, shared_interval};
+ghost use Rattle.query_plan.specs.BoundViews.{term_seen, parts_seen, condition_seen};
 
+use crate::bound_cond::{BoundCond, BoundOperand};
 use crate::intervals::{all_keys, keys_that, shared};
 use std::alloc::{AllocError, Global};
-use table_list::Sides;
-use vo_spec::{Cmp, Cond, Interval, Operand, Ref};
+use table_list::Place;
+use vo_spec::{Cmp, Interval};
 
-fn is_left_key(sides: &Sides<'_>, reference: &Ref) -> bool
-    ensures { result ≡ is_left_key (sides_seen sides.now) (place_of (sides_seen sides.now) reference.now) }
+fn is_left_key(key: usize, place: Place) -> bool
+    ensures { result ≡ is_left_key key (place_seen place) }
 {
-    let place = sides.place_of(reference);
-    place.side == 0 && place.column == sides.left.schema.key as usize
+    place.side == 0 && place.column == key
 }
 
-fn test_interval(
+fn comparison_interval(
     alloc: Global,
-    sides: &Sides<'_>,
-    left: &Ref,
+    key: usize,
+    left: Place,
     op: Cmp,
-    right: &Operand,
+    right: &BoundOperand<'_>,
 ) -> Result<Interval, AllocError>
-    ensures { IfOk result (λ interval. interval ≡ test_interval (sides_seen sides.now) left.now op right.now) }
+    ensures { IfOk result (λ interval. interval ≡ comparison_interval key (place_seen left) op (term_seen right.now)) }
 {
     match right {
-        Operand::Literal(value) if is_left_key(sides, left) => keys_that(alloc, op, value),
-        Operand::Literal(_) | Operand::Ref(_) => Ok(all_keys()),
+        BoundOperand::Literal(value) if is_left_key(key, left) => keys_that(alloc, op, value),
+        BoundOperand::Literal(_) | BoundOperand::Column(_) => Ok(all_keys()),
     }
 }
 
-/// What the conjuncts of the form `key op literal` share.
+/// What the conjuncts of the form `key op literal` share, by the number of the left table's key.
 #[cycle(interval)]
 pub(crate) fn interval_of(
     alloc: Global,
-    sides: &Sides<'_>,
-    cond: &Cond,
+    key: usize,
+    cond: &BoundCond<'_>,
 ) -> Result<Interval, AllocError>
-    ensures { IfOk result (λ interval. interval ≡ interval_left (sides_seen sides.now) (condition_of cond.now)) }
+    ensures { IfOk result (λ interval. interval ≡ bound_interval key (condition_seen cond.now)) }
 {
     match cond {
-        Cond::All(parts) => interval_of_all(alloc, sides, parts.as_slice()),
-        Cond::Any(_) | Cond::Not(_) => Ok(all_keys()),
-        Cond::Test { left, op, right } => test_interval(alloc, sides, left, *op, right),
+        BoundCond::All(parts) => interval_of_all(alloc, key, parts.as_slice()),
+        BoundCond::Any(_) | BoundCond::Not(_) => Ok(all_keys()),
+        BoundCond::Test { left, op, right } => comparison_interval(alloc, key, *left, *op, right),
     }
 }
 
 #[cycle(interval)]
-fn interval_of_all(alloc: Global, sides: &Sides<'_>, parts: &[Cond]) -> Result<Interval, AllocError>
-    ensures { IfOk result (λ interval. interval ≡ interval_of_all (sides_seen sides.now) (conditions (map condition_of parts.now))) }
+fn interval_of_all(
+    alloc: Global,
+    key: usize,
+    parts: &[BoundCond<'_>],
+) -> Result<Interval, AllocError>
+    ensures { IfOk result (λ interval. interval ≡ shared_interval key (parts_seen (map condition_seen parts.now))) }
 {
     let mut interval = all_keys();
     let mut place = parts.len();
     while place > 0 {
         place -= 1;
-        interval = shared(interval_of(alloc, sides, &parts[place])?, interval);
+        interval = shared(interval_of(alloc, key, &parts[place])?, interval);
     }
     Ok(interval)
 }

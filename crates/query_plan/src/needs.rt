@@ -1,19 +1,23 @@
-//! The needs of a query, of the left tree and for a left row of the right one.
-ghost use Rattle.std.specs.Prelude.{◌≡◌, ◌≤◌, ◌↔◌, length, IfOk, IsTrue};
+//! What a left row needs of the right tree, and whether it needs anything.
+ghost use Rattle.std.specs.Prelude.{◌≡◌, ◌≤◌, ◌↔◌, [], ◌∷◌, length, IfOk, IsTrue};
 ghost use Rattle.vo_spec.specs.Batches.{most_columns};
-ghost use Rattle.vo_spec.specs.Conditions.{query_of};
-ghost use Rattle.vo_spec.specs.Results.{schema_at};
-ghost use Rattle.vo_spec.specs.Needs.{left_need, right_need, join_value};
+ghost use Rattle.vo_spec.specs.Results.{schema_at, place_value};
 ghost use Rattle.table_list.specs.Sided.{sides_seen, place_seen};
+ghost use Rattle.query_plan.specs.BoundConditions.{all_hold};
+ghost use Rattle.query_plan.specs.BoundViews.{join_seen};
+ghost use Rattle.query_plan.specs.Plans.{left_column, right_need_of, meets_left};
+ghost use Rattle.query_plan.specs.PlanViews.{plan_seen};
 
-use crate::intervals::{all_keys, keys_that};
-use crate::left_condition::alone;
-use crate::left_interval::interval_of;
-use crate::named::named_cells;
+use crate::bound_query::BoundJoin;
+use crate::copies::copy_cells;
+use crate::intervals::keys_that;
+use crate::plans::Plan;
+use crate::rows::{LeftRow, PlaceValues};
+use crate::truths::all_hold;
 use row_bytes::own_value;
 use std::alloc::{AllocError, Global};
-use table_list::{Line, Sides, join_places};
-use vo_spec::{Cmp, Join, Need, QueryText, Value};
+use table_list::{Line, Place, Sides};
+use vo_spec::{Cmp, Need, Value};
 
 /// Whether the source of this number has no more columns than a table may have.
 pub fn is_narrow(sides: &Sides<'_>, side: usize) -> bool
@@ -25,45 +29,43 @@ pub fn is_narrow(sides: &Sides<'_>, side: usize) -> bool
     }
 }
 
-/// What the query needs of the left tree.
-pub fn left_need(alloc: Global, sides: &Sides<'_>, query: &QueryText) -> Result<Need, AllocError>
-    requires { length (schema_at (sides_seen sides.now) 0).columns ≤ most_columns }
-    ensures { IfOk result (λ need. need ≡ left_need (sides_seen sides.now) (query_of query.now)) }
+/// Whether the left row meets the left condition. Other rows need no right row.
+pub fn meets_left<L: Line>(plan: &Plan<'_, '_>, left: &L) -> bool
+    ensures { result ≡ meets_left (plan_seen plan.now) (L.line left.now) }
 {
-    let interval = match &query.cond {
-        Some(cond) => interval_of(alloc, sides, cond)?,
-        None => all_keys(),
-    };
-    let columns = named_cells(alloc, sides, query, 0)?;
-    Ok(Need { interval, columns })
+    all_hold(&plan.left, &LeftRow { left })
+}
+
+/// ON's column of the left source.
+fn left_column(join: BoundJoin) -> Place
+    ensures { place_seen result ≡ left_column (join_seen join) }
+{
+    if join.first.side == 1 {
+        join.second
+    } else {
+        join.first
+    }
 }
 
 /// The value by which a left row finds its right row.
-fn join_value<L: Line>(
-    alloc: Global,
-    sides: &Sides<'_>,
-    join: &Join,
-    left: &L,
-) -> Result<Value, AllocError>
-    ensures { IfOk result (λ value. value ≡ join_value (sides_seen sides.now) join.now (L.line left.now)) }
+fn join_value<L: Line>(alloc: Global, join: BoundJoin, left: &L) -> Result<Value, AllocError>
+    ensures { IfOk result (λ value. value ≡ place_value (L.line left.now ∷ []) (left_column (join_seen join))) }
 {
-    let (place, _) = join_places(sides, join);
-    own_value(alloc, alone(sides, left).at(place))
+    let rows = LeftRow { left };
+    own_value(alloc, rows.value(left_column(join)))
 }
 
 /// What the query needs of the right tree for this left row: the row whose key is ON's value.
 pub fn right_need<L: Line>(
     alloc: Global,
-    sides: &Sides<'_>,
-    query: &QueryText,
-    join: &Join,
+    plan: &Plan<'_, '_>,
+    join: BoundJoin,
     left: &L,
 ) -> Result<Need, AllocError>
-    requires { length (schema_at (sides_seen sides.now) 1).columns ≤ most_columns }
-    ensures { IfOk result (λ need. need ≡ right_need (sides_seen sides.now) (query_of query.now) join.now (L.line left.now)) }
+    ensures { IfOk result (λ need. need ≡ right_need_of (plan_seen plan.now) (join_seen join) (L.line left.now)) }
 {
-    let value = join_value(alloc, sides, join, left)?;
+    let value = join_value(alloc, join, left)?;
     let interval = keys_that(alloc, Cmp::Eq, &value)?;
-    let columns = named_cells(alloc, sides, query, 1)?;
+    let columns = copy_cells(alloc, plan.right_cells.as_slice())?;
     Ok(Need { interval, columns })
 }

@@ -1,20 +1,28 @@
 -- The tests of a reply, one after another.
+use Rattle.std.specs.Prelude.{zip}
 use Rattle.std.proofs.Common.{◌≡◌, ℕ, ◌==◌, Bool, true, false, if◌then◌else◌, List, [], ◌∷◌, length, map, Option, Some, None, is_some, Result, Ok, Err, refl, sym, ap, ◌∙◌, ◌⊎◌, inl, inr}
 use Rattle.std.proofs.lemmas.Bool.{eqb-true}
 use Rattle.vo_spec.specs.declared.checks.CheckFault.{CheckFault}
-use Rattle.vo_spec.specs.declared.checks.CheckFault.TheVariants.{Memory}
+use Rattle.vo_spec.specs.declared.checks.CheckFault.TheVariants.{Missing, Memory}
 use Rattle.vo_spec.specs.declared.queries.QueryFault.{QueryFault}
 use Rattle.vo_spec.specs.declared.queries.Outcome.{Outcome}
-use Rattle.vo_spec.specs.declared.queries.Outcome.TheVariants.{Wrong}
+use Rattle.vo_spec.specs.declared.queries.Outcome.TheVariants.{Rows, Wrong}
+use Rattle.vo_spec.specs.declared.values.Value.{Value}
+use Rattle.vo_spec.specs.declared.needs.Need.{Need}
+use Rattle.vo_spec.specs.Trees.{RowTree}
 use Rattle.vo_spec.specs.Firsts.{first_some, unless}
 use Rattle.vo_spec.specs.Conditions.{Query}
 use Rattle.vo_spec.specs.Records.{headings}
 use Rattle.vo_spec.specs.Replies.{Reply}
 use Rattle.vo_spec.specs.Results.{Side, sides, binding_fault, header, outcome, answer_rows}
-use Rattle.vo_spec.specs.Needs.{tables_used, seen_lefts, seen_rights}
+use Rattle.vo_spec.specs.Needs.{tables_used, needs, seen_lefts, seen_rights}
 use Rattle.vo_spec.specs.Checks.{key_fault, leaf_fault, signature_fault, age_fault, catalog_fault, count_fault, trees_of, shape_fault, root_fault, missing_fault, surplus_fault, reply_fault, seen_outcome}
+use Rattle.query_plan.specs.BoundQueries.{BoundQuery, bound_query}
+use Rattle.query_plan.specs.Plans.{QueryPlan, plan_of}
+use Rattle.plan_run.specs.Running.{is_any_missing}
+use Rattle.plan_run.proofs.ByNames.{rows_same, needs_same}
 use Rattle.vo_check.specs.Testing.{Gives, Passes, paired, number_fault, shapes_fault, trees_fault, missed_fault, excess_fault, needs_fault}
-use Rattle.vo_check.specs.Judging.{needed_by, shown_rows, record_fault, proof_fault}
+use Rattle.vo_check.specs.Judging.{needed_for, shown_for, bound_fault, record_fault, proof_fault}
 
 -- Lists of faults in groups.
 
@@ -47,10 +55,32 @@ first_if : (b : Bool) (f : CheckFault) (rest : List (Option CheckFault)) → fir
 first_if true f rest e = refl
 first_if false f rest e = absurd cc
 
+-- The tests of a bound query.
+
+pub needs_refused : (p : QueryPlan) (r : Reply) → is_any_missing p r.trees ≡ true → needs_fault (needed_for p r) ≡ Some Missing
+needs_refused p r e = ap (λ b. first_some ((if b then Some Missing else None) ∷ excess_fault (needed_for p r) ∷ [])) e
+
+pub trees_refused : (b : BoundQuery) (r : Reply) (names : List (List ℕ)) → names ≡ tables_used b.sides → (fault : CheckFault) → Passes (Err fault) (trees_fault names r)
+    → Passes (Err fault) (bound_fault b r)
+trees_refused b r names are fault (inl memory) = inl memory
+trees_refused b r names are fault (inr found) =
+    inr (ap (λ o. first_some (o ∷ needs_fault (needed_for (plan_of b) r) ∷ [])) (ap (λ ns. trees_fault ns r) (sym are) ∙ found))
+
+pub trees_passed : (b : BoundQuery) (r : Reply) (names : List (List ℕ)) → names ≡ tables_used b.sides → trees_fault names r ≡ None → bound_fault b r ≡ needs_fault (needed_for (plan_of b) r)
+trees_passed b r names are none =
+    ap (λ o. first_some (o ∷ needs_fault (needed_for (plan_of b) r) ∷ [])) (ap (λ ns. trees_fault ns r) (sym are) ∙ none) ∙ alone (needs_fault (needed_for (plan_of b) r))
+
 -- The tests of trees.
 
 pub has_trees : (wanted : List (List ℕ)) (r : Reply) → trees_fault wanted r ≡ None → length wanted ≡ length r.trees
 has_trees wanted r e = sym (eqb-true (length r.trees) (length wanted) (first_if (length r.trees == length wanted) _ _ e))
+
+-- the trees, each with its needs, and what they show, by names
+abbrev needed_by : List Side → Query → Reply → List (List Need × RowTree)
+needed_by ss q r = zip (needs ss q r.trees) r.trees
+
+abbrev shown_rows : List Side → Query → Reply → Outcome
+shown_rows ss q r = Rows (header ss q.items) (answer_rows ss q (seen_lefts ss q r.trees) (seen_rights ss q r.trees))
 
 -- by whether the query is wrong
 abbrev proof_by : Bool → List Side → Query → Reply → Option CheckFault
@@ -96,25 +126,15 @@ module _ (q : Query) (r : Reply) where
   unfolding seen_outcome
   wrong_outcome f e = ap (λ f. outcome f (header ss q.items) (answer_rows ss q (seen_lefts ss q r.trees) (seen_rights ss q r.trees))) e
 
-  -- a reply whose trees are refused, and one whose needs are judged
-  pub bound_refused : (held : List Side) → held ≡ ss → faults ≡ None → (fault : CheckFault) → Passes (Err fault) (trees_fault (tables_used held) r)
-      → Passes (Err fault) (proof_fault q r)
-  bound_refused held is e fault (inl memory) = inl memory
-  bound_refused held is e fault (inr found) =
-      let known : trees_fault (tables_used ss) r ≡ Some fault = rw is at found in
-      inr (bound_parts e ∙ rw known refl)
-
-  bound_gives_at : faults ≡ None → trees_fault (tables_used ss) r ≡ None
-      → (result : Result Outcome CheckFault) → Gives result (needs_fault (needed_by ss q r)) (shown_rows ss q r)
+  -- a reply to a bound query is judged as one to its query
+  pub bound_same : faults ≡ None → (result : Result Outcome CheckFault) → Gives result (bound_fault (bound_query ss q) r) (shown_for (plan_of (bound_query ss q)) r)
       → Gives result (proof_fault q r) (seen_outcome q r.catalog r.trees)
-  bound_gives_at e none result given =
-      let parts : proof_fault q r ≡ needs_fault (needed_by ss q r) = bound_parts e ∙ rw none (alone (needs_fault (needed_by ss q r))) in
-      rw (parts, bound_outcome e) given
-
-  pub bound_gives : (held : List Side) → held ≡ ss → faults ≡ None → trees_fault (tables_used held) r ≡ None
-      → (result : Result Outcome CheckFault) → Gives result (needs_fault (needed_by held q r)) (shown_rows held q r)
-      → Gives result (proof_fault q r) (seen_outcome q r.catalog r.trees)
-  bound_gives held is e none result given = bound_gives_at e (rw is at none) result (rw is at given)
+  bound_same e result given =
+      let parts : proof_fault q r ≡ bound_fault (bound_query ss q) r =
+      bound_parts e ∙ ap (λ (ns : List (List Need)). first_some (trees_fault (tables_used ss) r ∷ needs_fault (zip ns r.trees) ∷ [])) (sym (needs_same ss q r.trees)) in
+      let shown : seen_outcome q r.catalog r.trees ≡ shown_for (plan_of (bound_query ss q)) r =
+      bound_outcome e ∙ ap (λ (rows : List (List Value)). Rows (header ss q.items) rows) (sym (rows_same ss q r.trees)) in
+      rw (parts, shown) given
 
   pub wrong_refused : (f : QueryFault) → faults ≡ Some f → (fault : CheckFault) → Passes (Err fault) (trees_fault [] r) → Passes (Err fault) (proof_fault q r)
   wrong_refused f e fault (inl memory) = inl memory

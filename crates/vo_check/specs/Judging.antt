@@ -6,18 +6,27 @@ use Rattle.vo_spec.specs.declared.queries.Outcome.{Outcome}
 use Rattle.vo_spec.specs.declared.queries.Outcome.TheVariants.{Rows}
 use Rattle.vo_spec.specs.Firsts.{first_some}
 use Rattle.vo_spec.specs.Conditions.{Query}
-use Rattle.vo_spec.specs.Results.{Side, header, answer_rows}
-use Rattle.vo_spec.specs.Needs.{needs, seen_lefts, seen_rights}
+use Rattle.vo_spec.specs.Results.{header}
+use Rattle.vo_spec.specs.Needs.{tables_used}
 use Rattle.vo_spec.specs.Replies.{Reply}
 use Rattle.vo_spec.specs.Trees.{RowTree}
 use Rattle.vo_spec.specs.Checks.{key_fault, leaf_fault, signature_fault, age_fault, count_fault, shape_fault, trees_of, root_fault, missing_fault, surplus_fault}
+use Rattle.query_plan.specs.BoundQueries.{BoundQuery}
+use Rattle.query_plan.specs.Plans.{QueryPlan, plan_of}
+use Rattle.plan_run.specs.Running.{run_rows, run_needs}
+use Rattle.vo_check.specs.Testing.{trees_fault, needs_fault}
 
--- the trees, each with its needs
-abbrev pub needed_by : List Side → Query → Reply → List (List Need × RowTree)
-needed_by ss q r = zip (needs ss q r.trees) r.trees
+-- the trees, each with its needs, and what they show
 
-abbrev pub shown_rows : List Side → Query → Reply → Outcome
-shown_rows ss q r = Rows (header ss q.items) (answer_rows ss q (seen_lefts ss q r.trees) (seen_rights ss q r.trees))
+abbrev pub needed_for : QueryPlan → Reply → List (List Need × RowTree)
+needed_for p r = zip (run_needs p r.trees) r.trees
+
+abbrev pub shown_for : QueryPlan → Reply → Outcome
+shown_for p r = Rows (header p.query.sides p.query.items) (run_rows p r.trees)
+
+-- the first test of the trees of a bound query that refuses the reply
+abbrev pub bound_fault : BoundQuery → Reply → Option CheckFault
+bound_fault b r = first_some (trees_fault (tables_used b.sides) r ∷ needs_fault (needed_for (plan_of b) r) ∷ [])
 
 -- the first test of the record that refuses the reply
 abbrev pub record_fault : List ℕ → ℕ → Reply → Option CheckFault

@@ -3,15 +3,17 @@ ghost use Rattle.std.specs.Prelude.{◌≡◌, ◌≤◌, ◌⊎◌, length};
 ghost use Rattle.vo_spec.specs.Conditions.{query_of};
 ghost use Rattle.vo_spec.specs.Records.{headings};
 ghost use Rattle.vo_spec.specs.Replies.{FitsReply};
-ghost use Rattle.vo_spec.specs.Results.{schema_at, sides as sides_of, binding_fault};
+ghost use Rattle.vo_spec.specs.Results.{schema_at, binding_fault};
 ghost use Rattle.vo_spec.specs.Needs.{tables_used};
 ghost use Rattle.vo_spec.specs.Checks.{reply_fault, seen_outcome, answer_to};
 ghost use Rattle.vo_spec.specs.Batches.{most_columns};
 ghost use Rattle.table_list.specs.Sided.{sides_seen};
-ghost use Rattle.plan_run.specs.Running.{HasSources};
+ghost use Rattle.query_plan.specs.BoundViews.{query_seen};
+ghost use Rattle.query_plan.specs.Plans.{plan_of};
+ghost use Rattle.query_plan.specs.PlanViews.{plan_seen};
 ghost use Rattle.vo_format.specs.View.{reply_of};
 ghost use Rattle.vo_check.specs.Testing.{Gives, needs_fault};
-ghost use Rattle.vo_check.specs.Judging.{needed_by, shown_rows, proof_fault};
+ghost use Rattle.vo_check.specs.Judging.{needed_for, shown_for, bound_fault, proof_fault};
 
 use crate::catalog_fault::test_catalog;
 use crate::need_faults::test_needs;
@@ -19,27 +21,18 @@ use crate::record_faults::record_fault;
 use crate::tree_faults::test_trees;
 use lms_sign::PublicKey;
 use plan_run::run_plan;
-use query_plan::{CatalogSchemas, tables_used};
+use query_plan::{BindFault, Plan, Query, bind, header, plan, tables_used};
 use std::alloc::Global;
-use table_list::{BindFault, Sides, bind, header};
 use vo_format::Reply;
 use vo_spec::{Answer, CheckFault, Outcome, QueryFault, QueryText, ScanFault};
 
 /// The rows that the trees show, which have all that the query needs and nothing else.
-fn judge_needs(
-    alloc: Global,
-    sides: &Sides<'_>,
-    query: &QueryText,
-    reply: &Reply<'_>,
-) -> Result<Outcome, CheckFault>
-    requires sources { HasSources (sides_seen sides.now) (query_of query.now) }
-    requires left { length (schema_at (sides_seen sides.now) 0).columns ≤ most_columns }
-    requires right { length (schema_at (sides_seen sides.now) 1).columns ≤ most_columns }
-    requires count { length (tables_used (sides_seen sides.now)) ≡ length reply.now.trees.items }
-    ensures { let ss = sides_seen sides.now in let q = query_of query.now in let r = reply_of reply.now in
-        Gives result (needs_fault (needed_by ss q r)) (shown_rows ss q r) }
+fn judge_needs(alloc: Global, plan: &Plan<'_>, reply: &Reply<'_>) -> Result<Outcome, CheckFault>
+    requires { length (tables_used (sides_seen plan.now.query.now.sides)) ≡ length reply.now.trees.items }
+    ensures { let p = plan_seen plan.now in let r = reply_of reply.now in
+        Gives result (needs_fault (needed_for p r)) (shown_for p r) }
 {
-    let ran = match run_plan(alloc, sides, query, &reply.trees) {
+    let ran = match run_plan(alloc, plan, &reply.trees) {
         Ok(ran) => ran,
         Err(ScanFault::Missing) => return Err(CheckFault::Missing),
         Err(ScanFault::Memory) => return Err(CheckFault::Memory),
@@ -48,7 +41,7 @@ fn judge_needs(
         Ok(()) => {},
         Err(fault) => return Err(fault),
     }
-    match header(alloc, sides, &query.items) {
+    match header(alloc, &plan.query.sides, plan.query.items) {
         Ok(header) => Ok(Outcome::Rows {
             header,
             rows: ran.rows,
@@ -57,26 +50,25 @@ fn judge_needs(
     }
 }
 
-/// The outcome of a query that binds to these sources.
-#[tactic(auto, using(crate::proofs::Judged::has_trees))]
-fn judge_bound(
-    alloc: Global,
-    sides: &Sides<'_>,
-    query: &QueryText,
-    reply: &Reply<'_>,
-) -> Result<Outcome, CheckFault>
+/// The outcome of a bound query whose tables have no more columns than a table may have.
+#[tactic(auto, using(crate::proofs::Judged::has_trees, crate::proofs::Judged::trees_passed))]
+fn judge_bound(alloc: Global, query: &Query<'_>, reply: &Reply<'_>) -> Result<Outcome, CheckFault>
     requires fits { FitsReply (reply_of reply.now) }
-    requires bound { sides_seen sides.now ≡ sides_of (headings reply.now.catalog) (query_of query.now) }
-    requires right { binding_fault (headings reply.now.catalog) (query_of query.now) ≡ None }
-    ensures { let q = query_of query.now in let r = reply_of reply.now in
-        Gives result (proof_fault q r) (seen_outcome q r.catalog r.trees) }
+    requires left { length (schema_at (sides_seen query.now.sides) 0).columns ≤ most_columns }
+    requires right { length (schema_at (sides_seen query.now.sides) 1).columns ≤ most_columns }
+    ensures { let b = query_seen query.now in let r = reply_of reply.now in
+        Gives result (bound_fault b r) (shown_for (plan_of b) r) }
 {
-    let Ok(names) = tables_used(alloc, sides) else {
+    let Ok(names) = tables_used(alloc, &query.sides) else {
         return Err(CheckFault::Memory);
     };
     match test_trees(alloc, &names, reply) {
-        Ok(()) => judge_needs(alloc, sides, query, reply),
-        Err(fault) => Err(fault),
+        Ok(()) => {},
+        Err(fault) => return Err(fault),
+    }
+    match plan(alloc, query) {
+        Ok(plan) => judge_needs(alloc, &plan, reply),
+        Err(_) => Err(CheckFault::Memory),
     }
 }
 
@@ -104,11 +96,8 @@ fn judge_trees(alloc: Global, query: &QueryText, reply: &Reply<'_>) -> Result<Ou
     ensures { let q = query_of query.now in let r = reply_of reply.now in
         Gives result (proof_fault q r) (seen_outcome q r.catalog r.trees) }
 {
-    let schemas = CatalogSchemas {
-        catalog: &reply.catalog,
-    };
-    match bind(alloc, &schemas, query) {
-        Ok(sides) => judge_bound(alloc, &sides, query, reply),
+    match bind(alloc, &reply.catalog, query) {
+        Ok(query) => judge_bound(alloc, &query, reply),
         Err(BindFault::Wrong(fault)) => judge_wrong(alloc, fault, query, reply),
         Err(BindFault::Memory) => Err(CheckFault::Memory),
     }

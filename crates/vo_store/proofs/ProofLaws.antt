@@ -1,8 +1,8 @@
 -- The proofs of a query by the left table's own proof, which shows all that the query needs of that table.
 use Rattle.std.proofs.Common.{◌≡◌, ℕ, zero, suc, ◌+◌, ◌<◌, ◌≤◌, Bool, true, false, cond, List, [], ◌∷◌, ◌++◌, Option, Some, None, length, map, inl, refl, sym, ap, ◌∙◌, subst, arith}
-use Rattle.std.specs.Prelude.{◌||◌, ◌==◌, find, is_some, bytes_eq, option_map, option_to_list}
+use Rattle.std.specs.Prelude.{◌||◌, ◌==◌, find, is_some, is_none, bytes_eq, option_map, option_to_list}
 use Rattle.std.specs.Option.{option_map_or}
-use Rattle.std.proofs.lemmas.Bool.{or_left, or_right, or_from}
+use Rattle.std.proofs.lemmas.Bool.{or_left, or_right, or_from, eqb-true}
 use Rattle.std.proofs.lemmas.List.{length-map}
 use Rattle.vo_spec.specs.declared.tables.Table.{Table}
 use Rattle.vo_spec.specs.declared.needs.Need.{Need}
@@ -27,12 +27,13 @@ use Rattle.vo_laws.proofs.ScanLaws.{Shows, complete}
 use Rattle.vo_laws.proofs.StoredFits.{catalog_fits}
 use Rattle.vo_laws.proofs.Exact.{named_stands, same_headings}
 use Rattle.vo_laws.proofs.NeedLaws.{needs_of_left}
-use Rattle.table_list.specs.Sided.{side_seen, sides_seen}
-use Rattle.table_list.specs.declared.sides.Side.{Side as HeldSide}
-use Rattle.table_list.specs.declared.sides.Sides.{Sides}
 use Rattle.stored_tables.specs.Standing.{IsStanding}
 use Rattle.query_plan.proofs.Narrow.{sides_narrow}
-use Rattle.vo_store.specs.Proving.{HasTable, proofs_of}
+use Rattle.query_plan.specs.BoundQueries.{bound_query}
+use Rattle.query_plan.specs.Plans.{QueryPlan, plan_of}
+use Rattle.query_plan.proofs.MeaningLaws.{left_need_same}
+use Rattle.plan_run.proofs.ByNames.{right_needs_same}
+use Rattle.vo_store.specs.Proving.{HasTable, HasTables, proofs_of, tree_by, left_proof, rights_by_proof, plan_proofs}
 
 -- Tables of a catalog are those of the trees.
 
@@ -68,7 +69,7 @@ module _ (stored : List Stored) where
   front (Some fault ∷ xs) ys e = e
 
   -- a query that binds is of tables that are there
-  pub side_there : (q : Query) → binding_fault hs q ≡ None → (i : ℕ) → i < length (sides hs q) → HasTable stored (side_at (sides hs q) i).table
+  pub side_there : (q : Query) → binding_fault hs q ≡ None → HasTables stored (sides hs q)
   side_there q e i lt =
       let ss : List Side = sides hs q in
       let tables = map (missing_table hs) (sources q) in
@@ -77,6 +78,11 @@ module _ (stored : List Stored) where
       let joins = refs ++ map (join_fault ss) (option_to_list q.join) in
       let kinds = map (kind_fault ss) (option_map_or comparisons q.condition []) in
       each_there (sources q) (front tables _ (front aliases _ (front refs _ (front joins kinds e)))) i (omega (arith, length-map (sources q) (side_of hs)))
+
+-- what is not there is nothing
+pub unseen_none : {A : Type 0} (o : Option A) → is_none o ≡ true → o ≡ None
+unseen_none None e = refl
+unseen_none (Some x) e = absurd (cc)
 
 -- a query of one source needs nothing of a right tree
 pub alone : (hs : List Heading) (q : Query) (ts : List RowTree) → length (sides hs q) ≡ 1 → right_needs (sides hs q) q ts ≡ []
@@ -87,10 +93,6 @@ alone hs q ts e = step q.join refl
     step (Some j) is =
         let two : length (sides hs q) ≡ 2 = ap (λ (o : Option Join). length (map (side_of hs) (q.left ∷ option_to_list (option_map (λ (k : Join). k.right) o)))) is in
         absurd (omega (arith, two, e))
-
--- sides by the right one, if there is one
-abbrev pub beside : HeldSide → Option HeldSide → List Side
-beside left right = side_seen left ∷ option_to_list (option_map side_seen right)
 
 module _ (stored : List Stored) (standing : IsStanding stored) (q : Query) where
   abbrev ss : List Side
@@ -163,68 +165,58 @@ module _ (stored : List Stored) (standing : IsStanding stored) (q : Query) where
   no_proofs fault e =
       by_first ∙ ap (λ (o : Option QueryFault). proofs_by is_one (cond (is_some o) [] (names is_one))) e ∙ none_each _
 
-  -- The same of sides that are held.
+  -- The same of the query's plan.
 
-  pub narrow_by : (held : List Side) → held ≡ ss → (i : ℕ) → length (schema_at held i).columns ≤ most_columns
-  narrow_by held is i = subst (λ sides. length (schema_at sides i).columns ≤ most_columns) (sym is) (narrow i)
+  abbrev plan : QueryPlan
+  plan = plan_of (bound_query ss q)
 
-  pub shown_by : (held : List Side) → held ≡ ss → (n : Need) → n ≡ left_need held q → (proof : RowTree) → proof ≡ pruned (n ∷ []) (stored_tree stored (side_at held 0).table)
-      → seen (left_need held q) proof ≡ None → ⊥
-  shown_by held is n n_is proof proof_is e =
-      let same : seen (left_need held q) (pruned (left_need held q ∷ []) (stored_tree stored (side_at held 0).table)) ≡ None =
-      sym (ap (seen (left_need held q)) (proof_is ∙ ap (λ m. pruned (m ∷ []) (stored_tree stored (side_at held 0).table)) n_is)) ∙ e in
-      first_shown (subst (λ sides. seen (left_need sides q) (pruned (left_need sides q ∷ []) (stored_tree stored (side_at sides 0).table)) ≡ None) is same)
+  same_need : plan.left_need ≡ need
+  same_need = left_need_same ss q
 
-  there_by : (held : List Side) → held ≡ ss → binding_fault (headings (catalog_of stored)) q ≡ None → (i : ℕ) → i < length held → HasTable stored (side_at held i).table
-  there_by held is e i lt =
-      let within : i < length ss = subst (λ sides. i < length sides) is lt in
-      subst (λ sides. HasTable stored (side_at sides i).table) (sym is) (side_there stored q e i within)
+  same_proof : left_proof plan stored ≡ first
+  same_proof = ap (λ (n : Need). pruned (n ∷ []) (tree 0)) same_need
 
-  pub left_there : (held : Sides) → sides_seen held ≡ ss → binding_fault (headings (catalog_of stored)) q ≡ None → HasTable stored held.left.table.now
-  left_there held is e = there_by (sides_seen held) is e 0 (omega arith)
+  same_rights : rights_by_proof plan stored ≡ right_needs ss q (first ∷ [])
+  same_rights = right_needs_same ss q (left_proof plan stored) ∙ ap (λ (t : RowTree). right_needs ss q (t ∷ [])) same_proof
 
-  pub right_there : (held : Sides) → sides_seen held ≡ ss → binding_fault (headings (catalog_of stored)) q ≡ None
-      → (right : HeldSide) → held.right ≡ Some right → HasTable stored right.table.now
-  right_there held is e right joined =
-      there_by (beside held.left (Some right)) (subst (λ r. beside held.left r ≡ ss) joined is) e 1 (omega arith)
+  -- by whether there is one source, and whether the tables are one
+  pub plan_same : binding_fault (headings (catalog_of stored)) q ≡ None → plan_proofs plan stored ≡ proofs_of q stored
+  plan_same e = step (length ss == 1) (same_table ss) refl refl
+    where
+      step : (one same : Bool) → (length ss == 1) ≡ one → same_table ss ≡ same
+          → cond one (left_proof plan stored ∷ []) (cond same (pruned (plan.left_need ∷ rights_by_proof plan stored) (tree 0) ∷ []) (left_proof plan stored ∷ pruned (rights_by_proof plan stored) (tree 1) ∷ []))
+          ≡ proofs_of q stored
+      step true same is f =
+          ap (λ (t : RowTree). t ∷ []) same_proof
+          ∙ ap (λ (ns : List Need). pruned (need ∷ ns) (tree 0) ∷ []) (sym (alone (headings (catalog_of stored)) q (first ∷ []) (eqb-true (length ss) 1 is)))
+          ∙ sym (one_proof e (or_left (length ss == 1) (same_table ss) is))
+      step false true is f =
+          ap (λ (n : Need). pruned (n ∷ rights_by_proof plan stored) (tree 0) ∷ []) same_need
+          ∙ ap (λ (ns : List Need). pruned (need ∷ ns) (tree 0) ∷ []) same_rights
+          ∙ sym (one_proof e (or_right (length ss == 1) (same_table ss) f))
+      step false false is f =
+          ap (λ (t : RowTree). t ∷ pruned (rights_by_proof plan stored) (tree 1) ∷ []) same_proof
+          ∙ ap (λ (ns : List Need). first ∷ pruned ns (tree 1) ∷ []) same_rights
+          ∙ sym (two_proofs e (or_from (length ss == 1) (same_table ss) is f))
 
-  module _ (held : List Side) (is : held ≡ ss) (e : binding_fault (headings (catalog_of stored)) q ≡ None) where
-    same_tree : (i : ℕ) (t : RowTree) → t ≡ stored_tree stored (side_at held i).table → t ≡ tree i
-    same_tree i t t_is = t_is ∙ ap (λ sides. stored_tree stored (side_at sides i).table) is
+  -- the left proof shows all that is needed of it
+  pub plan_shown : seen plan.left_need (left_proof plan stored) ≡ None → ⊥
+  plan_shown u = first_shown (sym (ap (seen need) same_proof) ∙ ap (λ (n : Need). seen n (left_proof plan stored)) (sym same_need) ∙ u)
 
-    same_need : (n : Need) → n ≡ left_need held q → n ≡ need
-    same_need n n_is = n_is ∙ ap (λ sides. left_need sides q) is
+-- The proofs of a plan, by whether there is one source, and whether the tables are one.
+module _ (p : QueryPlan) (stored : List Stored) where
+  abbrev made : Bool → Bool → List RowTree
+  made one same =
+      cond one (left_proof p stored ∷ []) (cond same (pruned (p.left_need ∷ rights_by_proof p stored) (tree_by p stored 0) ∷ []) (left_proof p stored ∷ pruned (rights_by_proof p stored) (tree_by p stored 1) ∷ []))
 
-    pub alone_by : length held ≡ 1 → (n : Need) → n ≡ left_need held q → (t : RowTree) → t ≡ stored_tree stored (side_at held 0).table
-        → proofs_of q stored ≡ pruned (n ∷ []) t ∷ []
-    alone_by one n n_is t t_is =
-        let single : length ss ≡ 1 = ap length (sym is) ∙ one in
-        one_proof e (or_left (length ss == 1) (same_table ss) (ap (λ k. k == 1) single))
-        ∙ ap (λ ns. pruned (need ∷ ns) (tree 0) ∷ []) (alone (headings (catalog_of stored)) q (first ∷ []) single)
-        ∙ ap (λ m. pruned (m ∷ []) (tree 0) ∷ []) (sym (same_need n n_is))
-        ∙ ap (λ x. pruned (n ∷ []) x ∷ []) (sym (same_tree 0 t t_is))
+  pub made_alone : (length p.query.sides == 1) ≡ true → left_proof p stored ∷ [] ≡ plan_proofs p stored
+  made_alone one = ap (λ b. made b (same_table p.query.sides)) (sym one)
 
-    module _ (n : Need) (n_is : n ≡ left_need held q) (proof : RowTree) (proof_is : proof ≡ pruned (n ∷ []) (stored_tree stored (side_at held 0).table))
-        (rights : List Need) (rights_are : rights ≡ right_needs held q (proof ∷ [])) where
-      same_proof : proof ≡ first
-      same_proof =
-          proof_is
-          ∙ ap (λ m. pruned (m ∷ []) (stored_tree stored (side_at held 0).table)) (same_need n n_is)
-          ∙ ap (λ sides. pruned (need ∷ []) (stored_tree stored (side_at sides 0).table)) is
+  module _ (two : (length p.query.sides == 1) ≡ false) (rights : List Need) (are : rights ≡ rights_by_proof p stored) where
+    pub made_of_both : same_table p.query.sides ≡ true → pruned (p.left_need ∷ rights) (tree_by p stored 0) ∷ [] ≡ plan_proofs p stored
+    made_of_both same =
+        ap (λ (ns : List Need). pruned (p.left_need ∷ ns) (tree_by p stored 0) ∷ []) are ∙ ap (made false) (sym same) ∙ ap (λ b. made b (same_table p.query.sides)) (sym two)
 
-      same_rights : rights ≡ right_needs ss q (first ∷ [])
-      same_rights = rights_are ∙ ap (λ p. right_needs held q (p ∷ [])) same_proof ∙ ap (λ sides. right_needs sides q (first ∷ [])) is
-
-      pub same_by : same_table held ≡ true → (t : RowTree) → t ≡ stored_tree stored (side_at held 0).table → proofs_of q stored ≡ pruned (n ∷ rights) t ∷ []
-      same_by same t t_is =
-          one_proof e (or_right (length ss == 1) (same_table ss) (ap same_table (sym is) ∙ same))
-          ∙ ap (λ ns. pruned (need ∷ ns) (tree 0) ∷ []) (sym same_rights)
-          ∙ ap (λ m. pruned (m ∷ rights) (tree 0) ∷ []) (sym (same_need n n_is))
-          ∙ ap (λ x. pruned (n ∷ rights) x ∷ []) (sym (same_tree 0 t t_is))
-
-      pub two_by : length held ≡ 2 → same_table held ≡ false → (t : RowTree) → t ≡ stored_tree stored (side_at held 1).table → proofs_of q stored ≡ proof ∷ pruned rights t ∷ []
-      two_by two same t t_is =
-          two_proofs e (or_from (length ss == 1) (same_table ss) (ap (λ k. k == 1) (ap length (sym is) ∙ two)) (ap same_table (sym is) ∙ same))
-          ∙ ap (λ p. p ∷ pruned (right_needs ss q (first ∷ [])) (tree 1) ∷ []) (sym same_proof)
-          ∙ ap (λ ns. proof ∷ pruned ns (tree 1) ∷ []) (sym same_rights)
-          ∙ ap (λ x. proof ∷ pruned rights x ∷ []) (sym (same_tree 1 t t_is))
+    pub made_of_each : same_table p.query.sides ≡ false → left_proof p stored ∷ pruned rights (tree_by p stored 1) ∷ [] ≡ plan_proofs p stored
+    made_of_each other =
+        ap (λ (ns : List Need). left_proof p stored ∷ pruned ns (tree_by p stored 1) ∷ []) are ∙ ap (made false) (sym other) ∙ ap (λ b. made b (same_table p.query.sides)) (sym two)

@@ -1,17 +1,44 @@
 -- The proofs that a reply has.
-use Rattle.std.specs.Prelude.{List, find, bytes_eq, is_some, IsTrue, ℕ}
+use Rattle.std.specs.Prelude.{ℕ, ◌<◌, ◌==◌, if◌then◌else◌, List, [], ◌∷◌, length, find, bytes_eq, is_some, IsTrue}
+use Rattle.vo_spec.specs.declared.needs.Need.{Need}
 use Rattle.vo_spec.specs.Conditions.{Query}
-use Rattle.vo_spec.specs.Results.{sides}
+use Rattle.vo_spec.specs.Results.{Side, sides, side_at}
 use Rattle.vo_spec.specs.Records.{headings}
 use Rattle.vo_spec.specs.Trees.{RowTree}
-use Rattle.vo_spec.specs.Needs.{needs}
-use Rattle.vo_spec.specs.Honest.{Stored, catalog_of, trees_for, pruned_each}
+use Rattle.vo_spec.specs.Pruned.{pruned}
+use Rattle.vo_spec.specs.Needs.{needs, same_table}
+use Rattle.vo_spec.specs.Honest.{Stored, catalog_of, stored_tree, trees_for, pruned_each}
+use Rattle.query_plan.specs.Plans.{QueryPlan}
+use Rattle.plan_run.specs.Running.{lefts_seen, needs_of}
 
 -- the trees of the query, with open what it needs of each
 abbrev pub proofs_of : Query → List Stored → List RowTree
 proofs_of q stored = let trees = trees_for q stored in
     pruned_each (needs (sides (headings (catalog_of stored)) q) q trees) trees
 
--- there is a table of this name
+-- there is a table of this name, and of each source's
 abbrev pub HasTable : List Stored → List ℕ → Type 0
 HasTable stored name = IsTrue (is_some (find (λ (s : Stored). bytes_eq s.name name) stored))
+
+abbrev pub HasTables : List Stored → List Side → Type 0
+HasTables stored ss = (i : ℕ) → i < length ss → HasTable stored (side_at ss i).table
+
+-- The same of a plan.
+
+-- the tree of a source's table, whole
+abbrev pub tree_by : QueryPlan → List Stored → ℕ → RowTree
+tree_by p stored i = stored_tree stored (side_at p.query.sides i).table
+
+-- the left table's own proof
+abbrev pub left_proof : QueryPlan → List Stored → RowTree
+left_proof p stored = pruned (p.left_need ∷ []) (tree_by p stored 0)
+
+-- what the left rows that it shows need of the right tree
+abbrev pub rights_by_proof : QueryPlan → List Stored → List Need
+rights_by_proof p stored = needs_of p (lefts_seen p (left_proof p stored))
+
+abbrev pub plan_proofs : QueryPlan → List Stored → List RowTree
+plan_proofs p stored =
+    if length p.query.sides == 1 then left_proof p stored ∷ []
+    else (if same_table p.query.sides then pruned (p.left_need ∷ rights_by_proof p stored) (tree_by p stored 0) ∷ []
+    else left_proof p stored ∷ pruned (rights_by_proof p stored) (tree_by p stored 1) ∷ [])

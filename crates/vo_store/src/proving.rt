@@ -1,25 +1,28 @@
 //! The trees of a reply: those of the query's tables, with open what it needs of each.
-ghost use Rattle.std.specs.Prelude.{◌≡◌, [], ◌∷◌, None, Some, IfOk};
+ghost use Rattle.std.specs.Prelude.{◌≡◌, ◌≤◌, [], ◌∷◌, None, Some, length, IfOk};
+ghost use Rattle.vo_spec.specs.Batches.{most_columns};
 ghost use Rattle.vo_spec.specs.Conditions.{query_of};
-ghost use Rattle.vo_spec.specs.Records.{headings};
-ghost use Rattle.vo_spec.specs.Results.{binding_fault, side_at, sides as sides_of};
+ghost use Rattle.vo_spec.specs.Results.{schema_at};
+ghost use Rattle.vo_spec.specs.Scans.{seen};
 ghost use Rattle.vo_spec.specs.Pruned.{pruned};
-ghost use Rattle.vo_spec.specs.Needs.{left_need as left_need_of, right_needs as right_needs_of};
 ghost use Rattle.vo_spec.specs.Honest.{catalog_of, stored_tree};
 ghost use Rattle.mb_tree.specs.View.{part_of};
 ghost use Rattle.table_list.specs.Sided.{sides_seen};
+ghost use Rattle.query_plan.specs.BoundViews.{query_seen};
+ghost use Rattle.query_plan.specs.Plans.{plan_of};
+ghost use Rattle.query_plan.specs.PlanViews.{plan_seen};
+ghost use Rattle.plan_run.specs.Running.{lefts_seen, needs_of};
 ghost use Rattle.stored_tables.specs.Standing.{IsStanding};
 ghost use Rattle.vo_format.specs.View.{trees_of};
-ghost use Rattle.vo_store.specs.Proving.{HasTable, proofs_of};
+ghost use Rattle.vo_store.specs.Proving.{HasTable, HasTables, left_proof, plan_proofs, proofs_of};
 
 use mb_tree::{PartTree, Tree};
 use plan_run::right_needs;
-use query_plan::{CatalogSchemas, left_need, same_table};
+use query_plan::{BindFault, Plan, Query, Side, bind, copy_need, plan, same_table};
 use range_proof::prune;
 use std::alloc::{AllocError, Global};
 use std::slice;
 use stored_tables::StoredTables;
-use table_list::{BindFault, Side, Sides, bind};
 use vo_spec::{Catalog, Name, Need, QueryText, ScanFault};
 
 fn tree_of<'t>(tables: &'t StoredTables, name: &Name) -> &'t Tree
@@ -35,19 +38,13 @@ fn tree_of<'t>(tables: &'t StoredTables, name: &Name) -> &'t Tree
 /// What the query needs of the right tree, by the proof of the left one for its need, which shows all of it.
 fn needs_by_proof(
     alloc: Global,
-    tables: &StoredTables,
-    sides: &Sides<'_>,
-    query: &QueryText,
-    need: &Need,
+    plan: &Plan<'_>,
     proof: &PartTree<'_>,
 ) -> Result<Vec<Need>, AllocError>
-    requires standing { IsStanding tables.now }
-    requires bound { sides_seen sides.now ≡ sides_of (headings (catalog_of tables.now)) (query_of query.now) }
-    requires need { need.now ≡ left_need_of (sides_seen sides.now) (query_of query.now) }
-    requires proof { part_of proof.now ≡ pruned (need.now ∷ []) (stored_tree tables.now (side_at (sides_seen sides.now) 0).table) }
-    ensures { IfOk result (λ needs. needs.items ≡ right_needs_of (sides_seen sides.now) (query_of query.now) (part_of proof.now ∷ [])) }
+    requires shown { seen plan.now.left_need (part_of proof.now) ≡ None → ⊥ }
+    ensures { IfOk result (λ needs. needs.items ≡ needs_of (plan_seen plan.now) (lefts_seen (plan_seen plan.now) (part_of proof.now))) }
 {
-    match right_needs(alloc, sides, query, need, proof) {
+    match right_needs(alloc, plan, proof) {
         Ok(needs) => Ok(needs),
         Err(ScanFault::Missing) => unreachable!(),
         Err(ScanFault::Memory) => Err(AllocError),
@@ -58,14 +55,14 @@ fn needs_by_proof(
 fn proof_of_both<'t>(
     alloc: Global,
     tree: &'t Tree,
-    left: Need,
+    left: &Need,
     rights: Vec<Need>,
 ) -> Result<PartTree<'t>, AllocError>
-    ensures { IfOk result (λ proof. part_of proof ≡ pruned (left ∷ rights.items) tree.now) }
+    ensures { IfOk result (λ proof. part_of proof ≡ pruned (left.now ∷ rights.items) tree.now) }
 {
-    let mut rights = rights;
-    rights.insert(0, left)?;
-    prune(alloc, tree, &rights)
+    let mut needs = rights;
+    needs.insert(0, copy_need(alloc, left)?)?;
+    prune(alloc, tree, &needs)
 }
 
 fn one_proof(alloc: Global, proof: PartTree<'_>) -> Result<Vec<PartTree<'_>>, AllocError>
@@ -93,10 +90,10 @@ fn two_proofs<'t>(
 fn proofs_of_both<'t>(
     alloc: Global,
     tree: &'t Tree,
-    left: Need,
+    left: &Need,
     rights: Vec<Need>,
 ) -> Result<Vec<PartTree<'t>>, AllocError>
-    ensures { IfOk result (λ proofs. trees_of proofs ≡ pruned (left ∷ rights.items) tree.now ∷ []) }
+    ensures { IfOk result (λ proofs. trees_of proofs ≡ pruned (left.now ∷ rights.items) tree.now ∷ []) }
 {
     let proof = proof_of_both(alloc, tree, left, rights)?;
     one_proof(alloc, proof)
@@ -119,27 +116,42 @@ fn proofs_of_each<'t>(
 fn joined_proofs<'t>(
     alloc: Global,
     tables: &'t StoredTables,
-    sides: &Sides<'_>,
-    query: &QueryText,
+    plan: &Plan<'_>,
     right: &Side<'_>,
-    need: Need,
     proof: PartTree<'t>,
 ) -> Result<Vec<PartTree<'t>>, AllocError>
-    requires standing { IsStanding tables.now }
-    requires bound { sides_seen sides.now ≡ sides_of (headings (catalog_of tables.now)) (query_of query.now) }
-    requires right { binding_fault (headings (catalog_of tables.now)) (query_of query.now) ≡ None }
-    requires joined { sides.now.right ≡ Some right.now }
-    requires need { need ≡ left_need_of (sides_seen sides.now) (query_of query.now) }
-    requires proof { part_of proof ≡ pruned (need ∷ []) (stored_tree tables.now (side_at (sides_seen sides.now) 0).table) }
-    ensures { IfOk result (λ trees. trees_of trees ≡ proofs_of (query_of query.now) tables.now) }
+    requires left { HasTable tables.now plan.now.query.now.sides.left.table.now }
+    requires right { HasTable tables.now right.now.table.now }
+    requires joined { plan.now.query.now.sides.right ≡ Some right.now }
+    requires proof { part_of proof ≡ left_proof (plan_seen plan.now) tables.now }
+    requires shown { seen plan.now.left_need (part_of proof) ≡ None → ⊥ }
+    ensures { IfOk result (λ trees. trees_of trees ≡ plan_proofs (plan_seen plan.now) tables.now) }
 {
-    let rights = needs_by_proof(alloc, tables, sides, query, &need, &proof)?;
-    if same_table(sides) {
-        let tree = tree_of(tables, sides.left.table);
-        proofs_of_both(alloc, tree, need, rights)
+    let rights = needs_by_proof(alloc, plan, &proof)?;
+    if same_table(&plan.query.sides) {
+        let tree = tree_of(tables, plan.query.sides.left.table);
+        proofs_of_both(alloc, tree, &plan.left_need, rights)
     } else {
         let tree = tree_of(tables, right.table);
         proofs_of_each(alloc, proof, tree, &rights)
+    }
+}
+
+/// The proofs of a plan.
+fn plan_proofs<'t>(
+    alloc: Global,
+    tables: &'t StoredTables,
+    plan: &Plan<'_>,
+) -> Result<Vec<PartTree<'t>>, AllocError>
+    requires tables { HasTables tables.now (sides_seen plan.now.query.now.sides) }
+    requires shown { seen plan.now.left_need (left_proof (plan_seen plan.now) tables.now) ≡ None → ⊥ }
+    ensures { IfOk result (λ trees. trees_of trees ≡ plan_proofs (plan_seen plan.now) tables.now) }
+{
+    let tree = tree_of(tables, plan.query.sides.left.table);
+    let proof = prune(alloc, tree, slice::from_ref(&plan.left_need))?;
+    match &plan.query.sides.right {
+        Some(right) => joined_proofs(alloc, tables, plan, right, proof),
+        None => one_proof(alloc, proof),
     }
 }
 
@@ -147,21 +159,16 @@ fn joined_proofs<'t>(
 fn bound_proofs<'t>(
     alloc: Global,
     tables: &'t StoredTables,
-    sides: &Sides<'_>,
-    query: &QueryText,
+    query: &Query<'_>,
 ) -> Result<Vec<PartTree<'t>>, AllocError>
-    requires standing { IsStanding tables.now }
-    requires bound { sides_seen sides.now ≡ sides_of (headings (catalog_of tables.now)) (query_of query.now) }
-    requires right { binding_fault (headings (catalog_of tables.now)) (query_of query.now) ≡ None }
-    ensures { IfOk result (λ trees. trees_of trees ≡ proofs_of (query_of query.now) tables.now) }
+    requires tables { HasTables tables.now (sides_seen query.now.sides) }
+    requires left { length (schema_at (sides_seen query.now.sides) 0).columns ≤ most_columns }
+    requires right { length (schema_at (sides_seen query.now.sides) 1).columns ≤ most_columns }
+    requires shown { let p = plan_of (query_seen query.now) in seen p.left_need (left_proof p tables.now) ≡ None → ⊥ }
+    ensures { IfOk result (λ trees. trees_of trees ≡ plan_proofs (plan_of (query_seen query.now)) tables.now) }
 {
-    let tree = tree_of(tables, sides.left.table);
-    let need = left_need(alloc, sides, query)?;
-    let proof = prune(alloc, tree, slice::from_ref(&need))?;
-    match &sides.right {
-        Some(right) => joined_proofs(alloc, tables, sides, query, right, need, proof),
-        None => one_proof(alloc, proof),
-    }
+    let plan = plan(alloc, query)?;
+    plan_proofs(alloc, tables, &plan)
 }
 
 /// The proofs of a reply: none for a query that the catalog doesn't bear out.
@@ -175,9 +182,8 @@ pub(crate) fn proofs_for<'t>(
     requires catalog { catalog.now ≡ catalog_of tables.now }
     ensures { IfOk result (λ trees. trees_of trees ≡ proofs_of (query_of query.now) tables.now) }
 {
-    let schemas = CatalogSchemas { catalog };
-    match bind(alloc, &schemas, query) {
-        Ok(sides) => bound_proofs(alloc, tables, &sides, query),
+    match bind(alloc, catalog, query) {
+        Ok(query) => bound_proofs(alloc, tables, &query),
         Err(BindFault::Wrong(_)) => Ok(Vec::new(alloc)),
         Err(BindFault::Memory) => Err(AllocError),
     }

@@ -1,20 +1,20 @@
-use Rattle.std.proofs.Common.{◌≡◌, true, false}
-use Rattle.vo_spec.specs.Conditions.{query_of}
-use Rattle.vo_spec.specs.Needs.{meets_left}
-use Rattle.table_list.specs.Sided.{sides_seen}
-use Rattle.plan_run.specs.Lines.{line_seen}
+use Rattle.std.proofs.Common.{refl, sym, ◌∙◌}
+use Rattle.vo_spec.specs.Needs.{seen_line}
+use Rattle.query_plan.specs.Plans.{meets_left}
+use Rattle.query_plan.specs.PlanViews.{plan_seen}
 use Rattle.plan_run.proofs.AnswerSteps.{filter_kept, filter_passed}
 use Rattle.plan_run.proofs.seeing.lefts_of.Goals as goal
 use Rattle.plan_run.proofs.seeing.lefts_of.Goals.{then-meets_left+in_ok-push, else-meets_left}
 
-pub loop-line-preserved : goal.loop-line-preserved
-loop-line-preserved c =
-    let test = meets_left (sides_seen c.args.sides.now) (query_of c.args.query.now) in
+pub loop-row-preserved : goal.loop-row-preserved
+loop-row-preserved c =
+    let test = meets_left (plan_seen c.args.plan.now) in
+    let line = seen_line c.args.plan.now.query.now.sides.left.schema.now c.as_slice-cells.result.now in
     elim c.if-meets_left.branch [
       | then-meets_left+in_ok-push w ↦
-          let kept : meets_left (sides_seen c.args.sides.now) (query_of c.args.query.now) (line_seen c.line-item.result) ≡ true = cc in
-          rw (w.lefts-is, w.in_ok-push.ensures.items) (filter_kept test _ _ _ _ _ c.loop-line-test.true c.line-item.is kept c.loop-line.invariant)
+          rw (w.lefts-is, w.in_ok-push.ensures.items)
+          (filter_kept test line c.args.seen.now c.loop-row.row-index c.row-item.result c.loop-row.lefts.items _ _ refl c.loop-row-test.true c.row-item.is (sym c.meets_left.ensures ∙ w.if-meets_left.true) c.loop-row.invariant)
       | else-meets_left w ↦
-          let passed : meets_left (sides_seen c.args.sides.now) (query_of c.args.query.now) (line_seen c.line-item.result) ≡ false = cc in
-          rw w.lefts-is (filter_passed test _ _ _ _ _ c.loop-line-test.true c.line-item.is passed c.loop-line.invariant)
+          rw w.lefts-is
+          (filter_passed test line c.args.seen.now c.loop-row.row-index c.row-item.result c.loop-row.lefts.items _ c.loop-row-test.true c.row-item.is (sym c.meets_left.ensures ∙ w.if-meets_left.false) c.loop-row.invariant)
     ]

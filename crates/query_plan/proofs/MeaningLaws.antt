@@ -1,0 +1,264 @@
+-- What a query says by its columns' numbers is what it says by names.
+use Rattle.std.proofs.Common.{◌≡◌, ℕ, Bool, true, false, cond, List, [], ◌∷◌, ◌++◌, Option, Some, None, length, map, refl, sym, ap, ◌∙◌}
+use Rattle.std.specs.Prelude.{not, ◌&&◌, ◌||◌, ◌==◌, filter, option_map}
+use Rattle.std.specs.Option.{option_map_or}
+use Rattle.std.specs.List.{list_any, list_all}
+use Rattle.std.proofs.lemmas.List.{map-append}
+use Rattle.vo_spec.specs.declared.values.Value.{Value}
+use Rattle.vo_spec.specs.declared.needs.Need.{Need}
+use Rattle.vo_spec.specs.declared.keys.Interval.{Interval}
+use Rattle.vo_spec.specs.declared.queries.Ref.{Ref}
+use Rattle.vo_spec.specs.declared.queries.Cmp.{Cmp}
+use Rattle.vo_spec.specs.declared.queries.Cmp.TheVariants as cmp
+use Rattle.vo_spec.specs.declared.queries.Operand.{Operand}
+use Rattle.vo_spec.specs.declared.queries.Operand.TheVariants.{Ref as Column, Literal}
+use Rattle.vo_spec.specs.declared.queries.Items.{Items}
+use Rattle.vo_spec.specs.declared.queries.Items.TheVariants.{All, Refs}
+use Rattle.vo_spec.specs.declared.queries.Join.{Join}
+use Rattle.vo_spec.specs.Values.{value_cmp, key_of}
+use Rattle.vo_spec.specs.Tables.{cell_number}
+use Rattle.vo_spec.specs.Conditions.{Condition, Conditions, every, some, negated, test, none, more, operand_refs, condition_refs, conditions_refs, operand_value, compares, truth, all_true, any_true, Query, is_met}
+use Rattle.vo_spec.specs.Results.{Side, Place, schema_at, place_of, join_places, item_refs, join_refs, query_refs, numbers_from, shown_places, Line, place_value, ref_value}
+use Rattle.vo_spec.specs.Needs.{all_keys, keys_that, shared, join_value, test_interval, interval_of, interval_of_all, is_left, left_truth, left_truths, is_place, shows_all, is_named_column, named_cells, left_need, right_need, meets_left as meets_by_names}
+use Rattle.query_plan.specs.BoundConditions.{BoundTerm, BoundCondition, BoundConditions, conjunction, disjunction, negation, comparison, no_parts, part_and, term_value, bound_truth, every_true, some_true, all_hold, term_places, condition_places, parts_places, comparison_interval, bound_interval, shared_interval, is_left_place, is_on_left, one_where, conjuncts_where, all_where}
+use Rattle.query_plan.specs.BoundQueries.{bound_term, bound_condition, bound_conditions, bound_join, bound_query, join_columns, query_places}
+use Rattle.query_plan.specs.Named.{is_at, names, is_named_cell, bound_cells}
+use Rattle.query_plan.specs.Plans.{plan_of, left_column, right_need_of, meets_left}
+
+-- Tests of mapped items, and tests that agree.
+
+all_mapped : {A B : Type 0} (p : B → Bool) (f : A → B) (xs : List A) → list_all p (map f xs) ≡ list_all (λ x. p (f x)) xs
+all_mapped p f [] = refl
+all_mapped p f (x ∷ xs) = ap (λ b. p (f x) && b) (all_mapped p f xs)
+
+any_mapped : {A B : Type 0} (p : B → Bool) (f : A → B) (xs : List A) → list_any p (map f xs) ≡ list_any (λ x. p (f x)) xs
+any_mapped p f [] = refl
+any_mapped p f (x ∷ xs) = ap (λ b. p (f x) || b) (any_mapped p f xs)
+
+pub same_filter : {A : Type 0} (p q : A → Bool) → ((x : A) → p x ≡ q x) → (xs : List A) → filter p xs ≡ filter q xs
+same_filter p q e [] = refl
+same_filter p q e (x ∷ xs) = ap (λ b. cond b (x ∷ filter p xs) (filter p xs)) (e x) ∙ ap (λ ys. cond (q x) (x ∷ ys) ys) (same_filter p q e xs)
+
+-- The columns that a condition speaks of are those that its references mean.
+
+module _ (ss : List Side) where
+  term_columns : (o : Operand) → term_places (bound_term ss o) ≡ map (place_of ss) (operand_refs o)
+  term_columns (Column r) = refl
+  term_columns (Literal v) = refl
+
+  mutual
+    pub condition_columns : (c : Condition) → condition_places (bound_condition ss c) ≡ map (place_of ss) (condition_refs c)
+    condition_columns (every cs) = parts_columns cs
+    condition_columns (some cs) = parts_columns cs
+    condition_columns (negated c) = condition_columns c
+    condition_columns (test left op right) = ap (λ ps. place_of ss left ∷ ps) (term_columns right)
+
+    parts_columns : (cs : Conditions) → parts_places (bound_conditions ss cs) ≡ map (place_of ss) (conditions_refs cs)
+    parts_columns none = refl
+    parts_columns (more c cs) =
+        ap (λ ps. ps ++ parts_places (bound_conditions ss cs)) (condition_columns c)
+        ∙ ap (λ ps. map (place_of ss) (condition_refs c) ++ ps) (parts_columns cs)
+        ∙ sym (map-append (place_of ss) (condition_refs c) (conditions_refs cs))
+
+  left_columns : (c : Condition) → is_on_left (bound_condition ss c) ≡ is_left ss c
+  left_columns c = ap (list_all is_left_place) (condition_columns c) ∙ all_mapped is_left_place (place_of ss) (condition_refs c)
+
+-- Truth.
+
+module _ (ss : List Side) (row : Place → Value) where
+  abbrev by_name : Ref → Value
+  by_name r = row (place_of ss r)
+
+  term_valued : (o : Operand) → term_value row (bound_term ss o) ≡ operand_value by_name o
+  term_valued (Column r) = refl
+  term_valued (Literal v) = refl
+
+  mutual
+    pub truth_same : (c : Condition) → bound_truth row (bound_condition ss c) ≡ truth by_name c
+    truth_same (every cs) = every_same cs
+    truth_same (some cs) = some_same cs
+    truth_same (negated c) = ap not (truth_same c)
+    truth_same (test left op right) = ap (λ v. compares op (value_cmp (row (place_of ss left)) v)) (term_valued right)
+
+    every_same : (cs : Conditions) → every_true row (bound_conditions ss cs) ≡ all_true by_name cs
+    every_same none = refl
+    every_same (more c cs) = ap (λ b. b && every_true row (bound_conditions ss cs)) (truth_same c) ∙ ap (λ b. truth by_name c && b) (every_same cs)
+
+    some_same : (cs : Conditions) → some_true row (bound_conditions ss cs) ≡ any_true by_name cs
+    some_same none = refl
+    some_same (more c cs) = ap (λ b. b || some_true row (bound_conditions ss cs)) (truth_same c) ∙ ap (λ b. truth by_name c || b) (some_same cs)
+
+  pub met_same : (o : Option Condition) → option_map_or (bound_truth row) (option_map (bound_condition ss) o) true ≡ is_met by_name o
+  met_same None = refl
+  met_same (Some c) = truth_same c
+
+-- The left interval.
+
+module _ (ss : List Side) where
+  abbrev key : ℕ
+  key = (schema_at ss 0).key
+
+  comparison_same : (left : Ref) (op : Cmp) (o : Operand) → comparison_interval key (place_of ss left) op (bound_term ss o) ≡ test_interval ss left op o
+  comparison_same left op (Column r) = refl
+  comparison_same left op (Literal v) = refl
+
+  mutual
+    interval_same : (c : Condition) → bound_interval key (bound_condition ss c) ≡ interval_of ss c
+    interval_same (every cs) = intervals_same cs
+    interval_same (some cs) = refl
+    interval_same (negated c) = refl
+    interval_same (test left op right) = comparison_same left op right
+
+    intervals_same : (cs : Conditions) → shared_interval key (bound_conditions ss cs) ≡ interval_of_all ss cs
+    intervals_same none = refl
+    intervals_same (more c cs) =
+        ap (λ i. shared i (shared_interval key (bound_conditions ss cs))) (interval_same c) ∙ ap (shared (interval_of ss c)) (intervals_same cs)
+
+  left_interval : (o : Option Condition) → option_map_or (bound_interval key) (option_map (bound_condition ss) o) all_keys ≡ option_map_or (interval_of ss) o all_keys
+  left_interval None = refl
+  left_interval (Some c) = interval_same c
+
+-- The left condition, and both.
+
+hold_append : (row : Place → Value) (xs ys : List BoundCondition) → all_hold row (xs ++ ys) ≡ (all_hold row xs && all_hold row ys)
+hold_append row [] ys = refl
+hold_append row (x ∷ xs) ys = ap (λ b. bound_truth row x && b) (hold_append row xs ys) ∙ and_assoc (bound_truth row x) (all_hold row xs) (all_hold row ys)
+  where
+    and_assoc : (a b c : Bool) → (a && (b && c)) ≡ ((a && b) && c)
+    and_assoc true b c = refl
+    and_assoc false b c = refl
+
+and_true : (b : Bool) → (b && true) ≡ b
+and_true true = refl
+and_true false = refl
+
+module _ (row : Place → Value) where
+  one_left : (c : BoundCondition) → all_hold row (one_where true c) ≡ cond (is_on_left c) (bound_truth row c) true
+  one_left c = step (is_on_left c)
+    where
+      step : (b : Bool) → all_hold row (cond b (c ∷ []) []) ≡ cond b (bound_truth row c) true
+      step true = and_true (bound_truth row c)
+      step false = refl
+
+  one_of_both : (c : BoundCondition) → (all_hold row (one_where true c) && all_hold row (one_where false c)) ≡ bound_truth row c
+  one_of_both c = step (is_on_left c)
+    where
+      step : (b : Bool) → (all_hold row (cond b (c ∷ []) []) && all_hold row (cond (not b) (c ∷ []) [])) ≡ bound_truth row c
+      step true = and_true (bound_truth row c && true) ∙ and_true (bound_truth row c)
+      step false = and_true (bound_truth row c)
+
+  regroup : (a b c d : Bool) → ((a && b) && (c && d)) ≡ ((a && c) && (b && d))
+  regroup false b c d = refl
+  regroup true true c d = refl
+  regroup true false true d = refl
+  regroup true false false d = refl
+
+  -- the conjuncts together are the condition
+  mutual
+    pub conjuncts_hold : (c : BoundCondition) → (all_hold row (conjuncts_where true c) && all_hold row (conjuncts_where false c)) ≡ bound_truth row c
+    conjuncts_hold (conjunction cs) = parts_hold cs
+    conjuncts_hold (disjunction cs) = one_of_both (disjunction cs)
+    conjuncts_hold (negation c) = one_of_both (negation c)
+    conjuncts_hold (comparison left op right) = one_of_both (comparison left op right)
+
+    parts_hold : (cs : BoundConditions) → (all_hold row (all_where true cs) && all_hold row (all_where false cs)) ≡ every_true row cs
+    parts_hold no_parts = refl
+    parts_hold (part_and c cs) =
+        ap (λ b. b && all_hold row (all_where false (part_and c cs))) (hold_append row (conjuncts_where true c) (all_where true cs))
+        ∙ ap (λ b. (all_hold row (conjuncts_where true c) && all_hold row (all_where true cs)) && b) (hold_append row (conjuncts_where false c) (all_where false cs))
+        ∙ regroup (all_hold row (conjuncts_where true c)) (all_hold row (all_where true cs)) (all_hold row (conjuncts_where false c)) (all_hold row (all_where false cs))
+        ∙ ap (λ b. b && (all_hold row (all_where true cs) && all_hold row (all_where false cs))) (conjuncts_hold c)
+        ∙ ap (λ b. bound_truth row c && b) (parts_hold cs)
+
+module _ (ss : List Side) (row : Place → Value) where
+  abbrev named : Ref → Value
+  named r = row (place_of ss r)
+
+  one_same : (c : Condition) → all_hold row (one_where true (bound_condition ss c)) ≡ cond (is_left ss c) (truth named c) true
+  one_same c =
+      one_left row (bound_condition ss c)
+      ∙ ap (λ b. cond b (bound_truth row (bound_condition ss c)) true) (left_columns ss c)
+      ∙ ap (λ t. cond (is_left ss c) t true) (truth_same ss row c)
+
+  mutual
+    pub left_same : (c : Condition) → all_hold row (conjuncts_where true (bound_condition ss c)) ≡ left_truth ss named c
+    left_same (every cs) = lefts_same cs
+    left_same (some cs) = one_same (some cs)
+    left_same (negated c) = one_same (negated c)
+    left_same (test left op right) = one_same (test left op right)
+
+    lefts_same : (cs : Conditions) → all_hold row (all_where true (bound_conditions ss cs)) ≡ left_truths ss named cs
+    lefts_same none = refl
+    lefts_same (more c cs) =
+        hold_append row (conjuncts_where true (bound_condition ss c)) (all_where true (bound_conditions ss cs))
+        ∙ ap (λ b. b && all_hold row (all_where true (bound_conditions ss cs))) (left_same c)
+        ∙ ap (λ b. left_truth ss named c && b) (lefts_same cs)
+
+-- The cells that a query names.
+
+module _ (ss : List Side) (q : Query) where
+  join_places_same : (j : Option Join) → option_map_or join_columns (option_map (bound_join ss) j) [] ≡ map (place_of ss) (option_map_or join_refs j [])
+  join_places_same None = refl
+  join_places_same (Some j) = refl
+
+  where_places_same : (o : Option Condition) → option_map_or condition_places (option_map (bound_condition ss) o) [] ≡ map (place_of ss) (option_map_or condition_refs o [])
+  where_places_same None = refl
+  where_places_same (Some c) = condition_columns ss c
+
+  abbrev on_refs : List Ref
+  on_refs = option_map_or join_refs q.join []
+
+  abbrev where_refs : List Ref
+  where_refs = option_map_or condition_refs q.condition []
+
+  -- by the items, of which references mean what is shown
+  places_by : (rs : List Ref) → (map (place_of ss) rs ++ option_map_or join_columns (option_map (bound_join ss) q.join) []) ++ option_map_or condition_places (option_map (bound_condition ss) q.condition) []
+      ≡ map (place_of ss) ((rs ++ on_refs) ++ where_refs)
+  places_by rs =
+      ap (λ ps. (map (place_of ss) rs ++ ps) ++ option_map_or condition_places (option_map (bound_condition ss) q.condition) []) (join_places_same q.join)
+      ∙ ap (λ ps. (map (place_of ss) rs ++ map (place_of ss) on_refs) ++ ps) (where_places_same q.condition)
+      ∙ ap (λ ps. ps ++ map (place_of ss) where_refs) (sym (map-append (place_of ss) rs on_refs))
+      ∙ sym (map-append (place_of ss) (rs ++ on_refs) where_refs)
+
+  names_by : (items : Items) (at : Place)
+      → (shows_all items || list_any (is_at at) ((shown_places ss items ++ option_map_or join_columns (option_map (bound_join ss) q.join) []) ++ option_map_or condition_places (option_map (bound_condition ss) q.condition) []))
+      ≡ (shows_all items || list_any (λ r. is_place (place_of ss r) at) ((item_refs items ++ on_refs) ++ where_refs))
+  names_by All at = refl
+  names_by (Refs rs) at = ap (list_any (is_at at)) (places_by rs) ∙ any_mapped (is_at at) (place_of ss) ((rs ++ on_refs) ++ where_refs)
+
+  names_same : (side column : ℕ) → names (bound_query ss q) (record { side = side; column = column }) ≡ is_named_column ss q side column
+  names_same side column = names_by q.items (record { side = side; column = column })
+
+  pub cells_same : (side : ℕ) → bound_cells (bound_query ss q) side ≡ named_cells ss q side
+  cells_same side =
+      ap (map (cell_number (schema_at ss side).key))
+      (same_filter (is_named_cell (bound_query ss q) side (schema_at ss side).key) (λ column. not (column == (schema_at ss side).key) && is_named_column ss q side column)
+      (λ column. ap (λ b. not (column == (schema_at ss side).key) && b) (names_same side column))
+      (numbers_from 0 (length (schema_at ss side).columns)))
+
+  -- The parts of a plan.
+
+  pub left_need_same : (plan_of (bound_query ss q)).left_need ≡ left_need ss q
+  left_need_same =
+      ap (λ (i : Interval). let n : Need = record { interval = i; columns = bound_cells (bound_query ss q) 0 } in n) (left_interval ss q.condition)
+      ∙ ap (λ (cs : List ℕ). let n : Need = record { interval = option_map_or (interval_of ss) q.condition all_keys; columns = cs } in n) (cells_same 0)
+
+  choice : (b : Bool) (x y : Place) → cond b y x ≡ (let p : Place × Place = cond b (y, x) (x, y) in p.0)
+  choice true x y = refl
+  choice false x y = refl
+
+  column_same : (j : Join) → left_column (bound_join ss j) ≡ (join_places ss j).0
+  column_same j = choice ((place_of ss j.left_ref).side == 1) (place_of ss j.left_ref) (place_of ss j.right_ref)
+
+  pub right_need_same : (j : Join) (left : Line) → right_need_of (plan_of (bound_query ss q)) (bound_join ss j) left ≡ right_need ss q j left
+  right_need_same j left =
+      ap (λ (p : Place). let n : Need = record { interval = keys_that cmp.Eq (key_of (place_value (left ∷ []) p)); columns = bound_cells (bound_query ss q) 1 } in n) (column_same j)
+      ∙ ap (λ (cs : List ℕ). let n : Need = record { interval = keys_that cmp.Eq (key_of (join_value ss j left)); columns = cs } in n) (cells_same 1)
+
+  meets_by : (o : Option Condition) (left : Line) → all_hold (place_value (left ∷ [])) (option_map_or (conjuncts_where true) (option_map (bound_condition ss) o) [])
+      ≡ option_map_or (left_truth ss (ref_value ss (left ∷ []))) o true
+  meets_by None left = refl
+  meets_by (Some c) left = left_same ss (place_value (left ∷ [])) c
+
+  pub meets_same : (left : Line) → meets_left (plan_of (bound_query ss q)) left ≡ meets_by_names ss q left
+  meets_same left = meets_by q.condition left

@@ -1,0 +1,11 @@
+use Rattle.query_plan.proofs.MeaningLaws.{left_need_same, right_need_same, meets_same}
+use Rattle.query_plan.proofs.laws.plans_keep_needs.Goals as goal
+
+pub returns-clause-left : goal.returns-clause-left
+returns-clause-left c = λ ss q. left_need_same ss q
+
+pub returns-clause-right : goal.returns-clause-right
+returns-clause-right c = λ ss q j line. right_need_same ss q j line
+
+pub returns-clause-kept : goal.returns-clause-kept
+returns-clause-kept c = λ ss q line. meets_same ss q line

@@ -1,0 +1,46 @@
+-- Bound conditions and queries as the program holds them.
+use Rattle.std.specs.Prelude.{List, [], ◌∷◌, map, Option, option_map}
+use Rattle.vo_spec.specs.Results.{Place}
+use Rattle.table_list.specs.Sided.{sides_seen, place_seen}
+use Rattle.query_plan.specs.declared.bound_cond.BoundOperand.{BoundOperand}
+use Rattle.query_plan.specs.declared.bound_cond.BoundOperand.TheVariants.{Column, Literal}
+use Rattle.query_plan.specs.declared.bound_cond.BoundCond.{BoundCond, fold-BoundCond}
+use Rattle.query_plan.specs.declared.bound_cond.BoundCond.TheOpen.{BoundCond-F}
+use Rattle.query_plan.specs.declared.bound_cond.Conjunct.{Conjunct}
+use Rattle.query_plan.specs.declared.bound_query.BoundJoin.{BoundJoin}
+use Rattle.query_plan.specs.declared.bound_query.Query.{Query as HeldQuery}
+use Rattle.query_plan.specs.BoundConditions.{BoundTerm, column, literal, BoundCondition, BoundConditions, conjunction, disjunction, negation, comparison, no_parts, part_and}
+use Rattle.query_plan.specs.BoundQueries.{BoundQuery}
+
+abbrev pub term_seen : BoundOperand → BoundTerm
+term_seen (Column p) = column (place_seen p)
+term_seen (Literal v) = literal v.now
+
+abbrev pub parts_seen : List BoundCondition → BoundConditions
+parts_seen [] = no_parts
+parts_seen (c ∷ cs) = part_and c (parts_seen cs)
+
+-- one level, its parts already seen
+abbrev pub layer_seen : BoundCond-F BoundCondition → BoundCondition
+layer_seen (BoundCond-F.All parts) = conjunction (parts_seen parts)
+layer_seen (BoundCond-F.Any parts) = disjunction (parts_seen parts)
+layer_seen (BoundCond-F.Not part) = negation part.value
+layer_seen (BoundCond-F.Test left op right) = comparison (place_seen left) op (term_seen right)
+
+abbrev pub condition_seen : BoundCond → BoundCondition
+condition_seen = fold-BoundCond BoundCondition layer_seen
+
+abbrev pub conjunct_seen : Conjunct → BoundCondition
+conjunct_seen c = condition_seen c.cond.now
+
+abbrev pub join_seen : BoundJoin → Place × Place
+join_seen on = (place_seen on.first, place_seen on.second)
+
+abbrev pub query_seen : HeldQuery → BoundQuery
+query_seen h = record {
+  sides = sides_seen h.sides;
+  items = h.items.now;
+  output = map place_seen h.output.items;
+  join = option_map join_seen h.join;
+  condition = option_map condition_seen h.condition;
+}

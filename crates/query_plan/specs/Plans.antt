@@ -1,0 +1,50 @@
+-- Plans: what of a query can be worked out before any row is seen.
+use Rattle.std.specs.Prelude.{ℕ, Bool, ◌==◌, true, false, if◌then◌else◌, List, [], ◌∷◌, Option}
+use Rattle.std.specs.Option.{option_map_or}
+use Rattle.vo_spec.specs.declared.needs.Need.{Need}
+use Rattle.vo_spec.specs.declared.queries.Cmp.TheVariants as cmp
+use Rattle.vo_spec.specs.Values.{key_of}
+use Rattle.vo_spec.specs.Results.{Place, schema_at, Line, place_value}
+use Rattle.vo_spec.specs.Needs.{all_keys, keys_that}
+use Rattle.query_plan.specs.BoundConditions.{BoundCondition, all_hold, bound_interval, conjuncts_where}
+use Rattle.query_plan.specs.BoundQueries.{BoundQuery}
+use Rattle.query_plan.specs.Named.{bound_cells}
+
+-- The bound query, the need of the left tree, the cells that each need of the right tree names, and the
+-- conjuncts of the left and of the late condition.
+pub record QueryPlan : Type 0 where
+  pub query : BoundQuery
+  pub left_need : Need
+  pub right_cells : List ℕ
+  pub left : List BoundCondition
+  pub late : List BoundCondition
+
+abbrev pub bound_left_need : BoundQuery → Need
+bound_left_need b = record {
+  interval = option_map_or (bound_interval (schema_at b.sides 0).key) b.condition all_keys;
+  columns = bound_cells b 0;
+}
+
+abbrev pub plan_of : BoundQuery → QueryPlan
+plan_of b = record {
+  query = b;
+  left_need = bound_left_need b;
+  right_cells = bound_cells b 1;
+  left = option_map_or (conjuncts_where true) b.condition [];
+  late = option_map_or (conjuncts_where false) b.condition [];
+}
+
+-- ON's column of the left source
+abbrev pub left_column : Place × Place → Place
+left_column on = if on.0.side == 1 then on.1 else on.0
+
+-- what a left row needs of the right tree: the row whose key is ON's value
+abbrev pub right_need_of : QueryPlan → Place × Place → Line → Need
+right_need_of p on left = record {
+  interval = keys_that cmp.Eq (key_of (place_value (left ∷ []) (left_column on)));
+  columns = p.right_cells;
+}
+
+-- whether a left row meets the left condition
+abbrev pub meets_left : QueryPlan → Line → Bool
+meets_left p left = all_hold (place_value (left ∷ [])) p.left

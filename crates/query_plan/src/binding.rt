@@ -1,0 +1,169 @@
+//! Queries bound to the tables of a catalog.
+ghost use Rattle.std.specs.Prelude.{◌≡◌, None, map, option_map, IfOk};
+ghost use Rattle.vo_spec.specs.Conditions.{conditions, condition_of, query_of};
+ghost use Rattle.vo_spec.specs.Records.{headings};
+ghost use Rattle.vo_spec.specs.Results.{sides as sides_of, side_of, missing_table, binding_fault};
+ghost use Rattle.table_list.specs.Sided.{side_seen, sides_seen};
+ghost use Rattle.table_list.specs.Binding.{Passes};
+ghost use Rattle.query_plan.specs.BoundQueries.{bound_term, bound_condition, bound_conditions, bound_join, bound_query};
+ghost use Rattle.query_plan.specs.BoundViews.{term_seen, parts_seen, condition_seen, join_seen, query_seen};
+
+use crate::bound_cond::{BoundCond, BoundOperand};
+use crate::bound_query::{BoundJoin, Query};
+use crate::catalogs::{CatalogSchemas, find_schema};
+use std::alloc::{AllocError, Global};
+use table_list::{BindFault, Side, Sides, shown_places};
+use vo_spec::{Catalog, Cond, Join, List, Operand, QueryText, Source};
+
+fn bind_operand<'q>(sides: &Sides<'_>, operand: &'q Operand) -> BoundOperand<'q>
+    ensures { term_seen result ≡ bound_term (sides_seen sides.now) operand.now }
+{
+    match operand {
+        Operand::Ref(reference) => BoundOperand::Column(sides.place_of(reference)),
+        Operand::Literal(value) => BoundOperand::Literal(value),
+    }
+}
+
+#[cycle(bind_condition)]
+fn bind_condition<'q>(
+    alloc: Global,
+    sides: &Sides<'_>,
+    cond: &'q Cond,
+) -> Result<BoundCond<'q>, AllocError>
+    ensures { IfOk result (λ bound. condition_seen bound ≡ bound_condition (sides_seen sides.now) (condition_of cond.now)) }
+{
+    match cond {
+        Cond::All(parts) => {
+            let parts = bind_parts(alloc, sides, parts.as_slice())?;
+            Ok(BoundCond::All(parts))
+        },
+        Cond::Any(parts) => {
+            let parts = bind_parts(alloc, sides, parts.as_slice())?;
+            Ok(BoundCond::Any(parts))
+        },
+        Cond::Not(part) => {
+            let part = bind_condition(alloc, sides, part)?;
+            Ok(BoundCond::Not(Box::new(alloc, part)?))
+        },
+        Cond::Test { left, op, right } => Ok(BoundCond::Test {
+            left: sides.place_of(left),
+            op: *op,
+            right: bind_operand(sides, right),
+        }),
+    }
+}
+
+#[cycle(bind_condition)]
+fn bind_parts<'q>(
+    alloc: Global,
+    sides: &Sides<'_>,
+    parts: &'q [Cond],
+) -> Result<List<BoundCond<'q>>, AllocError>
+    ensures { IfOk result (λ bound. parts_seen (map condition_seen bound) ≡ bound_conditions (sides_seen sides.now) (conditions (map condition_of parts.now))) }
+{
+    let mut bound = Vec::with_capacity(alloc, parts.len())?;
+    for part in parts {
+        bound.push(bind_condition(alloc, sides, part)?)?;
+    }
+    Ok(List::from_vec(bound))
+}
+
+fn bind_where<'q>(
+    alloc: Global,
+    sides: &Sides<'_>,
+    cond: &'q Option<Cond>,
+) -> Result<Option<BoundCond<'q>>, AllocError>
+    ensures { IfOk result (λ bound. option_map condition_seen bound ≡ option_map (bound_condition (sides_seen sides.now)) (option_map condition_of cond.now)) }
+{
+    match cond {
+        Some(cond) => Ok(Some(bind_condition(alloc, sides, cond)?)),
+        None => Ok(None),
+    }
+}
+
+fn bind_join(sides: &Sides<'_>, join: &Option<Join>) -> Option<BoundJoin>
+    ensures { option_map join_seen result ≡ option_map (bound_join (sides_seen sides.now)) join.now }
+{
+    match join {
+        Some(join) => Some(BoundJoin {
+            first: sides.place_of(&join.left_ref),
+            second: sides.place_of(&join.right_ref),
+        }),
+        None => None,
+    }
+}
+
+/// The query over the columns of its sources.
+#[tactic(auto, using(crate::proofs::SourceLaws::sources_joined))]
+fn bind_query<'q>(
+    alloc: Global,
+    sides: Sides<'q>,
+    catalog: &Catalog,
+    text: &'q QueryText,
+) -> Result<Query<'q>, AllocError>
+    requires { sides_seen sides ≡ sides_of (headings catalog.now) (query_of text.now) }
+    ensures { IfOk result (λ query. query_seen query ≡ bound_query (sides_seen sides.entry) (query_of text.now)) }
+{
+    let output = shown_places(alloc, &sides, &text.items)?;
+    let join = bind_join(&sides, &text.join);
+    let condition = bind_where(alloc, &sides, &text.cond)?;
+    Ok(Query {
+        sides,
+        items: &text.items,
+        output,
+        join,
+        condition,
+    })
+}
+
+/// A source whose table is there, with the table's schema.
+fn find_side<'q>(catalog: &'q Catalog, source: &'q Source) -> Side<'q>
+    requires { missing_table (headings catalog.now) source.now ≡ None }
+    ensures { side_seen result ≡ side_of (headings catalog.now) source.now }
+{
+    match find_schema(catalog.tables.as_slice(), source.table.as_bytes()) {
+        Some(schema) => Side {
+            alias: &source.alias,
+            table: &source.table,
+            schema,
+        },
+        None => unreachable!(),
+    }
+}
+
+/// The sources of a query that passes all tests.
+#[tactic(auto, using(crate::proofs::SourceLaws::left_there, crate::proofs::SourceLaws::right_there))]
+fn find_sides<'q>(catalog: &'q Catalog, text: &'q QueryText) -> Sides<'q>
+    requires { binding_fault (headings catalog.now) (query_of text.now) ≡ None }
+    ensures { sides_seen result ≡ sides_of (headings catalog.now) (query_of text.now) }
+{
+    let left = find_side(catalog, &text.left);
+    let right = match &text.join {
+        Some(join) => Some(find_side(catalog, &join.right)),
+        None => None,
+    };
+    Sides { left, right }
+}
+
+/// The query over the columns of its tables, or the first of its tests that fails. Names are looked up here
+/// alone.
+pub fn bind<'q>(
+    alloc: Global,
+    catalog: &'q Catalog,
+    text: &'q QueryText,
+) -> Result<Query<'q>, BindFault>
+    // Each reference is the column that it names.
+    ensures value { IfOk result (λ query. query_seen query ≡ bound_query (sides_of (headings catalog.now) (query_of text.now)) (query_of text.now)) }
+
+    // No test finds a fault, or the fault is the first that they find.
+    ensures fault { Passes result (binding_fault (headings catalog.now) (query_of text.now)) }
+{
+    let schemas = CatalogSchemas { catalog };
+    match table_list::bind(alloc, &schemas, text) {
+        Ok(_) => {
+            let sides = find_sides(catalog, text);
+            Ok(bind_query(alloc, sides, catalog, text)?)
+        },
+        Err(fault) => Err(fault),
+    }
+}

@@ -1,0 +1,29 @@
+//! Conditions whose references are columns by their numbers.
+use table_list::Place;
+use vo_spec::{Cmp, List, Value};
+
+/// The right side of a comparison.
+#[derive(Clone, Copy)]
+pub enum BoundOperand<'q> {
+    Column(Place),
+    Literal(&'q Value),
+}
+
+/// A condition that is bound to the sources of its query.
+#[derive(Drop)]
+pub enum BoundCond<'q> {
+    All(List<BoundCond<'q>>),
+    Any(List<BoundCond<'q>>),
+    Not(Box<BoundCond<'q>>),
+    Test {
+        left: Place,
+        op: Cmp,
+        right: BoundOperand<'q>,
+    },
+}
+
+/// A conjunct of a condition.
+#[derive(Clone, Copy)]
+pub struct Conjunct<'c, 'q> {
+    pub cond: &'c BoundCond<'q>,
+}

@@ -1,0 +1,28 @@
+//! Queries whose references are columns by their numbers.
+ghost use Rattle.std.specs.Prelude.{◌≡◌, is_some};
+
+use crate::bound_cond::BoundCond;
+use table_list::{Place, Sides};
+use vo_spec::Items;
+
+/// The two columns of ON in the order of the text.
+#[derive(Clone, Copy)]
+pub struct BoundJoin {
+    pub first: Place,
+    pub second: Place,
+}
+
+/// A query that is bound to the tables of a catalog.
+#[derive(Drop)]
+pub struct Query<'q> {
+    /// The sources with their tables' names and schemas.
+    pub sides: Sides<'q>,
+    /// The items as the text has them, for the titles.
+    pub items: &'q Items,
+    /// The columns that are shown.
+    pub output: Vec<Place>,
+    pub join: Option<BoundJoin>,
+    pub condition: Option<BoundCond<'q>>,
+    // There is a right source where there is a join.
+    ghost joined: { is_some join ≡ is_some sides.right },
+}

@@ -1,0 +1,17 @@
+//! Plans of queries.
+use crate::bound_cond::Conjunct;
+use crate::bound_query::Query;
+use vo_spec::{List, Need};
+
+/// A query with what it needs of the left tree, and which cells of the right one.
+#[derive(Drop)]
+pub struct Plan<'p, 'q> {
+    pub query: &'p Query<'q>,
+    pub left_need: Need,
+    /// The cells that each need of the right tree names.
+    pub right_cells: List<u8>,
+    /// The left condition: the conjuncts on left columns alone.
+    pub left: Vec<Conjunct<'p, 'q>>,
+    /// The late condition: the other conjuncts.
+    pub late: Vec<Conjunct<'p, 'q>>,
+}

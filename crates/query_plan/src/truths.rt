@@ -1,0 +1,89 @@
+//! When rows of a query's sources meet a bound condition.
+ghost use Rattle.std.specs.Prelude.{◌≡◌, map, drop};
+ghost use Rattle.vo_spec.specs.Lent.{value_of};
+ghost use Rattle.vo_spec.specs.Conditions.{compares};
+ghost use Rattle.table_list.specs.Sided.{place_seen};
+ghost use Rattle.query_plan.specs.BoundConditions.{term_value, bound_truth, every_true, some_true, all_hold};
+ghost use Rattle.query_plan.specs.BoundViews.{term_seen, parts_seen, condition_seen, conjunct_seen};
+
+use crate::bound_cond::{BoundCond, BoundOperand, Conjunct};
+use crate::rows::PlaceValues;
+use std::cmp::Ordering;
+use table_list::compare_values;
+use vo_spec::{Cmp, ValueRef};
+
+fn compares(op: Cmp, ordering: Ordering) -> bool
+    ensures { result ≡ compares op ordering }
+{
+    match op {
+        Cmp::Eq => ordering.is_eq(),
+        Cmp::Ne => ordering.is_ne(),
+        Cmp::Lt => ordering.is_lt(),
+        Cmp::Le => ordering.is_le(),
+        Cmp::Gt => ordering.is_gt(),
+        Cmp::Ge => ordering.is_ge(),
+    }
+}
+
+fn operand_value<'r, V: PlaceValues>(operand: &'r BoundOperand<'r>, rows: &'r V) -> ValueRef<'r>
+    ensures { value_of result ≡ term_value (V.values rows.now) (term_seen operand.now) }
+{
+    match operand {
+        BoundOperand::Column(place) => rows.value(*place),
+        BoundOperand::Literal(value) => value.as_ref(),
+    }
+}
+
+/// Whether the condition is true of the rows.
+#[cycle(truth)]
+fn truth<V: PlaceValues>(cond: &BoundCond<'_>, rows: &V) -> bool
+    ensures { result ≡ bound_truth (V.values rows.now) (condition_seen cond.now) }
+{
+    match cond {
+        BoundCond::All(parts) => every_true(parts.as_slice(), rows),
+        BoundCond::Any(parts) => some_true(parts.as_slice(), rows),
+        BoundCond::Not(part) => !truth(part, rows),
+        BoundCond::Test { left, op, right } => {
+            compares(
+                *op,
+                compare_values(rows.value(*left), operand_value(right, rows)),
+            )
+        },
+    }
+}
+
+#[cycle(truth)]
+fn every_true<V: PlaceValues>(parts: &[BoundCond<'_>], rows: &V) -> bool
+    ensures { result ≡ every_true (V.values rows.now) (parts_seen (map condition_seen parts.now)) }
+{
+    for part in parts {
+        if !truth(part, rows) {
+            return false;
+        }
+    }
+    true
+}
+
+#[cycle(truth)]
+fn some_true<V: PlaceValues>(parts: &[BoundCond<'_>], rows: &V) -> bool
+    ensures { result ≡ some_true (V.values rows.now) (parts_seen (map condition_seen parts.now)) }
+{
+    for part in parts {
+        if truth(part, rows) {
+            return true;
+        }
+    }
+    false
+}
+
+/// Whether all of these conjuncts are true of the rows.
+pub fn all_hold<V: PlaceValues>(conjuncts: &[Conjunct<'_, '_>], rows: &V) -> bool
+    ensures { result ≡ all_hold (V.values rows.now) (map conjunct_seen conjuncts.now) }
+{
+    for conjunct in conjuncts {
+        if !truth(conjunct.cond, rows) {
+            return false;
+        }
+    }
+    true
+}
