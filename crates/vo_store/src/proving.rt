@@ -127,9 +127,10 @@ fn joined_proofs<'t>(
     requires shown { seen plan.now.left_need (part_of proof) ≡ None → ⊥ }
     ensures { IfOk result (λ trees. trees_of trees ≡ plan_proofs (plan_seen plan.now) tables.now) }
 {
+    let query = plan.query;
     let rights = needs_by_proof(alloc, plan, &proof)?;
-    if same_table(&plan.query.sides) {
-        let tree = tree_of(tables, plan.query.sides.left.table);
+    if same_table(&query.sides) {
+        let tree = tree_of(tables, query.sides.left.table);
         proofs_of_both(alloc, tree, &plan.left_need, rights)
     } else {
         let tree = tree_of(tables, right.table);
@@ -147,9 +148,10 @@ fn plan_proofs<'t>(
     requires shown { seen plan.now.left_need (left_proof (plan_seen plan.now) tables.now) ≡ None → ⊥ }
     ensures { IfOk result (λ trees. trees_of trees ≡ plan_proofs (plan_seen plan.now) tables.now) }
 {
-    let tree = tree_of(tables, plan.query.sides.left.table);
+    let query = plan.query;
+    let tree = tree_of(tables, query.sides.left.table);
     let proof = prune(alloc, tree, slice::from_ref(&plan.left_need))?;
-    match &plan.query.sides.right {
+    match &query.sides.right {
         Some(right) => joined_proofs(alloc, tables, plan, right, proof),
         None => one_proof(alloc, proof),
     }
