@@ -31,11 +31,11 @@ pub fn answer(
     }
 }
 
-fn asked(
+fn asked<'q>(
     alloc: Global,
-    catalog: &Catalog,
+    catalog: &'q Catalog,
     call: PlanCall,
-    query: &QueryText,
+    query: &'q QueryText,
     more: &[u8],
 ) -> io::Result<String> {
     match bind(alloc, catalog, query) {
@@ -89,14 +89,14 @@ impl Line for Fields {
 }
 
 /// What the query needs for a left row of these values, none where the row doesn't meet the condition.
-fn right(alloc: Global, plan: &Plan<'_>, values: &[u8]) -> io::Result<String> {
+fn right(alloc: Global, plan: &Plan<'_, '_>, values: &[u8]) -> io::Result<String> {
     match take_values(alloc, values)? {
         Ok(values) => right_of(alloc, plan, &Fields { values }),
         Err(fault) => shown(alloc, &fault),
     }
 }
 
-fn right_of(alloc: Global, plan: &Plan<'_>, row: &Fields) -> io::Result<String> {
+fn right_of(alloc: Global, plan: &Plan<'_, '_>, row: &Fields) -> io::Result<String> {
     let Some(join) = plan.query.join else {
         return word(alloc, "no join");
     };

@@ -11,14 +11,14 @@ use std::io;
 use vo_format::{Cursor, PartTree, ReadFault, take_tree};
 
 /// The rows that the trees show for the plan, and what it needs of each.
-pub fn run(alloc: Global, plan: &Plan<'_>, bytes: &[u8]) -> io::Result<String> {
+pub fn run(alloc: Global, plan: &Plan<'_, '_>, bytes: &[u8]) -> io::Result<String> {
     match take_all(alloc, bytes) {
         Ok(trees) => run_on(alloc, plan, &trees),
         Err(fault) => shown(alloc, &fault),
     }
 }
 
-fn run_on(alloc: Global, plan: &Plan<'_>, trees: &[PartTree<'_>]) -> io::Result<String> {
+fn run_on(alloc: Global, plan: &Plan<'_, '_>, trees: &[PartTree<'_>]) -> io::Result<String> {
     if !has_trees(&plan.query.sides, trees) {
         return word(alloc, "other trees");
     }
@@ -26,7 +26,7 @@ fn run_on(alloc: Global, plan: &Plan<'_>, trees: &[PartTree<'_>]) -> io::Result<
 }
 
 /// What the query needs of the right tree by what the left one shows.
-pub fn right_needs_of(alloc: Global, plan: &Plan<'_>, bytes: &[u8]) -> io::Result<String> {
+pub fn right_needs_of(alloc: Global, plan: &Plan<'_, '_>, bytes: &[u8]) -> io::Result<String> {
     match take_tree(alloc, &mut Cursor::new(bytes)) {
         Ok(left) => shown(alloc, &right_needs(alloc, plan, &left)),
         Err(fault) => shown(alloc, &fault),

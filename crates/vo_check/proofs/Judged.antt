@@ -1,6 +1,6 @@
 -- The tests of a reply, one after another.
 use Rattle.std.specs.Prelude.{zip}
-use Rattle.std.proofs.Common.{◌≡◌, ℕ, ◌==◌, Bool, true, false, if◌then◌else◌, List, [], ◌∷◌, length, map, Option, Some, None, is_some, Result, Ok, Err, refl, sym, ap, ◌∙◌, ◌⊎◌, inl, inr}
+use Rattle.std.proofs.Common.{◌≡◌, ℕ, ◌==◌, Bool, true, false, if◌then◌else◌, List, [], ◌∷◌, length, map, Option, Some, None, is_some, Result, Ok, Err, refl, sym, ap, subst, ◌∙◌, ◌⊎◌, inl, inr}
 use Rattle.std.proofs.lemmas.Bool.{eqb-true}
 use Rattle.vo_spec.specs.declared.checks.CheckFault.{CheckFault}
 use Rattle.vo_spec.specs.declared.checks.CheckFault.TheVariants.{Missing, Memory}
@@ -69,6 +69,13 @@ trees_refused b r names are fault (inr found) =
 pub trees_passed : (b : BoundQuery) (r : Reply) (names : List (List ℕ)) → names ≡ tables_used b.sides → trees_fault names r ≡ None → bound_fault b r ≡ needs_fault (needed_for (plan_of b) r)
 trees_passed b r names are none =
     ap (λ o. first_some (o ∷ needs_fault (needed_for (plan_of b) r) ∷ [])) (ap (λ ns. trees_fault ns r) (sym are) ∙ none) ∙ alone (needs_fault (needed_for (plan_of b) r))
+
+-- a bound query whose trees pass is judged by what its plan needs
+pub bound_given : (b : BoundQuery) (r : Reply) (names : List (List ℕ)) → names ≡ tables_used b.sides → trees_fault names r ≡ None → (p : QueryPlan) → p ≡ plan_of b → (result : Result Outcome CheckFault)
+    → Gives result (needs_fault (needed_for p r)) (shown_for p r) → Gives result (bound_fault b r) (shown_for (plan_of b) r)
+bound_given b r names are none p is result given =
+    subst (λ (o : Option CheckFault). Gives result o (shown_for (plan_of b) r)) (sym (trees_passed b r names are none))
+    (subst (λ (x : QueryPlan). Gives result (needs_fault (needed_for x r)) (shown_for x r)) is given)
 
 -- The tests of trees.
 

@@ -27,6 +27,8 @@ use Rattle.vo_laws.proofs.ScanLaws.{Shows, complete}
 use Rattle.vo_laws.proofs.StoredFits.{catalog_fits}
 use Rattle.vo_laws.proofs.Exact.{named_stands, same_headings}
 use Rattle.vo_laws.proofs.NeedLaws.{needs_of_left}
+use Rattle.table_list.specs.declared.sides.Side.{Side as HeldSide}
+use Rattle.table_list.specs.Sided.{side_seen}
 use Rattle.stored_tables.specs.Standing.{IsStanding}
 use Rattle.query_plan.proofs.Narrow.{sides_narrow}
 use Rattle.query_plan.specs.BoundQueries.{bound_query}
@@ -202,6 +204,10 @@ module _ (stored : List Stored) (standing : IsStanding stored) (q : Query) where
   -- the left proof shows all that is needed of it
   pub plan_shown : seen plan.left_need (left_proof plan stored) ≡ None → ⊥
   plan_shown u = first_shown (sym (ap (seen need) same_proof) ∙ ap (λ (n : Need). seen n (left_proof plan stored)) (sym same_need) ∙ u)
+
+-- a left source, with a right one beside it if there is one
+abbrev pub beside : HeldSide → Option HeldSide → List Side
+beside left right = side_seen left ∷ option_to_list (option_map side_seen right)
 
 -- The proofs of a plan, by whether there is one source, and whether the tables are one.
 module _ (p : QueryPlan) (stored : List Stored) where

@@ -38,7 +38,7 @@ fn tree_of<'t>(tables: &'t StoredTables, name: &Name) -> &'t Tree
 /// What the query needs of the right tree, by the proof of the left one for its need, which shows all of it.
 fn needs_by_proof(
     alloc: Global,
-    plan: &Plan<'_>,
+    plan: &Plan<'_, '_>,
     proof: &PartTree<'_>,
 ) -> Result<Vec<Need>, AllocError>
     requires shown { seen plan.now.left_need (part_of proof.now) ≡ None → ⊥ }
@@ -116,7 +116,7 @@ fn proofs_of_each<'t>(
 fn joined_proofs<'t>(
     alloc: Global,
     tables: &'t StoredTables,
-    plan: &Plan<'_>,
+    plan: &Plan<'_, '_>,
     right: &Side<'_>,
     proof: PartTree<'t>,
 ) -> Result<Vec<PartTree<'t>>, AllocError>
@@ -127,9 +127,10 @@ fn joined_proofs<'t>(
     requires shown { seen plan.now.left_need (part_of proof) ≡ None → ⊥ }
     ensures { IfOk result (λ trees. trees_of trees ≡ plan_proofs (plan_seen plan.now) tables.now) }
 {
+    let query = plan.query;
     let rights = needs_by_proof(alloc, plan, &proof)?;
-    if same_table(&plan.query.sides) {
-        let tree = tree_of(tables, plan.query.sides.left.table);
+    if same_table(&query.sides) {
+        let tree = tree_of(tables, query.sides.left.table);
         proofs_of_both(alloc, tree, &plan.left_need, rights)
     } else {
         let tree = tree_of(tables, right.table);
@@ -141,15 +142,16 @@ fn joined_proofs<'t>(
 fn plan_proofs<'t>(
     alloc: Global,
     tables: &'t StoredTables,
-    plan: &Plan<'_>,
+    plan: &Plan<'_, '_>,
 ) -> Result<Vec<PartTree<'t>>, AllocError>
     requires tables { HasTables tables.now (sides_seen plan.now.query.now.sides) }
     requires shown { seen plan.now.left_need (left_proof (plan_seen plan.now) tables.now) ≡ None → ⊥ }
     ensures { IfOk result (λ trees. trees_of trees ≡ plan_proofs (plan_seen plan.now) tables.now) }
 {
-    let tree = tree_of(tables, plan.query.sides.left.table);
+    let query = plan.query;
+    let tree = tree_of(tables, query.sides.left.table);
     let proof = prune(alloc, tree, slice::from_ref(&plan.left_need))?;
-    match &plan.query.sides.right {
+    match &query.sides.right {
         Some(right) => joined_proofs(alloc, tables, plan, right, proof),
         None => one_proof(alloc, proof),
     }
@@ -172,11 +174,11 @@ fn bound_proofs<'t>(
 }
 
 /// The proofs of a reply: none for a query that the catalog doesn't bear out.
-pub(crate) fn proofs_for<'t>(
+pub(crate) fn proofs_for<'t, 'q>(
     alloc: Global,
     tables: &'t StoredTables,
-    catalog: &Catalog,
-    query: &QueryText,
+    catalog: &'q Catalog,
+    query: &'q QueryText,
 ) -> Result<Vec<PartTree<'t>>, AllocError>
     requires standing { IsStanding tables.now }
     requires catalog { catalog.now ≡ catalog_of tables.now }
