@@ -27,11 +27,7 @@ use vo_format::Reply;
 use vo_spec::{Answer, CheckFault, Outcome, QueryFault, QueryText, ScanFault};
 
 /// The rows that the trees show, which have all that the query needs and nothing else.
-fn judge_needs(
-    alloc: Global,
-    plan: &Plan<'_, '_>,
-    reply: &Reply<'_>,
-) -> Result<Outcome, CheckFault>
+fn judge_needs(alloc: Global, plan: &Plan<'_, '_>, reply: &Reply<'_>) -> Result<Outcome, CheckFault>
     requires { length (tables_used (sides_seen plan.now.query.now.sides)) ≡ length reply.now.trees.items }
     ensures { let p = plan_seen plan.now in let r = reply_of reply.now in
         Gives result (needs_fault (needed_for p r)) (shown_for p r) }
