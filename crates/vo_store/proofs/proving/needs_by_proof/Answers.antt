@@ -1,4 +1,3 @@
-use Rattle.std.proofs.Common.{◌≡◌, None}
 use Rattle.vo_store.proofs.ProofLaws.{unseen_none}
 use Rattle.vo_store.proofs.proving.needs_by_proof.Goals as goal
 

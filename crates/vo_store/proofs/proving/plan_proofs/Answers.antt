@@ -1,5 +1,4 @@
-use Rattle.std.proofs.Common.{◌≡◌, ◌==◌, true, List, [], ◌∷◌, Option, None, Some, length, ap, sym, subst, ◌∙◌, IfOk, arith}
-use Rattle.vo_spec.specs.Results.{Side, side_at}
+use Rattle.std.proofs.Common.{◌≡◌, ◌==◌, true, [], ◌∷◌, Option, None, Some, length, ap, sym, subst, ◌∙◌, IfOk, arith}
 use Rattle.vo_spec.specs.Trees.{RowTree}
 use Rattle.vo_spec.specs.Scans.{seen}
 use Rattle.vo_spec.specs.Pruned.{pruned}
@@ -8,7 +7,7 @@ use Rattle.table_list.specs.declared.sides.Side.{Side as HeldSide}
 use Rattle.table_list.specs.Sided.{sides_seen}
 use Rattle.query_plan.specs.PlanViews.{plan_seen}
 use Rattle.vo_format.specs.View.{trees_of}
-use Rattle.vo_store.specs.Proving.{HasTable, HasTables, left_proof}
+use Rattle.vo_store.specs.Proving.{HasTables, left_proof}
 use Rattle.vo_store.proofs.ProofLaws.{beside, made_alone}
 use Rattle.vo_store.proofs.proving.plan_proofs.Goals as goal
 
