@@ -1,10 +1,9 @@
 -- The proofs of a query by the left table's own proof, which shows all that the query needs of that table.
-use Rattle.std.proofs.Common.{◌≡◌, ℕ, zero, suc, ◌+◌, ◌<◌, ◌≤◌, Bool, true, false, cond, List, [], ◌∷◌, ◌++◌, Option, Some, None, length, map, inl, refl, sym, ap, ◌∙◌, subst, arith}
+use Rattle.std.proofs.Common.{◌≡◌, ℕ, zero, suc, ◌<◌, ◌≤◌, Bool, true, false, cond, List, [], ◌∷◌, ◌++◌, Option, Some, None, length, map, inl, refl, sym, ap, ◌∙◌, subst, arith}
 use Rattle.std.specs.Prelude.{◌||◌, ◌==◌, find, is_some, is_none, bytes_eq, option_map, option_to_list}
 use Rattle.std.specs.Option.{option_map_or}
 use Rattle.std.proofs.lemmas.Bool.{or_left, or_right, or_from, eqb-true}
 use Rattle.std.proofs.lemmas.List.{length-map}
-use Rattle.vo_spec.specs.declared.tables.Table.{Table}
 use Rattle.vo_spec.specs.declared.needs.Need.{Need}
 use Rattle.vo_spec.specs.declared.queries.Join.{Join}
 use Rattle.vo_spec.specs.declared.queries.Source.{Source}
@@ -19,7 +18,7 @@ use Rattle.vo_spec.specs.Parts.{entries}
 use Rattle.vo_spec.specs.Trees.{RowTree}
 use Rattle.vo_spec.specs.Scans.{seen}
 use Rattle.vo_spec.specs.Pruned.{is_missing, pruned}
-use Rattle.vo_spec.specs.Needs.{left_need, right_need, right_needs, seen_lefts, same_table, tables_used, tree_at}
+use Rattle.vo_spec.specs.Needs.{left_need, right_needs, same_table, tree_at}
 use Rattle.vo_spec.specs.Honest.{Stored, catalog_of, stored_tree, pruned_each}
 use Rattle.vo_laws.proofs.NamedFits.{cells_of, named_fits, named_cells_below}
 use Rattle.vo_laws.proofs.ReplyTrees.{pruned_complete}

@@ -1,12 +1,11 @@
-use Rattle.std.proofs.Common.{◌≡◌, ◌==◌, true, false, List, [], ◌∷◌, Option, length, ap, sym, subst, ◌∙◌, IfOk}
-use Rattle.std.specs.Prelude.{option_map, option_to_list}
-use Rattle.vo_spec.specs.Results.{Side, side_at}
+use Rattle.std.proofs.Common.{◌≡◌, ◌==◌, true, false, [], ◌∷◌, Option, length, ap, sym, subst, ◌∙◌, IfOk}
+use Rattle.vo_spec.specs.Results.{side_at}
 use Rattle.vo_spec.specs.Trees.{RowTree}
 use Rattle.vo_spec.specs.Pruned.{pruned}
 use Rattle.vo_spec.specs.Needs.{same_table}
 use Rattle.vo_spec.specs.Honest.{stored_tree}
 use Rattle.table_list.specs.declared.sides.Side.{Side as HeldSide}
-use Rattle.table_list.specs.Sided.{side_seen, sides_seen}
+use Rattle.table_list.specs.Sided.{sides_seen}
 use Rattle.query_plan.specs.PlanViews.{plan_seen}
 use Rattle.plan_run.specs.Running.{lefts_seen, needs_of}
 use Rattle.vo_format.specs.View.{trees_of}

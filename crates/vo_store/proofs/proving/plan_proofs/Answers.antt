@@ -1,5 +1,4 @@
-use Rattle.std.proofs.Common.{◌≡◌, ◌==◌, true, List, [], ◌∷◌, Option, None, Some, length, ap, sym, subst, ◌∙◌, IfOk, arith}
-use Rattle.vo_spec.specs.Results.{Side, side_at}
+use Rattle.std.proofs.Common.{◌≡◌, ◌==◌, true, [], ◌∷◌, Option, None, Some, length, ap, sym, subst, ◌∙◌, IfOk, arith}
 use Rattle.vo_spec.specs.Trees.{RowTree}
 use Rattle.vo_spec.specs.Scans.{seen}
 use Rattle.vo_spec.specs.Pruned.{pruned}
@@ -8,7 +7,7 @@ use Rattle.table_list.specs.declared.sides.Side.{Side as HeldSide}
 use Rattle.table_list.specs.Sided.{sides_seen}
 use Rattle.query_plan.specs.PlanViews.{plan_seen}
 use Rattle.vo_format.specs.View.{trees_of}
-use Rattle.vo_store.specs.Proving.{HasTable, HasTables, left_proof}
+use Rattle.vo_store.specs.Proving.{HasTables, left_proof}
 use Rattle.vo_store.proofs.ProofLaws.{beside, made_alone}
 use Rattle.vo_store.proofs.proving.plan_proofs.Goals as goal
 
@@ -20,7 +19,7 @@ joined_proofs-requires-clause-left c = c.requires.tables 0 (omega arith)
 
 pub joined_proofs-requires-clause-right : goal.joined_proofs-requires-clause-right
 joined_proofs-requires-clause-right c =
-    let both : HasTables c.args.tables.now (beside c.args.plan.now.query.now.sides.left (Some c.in-Some.right.now)) =
+    let both : HasTables c.args.tables.now (beside c.args.plan.now.query.now.sides.left (Some c.in-Some.right)) =
     subst (λ (r : Option HeldSide). HasTables c.args.tables.now (beside c.args.plan.now.query.now.sides.left r)) c.in-Some.is c.requires.tables in
     both 1 (omega arith)
 
@@ -35,8 +34,8 @@ joined_proofs-requires-clause-shown c =
     let proof : part_of c.in_ok-proof.proof ≡ left_proof (plan_seen c.args.plan.now) c.args.tables.now = made ∙ ap (pruned (c.args.plan.now.left_need ∷ [])) c.tree_of-tree.ensures in
     subst (λ (t : RowTree). seen c.args.plan.now.left_need t ≡ None → ⊥) (sym proof) c.requires.shown
 
-pub returns : goal.returns
-returns c =
+pub returns-in-None : goal.returns-in-None
+returns-in-None c =
     let one : (length (sides_seen c.args.plan.now.query.now.sides) == 1) ≡ true = ap (λ (r : Option HeldSide). length (beside c.args.plan.now.query.now.sides.left r) == 1) c.in-None.is in
     let made : part_of c.in_ok-proof.proof ≡ pruned (c.args.plan.now.left_need ∷ []) c.tree_of-tree.result.now = rw c.from_ref.ensures.value at c.in_ok-proof.ensures in
     let proof : part_of c.in_ok-proof.proof ≡ left_proof (plan_seen c.args.plan.now) c.args.tables.now = made ∙ ap (pruned (c.args.plan.now.left_need ∷ [])) c.tree_of-tree.ensures in
