@@ -1,1 +1,1 @@
-pub mod ChangedParts
+pub mod ChangeProofs

@@ -104,7 +104,7 @@ fn proved_of(alloc: Global, tables: &StoredTables, op: &Op) -> io::Result<String
     }
 }
 
-#[tactic(auto, using(crate::proofs::ChangedParts::update_proof_fits))]
+#[tactic(auto, using(crate::proofs::ChangeProofs::update_proof_fits))]
 fn proof_of<'b>(alloc: Global, tree: &'b Tree, op: &Op) -> Result<PartTree<'b>, AllocError>
     requires { FitsTree tree.now }
     ensures { IfOk result (λ part. FitsPart (part_of part)) }
