@@ -8,12 +8,10 @@ use Rattle.grammar.specs.Text.{NestsIn, Spells}
 use Rattle.sql_tokens.specs.declared.kinds.TokenKind.{TokenKind}
 use Rattle.sql_tokens.specs.declared.kinds.TokenKind.TheVariants as k
 use Rattle.sql_tokens.specs.Lex.{Token, Placed}
-use Rattle.vo_spec.specs.declared.values.Value.{Value}
 use Rattle.vo_spec.specs.declared.tables.Column.{Column}
 use Rattle.vo_spec.specs.declared.tables.SetPart.{SetPart}
 use Rattle.vo_spec.specs.declared.tables.Command.{Command}
 use Rattle.vo_spec.specs.declared.tables.Batch.{Batch}
-use Rattle.vo_spec.specs.Names.{FitsName}
 use Rattle.vo_spec.specs.Values.{FitsValue}
 use Rattle.vo_spec.specs.Batches.{FitsCommand, FitsColumn, FitsSet, FitCounted}
 use Rattle.vo_spec.specs.Conditions.{Condition}
@@ -27,31 +25,20 @@ use Rattle.sql_text.specs.Scripts.{IsScript, AnswersScript}
 use Rattle.sql_text.specs.Fits.{FitCommands, AllFit}
 use Rattle.sql_text.proofs.Made.{Made, made, of_before, of_closed, of_parens, few_listed, few_ended, all_mapped}
 use Rattle.sql_text.proofs.BatchLengths.{IsSmall, text_small, script_small}
-use Rattle.sql_text.proofs.TokenFits.{number_fits}
-use Rattle.sql_text.proofs.TokenSounds.{AreUtf8, IsSound, name_fits, value_fits}
+use Rattle.sql_text.proofs.Named.{named_fits, literal_fits}
+use Rattle.sql_text.proofs.TokenSounds.{AreUtf8, IsSound}
 use Rattle.sql_tokens.proofs.Alone.{tokens_real}
 
 abbrev MadeOf : {A : Type 0} → Rule sql A → A → Type 0
 MadeOf p v = Made IsSound (λ _. Unit {0}) p v
 
-named_fits : (v : List ℕ) → MadeOf name v → FitsName v
-unfolding name
-named_fits v (t, ((real, _), kind), e) = subst FitsName (sym e) (name_fits t real kind)
-
-literal_fits : (v : Value) → MadeOf literal v → FitsValue v
-unfolding literal
-literal_fits v (inl (t, ((real, _), _), e)) = subst FitsValue (sym e) (number_fits t.text t real)
-literal_fits v (inr (inl (t, (sound, kind), e))) = subst FitsValue (sym e) (value_fits t sound kind)
-literal_fits v (inr (inr (inl (t, _, e)))) = subst FitsValue (sym e) tt
-literal_fits v (inr (inr (inr (t, _, e)))) = subst FitsValue (sym e) tt
-
 column_fits : (c : Column) → MadeOf column c → FitsColumn c
 unfolding column
-column_fits c (x, (m, _), e) = subst FitsColumn (sym e) (named_fits x.0 m)
+column_fits c (x, (m, _), e) = subst FitsColumn (sym e) (named_fits (λ _. Unit {0}) x.0 m)
 
 set_fits : (s : SetPart) → MadeOf set_part s → FitsSet s
 unfolding set_part
-set_fits s (x, (m, l), e) = subst FitsSet (sym e) (named_fits x.0 m, literal_fits x.1 (of_before IsSound (λ _. Unit {0}) k.Equal literal x.1 l))
+set_fits s (x, (m, l), e) = subst FitsSet (sym e) (named_fits (λ _. Unit {0}) x.0 m, literal_fits (λ _. Unit {0}) x.1 (of_before IsSound (λ _. Unit {0}) k.Equal literal x.1 l))
 
 before_of : {A : Type 0} (kind : TokenKind) (p : Rule sql A) (v : A) → MadeOf (before kind p) v → MadeOf p v
 before_of kind p v m = of_before IsSound (λ _. Unit {0}) kind p v m
@@ -69,14 +56,14 @@ create_fits c (x, m, e) =
     let key = before_of k.Primary _ x.1.1 inner.1 in
     let keyed = before_of k.Key _ x.1.1 key in
     subst FitsCommand (sym e) (
-      named_fits x.0 rest.0,
+      named_fits (λ _. Unit {0}) x.0 rest.0,
       counted_fits column FitsColumn (λ v h. column_fits v h) x.1.0 (few_ended IsSound (λ _. Unit {0}) 31 column k.Comma x.1.0 inner.0),
-      named_fits x.1.1 (of_parens IsSound (λ _. Unit {0}) name x.1.1 keyed),
+      named_fits (λ _. Unit {0}) x.1.1 (of_parens IsSound (λ _. Unit {0}) name x.1.1 keyed),
     )
 
 drop_fits : (c : Command) → MadeOf drop_table c → FitsCommand c
 unfolding drop_table FitsCommand
-drop_fits c (x, m, e) = subst FitsCommand (sym e) (named_fits x (before_of k.Table name x (before_of k.Drop _ x m)))
+drop_fits c (x, m, e) = subst FitsCommand (sym e) (named_fits (λ _. Unit {0}) x (before_of k.Table name x (before_of k.Drop _ x m)))
 
 insert_fits : (c : Command) → MadeOf insert c → FitsCommand c
 unfolding insert FitsCommand
@@ -84,8 +71,8 @@ insert_fits c (x, m, e) =
     let rest = before_of k.Into _ x (before_of k.Insert _ x m) in
     let values = of_parens IsSound (λ _. Unit {0}) (listed (Some 31) k.Comma literal) x.1 (before_of k.Values _ x.1 rest.1) in
     subst FitsCommand (sym e) (
-      named_fits x.0 rest.0,
-      counted_fits literal FitsValue (λ v h. literal_fits v h) x.1 (few_listed IsSound (λ _. Unit {0}) 31 k.Comma literal x.1 values),
+      named_fits (λ _. Unit {0}) x.0 rest.0,
+      counted_fits literal FitsValue (λ v h. literal_fits (λ _. Unit {0}) v h) x.1 (few_listed IsSound (λ _. Unit {0}) 31 k.Comma literal x.1 values),
     )
 
 update_fits : (c : Command) → MadeOf update c → FitsCommand c
@@ -95,7 +82,7 @@ update_fits c (x, m, e) =
     let sets = before_of k.Set (listed (Some 31) k.Comma set_part) x.1.0 rest.1.0 in
     let row = set_fits x.1.1 (before_of k.Where set_part x.1.1 rest.1.1) in
     subst FitsCommand (sym e) (
-      named_fits x.0 rest.0,
+      named_fits (λ _. Unit {0}) x.0 rest.0,
       counted_fits set_part FitsSet (λ v h. set_fits v h) x.1.0 (few_listed IsSound (λ _. Unit {0}) 31 k.Comma set_part x.1.0 sets),
       row.0,
       row.1,
@@ -106,7 +93,7 @@ unfolding delete FitsCommand
 delete_fits c (x, m, e) =
     let rest = before_of k.From _ x (before_of k.Delete _ x m) in
     let row = set_fits x.1 (before_of k.Where set_part x.1 rest.1) in
-    subst FitsCommand (sym e) (named_fits x.0 rest.0, row.0, row.1)
+    subst FitsCommand (sym e) (named_fits (λ _. Unit {0}) x.0 rest.0, row.0, row.1)
 
 pub command_fits : (c : Command) → MadeOf command c → FitsCommand c
 unfolding command
@@ -133,7 +120,7 @@ with_sizes : (batches : List Batch) → AllByRecursion AreCommands batches → A
 with_sizes [] h k = tt
 with_sizes (b ∷ batches) h k = (with_size b h.0 k.0, with_sizes batches h.1 k.1)
 
-all_sound : (ps : List Placed) → AllByRecursion IsToken (unplaced ps) → AllByRecursion (λ t. IsUtf8 t.text) (unplaced ps) → AllByRecursion IsSound (unplaced ps)
+pub all_sound : (ps : List Placed) → AllByRecursion IsToken (unplaced ps) → AllByRecursion (λ t. IsUtf8 t.text) (unplaced ps) → AllByRecursion IsSound (unplaced ps)
 all_sound [] h k = tt
 all_sound (p ∷ ps) h k = ((h.0, k.0), all_sound ps h.1 k.1)
 

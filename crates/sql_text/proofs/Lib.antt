@@ -11,6 +11,7 @@ pub mod Made
 pub mod TokenFits
 pub mod TokenSounds
 pub mod TokenEnds
+pub mod Named
 pub mod BatchFits
 pub mod QueryFits
 pub mod PrintTexts

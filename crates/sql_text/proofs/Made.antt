@@ -9,7 +9,7 @@ use Rattle.vo_spec.specs.Conditions.{Condition}
 use Rattle.sql_text.specs.Tokens.{sql, Nested}
 use Rattle.sql_text.specs.Rules.{before, closed, in_parens, listed, ended}
 
-all_parts : {X : Type 0} (T : X → Type 0) (x y : List X) → AllByRecursion T (x ++ y) → AllByRecursion T x × AllByRecursion T y
+pub all_parts : {X : Type 0} (T : X → Type 0) (x y : List X) → AllByRecursion T (x ++ y) → AllByRecursion T x × AllByRecursion T y
 all_parts T [] y h = (tt, h)
 all_parts T (t ∷ x) y h = let others = all_parts T x y h.1 in ((h.0, others.0), others.1)
 

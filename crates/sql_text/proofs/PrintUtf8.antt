@@ -32,13 +32,14 @@ use Rattle.vo_spec.specs.declared.tables.Column.{Column}
 use Rattle.vo_spec.specs.declared.tables.SetPart.{SetPart}
 use Rattle.vo_spec.specs.declared.tables.Command.{Command}
 use Rattle.vo_spec.specs.declared.tables.Command.TheVariants as command_of
-use Rattle.vo_spec.specs.Names.{is_name_byte}
+use Rattle.vo_spec.specs.Names.{is_name_byte, FitsName}
 use Rattle.vo_spec.specs.Values.{FitsValue}
-use Rattle.vo_spec.specs.Conditions.{Condition, Conditions, every, some, negated, none, more, Query}
+use Rattle.vo_spec.specs.Batches.{FitsColumn, FitsSet, FitsCommand, FitsBatch}
+use Rattle.vo_spec.specs.Conditions.{Condition, Conditions, every, some, negated, none, more, comparisons, comparisons_in, Query}
 use Rattle.vo_spec.specs.Conditions
 use Rattle.sql_text.specs.Printing.{word, name_token, literal_token, quoted_byte, separated, terminated, parens, reference_tokens, source_tokens, operator, operand_tokens, is_enclosed, enclosed, condition_tokens, parts_tokens, items_tokens, join_tokens, where_tokens, query_tokens, kind_word, column_tokens, set_tokens, key_tokens, columns_tokens, command_tokens, batch_tokens, spaced, query_text, batch_text}
-use Rattle.sql_text.specs.Spellable.{FreeName, SpellableRef, SpellableSource, SpellableOperand, SpellableCondition, SpellableParts, SpellableItems, SpellableJoin, SpellableQuery, SpellableColumn, SpellableSet, SpellableCommand, SpellableBatch}
-use Rattle.sql_text.proofs.Made.{all_both}
+use Rattle.sql_text.specs.Printable.{PrintableRef, PrintableSource, PrintableItems, PrintableJoin, PrintableOperand, PrintableSides, PrintableQuery}
+use Rattle.sql_text.proofs.Made.{all_both, all_parts}
 use Rattle.sql_text.proofs.PrintTokens.{name_small}
 use Rattle.sql_text.proofs.TokenSounds.{both, high_char, utf8_cons}
 
@@ -57,9 +58,9 @@ word_utf8 kind e = IsUtf8-from_ascii (spelling kind) (ascii_of (λ b. nat_lt b 1
     below : (b : ℕ) → nat_lt b 128 ≡ true → b < 128
     below b f = grind (arith, nat_tests)
 
-name_utf8 : (name : List ℕ) → FreeName name → IsUtf8 name
+name_utf8 : (name : List ℕ) → FitsName name → IsUtf8 name
 name_utf8 [] h = IsUtf8-nil
-name_utf8 (b ∷ name) h = IsUtf8-from_ascii (b ∷ name) (ascii_of is_name_byte name_small (b ∷ name) (both _ _ h.0).1)
+name_utf8 (b ∷ name) h = IsUtf8-from_ascii (b ∷ name) (ascii_of is_name_byte name_small (b ∷ name) (both _ _ h).1)
 
 integer_utf8 : (z : ℤ) → FitsSigned w64 z → IsUtf8 (signed_decimal z)
 integer_utf8 (pos n) h = IsUtf8-from_ascii (signed_decimal (pos n)) (IsAscii-signed (pos n) (omega arith))
@@ -144,14 +145,17 @@ spaced_utf8 (t ∷ u ∷ ts) h = IsUtf8-append t.text (32 ∷ spaced (u ∷ ts))
 
 -- Queries.
 
-qualifier_utf8 : (q : Option (List ℕ)) (c : List ℕ) → IfSome q FreeName → FreeName c → AreUtf8 (reference_tokens (record { qualifier = q; column = c }))
+abbrev AreTests : List (Ref × Operand) → Type 0
+AreTests tests = AllByRecursion PrintableSides tests
+
+qualifier_utf8 : (q : Option (List ℕ)) (c : List ℕ) → IfSome q FitsName → FitsName c → AreUtf8 (reference_tokens (record { qualifier = q; column = c }))
 qualifier_utf8 None c h f = (name_utf8 c f, tt)
 qualifier_utf8 (Some q) c h f = (name_utf8 q h, (word_utf8 k.Dot refl, (name_utf8 c f, tt)))
 
-reference_utf8 : (r : Ref) → SpellableRef r → AreUtf8 (reference_tokens r)
+reference_utf8 : (r : Ref) → PrintableRef r → AreUtf8 (reference_tokens r)
 reference_utf8 r h = qualifier_utf8 r.qualifier r.column h.0 h.1
 
-source_utf8 : (s : Source) → SpellableSource s → AreUtf8 (source_tokens s)
+source_utf8 : (s : Source) → PrintableSource s → AreUtf8 (source_tokens s)
 source_utf8 s h = (name_utf8 s.table h.0, (word_utf8 k.As refl, (name_utf8 s.alias h.1, tt)))
 
 operator_utf8 : (op : Cmp) → IsUtf8 (spelling (operator op))
@@ -162,42 +166,43 @@ operator_utf8 cmp.Le = word_utf8 k.LessEqual refl
 operator_utf8 cmp.Gt = word_utf8 k.Greater refl
 operator_utf8 cmp.Ge = word_utf8 k.GreaterEqual refl
 
-operand_utf8 : (v : Operand) → SpellableOperand v → AreUtf8 (operand_tokens v)
+operand_utf8 : (v : Operand) → PrintableOperand v → AreUtf8 (operand_tokens v)
 operand_utf8 (operand_of.Ref r) h = reference_utf8 r h
 operand_utf8 (operand_of.Literal v) h = (literal_utf8 v h, tt)
 
 mutual
-  condition_utf8 : (c : Condition) → SpellableCondition c → AreUtf8 (condition_tokens c)
-  condition_utf8 (every cs) h = rest_utf8 (parts_tokens k.And cs) (parts_utf8 k.And (word_utf8 k.And refl) cs h.1)
-  condition_utf8 (some cs) h = rest_utf8 (parts_tokens k.Or cs) (parts_utf8 k.Or (word_utf8 k.Or refl) cs h.1)
+  condition_utf8 : (c : Condition) → AreTests (comparisons c) → AreUtf8 (condition_tokens c)
+  condition_utf8 (every cs) h = rest_utf8 (parts_tokens k.And cs) (parts_utf8 k.And (word_utf8 k.And refl) cs h)
+  condition_utf8 (some cs) h = rest_utf8 (parts_tokens k.Or cs) (parts_utf8 k.Or (word_utf8 k.Or refl) cs h)
   condition_utf8 (negated c) h = (word_utf8 k.Not refl, enclosed_utf8 (is_enclosed k.Not c) (condition_tokens c) (condition_utf8 c h))
-  condition_utf8 (Conditions.test left op right) h = joined (reference_tokens left) _ (reference_utf8 left h.0) (operator_utf8 op, operand_utf8 right h.1)
+  condition_utf8 (Conditions.test left op right) h = joined (reference_tokens left) _ (reference_utf8 left h.0.0) (operator_utf8 op, operand_utf8 right h.0.1)
 
-  parts_utf8 : (in_word : TokenKind) → IsUtf8 (spelling in_word) → (cs : Conditions) → SpellableParts cs → AreUtf8 (parts_tokens in_word cs)
+  parts_utf8 : (in_word : TokenKind) → IsUtf8 (spelling in_word) → (cs : Conditions) → AreTests (comparisons_in cs) → AreUtf8 (parts_tokens in_word cs)
   parts_utf8 in_word u none h = tt
   parts_utf8 in_word u (more c cs) h =
+      let parts = all_parts PrintableSides (comparisons c) (comparisons_in cs) h in
       joined (word in_word ∷ enclosed (is_enclosed in_word c) (condition_tokens c)) (parts_tokens in_word cs)
-      (u, enclosed_utf8 (is_enclosed in_word c) (condition_tokens c) (condition_utf8 c h.0)) (parts_utf8 in_word u cs h.1)
+      (u, enclosed_utf8 (is_enclosed in_word c) (condition_tokens c) (condition_utf8 c parts.0)) (parts_utf8 in_word u cs parts.1)
 
-items_utf8 : (v : Items) → SpellableItems v → AreUtf8 (items_tokens v)
+items_utf8 : (v : Items) → PrintableItems v → AreUtf8 (items_tokens v)
 items_utf8 items_of.All h = (word_utf8 k.Star refl, tt)
-items_utf8 (items_of.Refs refs) h = separated_utf8 k.Comma reference_tokens SpellableRef (word_utf8 k.Comma refl) reference_utf8 refs h.2
+items_utf8 (items_of.Refs refs) h = separated_utf8 k.Comma reference_tokens PrintableRef (word_utf8 k.Comma refl) reference_utf8 refs h
 
-join_utf8 : (j : Join) → SpellableJoin j → AreUtf8 (join_tokens j)
+join_utf8 : (j : Join) → PrintableJoin j → AreUtf8 (join_tokens j)
 join_utf8 j h =
     joined ((word k.Join ∷ source_tokens j.right) ++ (word k.On ∷ reference_tokens j.left_ref)) (word k.Equal ∷ reference_tokens j.right_ref)
     (joined (word k.Join ∷ source_tokens j.right) (word k.On ∷ reference_tokens j.left_ref) (word_utf8 k.Join refl, source_utf8 j.right h.0) (word_utf8 k.On refl, reference_utf8 j.left_ref h.1))
     (word_utf8 k.Equal refl, reference_utf8 j.right_ref h.2)
 
-joins_utf8 : (o : Option Join) → IfSome o SpellableJoin → AreUtf8 (option_map_or join_tokens o [])
+joins_utf8 : (o : Option Join) → IfSome o PrintableJoin → AreUtf8 (option_map_or join_tokens o [])
 joins_utf8 None h = tt
 joins_utf8 (Some j) h = join_utf8 j h
 
-where_utf8 : (P : Condition → Type 0) (o : Option Condition) → IfSome o (λ c. SpellableCondition c × P c) → AreUtf8 (option_map_or where_tokens o [])
-where_utf8 P None h = tt
-where_utf8 P (Some c) h = (word_utf8 k.Where refl, condition_utf8 c h.0)
+where_utf8 : (o : Option Condition) → AreTests (option_map_or comparisons o []) → AreUtf8 (option_map_or where_tokens o [])
+where_utf8 None h = tt
+where_utf8 (Some c) h = (word_utf8 k.Where refl, condition_utf8 c h)
 
-pub query_utf8 : (q : Query) → SpellableQuery q → IsUtf8 (query_text q)
+pub query_utf8 : (q : Query) → PrintableQuery q → IsUtf8 (query_text q)
 unfolding query_text
 query_utf8 q h =
     spaced_utf8 (query_tokens q)
@@ -205,7 +210,7 @@ query_utf8 q h =
     (joined ((word k.Select ∷ items_tokens q.items) ++ (word k.From ∷ source_tokens q.left)) (option_map_or join_tokens q.join [])
     (joined (word k.Select ∷ items_tokens q.items) (word k.From ∷ source_tokens q.left) (word_utf8 k.Select refl, items_utf8 q.items h.items) (word_utf8 k.From refl, source_utf8 q.left h.left))
     (joins_utf8 q.join h.join))
-    (where_utf8 _ q.condition h.condition))
+    (where_utf8 q.condition h.tests))
 
 -- Commands.
 
@@ -214,16 +219,17 @@ kind_utf8 kind_of.Int = word_utf8 k.Bigint refl
 kind_utf8 kind_of.Text = word_utf8 k.Text refl
 kind_utf8 kind_of.Bool = word_utf8 k.Boolean refl
 
-column_utf8 : (c : Column) → SpellableColumn c → AreUtf8 (column_tokens c)
+column_utf8 : (c : Column) → FitsColumn c → AreUtf8 (column_tokens c)
 column_utf8 c h = (name_utf8 c.name h, (kind_utf8 c.kind, tt))
 
-set_utf8 : (s : SetPart) → SpellableSet s → AreUtf8 (set_tokens s)
+set_utf8 : (s : SetPart) → FitsSet s → AreUtf8 (set_tokens s)
 set_utf8 s h = (name_utf8 s.column h.0, (word_utf8 k.Equal refl, (literal_utf8 s.value h.1, tt)))
 
-key_utf8 : (key : List ℕ) → FreeName key → AreUtf8 (key_tokens key)
+key_utf8 : (key : List ℕ) → FitsName key → AreUtf8 (key_tokens key)
 key_utf8 key h = (word_utf8 k.Primary refl, (word_utf8 k.Key refl, parens_utf8 (name_token key ∷ []) (name_utf8 key h, tt)))
 
-command_utf8 : (c : Command) → SpellableCommand c → AreUtf8 (command_tokens c)
+command_utf8 : (c : Command) → FitsCommand c → AreUtf8 (command_tokens c)
+unfolding FitsCommand
 command_utf8 (command_of.Create name columns key) h = (
   word_utf8 k.Create refl,
   (
@@ -232,7 +238,7 @@ command_utf8 (command_of.Create name columns key) h = (
       name_utf8 name h.0,
       parens_utf8 (columns_tokens columns key)
           (joined (terminated k.Comma column_tokens columns) (key_tokens key)
-          (terminated_utf8 k.Comma column_tokens SpellableColumn (word_utf8 k.Comma refl) column_utf8 columns h.1.2) (key_utf8 key h.2)),
+          (terminated_utf8 k.Comma column_tokens FitsColumn (word_utf8 k.Comma refl) column_utf8 columns h.1.2) (key_utf8 key h.2)),
     ),
   ),
 )
@@ -253,12 +259,12 @@ command_utf8 (command_of.Insert name values) h = (
 )
 command_utf8 (command_of.Update name sets column value) h =
     joined (word k.Update ∷ name_token name ∷ word k.Set ∷ separated k.Comma set_tokens sets) (word k.Where ∷ set_tokens (record { column = column; value = value }))
-    (word_utf8 k.Update refl, (name_utf8 name h.0, (word_utf8 k.Set refl, separated_utf8 k.Comma set_tokens SpellableSet (word_utf8 k.Comma refl) set_utf8 sets h.1.2)))
+    (word_utf8 k.Update refl, (name_utf8 name h.0, (word_utf8 k.Set refl, separated_utf8 k.Comma set_tokens FitsSet (word_utf8 k.Comma refl) set_utf8 sets h.1.2)))
     (word_utf8 k.Where refl, set_utf8 (record { column = column; value = value }) (h.2, h.3))
 command_utf8 (command_of.Delete name column value) h =
     (word_utf8 k.Delete refl, (word_utf8 k.From refl, (name_utf8 name h.0, (word_utf8 k.Where refl, set_utf8 (record { column = column; value = value }) (h.1, h.2)))))
 
-pub batch_utf8 : (commands : List Command) → SpellableBatch commands → IsUtf8 (batch_text commands)
+pub batch_utf8 : (commands : List Command) → FitsBatch commands → IsUtf8 (batch_text commands)
 unfolding batch_text
 batch_utf8 commands h =
-    spaced_utf8 (batch_tokens commands) (terminated_utf8 k.Semicolon command_tokens SpellableCommand (word_utf8 k.Semicolon refl) command_utf8 commands h.each)
+    spaced_utf8 (batch_tokens commands) (terminated_utf8 k.Semicolon command_tokens FitsCommand (word_utf8 k.Semicolon refl) command_utf8 commands h.each)

@@ -1,50 +1,80 @@
--- The numbers that a query of a text compares with have 64 bits with a sign.
-use Rattle.std.proofs.Common.{ℕ, zero, suc, true, List, [], ◌∷◌, Option, None, sym, subst, inl, inr, Result, Ok, Err, IfOk}
+-- The query of a text can be printed, and the numbers that it compares with have 64 bits with a sign.
+use Rattle.std.proofs.Common.{ℕ, zero, suc, true, List, [], ◌∷◌, Option, Some, None, sym, subst, inl, inr, Result, Ok, Err, IfOk}
+use Rattle.std.specs.Prelude.{IfSome}
 use Rattle.std.specs.Option.{option_map_or}
 use Rattle.std.specs.List.{AllByRecursion}
-use Rattle.grammar.specs.Rule.{Rule}
+use Rattle.grammar.specs.Rule.{Rule, either}
 use Rattle.grammar.specs.Text.{NestsIn}
+use Rattle.sql_tokens.specs.declared.kinds.TokenKind.{TokenKind}
 use Rattle.sql_tokens.specs.declared.kinds.TokenKind.TheVariants as k
 use Rattle.sql_tokens.specs.Lex.{Token}
 use Rattle.sql_tokens.proofs.Alone.{tokens_real}
 use Rattle.vo_spec.specs.declared.values.Value.{Value}
+use Rattle.vo_spec.specs.declared.values.Value.TheVariants as value
 use Rattle.vo_spec.specs.declared.queries.Ref.{Ref}
+use Rattle.vo_spec.specs.declared.queries.Source.{Source}
+use Rattle.vo_spec.specs.declared.queries.Join.{Join}
+use Rattle.vo_spec.specs.declared.queries.Items.{Items}
 use Rattle.vo_spec.specs.declared.queries.Operand.{Operand}
+use Rattle.vo_spec.specs.declared.queries.Operand.TheVariants as operand_of
 use Rattle.vo_spec.specs.declared.queries.QueryText.{QueryText}
 use Rattle.sql_text.specs.declared.faults.SqlFault.{SqlFault}
-use Rattle.vo_spec.specs.Values.{IsInRange}
+use Rattle.vo_spec.specs.Names.{FitsName}
+use Rattle.vo_spec.specs.Values.{FitsValue, IsInRange}
 use Rattle.vo_spec.specs.Conditions.{Condition, conditions, comparisons, comparisons_in, Query, query_of, FitsOperand, FitsQuery}
-use Rattle.sql_text.specs.Tokens.{sql, IsToken, Nested, whole, primary}
+use Rattle.sql_text.specs.Tokens.{sql, Nested, whole, primary}
 use Rattle.sql_text.specs.Rules.{before, closed, optional}
-use Rattle.sql_text.specs.Queries.{literal, operand, comparison, prim, conj, disj, all_of, any_of, conditions_of, query}
+use Rattle.sql_text.specs.Queries.{name, reference, ref_of, source, source_of, operand, comparison, prim, conj, disj, all_of, any_of, conditions_of, items, on_clause, join, query}
 use Rattle.sql_text.specs.Texts.{unplaced, IsTextOf, Answers}
+use Rattle.sql_text.specs.Printable.{PrintableRef, PrintableSource, PrintableItems, PrintableJoin, PrintableOperand, PrintableSides, PrintableQuery}
 use Rattle.sql_text.proofs.Made.{Made, made, of_before, of_listed, all_both, all_mapped}
-use Rattle.sql_text.proofs.TokenFits.{number_fits}
+use Rattle.sql_text.proofs.Named.{named_fits, literal_fits}
+use Rattle.sql_text.proofs.TokenSounds.{AreUtf8, IsSound}
+use Rattle.sql_text.proofs.BatchFits.{all_sound}
 
-abbrev pub FitsPair : Ref × Operand → Type 0
-FitsPair c = FitsOperand c.1
+abbrev AreTests : List (Ref × Operand) → Type 0
+AreTests tests = AllByRecursion PrintableSides tests
 
-abbrev pub FitsCondition : Condition → Type 0
-FitsCondition c = AllByRecursion (λ (c : Ref × Operand). FitsOperand c.1) (comparisons c)
+abbrev FitsCondition : Condition → Type 0
+FitsCondition c = AreTests (comparisons c)
 
 abbrev MadeFit : {A : Type 0} → Rule sql A → A → Type 0
-MadeFit p v = Made IsToken FitsCondition p v
+MadeFit p v = Made IsSound FitsCondition p v
 
-literal_fits : (v : Value) → MadeFit literal v → IsInRange v
-unfolding literal
-literal_fits v (inl (t, (real, _), e)) = subst IsInRange (sym e) (number_fits t.text t real)
-literal_fits v (inr (inl (t, _, e))) = subst IsInRange (sym e) tt
-literal_fits v (inr (inr (inl (t, _, e)))) = subst IsInRange (sym e) tt
-literal_fits v (inr (inr (inr (t, _, e)))) = subst IsInRange (sym e) tt
+behind : {A : Type 0} (kind : TokenKind) (p : Rule sql A) (v : A) → MadeFit (before kind p) v → MadeFit p v
+behind kind p v m = of_before IsSound FitsCondition kind p v m
 
-operand_fits : (v : Operand) → MadeFit operand v → FitsOperand v
+-- References and sources.
+
+qualified : (first : List ℕ) (o : Option (List ℕ)) → FitsName first → MadeFit (optional (before k.Dot name)) o → PrintableRef (ref_of first o)
+unfolding optional
+qualified first o f (inl (column, m, e)) = subst (λ z. PrintableRef (ref_of first z)) (sym e) (f, named_fits FitsCondition column (behind k.Dot name column m))
+qualified first o f (inr e) = subst (λ z. PrintableRef (ref_of first z)) (sym e) (tt, f)
+
+ref_fits : (r : Ref) → MadeFit reference r → PrintableRef r
+unfolding reference
+ref_fits r (x, (m, o), e) = subst PrintableRef (sym e) (qualified x.0 x.1 (named_fits FitsCondition x.0 m) o)
+
+aliased : (table : List ℕ) (o : Option (List ℕ)) → FitsName table → MadeFit (optional (either (before k.As name) name)) o → PrintableSource (source_of table o)
+unfolding optional
+aliased table o f (inl (alias, inl m, e)) = subst (λ z. PrintableSource (source_of table z)) (sym e) (f, named_fits FitsCondition alias (behind k.As name alias m))
+aliased table o f (inl (alias, inr m, e)) = subst (λ z. PrintableSource (source_of table z)) (sym e) (f, named_fits FitsCondition alias m)
+aliased table o f (inr e) = subst (λ z. PrintableSource (source_of table z)) (sym e) (f, f)
+
+source_fits : (s : Source) → MadeFit source s → PrintableSource s
+unfolding source
+source_fits s (x, (m, o), e) = subst PrintableSource (sym e) (aliased x.0 x.1 (named_fits FitsCondition x.0 m) o)
+
+-- Conditions.
+
+operand_fits : (v : Operand) → MadeFit operand v → PrintableOperand v
 unfolding operand
-operand_fits v (inl (r, _, e)) = subst FitsOperand (sym e) tt
-operand_fits v (inr (x, m, e)) = subst FitsOperand (sym e) (literal_fits x m)
+operand_fits v (inl (r, m, e)) = subst PrintableOperand (sym e) (ref_fits r m)
+operand_fits v (inr (x, m, e)) = subst PrintableOperand (sym e) (literal_fits FitsCondition x m)
 
 test_fits : (c : Condition) → MadeFit comparison c → FitsCondition c
 unfolding comparison
-test_fits c (x, (r, (o, m)), e) = subst FitsCondition (sym e) (operand_fits x.1.1 m, tt)
+test_fits c (x, (r, (o, m)), e) = subst FitsCondition (sym e) ((ref_fits x.0 r, operand_fits x.1.1 m), tt)
 
 prim_fits : (c : Condition) → MadeFit prim c → FitsCondition c
 unfolding prim closed
@@ -52,7 +82,7 @@ prim_fits c (inl (part, m, e)) = subst FitsCondition (sym e) m
 prim_fits c (inr (inl (x, (m, _), e))) = subst FitsCondition (sym e) m
 prim_fits c (inr (inr m)) = test_fits c m
 
-parts_fit : (cs : List Condition) → AllByRecursion FitsCondition cs → AllByRecursion (λ (c : Ref × Operand). FitsOperand c.1) (comparisons_in (conditions cs))
+parts_fit : (cs : List Condition) → AllByRecursion FitsCondition cs → AreTests (comparisons_in (conditions cs))
 parts_fit [] h = tt
 parts_fit (c ∷ cs) h = all_both _ (comparisons c) (comparisons_in (conditions cs)) h.0 (parts_fit cs h.1)
 
@@ -69,34 +99,75 @@ any_fits (c ∷ d ∷ cs) h = parts_fit (c ∷ d ∷ cs) h
 conj_fits : (c : Condition) → MadeFit conj c → FitsCondition c
 unfolding conj
 conj_fits c (parts, m, e) =
-    subst FitsCondition (sym e) (all_fits parts (all_mapped (MadeFit prim) FitsCondition parts (λ v h. prim_fits v h) (of_listed IsToken FitsCondition None k.And prim parts m)))
+    subst FitsCondition (sym e) (all_fits parts (all_mapped (MadeFit prim) FitsCondition parts (λ v h. prim_fits v h) (of_listed IsSound FitsCondition None k.And prim parts m)))
 
 disj_fits : (c : Condition) → MadeFit disj c → FitsCondition c
 unfolding disj
 disj_fits c (parts, m, e) =
-    subst FitsCondition (sym e) (any_fits parts (all_mapped (MadeFit conj) FitsCondition parts (λ v h. conj_fits v h) (of_listed IsToken FitsCondition None k.Or conj parts m)))
+    subst FitsCondition (sym e) (any_fits parts (all_mapped (MadeFit conj) FitsCondition parts (λ v h. conj_fits v h) (of_listed IsSound FitsCondition None k.Or conj parts m)))
 
-nested : (levels : ℕ) (n : Nested) (ts : List Token) (c : Condition) → NestsIn conditions_of true levels n ts c → AllByRecursion IsToken ts → FitsCondition c
+nested : (levels : ℕ) (n : Nested) (ts : List Token) (c : Condition) → NestsIn conditions_of true levels n ts c → AllByRecursion IsSound ts → FitsCondition c
 unfolding conditions_of
 nested zero n ts c s h = absurd s
-nested (suc m) whole ts c s h = disj_fits c (made IsToken FitsCondition (NestsIn conditions_of true m) (nested m) disj ts c s h)
-nested (suc m) primary ts c s h = prim_fits c (made IsToken FitsCondition (NestsIn conditions_of true m) (nested m) prim ts c s h)
+nested (suc m) whole ts c s h = disj_fits c (made IsSound FitsCondition (NestsIn conditions_of true m) (nested m) disj ts c s h)
+nested (suc m) primary ts c s h = prim_fits c (made IsSound FitsCondition (NestsIn conditions_of true m) (nested m) prim ts c s h)
 
-where_fits : (o : Option Condition) → MadeFit (optional (before k.Where disj)) o → AllByRecursion (λ (c : Ref × Operand). FitsOperand c.1) (option_map_or comparisons o [])
+where_fits : (o : Option Condition) → MadeFit (optional (before k.Where disj)) o → AreTests (option_map_or comparisons o [])
 unfolding optional
 where_fits o (inl (c, m, e)) =
-    subst (λ z. AllByRecursion (λ (c : Ref × Operand). FitsOperand c.1) (option_map_or comparisons z [])) (sym e) (disj_fits c (of_before IsToken FitsCondition k.Where disj c m))
-where_fits o (inr e) = subst (λ z. AllByRecursion (λ (c : Ref × Operand). FitsOperand c.1) (option_map_or comparisons z [])) (sym e) tt
+    subst (λ z. AreTests (option_map_or comparisons z [])) (sym e) (disj_fits c (of_before IsSound FitsCondition k.Where disj c m))
+where_fits o (inr e) = subst (λ z. AreTests (option_map_or comparisons z [])) (sym e) tt
 
-made_fits : (q : Query) → MadeFit query q → FitsQuery q
+-- Queries.
+
+items_fit : (v : Items) → MadeFit items v → PrintableItems v
+unfolding items
+items_fit v (inl (t, _, e)) = subst PrintableItems (sym e) tt
+items_fit v (inr (refs, m, e)) =
+    subst PrintableItems (sym e) (all_mapped (MadeFit reference) PrintableRef refs (λ r h. ref_fits r h) (of_listed IsSound FitsCondition (Some 63) k.Comma reference refs m))
+
+join_fits : (j : Join) → MadeFit join j → PrintableJoin j
+unfolding join on_clause
+join_fits j (x, (_, m), e) =
+    let parts = behind k.Join _ x.1 m in
+    let refs = behind k.On _ x.1.1 parts.1 in
+    subst PrintableJoin (sym e) (source_fits x.1.0 parts.0, ref_fits x.1.1.0 refs.0, ref_fits x.1.1.1 (behind k.Equal reference x.1.1.1 refs.1))
+
+joins_fit : (o : Option Join) → MadeFit (optional join) o → IfSome o PrintableJoin
+unfolding optional
+joins_fit o (inl (j, m, e)) = subst (λ z. IfSome z PrintableJoin) (sym e) (join_fits j m)
+joins_fit o (inr e) = subst (λ z. IfSome z PrintableJoin) (sym e) tt
+
+made_fits : (q : Query) → MadeFit query q → PrintableQuery q
 unfolding query
-made_fits q (x, (_, (_, (_, (m, _)))), e) = subst FitsQuery (sym e) (where_fits x.1.1.1.0 m)
+made_fits q (x, (i, (s, (j, (m, _)))), e) =
+    subst PrintableQuery (sym e) (record {
+      items = items_fit x.0 (behind k.Select items x.0 i);
+      left = source_fits x.1.0 (behind k.From source x.1.0 s);
+      join = joins_fit x.1.1.0 j;
+      tests = where_fits x.1.1.1.0 m;
+    })
 
--- the query of a text fits
-pub query_fits : (most : ℕ) (text : List ℕ) (q : Query) → IsTextOf most query text q → FitsQuery q
-query_fits most text q (_, ps, scanned, s) =
-    made_fits q (made IsToken FitsCondition (NestsIn conditions_of true 32) (nested 32) query (unplaced ps) q s (tokens_real text ps scanned))
+-- the query of a text can be printed
+pub query_fits : (most : ℕ) (text : List ℕ) (q : Query) → AreUtf8 text → IsTextOf most query text q → PrintableQuery q
+query_fits most text q utf8 (_, ps, scanned, s) =
+    made_fits q (made IsSound FitsCondition (NestsIn conditions_of true 32) (nested 32) query (unplaced ps) q s (all_sound ps (tokens_real text ps scanned) (utf8 ps scanned)))
 
-pub answer_fits : (most : ℕ) (text : List ℕ) (r : Result QueryText SqlFault) → Answers query_of most query text r → IfOk r (λ q. FitsQuery (query_of q))
-answer_fits most text (Ok q) h = query_fits most text (query_of q) h
-answer_fits most text (Err e) h = tt
+pub answer_printable : (most : ℕ) (text : List ℕ) (r : Result QueryText SqlFault) → AreUtf8 text → Answers query_of most query text r → IfOk r (λ q. PrintableQuery (query_of q))
+answer_printable most text (Ok q) utf8 h = query_fits most text (query_of q) utf8 h
+answer_printable most text (Err e) utf8 h = tt
+
+-- Numbers.
+
+in_range : (v : Value) → FitsValue v → IsInRange v
+in_range (value.Int z) h = h
+in_range (value.Text s) h = tt
+in_range (value.Bool b) h = tt
+
+side_fits : (o : Operand) → PrintableOperand o → FitsOperand o
+side_fits (operand_of.Ref r) h = tt
+side_fits (operand_of.Literal v) h = in_range v h
+
+pub answer_fits : (r : Result QueryText SqlFault) → IfOk r (λ q. PrintableQuery (query_of q)) → IfOk r (λ q. FitsQuery (query_of q))
+answer_fits (Ok q) h = all_mapped PrintableSides (λ (c : Ref × Operand). FitsOperand c.1) (option_map_or comparisons (query_of q).condition []) (λ c f. side_fits c.1 f.1) h.tests
+answer_fits (Err e) h = tt

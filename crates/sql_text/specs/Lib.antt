@@ -9,3 +9,4 @@ pub mod Fits
 pub mod Faults
 pub mod Printing
 pub mod Spellable
+pub mod Printable

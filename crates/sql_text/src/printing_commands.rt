@@ -1,6 +1,6 @@
 //! Printing batches.
-ghost use Rattle.std.specs.Prelude.{◌≡◌, [], ◌∷◌, ◌++◌, IfOk, OnOk};
-ghost use Rattle.std.specs.Str.{IsUtf8};
+ghost use Rattle.std.specs.Prelude.{◌≡◌, [], ◌∷◌, ◌++◌, string_bytes, IfOk, OnOk};
+ghost use Rattle.vo_spec.specs.Batches.{FitsBatch};
 ghost use Rattle.sql_tokens.specs.declared.kinds.TokenKind.TheVariants as k;
 ghost use Rattle.sql_text.specs.Commands.{batch as batch_rule};
 ghost use Rattle.sql_text.specs.Texts.{most_bytes, IsTextOf};
@@ -190,10 +190,11 @@ impl Print for Command {
 }
 
 /// The batch's text: its tokens with one blank between each two.
-pub fn print_batch(alloc: Global, batch: &Batch) -> Result<Vec<u8>, AllocError>
-    ensures printed { IfOk result (λ text. text.items ≡ batch_text batch.now.commands) }
-    ensures reads { SpellableBatch batch.now.commands → IfOk result (λ text. IsTextOf most_bytes batch_rule text.items batch.now) }
-    ensures utf8 { SpellableBatch batch.now.commands → IfOk result (λ text. IsUtf8 text.items) }
+pub fn print_batch(alloc: Global, batch: &Batch) -> Result<String, AllocError>
+    requires { FitsBatch batch.now.commands }
+    ensures printed { IfOk result (λ text. string_bytes text ≡ batch_text batch.now.commands) }
+    ensures reads { SpellableBatch batch.now.commands
+        → IfOk result (λ text. IsTextOf most_bytes batch_rule (string_bytes text) batch.now) }
 {
     let mut out = Vec::new(alloc);
     print_terminated(
@@ -202,5 +203,5 @@ pub fn print_batch(alloc: Global, batch: &Batch) -> Result<Vec<u8>, AllocError>
         batch.commands.as_slice(),
         TokenKind::Semicolon,
     )?;
-    Ok(without_last_blank(out))
+    Ok(unsafe { String::from_utf8_unchecked(without_last_blank(out)) })
 }

@@ -1,10 +1,10 @@
 //! Printing queries.
-ghost use Rattle.std.specs.Prelude.{◌≡◌, [], ◌∷◌, ◌++◌, drop, map, option_map, IfOk, OnOk};
+ghost use Rattle.std.specs.Prelude.{◌≡◌, [], ◌∷◌, ◌++◌, drop, map, option_map, string_bytes, IfOk, OnOk};
 ghost use Rattle.std.specs.Option.{option_map_or};
-ghost use Rattle.std.specs.Str.{IsUtf8};
 ghost use Rattle.vo_spec.specs.Conditions.{negated, condition_of, conditions, query_of};
 ghost use Rattle.sql_text.specs.Queries.{query as query_rule};
 ghost use Rattle.sql_text.specs.Texts.{most_bytes, IsTextOf};
+ghost use Rattle.sql_text.specs.Printable.{PrintableQuery};
 ghost use Rattle.sql_text.specs.Spellable.{SpellableQuery};
 ghost use Rattle.sql_text.specs.Printing.{word, reference_tokens, source_tokens, operator, operand_tokens, is_enclosed, enclosed, condition_tokens, parts_tokens, items_tokens, join_tokens, where_tokens, query_tokens, query_text, written};
 
@@ -206,12 +206,13 @@ impl Print for QueryText {
 }
 
 /// The query's text: its tokens with one blank between each two.
-pub fn print_query(alloc: Global, query: &QueryText) -> Result<Vec<u8>, AllocError>
-    ensures printed { IfOk result (λ text. text.items ≡ query_text (query_of query.now)) }
-    ensures reads { SpellableQuery (query_of query.now) → IfOk result (λ text. IsTextOf most_bytes query_rule text.items (query_of query.now)) }
-    ensures utf8 { SpellableQuery (query_of query.now) → IfOk result (λ text. IsUtf8 text.items) }
+pub fn print_query(alloc: Global, query: &QueryText) -> Result<String, AllocError>
+    requires { PrintableQuery (query_of query.now) }
+    ensures printed { IfOk result (λ text. string_bytes text ≡ query_text (query_of query.now)) }
+    ensures reads { SpellableQuery (query_of query.now)
+        → IfOk result (λ text. IsTextOf most_bytes query_rule (string_bytes text) (query_of query.now)) }
 {
     let mut out = Vec::new(alloc);
     query.print(alloc, &mut out)?;
-    Ok(without_last_blank(out))
+    Ok(unsafe { String::from_utf8_unchecked(without_last_blank(out)) })
 }

@@ -7,6 +7,7 @@ ghost use Rattle.sql_text.specs.Queries.{query};
 ghost use Rattle.sql_text.specs.Commands.{batch};
 ghost use Rattle.sql_text.specs.Texts.{most_bytes, ended, IsTextOf, Answers, Accepts};
 ghost use Rattle.sql_text.specs.Fits.{FitCommands};
+ghost use Rattle.sql_text.specs.Printable.{PrintableQuery};
 
 use crate::faults::{SqlFault, of_tokens};
 use crate::halt::Halt;
@@ -73,6 +74,7 @@ pub fn parse_query(alloc: Global, text: &str) -> Result<QueryText, SqlFault>
     ensures found { Answers query_of most_bytes query text.now result }
     ensures only { (q : Query) → IsTextOf most_bytes query text.now q → Accepts query_of result q }
     ensures fits { IfOk result (λ q. FitsQuery (query_of q)) }
+    ensures printable { IfOk result (λ q. PrintableQuery (query_of q)) }
 {
     let bytes = text.as_bytes();
     if bytes.len() > TEXT_MAX {

@@ -6,7 +6,8 @@ use Rattle.sql_text.specs.Queries.{query}
 use Rattle.sql_text.specs.Texts.{HasFault}
 use Rattle.sql_text.proofs.Good.{query_good}
 use Rattle.sql_text.proofs.Answered.{lapsed, whole}
-use Rattle.sql_text.proofs.QueryFits.{answer_fits}
+use Rattle.sql_text.proofs.TokenEnds.{utf8_tokens}
+use Rattle.sql_text.proofs.QueryFits.{answer_printable, answer_fits}
 use Rattle.sql_text.proofs.texts.parse_query.Goals as goal
 
 pub returns-in-Err-clause-found : goal.returns-in-Err-clause-found
@@ -29,5 +30,8 @@ returns-clause-only c =
     c.as_bytes-bytes.ensures.value fits c.in-Ok.ensures (c.new-parser.ensures.list ∙ c.as_slice.ensures.value) c.new-parser.ensures.place c.new-parser.ensures.levels
     c.query-found.ensures.value c.query-found.ensures.list c.left.ensures c.ended.ensures).1
 
+pub returns-clause-printable : goal.returns-clause-printable
+returns-clause-printable c = answer_printable 65536 c.args.text.now c.ended.result (utf8_tokens c.args.text.now c.utf8.text) (returns-clause-found c)
+
 pub returns-clause-fits : goal.returns-clause-fits
-returns-clause-fits c = answer_fits 65536 c.args.text.now c.ended.result (returns-clause-found c)
+returns-clause-fits c = answer_fits c.ended.result (returns-clause-printable c)
