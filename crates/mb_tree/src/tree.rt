@@ -3,7 +3,7 @@ ghost use Rattle.std.specs.Prelude.{◌≡◌, ◌++◌, [], length, IfOk, OnOk,
 ghost use Rattle.vo_spec.specs.Parts.{leaf, entries};
 ghost use Rattle.vo_spec.specs.Fits.{FitsPart};
 ghost use Rattle.vo_spec.specs.Trees.{digest};
-ghost use Rattle.vo_spec.specs.Standing.{IsShown, rows_in};
+ghost use Rattle.vo_spec.specs.Standing.{IsShown, StandsFor, rows_in};
 ghost use Rattle.mb_tree.specs.Standing.{IsWhole};
 
 use crate::branches::Branch;
@@ -35,14 +35,17 @@ impl Model for Tree {
 
 impl Tree {
     /// The tree of no rows.
+    #[tactic(auto, using(crate::proofs::RowLaws::nothing_stands))]
     pub fn new(alloc: Global) -> Result<Tree, AllocError>
-        ensures { IfOk result (λ tree. tree ≡ leaf []) }
+        ensures value { IfOk result (λ tree. tree ≡ leaf []) }
+        ensures stands { IfOk result (λ tree. StandsFor tree []) }
     {
         let root = Branch::leaf(alloc, Vec::new(alloc))?;
         Ok(Tree { root, rows: 0 })
     }
 
-    /// The tree with this root, which has so many rows.
+    /// The tree with this root, which has so many rows, each cell of theirs shown. Of the nodes' shape it asks
+    /// nothing: who changes a tree says what becomes of it.
     pub fn of_root(root: Branch, rows: u64) -> Tree
         requires { IsWhole root rows }
         ensures { result ≡ root }
