@@ -21,7 +21,7 @@ use Rattle.query_plan.specs.BoundQueries.{bound_condition, bound_join, bound_que
 use Rattle.query_plan.specs.Plans.{QueryPlan, plan_of, right_need_of, meets_left}
 use Rattle.query_plan.proofs.MeaningLaws.{same_filter, truth_same, conjuncts_hold, left_same, left_need_same, right_need_same, meets_same}
 use Rattle.plan_run.specs.Answers.{are_joined, answer_at, pair_answers, left_answers, plan_rows}
-use Rattle.plan_run.specs.Running.{grouped, lefts_seen, rights_by, rights_seen, needs_of, run_rows, run_needs}
+use Rattle.plan_run.specs.Running.{group_needs, lefts_seen, rights_by, rights_seen, needs_of, run_rows, run_needs}
 use Rattle.plan_run.proofs.RunLaws.{flat_same}
 
 -- only the right rows of the left rows that are kept matter
@@ -111,8 +111,8 @@ module _ (ss : List Side) (q : Query) where
 
   pub needs_same : (trees : List RowTree) → run_needs p trees ≡ needs ss q trees
   needs_same trees =
-      ap (λ ns. grouped ss p.left_need ns) (ap (needs_of p) (lefts_same (tree_at trees 0)) ∙ needs_by q.join (seen_lefts ss q trees))
-      ∙ ap (λ (n : Need). grouped ss n (right_needs ss q trees)) (left_need_same ss q)
+      ap (λ ns. group_needs ss p.left_need ns) (ap (needs_of p) (lefts_same (tree_at trees 0)) ∙ needs_by q.join (seen_lefts ss q trees))
+      ∙ ap (λ (n : Need). group_needs ss n (right_needs ss q trees)) (left_need_same ss q)
 
   -- A plan keeps its query's result: run over the lines of plain tables, it gives the query's rows.
   pub plain_same : (tables : List Table)

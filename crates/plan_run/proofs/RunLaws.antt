@@ -19,7 +19,7 @@ use Rattle.query_plan.specs.Plans.{QueryPlan, right_need_of, meets_left}
 use Rattle.plan_run.specs.declared.ran.Ran.{Ran}
 use Rattle.plan_run.specs.declared.shown.Shown.{Shown}
 use Rattle.plan_run.specs.Answers.{answer_at, pair_answers, left_answers, plan_rows}
-use Rattle.plan_run.specs.Running.{Runs, RanOf, Shows, ShowsPairs, grouped, lefts_seen, rights_by, rights_seen, needs_of, is_unseen, stops}
+use Rattle.plan_run.specs.Running.{Runs, RanOf, Shows, ShowsPairs, group_needs, lefts_seen, rights_by, rights_seen, needs_of, is_unseen, stops}
 use Rattle.plan_run.proofs.AnswerSteps.{any_map}
 
 pub flat_same : {A B : Type 0} (f g : A → List B) → ((x : A) → f x ≡ g x) → (xs : List A) → flat_map f xs ≡ flat_map g xs
@@ -90,7 +90,7 @@ module _ (p : QueryPlan) (ts : List RowTree) (tree : RowTree) (tree_is : tree �
       or_from (is_unseen (tree_at ts 0) p.left_need) (list_any (is_unseen (right_tree p.query.sides ts)) (needs_of p (lefts_seen p (tree_at ts 0)))) left_seen
           (ap (λ ls. list_any (is_unseen (right_tree p.query.sides ts)) (needs_of p ls)) (sym lefts_are) ∙ s.0),
       h.0 ∙ s.1 ∙ ap (λ ls. plan_rows p ls (rights_seen p (right_tree p.query.sides ts))) lefts_are,
-      h.1 ∙ ap (grouped p.query.sides p.left_need) (s.2 ∙ ap (needs_of p) lefts_are),
+      h.1 ∙ ap (group_needs p.query.sides p.left_need) (s.2 ∙ ap (needs_of p) lefts_are),
     )
     run_done (Err Missing) shown s h = absurd h
     run_done (Err Memory) shown s h = tt

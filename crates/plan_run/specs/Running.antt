@@ -36,8 +36,8 @@ abbrev pub needs_of : QueryPlan → List Line → List Need
 needs_of p lefts = flat_map (λ on. map (right_need_of p on) lefts) (option_to_list p.query.join)
 
 -- the needs of each tree, by those of the right rows
-abbrev pub grouped : List Side → Need → List Need → List (List Need)
-grouped ss left rights = if length (tables_used ss) == 1 then (left ∷ rights) ∷ [] else (left ∷ []) ∷ rights ∷ []
+abbrev pub group_needs : List Side → Need → List Need → List (List Need)
+group_needs ss left rights = if length (tables_used ss) == 1 then (left ∷ rights) ∷ [] else (left ∷ []) ∷ rights ∷ []
 
 -- of the trees of a plan: the rows that they show, the needs of each, and whether a scan of them stops
 
@@ -45,7 +45,7 @@ abbrev pub run_rows : QueryPlan → List RowTree → List (List Value)
 run_rows p trees = plan_rows p (lefts_seen p (tree_at trees 0)) (rights_seen p (right_tree p.query.sides trees))
 
 abbrev pub run_needs : QueryPlan → List RowTree → List (List Need)
-run_needs p trees = grouped p.query.sides p.left_need (needs_of p (lefts_seen p (tree_at trees 0)))
+run_needs p trees = group_needs p.query.sides p.left_need (needs_of p (lefts_seen p (tree_at trees 0)))
 
 abbrev pub stops : QueryPlan → List RowTree → Bool
 stops p trees =
@@ -85,7 +85,7 @@ AddsPairs (Err Missing) old new p on left tree = is_unseen tree (right_need_of p
 AddsPairs (Err Memory) old new p on left tree = Unit {0}
 
 abbrev pub RanOf : Result Ran ScanFault → QueryPlan → Shown → Type 0
-RanOf (Ok ran) p shown = (ran.rows ≡ shown.rows.items) × (ran.needs ≡ grouped p.query.sides p.left_need shown.needs.items)
+RanOf (Ok ran) p shown = (ran.rows ≡ shown.rows.items) × (ran.needs ≡ group_needs p.query.sides p.left_need shown.needs.items)
 RanOf (Err Missing) p shown = ⊥
 RanOf (Err Memory) p shown = Unit {0}
 

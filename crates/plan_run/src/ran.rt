@@ -2,7 +2,7 @@
 ghost use Rattle.std.specs.Prelude.{◌≡◌, IfOk};
 ghost use Rattle.table_list.specs.Sided.{sides_seen};
 ghost use Rattle.query_plan.specs.PlanViews.{plan_seen};
-ghost use Rattle.plan_run.specs.Running.{RanOf, grouped as groups};
+ghost use Rattle.plan_run.specs.Running.{RanOf, group_needs};
 
 use crate::shown::Shown;
 use query_plan::{Plan, Sides, copy_need, has_one_tree};
@@ -19,13 +19,13 @@ pub struct Ran {
 }
 
 /// The needs of each tree: of a table joined with itself, both in one.
-fn grouped(
+fn group_needs(
     alloc: Global,
     sides: &Sides<'_>,
     left: Need,
     mut rights: Vec<Need>,
 ) -> Result<List<List<Need>>, AllocError>
-    ensures { IfOk result (λ needs. needs ≡ groups (sides_seen sides.now) left rights.items) }
+    ensures { IfOk result (λ needs. needs ≡ group_needs (sides_seen sides.now) left rights.items) }
 {
     let mut groups = Vec::new(alloc);
     let mut first = Vec::new(alloc);
@@ -48,6 +48,6 @@ pub(crate) fn ran_of(alloc: Global, plan: &Plan<'_, '_>, shown: Shown) -> Result
     let left = copy_need(alloc, &plan.left_need)?;
     Ok(Ran {
         rows: List::from_vec(rows),
-        needs: grouped(alloc, &plan.query.sides, left, needs)?,
+        needs: group_needs(alloc, &plan.query.sides, left, needs)?,
     })
 }

@@ -1,4 +1,4 @@
--- The sources of a query that passes all tests.
+-- A query with a join has two sources.
 use Rattle.std.proofs.Common.{◌≡◌, List, [], ◌∷◌, ◌++◌, Option, Some, None, is_some, length, map, refl, ap, subst, arith, ◌∙◌}
 use Rattle.std.specs.Prelude.{◌==◌, false, option_map, option_to_list}
 use Rattle.std.specs.Option.{option_map_or}
@@ -15,35 +15,6 @@ use Rattle.query_plan.specs.declared.bound_query.BoundJoin.{BoundJoin}
 use Rattle.query_plan.specs.BoundQueries.{bound_join}
 use Rattle.query_plan.specs.declared.bound_query.Query.{Query as HeldQuery}
 use Rattle.query_plan.specs.BoundViews.{join_seen, query_seen}
-
-first_none : (o : Option QueryFault) (os : List (Option QueryFault)) → first_some (o ∷ os) ≡ None → (o ≡ None) × (first_some os ≡ None)
-first_none None os e = (refl, e)
-first_none (Some fault) os e = absurd (cc)
-
-front : (xs ys : List (Option QueryFault)) → first_some (xs ++ ys) ≡ None → first_some xs ≡ None
-front [] ys e = refl
-front (None ∷ xs) ys e = front xs ys e
-front (Some fault ∷ xs) ys e = e
-
--- no table is missing
-tables_there : (hs : List Heading) (q : Query) → binding_fault hs q ≡ None → first_some (map (missing_table hs) (sources q)) ≡ None
-tables_there hs q e =
-    let ss : List Side = sides hs q in
-    let tables = map (missing_table hs) (sources q) in
-    let aliases = tables ++ same_alias (sources q) ∷ [] in
-    let refs = aliases ++ map (ref_fault ss) (query_refs q) in
-    let joins = refs ++ map (join_fault ss) (option_to_list q.join) in
-    let kinds = map (kind_fault ss) (option_map_or comparisons q.condition []) in
-    front tables _ (front aliases _ (front refs _ (front joins kinds e)))
-
-pub left_there : (hs : List Heading) (q : Query) → binding_fault hs q ≡ None → missing_table hs q.left ≡ None
-left_there hs q e = (first_none (missing_table hs q.left) _ (tables_there hs q e)).0
-
-pub right_there : (hs : List Heading) (q : Query) (j : Join) → q.join ≡ Some j → binding_fault hs q ≡ None → missing_table hs j.right ≡ None
-right_there hs q j is e =
-    let both : first_some (missing_table hs q.left ∷ missing_table hs j.right ∷ []) ≡ None =
-    subst (λ (o : Option Join). first_some (map (missing_table hs) (q.left ∷ option_to_list (option_map (λ (k : Join). k.right) o))) ≡ None) is (tables_there hs q e) in
-    (first_none (missing_table hs j.right) [] (first_none (missing_table hs q.left) (missing_table hs j.right ∷ []) both).1).0
 
 -- there is a right source where there is a join
 sources_same : (hs : List Heading) (r : Option HeldSide) (j : Option Join)

@@ -1,7 +1,6 @@
 pub mod BoundConditions
 pub mod BoundQueries
 pub mod BoundViews
-pub mod Catalogs
 pub mod Named
 pub mod Plans
 pub mod PlanViews

@@ -1,19 +1,18 @@
 //! Queries bound to the tables of a catalog.
-ghost use Rattle.std.specs.Prelude.{◌≡◌, None, map, option_map, IfOk};
+ghost use Rattle.std.specs.Prelude.{◌≡◌, map, option_map, IfOk};
 ghost use Rattle.vo_spec.specs.Conditions.{conditions, condition_of, query_of};
 ghost use Rattle.vo_spec.specs.Records.{headings};
-ghost use Rattle.vo_spec.specs.Results.{sides as sides_of, side_of, missing_table, binding_fault};
-ghost use Rattle.table_list.specs.Sided.{side_seen, sides_seen};
+ghost use Rattle.vo_spec.specs.Results.{sides as sides_of, binding_fault};
+ghost use Rattle.table_list.specs.Sided.{sides_seen};
 ghost use Rattle.table_list.specs.Binding.{Passes};
 ghost use Rattle.query_plan.specs.BoundQueries.{bound_term, bound_condition, bound_conditions, bound_join, bound_query};
 ghost use Rattle.query_plan.specs.BoundViews.{term_seen, parts_seen, condition_seen, join_seen, query_seen};
 
 use crate::bound_cond::{BoundCond, BoundOperand};
 use crate::bound_query::{BoundJoin, Query};
-use crate::catalogs::{CatalogSchemas, find_schema};
 use std::alloc::{AllocError, Global};
-use table_list::{BindFault, Side, Sides, shown_places};
-use vo_spec::{Catalog, Cond, Join, List, Operand, QueryText, Source};
+use table_list::{BindFault, Sides, shown_places};
+use vo_spec::{Catalog, Cond, Join, List, Operand, QueryText};
 
 fn bind_operand<'q>(sides: &Sides<'_>, operand: &'q Operand) -> BoundOperand<'q>
     ensures { term_seen result ≡ bound_term (sides_seen sides.now) operand.now }
@@ -116,35 +115,6 @@ fn bind_query<'q>(
     })
 }
 
-/// A source whose table is there, with the table's schema.
-fn find_side<'q>(catalog: &'q Catalog, source: &'q Source) -> Side<'q>
-    requires { missing_table (headings catalog.now) source.now ≡ None }
-    ensures { side_seen result ≡ side_of (headings catalog.now) source.now }
-{
-    match find_schema(catalog.tables.as_slice(), source.table.as_bytes()) {
-        Some(schema) => Side {
-            alias: &source.alias,
-            table: &source.table,
-            schema,
-        },
-        None => unreachable!(),
-    }
-}
-
-/// The sources of a query that passes all tests.
-#[tactic(auto, using(crate::proofs::SourceLaws::left_there, crate::proofs::SourceLaws::right_there))]
-fn find_sides<'q>(catalog: &'q Catalog, text: &'q QueryText) -> Sides<'q>
-    requires { binding_fault (headings catalog.now) (query_of text.now) ≡ None }
-    ensures { sides_seen result ≡ sides_of (headings catalog.now) (query_of text.now) }
-{
-    let left = find_side(catalog, &text.left);
-    let right = match &text.join {
-        Some(join) => Some(find_side(catalog, &join.right)),
-        None => None,
-    };
-    Sides { left, right }
-}
-
 /// The query over the columns of its tables, or the first of its tests that fails. Names are looked up here
 /// alone.
 pub fn bind<'q>(
@@ -158,12 +128,8 @@ pub fn bind<'q>(
     // No test finds a fault, or the fault is the first that they find.
     ensures fault { Passes result (binding_fault (headings catalog.now) (query_of text.now)) }
 {
-    let schemas = CatalogSchemas { catalog };
-    match table_list::bind(alloc, &schemas, text) {
-        Ok(_) => {
-            let sides = find_sides(catalog, text);
-            Ok(bind_query(alloc, sides, catalog, text)?)
-        },
+    match table_list::bind(alloc, catalog, text) {
+        Ok(sides) => Ok(bind_query(alloc, sides, catalog, text)?),
         Err(fault) => Err(fault),
     }
 }

@@ -4,7 +4,6 @@
 mod binding;
 mod bound_cond;
 mod bound_query;
-mod catalogs;
 mod conjuncts;
 mod copies;
 mod intervals;

@@ -8,3 +8,4 @@ pub mod Binding
 pub mod Shown
 pub mod Answers
 pub mod PlainLines
+pub mod Catalogs

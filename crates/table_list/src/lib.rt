@@ -4,6 +4,7 @@
 mod answering;
 mod bind_fault;
 mod binding;
+mod catalogs;
 mod cells;
 mod columns;
 mod commands;

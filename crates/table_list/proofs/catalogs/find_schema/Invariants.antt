@@ -1,6 +1,6 @@
 use Rattle.std.proofs.Common.{◌≡◌, drop}
-use Rattle.query_plan.specs.Catalogs.{schema_named}
-use Rattle.query_plan.proofs.catalogs.find_schema.Given as goal
+use Rattle.table_list.specs.Catalogs.{schema_named}
+use Rattle.table_list.proofs.catalogs.find_schema.Given as goal
 
 -- no table so far has the name
 abbrev pub invariant-loop-table : goal.invariant-loop-table
