@@ -2,3 +2,4 @@ pub mod Reading
 pub mod Keeping
 pub mod Steps
 pub mod Children
+pub mod Strings

@@ -9,14 +9,20 @@ use Rattle.vo_spec.specs.Cells.{cell_digest, row_digest}
 use Rattle.vo_spec.specs.Parts.{stub, leaf, inner, none, more}
 use Rattle.vo_spec.specs.Trees.{RowTree, RowTrees, digest}
 
--- the fact holds exactly where nothing is found; what is found are two different byte strings of one digest
-abbrev pub Agrees : Option (List ℕ × List ℕ) → Type 0 → Type 0
-Agrees None fact = fact
-Agrees (Some found) fact = (fact → ⊥) × Collides found.0 found.1
+-- the fact holds exactly where nothing is found; what is found are two different byte strings of one digest,
+-- which are as said
+abbrev pub Agrees : Option (List ℕ × List ℕ) → Type 0 → (List ℕ → List ℕ → Type 0) → Type 0
+Agrees None fact Are = fact
+Agrees (Some found) fact Are = (fact → ⊥) × Collides found.0 found.1 × Are found.0 found.1
 
 abbrev pub AgreesAs : Agreement → Type 0 → Type 0
 AgreesAs Does_prune fact = fact
 AgreesAs (Found found) fact = (fact → ⊥) × Collides found.0 found.1
+
+-- the strings that were found are as said
+abbrev pub FoundAre : Agreement → (List ℕ → List ℕ → Type 0) → Type 0
+FoundAre Does_prune Are = Unit {0}
+FoundAre (Found found) Are = Are found.0 found.1
 
 abbrev pub SameCells : ℕ → List Cell → List Cell → Type 0
 SameCells column [] [] = Unit {0}

@@ -7,6 +7,7 @@ ghost use Rattle.vo_spec.specs.Values.{FitsValue};
 ghost use Rattle.vo_spec.specs.Cells.{attribute_bytes, cell_digest, whole_cells, CellPrunes, CellsPrune};
 ghost use Rattle.vo_spec.specs.Fits.{FitsCell, most_cells};
 ghost use Rattle.tree_collide.specs.Agreeing.{Agrees, SameCells};
+ghost use Rattle.tree_collide.specs.Preimages.{AttributesOf, AttributesIn};
 
 use crate::comparing::compare;
 use row_bytes::put_value;
@@ -24,7 +25,8 @@ pub fn agree_cells(
     requires fit { All FitsCell cells.now }
     requires values_fit { All FitsValue values.now }
     requires same { SameCells 0 cells.now (whole_cells values.now) }
-    ensures { IfOk result (λ found. Agrees found (CellsPrune 0 cells.now (whole_cells values.now))) }
+    ensures { IfOk result (λ found. Agrees found (CellsPrune 0 cells.now (whole_cells values.now))
+        (AttributesIn 0 cells.now (whole_cells values.now))) }
 {
     for (column, cell) in cells.iter().enumerate() {
         let found = agree_cell(alloc, column as u8, cell, &values[column])?;
@@ -44,7 +46,8 @@ fn agree_cell(
     requires fits { FitsCell cell.now }
     requires value_fits { FitsValue value.now }
     requires same { cell_digest column cell.now ≡ cell_digest column (Shown value.now) }
-    ensures { IfOk result (λ found. Agrees found (CellPrunes column cell.now (Shown value.now))) }
+    ensures { IfOk result (λ found. Agrees found (CellPrunes column cell.now (Shown value.now))
+        (AttributesOf column cell.now (Shown value.now))) }
 {
     match cell {
         Cell::Hidden(_) => Ok(None),
@@ -61,7 +64,8 @@ fn agree_value(
     requires fits { FitsValue (value_of shown) }
     requires value_fits { FitsValue value.now }
     requires same { sha256 (attribute_bytes column (value_of shown)) ≡ sha256 (attribute_bytes column value.now) }
-    ensures { IfOk result (λ found. Agrees found (value_of shown.entry ≡ value.now)) }
+    ensures { IfOk result (λ found. Agrees found (value_of shown.entry ≡ value.now)
+        (AttributesOf column (Shown (value_of shown.entry)) (Shown value.now))) }
 {
     let own = shown.to_value(alloc)?;
     agree_values(alloc, column, &own, value)
@@ -77,7 +81,8 @@ fn agree_values(
     requires fits { FitsValue shown.now }
     requires value_fits { FitsValue value.now }
     requires same { sha256 (attribute_bytes column shown.now) ≡ sha256 (attribute_bytes column value.now) }
-    ensures { IfOk result (λ found. Agrees found (shown.now ≡ value.now)) }
+    ensures { IfOk result (λ found. Agrees found (shown.now ≡ value.now)
+        (AttributesOf column (Shown shown.now) (Shown value.now))) }
 {
     let first = attribute_preimage(alloc, column, shown)?;
     let second = attribute_preimage(alloc, column, value)?;

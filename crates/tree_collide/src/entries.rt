@@ -4,6 +4,7 @@ ghost use Rattle.std.specs.List.{AllZip};
 ghost use Rattle.vo_spec.specs.Cells.{whole_entry, EntryPrunes};
 ghost use Rattle.vo_spec.specs.Fits.{FitsEntry};
 ghost use Rattle.tree_collide.specs.Agreeing.{Agrees, SameEntries};
+ghost use Rattle.tree_collide.specs.Preimages.{RowsIn};
 
 use crate::rows::agree_row;
 use mb_tree::TreeEntry;
@@ -19,7 +20,8 @@ pub fn agree_entries(
     requires count { length parts.now ≡ length entries.now }
     requires fit { All FitsEntry parts.now }
     requires same { SameEntries parts.now (map whole_entry entries.now) }
-    ensures { IfOk result (λ found. Agrees found (AllZip EntryPrunes parts.now (map whole_entry entries.now))) }
+    ensures { IfOk result (λ found. Agrees found (AllZip EntryPrunes parts.now (map whole_entry entries.now))
+        (RowsIn parts.now (map whole_entry entries.now))) }
 {
     for (place, part) in parts.iter().enumerate() {
         let found = agree_row(alloc, &part.row, entries[place].cells())?;

@@ -6,7 +6,8 @@ ghost use Rattle.vo_spec.specs.Trees.{digest, Prunes, row_family, open_parts};
 ghost use Rattle.vo_spec.specs.Fits.{FitsPart, FitsEach, FitsEntry};
 ghost use Rattle.mb_tree.specs.View.{part_of, parts_of};
 ghost use Rattle.mb_tree.specs.Whole.{whole_of};
-ghost use Rattle.tree_collide.specs.Agreeing.{Agrees, AgreesAs, IsLike, SameNodes, is_open};
+ghost use Rattle.tree_collide.specs.Agreeing.{Agrees, AgreesAs, FoundAre, IsLike, SameNodes, is_open};
+ghost use Rattle.tree_collide.specs.Preimages.{ArePreimages, BelowNodes, NodesIn};
 
 use crate::comparing::compare;
 use crate::entries::agree_entries;
@@ -19,7 +20,8 @@ use vo_spec::{Agreement, Collision};
 pub fn agree(alloc: Global, part: &PartTree<'_>, tree: &Tree) -> Result<Agreement, AllocError>
     requires fits { FitsPart (part_of part.now) }
     requires same { digest (part_of part.now) ≡ digest tree.now }
-    ensures { IfOk result (λ agreement. AgreesAs agreement (Prunes (part_of part.now) tree.now)) }
+    ensures prunes { IfOk result (λ agreement. AgreesAs agreement (Prunes (part_of part.now) tree.now)) }
+    ensures strings { IfOk result (λ agreement. FoundAre agreement (ArePreimages (part_of part.now) tree.now)) }
 {
     match agree_branch(alloc, part, tree.root())? {
         None => Ok(Agreement::Prunes),
@@ -35,7 +37,8 @@ fn agree_branch(
 ) -> Result<Option<Collision>, AllocError>
     requires fits { FitsPart (part_of part.now) }
     requires same { digest (part_of part.now) ≡ digest branch.now }
-    ensures { IfOk result (λ found. Agrees found (Prunes (part_of part.now) branch.now)) }
+    ensures { IfOk result (λ found. Agrees found (Prunes (part_of part.now) branch.now)
+        (ArePreimages (part_of part.now) branch.now)) }
 {
     match part {
         PartTree::Stub(_) => Ok(None),
@@ -45,7 +48,7 @@ fn agree_branch(
 }
 
 #[cycle(agree)]
-#[tactic(auto, using(crate::proofs::Reading::like, crate::proofs::Keeping::preimage_kept, crate::proofs::Keeping::open_hash))]
+#[tactic(auto, using(crate::proofs::Reading::like, crate::proofs::Keeping::preimage_kept, crate::proofs::Keeping::open_hash, crate::proofs::Children::node_open, crate::proofs::Strings::node_strings, crate::proofs::Strings::of_below))]
 fn agree_node(
     alloc: Global,
     part: &PartTree<'_>,
@@ -54,7 +57,8 @@ fn agree_node(
     requires open { is_open (part_of part.now) ≡ true }
     requires fits { FitsPart (part_of part.now) }
     requires same { digest (part_of part.now) ≡ digest branch.now }
-    ensures { IfOk result (λ found. Agrees found (Prunes (part_of part.now) branch.now)) }
+    ensures { IfOk result (λ found. Agrees found (Prunes (part_of part.now) branch.now)
+        (ArePreimages (part_of part.now) branch.now)) }
 {
     let node = branch.node();
     let first = part.preimage(alloc)?;
@@ -74,7 +78,8 @@ fn agree_open(
 ) -> Result<Option<Collision>, AllocError>
     requires fits { FitsPart (part_of part.now) }
     requires same { IsLike (part_of part.now) (whole_of node.now) }
-    ensures { IfOk result (λ found. Agrees found (Prunes (part_of part.now) (whole_of node.now))) }
+    ensures { IfOk result (λ found. Agrees found (Prunes (part_of part.now) (whole_of node.now))
+        (BelowNodes (part_of part.now) (whole_of node.now))) }
 {
     match (part, node) {
         (PartTree::Leaf(parts), Node::Leaf(entries)) => {
@@ -100,7 +105,8 @@ fn agree_children(
     requires count { length parts.now ≡ length branches.now }
     requires fit { FitsEach FitsEntry (parts_of parts.now) }
     requires same { SameNodes (parts_of parts.now) (open_parts branches.now) }
-    ensures { IfOk result (λ found. Agrees found (PrunesEach row_family EntryPrunes (parts_of parts.now) (open_parts branches.now))) }
+    ensures { IfOk result (λ found. Agrees found (PrunesEach row_family EntryPrunes (parts_of parts.now) (open_parts branches.now))
+        (NodesIn (parts_of parts.now) (open_parts branches.now))) }
 {
     for (place, part) in parts.iter().enumerate() {
         let found = agree_branch(alloc, part, &branches[place])?;

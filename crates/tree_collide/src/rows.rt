@@ -1,9 +1,11 @@
 //! Parts of rows against rows.
 ghost use Rattle.std.specs.Prelude.{◌≡◌, ◌∷◌, ◌++◌, ◌≤◌, length, IfOk, All};
+ghost use Rattle.vo_spec.specs.declared.cells.RowPart.TheVariants.{Cells};
 ghost use Rattle.vo_spec.specs.Sha256.{sha256};
 ghost use Rattle.vo_spec.specs.Cells.{row_bytes as row_bytes_of, row_digest, whole_cells, whole_row, CellsPrune, RowPrunes};
 ghost use Rattle.vo_spec.specs.Fits.{FitsCell, FitsCells, FitsRowPart, most_cells};
 ghost use Rattle.tree_collide.specs.Agreeing.{Agrees};
+ghost use Rattle.tree_collide.specs.Preimages.{RowsOf};
 
 use crate::cells::agree_cells;
 use crate::comparing::compare;
@@ -20,7 +22,8 @@ pub fn agree_row(
 ) -> Result<Option<Collision>, AllocError>
     requires fits { FitsRowPart part.now }
     requires same { row_digest part.now ≡ row_digest (whole_row cells.now) }
-    ensures { IfOk result (λ found. Agrees found (RowPrunes part.now (whole_row cells.now))) }
+    ensures { IfOk result (λ found. Agrees found (RowPrunes part.now (whole_row cells.now))
+        (RowsOf part.now (whole_row cells.now))) }
 {
     match part {
         RowPart::Digest(_) => Ok(None),
@@ -28,7 +31,7 @@ pub fn agree_row(
     }
 }
 
-#[tactic(auto, using(crate::proofs::Reading::row_same, crate::proofs::Keeping::row_bytes_kept, crate::proofs::Steps::whole_fit, crate::proofs::Steps::same_count))]
+#[tactic(auto, using(crate::proofs::Reading::row_same, crate::proofs::Keeping::row_bytes_kept, crate::proofs::Steps::whole_fit, crate::proofs::Steps::same_count, crate::proofs::Strings::row_strings, crate::proofs::Strings::of_attributes))]
 fn agree_open(
     alloc: Global,
     parts: &[Cell<'_>],
@@ -38,7 +41,8 @@ fn agree_open(
     requires fit { All FitsCell parts.now }
     requires values_fit { FitsCells values.now }
     requires same { sha256 (row_bytes_of parts.now) ≡ sha256 (row_bytes_of (whole_cells values.now)) }
-    ensures { IfOk result (λ found. Agrees found (CellsPrune 0 parts.now (whole_cells values.now))) }
+    ensures { IfOk result (λ found. Agrees found (CellsPrune 0 parts.now (whole_cells values.now))
+        (RowsOf (Cells parts.now) (whole_row values.now))) }
 {
     let first = parts_preimage(alloc, parts)?;
     let second = values_preimage(alloc, values)?;

@@ -7,7 +7,8 @@ use Rattle.tree_collide.proofs.cells.agree_values.Goals as goal
 pub returns : goal.returns
 returns c =
     let column = c.args.column in
-    agrees_by c.compare.result _ _
+    agrees_by c.compare.result _ _ _ _
     (λ e. attribute_same column c.args.shown.now c.args.value.now c.requires.fits c.requires.value_fits (sym c.in_ok-first.ensures ∙ e ∙ c.in_ok-second.ensures))
     (λ e. c.in_ok-first.ensures ∙ ap (attribute_bytes column) e ∙ sym c.in_ok-second.ensures)
+    (λ x y h. (h.0 ∙ c.in_ok-first.ensures, h.1 ∙ c.in_ok-second.ensures))
     c.compare.ensures

@@ -9,7 +9,7 @@ use Rattle.mb_tree.specs.Whole.{whole_of}
 use Rattle.mb_tree.proofs.PartLaws.{child_fits, child_falls}
 use Rattle.sha2.specs.Sha256.{sha256}
 use Rattle.tree_collide.specs.Agreeing.{IsLike, SameNodes, is_open}
-use Rattle.tree_collide.proofs.Children.{child_count, child_here, node_open}
+use Rattle.tree_collide.proofs.Children.{child_count, child_here, child_found, child_passed, node_open}
 use Rattle.tree_collide.proofs.Keeping.{open_hash}
 use Rattle.tree_collide.proofs.Reading.{like}
 use Rattle.tree_collide.proofs.nodes.+agree.Goals as goal
@@ -21,9 +21,19 @@ agree_children-agree_branch-requires t c =
       omega arith,
       (
         child_fits _ c.requires.fit _ _ c.loop-place-test.true c.index-parts-place.is,
-        child_here _ _ _ _ _ _ c.loop-place-test.true c.index-parts-place.is within c.index-branches-place.is c.loop-place.invariant,
+        child_here _ _ _ _ _ _ _ c.loop-place-test.true c.index-parts-place.is within c.index-branches-place.is c.loop-place.invariant,
       ),
     )
+
+pub agree_children-returns-then-is_some : goal.agree_children-returns-then-is_some
+agree_children-returns-then-is_some t c =
+    let within : c.loop-place.place < length c.args.branches.now = omega (arith, c.requires.count, c.loop-place-test.true) in
+    child_found _ _ _ _ _ _ _ c.loop-place-test.true c.index-parts-place.is within c.index-branches-place.is c.loop-place.invariant c.in_ok-found.found (sym c.is_some.ensures ∙ c.if-is_some.true) c.in_ok-found.ensures
+
+pub agree_children-loop-place-preserved : goal.agree_children-loop-place-preserved
+agree_children-loop-place-preserved t c =
+    let within : c.loop-place.place < length c.args.branches.now = omega (arith, c.requires.count, c.loop-place-test.true) in
+    child_passed _ _ _ _ _ _ _ c.loop-place-test.true c.index-parts-place.is within c.index-branches-place.is c.loop-place.invariant c.in_ok-found.found (sym c.is_some.ensures ∙ c.if-is_some.false) c.in_ok-found.ensures
 
 pub agree_node-compare-requires : goal.agree_node-compare-requires
 agree_node-compare-requires t c =

@@ -2,6 +2,7 @@ use Rattle.std.proofs.Common.{◌+◌, ◌*◌, drop}
 use Rattle.vo_spec.specs.Cells.{EntryPrunes}
 use Rattle.vo_spec.specs.Parts.{levels, levels_in, PrunesEach}
 use Rattle.vo_spec.specs.Trees.{row_family, open_parts}
+use Rattle.tree_collide.specs.Preimages.{NodesIn}
 use Rattle.tree_collide.proofs.Children.{NodesLeft}
 use Rattle.mb_tree.specs.View.{part_of, parts_of}
 use Rattle.tree_collide.proofs.nodes.+agree.Given as goal
@@ -22,3 +23,4 @@ decreases-agree_children l = 4 * levels_in (parts_of l.parts.now) + 3
 abbrev pub invariant-agree_children-loop-place : goal.invariant-agree_children-loop-place
 invariant-agree_children-loop-place l =
     NodesLeft (parts_of (drop l.place l.parts)) (open_parts (drop l.place l.branches)) (PrunesEach row_family EntryPrunes (parts_of l.parts) (open_parts l.branches))
+    (NodesIn (parts_of l.parts) (open_parts l.branches))
