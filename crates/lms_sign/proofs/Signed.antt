@@ -1,15 +1,15 @@
 -- What a secret key signs is valid under its public key.
 use Rattle.std.proofs.Common.{◌≡◌, ℕ, ◌+◌, ◌-◌, ◌*◌, ◌/◌, ◌^◌, ◌≤◌, ◌<◌, List, [], ◌++◌, length, drop, refl, sym, ap, ◌∙◌, append_assoc, arith}
 use Rattle.std.specs.Prelude.{true, Some, nat_le}
-use Rattle.std.proofs.lemmas.Bool.{and_from, eq-eqb, lt-ltb, le-leb, cond-true}
+use Rattle.std.proofs.lemmas.Bool.{and_from, and_parts, eq-eqb, eqb-true, lt-ltb, le-leb, cond-true}
 use Rattle.std.proofs.lemmas.List.{append-nil, length-append}
 use Rattle.std.proofs.lemmas.Slice.Eq.{bytes_eq-Decides}
 use Rattle.std.proofs.Math.Seq.{drop-append_seam, take-append_seam}
 use Rattle.vo_spec.specs.Bytes.{u32_bytes, u32_at, joined}
-use Rattle.vo_spec.specs.OtsSets.{ots_signature_len}
+use Rattle.vo_spec.specs.OtsSets.{ots_code_of, ots_signature_len}
 use Rattle.vo_spec.specs.Ots.{ots_signature, ots_public, is_ots_form}
 use Rattle.vo_spec.specs.LmsSets.{lms_code_of, height_of, leaves_of, lms_signature_len}
-use Rattle.vo_spec.specs.Lms.{ots_part, path_at, leaf_node, is_lms_form, lms_candidate, is_valid_under, lms_valid, leaf_of, key_signature_len}
+use Rattle.vo_spec.specs.Lms.{ots_part, path_at, leaf_node, is_lms_form, lms_candidate, is_valid_under, public_bytes, lms_valid, leaf_of, key_signature_len}
 use Rattle.vo_spec.specs.Secret.{Secret, tree_node, path_node, sibling_of, lms_signature, public_of_secret}
 use Rattle.lm_ots.proofs.Pieces.{length-u32_bytes, length-joined, digest_at-joined, u32_at-front, u32_at-append}
 use Rattle.lm_ots.proofs.Valid.{length-ots_signature, signed_form, signed_leads}
@@ -135,3 +135,23 @@ pub signed_len : (key : Secret) (q : ℕ) (message : List ℕ)
 unfolding public_of_secret
 signed_len key q message =
     length-lms_signature key q message ∙ sym (key_signature_len-public_bytes key.lms key.ots key.id (tree_node key 1))
+
+-- a key under which a signature is valid has an identifier of 16 bytes
+pub id_of_valid : (key : Secret) (message signature : List ℕ) → lms_valid (public_of_secret key) message signature ≡ true
+    → length key.id ≡ 16
+unfolding lms_valid public_of_secret public_bytes
+id_of_valid key message signature valid =
+    let first = u32_bytes (lms_code_of key.lms) in
+    let second = u32_bytes (ots_code_of key.ots) in
+    let root = tree_node key 1 in
+    let whole : length (first ++ second ++ key.id ++ root) ≡ 56 = eqb-true _ _ (and_parts _ _ valid).0 in
+    omega (
+      arith,
+      whole,
+      length-append (first ++ second ++ key.id) root,
+      length-append (first ++ second) key.id,
+      length-append first second,
+      length-u32_bytes (lms_code_of key.lms),
+      length-u32_bytes (ots_code_of key.ots),
+      length-tree_node key 1,
+    )

@@ -1,7 +1,14 @@
 //! Secret keys, with their trees.
-ghost use Rattle.std.specs.Prelude.{◌≡◌, ◌+◌, ◌*◌, ◌<◌, ◌≤◌, ◌⊎◌, length, IfOk};
+ghost use Rattle.std.specs.Prelude.{◌≡◌, ◌+◌, ◌*◌, ◌<◌, ◌≤◌, ◌⊎◌, ℕ, List, Some, length, IfOk, IsTrue};
+ghost use Rattle.vo_spec.specs.Lms.{leaf_of, lms_valid};
 ghost use Rattle.vo_spec.specs.LmsSets.{height_of, leaves_of};
-ghost use Rattle.vo_spec.specs.Secret.{secret_of, lms_of_height, tree_node, public_of_secret};
+ghost use Rattle.vo_spec.specs.Secret.{
+  secret_of,
+  lms_of_height,
+  tree_node,
+  public_of_secret,
+  lms_signature,
+};
 ghost use Rattle.lms_sign.specs.Kept.{AreNodes, IsKept};
 
 use crate::nodes::{inner_node, leaf_node};
@@ -85,7 +92,11 @@ impl SecretKey {
         h: u32,
     ) -> Result<SecretKey, AllocError>
         requires { (h ≡ 5) ⊎ (h ≡ 10) }
-        ensures { IfOk result (λ key. key ≡ secret_of id seed ots (lms_of_height h)) }
+        ensures value { IfOk result (λ key. key ≡ secret_of id seed ots (lms_of_height h)) }
+        ensures valid { IfOk result (λ key. (q : ℕ) (message : List ℕ) → q < leaves_of key.lms
+            → IsTrue (lms_valid (public_of_secret key) message (lms_signature key q message))) }
+        ensures by { IfOk result (λ key. (q : ℕ) (message : List ℕ) → q < leaves_of key.lms
+            → leaf_of (public_of_secret key) (lms_signature key q message) ≡ Some q) }
     {
         let lms = if h == 10 { LmsType::H10 } else { LmsType::H5 };
         let nodes = all_nodes(alloc, &id, &seed, ots, lms)?;
@@ -122,9 +133,13 @@ impl SecretKey {
         self.nodes[(last - r) as usize]
     }
 
-    /// The public key.
+    /// The public key. Whatever a leaf of the secret key signs is valid under it, by that leaf.
     pub fn public(&self) -> PublicKey
-        ensures { result ≡ public_of_secret self.now }
+        ensures value { result ≡ public_of_secret self.now }
+        ensures valid { (q : ℕ) (message : List ℕ) → q < leaves_of self.now.lms
+            → IsTrue (lms_valid result message (lms_signature self.now q message)) }
+        ensures by { (q : ℕ) (message : List ℕ) → q < leaves_of self.now.lms
+            → leaf_of result (lms_signature self.now q message) ≡ Some q }
     {
         let root = self.node(1);
         PublicKey {
