@@ -4,7 +4,7 @@ ghost use Rattle.vo_spec.specs.Values.{FitsValue};
 
 use crate::line::BytesCall;
 use batch_format::read_batch;
-use line_pieces::{shown, word};
+use line_pieces::{describe, word};
 use row_bytes::{
     Cursor, FormFault, Value, ValueRef, copy_onto, copy_values, key_of, own_value, put_value,
     take_columns, take_kind, take_value, value_of_key,
@@ -15,7 +15,7 @@ use std::io;
 /// The answer to a call of bytes.
 pub fn answer(alloc: Global, call: BytesCall, bytes: &[u8]) -> io::Result<String> {
     match call {
-        BytesCall::Read => shown(alloc, &read_batch(alloc, bytes)),
+        BytesCall::Read => describe(alloc, &read_batch(alloc, bytes)),
         BytesCall::Value => value(alloc, bytes),
         BytesCall::Values => copies(alloc, bytes),
         BytesCall::Key => key(alloc, bytes),
@@ -28,15 +28,15 @@ pub fn answer(alloc: Global, call: BytesCall, bytes: &[u8]) -> io::Result<String
 fn value(alloc: Global, bytes: &[u8]) -> io::Result<String> {
     let mut cursor = Cursor::new(bytes);
     let said = match take_value(&mut cursor) {
-        Ok(value) => spelled(alloc, value)?,
-        Err(fault) => shown(alloc, &fault)?,
+        Ok(value) => describe_value(alloc, value)?,
+        Err(fault) => describe(alloc, &fault)?,
     };
     let left = hex::encode(alloc, cursor.rest())?;
     Ok(format!(in alloc; "{said} {left}")?)
 }
 
 /// A value, and its bytes.
-fn spelled(alloc: Global, value: ValueRef<'_>) -> io::Result<String>
+fn describe_value(alloc: Global, value: ValueRef<'_>) -> io::Result<String>
     requires { FitsValue (value_of value) }
 {
     let value = own_value(alloc, value)?;
@@ -73,7 +73,7 @@ pub fn take_values(alloc: Global, bytes: &[u8]) -> io::Result<Result<Vec<Value>,
 fn copies(alloc: Global, bytes: &[u8]) -> io::Result<String> {
     match take_values(alloc, bytes)? {
         Ok(values) => Ok(format!(in alloc; "{:?}", copy_values(alloc, &values)?)?),
-        Err(fault) => shown(alloc, &fault),
+        Err(fault) => describe(alloc, &fault),
     }
 }
 
@@ -84,7 +84,7 @@ fn key(alloc: Global, bytes: &[u8]) -> io::Result<String> {
             let key = key_of(alloc, &own_value(alloc, value)?)?;
             Ok(hex::encode(alloc, key.as_bytes())?)
         }
-        Err(fault) => shown(alloc, &fault),
+        Err(fault) => describe(alloc, &fault),
     }
 }
 
@@ -96,7 +96,7 @@ fn key_value(alloc: Global, bytes: &[u8]) -> io::Result<String> {
     };
     match value_of_key(kind, cursor.rest()) {
         Ok(value) => Ok(format!(in alloc; "{:?}", own_value(alloc, value)?)?),
-        Err(fault) => shown(alloc, &fault),
+        Err(fault) => describe(alloc, &fault),
     }
 }
 
@@ -108,6 +108,6 @@ fn columns(alloc: Global, bytes: &[u8]) -> io::Result<String> {
             let left = hex::encode(alloc, cursor.rest())?;
             Ok(format!(in alloc; "{columns:?} {left}")?)
         }
-        Err(fault) => shown(alloc, &fault),
+        Err(fault) => describe(alloc, &fault),
     }
 }

@@ -33,7 +33,7 @@ impl State {
         }
     }
 
-    fn called(&mut self, alloc: Global, line: &Line) -> io::Result<String> {
+    fn answer_call(&mut self, alloc: Global, line: &Line) -> io::Result<String> {
         match line.call {
             Call::Text(call) => texts::answer(alloc, &mut self.tables, call, &line.bytes),
             Call::Bytes(call) => byte_strings::answer(alloc, call, &line.bytes),

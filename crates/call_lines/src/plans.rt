@@ -4,7 +4,7 @@ ghost use Rattle.vo_spec.specs.Tables.{value_at};
 use crate::byte_strings::take_values;
 use crate::line::PlanCall;
 use crate::runs;
-use line_pieces::{shown, word};
+use line_pieces::{describe, word};
 use query_plan::{
     Line, Plan, Query, bind, has_one_tree, is_narrow, meets_left, plan, right_need, same_table,
     tables_used,
@@ -26,12 +26,12 @@ pub fn answer(
         return word(alloc, "no text");
     };
     match parse_query(alloc, text) {
-        Ok(query) => asked(alloc, catalog, call, &query, more),
-        Err(fault) => shown(alloc, &fault),
+        Ok(query) => bind_and_answer(alloc, catalog, call, &query, more),
+        Err(fault) => describe(alloc, &fault),
     }
 }
 
-fn asked<'q>(
+fn bind_and_answer<'q>(
     alloc: Global,
     catalog: &'q Catalog,
     call: PlanCall,
@@ -39,26 +39,36 @@ fn asked<'q>(
     more: &[u8],
 ) -> io::Result<String> {
     match bind(alloc, catalog, query) {
-        Ok(query) => bound(alloc, call, &query, more),
-        Err(fault) => shown(alloc, &fault),
+        Ok(query) => answer_query(alloc, call, &query, more),
+        Err(fault) => describe(alloc, &fault),
     }
 }
 
-fn bound(alloc: Global, call: PlanCall, query: &Query<'_>, more: &[u8]) -> io::Result<String> {
+fn answer_query(
+    alloc: Global,
+    call: PlanCall,
+    query: &Query<'_>,
+    more: &[u8],
+) -> io::Result<String> {
     match call {
         PlanCall::Trees => trees(alloc, query),
-        _ => planned(alloc, call, query, more),
+        _ => answer_plan(alloc, call, query, more),
     }
 }
 
-fn planned(alloc: Global, call: PlanCall, query: &Query<'_>, more: &[u8]) -> io::Result<String> {
+fn answer_plan(
+    alloc: Global,
+    call: PlanCall,
+    query: &Query<'_>,
+    more: &[u8],
+) -> io::Result<String> {
     if !is_narrow(&query.sides, 0) || !is_narrow(&query.sides, 1) {
         return word(alloc, "too wide");
     }
     let plan = plan(alloc, query)?;
     match call {
-        PlanCall::Trees | PlanCall::LeftNeed => shown(alloc, &plan.left_need),
-        PlanCall::RightNeed => right(alloc, &plan, more),
+        PlanCall::Trees | PlanCall::LeftNeed => describe(alloc, &plan.left_need),
+        PlanCall::RightNeed => right_need_text(alloc, &plan, more),
         PlanCall::RightNeeds => runs::right_needs_of(alloc, &plan, more),
         PlanCall::Run => runs::run(alloc, &plan, more),
     }
@@ -89,14 +99,14 @@ impl Line for Fields {
 }
 
 /// What the query needs for a left row of these values, none where the row doesn't meet the condition.
-fn right(alloc: Global, plan: &Plan<'_, '_>, values: &[u8]) -> io::Result<String> {
+fn right_need_text(alloc: Global, plan: &Plan<'_, '_>, values: &[u8]) -> io::Result<String> {
     match take_values(alloc, values)? {
-        Ok(values) => right_of(alloc, plan, &Fields { values }),
-        Err(fault) => shown(alloc, &fault),
+        Ok(values) => right_need_of(alloc, plan, &Fields { values }),
+        Err(fault) => describe(alloc, &fault),
     }
 }
 
-fn right_of(alloc: Global, plan: &Plan<'_, '_>, row: &Fields) -> io::Result<String> {
+fn right_need_of(alloc: Global, plan: &Plan<'_, '_>, row: &Fields) -> io::Result<String> {
     let Some(join) = plan.query.join else {
         return word(alloc, "no join");
     };
@@ -104,5 +114,5 @@ fn right_of(alloc: Global, plan: &Plan<'_, '_>, row: &Fields) -> io::Result<Stri
         return word(alloc, "none");
     }
     let need = right_need(alloc, plan, join, row)?;
-    shown(alloc, &need)
+    describe(alloc, &need)
 }

@@ -3,7 +3,7 @@ ghost use Rattle.std.specs.Prelude.{◌≡◌, IsTrue, length};
 ghost use Rattle.vo_spec.specs.Needs.{tables_used};
 ghost use Rattle.table_list.specs.Sided.{sides_seen};
 
-use line_pieces::{shown, word};
+use line_pieces::{describe, word};
 use plan_run::{right_needs, run_plan};
 use query_plan::{Plan, Sides, has_one_tree};
 use std::alloc::Global;
@@ -14,7 +14,7 @@ use vo_format::{Cursor, PartTree, ReadFault, take_tree};
 pub fn run(alloc: Global, plan: &Plan<'_, '_>, bytes: &[u8]) -> io::Result<String> {
     match take_all(alloc, bytes) {
         Ok(trees) => run_on(alloc, plan, &trees),
-        Err(fault) => shown(alloc, &fault),
+        Err(fault) => describe(alloc, &fault),
     }
 }
 
@@ -22,14 +22,14 @@ fn run_on(alloc: Global, plan: &Plan<'_, '_>, trees: &[PartTree<'_>]) -> io::Res
     if !has_trees(&plan.query.sides, trees) {
         return word(alloc, "other trees");
     }
-    shown(alloc, &run_plan(alloc, plan, trees))
+    describe(alloc, &run_plan(alloc, plan, trees))
 }
 
 /// What the query needs of the right tree by what the left one shows.
 pub fn right_needs_of(alloc: Global, plan: &Plan<'_, '_>, bytes: &[u8]) -> io::Result<String> {
     match take_tree(alloc, &mut Cursor::new(bytes)) {
-        Ok(left) => shown(alloc, &right_needs(alloc, plan, &left)),
-        Err(fault) => shown(alloc, &fault),
+        Ok(left) => describe(alloc, &right_needs(alloc, plan, &left)),
+        Err(fault) => describe(alloc, &fault),
     }
 }
 

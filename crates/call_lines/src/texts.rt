@@ -1,7 +1,7 @@
 //! Calls of texts, and of tables by texts. Values are shown as for debugging.
 use crate::line::TextCall;
 use batch_format::batch_bytes;
-use line_pieces::{shown, word};
+use line_pieces::{describe, word};
 use sql_text::{SqlFault, parse_batch, parse_query, parse_script, print_batch, print_query};
 use std::alloc::{AllocError, Global};
 use std::io;
@@ -16,45 +16,50 @@ pub fn answer(
     bytes: &[u8],
 ) -> io::Result<String> {
     match std::str::from_utf8(bytes) {
-        Ok(text) => called(alloc, tables, call, text),
+        Ok(text) => answer_call(alloc, tables, call, text),
         Err(_) => word(alloc, "no text"),
     }
 }
 
-fn called(alloc: Global, tables: &mut Tables, call: TextCall, text: &str) -> io::Result<String> {
+fn answer_call(
+    alloc: Global,
+    tables: &mut Tables,
+    call: TextCall,
+    text: &str,
+) -> io::Result<String> {
     match call {
         TextCall::Query => read_query(alloc, text),
         TextCall::Batch => read_batch(alloc, text),
         TextCall::Script => read_script(alloc, text),
-        TextCall::Apply => shown(alloc, &applied(alloc, tables, text)),
-        TextCall::Step => shown(alloc, &stepped(alloc, tables, text)),
+        TextCall::Apply => describe(alloc, &apply_script(alloc, tables, text)),
+        TextCall::Step => describe(alloc, &apply_each(alloc, tables, text)),
         TextCall::Result => result_of(alloc, tables, text),
-        TextCall::PrintQuery => printed_query(alloc, text),
-        TextCall::PrintBatch => printed_batch(alloc, text),
-        TextCall::Bytes => written(alloc, text),
-        TextCall::Count => shown(alloc, &batch_count(alloc, text)),
-        TextCall::Length => shown(alloc, &text.len()),
+        TextCall::PrintQuery => reprint_query(alloc, text),
+        TextCall::PrintBatch => reprint_batch(alloc, text),
+        TextCall::Bytes => batch_digits(alloc, text),
+        TextCall::Count => describe(alloc, &batch_count(alloc, text)),
+        TextCall::Length => describe(alloc, &text.len()),
     }
 }
 
 fn read_query(alloc: Global, text: &str) -> io::Result<String> {
-    shown(alloc, &parse_query(alloc, text))
+    describe(alloc, &parse_query(alloc, text))
 }
 
 fn read_batch(alloc: Global, text: &str) -> io::Result<String> {
-    shown(alloc, &parse_batch(alloc, text))
+    describe(alloc, &parse_batch(alloc, text))
 }
 
 fn read_script(alloc: Global, text: &str) -> io::Result<String> {
-    shown(alloc, &parse_script(alloc, text))
+    describe(alloc, &parse_script(alloc, text))
 }
 
 fn result_of(alloc: Global, tables: &Tables, text: &str) -> io::Result<String> {
-    shown(alloc, &asked(alloc, tables, text))
+    describe(alloc, &query_result(alloc, tables, text))
 }
 
 /// The text that the query of a text is printed as.
-fn printed_query(alloc: Global, text: &str) -> io::Result<String> {
+fn reprint_query(alloc: Global, text: &str) -> io::Result<String> {
     match parse_query(alloc, text) {
         Ok(query) => Ok(print_query(alloc, &query)?),
         Err(_) => word(alloc, "none"),
@@ -62,7 +67,7 @@ fn printed_query(alloc: Global, text: &str) -> io::Result<String> {
 }
 
 /// The text that the batch of a text is printed as.
-fn printed_batch(alloc: Global, text: &str) -> io::Result<String> {
+fn reprint_batch(alloc: Global, text: &str) -> io::Result<String> {
     match parse_batch(alloc, text) {
         Ok(batch) => Ok(print_batch(alloc, &batch)?),
         Err(_) => word(alloc, "none"),
@@ -70,7 +75,7 @@ fn printed_batch(alloc: Global, text: &str) -> io::Result<String> {
 }
 
 /// The bytes of the batch of a text, in hexadecimal.
-fn written(alloc: Global, text: &str) -> io::Result<String> {
+fn batch_digits(alloc: Global, text: &str) -> io::Result<String> {
     match parse_batch(alloc, text) {
         Ok(batch) => digits(alloc, batch_bytes(alloc, &batch)),
         Err(_) => word(alloc, "none"),
@@ -87,7 +92,7 @@ fn batch_count(alloc: Global, script: &str) -> Result<usize, SqlFault> {
 }
 
 /// What becomes of each batch of a script.
-fn applied(
+fn apply_script(
     alloc: Global,
     tables: &mut Tables,
     script: &str,
@@ -104,7 +109,7 @@ fn applied(
 }
 
 /// What becomes of each command of a batch, applied by itself.
-fn stepped(
+fn apply_each(
     alloc: Global,
     tables: &mut Tables,
     text: &str,
@@ -121,7 +126,7 @@ fn stepped(
 }
 
 /// What the query of a text gives on the tables.
-fn asked(alloc: Global, tables: &Tables, text: &str) -> Result<Outcome, SqlFault> {
+fn query_result(alloc: Global, tables: &Tables, text: &str) -> Result<Outcome, SqlFault> {
     match parse_query(alloc, text) {
         Ok(query) => result(alloc, tables, &query).or(Err(SqlFault::Memory)),
         Err(fault) => Err(fault),

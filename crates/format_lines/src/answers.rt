@@ -1,14 +1,14 @@
 //! The answer to a line: bytes in hexadecimal, a number or a word, or a fault as it is shown for debugging.
 use crate::call::Call;
 use crate::hashing::{collision, digest, hash};
-use crate::journals::{entries, journal, owned, seal, slots, taken};
+use crate::journals::{entries, journal, owned_journal, seal, slots, taken_journal};
 use crate::kept::{Kept, keep};
 use crate::keys::{copy, key, leaf, make, node, sign, verify};
 use crate::line::read_line;
 use crate::one_time::{candidate, checksum, digit, ots_public, ots_sign};
 use crate::records::{catalog, record};
 use crate::replies::{answer_by, begin, proofs, reply};
-use crate::rows::{attribute, cell, closed, hide, hide_cells, row, value, whole};
+use crate::rows::{attribute, cell, hidden_row, hide, hide_cells, row, value, whole_row};
 use line_pieces::NoAnswer;
 use std::alloc::Global;
 use std::io;
@@ -61,8 +61,8 @@ fn by_formats(alloc: Global, call: Call, strings: &[Vec<u8>]) -> Result<String, 
         Call::Attribute => attribute(alloc, strings),
         Call::Cell => cell(alloc, strings),
         Call::Row => row(alloc, strings),
-        Call::Closed => closed(alloc, strings),
-        Call::Whole => whole(alloc, strings),
+        Call::Closed => hidden_row(alloc, strings),
+        Call::Whole => whole_row(alloc, strings),
         Call::Hide => hide(alloc, strings),
         Call::HideCells => hide_cells(alloc, strings),
         Call::Catalog => catalog(alloc, strings),
@@ -73,8 +73,8 @@ fn by_formats(alloc: Global, call: Call, strings: &[Vec<u8>]) -> Result<String, 
         Call::Slots => slots(alloc, strings),
         Call::Entries => entries(alloc, strings),
         Call::Journal => journal(alloc, strings),
-        Call::Owned => owned(alloc, strings),
-        Call::Taken => taken(alloc, strings),
+        Call::Owned => owned_journal(alloc, strings),
+        Call::Taken => taken_journal(alloc, strings),
         Call::Answer => answer_by(alloc, strings),
         _ => Err(NoAnswer::NoSuchLine),
     }

@@ -5,7 +5,7 @@ use tagged_hash::{Hasher, collision as collision_of, digest_of};
 use vo_spec::Digest;
 
 /// A digest in hexadecimal.
-pub fn shown(alloc: Global, digest: Digest) -> Result<String, NoAnswer> {
+pub fn hex_digest(alloc: Global, digest: Digest) -> Result<String, NoAnswer> {
     Ok(hex::encode(alloc, digest.as_bytes())?)
 }
 
@@ -14,7 +14,7 @@ pub fn digest(alloc: Global, strings: &[Vec<u8>]) -> Result<String, NoAnswer> {
     let [bytes] = strings else {
         return Err(NoAnswer::NoSuchLine);
     };
-    shown(alloc, digest_of(bytes))
+    hex_digest(alloc, digest_of(bytes))
 }
 
 /// The digest of pieces that are added one by one.
@@ -23,7 +23,7 @@ pub fn hash(alloc: Global, pieces: &[Vec<u8>]) -> Result<String, NoAnswer> {
     for piece in pieces {
         hasher.add(piece);
     }
-    shown(alloc, hasher.end())
+    hex_digest(alloc, hasher.end())
 }
 
 /// Whether two byte strings are a collision.

@@ -7,7 +7,7 @@ ghost use Rattle.owner_state.specs.Sealing.{FitEach};
 use crate::arguments::number_of;
 use crate::kept::Kept;
 use crate::keys::read_key;
-use crate::records::shown_catalog;
+use crate::records::catalog_text;
 use batch_format::read_batch;
 use line_pieces::NoAnswer;
 use owner_state::{
@@ -24,21 +24,21 @@ pub fn slots(alloc: Global, strings: &[Vec<u8>]) -> Result<String, NoAnswer> {
     };
     let slots = read_slots(alloc, bytes)?;
     let mut line = format!(in alloc; "{:?}", slots.ending)?;
-    put_shown_slots(alloc, &mut line, slots.entries.as_slice())?;
+    put_slots(alloc, &mut line, slots.entries.as_slice())?;
     Ok(line)
 }
 
-fn put_shown_slots(alloc: Global, line: &mut String, entries: &[Entry]) -> Result<(), NoAnswer>
+fn put_slots(alloc: Global, line: &mut String, entries: &[Entry]) -> Result<(), NoAnswer>
     requires { AllByRecursion FitsEntry entries.now }
 {
     for entry in entries {
         line.push(' ')?;
-        line.push_str(&shown_slot(alloc, entry)?)?;
+        line.push_str(&slot_text(alloc, entry)?)?;
     }
     Ok(())
 }
 
-fn shown_slot(alloc: Global, entry: &Entry) -> Result<String, NoAnswer>
+fn slot_text(alloc: Global, entry: &Entry) -> Result<String, NoAnswer>
     requires { FitsEntry entry.now }
 {
     let mut bytes = Vec::new(alloc);
@@ -52,23 +52,23 @@ pub fn entries(alloc: Global, strings: &[Vec<u8>]) -> Result<String, NoAnswer> {
         return Err(NoAnswer::NoSuchLine);
     };
     match read_entries(alloc, bytes) {
-        Ok(entries) => shown_entries(alloc, entries.as_slice()),
+        Ok(entries) => entries_text(alloc, entries.as_slice()),
         Err(fault) => Ok(format!(in alloc; "{fault:?}")?),
     }
 }
 
-fn shown_entries(alloc: Global, entries: &[Entry]) -> Result<String, NoAnswer>
+fn entries_text(alloc: Global, entries: &[Entry]) -> Result<String, NoAnswer>
     requires { AllByRecursion FitsEntry entries.now }
 {
     let mut line = format!(in alloc; "{}", entries.len())?;
     for entry in entries {
         line.push(' ')?;
-        line.push_str(&shown_entry(alloc, entry)?)?;
+        line.push_str(&entry_text(alloc, entry)?)?;
     }
     Ok(line)
 }
 
-fn shown_entry(alloc: Global, entry: &Entry) -> Result<String, NoAnswer>
+fn entry_text(alloc: Global, entry: &Entry) -> Result<String, NoAnswer>
     requires { FitsEntry entry.now }
 {
     Ok(hex::encode(alloc, entry_bytes(alloc, entry)?)?)
@@ -108,21 +108,21 @@ fn read_batches(alloc: Global, strings: &[Vec<u8>]) -> Result<List<Batch>, NoAns
 }
 
 /// How many entries an owner's journal has, and the catalog of its tables at a version.
-pub fn owned(alloc: Global, strings: &[Vec<u8>]) -> Result<String, NoAnswer> {
+pub fn owned_journal(alloc: Global, strings: &[Vec<u8>]) -> Result<String, NoAnswer> {
     let [key, version, journal] = strings else {
         return Err(NoAnswer::NoSuchLine);
     };
     match read_owned(alloc, &read_key(key)?, journal, number_of(version)?) {
-        Ok(owned) => shown_owned(alloc, &owned),
+        Ok(owned) => owned_text(alloc, &owned),
         Err(fault) => Ok(format!(in alloc; "{fault:?}")?),
     }
 }
 
-fn shown_owned(alloc: Global, owned: &OwnedJournal) -> Result<String, NoAnswer> {
+fn owned_text(alloc: Global, owned: &OwnedJournal) -> Result<String, NoAnswer> {
     let count = owned.entries.len();
     match &owned.tables {
         Some(tables) => {
-            let catalog = shown_catalog(alloc, &tables.catalog(alloc)?)?;
+            let catalog = catalog_text(alloc, &tables.catalog(alloc)?)?;
             Ok(format!(in alloc; "{count} {catalog}")?)
         }
         None => Ok(format!(in alloc; "{count} no such version")?),
@@ -130,17 +130,17 @@ fn shown_owned(alloc: Global, owned: &OwnedJournal) -> Result<String, NoAnswer> 
 }
 
 /// How many entries a journal has that a store takes, and the catalog of its tables behind them.
-pub fn taken(alloc: Global, strings: &[Vec<u8>]) -> Result<String, NoAnswer> {
+pub fn taken_journal(alloc: Global, strings: &[Vec<u8>]) -> Result<String, NoAnswer> {
     let [key, journal] = strings else {
         return Err(NoAnswer::NoSuchLine);
     };
     match read_taken(alloc, &read_key(key)?, journal) {
-        Ok(taken) => shown_taken(alloc, &taken),
+        Ok(taken) => taken_text(alloc, &taken),
         Err(fault) => Ok(format!(in alloc; "{fault:?}")?),
     }
 }
 
-fn shown_taken(alloc: Global, taken: &TakenJournal) -> Result<String, NoAnswer> {
-    let catalog = shown_catalog(alloc, &taken.tables.catalog(alloc)?)?;
+fn taken_text(alloc: Global, taken: &TakenJournal) -> Result<String, NoAnswer> {
+    let catalog = catalog_text(alloc, &taken.tables.catalog(alloc)?)?;
     Ok(format!(in alloc; "{} {catalog}", taken.entries.len())?)
 }

@@ -1,6 +1,6 @@
 //! Calls of keys: the secret key that was made last, and public keys.
 use crate::arguments::{array_of, number_of, set_of, small_number_of};
-use crate::hashing::shown;
+use crate::hashing::hex_digest;
 use crate::kept::Kept;
 use line_pieces::NoAnswer;
 use lms_sign::{OtsType, PublicKey, SecretKey, verify as verifies};
@@ -52,7 +52,7 @@ pub fn node(alloc: Global, kept: &Kept, strings: &[Vec<u8>]) -> Result<String, N
     if number < 1 || number > 63 {
         return Err(NoAnswer::NoSuchLine);
     }
-    shown(alloc, kept.secret()?.node(number))
+    hex_digest(alloc, kept.secret()?.node(number))
 }
 
 /// The key's signature of a message by a leaf, which is kept.
@@ -72,12 +72,12 @@ pub fn key(alloc: Global, strings: &[Vec<u8>]) -> Result<String, NoAnswer> {
         return Err(NoAnswer::NoSuchLine);
     };
     match PublicKey::read(bytes) {
-        Ok(key) => shown_key(alloc, &key),
+        Ok(key) => key_text(alloc, &key),
         Err(fault) => Ok(format!(in alloc; "{fault:?}")?),
     }
 }
 
-fn shown_key(alloc: Global, key: &PublicKey) -> Result<String, NoAnswer> {
+fn key_text(alloc: Global, key: &PublicKey) -> Result<String, NoAnswer> {
     let id = hex::encode(alloc, key.id())?;
     let bytes = hex::encode(alloc, key.bytes(alloc)?)?;
     let leaves = key.leaf_count();

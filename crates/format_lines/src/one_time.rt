@@ -1,6 +1,6 @@
 //! Calls of one-time signatures.
 use crate::arguments::{array_of, digest_in, number_of, set_of, small_number_of};
-use crate::hashing::shown;
+use crate::hashing::hex_digest;
 use crate::kept::Kept;
 use line_pieces::NoAnswer;
 use lm_ots::{candidate as candidate_of, checksum as checksum_of, coef, public_of, sign_ots};
@@ -37,7 +37,7 @@ pub fn ots_public(alloc: Global, strings: &[Vec<u8>]) -> Result<String, NoAnswer
     let id = array_of::<16>(id)?;
     let seed = array_of::<32>(seed)?;
     let key = public_of(&id, small_number_of(leaf)?, set_of(set)?, &seed);
-    shown(alloc, key)
+    hex_digest(alloc, key)
 }
 
 /// The signature of a message by a leaf, which is kept.
@@ -60,7 +60,7 @@ pub fn candidate(alloc: Global, strings: &[Vec<u8>]) -> Result<String, NoAnswer>
     let id = array_of::<16>(id)?;
     let leaf = small_number_of(leaf)?;
     match candidate_of(&id, leaf, set_of(set)?, message, signature) {
-        Some(key) => shown(alloc, key),
+        Some(key) => hex_digest(alloc, key),
         None => Ok("none".to_string(alloc)?),
     }
 }

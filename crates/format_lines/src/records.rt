@@ -8,7 +8,7 @@ use version_record::{
 };
 
 /// What is said of bytes that are not read.
-pub fn unread(alloc: Global, fault: ReadFault) -> Result<String, NoAnswer> {
+pub fn read_fault(alloc: Global, fault: ReadFault) -> Result<String, NoAnswer> {
     match fault {
         ReadFault::BadForm => Ok("BadForm".to_string(alloc)?),
         ReadFault::Memory => Err(NoAnswer::Memory),
@@ -21,13 +21,13 @@ pub fn catalog(alloc: Global, strings: &[Vec<u8>]) -> Result<String, NoAnswer> {
         return Err(NoAnswer::NoSuchLine);
     };
     match read_catalog(alloc, bytes) {
-        Ok(catalog) => shown_catalog(alloc, &catalog),
-        Err(fault) => unread(alloc, fault),
+        Ok(catalog) => catalog_text(alloc, &catalog),
+        Err(fault) => read_fault(alloc, fault),
     }
 }
 
 /// A catalog's digest and its bytes.
-pub fn shown_catalog(alloc: Global, catalog: &Catalog) -> Result<String, NoAnswer>
+pub fn catalog_text(alloc: Global, catalog: &Catalog) -> Result<String, NoAnswer>
     requires { FitsCatalog catalog.now }
 {
     let digest = catalog_digest(alloc, catalog)?;

@@ -6,7 +6,7 @@ ghost use Rattle.vo_format.specs.View.{reply_of};
 
 use crate::arguments::array_of;
 use crate::keys::read_key;
-use crate::records::unread;
+use crate::records::read_fault;
 use line_pieces::NoAnswer;
 use lms_sign::PublicKey;
 use sql_text::parse_query;
@@ -23,12 +23,12 @@ pub fn reply(alloc: Global, strings: &[Vec<u8>]) -> Result<String, NoAnswer> {
         return Err(NoAnswer::NoSuchLine);
     };
     match read_reply(alloc, bytes) {
-        Ok(reply) => shown_reply(alloc, &reply),
-        Err(fault) => unread(alloc, fault),
+        Ok(reply) => reply_text(alloc, &reply),
+        Err(fault) => read_fault(alloc, fault),
     }
 }
 
-fn shown_reply(alloc: Global, reply: &Reply<'_>) -> Result<String, NoAnswer>
+fn reply_text(alloc: Global, reply: &Reply<'_>) -> Result<String, NoAnswer>
     requires { FitsReply (reply_of reply.now) }
 {
     let version = reply.rec.version;
@@ -44,12 +44,12 @@ pub fn proofs(alloc: Global, strings: &[Vec<u8>]) -> Result<String, NoAnswer> {
         return Err(NoAnswer::NoSuchLine);
     };
     match read_proofs(alloc, bytes) {
-        Ok(trees) => shown_proofs(alloc, &trees),
-        Err(fault) => unread(alloc, fault),
+        Ok(trees) => proofs_text(alloc, &trees),
+        Err(fault) => read_fault(alloc, fault),
     }
 }
 
-fn shown_proofs(alloc: Global, trees: &[PartTree<'_>]) -> Result<String, NoAnswer>
+fn proofs_text(alloc: Global, trees: &[PartTree<'_>]) -> Result<String, NoAnswer>
     requires { FitsProofs (map part_of trees.now) }
 {
     let bytes = hex::encode(alloc, write_proofs(alloc, trees)?)?;

@@ -2,7 +2,7 @@
 ghost use Rattle.vo_spec.specs.Fits.{FitsRow};
 
 use crate::arguments::{column_of, digest_in};
-use crate::hashing::shown;
+use crate::hashing::hex_digest;
 use crate::reading::{read_cell, read_row, read_value, read_values};
 use attr_digest::{
     add_value, attr_digest, cell_digest, hide as hidden, hide_cells as hidden_cells, row_digest,
@@ -20,7 +20,7 @@ pub fn value(alloc: Global, strings: &[Vec<u8>]) -> Result<String, NoAnswer> {
     };
     let mut hasher = Hasher::new();
     add_value(&mut hasher, read_value(value)?);
-    shown(alloc, hasher.end())
+    hex_digest(alloc, hasher.end())
 }
 
 /// The digest of a value in a column.
@@ -28,7 +28,7 @@ pub fn attribute(alloc: Global, strings: &[Vec<u8>]) -> Result<String, NoAnswer>
     let [column, value] = strings else {
         return Err(NoAnswer::NoSuchLine);
     };
-    shown(alloc, attr_digest(column_of(column)?, read_value(value)?))
+    hex_digest(alloc, attr_digest(column_of(column)?, read_value(value)?))
 }
 
 /// The digest of a cell in a column.
@@ -36,26 +36,26 @@ pub fn cell(alloc: Global, strings: &[Vec<u8>]) -> Result<String, NoAnswer> {
     let [column, cell] = strings else {
         return Err(NoAnswer::NoSuchLine);
     };
-    shown(alloc, cell_digest(column_of(column)?, &read_cell(cell)?))
+    hex_digest(alloc, cell_digest(column_of(column)?, &read_cell(cell)?))
 }
 
 /// The digest of a row of these cells.
 pub fn row(alloc: Global, strings: &[Vec<u8>]) -> Result<String, NoAnswer> {
-    shown(alloc, row_digest(&read_row(alloc, strings)?))
+    hex_digest(alloc, row_digest(&read_row(alloc, strings)?))
 }
 
 /// The digest of a row that is closed to this one.
-pub fn closed(alloc: Global, strings: &[Vec<u8>]) -> Result<String, NoAnswer> {
+pub fn hidden_row(alloc: Global, strings: &[Vec<u8>]) -> Result<String, NoAnswer> {
     let [digest] = strings else {
         return Err(NoAnswer::NoSuchLine);
     };
-    shown(alloc, row_digest(&RowPart::Digest(digest_in(digest)?)))
+    hex_digest(alloc, row_digest(&RowPart::Digest(digest_in(digest)?)))
 }
 
 /// The digest of a row of these values.
-pub fn whole(alloc: Global, strings: &[Vec<u8>]) -> Result<String, NoAnswer> {
+pub fn whole_row(alloc: Global, strings: &[Vec<u8>]) -> Result<String, NoAnswer> {
     let values = read_values(alloc, strings)?;
-    shown(alloc, whole_row_digest(values.as_slice()))
+    hex_digest(alloc, whole_row_digest(values.as_slice()))
 }
 
 /// The cells of a row of these values, behind the columns that are shown.
@@ -74,8 +74,8 @@ fn hide_row(alloc: Global, row: &Row, columns: &[u8]) -> Result<String, NoAnswer
     requires { FitsRow row.now }
 {
     match hidden(alloc, row, columns)? {
-        RowPart::Digest(digest) => shown(alloc, digest),
-        RowPart::Cells(cells) => shown_cells(alloc, cells.as_slice()),
+        RowPart::Digest(digest) => hex_digest(alloc, digest),
+        RowPart::Cells(cells) => cells_text(alloc, cells.as_slice()),
     }
 }
 
@@ -86,27 +86,27 @@ pub fn hide_cells(alloc: Global, strings: &[Vec<u8>]) -> Result<String, NoAnswer
     };
     let values = read_values(alloc, values)?;
     let cells = hidden_cells(alloc, values.as_slice(), columns)?;
-    shown_cells(alloc, cells.as_slice())
+    cells_text(alloc, cells.as_slice())
 }
 
 /// How many cells there are, and each as its value or its digest.
-fn shown_cells(alloc: Global, cells: &[Cell<'_>]) -> Result<String, NoAnswer> {
+fn cells_text(alloc: Global, cells: &[Cell<'_>]) -> Result<String, NoAnswer> {
     let mut line = format!(in alloc; "{}", cells.len())?;
-    put_shown_cells(alloc, &mut line, cells)?;
+    put_cells(alloc, &mut line, cells)?;
     Ok(line)
 }
 
-fn put_shown_cells(alloc: Global, line: &mut String, cells: &[Cell<'_>]) -> Result<(), NoAnswer> {
+fn put_cells(alloc: Global, line: &mut String, cells: &[Cell<'_>]) -> Result<(), NoAnswer> {
     for cell in cells {
         line.push(' ')?;
-        line.push_str(&shown_cell(alloc, cell)?)?;
+        line.push_str(&cell_text(alloc, cell)?)?;
     }
     Ok(())
 }
 
-fn shown_cell(alloc: Global, cell: &Cell<'_>) -> Result<String, NoAnswer> {
+fn cell_text(alloc: Global, cell: &Cell<'_>) -> Result<String, NoAnswer> {
     match cell {
         Cell::Shown(value) => Ok(format!(in alloc; "{:?}", value.as_ref())?),
-        Cell::Hidden(digest) => shown(alloc, *digest),
+        Cell::Hidden(digest) => hex_digest(alloc, *digest),
     }
 }

@@ -4,7 +4,7 @@ use std::fmt::Debug;
 use std::io;
 
 /// A value or a fault.
-pub fn shown<T: Debug>(alloc: Global, value: &T) -> io::Result<String> {
+pub fn describe<T: Debug>(alloc: Global, value: &T) -> io::Result<String> {
     Ok(format!(in alloc; "{value:?}")?)
 }
 

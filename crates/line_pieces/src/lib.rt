@@ -7,7 +7,7 @@ mod calls;
 mod no_answer;
 mod pieces;
 
-pub use answers::{shown, word};
+pub use answers::{describe, word};
 pub use calls::call_named;
 pub use no_answer::NoAnswer;
 pub use pieces::put_piece;

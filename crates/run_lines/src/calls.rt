@@ -8,33 +8,33 @@ use vo_words::read_words;
 
 /// The answer to a line.
 pub fn answer(alloc: Global, folder: &mut Folder, line: &str) -> io::Result<String> {
-    match answered(alloc, folder, line) {
+    match answer_line(alloc, folder, line) {
         Ok(answer) => Ok(answer),
         Err(fault) => Ok(format!(in alloc; "{fault}")?),
     }
 }
 
-fn answered(alloc: Global, folder: &mut Folder, line: &str) -> Result<String, NoAnswer> {
+fn answer_line(alloc: Global, folder: &mut Folder, line: &str) -> Result<String, NoAnswer> {
     match read_line(alloc, line)? {
         Line::Clear => {
             *folder = Folder::new(alloc);
             Ok("cleared".to_string(alloc)?)
         }
-        Line::Keep(name, bytes) => kept(alloc, folder, name, bytes),
-        Line::Splice(name, splice) => kept_spliced(alloc, folder, name, &splice),
-        Line::Run(attempt) => ran(alloc, folder, attempt),
-        Line::Make(name, attempt) => made(alloc, folder, name, attempt),
-        Line::Words(words) => asked(alloc, &words),
+        Line::Keep(name, bytes) => keep_file(alloc, folder, name, bytes),
+        Line::Splice(name, splice) => keep_splice(alloc, folder, name, &splice),
+        Line::Run(attempt) => run_once(alloc, folder, attempt),
+        Line::Make(name, attempt) => run_and_keep(alloc, folder, name, attempt),
+        Line::Words(words) => request_text(alloc, &words),
     }
 }
 
 /// What the words ask for.
-fn asked(alloc: Global, words: &[String]) -> Result<String, NoAnswer> {
+fn request_text(alloc: Global, words: &[String]) -> Result<String, NoAnswer> {
     Ok(format!(in alloc; "{:?}", read_words(alloc, words)?)?)
 }
 
 /// Keeps a file, and says how long it is.
-fn kept(
+fn keep_file(
     alloc: Global,
     folder: &mut Folder,
     name: String,
@@ -45,17 +45,17 @@ fn kept(
     Ok(answer)
 }
 
-fn kept_spliced(
+fn keep_splice(
     alloc: Global,
     folder: &mut Folder,
     name: String,
     splice: &Splice,
 ) -> Result<String, NoAnswer> {
-    let bytes = spliced(alloc, folder, splice)?;
-    kept(alloc, folder, name, bytes)
+    let bytes = splice_file(alloc, folder, splice)?;
+    keep_file(alloc, folder, name, bytes)
 }
 
-fn spliced(alloc: Global, folder: &Folder, splice: &Splice) -> Result<Vec<u8>, NoAnswer> {
+fn splice_file(alloc: Global, folder: &Folder, splice: &Splice) -> Result<Vec<u8>, NoAnswer> {
     let Some(bytes) = folder.find(&splice.from) else {
         return Err(NoAnswer::NoSuchLine);
     };
@@ -67,26 +67,26 @@ fn spliced(alloc: Global, folder: &Folder, splice: &Splice) -> Result<Vec<u8>, N
     Ok(all)
 }
 
-fn ran(alloc: Global, folder: &Folder, attempt: Attempt) -> Result<String, NoAnswer> {
+fn run_once(alloc: Global, folder: &Folder, attempt: Attempt) -> Result<String, NoAnswer> {
     let ended = folder.run(alloc, attempt)?;
-    shown(alloc, &ended)
+    end_text(alloc, &ended)
 }
 
 /// Runs the program, and keeps what it writes.
-fn made(
+fn run_and_keep(
     alloc: Global,
     folder: &mut Folder,
     name: String,
     attempt: Attempt,
 ) -> Result<String, NoAnswer> {
     let ended = folder.run(alloc, attempt)?;
-    let answer = shown(alloc, &ended)?;
+    let answer = end_text(alloc, &ended)?;
     folder.keep(name, ended.written)?;
     Ok(answer)
 }
 
 /// A status, and output as a text in quotes, if it is one, or else in hexadecimal.
-fn shown(alloc: Global, ended: &Ended) -> Result<String, NoAnswer> {
+fn end_text(alloc: Global, ended: &Ended) -> Result<String, NoAnswer> {
     match std::str::from_utf8(&ended.written) {
         Ok(text) => Ok(format!(in alloc; "{} {text:?}", ended.status)?),
         Err(_) => {

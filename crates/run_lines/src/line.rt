@@ -29,10 +29,10 @@ pub struct Splice {
 pub fn read_line(alloc: Global, line: &str) -> Result<Line, NoAnswer> {
     let mut pieces = line.split(' ');
     let word = pieces.next().unwrap_or("");
-    asked(alloc, word, &mut pieces)
+    line_of(alloc, word, &mut pieces)
 }
 
-fn asked(alloc: Global, word: &str, pieces: &mut Pieces<'_>) -> Result<Line, NoAnswer> {
+fn line_of(alloc: Global, word: &str, pieces: &mut Pieces<'_>) -> Result<Line, NoAnswer> {
     Ok(match word {
         "clear" => Line::Clear,
         "keep" => Line::Keep(take_name(alloc, pieces)?, take_bytes(alloc, pieces)?),

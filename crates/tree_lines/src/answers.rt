@@ -2,7 +2,7 @@
 ghost use Rattle.vo_spec.specs.Fits.{FitsPart};
 ghost use Rattle.mb_tree.specs.View.{part_of};
 
-use line_pieces::{shown, word};
+use line_pieces::{describe, word};
 use std::alloc::Global;
 use std::io;
 use vo_format::{PartTree, put_tree};
@@ -14,7 +14,7 @@ pub fn digits(alloc: Global, digest: Digest) -> io::Result<String> {
 }
 
 /// The bytes of a tree.
-pub fn spelled(alloc: Global, tree: &PartTree<'_>) -> io::Result<String>
+pub fn tree_digits(alloc: Global, tree: &PartTree<'_>) -> io::Result<String>
     requires { FitsPart (part_of tree.now) }
 {
     let mut bytes = Vec::new(alloc);
@@ -23,10 +23,10 @@ pub fn spelled(alloc: Global, tree: &PartTree<'_>) -> io::Result<String>
 }
 
 /// Whether a part tree is a proof.
-pub fn said(alloc: Global, told: Result<bool, ScanFault>) -> io::Result<String> {
+pub fn verdict(alloc: Global, told: Result<bool, ScanFault>) -> io::Result<String> {
     match told {
         Ok(true) => word(alloc, "yes"),
         Ok(false) => word(alloc, "no"),
-        Err(fault) => shown(alloc, &fault),
+        Err(fault) => describe(alloc, &fault),
     }
 }

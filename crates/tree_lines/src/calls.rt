@@ -1,9 +1,11 @@
 //! The calls by their words.
 use crate::line::{Call, read_line};
-use crate::need_calls::{judged_needs, scanned};
-use crate::part_calls::{digest_of, judged, preimage_of, read_again, worked, worked_in_turn};
-use crate::table_calls::{applied, catalog_of, proof_of, refusals, rows_of, stepped};
-use crate::tree_calls::{agreed, changed, proved, pruned, root_of};
+use crate::need_calls::{judge_needs, scan_part};
+use crate::part_calls::{
+    change_part, change_part_in_turn, digest_of, judge_change, preimage_of, read_again,
+};
+use crate::table_calls::{apply_batch, catalog_of, proof_of, refusals, rows_of, step_batch};
+use crate::tree_calls::{agree_tree, change_tree, prove_change, prune_tree, root_of};
 use line_pieces::word;
 use std::alloc::Global;
 use std::io;
@@ -29,22 +31,22 @@ fn answer_call(
             *tables = StoredTables::new(alloc);
             word(alloc, "cleared")
         }
-        Call::Apply => applied(alloc, tables, first),
-        Call::Step => stepped(alloc, tables, first),
+        Call::Apply => apply_batch(alloc, tables, first),
+        Call::Step => step_batch(alloc, tables, first),
         Call::Refusal => refusals(alloc, tables, first),
         Call::Proof => proof_of(alloc, tables, first),
         Call::Catalog => catalog_of(alloc, tables),
         Call::Rows => rows_of(alloc, tables),
         Call::Root => root_of(alloc, tables),
-        Call::Change => changed(alloc, tables, first),
-        Call::Prove => proved(alloc, tables, first),
-        Call::Prune => pruned(alloc, tables, first),
-        Call::Agree => agreed(alloc, tables, first),
-        Call::Work => worked(alloc, first, second),
-        Call::After => worked_in_turn(alloc, first, second),
-        Call::Judge => judged(alloc, first, second),
-        Call::Scan => scanned(alloc, first, second),
-        Call::Canonical => judged_needs(alloc, first, second),
+        Call::Change => change_tree(alloc, tables, first),
+        Call::Prove => prove_change(alloc, tables, first),
+        Call::Prune => prune_tree(alloc, tables, first),
+        Call::Agree => agree_tree(alloc, tables, first),
+        Call::Work => change_part(alloc, first, second),
+        Call::After => change_part_in_turn(alloc, first, second),
+        Call::Judge => judge_change(alloc, first, second),
+        Call::Scan => scan_part(alloc, first, second),
+        Call::Canonical => judge_needs(alloc, first, second),
         Call::Digest => digest_of(alloc, first),
         Call::Preimage => preimage_of(alloc, first),
         Call::Read => read_again(alloc, first),

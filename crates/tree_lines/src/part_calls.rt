@@ -4,10 +4,10 @@ ghost use Rattle.vo_spec.specs.Fits.{FitsPart};
 ghost use Rattle.mb_tree.specs.View.{part_of};
 ghost use Rattle.tree_lines.specs.Fitting.{FitsOp};
 
-use crate::answers::{digits, said, spelled};
+use crate::answers::{digits, tree_digits, verdict};
 use crate::change_reading::{read_change, read_changes};
 use crate::part_reading::read_part;
-use line_pieces::shown;
+use line_pieces::describe;
 use mb_update::{Op, UpdateFault, Updates};
 use row_bytes::ReadFault;
 use std::alloc::Global;
@@ -16,20 +16,20 @@ use update_proof::is_update_proof;
 use vo_format::PartTree;
 
 /// The part tree after a change, or why it isn't changed.
-pub fn worked(alloc: Global, change: &[u8], part: &[u8]) -> io::Result<String> {
+pub fn change_part(alloc: Global, change: &[u8], part: &[u8]) -> io::Result<String> {
     match read_both(alloc, change, part) {
-        Ok((op, part)) => worked_on(alloc, &part, &op),
-        Err(fault) => shown(alloc, &fault),
+        Ok((op, part)) => change_part_by(alloc, &part, &op),
+        Err(fault) => describe(alloc, &fault),
     }
 }
 
-fn worked_on(alloc: Global, part: &PartTree<'_>, op: &Op) -> io::Result<String>
+fn change_part_by(alloc: Global, part: &PartTree<'_>, op: &Op) -> io::Result<String>
     requires fits { FitsPart (part_of part.now) }
     requires change { FitsOp op.now }
 {
     match part_after(alloc, part, op) {
-        Ok(new) => spelled(alloc, &new),
-        Err(fault) => shown(alloc, &fault),
+        Ok(new) => tree_digits(alloc, &new),
+        Err(fault) => describe(alloc, &fault),
     }
 }
 
@@ -58,19 +58,19 @@ fn read_both<'b>(
 }
 
 /// The digest of the part tree after some changes in turn, or why one of them isn't done.
-pub fn worked_in_turn(alloc: Global, changes: &[u8], part: &[u8]) -> io::Result<String> {
+pub fn change_part_in_turn(alloc: Global, changes: &[u8], part: &[u8]) -> io::Result<String> {
     match read_changes(alloc, changes) {
-        Ok(ops) => worked_by_all(alloc, &ops, part),
-        Err(fault) => shown(alloc, &fault),
+        Ok(ops) => change_part_by_all(alloc, &ops, part),
+        Err(fault) => describe(alloc, &fault),
     }
 }
 
-fn worked_by_all(alloc: Global, ops: &[Op], part: &[u8]) -> io::Result<String>
+fn change_part_by_all(alloc: Global, ops: &[Op], part: &[u8]) -> io::Result<String>
     requires { All FitsOp ops.now }
 {
     match read_part(alloc, part) {
         Ok(part) => digest_after(alloc, part, ops),
-        Err(fault) => shown(alloc, &fault),
+        Err(fault) => describe(alloc, &fault),
     }
 }
 
@@ -80,7 +80,7 @@ fn digest_after(alloc: Global, part: PartTree<'_>, ops: &[Op]) -> io::Result<Str
 {
     match part_after_all(alloc, part, ops) {
         Ok(new) => digits(alloc, new.node_digest()),
-        Err(fault) => shown(alloc, &fault),
+        Err(fault) => describe(alloc, &fault),
     }
 }
 
@@ -101,10 +101,10 @@ fn part_after_all<'b>(
 }
 
 /// Whether the part tree is the proof of a change.
-pub fn judged(alloc: Global, change: &[u8], part: &[u8]) -> io::Result<String> {
+pub fn judge_change(alloc: Global, change: &[u8], part: &[u8]) -> io::Result<String> {
     match read_both(alloc, change, part) {
-        Ok((op, part)) => said(alloc, is_update_proof(&part, &op)),
-        Err(fault) => shown(alloc, &fault),
+        Ok((op, part)) => verdict(alloc, is_update_proof(&part, &op)),
+        Err(fault) => describe(alloc, &fault),
     }
 }
 
@@ -112,7 +112,7 @@ pub fn judged(alloc: Global, change: &[u8], part: &[u8]) -> io::Result<String> {
 pub fn digest_of(alloc: Global, part: &[u8]) -> io::Result<String> {
     match read_part(alloc, part) {
         Ok(part) => digits(alloc, part.node_digest()),
-        Err(fault) => shown(alloc, &fault),
+        Err(fault) => describe(alloc, &fault),
     }
 }
 
@@ -120,14 +120,14 @@ pub fn digest_of(alloc: Global, part: &[u8]) -> io::Result<String> {
 pub fn preimage_of(alloc: Global, part: &[u8]) -> io::Result<String> {
     match read_part(alloc, part) {
         Ok(part) => Ok(hex::encode(alloc, part.preimage(alloc)?)?),
-        Err(fault) => shown(alloc, &fault),
+        Err(fault) => describe(alloc, &fault),
     }
 }
 
 /// The bytes of a part tree again.
 pub fn read_again(alloc: Global, part: &[u8]) -> io::Result<String> {
     match read_part(alloc, part) {
-        Ok(part) => spelled(alloc, &part),
-        Err(fault) => shown(alloc, &fault),
+        Ok(part) => tree_digits(alloc, &part),
+        Err(fault) => describe(alloc, &fault),
     }
 }

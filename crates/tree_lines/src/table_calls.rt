@@ -2,9 +2,9 @@
 ghost use Rattle.std.specs.Prelude.{IfOk};
 ghost use Rattle.vo_spec.specs.Batches.{FitsBatch};
 
-use crate::answers::{digits, spelled};
+use crate::answers::{digits, tree_digits};
 use batch_format::read_batch;
-use line_pieces::{shown, word};
+use line_pieces::{describe, word};
 use std::alloc::{AllocError, Global};
 use std::io;
 use stored_tables::StoredTables;
@@ -12,18 +12,18 @@ use table_list::ApplyFault;
 use vo_spec::{Batch, CatalogTable, Command, CommandFault};
 
 /// The digest of the table `t` after a batch, or why the batch is refused.
-pub fn applied(alloc: Global, tables: &mut StoredTables, batch: &[u8]) -> io::Result<String> {
+pub fn apply_batch(alloc: Global, tables: &mut StoredTables, batch: &[u8]) -> io::Result<String> {
     match read_batch(alloc, batch) {
-        Ok(batch) => applied_to(alloc, tables, &batch),
-        Err(fault) => shown(alloc, &fault),
+        Ok(batch) => apply_batch_to(alloc, tables, &batch),
+        Err(fault) => describe(alloc, &fault),
     }
 }
 
-fn applied_to(alloc: Global, tables: &mut StoredTables, batch: &Batch) -> io::Result<String>
+fn apply_batch_to(alloc: Global, tables: &mut StoredTables, batch: &Batch) -> io::Result<String>
     requires { FitsBatch batch.now.commands }
 {
     if let Err(fault) = tables.apply_batch(alloc, batch) {
-        return shown(alloc, &fault);
+        return describe(alloc, &fault);
     }
     match tables.find(b"t") {
         Some(table) => digits(alloc, table.tree.node_digest()),
@@ -32,13 +32,13 @@ fn applied_to(alloc: Global, tables: &mut StoredTables, batch: &Batch) -> io::Re
 }
 
 /// Why each command of a batch is refused, or that it is applied, by itself.
-pub fn stepped(alloc: Global, tables: &mut StoredTables, batch: &[u8]) -> io::Result<String> {
+pub fn step_batch(alloc: Global, tables: &mut StoredTables, batch: &[u8]) -> io::Result<String> {
     match read_batch(alloc, batch) {
-        Ok(batch) => shown(
+        Ok(batch) => describe(
             alloc,
             &apply_each(alloc, tables, batch.commands.as_slice())?,
         ),
-        Err(fault) => shown(alloc, &fault),
+        Err(fault) => describe(alloc, &fault),
     }
 }
 
@@ -66,11 +66,11 @@ fn apply_each(
 /// Why each command of a batch is refused on the tables as they are, without a look at the rows.
 pub fn refusals(alloc: Global, tables: &StoredTables, batch: &[u8]) -> io::Result<String> {
     match read_batch(alloc, batch) {
-        Ok(batch) => shown(
+        Ok(batch) => describe(
             alloc,
             &refusals_of(alloc, tables, batch.commands.as_slice())?,
         ),
-        Err(fault) => shown(alloc, &fault),
+        Err(fault) => describe(alloc, &fault),
     }
 }
 
@@ -90,7 +90,7 @@ fn refusals_of(
 pub fn proof_of(alloc: Global, tables: &StoredTables, batch: &[u8]) -> io::Result<String> {
     match read_batch(alloc, batch) {
         Ok(batch) => proof_of_one(alloc, tables, batch.commands.as_slice()),
-        Err(fault) => shown(alloc, &fault),
+        Err(fault) => describe(alloc, &fault),
     }
 }
 
@@ -101,7 +101,7 @@ fn proof_of_one(alloc: Global, tables: &StoredTables, commands: &[Command]) -> i
         return word(alloc, "not one command");
     };
     match tables.command_proof(alloc, command)? {
-        Some(proof) => spelled(alloc, &proof),
+        Some(proof) => tree_digits(alloc, &proof),
         None => word(alloc, "none"),
     }
 }
@@ -109,18 +109,18 @@ fn proof_of_one(alloc: Global, tables: &StoredTables, commands: &[Command]) -> i
 /// The name, the number of rows and the root of each table, as they stay where the tables are shared.
 pub fn catalog_of(alloc: Global, tables: &StoredTables) -> io::Result<String> {
     let catalog = tables.share(alloc)?.catalog(alloc)?;
-    shown(alloc, &each_described(alloc, catalog.tables.as_slice())?)
+    describe(alloc, &describe_tables(alloc, catalog.tables.as_slice())?)
 }
 
-fn each_described(alloc: Global, tables: &[CatalogTable]) -> io::Result<Vec<String>> {
+fn describe_tables(alloc: Global, tables: &[CatalogTable]) -> io::Result<Vec<String>> {
     let mut words = Vec::new(alloc);
     for table in tables {
-        words.push(described(alloc, table)?)?;
+        words.push(describe_table(alloc, table)?)?;
     }
     Ok(words)
 }
 
-fn described(alloc: Global, table: &CatalogTable) -> io::Result<String> {
+fn describe_table(alloc: Global, table: &CatalogTable) -> io::Result<String> {
     let name = hex::encode(alloc, table.name.as_bytes())?;
     let root = digits(alloc, table.root)?;
     Ok(format!(in alloc; "{name} {} {root}", table.rows)?)
@@ -131,7 +131,7 @@ pub fn rows_of(alloc: Global, tables: &StoredTables) -> io::Result<String> {
     let plain = tables.tables(alloc)?;
     for table in plain.as_slice() {
         if table.name.as_bytes() == b"t".as_slice() {
-            return shown(alloc, &table.rows);
+            return describe(alloc, &table.rows);
         }
     }
     word(alloc, "no table")

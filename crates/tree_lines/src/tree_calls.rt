@@ -4,11 +4,11 @@ ghost use Rattle.vo_spec.specs.Fits.{FitsPart, FitsTree};
 ghost use Rattle.mb_tree.specs.View.{part_of};
 ghost use Rattle.tree_lines.specs.Fitting.{FitsOp};
 
-use crate::answers::{digits, spelled};
+use crate::answers::{digits, tree_digits};
 use crate::change_reading::read_change;
 use crate::need_reading::read_needs;
 use crate::part_reading::read_part;
-use line_pieces::{shown, word};
+use line_pieces::{describe, word};
 use mb_tree::Tree;
 use mb_update::{Op, UpdateFault, Updates};
 use range_proof::prune;
@@ -24,7 +24,7 @@ use vo_spec::Need;
 pub fn root_of(alloc: Global, tables: &StoredTables) -> io::Result<String> {
     match tables.find(b"t") {
         Some(table) => {
-            let rows = counted(alloc, &table.tree)?;
+            let rows = count_and_digest(alloc, &table.tree)?;
             let preimage = hex::encode(alloc, table.tree.root().preimage(alloc)?)?;
             Ok(format!(in alloc; "{rows} {preimage}")?)
         }
@@ -33,21 +33,21 @@ pub fn root_of(alloc: Global, tables: &StoredTables) -> io::Result<String> {
 }
 
 /// The number of rows and the digest of a tree.
-fn counted(alloc: Global, tree: &Tree) -> io::Result<String> {
+fn count_and_digest(alloc: Global, tree: &Tree) -> io::Result<String> {
     let digest = digits(alloc, tree.node_digest())?;
     Ok(format!(in alloc; "{} {digest}", tree.row_count())?)
 }
 
 /// The number of rows and the digest of the tree that a change makes, or why there is none, and of the tree itself,
 /// which stays.
-pub fn changed(alloc: Global, tables: &StoredTables, change: &[u8]) -> io::Result<String> {
+pub fn change_tree(alloc: Global, tables: &StoredTables, change: &[u8]) -> io::Result<String> {
     match read_change(alloc, change) {
-        Ok(op) => changed_by(alloc, tables, &op),
-        Err(fault) => shown(alloc, &fault),
+        Ok(op) => change_tree_by(alloc, tables, &op),
+        Err(fault) => describe(alloc, &fault),
     }
 }
 
-fn changed_by(alloc: Global, tables: &StoredTables, op: &Op) -> io::Result<String>
+fn change_tree_by(alloc: Global, tables: &StoredTables, op: &Op) -> io::Result<String>
     requires { FitsOp op.now }
 {
     match tables.find(b"t") {
@@ -59,17 +59,17 @@ fn changed_by(alloc: Global, tables: &StoredTables, op: &Op) -> io::Result<Strin
 fn new_and_old(alloc: Global, tree: &Tree, op: &Op) -> io::Result<String>
     requires { FitsOp op.now }
 {
-    let new = new_counted(alloc, tree, op)?;
-    let old = counted(alloc, tree)?;
+    let new = new_count_and_digest(alloc, tree, op)?;
+    let old = count_and_digest(alloc, tree)?;
     Ok(format!(in alloc; "{new} of {old}")?)
 }
 
-fn new_counted(alloc: Global, tree: &Tree, op: &Op) -> io::Result<String>
+fn new_count_and_digest(alloc: Global, tree: &Tree, op: &Op) -> io::Result<String>
     requires { FitsOp op.now }
 {
     match tree_after(alloc, tree, op) {
-        Ok(new) => counted(alloc, &new),
-        Err(fault) => shown(alloc, &fault),
+        Ok(new) => count_and_digest(alloc, &new),
+        Err(fault) => describe(alloc, &fault),
     }
 }
 
@@ -90,16 +90,16 @@ fn tree_after(alloc: Global, tree: &Tree, op: &Op) -> Result<Tree, UpdateFault>
 }
 
 /// The proof of a change.
-pub fn proved(alloc: Global, tables: &StoredTables, change: &[u8]) -> io::Result<String> {
+pub fn prove_change(alloc: Global, tables: &StoredTables, change: &[u8]) -> io::Result<String> {
     match read_change(alloc, change) {
-        Ok(op) => proved_of(alloc, tables, &op),
-        Err(fault) => shown(alloc, &fault),
+        Ok(op) => prove_change_by(alloc, tables, &op),
+        Err(fault) => describe(alloc, &fault),
     }
 }
 
-fn proved_of(alloc: Global, tables: &StoredTables, op: &Op) -> io::Result<String> {
+fn prove_change_by(alloc: Global, tables: &StoredTables, op: &Op) -> io::Result<String> {
     match tables.find(b"t") {
-        Some(table) => spelled(alloc, &proof_of(alloc, &table.tree, op)?),
+        Some(table) => tree_digits(alloc, &proof_of(alloc, &table.tree, op)?),
         None => word(alloc, "no table"),
     }
 }
@@ -113,16 +113,16 @@ fn proof_of<'b>(alloc: Global, tree: &'b Tree, op: &Op) -> Result<PartTree<'b>, 
 }
 
 /// The proof of some needs.
-pub fn pruned(alloc: Global, tables: &StoredTables, needs: &[u8]) -> io::Result<String> {
+pub fn prune_tree(alloc: Global, tables: &StoredTables, needs: &[u8]) -> io::Result<String> {
     match read_needs(alloc, needs) {
-        Ok(needs) => pruned_for(alloc, tables, &needs),
-        Err(fault) => shown(alloc, &fault),
+        Ok(needs) => prune_tree_for(alloc, tables, &needs),
+        Err(fault) => describe(alloc, &fault),
     }
 }
 
-fn pruned_for(alloc: Global, tables: &StoredTables, needs: &[Need]) -> io::Result<String> {
+fn prune_tree_for(alloc: Global, tables: &StoredTables, needs: &[Need]) -> io::Result<String> {
     match tables.find(b"t") {
-        Some(table) => spelled(alloc, &part_for(alloc, &table.tree, needs)?),
+        Some(table) => tree_digits(alloc, &part_for(alloc, &table.tree, needs)?),
         None => word(alloc, "no table"),
     }
 }
@@ -136,23 +136,23 @@ fn part_for<'b>(alloc: Global, tree: &'b Tree, needs: &[Need]) -> Result<PartTre
 }
 
 /// Whether a part tree of the tree's digest prunes it.
-pub fn agreed(alloc: Global, tables: &StoredTables, part: &[u8]) -> io::Result<String> {
+pub fn agree_tree(alloc: Global, tables: &StoredTables, part: &[u8]) -> io::Result<String> {
     match read_part(alloc, part) {
-        Ok(part) => agreed_by(alloc, tables, &part),
-        Err(fault) => shown(alloc, &fault),
+        Ok(part) => agree_tree_with(alloc, tables, &part),
+        Err(fault) => describe(alloc, &fault),
     }
 }
 
-fn agreed_by(alloc: Global, tables: &StoredTables, part: &PartTree<'_>) -> io::Result<String>
+fn agree_tree_with(alloc: Global, tables: &StoredTables, part: &PartTree<'_>) -> io::Result<String>
     requires { FitsPart (part_of part.now) }
 {
     match tables.find(b"t") {
-        Some(table) => compared(alloc, part, &table.tree),
+        Some(table) => compare_part(alloc, part, &table.tree),
         None => word(alloc, "no table"),
     }
 }
 
-fn compared(alloc: Global, part: &PartTree<'_>, tree: &Tree) -> io::Result<String>
+fn compare_part(alloc: Global, part: &PartTree<'_>, tree: &Tree) -> io::Result<String>
     requires { FitsPart (part_of part.now) }
 {
     if part.node_digest() != tree.node_digest() {
