@@ -10,19 +10,19 @@ use Rattle.btree.specs.declared.node.Contents.{Contents}
 use Rattle.btree.specs.declared.node.Contents.TheVariants.{Inner}
 use Rattle.btree.specs.declared.siblings.Siblings.{Siblings}
 use Rattle.btree.specs.declared.split.Halves.{Halves}
-use Rattle.btree.specs.Nodes.{Kid, listed, made, contents_of, HasNodes, IsGrown}
-use Rattle.btree.specs.Placing.{divided, spliced, node_of, CanDivide, AreCut}
+use Rattle.btree.specs.Nodes.{Kid, parts_from, new_kid, contents_of, HasNodes, IsGrown}
+use Rattle.btree.specs.Placing.{divide_at, splice, node_of, CanDivide, AreCut}
 use Rattle.btree.specs.Shapes.{size_of, IsLinked, IsWithin}
-use Rattle.btree.proofs.Listed.{count_listed, take_listed, drop_listed, map_spliced}
+use Rattle.btree.proofs.Listed.{count_parts, take_parts_from, drop_parts_from, map_spliced}
 
 module _ {K F N E M : Type 0} (key : K → List ℕ) (entry : F → E) (kid : N → Kid E M) where
-  pub counted : (ns : List N) → count (listed (map kid ns)) ≡ length ns
-  counted ns = count_listed (map kid ns) ∙ length-map ns kid
+  pub counted : (ns : List N) → count (parts_from (map kid ns)) ≡ length ns
+  counted ns = count_parts (map kid ns) ∙ length-map ns kid
 
   pub filled : (c : Contents K F N) (ss : Vec K Global) (ns : Vec N Global) → c ≡ Inner ss ns → size_of (contents_of key entry kid c) ≡ length ns.items
   filled c ss ns is = rw is (counted ns.items)
 
-  pub inner_within : (least : ℕ) (ss : List K) (ns : List N) → least ≤ length ns → length ns ≤ most_in_node → length ss + 1 ≡ length ns → IsWithin least (inner (map key ss) (listed (map kid ns)))
+  pub inner_within : (least : ℕ) (ss : List K) (ns : List N) → least ≤ length ns → length ns ≤ most_in_node → length ss + 1 ≡ length ns → IsWithin least (inner (map key ss) (parts_from (map kid ns)))
   inner_within least ss ns few most between =
       let children = counted ns in
       let keys = length-map ss key in
@@ -44,9 +44,9 @@ module _ {K F N E M : Type 0} (key : K → List ℕ) (entry : F → E) (kid : N 
       let R : Contents K F N → Type 0 = λ x. size_of (contents_of key entry kid x) ≤ at + most_in_node in
       let l : IsLinked 2 (contents_of key entry kid (Inner ss ns)) = subst P is linked in
       let d : CanDivide at (contents_of key entry kid (Inner ss ns)) = subst Q is can in
-      let r : count (listed (map kid ns.items)) ≤ at + most_in_node = subst R is last in
-      let two : at + 2 ≤ count (listed (map kid ns.items)) = d.1 in
-      let between : length (map key ss.items) + 1 ≡ count (listed (map kid ns.items)) = l.1 in
+      let r : count (parts_from (map kid ns.items)) ≤ at + most_in_node = subst R is last in
+      let two : at + 2 ≤ count (parts_from (map kid ns.items)) = d.1 in
+      let between : length (map key ss.items) + 1 ≡ count (parts_from (map kid ns.items)) = l.1 in
       record { within = omega arith; last = omega arith; between = omega arith }
 
   module _ (family : Family E M) where
@@ -56,13 +56,13 @@ module _ {K F N E M : Type 0} (key : K → List ℕ) (entry : F → E) (kid : N 
 
     pub leaf_divided : (at : ℕ) (es left right : List F) (first : F) (separator : K) (l r : N) (s : Siblings K N)
         → 0 < length right → left ≡ take at es → right ≡ drop at es → first ≡ get_or right 0 first → key separator ≡ family.key (entry first)
-        → kid l ≡ made family (leaf (map entry left)) → kid r ≡ made family (leaf (map entry right)) → HasNodes s (separator ∷ []) (l ∷ r ∷ [])
-        → IsGrown family key kid s (divided family at (leaf (map entry es)))
+        → kid l ≡ new_kid family (leaf (map entry left)) → kid r ≡ new_kid family (leaf (map entry right)) → HasNodes s (separator ∷ []) (l ∷ r ∷ [])
+        → IsGrown family key kid s (divide_at family at (leaf (map entry es)))
     leaf_divided at es left right first separator l r s some is_left is_right is_first is_key is_l is_r has = record {
       keys = ap (map key) has.keys ∙ ap (λ x. x ∷ []) (is_key ∙ sym (ap (first_key family) (drop-map entry at es ∙ ap (map entry) (sym is_right)) ∙ first_is right first some is_first));
       nodes = ap (map kid) has.are
-          ∙ ap (λ x. x ∷ kid r ∷ []) (is_l ∙ ap (λ xs. made family (leaf xs)) (ap (map entry) is_left ∙ sym (take-map entry at es)))
-          ∙ ap (λ x. made family (leaf (take at (map entry es))) ∷ x ∷ []) (is_r ∙ ap (λ xs. made family (leaf xs)) (ap (map entry) is_right ∙ sym (drop-map entry at es)));
+          ∙ ap (λ x. x ∷ kid r ∷ []) (is_l ∙ ap (λ xs. new_kid family (leaf xs)) (ap (map entry) is_left ∙ sym (take-map entry at es)))
+          ∙ ap (λ x. new_kid family (leaf (take at (map entry es))) ∷ x ∷ []) (is_r ∙ ap (λ xs. new_kid family (leaf xs)) (ap (map entry) is_right ∙ sym (drop-map entry at es)));
     }
 
     -- the separators of a node, cut before this one
@@ -78,27 +78,27 @@ module _ {K F N E M : Type 0} (key : K → List ℕ) (entry : F → E) (kid : N 
 
     pub inner_divided : (at : ℕ) (ss : List K) (ns : List N) (h : Halves K N) (l r : N) (s : Siblings K N)
         → 0 < at → at ≤ length ss → AreCut at h ss ns
-        → kid l ≡ made family (inner (map key h.before.items) (listed (map kid h.left.items)))
-        → kid r ≡ made family (inner (map key h.after.items) (listed (map kid h.right.items)))
+        → kid l ≡ new_kid family (inner (map key h.before.items) (parts_from (map kid h.left.items)))
+        → kid r ≡ new_kid family (inner (map key h.after.items) (parts_from (map kid h.right.items)))
         → HasNodes s (h.separator ∷ []) (l ∷ r ∷ [])
-        → IsGrown family key kid s (divided family at (inner (map key ss) (listed (map kid ns))))
+        → IsGrown family key kid s (divide_at family at (inner (map key ss) (parts_from (map kid ns))))
     inner_divided at ss ns h l r s some many cut is_l is_r has =
         let keys = length-map ss key in
         let k = keys_cut at (map key ss) (map key h.before.items) (key h.separator) some (omega arith) (take-map key at ss ∙ ap (map key) cut.first_keys ∙ map-append key h.before.items (h.separator ∷ [])) in
-        let left : take_parts at (listed (map kid ns)) ≡ listed (map kid h.left.items) = take_listed at (map kid ns) ∙ ap listed (take-map kid at ns ∙ ap (map kid) (sym cut.first)) in
-        let right : drop_parts at (listed (map kid ns)) ≡ listed (map kid h.right.items) = drop_listed at (map kid ns) ∙ ap listed (drop-map kid at ns ∙ ap (map kid) (sym cut.last)) in
+        let left : take_parts at (parts_from (map kid ns)) ≡ parts_from (map kid h.left.items) = take_parts_from at (map kid ns) ∙ ap parts_from (take-map kid at ns ∙ ap (map kid) (sym cut.first)) in
+        let right : drop_parts at (parts_from (map kid ns)) ≡ parts_from (map kid h.right.items) = drop_parts_from at (map kid ns) ∙ ap parts_from (drop-map kid at ns ∙ ap (map kid) (sym cut.last)) in
         let after : drop at (map key ss) ≡ map key h.after.items = drop-map key at ss ∙ ap (map key) (sym cut.last_keys) in
         record {
           keys = ap (map key) has.keys ∙ ap (λ x. x ∷ []) (sym k.1);
-          nodes = rw (k.0, left, right, after) (ap (map kid) has.are ∙ ap (λ x. x ∷ kid r ∷ []) is_l ∙ ap (λ x. made family (inner (map key h.before.items) (listed (map kid h.left.items))) ∷ x ∷ []) is_r);
+          nodes = rw (k.0, left, right, after) (ap (map kid) has.are ∙ ap (λ x. x ∷ kid r ∷ []) is_l ∙ ap (λ x. new_kid family (inner (map key h.before.items) (parts_from (map kid h.left.items))) ∷ x ∷ []) is_r);
         }
 
     -- what has come in the place of some children
-    pub put_listed : (from to : ℕ) (ss keys : List K) (ns nodes : List N) (s : Siblings K N) (g : Grown E M)
+    pub put_parts_from : (from to : ℕ) (ss keys : List K) (ns nodes : List N) (s : Siblings K N) (g : Grown E M)
         → keys ≡ take from ss ++ s.separators.items ++ drop to ss → nodes ≡ take from ns ++ s.nodes.items ++ drop (to + 1) ns → IsGrown family key kid s g
-        → inner (map key keys) (listed (map kid nodes)) ≡ node_of (spliced family from to (map key ss) (map kid ns) g)
-    put_listed from to ss keys ns nodes s g is_keys is_nodes grown =
+        → inner (map key keys) (parts_from (map kid nodes)) ≡ node_of (splice family from to (map key ss) (map kid ns) g)
+    put_parts_from from to ss keys ns nodes s g is_keys is_nodes grown =
         rw (is_keys, is_nodes, map_spliced key ss s.separators.items from to, map_spliced kid ns s.nodes.items from (to + 1), grown.keys, grown.nodes) refl
 
-    pub one_grown : (c : Part E M) (n : N) (s : Siblings K N) → kid n ≡ made family c → HasNodes s [] (n ∷ []) → IsGrown family key kid s (one c)
+    pub one_grown : (c : Part E M) (n : N) (s : Siblings K N) → kid n ≡ new_kid family c → HasNodes s [] (n ∷ []) → IsGrown family key kid s (one c)
     one_grown c n s is has = record { keys = ap (map key) has.keys; nodes = ap (map kid) has.are ∙ ap (λ x. x ∷ []) is }

@@ -11,7 +11,7 @@ use Rattle.vo_spec.specs.Parts.{Part, Parts, stub, leaf, inner, none, more, Fami
 use Rattle.vo_spec.specs.Inserts.{result_map, goes_here}
 use Rattle.vo_spec.specs.Removes.{edit_entry, edited_by, edited_in}
 use Rattle.btree.specs.Finding.{found_entry, found, found_in}
-use Rattle.btree.specs.Nodes.{Kid, listed}
+use Rattle.btree.specs.Nodes.{Kid, parts_from}
 use Rattle.btree.proofs.FirstEntries.{first_place}
 use Rattle.btree.proofs.OkResults.{ok_same, cond_ok}
 
@@ -132,18 +132,18 @@ module _ {E M : Type 0} (family : Family E M) (key : List ℕ) where
   child_found : (ss : List (List ℕ)) (ks : List (Kid E M)) (c : Kid E M)
       → position_or_len (key_lt key) ss < length ks
       → c ≡ get_or ks (position_or_len (key_lt key) ss) c
-      → found_in family key ss (listed ks) ≡ found family key c.1
+      → found_in family key ss (parts_from ks) ≡ found family key c.1
   child_found ss [] c lt is = absurd (omega arith)
   child_found [] (k ∷ ks) c lt is = ap (λ (x : Kid E M). found family key x.1) (sym is)
   child_found (s ∷ ss) (k ∷ ks) c lt is =
       let i = position_or_len (key_lt key) ss in
-      child_found_step (key_lt key s) i (1 + i) k ks c (found_in family key ss (listed ks)) (omega arith) lt is (λ within here. child_found ss ks c within here)
+      child_found_step (key_lt key s) i (1 + i) k ks c (found_in family key ss (parts_from ks)) (omega arith) lt is (λ within here. child_found ss ks c within here)
 
   -- below an inner node, in the child of this number
   pub inner_found : (ss : List (List ℕ)) (ks : List (Kid E M)) (place : ℕ) (c : Kid E M)
       → place ≡ position_or_len (key_lt key) ss
       → place < length ks → c ≡ get_or ks place c
-      → found family key (inner ss (listed ks)) ≡ found family key c.1
+      → found family key (inner ss (parts_from ks)) ≡ found family key c.1
   inner_found ss ks place c at lt is = child_found ss ks c (omega arith) (is ∙ ap (λ n. get_or ks n c) at)
 
 -- What was found has the key, and fits where all entries do.

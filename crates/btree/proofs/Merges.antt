@@ -6,8 +6,8 @@ use Rattle.vo_spec.specs.Parts.{Part, Parts, stub, leaf, inner, none, more, Fami
 use Rattle.vo_spec.specs.Fits.{most_in_node}
 use Rattle.vo_spec.specs.Inserts.{half, result_map, Grown, one, two, first_key, take_parts, drop_parts}
 use Rattle.vo_spec.specs.Removes.{joined_parts, with_left, with_right}
-use Rattle.btree.specs.Nodes.{Kid, listed}
-use Rattle.btree.specs.Placing.{merged, divided, CanDivide, redivided}
+use Rattle.btree.specs.Nodes.{Kid, parts_from}
+use Rattle.btree.specs.Placing.{merge_nodes, divide_at, CanDivide, divide_merged}
 use Rattle.btree.specs.Shapes.{size_of, IsLinked, IsWithin, IsShaped}
 
 -- Lists of entries, separators and children.
@@ -63,7 +63,7 @@ module _ {E M : Type 0} (family : Family E M) where
 
   leaves_left : (b : Bool) (n : ℕ) (ls rs : List E) → n < length ls
       → cond b (two (leaf (take n ls)) (first_key family (drop n ls)) (leaf (drop n ls ++ rs))) (one (leaf (ls ++ rs)))
-      ≡ cond b (divided family n (leaf (ls ++ rs))) (one (leaf (ls ++ rs)))
+      ≡ cond b (divide_at family n (leaf (ls ++ rs))) (one (leaf (ls ++ rs)))
   leaves_left false n ls rs h = refl
   leaves_left true n ls rs h =
       let within : n ≤ length ls = omega arith in
@@ -74,7 +74,7 @@ module _ {E M : Type 0} (family : Family E M) where
 
   inner_left : (b : Bool) (n : ℕ) (ls : List (List ℕ)) (ps : Parts E M) (s : List ℕ) (rs : List (List ℕ)) (qs : Parts E M) → n ≡ length ls → 0 < n → n ≤ count ps
       → cond b (two (inner (take (length ls - 1) ls) (take_parts n ps)) (get_or ls (length ls - 1) []) (inner (s ∷ rs) (joined_parts (drop_parts n ps) qs))) (one (inner (ls ++ s ∷ rs) (joined_parts ps qs)))
-      ≡ cond b (divided family n (inner (ls ++ s ∷ rs) (joined_parts ps qs))) (one (inner (ls ++ s ∷ rs) (joined_parts ps qs)))
+      ≡ cond b (divide_at family n (inner (ls ++ s ∷ rs) (joined_parts ps qs))) (one (inner (ls ++ s ∷ rs) (joined_parts ps qs)))
   inner_left false n ls ps s rs qs same some within = refl
   inner_left true n ls ps s rs qs same some within =
       let before : take (n - 1) (ls ++ s ∷ rs) ≡ take (n - 1) ls = take-append-le (n - 1) ls (s ∷ rs) (omega arith) in
@@ -82,14 +82,14 @@ module _ {E M : Type 0} (family : Family E M) where
       let after : drop n (ls ++ s ∷ rs) ≡ s ∷ rs = drop_at ls (s ∷ rs) n (sym same) in
       rw (← same, before, between, after, take_within n ps qs within, drop_within n ps qs within) refl
 
-  pub with_left_joined : (t : Part E M) (s : List ℕ) (u : Part E M) → IsLinked 2 t → with_left family t s u ≡ result_map (redivided family (size_of t) (size_of t - 1)) (merged t s u)
+  pub with_left_joined : (t : Part E M) (s : List ℕ) (u : Part E M) → IsLinked 2 t → with_left family t s u ≡ result_map (divide_merged family (size_of t) (size_of t - 1)) (merge_nodes t s u)
   with_left_joined (stub d) s u linked = refl
   with_left_joined (leaf ls) s (stub d) linked = refl
   with_left_joined (leaf ls) s (leaf rs) linked = ap Ok (step (nat_lt half (length ls)) refl)
     where
       step : (b : Bool) → nat_lt half (length ls) ≡ b
           → cond b (two (leaf (take (length ls - 1) ls)) (first_key family (drop (length ls - 1) ls)) (leaf (drop (length ls - 1) ls ++ rs))) (one (leaf (ls ++ rs)))
-          ≡ cond b (divided family (length ls - 1) (leaf (ls ++ rs))) (one (leaf (ls ++ rs)))
+          ≡ cond b (divide_at family (length ls - 1) (leaf (ls ++ rs))) (one (leaf (ls ++ rs)))
       step true h = let many : 8 < length ls = grind (arith, nat_tests) in leaves_left true (length ls - 1) ls rs (omega arith)
       step false h = refl
   with_left_joined (leaf ls) s (inner rs qs) linked = refl
@@ -104,14 +104,14 @@ module _ {E M : Type 0} (family : Family E M) where
 
   leaves_right : (b : Bool) (ls rs : List E)
       → cond b (two (leaf (ls ++ take 1 rs)) (first_key family (drop 1 rs)) (leaf (drop 1 rs))) (one (leaf (ls ++ rs)))
-      ≡ cond b (divided family (length ls + 1) (leaf (ls ++ rs))) (one (leaf (ls ++ rs)))
+      ≡ cond b (divide_at family (length ls + 1) (leaf (ls ++ rs))) (one (leaf (ls ++ rs)))
   leaves_right false ls rs = refl
   leaves_right true ls rs = rw (take_past ls rs 1, drop_past ls rs 1) refl
 
   inner_right : (b : Bool) (n : ℕ) (ls : List (List ℕ)) (ps : Parts E M) (s : List ℕ) (rs : List (List ℕ)) (qs : Parts E M) → length ls + 1 ≡ count ps
       → n ≡ count ps + 1
       → cond b (two (inner (ls ++ s ∷ []) (joined_parts ps (take_parts 1 qs))) (get_or rs 0 []) (inner (drop 1 rs) (drop_parts 1 qs))) (one (inner (ls ++ s ∷ rs) (joined_parts ps qs)))
-      ≡ cond b (divided family n (inner (ls ++ s ∷ rs) (joined_parts ps qs))) (one (inner (ls ++ s ∷ rs) (joined_parts ps qs)))
+      ≡ cond b (divide_at family n (inner (ls ++ s ∷ rs) (joined_parts ps qs))) (one (inner (ls ++ s ∷ rs) (joined_parts ps qs)))
   inner_right false n ls ps s rs qs between is = refl
   inner_right true n ls ps s rs qs between is =
       let fewer : n - 1 ≡ length ls + 1 = omega arith in
@@ -123,7 +123,7 @@ module _ {E M : Type 0} (family : Family E M) where
       let right : drop_parts n (joined_parts ps qs) ≡ drop_parts 1 qs = ap (λ i. drop_parts i (joined_parts ps qs)) is ∙ drop_beyond 1 ps qs in
       rw (before, at, after, left, right) refl
 
-  pub with_right_joined : (t : Part E M) (s : List ℕ) (u : Part E M) → IsLinked 1 t → with_right family t s u ≡ result_map (redivided family (size_of u) (size_of t + 1)) (merged t s u)
+  pub with_right_joined : (t : Part E M) (s : List ℕ) (u : Part E M) → IsLinked 1 t → with_right family t s u ≡ result_map (divide_merged family (size_of u) (size_of t + 1)) (merge_nodes t s u)
   with_right_joined (stub d) s u linked = refl
   with_right_joined (leaf ls) s (stub d) linked = refl
   with_right_joined (leaf ls) s (leaf rs) linked = ap Ok (leaves_right (nat_lt half (length rs)) ls rs)
@@ -173,7 +173,7 @@ module _ {E M : Type 0} (family : Family E M) where
         right = λ h. (omega arith, omega arith);
       }
 
-  pub joins : (t : Part E M) (s : List ℕ) (u v : Part E M) → IsLinked 1 t → IsLinked 1 u → merged t s u ≡ Ok v → Joins t u v
+  pub joins : (t : Part E M) (s : List ℕ) (u v : Part E M) → IsLinked 1 t → IsLinked 1 u → merge_nodes t s u ≡ Ok v → Joins t u v
   joins (stub d) s u v first second h = absurd (cc)
   joins (leaf es) s (stub d) v first second h = absurd (cc)
   joins (leaf es) s (leaf fs) v first second h =
@@ -193,27 +193,27 @@ module _ {E M : Type 0} (family : Family E M) where
   linked_less (leaf es) l = tt
   linked_less (inner ss ps) l = let least : 2 ≤ count ps = l.0 in (omega arith, l.1)
 
-  pub left_redivided : (t : Part E M) (s : List ℕ) (u v : Part E M) (n at : ℕ) (g : Grown E M) → IsLinked 2 t → merged t s u ≡ Ok v → n ≡ size_of t → at ≡ size_of t - 1
-      → redivided family n at v ≡ g → with_left family t s u ≡ Ok g
+  pub left_redivided : (t : Part E M) (s : List ℕ) (u v : Part E M) (n at : ℕ) (g : Grown E M) → IsLinked 2 t → merge_nodes t s u ≡ Ok v → n ≡ size_of t → at ≡ size_of t - 1
+      → divide_merged family n at v ≡ g → with_left family t s u ≡ Ok g
   left_redivided t s u v n at g linked is_merged is_n is_at is =
       with_left_joined t s u linked
-      ∙ ap (result_map (redivided family (size_of t) (size_of t - 1))) is_merged
-      ∙ ap (λ m. Ok (redivided family m (size_of t - 1) v)) (sym is_n)
-      ∙ ap (λ m. Ok (redivided family n m v)) (sym is_at)
+      ∙ ap (result_map (divide_merged family (size_of t) (size_of t - 1))) is_merged
+      ∙ ap (λ m. Ok (divide_merged family m (size_of t - 1) v)) (sym is_n)
+      ∙ ap (λ m. Ok (divide_merged family n m v)) (sym is_at)
       ∙ ap Ok is
 
-  pub right_redivided : (t : Part E M) (s : List ℕ) (u v : Part E M) (n at : ℕ) (g : Grown E M) → IsLinked 1 t → merged t s u ≡ Ok v → n ≡ size_of u → at ≡ size_of t + 1
-      → redivided family n at v ≡ g → with_right family t s u ≡ Ok g
+  pub right_redivided : (t : Part E M) (s : List ℕ) (u v : Part E M) (n at : ℕ) (g : Grown E M) → IsLinked 1 t → merge_nodes t s u ≡ Ok v → n ≡ size_of u → at ≡ size_of t + 1
+      → divide_merged family n at v ≡ g → with_right family t s u ≡ Ok g
   right_redivided t s u v n at g linked is_merged is_n is_at is =
       with_right_joined t s u linked
-      ∙ ap (result_map (redivided family (size_of u) (size_of t + 1))) is_merged
-      ∙ ap (λ m. Ok (redivided family m (size_of t + 1) v)) (sym is_n)
-      ∙ ap (λ m. Ok (redivided family n m v)) (sym is_at)
+      ∙ ap (result_map (divide_merged family (size_of u) (size_of t + 1))) is_merged
+      ∙ ap (λ m. Ok (divide_merged family m (size_of t + 1) v)) (sym is_n)
+      ∙ ap (λ m. Ok (divide_merged family n m v)) (sym is_at)
       ∙ ap Ok is
 
-  pub merged_listed : (ks js : List (Kid E M)) → joined_parts (listed ks) (listed js) ≡ listed (ks ++ js)
-  merged_listed [] js = refl
-  merged_listed (k ∷ ks) js = ap (λ ps. more k.0 k.1 ps) (merged_listed ks js)
+  pub merge_parts_from : (ks js : List (Kid E M)) → joined_parts (parts_from ks) (parts_from js) ≡ parts_from (ks ++ js)
+  merge_parts_from [] js = refl
+  merge_parts_from (k ∷ ks) js = ap (λ ps. more k.0 k.1 ps) (merge_parts_from ks js)
 
   -- what the code that evens the two asks
   pub record EvenLimits (n at : ℕ) (v : Part E M) : Type 0 where
@@ -223,7 +223,7 @@ module _ {E M : Type 0} (family : Family E M) where
     pub first : at ≤ most_in_node
     pub last : size_of v ≤ at + most_in_node
 
-  pub left_limits : (t : Part E M) (s : List ℕ) (u v : Part E M) (n at : ℕ) → IsShaped t → IsWithin 1 u → size_of u < half → merged t s u ≡ Ok v → n ≡ size_of t → at ≡ n - 1
+  pub left_limits : (t : Part E M) (s : List ℕ) (u v : Part E M) (n at : ℕ) → IsShaped t → IsWithin 1 u → size_of u < half → merge_nodes t s u ≡ Ok v → n ≡ size_of t → at ≡ n - 1
       → EvenLimits n at v
   left_limits t s u v n at fits within small is_merged is_n is_at =
       let j = joins t s u v (linked_less t (linked_part t fits)) within.linked is_merged in
@@ -239,7 +239,7 @@ module _ {E M : Type 0} (family : Family E M) where
         last = omega arith;
       }
 
-  pub right_limits : (t : Part E M) (s : List ℕ) (u v : Part E M) (n at : ℕ) → IsShaped u → IsWithin 1 t → size_of t < half → merged t s u ≡ Ok v → n ≡ size_of u → at ≡ size_of t + 1
+  pub right_limits : (t : Part E M) (s : List ℕ) (u v : Part E M) (n at : ℕ) → IsShaped u → IsWithin 1 t → size_of t < half → merge_nodes t s u ≡ Ok v → n ≡ size_of u → at ≡ size_of t + 1
       → EvenLimits n at v
   right_limits t s u v n at fits within small is_merged is_n is_at =
       let j = joins t s u v within.linked (linked_less u (linked_part u fits)) is_merged in

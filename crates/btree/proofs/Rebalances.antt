@@ -12,10 +12,10 @@ use Rattle.vo_spec.specs.Inserts.{result_map, Grown, one}
 use Rattle.vo_spec.specs.Removes.{is_small, with_left, with_right, settled_root}
 use Rattle.btree.specs.declared.node.Contents.{Contents}
 use Rattle.btree.specs.declared.node.Contents.TheVariants.{Leaf, Inner}
-use Rattle.btree.specs.Nodes.{Kid, listed, made, contents_of}
-use Rattle.btree.specs.Placing.{merged, opened, redivided, spliced, borrowed, rebalanced, node_of}
+use Rattle.btree.specs.Nodes.{Kid, parts_from, new_kid, contents_of}
+use Rattle.btree.specs.Placing.{merge_nodes, open_node, divide_merged, splice, rebalance_with_sibling, rebalance_at, node_of}
 use Rattle.btree.specs.Shapes.{size_of, IsLinked, IsWithin}
-use Rattle.btree.proofs.Merges.{merged_listed, with_left_joined, with_right_joined}
+use Rattle.btree.proofs.Merges.{merge_parts_from, with_left_joined, with_right_joined}
 use Rattle.btree.proofs.Splits.{placed}
 use Rattle.btree.proofs.Divisions.{counted}
 
@@ -24,17 +24,17 @@ use Rattle.btree.proofs.Divisions.{counted}
 module _ {K F N E M : Type 0} (family : Family E M) (key : K → List ℕ) (entry : F → E) (kid : N → Kid E M) where
   pub inner_merged : (c d : Contents K F N) (ss ts : Vec K Global) (ns os : Vec N Global) (s : K) (keys : List K) (nodes : List N) → c ≡ Inner ss ns → d ≡ Inner ts os
       → keys ≡ ss.items ++ s ∷ ts.items → nodes ≡ ns.items ++ os.items
-      → merged (contents_of key entry kid c) (key s) (contents_of key entry kid d) ≡ Ok (inner (map key keys) (listed (map kid nodes)))
+      → merge_nodes (contents_of key entry kid c) (key s) (contents_of key entry kid d) ≡ Ok (inner (map key keys) (parts_from (map kid nodes)))
   inner_merged c d ss ts ns os s keys nodes is_c is_d is_keys is_nodes =
-      ap (λ x. merged (contents_of key entry kid x) (key s) (contents_of key entry kid d)) is_c
-      ∙ ap (λ x. merged (contents_of key entry kid (Inner ss ns)) (key s) (contents_of key entry kid x)) is_d
-      ∙ ap (λ ps. Ok (inner (map key ss.items ++ key s ∷ map key ts.items) ps)) (merged_listed family (map kid ns.items) (map kid os.items) ∙ ap listed (sym (ap (map kid) is_nodes ∙ map-append kid ns.items os.items)))
-      ∙ ap (λ l. Ok (inner l (listed (map kid nodes)))) (sym (ap (map key) is_keys ∙ map-append key ss.items (s ∷ ts.items)))
+      ap (λ x. merge_nodes (contents_of key entry kid x) (key s) (contents_of key entry kid d)) is_c
+      ∙ ap (λ x. merge_nodes (contents_of key entry kid (Inner ss ns)) (key s) (contents_of key entry kid x)) is_d
+      ∙ ap (λ ps. Ok (inner (map key ss.items ++ key s ∷ map key ts.items) ps)) (merge_parts_from family (map kid ns.items) (map kid os.items) ∙ ap parts_from (sym (ap (map kid) is_nodes ∙ map-append kid ns.items os.items)))
+      ∙ ap (λ l. Ok (inner l (parts_from (map kid nodes)))) (sym (ap (map key) is_keys ∙ map-append key ss.items (s ∷ ts.items)))
 
   -- contents that are underfull
   pub underfull : (c : Contents K F N) → size_of (contents_of key entry kid c) < 8 → is_small (contents_of key entry kid c) ≡ true
   underfull (Leaf es) h = let l : length (map entry es.items) < 8 = h in grind (arith, nat_tests)
-  underfull (Inner ss ns) h = let l : count (listed (map kid ns.items)) < 8 = h in grind (arith, nat_tests)
+  underfull (Inner ss ns) h = let l : count (parts_from (map kid ns.items)) < 8 = h in grind (arith, nat_tests)
 
   -- an inner node's contents, by how many there are
   pub record Counts (least : ℕ) (ss : List K) (ns : List N) : Type 0 where
@@ -45,22 +45,22 @@ module _ {K F N E M : Type 0} (family : Family E M) (key : K → List ℕ) (entr
   pub counts : (least : ℕ) (c : Contents K F N) (ss : Vec K Global) (ns : Vec N Global) → c ≡ Inner ss ns → IsWithin least (contents_of key entry kid c) → Counts least ss.items ns.items
   counts least c ss ns is within =
       let P : Contents K F N → Type 0 = λ x. IsWithin least (contents_of key entry kid x) in
-      let w : IsWithin least (inner (map key ss.items) (listed (map kid ns.items))) = subst P is within in
+      let w : IsWithin least (inner (map key ss.items) (parts_from (map kid ns.items))) = subst P is within in
       let children = counted key entry kid ns.items in
       let keys = length-map ss.items key in
-      let fewest : least ≤ count (listed (map kid ns.items)) = w.linked.0 in
-      let between : length (map key ss.items) + 1 ≡ count (listed (map kid ns.items)) = w.linked.1 in
-      let most : count (listed (map kid ns.items)) ≤ most_in_node = w.most in
+      let fewest : least ≤ count (parts_from (map kid ns.items)) = w.linked.0 in
+      let between : length (map key ss.items) + 1 ≡ count (parts_from (map kid ns.items)) = w.linked.1 in
+      let most : count (parts_from (map kid ns.items)) ≤ most_in_node = w.most in
       record { fewest = omega arith; most = omega arith; between = omega arith }
 
   -- a root of one child, and one of more
-  pub root_only : (ss : List K) (ns : List N) (n : N) → ns ≡ n ∷ [] → (kid n).1 ≡ settled_root (inner (map key ss) (listed (map kid ns)))
+  pub root_only : (ss : List K) (ns : List N) (n : N) → ns ≡ n ∷ [] → (kid n).1 ≡ settled_root (inner (map key ss) (parts_from (map kid ns)))
   root_only ss ns n is = rw is refl
 
-  pub root_more : (ss : List K) (ns : List N) (n : N) → (length ns ≡ 1 → ⊥) → kid n ≡ made family (inner (map key ss) (listed (map kid ns))) → (kid n).1 ≡ settled_root (inner (map key ss) (listed (map kid ns)))
+  pub root_more : (ss : List K) (ns : List N) (n : N) → (length ns ≡ 1 → ⊥) → kid n ≡ new_kid family (inner (map key ss) (parts_from (map kid ns))) → (kid n).1 ≡ settled_root (inner (map key ss) (parts_from (map kid ns)))
   root_more ss ns n several is = ap (λ (k : Kid E M). k.1) is ∙ stays ns several
     where
-      stays : (ms : List N) → (length ms ≡ 1 → ⊥) → inner (map key ss) (listed (map kid ms)) ≡ settled_root (inner (map key ss) (listed (map kid ms)))
+      stays : (ms : List N) → (length ms ≡ 1 → ⊥) → inner (map key ss) (parts_from (map kid ms)) ≡ settled_root (inner (map key ss) (parts_from (map kid ms)))
       stays [] h = refl
       stays (m ∷ []) h = absurd (h refl)
       stays (m ∷ o ∷ ms) h = refl
@@ -68,28 +68,28 @@ module _ {K F N E M : Type 0} (family : Family E M) (key : K → List ℕ) (entr
 module _ {E M : Type 0} (family : Family E M) where
   -- A sibling that is opened, and one that can't be.
 
-  pub opened_is : (t u : Part E M) → opened t ≡ Ok u → t ≡ u
+  pub opened_is : (t u : Part E M) → open_node t ≡ Ok u → t ≡ u
   opened_is (stub d) u h = absurd (cc)
   opened_is (leaf es) u h = cc
   opened_is (inner ss ps) u h = cc
 
-  pub left_closed : (t : Part E M) (s : List ℕ) (u : Part E M) (fault : UpdateFault) → opened t ≡ Err fault → with_left family t s u ≡ Err fault
+  pub left_closed : (t : Part E M) (s : List ℕ) (u : Part E M) (fault : UpdateFault) → open_node t ≡ Err fault → with_left family t s u ≡ Err fault
   left_closed (stub d) s u fault h = let same : Missing ≡ fault = cc in ap Err same
   left_closed (leaf es) s u fault h = absurd (cc)
   left_closed (inner ss ps) s u fault h = absurd (cc)
 
-  pub right_closed : (t : Part E M) (s : List ℕ) (u : Part E M) (fault : UpdateFault) → opened u ≡ Err fault → with_right family t s u ≡ Err fault
+  pub right_closed : (t : Part E M) (s : List ℕ) (u : Part E M) (fault : UpdateFault) → open_node u ≡ Err fault → with_right family t s u ≡ Err fault
   right_closed (stub d) s (stub e) fault h = let same : Missing ≡ fault = cc in ap Err same
   right_closed (leaf es) s (stub e) fault h = let same : Missing ≡ fault = cc in ap Err same
   right_closed (inner ss ps) s (stub e) fault h = let same : Missing ≡ fault = cc in ap Err same
   right_closed t s (leaf es) fault h = absurd (cc)
   right_closed t s (inner ss ps) fault h = absurd (cc)
 
-  pub left_apart : (t : Part E M) (s : List ℕ) (u : Part E M) (fault : UpdateFault) → IsLinked 2 t → merged t s u ≡ Err fault → with_left family t s u ≡ Err fault
-  left_apart t s u fault linked h = with_left_joined family t s u linked ∙ ap (result_map (redivided family (size_of t) (size_of t - 1))) h
+  pub left_apart : (t : Part E M) (s : List ℕ) (u : Part E M) (fault : UpdateFault) → IsLinked 2 t → merge_nodes t s u ≡ Err fault → with_left family t s u ≡ Err fault
+  left_apart t s u fault linked h = with_left_joined family t s u linked ∙ ap (result_map (divide_merged family (size_of t) (size_of t - 1))) h
 
-  pub right_apart : (t : Part E M) (s : List ℕ) (u : Part E M) (fault : UpdateFault) → IsLinked 1 t → merged t s u ≡ Err fault → with_right family t s u ≡ Err fault
-  right_apart t s u fault linked h = with_right_joined family t s u linked ∙ ap (result_map (redivided family (size_of u) (size_of t + 1))) h
+  pub right_apart : (t : Part E M) (s : List ℕ) (u : Part E M) (fault : UpdateFault) → IsLinked 1 t → merge_nodes t s u ≡ Err fault → with_right family t s u ≡ Err fault
+  right_apart t s u fault linked h = with_right_joined family t s u linked ∙ ap (result_map (divide_merged family (size_of u) (size_of t + 1))) h
 
   -- A child that isn't underfull.
 
@@ -98,19 +98,19 @@ module _ {E M : Type 0} (family : Family E M) where
   enough (leaf es) many = let h : 8 ≤ length es = many in grind (arith, nat_tests)
   enough (inner ss ps) many = let h : 8 ≤ count ps = many in grind (arith, nat_tests)
 
-  pub rebalanced_enough : (i : ℕ) (ss : List (List ℕ)) (ks : List (Kid E M)) (t : Part E M) → 8 ≤ size_of t → rebalanced family i ss ks t ≡ Ok (spliced family i i ss ks (one t))
-  rebalanced_enough i ss ks t many = ap (λ b. cond b (borrowed family i ss ks t) (Ok (spliced family i i ss ks (one t)))) (enough t many)
+  pub rebalanced_enough : (i : ℕ) (ss : List (List ℕ)) (ks : List (Kid E M)) (t : Part E M) → 8 ≤ size_of t → rebalance_at family i ss ks t ≡ Ok (splice family i i ss ks (one t))
+  rebalanced_enough i ss ks t many = ap (λ b. cond b (rebalance_with_sibling family i ss ks t) (Ok (splice family i i ss ks (one t)))) (enough t many)
 
   -- The node in which it has come.
 
-  pub one_within : (i : ℕ) (ss : List (List ℕ)) (ks : List (Kid E M)) (t c : Part E M) → i < length ks → 2 ≤ length ks → length ks ≤ 16 → length ss + 1 ≡ length ks → c ≡ node_of (spliced family i i ss ks (one t)) → IsWithin 1 c
+  pub one_within : (i : ℕ) (ss : List (List ℕ)) (ks : List (Kid E M)) (t c : Part E M) → i < length ks → 2 ≤ length ks → length ks ≤ 16 → length ss + 1 ≡ length ks → c ≡ node_of (splice family i i ss ks (one t)) → IsWithin 1 c
   one_within i ss ks t c lt least most between is =
       let p = placed family i i ss ks (one t) (omega arith) lt between in
-      let n : count (spliced family i i ss ks (one t)).parts + (i + 1) ≡ length ks + i + 1 = p.number in
+      let n : count (splice family i i ss ks (one t)).parts + (i + 1) ≡ length ks + i + 1 = p.number in
       let P : Part E M → Type 0 = λ x. IsWithin 1 x in
       subst P (sym is) (record { linked = (omega (arith, p.least), p.between); most = omega arith })
 
-  pub pair_within : (i : ℕ) (ss : List (List ℕ)) (ks : List (Kid E M)) (g : Grown E M) (c : Part E M) → i + 1 < length ks → length ks ≤ 16 → length ss + 1 ≡ length ks → c ≡ node_of (spliced family i (i + 1) ss ks g) → IsWithin 1 c
+  pub pair_within : (i : ℕ) (ss : List (List ℕ)) (ks : List (Kid E M)) (g : Grown E M) (c : Part E M) → i + 1 < length ks → length ks ≤ 16 → length ss + 1 ≡ length ks → c ≡ node_of (splice family i (i + 1) ss ks g) → IsWithin 1 c
   pair_within i ss ks g c lt most between is =
       let p = placed family i (i + 1) ss ks g (omega arith) lt between in
       let P : Part E M → Type 0 = λ x. IsWithin 1 x in
@@ -120,19 +120,19 @@ module _ {E M : Type 0} (family : Family E M) where
 
   module _ {K N : Type 0} (key : K → List ℕ) (kid : N → Kid E M) (ss : List K) (ns : List N) where
     pub left_borrowed : (i : ℕ) (n : N) (s : K) (t left : Part E M) (r : Result (Grown E M) UpdateFault) → i < length ss → i < length ns → n ≡ get_or ns i n → s ≡ get_or ss i s → left ≡ (kid n).1
-        → with_left family left (key s) t ≡ r → borrowed family (suc i) (map key ss) (map kid ns) t ≡ result_map (spliced family i (i + 1) (map key ss) (map kid ns)) r
+        → with_left family left (key s) t ≡ r → rebalance_with_sibling family (suc i) (map key ss) (map kid ns) t ≡ result_map (splice family i (i + 1) (map key ss) (map kid ns)) r
     left_borrowed i n s t left r in_ss in_ns is_n is_s is_left evens =
-        let sibling : (get_or (map kid ns) i (made family t)).1 ≡ left = ap (λ (k : Kid E M). k.1) (get_or-map kid ns i n (made family t) in_ns ∙ ap kid (sym is_n)) ∙ sym is_left in
+        let sibling : (get_or (map kid ns) i (new_kid family t)).1 ≡ left = ap (λ (k : Kid E M). k.1) (get_or-map kid ns i n (new_kid family t) in_ns ∙ ap kid (sym is_n)) ∙ sym is_left in
         let separator : get_or (map key ss) i [] ≡ key s = get_or-map key ss i s [] in_ss ∙ ap key (sym is_s) in
-        ap (λ x. result_map (spliced family i (i + 1) (map key ss) (map kid ns)) (with_left family x (get_or (map key ss) i []) t)) sibling
-        ∙ ap (λ k. result_map (spliced family i (i + 1) (map key ss) (map kid ns)) (with_left family left k t)) separator
-        ∙ ap (result_map (spliced family i (i + 1) (map key ss) (map kid ns))) evens
+        ap (λ x. result_map (splice family i (i + 1) (map key ss) (map kid ns)) (with_left family x (get_or (map key ss) i []) t)) sibling
+        ∙ ap (λ k. result_map (splice family i (i + 1) (map key ss) (map kid ns)) (with_left family left k t)) separator
+        ∙ ap (result_map (splice family i (i + 1) (map key ss) (map kid ns))) evens
 
     pub right_borrowed : (n : N) (s : K) (t right : Part E M) (r : Result (Grown E M) UpdateFault) → 0 < length ss → 1 < length ns → n ≡ get_or ns 1 n → s ≡ get_or ss 0 s → right ≡ (kid n).1
-        → with_right family t (key s) right ≡ r → borrowed family zero (map key ss) (map kid ns) t ≡ result_map (spliced family 0 1 (map key ss) (map kid ns)) r
+        → with_right family t (key s) right ≡ r → rebalance_with_sibling family zero (map key ss) (map kid ns) t ≡ result_map (splice family 0 1 (map key ss) (map kid ns)) r
     right_borrowed n s t right r in_ss in_ns is_n is_s is_right evens =
-        let sibling : (get_or (map kid ns) 1 (made family t)).1 ≡ right = ap (λ (k : Kid E M). k.1) (get_or-map kid ns 1 n (made family t) in_ns ∙ ap kid (sym is_n)) ∙ sym is_right in
+        let sibling : (get_or (map kid ns) 1 (new_kid family t)).1 ≡ right = ap (λ (k : Kid E M). k.1) (get_or-map kid ns 1 n (new_kid family t) in_ns ∙ ap kid (sym is_n)) ∙ sym is_right in
         let separator : get_or (map key ss) 0 [] ≡ key s = get_or-map key ss 0 s [] in_ss ∙ ap key (sym is_s) in
-        ap (λ x. result_map (spliced family 0 1 (map key ss) (map kid ns)) (with_right family t (get_or (map key ss) 0 []) x)) sibling
-        ∙ ap (λ k. result_map (spliced family 0 1 (map key ss) (map kid ns)) (with_right family t k right)) separator
-        ∙ ap (result_map (spliced family 0 1 (map key ss) (map kid ns))) evens
+        ap (λ x. result_map (splice family 0 1 (map key ss) (map kid ns)) (with_right family t (get_or (map key ss) 0 []) x)) sibling
+        ∙ ap (λ k. result_map (splice family 0 1 (map key ss) (map kid ns)) (with_right family t k right)) separator
+        ∙ ap (result_map (splice family 0 1 (map key ss) (map kid ns))) evens

@@ -5,9 +5,9 @@ use Rattle.std.proofs.lemmas.Bool.Decides.{nat_tests}
 use Rattle.vo_spec.specs.Parts.{Part, stub, leaf, inner, count, Family}
 use Rattle.vo_spec.specs.Inserts.{Grown, one, two, Children}
 use Rattle.btree.specs.Nodes.{Kid, kids_of, keys_of}
-use Rattle.btree.specs.Placing.{spliced, split, divided, CanDivide}
+use Rattle.btree.specs.Placing.{splice, split, divide_at, CanDivide}
 use Rattle.btree.specs.Shapes.{size_of, IsLinked, IsWithin}
-use Rattle.btree.proofs.Listed.{count_listed}
+use Rattle.btree.proofs.Listed.{count_parts}
 
 above : (n : ℕ) → 16 < n → nat_le n 16 ≡ false
 above n h = grind (arith, nat_tests)
@@ -18,13 +18,13 @@ within n h = grind (arith, nat_tests)
 module _ {E M : Type 0} (family : Family E M) where
   pub split_small : (t : Part E M) → size_of t ≤ 16 → split family t ≡ one t
   split_small (stub d) h = refl
-  split_small (leaf es) h = ap (λ b. cond b (one (leaf es)) (divided family 8 (leaf es))) (within (length es) h)
-  split_small (inner ss ps) h = ap (λ b. cond b (one (inner ss ps)) (divided family 8 (inner ss ps))) (within (count ps) h)
+  split_small (leaf es) h = ap (λ b. cond b (one (leaf es)) (divide_at family 8 (leaf es))) (within (length es) h)
+  split_small (inner ss ps) h = ap (λ b. cond b (one (inner ss ps)) (divide_at family 8 (inner ss ps))) (within (count ps) h)
 
-  pub split_large : (t : Part E M) → 16 < size_of t → split family t ≡ divided family 8 t
+  pub split_large : (t : Part E M) → 16 < size_of t → split family t ≡ divide_at family 8 t
   split_large (stub d) h = absurd (omega arith)
-  split_large (leaf es) h = ap (λ b. cond b (one (leaf es)) (divided family 8 (leaf es))) (above (length es) h)
-  split_large (inner ss ps) h = ap (λ b. cond b (one (inner ss ps)) (divided family 8 (inner ss ps))) (above (count ps) h)
+  split_large (leaf es) h = ap (λ b. cond b (one (leaf es)) (divide_at family 8 (leaf es))) (above (length es) h)
+  split_large (inner ss ps) h = ap (λ b. cond b (one (inner ss ps)) (divide_at family 8 (inner ss ps))) (above (count ps) h)
 
   pub large_divides : (t : Part E M) → 16 < size_of t → CanDivide 8 t
   large_divides (stub d) h = absurd (omega arith)
@@ -48,11 +48,11 @@ module _ {E M : Type 0} (family : Family E M) where
 
   -- of the children and separators of an inner node in which they have come
   pub spliced_children : (i j : ℕ) (ss : List (List ℕ)) (ks : List (Kid E M)) (g : Grown E M) → i ≤ j → j < length ks
-      → count (spliced family i j ss ks g).parts + (j + 1) ≡ length ks + i + length (kids_of family g)
+      → count (splice family i j ss ks g).parts + (j + 1) ≡ length ks + i + length (kids_of family g)
   spliced_children i j ss ks g order at =
       omega (
         arith,
-        count_listed (take i ks ++ kids_of family g ++ drop (j + 1) ks),
+        count_parts (take i ks ++ kids_of family g ++ drop (j + 1) ks),
         length-append (take i ks ++ kids_of family g) (drop (j + 1) ks),
         length-append (take i ks) (kids_of family g),
         length-take-le i ks (omega arith),
@@ -60,7 +60,7 @@ module _ {E M : Type 0} (family : Family E M) where
       )
 
   pub spliced_separators : (i j : ℕ) (ss : List (List ℕ)) (ks : List (Kid E M)) (g : Grown E M) → i ≤ j → j ≤ length ss
-      → length (spliced family i j ss ks g).separators + j ≡ length ss + i + length (keys_of g)
+      → length (splice family i j ss ks g).separators + j ≡ length ss + i + length (keys_of g)
   spliced_separators i j ss ks g order at =
       omega (
         arith,
@@ -77,9 +77,9 @@ module _ {E M : Type 0} (family : Family E M) where
     pub least : n + i - j ≤ count c.parts
     pub most : count c.parts ≤ n + i - j + 1
 
-  pub placed : (i j : ℕ) (ss : List (List ℕ)) (ks : List (Kid E M)) (g : Grown E M) → i ≤ j → j < length ks → length ss + 1 ≡ length ks → Placed i j (length ks) g (spliced family i j ss ks g)
+  pub placed : (i j : ℕ) (ss : List (List ℕ)) (ks : List (Kid E M)) (g : Grown E M) → i ≤ j → j < length ks → length ss + 1 ≡ length ks → Placed i j (length ks) g (splice family i j ss ks g)
   placed i j ss ks g order at between =
       let n = numbered g in
-      let children : count (spliced family i j ss ks g).parts + (j + 1) ≡ length ks + i + length (kids_of family g) = spliced_children i j ss ks g order at in
-      let separators : length (spliced family i j ss ks g).separators + j ≡ length ss + i + length (keys_of g) = spliced_separators i j ss ks g order (omega arith) in
+      let children : count (splice family i j ss ks g).parts + (j + 1) ≡ length ks + i + length (kids_of family g) = spliced_children i j ss ks g order at in
+      let separators : length (splice family i j ss ks g).separators + j ≡ length ss + i + length (keys_of g) = spliced_separators i j ss ks g order (omega arith) in
       record { number = children; between = omega (arith, n.between); least = omega (arith, n.some); most = omega (arith, n.most) }

@@ -13,36 +13,36 @@ abbrev pub Kid : Type 0 → Type 0 → Type 0
 Kid E M = M × Part E M
 
 -- children as a list
-abbrev pub listed : {E M : Type 0} → List (Kid E M) → Parts E M
-listed [] = none
-listed (k ∷ ks) = more k.0 k.1 (listed ks)
+abbrev pub parts_from : {E M : Type 0} → List (Kid E M) → Parts E M
+parts_from [] = none
+parts_from (k ∷ ks) = more k.0 k.1 (parts_from ks)
 
 module _ {K F N E M : Type 0} (key : K → List ℕ) (entry : F → E) (kid : N → Kid E M) where
   abbrev pub view_of : NodeView K F N → Part E M
   view_of (Stub d) = stub d
   view_of (LeafView es) = leaf (map entry es.now)
-  view_of (InnerView ss ks) = inner (map key ss.now) (listed (map kid ks.now))
+  view_of (InnerView ss ks) = inner (map key ss.now) (parts_from (map kid ks.now))
 
   abbrev pub contents_of : Contents K F N → Part E M
   contents_of (Leaf es) = leaf (map entry es.items)
-  contents_of (Inner ss ks) = inner (map key ss.items) (listed (map kid ks.items))
+  contents_of (Inner ss ks) = inner (map key ss.items) (parts_from (map kid ks.items))
 
   abbrev pub IsContents : Contents K F N → Part E M → Type 0
   IsContents c t = t ≡ contents_of c
 
 module _ {E M : Type 0} (family : Family E M) where
   -- a child made anew
-  abbrev pub made : Part E M → Kid E M
-  made t = (family.mark t, t)
+  abbrev pub new_kid : Part E M → Kid E M
+  new_kid t = (family.mark t, t)
 
   -- the node is this, made anew
-  abbrev pub IsMade : {N : Type 0} → (N → Kid E M) → N → Part E M → Type 0
-  IsMade kid node t = kid node ≡ made t
+  abbrev pub IsNewKid : {N : Type 0} → (N → Kid E M) → N → Part E M → Type 0
+  IsNewKid kid node t = kid node ≡ new_kid t
 
   -- what comes in a node's place, as children and the separators between them
   abbrev pub kids_of : Grown E M → List (Kid E M)
-  kids_of (one t) = made t ∷ []
-  kids_of (two left key right) = made left ∷ made right ∷ []
+  kids_of (one t) = new_kid t ∷ []
+  kids_of (two left key right) = new_kid left ∷ new_kid right ∷ []
 
 abbrev pub keys_of : {E M : Type 0} → Grown E M → List (List ℕ)
 keys_of (one t) = []

@@ -3,10 +3,10 @@
 ghost use Rattle.std.specs.Prelude.{◌≡◌, ◌≤◌, ◌<◌, length, map, IfOk};
 ghost use Rattle.vo_spec.specs.Inserts.{Grown};
 ghost use Rattle.btree.specs.Nodes.{contents_of, IsGrown};
-ghost use Rattle.btree.specs.Placing.{node_of, spliced};
+ghost use Rattle.btree.specs.Placing.{node_of, splice};
 ghost use Rattle.btree.specs.Shapes.{size_of};
 
-use crate::lists::spliced_with;
+use crate::lists::replace_range;
 use crate::node::{Contents, TreeNode};
 use crate::siblings::Siblings;
 use std::alloc::{AllocError, Global};
@@ -36,10 +36,10 @@ pub fn put_siblings<N: TreeNode>(
     requires children { to < length children.now }
     ensures { IfOk result (λ contents. (grown : Grown N.Plain N.Mark) → IsGrown N.family N.Key.key N.kid siblings grown
         → contents_of N.Key.key N.entry N.kid contents
-        ≡ node_of (spliced N.family from to (map N.Key.key separators.now) (map N.kid children.now) grown)) }
+        ≡ node_of (splice N.family from to (map N.Key.key separators.now) (map N.kid children.now) grown)) }
 {
-    let separators = spliced_with(alloc, separators, from, to, siblings.separators)?;
-    let children = spliced_with(alloc, children, from, to + 1, siblings.nodes)?;
+    let separators = replace_range(alloc, separators, from, to, siblings.separators)?;
+    let children = replace_range(alloc, children, from, to + 1, siblings.nodes)?;
     Ok(Contents::Inner {
         separators,
         children,

@@ -4,7 +4,7 @@ ghost use Rattle.vo_spec.specs.Parts.{leaf, inner};
 ghost use Rattle.vo_spec.specs.Fits.{most_in_node};
 ghost use Rattle.vo_spec.specs.Inserts.{Grown, grow, inserted_by, root_of as root_of_grown};
 ghost use Rattle.btree.specs.Answers.{Answers};
-ghost use Rattle.btree.specs.Nodes.{listed, IsGrown};
+ghost use Rattle.btree.specs.Nodes.{parts_from, IsGrown};
 ghost use Rattle.btree.specs.Shapes.{IsShaped, AreShaped};
 
 use crate::contents::put_siblings;
@@ -73,9 +73,9 @@ fn insert_in_child<N: TreeNode>(
     requires least { 2 ≤ length children.now }
     requires most { length children.now ≤ most_in_node }
     requires between { length separators.now + 1 ≡ length children.now }
-    requires shaped { AreShaped (listed (map N.kid children.now)) }
+    requires shaped { AreShaped (parts_from (map N.kid children.now)) }
     ensures { Answers (IsGrown N.family N.Key.key N.kid) result
-        (grow N.family (N.entry entry) (inner (map N.Key.key separators.now) (listed (map N.kid children.now)))) }
+        (grow N.family (N.entry entry) (inner (map N.Key.key separators.now) (parts_from (map N.kid children.now)))) }
 {
     let place = position_above(separators, entry.key_bytes());
     match insert_below::<N>(alloc, children[place].tree(), entry) {

@@ -5,7 +5,7 @@ use crate::try_clone::{TryClone, extend_cloned, try_clone_all};
 use std::alloc::{AllocError, Global};
 
 /// The items with those from `from` up to `to` exchanged for others.
-pub fn spliced_with<T: TryClone + Drop>(
+pub fn replace_range<T: TryClone + Drop>(
     alloc: Global,
     items: &[T],
     from: usize,
@@ -17,7 +17,7 @@ pub fn spliced_with<T: TryClone + Drop>(
     ensures { IfOk result (λ new. new.items ≡ take from items.now ++ others.items ++ drop to items.now) }
 {
     let before = try_clone_all(alloc, &items[..from])?;
-    let mut new = appended(before, others)?;
+    let mut new = append(before, others)?;
     extend_cloned(alloc, &items[to..], &mut new)?;
     Ok(new)
 }
@@ -59,7 +59,7 @@ pub fn list_of_two<T: Drop>(alloc: Global, first: T, second: T) -> Result<Vec<T>
 }
 
 /// The items of both, those of the second after those of the first.
-pub fn appended<T: Drop>(first: Vec<T>, second: Vec<T>) -> Result<Vec<T>, AllocError>
+pub fn append<T: Drop>(first: Vec<T>, second: Vec<T>) -> Result<Vec<T>, AllocError>
     ensures { IfOk result (λ all. all.items ≡ first.items ++ second.items) }
 {
     let mut all = first;

@@ -3,9 +3,9 @@ ghost use Rattle.std.specs.Prelude.{◌≡◌, ◌∷◌, ◌++◌, map, IfOk};
 ghost use Rattle.vo_spec.specs.Parts.{stub};
 ghost use Rattle.btree.specs.Answers.{Answers};
 ghost use Rattle.btree.specs.Nodes.{contents_of, IsContents};
-ghost use Rattle.btree.specs.Placing.{merged, opened};
+ghost use Rattle.btree.specs.Placing.{merge_nodes, open_node};
 
-use crate::lists::appended;
+use crate::lists::append;
 use crate::node::{Contents, NodeView, TreeNode};
 use crate::try_clone::{TryClone, try_clone_all};
 use std::alloc::{AllocError, Global};
@@ -16,7 +16,7 @@ pub fn clone_contents<N: TreeNode>(
     alloc: Global,
     tree: &N::Tree,
 ) -> Result<Contents<N::Key, N::Entry, N>, UpdateFault>
-    ensures { Answers (IsContents N.Key.key N.entry N.kid) result (opened (N.seen tree.now)) }
+    ensures { Answers (IsContents N.Key.key N.entry N.kid) result (open_node (N.seen tree.now)) }
 {
     match N::open(tree) {
         NodeView::Stub(_) => Err(UpdateFault::Missing),
@@ -43,11 +43,11 @@ pub fn merge<N: TreeNode>(
     second: Contents<N::Key, N::Entry, N>,
 ) -> Result<Contents<N::Key, N::Entry, N>, UpdateFault>
     ensures { Answers (IsContents N.Key.key N.entry N.kid) result
-        (merged (contents_of N.Key.key N.entry N.kid first) (N.Key.key separator.now) (contents_of N.Key.key N.entry N.kid second)) }
+        (merge_nodes (contents_of N.Key.key N.entry N.kid first) (N.Key.key separator.now) (contents_of N.Key.key N.entry N.kid second)) }
 {
     match first {
         Contents::Leaf(entries) => match second {
-            Contents::Leaf(others) => Ok(Contents::Leaf(appended(entries, others)?)),
+            Contents::Leaf(others) => Ok(Contents::Leaf(append(entries, others)?)),
             Contents::Inner { .. } => Err(UpdateFault::Missing),
         },
         Contents::Inner {
@@ -60,7 +60,7 @@ pub fn merge<N: TreeNode>(
                 children: others,
             } => {
                 let separators = join_lists(alloc, separators, separator, keys)?;
-                let children = appended(children, others)?;
+                let children = append(children, others)?;
                 Ok(Contents::Inner {
                     separators,
                     children,
@@ -81,5 +81,5 @@ fn join_lists<T: TryClone + Drop>(
 {
     let mut all = before;
     all.push(item.try_clone(alloc)?)?;
-    appended(all, after)
+    append(all, after)
 }

@@ -1,7 +1,7 @@
 //! What the work on trees asks of a node.
 ghost use Rattle.std.specs.Prelude.{◌≡◌, IfOk};
 ghost use Rattle.vo_spec.specs.Parts.{Part, Family};
-ghost use Rattle.btree.specs.Nodes.{Kid, view_of, contents_of, made};
+ghost use Rattle.btree.specs.Nodes.{Kid, view_of, contents_of, new_kid};
 ghost use Rattle.btree.specs.Shapes.{IsWithin};
 
 use crate::keyed::Keyed;
@@ -67,7 +67,7 @@ pub trait TreeNode: TryClone + Sized + Drop {
         contents: Contents<Self::Key, Self::Entry, Self>,
     ) -> Result<Self, AllocError>
         requires { IsWithin 2 (contents_of Self.Key.key entry kid contents) }
-        ensures { IfOk result (λ node. kid node ≡ made family (contents_of Self.Key.key entry kid contents)) };
+        ensures { IfOk result (λ node. kid node ≡ new_kid family (contents_of Self.Key.key entry kid contents)) };
 
     /// The separator before a leaf whose first entry is this.
     fn separator(alloc: Global, first: &Self::Entry) -> Result<Self::Key, AllocError>

@@ -4,8 +4,8 @@ ghost use Rattle.vo_spec.specs.Fits.{most_in_node};
 ghost use Rattle.vo_spec.specs.Inserts.{half, result_map};
 ghost use Rattle.vo_spec.specs.Removes.{with_left as even_with_left, with_right as even_with_right};
 ghost use Rattle.btree.specs.Answers.{Answers};
-ghost use Rattle.btree.specs.Nodes.{listed, contents_of, IsContents, IsGrown};
-ghost use Rattle.btree.specs.Placing.{node_of, rebalanced, borrowed, redivided, CanDivide};
+ghost use Rattle.btree.specs.Nodes.{parts_from, contents_of, IsContents, IsGrown};
+ghost use Rattle.btree.specs.Placing.{node_of, rebalance_at, rebalance_with_sibling, divide_merged, CanDivide};
 ghost use Rattle.btree.specs.Shapes.{size_of, IsShaped, AreShaped, IsLinked, IsWithin};
 
 use crate::contents::{fill_of, put_siblings};
@@ -29,10 +29,10 @@ pub fn rebalance<N: TreeNode>(
     requires least { 2 ≤ length children.now }
     requires most { length children.now ≤ most_in_node }
     requires between { length separators.now + 1 ≡ length children.now }
-    requires shaped { AreShaped (listed (map N.kid children.now)) }
+    requires shaped { AreShaped (parts_from (map N.kid children.now)) }
     requires loose { IsWithin 1 (contents_of N.Key.key N.entry N.kid child) }
     ensures value { Answers (IsContents N.Key.key N.entry N.kid) result
-        (result_map node_of (rebalanced N.family place (map N.Key.key separators.now) (map N.kid children.now) (contents_of N.Key.key N.entry N.kid child))) }
+        (result_map node_of (rebalance_at N.family place (map N.Key.key separators.now) (map N.kid children.now) (contents_of N.Key.key N.entry N.kid child))) }
     ensures loose { IfOk result (λ contents. IsWithin 1 (contents_of N.Key.key N.entry N.kid contents)) }
 {
     if fill_of::<N>(&child) >= MIN_FILL {
@@ -59,7 +59,7 @@ fn put_child<N: TreeNode>(
     requires loose { IsWithin 1 (contents_of N.Key.key N.entry N.kid child) }
     requires enough { half ≤ size_of (contents_of N.Key.key N.entry N.kid child) }
     ensures value { IfOk result (λ contents. Ok (contents_of N.Key.key N.entry N.kid contents)
-        ≡ result_map node_of (rebalanced N.family place (map N.Key.key separators.now) (map N.kid children.now) (contents_of N.Key.key N.entry N.kid child))) }
+        ≡ result_map node_of (rebalance_at N.family place (map N.Key.key separators.now) (map N.kid children.now) (contents_of N.Key.key N.entry N.kid child))) }
     ensures loose { IfOk result (λ contents. IsWithin 1 (contents_of N.Key.key N.entry N.kid contents)) }
 {
     let siblings = Siblings::one(alloc, N::close(alloc, child)?)?;
@@ -76,11 +76,11 @@ fn rebalance_first<N: TreeNode>(
     requires least { 2 ≤ length children.now }
     requires most { length children.now ≤ most_in_node }
     requires between { length separators.now + 1 ≡ length children.now }
-    requires shaped { AreShaped (listed (map N.kid children.now)) }
+    requires shaped { AreShaped (parts_from (map N.kid children.now)) }
     requires loose { IsWithin 1 (contents_of N.Key.key N.entry N.kid child) }
     requires underfull { size_of (contents_of N.Key.key N.entry N.kid child) < half }
     ensures value { Answers (IsContents N.Key.key N.entry N.kid) result
-        (result_map node_of (borrowed N.family zero (map N.Key.key separators.now) (map N.kid children.now) (contents_of N.Key.key N.entry N.kid child))) }
+        (result_map node_of (rebalance_with_sibling N.family zero (map N.Key.key separators.now) (map N.kid children.now) (contents_of N.Key.key N.entry N.kid child))) }
     ensures loose { IfOk result (λ contents. IsWithin 1 (contents_of N.Key.key N.entry N.kid contents)) }
 {
     match rebalance_with_right::<N>(alloc, child, &separators[0], children[1].tree()) {
@@ -100,11 +100,11 @@ fn rebalance_next<N: TreeNode>(
     requires at { left + 1 < length children.now }
     requires most { length children.now ≤ most_in_node }
     requires between { length separators.now + 1 ≡ length children.now }
-    requires shaped { AreShaped (listed (map N.kid children.now)) }
+    requires shaped { AreShaped (parts_from (map N.kid children.now)) }
     requires loose { IsWithin 1 (contents_of N.Key.key N.entry N.kid child) }
     requires underfull { size_of (contents_of N.Key.key N.entry N.kid child) < half }
     ensures value { Answers (IsContents N.Key.key N.entry N.kid) result
-        (result_map node_of (borrowed N.family (suc left) (map N.Key.key separators.now) (map N.kid children.now) (contents_of N.Key.key N.entry N.kid child))) }
+        (result_map node_of (rebalance_with_sibling N.family (suc left) (map N.Key.key separators.now) (map N.kid children.now) (contents_of N.Key.key N.entry N.kid child))) }
     ensures loose { IfOk result (λ contents. IsWithin 1 (contents_of N.Key.key N.entry N.kid contents)) }
 {
     match rebalance_with_left::<N>(alloc, children[left].tree(), &separators[left], child) {
@@ -164,7 +164,7 @@ fn divide_where_more<N: TreeNode>(
     requires two { half < sibling → CanDivide at (contents_of N.Key.key N.entry N.kid all) }
     requires first { at ≤ most_in_node }
     requires last { size_of (contents_of N.Key.key N.entry N.kid all) ≤ at + most_in_node }
-    ensures { IfOk result (λ siblings. IsGrown N.family N.Key.key N.kid siblings (redivided N.family sibling at (contents_of N.Key.key N.entry N.kid all))) }
+    ensures { IfOk result (λ siblings. IsGrown N.family N.Key.key N.kid siblings (divide_merged N.family sibling at (contents_of N.Key.key N.entry N.kid all))) }
 {
     if sibling <= MIN_FILL {
         return Siblings::one(alloc, N::close(alloc, all)?);

@@ -4,11 +4,11 @@ ghost use Rattle.vo_spec.specs.Parts.{leaf, inner};
 ghost use Rattle.vo_spec.specs.Fits.{most_in_node};
 ghost use Rattle.vo_spec.specs.Removes.{shrink, removed_by, settled_root};
 ghost use Rattle.btree.specs.Answers.{Answers};
-ghost use Rattle.btree.specs.Nodes.{listed, contents_of, IsContents};
+ghost use Rattle.btree.specs.Nodes.{parts_from, contents_of, IsContents};
 ghost use Rattle.btree.specs.Shapes.{IsShaped, AreShaped, IsWithin};
 
 use crate::keyed::{position_above, position_of};
-use crate::lists::{only, spliced_with};
+use crate::lists::{only, replace_range};
 use crate::node::{Contents, NodeView, TreeNode};
 use crate::rebalance::rebalance;
 use std::alloc::{AllocError, Global};
@@ -60,7 +60,7 @@ fn remove_in_leaf<N: TreeNode>(
     if place >= entries.len() {
         return Err(UpdateFault::NoRow);
     }
-    let others = spliced_with(alloc, entries, place, place + 1, Vec::new(alloc))?;
+    let others = replace_range(alloc, entries, place, place + 1, Vec::new(alloc))?;
     Ok(Contents::Leaf(others))
 }
 
@@ -74,9 +74,9 @@ fn remove_in_child<N: TreeNode>(
     requires least { 2 ≤ length children.now }
     requires most { length children.now ≤ most_in_node }
     requires between { length separators.now + 1 ≡ length children.now }
-    requires shaped { AreShaped (listed (map N.kid children.now)) }
+    requires shaped { AreShaped (parts_from (map N.kid children.now)) }
     ensures value { Answers (IsContents N.Key.key N.entry N.kid) result
-        (shrink N.family key.now (inner (map N.Key.key separators.now) (listed (map N.kid children.now)))) }
+        (shrink N.family key.now (inner (map N.Key.key separators.now) (parts_from (map N.kid children.now)))) }
     ensures loose { IfOk result (λ contents. IsWithin 1 (contents_of N.Key.key N.entry N.kid contents)) }
 {
     let place = position_above(separators, key);
@@ -111,7 +111,7 @@ fn root_of_inner<N: TreeNode>(
     requires least { 1 ≤ length children.items }
     requires most { length children.items ≤ most_in_node }
     requires between { length separators.items + 1 ≡ length children.items }
-    ensures { IfOk result (λ root. (N.kid root).1 ≡ settled_root (inner (map N.Key.key separators.items) (listed (map N.kid children.items)))) }
+    ensures { IfOk result (λ root. (N.kid root).1 ≡ settled_root (inner (map N.Key.key separators.items) (parts_from (map N.kid children.items)))) }
 {
     if children.len() == 1 {
         return Ok(only(children));

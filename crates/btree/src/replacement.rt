@@ -4,7 +4,7 @@ ghost use Rattle.vo_spec.specs.Parts.{leaf, inner};
 ghost use Rattle.vo_spec.specs.Fits.{most_in_node};
 ghost use Rattle.vo_spec.specs.Removes.{edited_by};
 ghost use Rattle.btree.specs.Answers.{Answers};
-ghost use Rattle.btree.specs.Nodes.{listed, IsMade};
+ghost use Rattle.btree.specs.Nodes.{parts_from, IsNewKid};
 ghost use Rattle.btree.specs.Shapes.{IsShaped, AreShaped};
 
 use crate::keyed::{position_above, position_of};
@@ -24,7 +24,7 @@ pub fn set<N: TreeNode>(
     entry: N::Entry,
 ) -> Result<N, UpdateFault>
     requires { IsShaped (N.seen tree.now) }
-    ensures { Answers (IsMade N.family N.kid) result (edited_by N.family (λ _. Ok (N.entry entry)) key.now (N.seen tree.now)) }
+    ensures { Answers (IsNewKid N.family N.kid) result (edited_by N.family (λ _. Ok (N.entry entry)) key.now (N.seen tree.now)) }
 {
     match N::open(tree) {
         NodeView::Stub(_) => Err(UpdateFault::Missing),
@@ -43,7 +43,7 @@ fn set_in_leaf<N: TreeNode>(
     entry: N::Entry,
 ) -> Result<N, UpdateFault>
     requires { length entries.now ≤ most_in_node }
-    ensures { Answers (IsMade N.family N.kid) result (edited_by N.family (λ _. Ok (N.entry entry)) key.now (leaf (map N.entry entries.now))) }
+    ensures { Answers (IsNewKid N.family N.kid) result (edited_by N.family (λ _. Ok (N.entry entry)) key.now (leaf (map N.entry entries.now))) }
 {
     let place = position_of(entries, key);
     if place >= entries.len() {
@@ -64,9 +64,9 @@ fn set_in_child<N: TreeNode>(
     requires least { 2 ≤ length children.now }
     requires most { length children.now ≤ most_in_node }
     requires between { length separators.now + 1 ≡ length children.now }
-    requires shaped { AreShaped (listed (map N.kid children.now)) }
-    ensures { Answers (IsMade N.family N.kid) result
-        (edited_by N.family (λ _. Ok (N.entry entry)) key.now (inner (map N.Key.key separators.now) (listed (map N.kid children.now)))) }
+    requires shaped { AreShaped (parts_from (map N.kid children.now)) }
+    ensures { Answers (IsNewKid N.family N.kid) result
+        (edited_by N.family (λ _. Ok (N.entry entry)) key.now (inner (map N.Key.key separators.now) (parts_from (map N.kid children.now)))) }
 {
     let place = position_above(separators, key);
     match set::<N>(alloc, children[place].tree(), key, entry) {

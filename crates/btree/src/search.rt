@@ -4,7 +4,7 @@ ghost use Rattle.vo_spec.specs.Parts.{leaf, inner};
 ghost use Rattle.vo_spec.specs.Fits.{most_in_node};
 ghost use Rattle.btree.specs.Answers.{Answers};
 ghost use Rattle.btree.specs.Finding.{found};
-ghost use Rattle.btree.specs.Nodes.{listed};
+ghost use Rattle.btree.specs.Nodes.{parts_from};
 ghost use Rattle.btree.specs.Shapes.{IsShaped, AreShaped};
 
 use crate::keyed::{position_above, position_of};
@@ -51,9 +51,9 @@ fn find_in_child<'a, N: TreeNode + 'a>(
 ) -> Result<&'a N::Entry, UpdateFault>
     requires most { length children.now ≤ most_in_node }
     requires between { length separators.now + 1 ≡ length children.now }
-    requires shaped { AreShaped (listed (map N.kid children.now)) }
+    requires shaped { AreShaped (parts_from (map N.kid children.now)) }
     ensures { Answers (λ entry e. N.entry entry.now ≡ e) result
-        (found N.family key.now (inner (map N.Key.key separators.now) (listed (map N.kid children.now)))) }
+        (found N.family key.now (inner (map N.Key.key separators.now) (parts_from (map N.kid children.now)))) }
 {
     let place = position_above(separators, key);
     find::<N>(children[place].tree(), key)

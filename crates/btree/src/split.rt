@@ -2,8 +2,8 @@
 ghost use Rattle.std.specs.Prelude.{◌≡◌, ◌≤◌, ◌<◌, ◌+◌, length, map, IfOk};
 ghost use Rattle.vo_spec.specs.Parts.{leaf, inner};
 ghost use Rattle.vo_spec.specs.Fits.{most_in_node};
-ghost use Rattle.btree.specs.Nodes.{contents_of, listed, made, IsGrown};
-ghost use Rattle.btree.specs.Placing.{split as split_of, divided, CanDivide, AreCut};
+ghost use Rattle.btree.specs.Nodes.{contents_of, parts_from, new_kid, IsGrown};
+ghost use Rattle.btree.specs.Placing.{split as split_of, divide_at, CanDivide, AreCut};
 ghost use Rattle.btree.specs.Shapes.{size_of, IsLinked};
 
 use crate::contents::fill_of;
@@ -37,7 +37,7 @@ pub fn divide<N: TreeNode>(
     requires two { CanDivide at (contents_of N.Key.key N.entry N.kid contents) }
     requires first { at ≤ most_in_node }
     requires last { size_of (contents_of N.Key.key N.entry N.kid contents) ≤ at + most_in_node }
-    ensures { IfOk result (λ siblings. IsGrown N.family N.Key.key N.kid siblings (divided N.family at (contents_of N.Key.key N.entry N.kid contents))) }
+    ensures { IfOk result (λ siblings. IsGrown N.family N.Key.key N.kid siblings (divide_at N.family at (contents_of N.Key.key N.entry N.kid contents))) }
 {
     match contents {
         Contents::Leaf(entries) => divide_leaf::<N>(alloc, entries, at),
@@ -56,7 +56,7 @@ fn divide_leaf<N: TreeNode>(
     requires within { at < length entries.items }
     requires first { at ≤ most_in_node }
     requires last { length entries.items ≤ at + most_in_node }
-    ensures { IfOk result (λ siblings. IsGrown N.family N.Key.key N.kid siblings (divided N.family at (leaf (map N.entry entries.items)))) }
+    ensures { IfOk result (λ siblings. IsGrown N.family N.Key.key N.kid siblings (divide_at N.family at (leaf (map N.entry entries.items)))) }
 {
     let mut left = entries;
     let right = left.split_off(at)?;
@@ -78,7 +78,7 @@ fn divide_inner<N: TreeNode>(
     requires last { length children.items ≤ at + most_in_node }
     requires between { length separators.items + 1 ≡ length children.items }
     ensures { IfOk result (λ siblings. IsGrown N.family N.Key.key N.kid siblings
-        (divided N.family at (inner (map N.Key.key separators.items) (listed (map N.kid children.items))))) }
+        (divide_at N.family at (inner (map N.Key.key separators.items) (parts_from (map N.kid children.items))))) }
 {
     let halves = cut(separators, children, at)?;
     let left = close_inner(alloc, halves.before, halves.left)?;
@@ -94,7 +94,7 @@ fn close_inner<N: TreeNode>(
     requires least { 2 ≤ length children.items }
     requires most { length children.items ≤ most_in_node }
     requires between { length separators.items + 1 ≡ length children.items }
-    ensures { IfOk result (λ node. N.kid node ≡ made N.family (inner (map N.Key.key separators.items) (listed (map N.kid children.items)))) }
+    ensures { IfOk result (λ node. N.kid node ≡ new_kid N.family (inner (map N.Key.key separators.items) (parts_from (map N.kid children.items)))) }
 {
     N::close(
         alloc,

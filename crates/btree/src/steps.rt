@@ -3,7 +3,8 @@ ghost use Rattle.std.specs.Prelude.{◌≡◌, ◌≤◌, ◌<◌, ◌+◌, fals
 ghost use Rattle.std.specs.List.{position_or_len};
 ghost use Rattle.vo_spec.specs.Parts.{leaf, inner};
 ghost use Rattle.vo_spec.specs.Values.{key_lt as is_less};
-ghost use Rattle.btree.specs.Nodes.{listed};
+ghost use Rattle.btree.specs.Nodes.{parts_from};
+ghost use Rattle.btree.specs.Shapes.{size_of};
 ghost use Rattle.btree.specs.Steps.{sibling_of as sibling_number, size_if_alike as alike_size, count_remaining, remaining_by, opens_sibling_by};
 
 use crate::keyed::{Keyed, has_key, position_above};
@@ -38,6 +39,7 @@ pub fn removal_step<N: TreeNode>(separators: &[N::Key], children: &[N], key: &[u
     ensures within { result.child ≤ length separators.now }
     ensures opens_sibling { (child : N) → result.child < length children.now → child ≡ get_or children.now result.child child
         → result.opens_sibling ≡ opens_sibling_by N.family key.now (N.kid child).1 }
+    ensures beyond { length children.now ≤ result.child → result.opens_sibling ≡ false }
 {
     let child = position_above(separators, key);
     let opens_sibling = child < children.len()
@@ -48,10 +50,25 @@ pub fn removal_step<N: TreeNode>(separators: &[N::Key], children: &[N], key: &[u
     }
 }
 
-/// Whether a removal leaves the node underfull.
+/// How many entries or children a node has.
+fn fill_of<N: TreeNode>(tree: &N::Tree) -> usize
+    ensures { result ≡ size_of (N.seen tree.now) }
+{
+    match N::open(tree) {
+        NodeView::Stub(_) => 0,
+        NodeView::Leaf(entries) => entries.len(),
+        NodeView::Inner { children, .. } => children.len(),
+    }
+}
+
+/// Whether a removal leaves the node underfull. One that has more than it needs loses one at most, so
+/// that nothing below it has to be looked at.
 fn is_left_underfull<N: TreeNode>(tree: &N::Tree, key: &[u8]) -> bool
     ensures { result ≡ opens_sibling_by N.family key.now (N.seen tree.now) }
 {
+    if fill_of::<N>(tree) > MIN_FILL {
+        return false;
+    }
     match remaining::<N>(tree, key) {
         Ok(left) => left < MIN_FILL,
         Err(_) => false,
@@ -90,7 +107,7 @@ fn remaining_children<N: TreeNode>(
     children: &[N],
     key: &[u8],
 ) -> Result<usize, UpdateFault>
-    ensures { result ≡ remaining_by N.family key.now (inner (map N.Key.key separators.now) (listed (map N.kid children.now))) }
+    ensures { result ≡ remaining_by N.family key.now (inner (map N.Key.key separators.now) (parts_from (map N.kid children.now))) }
 {
     let place = position_above(separators, key);
     if place >= children.len() {
@@ -134,7 +151,7 @@ pub fn sibling_of(place: usize) -> usize
 }
 
 /// How many entries or children the sibling has, if it is of the child's kind.
-#[tactic(auto, using(crate::proofs::Listed::count_listed))]
+#[tactic(auto, using(crate::proofs::Listed::count_parts))]
 fn size_if_alike<N: TreeNode>(child: &N::Tree, sibling: &N::Tree) -> Option<usize>
     ensures { result ≡ alike_size (N.seen child.now) (N.seen sibling.now) }
 {

@@ -2,7 +2,7 @@
 use Rattle.std.specs.Prelude.{ℕ, List, map}
 use Rattle.vo_spec.specs.Parts.{stub, leaf, inner}
 use Rattle.btree.specs.declared.node.Contents.{Contents}
-use Rattle.btree.specs.Nodes.{listed, contents_of}
+use Rattle.btree.specs.Nodes.{parts_from, contents_of}
 use Rattle.counted_trees.specs.Counts.{PlainEntry, PlainSubtree, CountedTree, kid}
 use Rattle.counted_trees.specs.declared.entry.Entry.{Entry}
 use Rattle.counted_trees.specs.declared.entry.NumberKey.{NumberKey}
@@ -18,7 +18,7 @@ entry_of e = (e.key.bytes, e.value)
 abbrev pub tree_of : Node → CountedTree
 tree_of (Stub d) = stub d
 tree_of (Leaf es) = leaf (map entry_of es.items)
-tree_of (Inner separators children) = inner (map key_of separators.items) (listed (map kid children.items))
+tree_of (Inner separators children) = inner (map key_of separators.items) (parts_from (map kid children.items))
 
 -- what a node is to have
 abbrev pub counted_contents : Contents NumberKey Entry PlainSubtree → CountedTree

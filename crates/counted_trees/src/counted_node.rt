@@ -1,6 +1,6 @@
 //! Counted trees as trees that the work on trees is done on.
 ghost use Rattle.std.specs.Prelude.{◌≡◌, ℕ, map, IfOk};
-ghost use Rattle.btree.specs.Nodes.{listed, made};
+ghost use Rattle.btree.specs.Nodes.{parts_from, new_kid};
 ghost use Rattle.btree.specs.Shapes.{AreShaped, IsWithin};
 ghost use Rattle.counted_trees.specs.Counts.{PlainEntry, counted_family, count_in, kid};
 ghost use Rattle.counted_trees.specs.Views.{counted_contents, entry_of, tree_of};
@@ -52,7 +52,7 @@ impl TreeNode for Subtree {
         contents: Contents<NumberKey, Entry, Subtree>,
     ) -> Result<Subtree, AllocError>
         requires { IsWithin 2 (counted_contents contents) }
-        ensures { IfOk result (λ node. kid node ≡ made counted_family (counted_contents contents)) }
+        ensures { IfOk result (λ node. kid node ≡ new_kid counted_family (counted_contents contents)) }
     {
         match contents {
             Contents::Leaf(entries) => {
@@ -81,8 +81,8 @@ impl TreeNode for Subtree {
 
 /// How many entries are below these children, or the most that a count holds where there are more.
 fn count_below(children: &[Subtree]) -> u64
-    ensures value { result ≡ count_in (listed (map kid children.now)) }
-    ensures shaped { AreShaped (listed (map kid children.now)) }
+    ensures value { result ≡ count_in (parts_from (map kid children.now)) }
+    ensures shaped { AreShaped (parts_from (map kid children.now)) }
 {
     let mut count = 0u64;
     for child in children {

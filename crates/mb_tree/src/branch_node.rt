@@ -3,7 +3,7 @@ ghost use Rattle.std.specs.Prelude.{◌≡◌, IfOk};
 ghost use Rattle.vo_spec.specs.declared.cells.PartEntry.{PartEntry as PlainEntry};
 ghost use Rattle.vo_spec.specs.Cells.{whole_entry};
 ghost use Rattle.vo_spec.specs.Trees.{row_family};
-ghost use Rattle.btree.specs.Nodes.{made};
+ghost use Rattle.btree.specs.Nodes.{new_kid};
 ghost use Rattle.btree.specs.Shapes.{IsWithin};
 ghost use Rattle.mb_tree.specs.Whole.{whole_contents, whole_kid};
 
@@ -88,7 +88,7 @@ impl TreeNode for Branch {
         contents: Contents<TreeKey, TreeEntry, Branch>,
     ) -> Result<Branch, AllocError>
         requires { IsWithin 2 (whole_contents contents) }
-        ensures { IfOk result (λ node. whole_kid node ≡ made row_family (whole_contents contents)) }
+        ensures { IfOk result (λ node. whole_kid node ≡ new_kid row_family (whole_contents contents)) }
     {
         match contents {
             Contents::Leaf(entries) => Branch::leaf(alloc, entries),

@@ -2,7 +2,7 @@
 ghost use Rattle.std.specs.Prelude.{◌≡◌, IfOk};
 ghost use Rattle.vo_spec.specs.declared.cells.PartEntry.{PartEntry as PlainEntry};
 ghost use Rattle.vo_spec.specs.Trees.{row_family};
-ghost use Rattle.btree.specs.Nodes.{made};
+ghost use Rattle.btree.specs.Nodes.{new_kid};
 ghost use Rattle.btree.specs.Shapes.{IsWithin};
 ghost use Rattle.mb_tree.specs.declared.parts.PartTree.TheVariants.{Leaf, Inner};
 ghost use Rattle.mb_tree.specs.View.{part_of, parts_of, part_contents, part_kid};
@@ -110,7 +110,7 @@ impl<'b> TreeNode for PartTree<'b> {
         contents: Contents<KeyPart<'b>, PartEntry<'b>, PartTree<'b>>,
     ) -> Result<PartTree<'b>, AllocError>
         requires { IsWithin 2 (part_contents contents) }
-        ensures { IfOk result (λ node. part_kid node ≡ made row_family (part_contents contents.entry)) }
+        ensures { IfOk result (λ node. part_kid node ≡ new_kid row_family (part_contents contents.entry)) }
     {
         match contents {
             Contents::Leaf(entries) => Ok(PartTree::Leaf(List::from_vec(entries))),

@@ -16,14 +16,14 @@ use Rattle.vo_spec.specs.Inserts.{inserted}
 use Rattle.vo_spec.specs.Removes.{removed, replaced, set_row}
 use Rattle.btree.specs.Answers.{Answers}
 use Rattle.btree.specs.Finding.{found}
-use Rattle.btree.specs.Nodes.{Kid, IsMade}
+use Rattle.btree.specs.Nodes.{Kid, IsNewKid}
 use Rattle.btree.specs.Shapes.{IsShaped, AreShaped}
 use Rattle.btree.proofs.FoundEntries.{found_edited}
 use Rattle.mb_tree.specs.declared.parts.PartTree.{PartTree}
 use Rattle.mb_tree.specs.Whole.{whole_kid}
 use Rattle.mb_tree.specs.View.{part_of, part_kid}
 use Rattle.mb_update.specs.declared.ops.SetCell.{SetCell}
-use Rattle.mb_update.specs.Changing.{ChangesTo, exchanged}
+use Rattle.mb_update.specs.Changing.{ChangesTo, set_entry}
 use Rattle.mb_update.specs.Sets.{change_of, FitsSets}
 use Rattle.mb_update.proofs.RowLimits.{inserted_fits, removed_fits, replaced_fits}
 
@@ -60,7 +60,7 @@ pub whole_change : (root : RowTree) (r : Result RowTree UpdateFault) → Answers
 whole_change root (Ok t) h = ap Ok (sym h)
 whole_change root (Err fault) h = absurd h
 
-pub whole_made : (root : RowTree) (r : Result RowTree UpdateFault) → Answers (IsMade row_family whole_kid) (Ok root) r → r ≡ Ok root
+pub whole_made : (root : RowTree) (r : Result RowTree UpdateFault) → Answers (IsNewKid row_family whole_kid) (Ok root) r → r ≡ Ok root
 whole_made root (Ok t) h = ap Ok (sym (ap (λ (k : Kid PartEntry (Unit {0})). k.1) h))
 whole_made root (Err fault) h = absurd h
 
@@ -71,28 +71,28 @@ part_change (Ok node) (Ok t) h = ap Ok (sym h)
 part_change (Ok node) (Err fault) h = absurd h
 part_change (Err fault) r h = fault_over (λ node t. (part_kid node).1 ≡ t) part_of fault r r h (λ f e. e)
 
-pub part_made : (result : Result PartTree UpdateFault) (r : Result RowTree UpdateFault) → Answers (IsMade row_family part_kid) result r → ChangesTo part_of result r
+pub part_made : (result : Result PartTree UpdateFault) (r : Result RowTree UpdateFault) → Answers (IsNewKid row_family part_kid) result r → ChangesTo part_of result r
 part_made (Ok node) (Ok t) h = ap Ok (sym (ap (λ (k : Kid PartEntry (Unit {0})). k.1) h))
 part_made (Ok node) (Err fault) h = absurd h
-part_made (Err fault) r h = fault_over (IsMade row_family part_kid) part_of fault r r h (λ f e. e)
+part_made (Err fault) r h = fault_over (IsNewKid row_family part_kid) part_of fault r r h (λ f e. e)
 
 -- A replacement is a look-up and an exchange.
 
-pub cells_replaced : (key : List ℕ) (changes : List CellChange) (t : RowTree) (e f : PartEntry) → found row_family key t ≡ Ok e → set_row changes e ≡ Ok f → replaced key changes t ≡ exchanged key f t
+pub cells_replaced : (key : List ℕ) (changes : List CellChange) (t : RowTree) (e f : PartEntry) → found row_family key t ≡ Ok e → set_row changes e ≡ Ok f → replaced key changes t ≡ set_entry key f t
 cells_replaced key changes t e f finds sets =
     found_edited row_family (set_row changes) key t
-    ∙ ap (λ r. and_then (λ x. and_then (λ y. exchanged key y t) (set_row changes x)) r) finds
-    ∙ ap (and_then (λ y. exchanged key y t)) sets
+    ∙ ap (λ r. and_then (λ x. and_then (λ y. set_entry key y t) (set_row changes x)) r) finds
+    ∙ ap (and_then (λ y. set_entry key y t)) sets
 
 pub none_replaced : (key : List ℕ) (changes : List CellChange) (t : RowTree) (fault : UpdateFault) → found row_family key t ≡ Err fault → replaced key changes t ≡ Err fault
 none_replaced key changes t fault fails =
-    found_edited row_family (set_row changes) key t ∙ ap (λ r. and_then (λ x. and_then (λ y. exchanged key y t) (set_row changes x)) r) fails
+    found_edited row_family (set_row changes) key t ∙ ap (λ r. and_then (λ x. and_then (λ y. set_entry key y t) (set_row changes x)) r) fails
 
 pub row_not_set : (key : List ℕ) (changes : List CellChange) (t : RowTree) (e : PartEntry) (fault : UpdateFault) → found row_family key t ≡ Ok e → set_row changes e ≡ Err fault → replaced key changes t ≡ Err fault
 row_not_set key changes t e fault finds fails =
     found_edited row_family (set_row changes) key t
-    ∙ ap (λ r. and_then (λ x. and_then (λ y. exchanged key y t) (set_row changes x)) r) finds
-    ∙ ap (and_then (λ y. exchanged key y t)) fails
+    ∙ ap (λ r. and_then (λ x. and_then (λ y. set_entry key y t) (set_row changes x)) r) finds
+    ∙ ap (and_then (λ y. set_entry key y t)) fails
 
 -- Changes of parts keep the limits of formats.
 

@@ -14,7 +14,7 @@ use Rattle.vo_spec.specs.Inserts.{inserted}
 use Rattle.vo_spec.specs.Removes.{set_cells, set_row, removed, replaced}
 use Rattle.vo_spec.specs.Standing.{row_in, shown_values}
 use Rattle.mb_tree.specs.Standing.{IsWhole}
-use Rattle.mb_update.specs.Changing.{exchanged}
+use Rattle.mb_update.specs.Changing.{set_entry}
 use Rattle.mb_update.specs.Sets.{changed_by}
 use Rattle.btree.proofs.OkResults.{ok_same}
 use Rattle.btree.proofs.InsertedEntries.{puts_count, puts_fixed, inserted_puts}
@@ -89,7 +89,7 @@ replaced_whole key changes t u n w h =
     (omega (arith, w.counted))
 
 -- another row in the place of one
-pub exchanged_whole : (key : List ℕ) (row : Row) (t u : RowTree) (n : ℕ) → IsWhole t n → exchanged key (whole_entry row) t ≡ Ok u → IsWhole u n
+pub exchanged_whole : (key : List ℕ) (row : Row) (t u : RowTree) (n : ℕ) → IsWhole t n → set_entry key (whole_entry row) t ≡ Ok u → IsWhole u n
 exchanged_whole key row t u n w h =
     let edit : PartEntry → Result PartEntry UpdateFault = λ _. Ok (whole_entry row) in
     let edits = edited_edits row_family edit key t u h in

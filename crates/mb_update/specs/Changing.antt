@@ -20,5 +20,5 @@ abbrev pub GoesOnPruning : Result RowTree UpdateFault → Result RowTree UpdateF
 GoesOnPruning = Agrees Prunes
 
 -- the tree with this in the place of the entry of the key
-abbrev pub exchanged : List ℕ → PartEntry → RowTree → Result RowTree UpdateFault
-exchanged key entry = edited_by row_family (λ _. Ok entry) key
+abbrev pub set_entry : List ℕ → PartEntry → RowTree → Result RowTree UpdateFault
+set_entry key entry = edited_by row_family (λ _. Ok entry) key

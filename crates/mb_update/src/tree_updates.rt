@@ -5,7 +5,7 @@ ghost use Rattle.vo_spec.specs.Fits.{FitsRow};
 ghost use Rattle.vo_spec.specs.Inserts.{inserted};
 ghost use Rattle.vo_spec.specs.Parts.{entries};
 ghost use Rattle.vo_spec.specs.Removes.{removed, replaced};
-ghost use Rattle.mb_update.specs.Changing.{ChangesTo, exchanged};
+ghost use Rattle.mb_update.specs.Changing.{ChangesTo, set_entry};
 ghost use Rattle.mb_update.specs.Sets.{change_of, FitsSets};
 
 use crate::ops::SetCell;
@@ -59,7 +59,7 @@ fn replace_cells(
 
 /// The tree with this in the place of the entry of the key, which it has.
 fn set_entry(alloc: Global, tree: &Tree, key: &[u8], entry: TreeEntry) -> Result<Tree, UpdateFault>
-    ensures { ChangesTo (λ t. t) result (exchanged key.now (whole_entry entry) tree.now) }
+    ensures { ChangesTo (λ t. t) result (set_entry key.now (whole_entry entry) tree.now) }
 {
     let rows = tree.row_count();
     match set::<Branch>(alloc, tree.root(), key, entry) {

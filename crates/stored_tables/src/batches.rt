@@ -12,7 +12,7 @@ ghost use Rattle.vo_laws.proofs.CommandLaws.{FitTables};
 ghost use Rattle.stored_tables.specs.Working.{work_from};
 ghost use Rattle.stored_tables.specs.Plain.{GivesPlain};
 
-use crate::sharing::spliced;
+use crate::sharing::replace_range;
 use crate::table::StoredTable;
 use crate::working::worked;
 use std::alloc::{AllocError, Global};
@@ -29,7 +29,7 @@ pub(crate) fn shared(
     ensures same { IfOk result (λ new. stored_in new.items ≡ stored_in tables.now) }
     ensures standing { IfOk result (λ new. IsStanding (stored_in new.items)) }
 {
-    Ok(spliced(alloc, tables, 0, 0, &[])?)
+    Ok(replace_range(alloc, tables, 0, 0, &[])?)
 }
 
 /// The tables after a list of commands.

@@ -5,7 +5,7 @@ ghost use Rattle.stored_tables.specs.View.{stored_in, stored_of};
 ghost use Rattle.stored_tables.specs.Working.{made_stored};
 
 use crate::placing::place_for;
-use crate::sharing::spliced;
+use crate::sharing::replace_range;
 use crate::table::StoredTable;
 use mb_tree::Tree;
 use std::alloc::{AllocError, Global};
@@ -44,7 +44,7 @@ pub(crate) fn with_table(
 {
     let at = place_for(tables, &table);
     let table = [Rc::new(alloc, table)?];
-    Ok(spliced(alloc, tables, at, at, &table)?)
+    Ok(replace_range(alloc, tables, at, at, &table)?)
 }
 
 /// The tables but for those of this name.
@@ -65,7 +65,7 @@ pub(crate) fn without_table(
 }
 
 /// The tables with another in the place of one.
-pub(crate) fn exchanged(
+pub(crate) fn replace_table(
     alloc: Global,
     tables: &[Rc<StoredTable>],
     at: usize,
@@ -76,5 +76,5 @@ pub(crate) fn exchanged(
         ≡ take at (stored_in tables.now) ++ stored_of table ∷ drop (at + 1) (stored_in tables.now)) }
 {
     let table = [Rc::new(alloc, table)?];
-    Ok(spliced(alloc, tables, at, at + 1, &table)?)
+    Ok(replace_range(alloc, tables, at, at + 1, &table)?)
 }

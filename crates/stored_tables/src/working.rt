@@ -9,7 +9,7 @@ ghost use Rattle.stored_tables.specs.View.{stored_in};
 ghost use Rattle.stored_tables.specs.Standing.{IsStanding};
 ghost use Rattle.stored_tables.specs.Ready.{changes_rows};
 
-use crate::changing::{exchanged, new_table, with_table, without_table};
+use crate::changing::{replace_table, new_table, with_table, without_table};
 use crate::placing::place_of;
 use crate::refusing::fault_of;
 use crate::row_changes::changed_table;
@@ -48,7 +48,7 @@ fn changed_rows(
     match place_of(tables, command_name(command)) {
         None => unreachable!(),
         Some(place) => match changed_table(alloc, place.table, command) {
-            Ok(table) => Ok(exchanged(alloc, tables, place.at, table)?),
+            Ok(table) => Ok(replace_table(alloc, tables, place.at, table)?),
             Err(fault) => Err(fault),
         },
     }

@@ -4,8 +4,8 @@ use Rattle.std.specs.List.{position_or_len}
 use Rattle.vo_spec.specs.Values.{key_lt}
 use Rattle.vo_spec.specs.Parts.{Part, levels, levels_in}
 use Rattle.vo_spec.specs.Inserts.{grow}
-use Rattle.btree.specs.Nodes.{listed, IsGrown}
-use Rattle.btree.specs.Placing.{split, spliced, node_of}
+use Rattle.btree.specs.Nodes.{parts_from, IsGrown}
+use Rattle.btree.specs.Placing.{split, splice, node_of}
 use Rattle.btree.proofs.Answered.{answered, answers, fault_on}
 use Rattle.btree.proofs.Descents.{place_keys, inner_grows, inner_grow_fails}
 use Rattle.btree.proofs.Insertions.{child, put_linked, put_most}
@@ -15,14 +15,14 @@ use Rattle.btree.proofs.insertion.+insert.Goals as goal
 pub insert_below-insert_in_child-requires : goal.insert_below-insert_in_child-requires
 insert_below-insert_in_child-requires g t c κs within =
     let o = opened g.N.Key.Keyed.key g.N.TreeNode.kid c.in-Inner.separators.now c.in-Inner.children.now (g.N.TreeNode.seen c.args.tree.now) c.in-Inner.ensures c.requires in
-    let falls : levels (g.N.TreeNode.seen c.args.tree.now) ≡ levels_in (listed (map g.N.TreeNode.kid c.in-Inner.children.now)) + 1 = o.falls in
+    let falls : levels (g.N.TreeNode.seen c.args.tree.now) ≡ levels_in (parts_from (map g.N.TreeNode.kid c.in-Inner.children.now)) + 1 = o.falls in
     (omega arith, (within.0, (within.1.0, (within.1.1.0, (within.1.1.1, (o.least, (o.most, (o.between, o.shaped))))))))
 
 pub insert_in_child-insert_below-requires : goal.insert_in_child-insert_below-requires
 insert_in_child-insert_below-requires g t c κs within =
     let at : c.position_above-place.result < length c.args.children.now = omega (arith, c.position_above-place.ensures.within, c.requires.between) in
     let d = child g.N.TreeNode.kid c.args.children.now c.position_above-place.result c.index-children-place.result (g.N.TreeNode.seen c.tree.result.now) at c.index-children-place.is c.tree.ensures c.requires.shaped in
-    let falls : levels (g.N.TreeNode.seen c.tree.result.now) ≤ levels_in (listed (map g.N.TreeNode.kid c.args.children.now)) = d.falls in
+    let falls : levels (g.N.TreeNode.seen c.tree.result.now) ≤ levels_in (parts_from (map g.N.TreeNode.kid c.args.children.now)) = d.falls in
     (omega arith, (within.0, (within.1.0, (within.1.1.0, (within.1.1.1, d.shaped)))))
 
 pub insert_in_child-split-requires-clause-linked : goal.insert_in_child-split-requires-clause-linked
@@ -55,7 +55,7 @@ insert_in_child-returns-in_ok-split-in-Ok g t c =
     let e = g.N.TreeNode.entry c.args.entry in
     let at = c.position_above-place.ensures.place ∙ place_keys g.N.Key.Keyed.key c.key_bytes.result.now c.args.separators.now ∙ ap (λ k. position_or_len (key_lt k) ss) (c.key_bytes.ensures ∙ g.met.N.TreeNode.entry_key c.args.entry) in
     let P : Part _ _ → Type 0 = λ x. R c.in_ok-split-in-Ok.field-0 (split family x) in
-    answers R c.in_ok-split-in-Ok.field-0 (split family (node_of (spliced family place place ss ks a.value))) _
+    answers R c.in_ok-split-in-Ok.field-0 (split family (node_of (splice family place place ss ks a.value))) _
     (inner_grows family e ss ks place between at (g.N.TreeNode.kid c.index-children-place.result) a.value d.at (ap (grow family e) (sym c.tree.ensures) ∙ a.is))
     (subst P (c.in_ok-contents-in-Ok.ensures a.value a.holds) c.in_ok-split-in-Ok.ensures)
 

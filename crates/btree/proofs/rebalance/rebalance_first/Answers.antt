@@ -2,7 +2,7 @@ use Rattle.std.proofs.Common.{map, Ok, ap, sym, arith}
 use Rattle.std.proofs.lemmas.List.{length-map}
 use Rattle.vo_spec.specs.Inserts.{result_map}
 use Rattle.btree.specs.Nodes.{contents_of, IsContents, IsGrown}
-use Rattle.btree.specs.Placing.{node_of, spliced}
+use Rattle.btree.specs.Placing.{node_of, splice}
 use Rattle.btree.proofs.Answered.{answered, answers, fault_on}
 use Rattle.btree.proofs.Insertions.{child}
 use Rattle.btree.proofs.Rebalances.{right_borrowed, pair_within}
@@ -21,7 +21,7 @@ returns-in_ok-put_siblings-in-Ok-clause-value g c =
     let a = answered (IsGrown family g.N.Key.Keyed.key g.N.TreeNode.kid) c.in-Ok.siblings _ c.in-Ok.ensures in
     let e = right_borrowed family g.N.Key.Keyed.key g.N.TreeNode.kid c.args.separators.now c.args.children.now c.index-children-1.result c.index-separators-0.result t (g.N.TreeNode.seen c.tree.result.now) (Ok a.value)
     (omega (arith, c.requires.least, c.requires.between)) (omega (arith, c.requires.least)) c.index-children-1.is c.index-separators-0.is c.tree.ensures a.is in
-    answers (IsContents g.N.Key.Keyed.key g.N.TreeNode.entry g.N.TreeNode.kid) c.in_ok-put_siblings-in-Ok.field-0 (node_of (spliced family 0 1 ss ks a.value)) _
+    answers (IsContents g.N.Key.Keyed.key g.N.TreeNode.entry g.N.TreeNode.kid) c.in_ok-put_siblings-in-Ok.field-0 (node_of (splice family 0 1 ss ks a.value)) _
     (ap (result_map node_of) e) (sym (c.in_ok-put_siblings-in-Ok.ensures a.value a.holds))
 
 pub returns-in_ok-put_siblings-in-Ok-clause-loose : goal.returns-in_ok-put_siblings-in-Ok-clause-loose

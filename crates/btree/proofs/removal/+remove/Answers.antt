@@ -4,7 +4,7 @@ use Rattle.vo_spec.specs.declared.trees.UpdateFault.{UpdateFault}
 use Rattle.vo_spec.specs.Parts.{Part, levels, levels_in}
 use Rattle.vo_spec.specs.Removes.{shrink}
 use Rattle.btree.specs.Answers.{Answers}
-use Rattle.btree.specs.Nodes.{listed, contents_of, IsContents}
+use Rattle.btree.specs.Nodes.{parts_from, contents_of, IsContents}
 use Rattle.btree.proofs.Answered.{answered, fault_on}
 use Rattle.btree.proofs.Descents.{place_keys}
 use Rattle.btree.proofs.Insertions.{child}
@@ -15,14 +15,14 @@ use Rattle.btree.proofs.removal.+remove.Goals as goal
 pub remove_below-remove_in_child-requires : goal.remove_below-remove_in_child-requires
 remove_below-remove_in_child-requires g t c κs within =
     let o = opened g.N.Key.Keyed.key g.N.TreeNode.kid c.in-Inner.separators.now c.in-Inner.children.now (g.N.TreeNode.seen c.args.tree.now) c.in-Inner.ensures c.requires in
-    let falls : levels (g.N.TreeNode.seen c.args.tree.now) ≡ levels_in (listed (map g.N.TreeNode.kid c.in-Inner.children.now)) + 1 = o.falls in
+    let falls : levels (g.N.TreeNode.seen c.args.tree.now) ≡ levels_in (parts_from (map g.N.TreeNode.kid c.in-Inner.children.now)) + 1 = o.falls in
     (omega arith, (within.0, (within.1.0, (within.1.1.0, (within.1.1.1, (o.least, (o.most, (o.between, o.shaped))))))))
 
 pub remove_in_child-remove_below-requires : goal.remove_in_child-remove_below-requires
 remove_in_child-remove_below-requires g t c κs within =
     let at : c.position_above-place.result < length c.args.children.now = omega (arith, c.position_above-place.ensures.within, c.requires.between) in
     let d = child g.N.TreeNode.kid c.args.children.now c.position_above-place.result c.index-children-place.result (g.N.TreeNode.seen c.tree.result.now) at c.index-children-place.is c.tree.ensures c.requires.shaped in
-    let falls : levels (g.N.TreeNode.seen c.tree.result.now) ≤ levels_in (listed (map g.N.TreeNode.kid c.args.children.now)) = d.falls in
+    let falls : levels (g.N.TreeNode.seen c.tree.result.now) ≤ levels_in (parts_from (map g.N.TreeNode.kid c.args.children.now)) = d.falls in
     (omega arith, (within.0, (within.1.0, (within.1.1.0, (within.1.1.1, d.shaped)))))
 
 pub remove_in_child-returns-in-Ok-clause-value : goal.remove_in_child-returns-in-Ok-clause-value

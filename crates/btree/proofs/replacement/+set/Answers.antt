@@ -3,7 +3,7 @@ use Rattle.std.proofs.lemmas.List.{length-take-le}
 use Rattle.vo_spec.specs.declared.trees.UpdateFault.{UpdateFault}
 use Rattle.vo_spec.specs.Parts.{levels, levels_in, inner}
 use Rattle.vo_spec.specs.Removes.{edited_by}
-use Rattle.btree.specs.Nodes.{listed, made, IsMade}
+use Rattle.btree.specs.Nodes.{parts_from, new_kid, IsNewKid}
 use Rattle.btree.proofs.Answered.{answered, answers, fault_on}
 use Rattle.btree.proofs.Descents.{place_keys, inner_edited, inner_edit_fails}
 use Rattle.btree.proofs.Divisions.{inner_within}
@@ -14,14 +14,14 @@ use Rattle.btree.proofs.replacement.+set.Goals as goal
 pub set-set_in_child-requires : goal.set-set_in_child-requires
 set-set_in_child-requires g t c κs within =
     let o = opened g.N.Key.Keyed.key g.N.TreeNode.kid c.in-Inner.separators.now c.in-Inner.children.now (g.N.TreeNode.seen c.args.tree.now) c.in-Inner.ensures c.requires in
-    let falls : levels (g.N.TreeNode.seen c.args.tree.now) ≡ levels_in (listed (map g.N.TreeNode.kid c.in-Inner.children.now)) + 1 = o.falls in
+    let falls : levels (g.N.TreeNode.seen c.args.tree.now) ≡ levels_in (parts_from (map g.N.TreeNode.kid c.in-Inner.children.now)) + 1 = o.falls in
     (omega arith, (within.0, (within.1.0, (within.1.1.0, (within.1.1.1, (o.least, (o.most, (o.between, o.shaped))))))))
 
 pub set_in_child-set-requires : goal.set_in_child-set-requires
 set_in_child-set-requires g t c κs within =
     let at : c.position_above-place.result < length c.args.children.now = omega (arith, c.position_above-place.ensures.within, c.requires.between) in
     let d = child g.N.TreeNode.kid c.args.children.now c.position_above-place.result c.index-children-place.result (g.N.TreeNode.seen c.tree.result.now) at c.index-children-place.is c.tree.ensures c.requires.shaped in
-    let falls : levels (g.N.TreeNode.seen c.tree.result.now) ≤ levels_in (listed (map g.N.TreeNode.kid c.args.children.now)) = d.falls in
+    let falls : levels (g.N.TreeNode.seen c.tree.result.now) ≤ levels_in (parts_from (map g.N.TreeNode.kid c.args.children.now)) = d.falls in
     (omega arith, (within.0, (within.1.0, (within.1.1.0, (within.1.1.1, d.shaped)))))
 
 pub set_in_child-close-requires : goal.set_in_child-close-requires
@@ -41,7 +41,7 @@ set_in_child-returns-in_ok-close-in-Ok g t c =
     let ss = map g.N.Key.Keyed.key c.args.separators.now in
     let ks = map g.N.TreeNode.kid c.args.children.now in
     let place = c.position_above-place.result in
-    let R = IsMade family g.N.TreeNode.kid in
+    let R = IsNewKid family g.N.TreeNode.kid in
     let edit : g.N.TreeNode.Plain → Result g.N.TreeNode.Plain UpdateFault = λ _. Ok (g.N.TreeNode.entry c.args.entry) in
     let a = answered R c.in-Ok.child _ c.in-Ok.ensures in
     let within : place < length c.args.children.now = omega (arith, c.position_above-place.ensures.within, c.requires.between) in
@@ -49,8 +49,8 @@ set_in_child-returns-in_ok-close-in-Ok g t c =
     let at = c.position_above-place.ensures.place ∙ place_keys g.N.Key.Keyed.key c.args.key.now c.args.separators.now in
     let edited = inner_edited family edit c.args.key.now ss ks place at (g.N.TreeNode.kid c.index-children-place.result) d.within d.at a.value (ap (edited_by family edit c.args.key.now) (sym c.tree.ensures) ∙ a.is) in
     let children = ap (map g.N.TreeNode.kid) c.in_ok-children-in-Ok.ensures ∙ map_put g.N.TreeNode.kid c.args.children.now c.in-Ok.child place (place + 1) ∙ ap (λ k. take place ks ++ k ∷ drop (place + 1) ks) a.holds in
-    answers R c.in_ok-close-in-Ok.field-0 (inner ss (listed (take place ks ++ made family a.value ∷ drop (place + 1) ks))) _ edited
-    (c.in_ok-close-in-Ok.ensures ∙ ap (λ l. made family (inner (map g.N.Key.Keyed.key l) (listed (map g.N.TreeNode.kid c.in_ok-children-in-Ok.children.items)))) c.in_ok-separators-in-Ok.ensures ∙ ap (λ l. made family (inner ss (listed l))) children)
+    answers R c.in_ok-close-in-Ok.field-0 (inner ss (parts_from (take place ks ++ new_kid family a.value ∷ drop (place + 1) ks))) _ edited
+    (c.in_ok-close-in-Ok.ensures ∙ ap (λ l. new_kid family (inner (map g.N.Key.Keyed.key l) (parts_from (map g.N.TreeNode.kid c.in_ok-children-in-Ok.children.items)))) c.in_ok-separators-in-Ok.ensures ∙ ap (λ l. new_kid family (inner ss (parts_from l))) children)
 
 pub set_in_child-returns-in-Err : goal.set_in_child-returns-in-Err
 set_in_child-returns-in-Err g t c =
@@ -58,7 +58,7 @@ set_in_child-returns-in-Err g t c =
     let ss = map g.N.Key.Keyed.key c.args.separators.now in
     let ks = map g.N.TreeNode.kid c.args.children.now in
     let place = c.position_above-place.result in
-    let R = IsMade family g.N.TreeNode.kid in
+    let R = IsNewKid family g.N.TreeNode.kid in
     let edit : g.N.TreeNode.Plain → Result g.N.TreeNode.Plain UpdateFault = λ _. Ok (g.N.TreeNode.entry c.args.entry) in
     let within : place < length c.args.children.now = omega (arith, c.position_above-place.ensures.within, c.requires.between) in
     let d = child g.N.TreeNode.kid c.args.children.now place c.index-children-place.result (g.N.TreeNode.seen c.tree.result.now) within c.index-children-place.is c.tree.ensures c.requires.shaped in

@@ -1,6 +1,6 @@
 use Rattle.std.proofs.Common.{map, Ok}
 use Rattle.vo_spec.specs.Parts.{leaf}
-use Rattle.btree.specs.Nodes.{IsMade}
+use Rattle.btree.specs.Nodes.{IsNewKid}
 use Rattle.btree.proofs.Answered.{answers}
 use Rattle.btree.proofs.FirstPlaces.{none_to_edit, set_in_leaf}
 use Rattle.btree.proofs.replacement.set_in_leaf.Goals as goal
@@ -11,6 +11,6 @@ returns-then-place-entries g c =
 
 pub returns : goal.returns
 returns g c =
-    answers (IsMade g.N.TreeNode.family g.N.TreeNode.kid) c.in_ok-close.field-0 (leaf (map g.N.TreeNode.entry c.in_ok-entries.entries.items)) _
+    answers (IsNewKid g.N.TreeNode.family g.N.TreeNode.kid) c.in_ok-close.field-0 (leaf (map g.N.TreeNode.entry c.in_ok-entries.entries.items)) _
     (set_in_leaf g.N.TreeNode.family g.N.Entry.Keyed.key g.N.TreeNode.entry g.met.N.TreeNode.entry_key c.args.key.now c.args.entries.now c.position_of-place.result c.position_of-place.ensures.place c.args.entry c.in_ok-entries.entries.items c.if-place-entries.false c.in_ok-entries.ensures)
     c.in_ok-close.ensures

@@ -1,7 +1,7 @@
 use Rattle.std.proofs.Common.{◌≤◌, length, map, refl, ap, ◌∙◌, arith}
 use Rattle.std.proofs.lemmas.List.{length-map}
 use Rattle.vo_spec.specs.Parts.{levels, levels_in}
-use Rattle.btree.specs.Nodes.{listed}
+use Rattle.btree.specs.Nodes.{parts_from}
 use Rattle.btree.proofs.Descents.{place_keys}
 use Rattle.btree.proofs.Listed.{child_falls, kid_at}
 use Rattle.btree.proofs.RemainingSizes.{past_remains, child_counted, child_failed}
@@ -20,7 +20,7 @@ remaining_children-remaining-requires g t c κs within =
     let kid = g.N.TreeNode.kid in
     let ks = map kid c.args.children.now in
     let all = length-map c.args.children.now kid in
-    let same : levels (g.N.TreeNode.seen c.tree-child.result.now) ≤ levels_in (listed ks) =
+    let same : levels (g.N.TreeNode.seen c.tree-child.result.now) ≤ levels_in (parts_from ks) =
     let falls = child_falls ks c.position_above-place.result (kid c.index-children-place.result) (omega arith) (kid_at kid c.args.children.now c.position_above-place.result c.index-children-place.result c.if-place-children.false c.index-children-place.is) in
     omega (arith, ap levels c.tree-child.ensures, falls) in
     (omega arith, (within.0, (within.1.0, (within.1.1.0, within.1.1.1))))

@@ -24,14 +24,14 @@ changed_table-requires c =
     ready command stored c.in-Some.place.at s c.requires.rows c.requires.standing c.requires.fits c.requires.allowed
     (at_lent _ (command_name command) stored c.in-Some.place.at s c.command_name.ensures c.in-Some.ensures)
 
-pub returns-in_ok-exchanged-in-Ok : goal.returns-in_ok-exchanged-in-Ok
-returns-in_ok-exchanged-in-Ok c =
+pub returns-in_ok-replace_table-in-Ok : goal.returns-in_ok-replace_table-in-Ok
+returns-in_ok-replace_table-in-Ok c =
     let command = c.args.command.now in
     let stored = stored_in c.args.tables.now in
     let s = lent_stored c.in-Some.place.table in
     rows_changed command stored c.requires.rows
     ∙ table_changed (command_name command) command stored _ c.in-Some.place.at s _
-    (at_lent _ (command_name command) stored c.in-Some.place.at s c.command_name.ensures c.in-Some.ensures) c.in-Ok.ensures c.in_ok-exchanged-in-Ok.ensures
+    (at_lent _ (command_name command) stored c.in-Some.place.at s c.command_name.ensures c.in-Some.ensures) c.in-Ok.ensures c.in_ok-replace_table-in-Ok.ensures
 
 pub returns-in-Err : goal.returns-in-Err
 returns-in-Err c =

@@ -2,7 +2,7 @@ use Rattle.std.proofs.Common.{ap, ◌∙◌}
 use Rattle.std.proofs.lemmas.Result.{IfOk-weaker}
 use Rattle.vo_spec.specs.Cells.{whole_entry}
 use Rattle.vo_spec.specs.Trees.{row_family}
-use Rattle.btree.specs.Nodes.{made}
+use Rattle.btree.specs.Nodes.{new_kid}
 use Rattle.btree.proofs.Rebalances.{counts}
 use Rattle.mb_tree.specs.Whole.{whole_kid}
 use Rattle.mb_tree.proofs.OpenNodes.{whole_closed}
@@ -15,4 +15,4 @@ inner-requires c =
 
 pub returns-in-Inner : goal.returns-in-Inner
 returns-in-Inner c =
-    IfOk-weaker c.inner.result _ _ (λ node h. ap (made row_family) (h ∙ whole_closed c.args.contents c.in-Inner.separators c.in-Inner.children c.in-Inner.is)) c.inner.ensures
+    IfOk-weaker c.inner.result _ _ (λ node h. ap (new_kid row_family) (h ∙ whole_closed c.args.contents c.in-Inner.separators c.in-Inner.children c.in-Inner.is)) c.inner.ensures

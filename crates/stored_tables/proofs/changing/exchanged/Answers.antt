@@ -1,7 +1,0 @@
-use Rattle.std.proofs.Common.{◌+◌}
-use Rattle.stored_tables.proofs.ListLaws.{spliced_stored}
-use Rattle.stored_tables.proofs.changing.exchanged.Goals as goal
-
-pub returns : goal.returns
-returns c =
-    spliced_stored c.in_ok-spliced.field-0.items c.args.tables.now c.in_ok-new.field-0.value c.args.table c.args.at (c.args.at + 1) c.in_ok-spliced.ensures c.in_ok-new.ensures.ok

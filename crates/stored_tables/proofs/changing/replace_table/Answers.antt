@@ -1,0 +1,7 @@
+use Rattle.std.proofs.Common.{◌+◌}
+use Rattle.stored_tables.proofs.ListLaws.{spliced_stored}
+use Rattle.stored_tables.proofs.changing.replace_table.Goals as goal
+
+pub returns : goal.returns
+returns c =
+    spliced_stored c.in_ok-replace_range.field-0.items c.args.tables.now c.in_ok-new.field-0.value c.args.table c.args.at (c.args.at + 1) c.in_ok-replace_range.ensures c.in_ok-new.ensures.ok
