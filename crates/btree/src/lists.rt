@@ -1,7 +1,7 @@
 //! Lists with some of their items exchanged for others.
 ghost use Rattle.std.specs.Prelude.{◌≡◌, ◌≤◌, [], ◌∷◌, ◌++◌, length, take, drop, IfOk};
 
-use crate::try_clone::{TryClone, extend_cloned, try_clone_all};
+use crate::try_clone::{TryClone, extend_cloned};
 use std::alloc::{AllocError, Global};
 
 /// The items with those from `from` up to `to` exchanged for others.
@@ -16,8 +16,9 @@ pub fn replace_range<T: TryClone + Drop>(
     requires end { to ≤ length items.now }
     ensures { IfOk result (λ new. new.items ≡ take from items.now ++ others.items ++ drop to items.now) }
 {
-    let before = try_clone_all(alloc, &items[..from])?;
-    let mut new = append(before, others)?;
+    let mut new = Vec::with_capacity(alloc, items.len().saturating_add(others.len()))?;
+    extend_cloned(alloc, &items[..from], &mut new)?;
+    let mut new = append(new, others)?;
     extend_cloned(alloc, &items[to..], &mut new)?;
     Ok(new)
 }
@@ -34,7 +35,8 @@ pub fn with_item<T: TryClone + Drop>(
     requires end { to ≤ length items.now }
     ensures { IfOk result (λ new. new.items ≡ take from items.now ++ item ∷ drop to items.now) }
 {
-    let mut new = try_clone_all(alloc, &items[..from])?;
+    let mut new = Vec::with_capacity(alloc, items.len().saturating_add(1))?;
+    extend_cloned(alloc, &items[..from], &mut new)?;
     new.push(item)?;
     extend_cloned(alloc, &items[to..], &mut new)?;
     Ok(new)
