@@ -28,7 +28,7 @@ impl State {
     /// The answer to a line.
     pub fn answer(&mut self, alloc: Global, line: &str) -> io::Result<String> {
         match read_line(alloc, line) {
-            Ok(line) => self.called(alloc, &line),
+            Ok(line) => self.answer_call(alloc, &line),
             Err(fault) => Ok(format!(in alloc; "{fault}")?),
         }
     }
