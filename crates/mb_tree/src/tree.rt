@@ -44,8 +44,8 @@ impl Tree {
         Ok(Tree { root, rows: 0 })
     }
 
-    /// The tree with this root, which has so many rows, each cell of theirs shown. Of the nodes' shape it asks
-    /// nothing: who changes a tree says what becomes of it.
+    /// The tree with this root, which has so many rows. Of the nodes' shape it asks nothing: who changes a
+    /// tree says what becomes of it.
     pub fn of_root(root: Branch, rows: u64) -> Tree
         requires { IsWhole root rows }
         ensures { result ≡ root }
