@@ -46,7 +46,7 @@ pub fn with_item<T: TryClone + Drop>(
 pub fn list_of_one<T: Drop>(alloc: Global, item: T) -> Result<Vec<T>, AllocError>
     ensures { IfOk result (λ list. list.items ≡ item ∷ []) }
 {
-    let mut list = Vec::new(alloc);
+    let mut list = Vec::with_capacity(alloc, 1)?;
     list.push(item)?;
     Ok(list)
 }
@@ -55,7 +55,8 @@ pub fn list_of_one<T: Drop>(alloc: Global, item: T) -> Result<Vec<T>, AllocError
 pub fn list_of_two<T: Drop>(alloc: Global, first: T, second: T) -> Result<Vec<T>, AllocError>
     ensures { IfOk result (λ list. list.items ≡ first ∷ second ∷ []) }
 {
-    let mut list = list_of_one(alloc, first)?;
+    let mut list = Vec::with_capacity(alloc, 2)?;
+    list.push(first)?;
     list.push(second)?;
     Ok(list)
 }
