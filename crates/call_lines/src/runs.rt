@@ -1,7 +1,7 @@
 //! Calls of a plan and of part trees: what the trees show for it.
 ghost use Rattle.std.specs.Prelude.{◌≡◌, IsTrue, length};
 ghost use Rattle.vo_spec.specs.Needs.{tables_used};
-ghost use Rattle.table_list.specs.Sided.{sides_seen};
+ghost use Rattle.query_binding.specs.Sided.{sides_seen};
 
 use line_pieces::{describe, word};
 use plan_run::{right_needs, run_plan};

@@ -2,10 +2,11 @@
 use crate::line::TextCall;
 use batch_format::batch_bytes;
 use line_pieces::{describe, word};
+use plain_result::result;
 use sql_text::{SqlFault, parse_batch, parse_query, parse_script, print_batch, print_query};
 use std::alloc::{AllocError, Global};
 use std::io;
-use table_list::{ApplyFault, BatchFault, Tables, apply, apply_batch, result};
+use table_list::{ApplyFault, BatchFault, Tables, apply, apply_batch};
 use vo_spec::Outcome;
 
 /// The answer to a call of these bytes, which are to be a text.
@@ -21,12 +22,7 @@ pub fn answer(
     }
 }
 
-fn answer_call(
-    alloc: Global,
-    tables: &mut Tables,
-    call: TextCall,
-    text: &str,
-) -> io::Result<String> {
+fn answer_call(alloc: Global, tables: &mut Tables, call: TextCall, text: &str) -> io::Result<String> {
     match call {
         TextCall::Query => read_query(alloc, text),
         TextCall::Batch => read_batch(alloc, text),
@@ -61,7 +57,7 @@ fn result_of(alloc: Global, tables: &Tables, text: &str) -> io::Result<String> {
 /// The text that the query of a text is printed as.
 fn reprint_query(alloc: Global, text: &str) -> io::Result<String> {
     match parse_query(alloc, text) {
-        Ok(query) => Ok(print_query(alloc, &query)?),
+        Ok(query) => printed(alloc, print_query(alloc, &query)),
         Err(_) => word(alloc, "none"),
     }
 }
@@ -69,8 +65,15 @@ fn reprint_query(alloc: Global, text: &str) -> io::Result<String> {
 /// The text that the batch of a text is printed as.
 fn reprint_batch(alloc: Global, text: &str) -> io::Result<String> {
     match parse_batch(alloc, text) {
-        Ok(batch) => Ok(print_batch(alloc, &batch)?),
+        Ok(batch) => printed(alloc, print_batch(alloc, &batch)),
         Err(_) => word(alloc, "none"),
+    }
+}
+
+fn printed(alloc: Global, text: Result<Vec<u8>, AllocError>) -> io::Result<String> {
+    match String::from_utf8(text?) {
+        Ok(text) => Ok(text),
+        Err(_) => word(alloc, "no text"),
     }
 }
 

@@ -1,36 +1,13 @@
 -- One row further: what it shows and needs, before what the others do.
-use Rattle.std.proofs.Common.{◌≡◌, ℕ, ◌+◌, ◌<◌, ◌≤◌, Bool, true, false, cond, List, [], ◌∷◌, ◌++◌, Option, Some, None, length, get_or, drop, map, refl, sym, ap, ◌∙◌, append_assoc, append-nil}
-use Rattle.std.specs.Prelude.{◌||◌, filter, flat_map}
+use Rattle.std.proofs.Common.{◌≡◌, ℕ, ◌+◌, ◌<◌, Bool, true, false, cond, List, [], ◌∷◌, ◌++◌, length, get_or, drop, map, refl, sym, ap, ◌∙◌, append_assoc}
+use Rattle.std.specs.Prelude.{◌||◌, filter}
 use Rattle.std.specs.List.{list_any}
-use Rattle.std.proofs.lemmas.List.{drop_more, drop_all, map_push}
+use Rattle.std.proofs.lemmas.List.{drop_more, map_push}
 use Rattle.std.proofs.lemmas.List.Folds.{list_any_at}
 use Rattle.vo_spec.specs.Results.{Line}
+use Rattle.query_plan.proofs.AnswerLaws.{filter_at}
 use Rattle.plan_run.specs.declared.lines.SeenLine.{SeenLine}
 use Rattle.plan_run.specs.Lines.{line_seen}
-
--- what each row shows, one after the other
-module _ {A B : Type 0} (f : Line → List B) (g : A → Line) (xs : List A) (i : ℕ) (x : A) (front all : List B) where
-  pub shown_step : i < length xs → x ≡ get_or xs i x → front ++ flat_map f (map g (drop i xs)) ≡ all
-      → (front ++ f (g x)) ++ flat_map f (map g (drop (i + 1) xs)) ≡ all
-  shown_step lt is e =
-      let first : drop i xs ≡ x ∷ drop (i + 1) xs = drop_more xs i x lt ∙ ap (λ l. l ∷ drop (i + 1) xs) (sym is) in
-      rw append_assoc (ap (λ ls. front ++ flat_map f (map g ls)) (sym first) ∙ e)
-
-pub shown_end : {A B : Type 0} (f : Line → List B) (g : A → Line) (xs : List A) (i : ℕ) (front all : List B) → length xs ≤ i
-    → front ++ flat_map f (map g (drop i xs)) ≡ all → front ≡ all
-shown_end f g xs i front all h e =
-    sym (append-nil front) ∙ ap (λ ls. front ++ flat_map f (map g ls)) (sym (drop_all i xs h)) ∙ e
-
-pub map_step : {A : Type 0} (f : Line → A) (lines : List SeenLine) (i : ℕ) (s : SeenLine) (front all : List A) → i < length lines → s ≡ get_or lines i s
-    → front ++ map f (map line_seen (drop i lines)) ≡ all → (front ++ f (line_seen s) ∷ []) ++ map f (map line_seen (drop (i + 1) lines)) ≡ all
-map_step f lines i s front all lt is e =
-    let first : drop i lines ≡ s ∷ drop (i + 1) lines = drop_more lines i s lt ∙ ap (λ l. l ∷ drop (i + 1) lines) (sym is) in
-    rw append_assoc (ap (λ ls. front ++ map f (map line_seen ls)) (sym first) ∙ e)
-
-pub map_end : {A : Type 0} (f : Line → A) (lines : List SeenLine) (i : ℕ) (front all : List A) → length lines ≤ i
-    → front ++ map f (map line_seen (drop i lines)) ≡ all → front ≡ all
-map_end f lines i front all h e =
-    sym (append-nil front) ∙ ap (λ ls. front ++ map f (map line_seen ls)) (sym (drop_all i lines h)) ∙ e
 
 pub any_map : {A B : Type 0} (test : B → Bool) (f : A → B) (xs : List A) → list_any test (map f xs) ≡ list_any (λ x. test (f x)) xs
 any_map test f [] = refl
@@ -52,21 +29,16 @@ module _ {A : Type 0} (test : Line → Bool) (g : A → Line) (xs : List A) (i :
   abbrev kept_after : List Line
   kept_after = filter test (map g (drop (i + 1) xs))
 
-  filter_at : i < length xs → x ≡ get_or xs i x → filter test (map g (drop i xs)) ≡ cond (test (g x)) (g x ∷ kept_after) kept_after
-  filter_at lt is =
-      let first : drop i xs ≡ x ∷ drop (i + 1) xs = drop_more xs i x lt ∙ ap (λ l. l ∷ drop (i + 1) xs) (sym is) in
-      ap (λ ls. filter test (map g ls)) first
-
   pub filter_kept : (front : List SeenLine) (all : List Line) (s : SeenLine) → line_seen s ≡ g x → i < length xs → x ≡ get_or xs i x → test (g x) ≡ true
       → map line_seen front ++ filter test (map g (drop i xs)) ≡ all
       → map line_seen (front ++ s ∷ []) ++ filter test (map g (drop (i + 1) xs)) ≡ all
   filter_kept front all s same lt is kept e =
-      let here : filter test (map g (drop i xs)) ≡ g x ∷ kept_after = filter_at lt is ∙ ap (λ b. cond b (g x ∷ kept_after) kept_after) kept in
+      let here : filter test (map g (drop i xs)) ≡ g x ∷ kept_after = filter_at test g xs i x lt is ∙ ap (λ b. cond b (g x ∷ kept_after) kept_after) kept in
       rw (map_push, append_assoc) (ap (λ l. map line_seen front ++ l ∷ kept_after) same ∙ ap (λ ls. map line_seen front ++ ls) (sym here) ∙ e)
 
   pub filter_passed : (front : List SeenLine) (all : List Line) → i < length xs → x ≡ get_or xs i x → test (g x) ≡ false
       → map line_seen front ++ filter test (map g (drop i xs)) ≡ all
       → map line_seen front ++ filter test (map g (drop (i + 1) xs)) ≡ all
   filter_passed front all lt is passed e =
-      let here : filter test (map g (drop i xs)) ≡ kept_after = filter_at lt is ∙ ap (λ b. cond b (g x ∷ kept_after) kept_after) passed in
+      let here : filter test (map g (drop i xs)) ≡ kept_after = filter_at test g xs i x lt is ∙ ap (λ b. cond b (g x ∷ kept_after) kept_after) passed in
       ap (λ ls. map line_seen front ++ ls) (sym here) ∙ e

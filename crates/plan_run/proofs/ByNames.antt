@@ -1,86 +1,23 @@
 -- What a plan of a query gives is what the query gives by names.
-use Rattle.std.proofs.Common.{◌≡◌, ℕ, Bool, true, false, cond, List, [], ◌∷◌, ◌++◌, Option, Some, None, length, map, refl, sym, ap, ◌∙◌}
-use Rattle.std.specs.Prelude.{◌&&◌, ◌==◌, filter, flat_map, option_map, option_to_list, slice_index_or}
-use Rattle.std.specs.Option.{option_map_or}
-use Rattle.std.specs.List.{AllByRecursion}
-use Rattle.std.proofs.lemmas.Bool.{eqb-true}
-use Rattle.vo_spec.specs.declared.values.Value.{Value}
+use Rattle.std.proofs.Common.{◌≡◌, List, [], ◌∷◌, ◌++◌, Option, Some, None, map, refl, sym, ap, ◌∙◌}
+use Rattle.std.specs.Prelude.{filter, flat_map, option_map, option_to_list}
 use Rattle.vo_spec.specs.declared.needs.Need.{Need}
-use Rattle.vo_spec.specs.declared.queries.Ref.{Ref}
 use Rattle.vo_spec.specs.declared.queries.Join.{Join}
-use Rattle.vo_spec.specs.declared.tables.Table.{Table}
-use Rattle.vo_spec.specs.Conditions.{Condition, condition_refs, is_met, Query}
-use Rattle.vo_spec.specs.Results.{Side, Place, schema_at, place_of, shown_places, Line, no_line, place_value, ref_value, is_joined, is_answer, answer_rows, lines_at}
+use Rattle.vo_spec.specs.Conditions.{Query}
+use Rattle.vo_spec.specs.Results.{Side, schema_at, Line, answer_rows}
 use Rattle.vo_spec.specs.Trees.{RowTree}
-use Rattle.vo_spec.specs.Needs.{seen_lines, left_need, right_need, right_needs, needs, seen_lefts, seen_rights, left_truth, meets_left as meets_by_names, tree_at, right_tree}
-use Rattle.vo_laws.proofs.ListLaws.{each_from, flat_map_kept}
-use Rattle.vo_laws.proofs.ConditionLaws.{SameLeft, same_left}
-use Rattle.vo_laws.proofs.AnswerLaws.{answer_of, answers_of, answer_rows_are, failing_gives_none}
-use Rattle.query_plan.specs.BoundConditions.{all_hold, conjuncts_where, bound_truth}
-use Rattle.query_plan.specs.BoundQueries.{bound_condition, bound_join, bound_query}
+use Rattle.vo_spec.specs.Needs.{seen_lines, left_need, right_need, right_needs, needs, seen_lefts, seen_rights, meets_left as meets_by_names, tree_at, right_tree}
+use Rattle.vo_laws.proofs.AnswerLaws.{answer_rows_are}
+use Rattle.query_plan.specs.BoundQueries.{bound_join, bound_query}
 use Rattle.query_plan.specs.Plans.{QueryPlan, plan_of, right_need_of, meets_left}
-use Rattle.query_plan.proofs.MeaningLaws.{same_filter, truth_same, conjuncts_hold, left_same, left_need_same, right_need_same, meets_same}
-use Rattle.plan_run.specs.Answers.{are_joined, answer_at, pair_answers, left_answers, plan_rows}
+use Rattle.query_plan.proofs.MeaningLaws.{same_filter, left_need_same, right_need_same, meets_same}
+use Rattle.query_plan.specs.Answers.{plan_rows}
+use Rattle.query_plan.proofs.AnswerLaws.{rows_kept}
 use Rattle.plan_run.specs.Running.{group_needs, lefts_seen, rights_by, rights_seen, needs_of, run_rows, run_needs}
-use Rattle.plan_run.proofs.RunLaws.{flat_same}
-
--- only the right rows of the left rows that are kept matter
-kept_same : {B : Type 0} (test : Line → Bool) (f g : Line → List B) → ((x : Line) → test x ≡ true → f x ≡ g x) → (xs : List Line)
-    → flat_map f (filter test xs) ≡ flat_map g (filter test xs)
-kept_same test f g e [] = refl
-kept_same {B} test f g e (x ∷ xs) = step (test x) refl (kept_same test f g e xs)
-  where
-    step : (b : Bool) → test x ≡ b → flat_map f (filter test xs) ≡ flat_map g (filter test xs)
-        → flat_map f (cond b (x ∷ filter test xs) (filter test xs)) ≡ flat_map g (cond b (x ∷ filter test xs) (filter test xs))
-    step true is rest = ap (λ (ys : List B). ys ++ flat_map f (filter test xs)) (e x is) ∙ ap (λ (ys : List B). g x ++ ys) rest
-    step false is rest = rest
 
 module _ (ss : List Side) (q : Query) where
   abbrev p : QueryPlan
   p = plan_of (bound_query ss q)
-
-  -- left columns have their values in the left row
-  left_alone : (left : Line) (rest : List Line) (rs : List Ref) → AllByRecursion (SameLeft ss (ref_value ss (left ∷ rest)) (ref_value ss (left ∷ []))) rs
-  left_alone left rest [] = tt
-  left_alone left rest (r ∷ rs) = ((λ e. at (place_of ss r).side (place_of ss r).column (eqb-true (place_of ss r).side 0 e)), left_alone left rest rs)
-    where
-      at : (side column : ℕ) → side ≡ 0 → slice_index_or (left ∷ rest) side no_line column ≡ slice_index_or (left ∷ []) side no_line column
-      at side column e = rw e refl
-
-  -- beside a left row that meets the left condition, the late condition is the whole one
-  late_same : (o : Option Condition) (left : Line) (rest : List Line) → option_map_or (left_truth ss (ref_value ss (left ∷ []))) o true ≡ true
-      → all_hold (place_value (left ∷ rest)) (option_map_or (conjuncts_where false) (option_map (bound_condition ss) o) []) ≡ is_met (ref_value ss (left ∷ rest)) o
-  late_same None left rest met = refl
-  late_same (Some c) left rest met =
-      let lefts : all_hold (place_value (left ∷ rest)) (conjuncts_where true (bound_condition ss c)) ≡ true =
-      left_same ss (place_value (left ∷ rest)) c
-      ∙ same_left ss (ref_value ss (left ∷ rest)) (ref_value ss (left ∷ [])) c (left_alone left rest (condition_refs c)) ∙ met in
-      ap (λ b. b && all_hold (place_value (left ∷ rest)) (conjuncts_where false (bound_condition ss c))) (sym lefts)
-      ∙ conjuncts_hold (place_value (left ∷ rest)) (bound_condition ss c) ∙ truth_same ss (place_value (left ∷ rest)) c
-
-  joined_same : (rows : List Line) (j : Option Join) → are_joined (place_value rows) (option_map (bound_join ss) j) ≡ is_joined ss rows j
-  joined_same rows None = refl
-  joined_same rows (Some j) = refl
-
-  answer_same : (left : Line) (rest : List Line) → meets_by_names ss q left ≡ true → answer_at p (place_value (left ∷ rest)) ≡ answer_of ss q (left ∷ rest)
-  answer_same left rest met =
-      ap (λ b. cond b (map (place_value (left ∷ rest)) (shown_places ss q.items) ∷ []) [])
-      (ap (λ b. b && all_hold (place_value (left ∷ rest)) p.late) (joined_same (left ∷ rest) q.join)
-      ∙ ap (λ b. is_joined ss (left ∷ rest) q.join && b) (late_same q.condition left rest met))
-
-  answers_by : (j : Option Join) (rights others : Line → List Line) (left : Line) → rights left ≡ others left → meets_by_names ss q left ≡ true
-      → left_answers p (option_map (bound_join ss) j) rights left ≡ answers_of ss q j others left
-  answers_by None rights others left same met = answer_same left [] met
-  answers_by (Some j) rights others left same met =
-      ap (λ rs. pair_answers p rs left) same
-      ∙ flat_same (λ right. answer_at p (place_value (left ∷ right ∷ []))) (λ right. answer_of ss q (left ∷ right ∷ [])) (λ right. answer_same left (right ∷ []) met) (others left)
-
-  -- the rows of left rows that meet the left condition
-  rows_kept : (lines : List Line) (rights others : Line → List Line) → ((left : Line) → rights left ≡ others left)
-      → plan_rows p (filter (meets_by_names ss q) lines) rights ≡ flat_map (answers_of ss q q.join others) (filter (meets_by_names ss q) lines)
-  rows_kept lines rights others same =
-      kept_same (meets_by_names ss q) (left_answers p p.query.join rights) (answers_of ss q q.join others)
-      (λ left met. answers_by q.join rights others left (same left) met) lines
 
   lefts_same : (tree : RowTree) → lefts_seen p tree ≡ filter (meets_by_names ss q) (seen_lines (schema_at ss 0) (left_need ss q) tree)
   lefts_same tree =
@@ -95,7 +32,7 @@ module _ (ss : List Side) (q : Query) where
   pub rows_same : (trees : List RowTree) → run_rows p trees ≡ answer_rows ss q (seen_lefts ss q trees) (seen_rights ss q trees)
   rows_same trees =
       ap (λ ls. plan_rows p ls (rights_seen p (right_tree ss trees))) (lefts_same (tree_at trees 0))
-      ∙ rows_kept (seen_lines (schema_at ss 0) (left_need ss q) (tree_at trees 0)) (rights_seen p (right_tree ss trees)) (seen_rights ss q trees) (rights_same q.join (right_tree ss trees))
+      ∙ rows_kept ss q (seen_lines (schema_at ss 0) (left_need ss q) (tree_at trees 0)) (rights_seen p (right_tree ss trees)) (seen_rights ss q trees) (rights_same q.join (right_tree ss trees))
       ∙ sym (answer_rows_are ss q (seen_lefts ss q trees) (seen_rights ss q trees))
 
   map_same : {A B : Type 0} (f g : A → B) → ((x : A) → f x ≡ g x) → (xs : List A) → map f xs ≡ map g xs
@@ -113,14 +50,3 @@ module _ (ss : List Side) (q : Query) where
   needs_same trees =
       ap (λ ns. group_needs ss p.left_need ns) (ap (needs_of p) (lefts_same (tree_at trees 0)) ∙ needs_by q.join (seen_lefts ss q trees))
       ∙ ap (λ (n : Need). group_needs ss n (right_needs ss q trees)) (left_need_same ss q)
-
-  -- A plan keeps its query's result: run over the lines of plain tables, it gives the query's rows.
-  pub plain_same : (tables : List Table)
-      → plan_rows p (filter (meets_left p) (lines_at tables ss 0)) (λ left. lines_at tables ss 1) ≡ answer_rows ss q (lines_at tables ss 0) (λ left. lines_at tables ss 1)
-  plain_same tables =
-      ap (λ ls. plan_rows p ls (λ left. lines_at tables ss 1)) (same_filter (meets_left p) (meets_by_names ss q) (meets_same ss q) (lines_at tables ss 0))
-      ∙ rows_kept (lines_at tables ss 0) (λ left. lines_at tables ss 1) (λ left. lines_at tables ss 1) (λ left. refl)
-      ∙ flat_map_kept (answers_of ss q q.join (λ left. lines_at tables ss 1)) (meets_by_names ss q) (lines_at tables ss 0)
-      (each_from (λ x. meets_by_names ss q x ≡ false → answers_of ss q q.join (λ left. lines_at tables ss 1) x ≡ []) (lines_at tables ss 0)
-      (λ x i e. failing_gives_none ss q x e q.join (λ left. lines_at tables ss 1)))
-      ∙ sym (answer_rows_are ss q (lines_at tables ss 0) (λ left. lines_at tables ss 1))

@@ -1,11 +1,10 @@
 -- A tree that doesn't show what a need asks for misses something.
-use Rattle.std.proofs.Common.{◌≡◌, ℕ, suc, Bool, true, false, cond, List, [], ◌∷◌, Option, Some, None, length, map, inl, inr, refl, sym, ap, ◌∙◌, subst, arith}
+use Rattle.std.proofs.Common.{◌≡◌, ℕ, Bool, true, false, cond, List, [], ◌∷◌, Option, Some, None, length, map, inl, inr, refl, sym, ap, ◌∙◌, subst, arith}
 use Rattle.std.specs.Prelude.{◌==◌, ◌||◌, ◌⊎◌, zip, flat_map, is_none, option_to_list}
 use Rattle.std.specs.List.{list_any}
 use Rattle.std.proofs.lemmas.Bool.{both_ways, or_left, or_right}
 use Rattle.vo_spec.specs.declared.needs.Need.{Need}
-use Rattle.vo_spec.specs.declared.needs.SeenRow.{SeenRow}
-use Rattle.vo_spec.specs.Results.{Side, Place, Line, side_at}
+use Rattle.vo_spec.specs.Results.{Place, side_at}
 use Rattle.vo_spec.specs.Trees.{RowTree}
 use Rattle.vo_spec.specs.Scans.{seen}
 use Rattle.vo_spec.specs.Pruned.{is_missing}

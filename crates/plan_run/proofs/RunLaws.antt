@@ -1,5 +1,5 @@
 -- From what left rows show to what a run gives.
-use Rattle.std.proofs.Common.{◌≡◌, ℕ, ◌<◌, Bool, true, false, cond, List, [], ◌∷◌, Option, Some, None, Result, Ok, Err, length, get_or, map, refl, sym, ap, ◌∙◌, append-nil, arith}
+use Rattle.std.proofs.Common.{◌≡◌, ◌<◌, Bool, true, false, cond, List, [], ◌∷◌, Option, Some, None, Result, Ok, Err, length, get_or, map, sym, ap, ◌∙◌, append-nil, arith}
 use Rattle.std.specs.Prelude.{◌==◌, ◌||◌, filter, flat_map, is_none, option_to_list, unwrap_or}
 use Rattle.std.specs.List.{list_any}
 use Rattle.std.proofs.lemmas.Bool.{or_left, or_right, or_from}
@@ -18,18 +18,15 @@ use Rattle.range_proof.specs.Finding.{Finds}
 use Rattle.query_plan.specs.Plans.{QueryPlan, right_need_of, meets_left}
 use Rattle.plan_run.specs.declared.ran.Ran.{Ran}
 use Rattle.plan_run.specs.declared.shown.Shown.{Shown}
-use Rattle.plan_run.specs.Answers.{answer_at, pair_answers, left_answers, plan_rows}
-use Rattle.plan_run.specs.Running.{Runs, RanOf, Shows, ShowsPairs, group_needs, lefts_seen, rights_by, rights_seen, needs_of, is_unseen, stops}
+use Rattle.query_plan.specs.Answers.{answer_at, pair_answers, left_answers, plan_rows}
+use Rattle.plan_run.specs.Running.{Runs, RanOf, Shows, ShowsPairs, group_needs, lefts_seen, rights_by, rights_seen, needs_of, is_unseen}
+use Rattle.query_plan.proofs.AnswerLaws.{flat_same}
 use Rattle.plan_run.proofs.AnswerSteps.{any_map}
-
-pub flat_same : {A B : Type 0} (f g : A → List B) → ((x : A) → f x ≡ g x) → (xs : List A) → flat_map f xs ≡ flat_map g xs
-flat_same f g e [] = refl
-flat_same f g e (x ∷ xs) = rw (e x, flat_same f g e xs) refl
 
 module _ (p : QueryPlan) (lefts : List Line) (tree : RowTree) where
   -- by whether there is a join
   abbrev rows_by : Option (Place × Place) → List (List Value)
-  rows_by o = flat_map (left_answers p o (λ left. flat_map (λ on. rights_by p on tree left) (option_to_list o))) lefts
+  rows_by o = flat_map (λ left. left_answers p.query p.late o (flat_map (λ on. rights_by p on tree left) (option_to_list o)) left) lefts
 
   abbrev needs_by : Option (Place × Place) → List Need
   needs_by o = flat_map (λ on. map (right_need_of p on) lefts) (option_to_list o)
@@ -41,10 +38,10 @@ module _ (p : QueryPlan) (lefts : List Line) (tree : RowTree) where
     unseen_are : list_any (is_unseen tree) (needs_of p lefts) ≡ list_any (λ left. is_unseen tree (right_need_of p on left)) lefts
     unseen_are = ap (list_any (is_unseen tree)) needs_are ∙ any_map (is_unseen tree) (right_need_of p on) lefts
 
-    rows_are : flat_map (λ left. pair_answers p (rights_by p on tree left) left) lefts ≡ plan_rows p lefts (rights_seen p tree)
+    rows_are : flat_map (λ left. pair_answers p.query p.late (rights_by p on tree left) left) lefts ≡ plan_rows p lefts (rights_seen p tree)
     rows_are =
-        flat_same (λ left. pair_answers p (rights_by p on tree left) left) (λ left. pair_answers p (flat_map (λ k. rights_by p k tree left) (on ∷ [])) left)
-        (λ left. ap (λ rights. pair_answers p rights left) (sym (append-nil (rights_by p on tree left)))) lefts
+        flat_same (λ left. pair_answers p.query p.late (rights_by p on tree left) left) (λ left. pair_answers p.query p.late (flat_map (λ k. rights_by p k tree left) (on ∷ [])) left)
+        (λ left. ap (λ rights. pair_answers p.query p.late rights left) (sym (append-nil (rights_by p on tree left)))) lefts
         ∙ ap rows_by (sym is)
 
     pub pairs_shown : (r : Result Shown ScanFault) → ShowsPairs r p on lefts tree → Shows r p lefts tree
@@ -52,7 +49,7 @@ module _ (p : QueryPlan) (lefts : List Line) (tree : RowTree) where
     pairs_shown (Err Missing) h = unseen_are ∙ h
     pairs_shown (Err Memory) h = tt
 
-  pub alone_shown : p.query.join ≡ None → (rows : List (List Value)) → rows ≡ flat_map (λ left. answer_at p (place_value (left ∷ []))) lefts
+  pub alone_shown : p.query.join ≡ None → (rows : List (List Value)) → rows ≡ flat_map (λ left. answer_at p.query p.late (place_value (left ∷ []))) lefts
       → (list_any (is_unseen tree) (needs_of p lefts) ≡ false) × (rows ≡ plan_rows p lefts (rights_seen p tree)) × ([] ≡ needs_of p lefts)
   alone_shown is rows are = (ap (λ o. list_any (is_unseen tree) (needs_by o)) is, are ∙ ap rows_by (sym is), ap needs_by (sym is))
 

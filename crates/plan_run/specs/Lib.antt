@@ -1,3 +1,2 @@
-pub mod Answers
 pub mod Lines
 pub mod Running

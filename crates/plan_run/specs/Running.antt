@@ -1,18 +1,18 @@
 -- What running a plan over part trees gives, and what it answers where a scan stops.
-use Rattle.std.specs.Prelude.{◌≡◌, ℕ, Bool, true, false, ◌||◌, List, [], ◌∷◌, ◌++◌, map, length, zip, filter, flat_map, is_none, is_some, Option, None, option_to_list, Result, Ok, Err, IsTrue, ◌==◌, if◌then◌else◌}
+use Rattle.std.specs.Prelude.{◌≡◌, Bool, true, false, ◌||◌, List, [], ◌∷◌, ◌++◌, map, length, zip, filter, flat_map, is_none, is_some, option_to_list, Result, Ok, Err, IsTrue, ◌==◌, if◌then◌else◌}
 use Rattle.std.specs.List.{list_any}
 use Rattle.std.specs.Global.{Vec}
 use Rattle.vo_spec.specs.declared.trees.ScanFault.{ScanFault}
 use Rattle.vo_spec.specs.declared.trees.ScanFault.TheVariants.{Missing, Memory}
 use Rattle.vo_spec.specs.declared.values.Value.{Value}
 use Rattle.vo_spec.specs.declared.needs.Need.{Need}
-use Rattle.vo_spec.specs.Results.{Side, Place, Line, schema_at, place_value}
+use Rattle.vo_spec.specs.Results.{Side, Place, Line, schema_at}
 use Rattle.vo_spec.specs.Trees.{RowTree}
 use Rattle.vo_spec.specs.Scans.{seen}
 use Rattle.vo_spec.specs.Pruned.{is_missing}
 use Rattle.vo_spec.specs.Needs.{seen_lines, tables_used, tree_at, right_tree}
 use Rattle.query_plan.specs.Plans.{QueryPlan, right_need_of, meets_left}
-use Rattle.plan_run.specs.Answers.{answer_at, pair_answers, plan_rows}
+use Rattle.query_plan.specs.Answers.{pair_answers, plan_rows}
 use Rattle.plan_run.specs.declared.ran.Ran.{Ran}
 use Rattle.plan_run.specs.declared.shown.Shown.{Shown}
 
@@ -70,7 +70,7 @@ Shows (Err Memory) p lefts tree = Unit {0}
 abbrev pub ShowsPairs : Result Shown ScanFault → QueryPlan → Place × Place → List Line → RowTree → Type 0
 ShowsPairs (Ok shown) p on lefts tree =
     (list_any (λ left. is_unseen tree (right_need_of p on left)) lefts ≡ false)
-    × (shown.rows.items ≡ flat_map (λ left. pair_answers p (rights_by p on tree left) left) lefts)
+    × (shown.rows.items ≡ flat_map (λ left. pair_answers p.query p.late (rights_by p on tree left) left) lefts)
     × (shown.needs.items ≡ map (right_need_of p on) lefts)
 ShowsPairs (Err Missing) p on lefts tree = list_any (λ left. is_unseen tree (right_need_of p on left)) lefts ≡ true
 ShowsPairs (Err Memory) p on lefts tree = Unit {0}
@@ -79,7 +79,7 @@ ShowsPairs (Err Memory) p on lefts tree = Unit {0}
 abbrev pub AddsPairs : Result (Unit {0}) ScanFault → Shown → Shown → QueryPlan → Place × Place → Line → RowTree → Type 0
 AddsPairs (Ok done) old new p on left tree =
     (is_unseen tree (right_need_of p on left) ≡ false)
-    × (new.rows.items ≡ old.rows.items ++ pair_answers p (rights_by p on tree left) left)
+    × (new.rows.items ≡ old.rows.items ++ pair_answers p.query p.late (rights_by p on tree left) left)
     × (new.needs.items ≡ old.needs.items ++ right_need_of p on left ∷ [])
 AddsPairs (Err Missing) old new p on left tree = is_unseen tree (right_need_of p on left) ≡ true
 AddsPairs (Err Memory) old new p on left tree = Unit {0}

@@ -1,9 +1,6 @@
 //! What the trees of a reply show for a query, and what the query needs of each of them.
 #![tactic(auto)]
 
-mod answers;
-mod keys;
-mod laws;
 mod lines;
 mod needing;
 mod pairs;
@@ -13,8 +10,6 @@ mod seeing;
 mod showing;
 mod shown;
 
-pub use answers::{push_alone, push_pairs};
-pub use laws::plans_keep_results;
 pub use lines::SeenLine;
 pub use needing::right_needs;
 pub use ran::Ran;

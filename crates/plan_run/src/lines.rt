@@ -1,14 +1,15 @@
 //! Rows that a scan gave, as the value of each column.
-ghost use Rattle.std.specs.Prelude.{◌≡◌, ◌==◌, ℕ};
+ghost use Rattle.std.specs.Prelude.{◌≡◌, ◌==◌, ℕ, map, IfOk};
 ghost use Rattle.std.specs.List.{position_or_len};
 ghost use Rattle.vo_spec.specs.declared.values.Value.{Value as Plain};
 ghost use Rattle.vo_spec.specs.Lent.{value_of};
-ghost use Rattle.vo_spec.specs.Tables.{value_at};
 ghost use Rattle.vo_spec.specs.Needs.{seen_line};
+ghost use Rattle.plan_run.specs.Lines.{line_seen};
 
-use crate::keys::value_of_key;
-use table_list::{Line, cell_number, kind_at};
-use vo_spec::{Schema, SeenRow, Value, ValueRef};
+use query_plan::{Line, value_at, value_of_key};
+use std::alloc::{AllocError, Global};
+use table_list::{cell_number, kind_at};
+use vo_spec::{Schema, SeenRow, ValueRef};
 
 /// A row that was seen, as the values of its columns: those in its key and in the need's cells.
 #[derive(Clone, Copy)]
@@ -47,11 +48,18 @@ fn place_of(cells: &[u8], cell: usize) -> usize
     place
 }
 
-fn value_at(values: &[Value], place: usize) -> ValueRef<'_>
-    ensures { value_of result ≡ value_at values.now place }
+/// The rows that were seen for a need, as lines.
+pub(crate) fn lines_of<'r>(
+    alloc: Global,
+    schema: &'r Schema,
+    cells: &'r [u8],
+    seen: &'r [SeenRow],
+) -> Result<Vec<SeenLine<'r>>, AllocError>
+    ensures { IfOk result (λ lines. map line_seen lines.items ≡ map (seen_line schema.now cells.now) seen.now) }
 {
-    match values.get(place) {
-        Some(value) => value.as_ref(),
-        None => ValueRef::Bool(false),
+    let mut lines = Vec::with_capacity(alloc, seen.len())?;
+    for row in seen {
+        lines.push(SeenLine { schema, cells, row })?;
     }
+    Ok(lines)
 }

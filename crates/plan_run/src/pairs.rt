@@ -2,17 +2,16 @@
 ghost use Rattle.std.specs.Prelude.{◌≡◌, ◌++◌, [], ◌∷◌, map, OnOk};
 ghost use Rattle.vo_spec.specs.Results.{schema_at};
 ghost use Rattle.mb_tree.specs.View.{part_of};
-ghost use Rattle.table_list.specs.Sided.{sides_seen};
+ghost use Rattle.query_binding.specs.Sided.{sides_seen};
 ghost use Rattle.query_plan.specs.BoundViews.{join_seen};
 ghost use Rattle.query_plan.specs.PlanViews.{plan_seen};
 ghost use Rattle.plan_run.specs.Lines.{line_seen};
 ghost use Rattle.plan_run.specs.Running.{ShowsPairs, AddsPairs};
 
-use crate::answers::push_pairs;
-use crate::lines::SeenLine;
+use crate::lines::{SeenLine, lines_of};
 use crate::shown::Shown;
 use mb_tree::PartTree;
-use query_plan::{BoundJoin, Plan, right_need};
+use query_plan::{BoundJoin, Plan, push_pairs, right_need};
 use range_proof::scan;
 use std::alloc::{AllocError, Global};
 use vo_spec::{Need, ScanFault, Schema};
@@ -40,7 +39,15 @@ fn push_left(
     let need = right_need(alloc, plan, join, left)?;
     match scan(alloc, tree, &need) {
         Ok(seen) => {
-            push_pairs(alloc, plan, left, schema, seen.as_slice(), &mut shown.rows)?;
+            let rights = lines_of(alloc, schema, plan.right_cells.as_slice(), seen.as_slice())?;
+            push_pairs(
+                alloc,
+                plan.query,
+                &plan.late,
+                left,
+                &rights,
+                &mut shown.rows,
+            )?;
             push_need(&mut shown.needs, need)?;
             Ok(())
         },

@@ -1,6 +1,6 @@
 //! What a run gives: the answer's rows, and the needs of each tree.
 ghost use Rattle.std.specs.Prelude.{◌≡◌, IfOk};
-ghost use Rattle.table_list.specs.Sided.{sides_seen};
+ghost use Rattle.query_binding.specs.Sided.{sides_seen};
 ghost use Rattle.query_plan.specs.PlanViews.{plan_seen};
 ghost use Rattle.plan_run.specs.Running.{RanOf, group_needs};
 

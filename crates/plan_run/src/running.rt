@@ -2,7 +2,7 @@
 ghost use Rattle.std.specs.Prelude.{◌≡◌, length, map, filter};
 ghost use Rattle.vo_spec.specs.Needs.{tables_used, seen_line, right_tree};
 ghost use Rattle.mb_tree.specs.View.{part_of};
-ghost use Rattle.table_list.specs.Sided.{sides_seen};
+ghost use Rattle.query_binding.specs.Sided.{sides_seen};
 ghost use Rattle.query_plan.specs.Plans.{meets_left};
 ghost use Rattle.query_plan.specs.PlanViews.{plan_seen};
 ghost use Rattle.plan_run.specs.Running.{Shows, Runs};

@@ -4,18 +4,17 @@ ghost use Rattle.vo_spec.specs.Results.{place_value};
 ghost use Rattle.vo_spec.specs.Trees.{RowTree};
 ghost use Rattle.vo_spec.specs.Needs.{tables_used, right_tree};
 ghost use Rattle.mb_tree.specs.View.{part_of};
-ghost use Rattle.table_list.specs.Sided.{sides_seen};
+ghost use Rattle.query_binding.specs.Sided.{sides_seen};
 ghost use Rattle.query_plan.specs.PlanViews.{plan_seen};
 ghost use Rattle.plan_run.specs.Lines.{line_seen};
-ghost use Rattle.plan_run.specs.Answers.{answer_at};
+ghost use Rattle.query_plan.specs.Answers.{answer_at};
 ghost use Rattle.plan_run.specs.Running.{Shows};
 
-use crate::answers::push_alone;
 use crate::lines::SeenLine;
 use crate::pairs::show_pairs;
 use crate::shown::Shown;
 use mb_tree::PartTree;
-use query_plan::{Plan, Sides, same_table};
+use query_plan::{Plan, Sides, push_alone, same_table};
 use std::alloc::{AllocError, Global};
 use vo_spec::{List, ScanFault, Value};
 
@@ -25,11 +24,11 @@ fn rows_alone(
     plan: &Plan<'_, '_>,
     lefts: &[SeenLine<'_>],
 ) -> Result<Vec<List<Value>>, AllocError>
-    ensures { IfOk result (λ rows. rows.items ≡ flat_map (λ left. answer_at (plan_seen plan.now) (place_value (left ∷ []))) (map line_seen lefts.now)) }
+    ensures { IfOk result (λ rows. rows.items ≡ flat_map (λ left. answer_at (plan_seen plan.now).query (plan_seen plan.now).late (place_value (left ∷ []))) (map line_seen lefts.now)) }
 {
     let mut rows = Vec::new(alloc);
     for left in lefts {
-        push_alone(alloc, plan, left, &mut rows)?;
+        push_alone(alloc, plan.query, &plan.late, left, &mut rows)?;
     }
     Ok(rows)
 }

@@ -1,3 +1,4 @@
+pub mod AnswerLaws
 pub mod BoundLaws
 pub mod MeaningLaws
 pub mod Naming

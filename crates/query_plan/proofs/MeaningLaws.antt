@@ -18,10 +18,10 @@ use Rattle.vo_spec.specs.declared.queries.Join.{Join}
 use Rattle.vo_spec.specs.Values.{value_cmp, key_of}
 use Rattle.vo_spec.specs.Tables.{cell_number}
 use Rattle.vo_spec.specs.Conditions.{Condition, Conditions, every, some, negated, test, none, more, operand_refs, condition_refs, conditions_refs, operand_value, compares, truth, all_true, any_true, Query, is_met}
-use Rattle.vo_spec.specs.Results.{Side, Place, schema_at, place_of, join_places, item_refs, join_refs, query_refs, numbers_from, shown_places, Line, place_value, ref_value}
+use Rattle.vo_spec.specs.Results.{Side, Place, schema_at, place_of, join_places, item_refs, join_refs, numbers_from, shown_places, Line, place_value, ref_value}
 use Rattle.vo_spec.specs.Needs.{all_keys, keys_that, shared, join_value, test_interval, interval_of, interval_of_all, is_left, left_truth, left_truths, is_place, shows_all, is_named_column, named_cells, left_need, right_need, meets_left as meets_by_names}
-use Rattle.query_plan.specs.BoundConditions.{BoundTerm, BoundCondition, BoundConditions, conjunction, disjunction, negation, comparison, no_parts, part_and, term_value, bound_truth, every_true, some_true, all_hold, term_places, condition_places, parts_places, comparison_interval, bound_interval, shared_interval, is_left_place, is_on_left, one_where, conjuncts_where, all_where}
-use Rattle.query_plan.specs.BoundQueries.{bound_term, bound_condition, bound_conditions, bound_join, bound_query, join_columns, query_places}
+use Rattle.query_plan.specs.BoundConditions.{BoundCondition, BoundConditions, conjunction, disjunction, negation, comparison, no_parts, part_and, term_value, bound_truth, every_true, some_true, all_hold, term_places, condition_places, parts_places, comparison_interval, bound_interval, shared_interval, is_left_place, is_on_left, one_where, conjuncts_where, all_where}
+use Rattle.query_plan.specs.BoundQueries.{bound_term, bound_condition, bound_conditions, bound_join, bound_query, join_columns}
 use Rattle.query_plan.specs.Named.{is_at, names, is_named_cell, bound_cells}
 use Rattle.query_plan.specs.Plans.{plan_of, left_column, right_need_of, meets_left}
 

@@ -1,16 +1,17 @@
 -- A query with a join has two sources.
+<<<<<<< HEAD
 use Rattle.std.proofs.Common.{◌≡◌, List, [], ◌∷◌, ◌++◌, Option, Some, None, is_some, length, map, refl, ap, subst, arith, ◌∙◌}
+=======
+use Rattle.std.proofs.Common.{◌≡◌, List, ◌∷◌, Option, Some, None, is_some, length, map, refl, ap, arith, ◌∙◌}
+>>>>>>> df9d1e6 (A query is bound once, over a catalog or plain tables; table_list comes apart)
 use Rattle.std.specs.Prelude.{◌==◌, false, option_map, option_to_list}
-use Rattle.std.specs.Option.{option_map_or}
-use Rattle.vo_spec.specs.declared.queries.QueryFault.{QueryFault}
 use Rattle.vo_spec.specs.declared.queries.Join.{Join}
-use Rattle.vo_spec.specs.Firsts.{first_some}
 use Rattle.vo_spec.specs.Tables.{Heading}
-use Rattle.vo_spec.specs.Conditions.{Query, comparisons}
-use Rattle.vo_spec.specs.Results.{Side, Place, side_of, sides, sources, missing_table, same_alias, ref_fault, query_refs, join_fault, kind_fault, binding_fault}
-use Rattle.table_list.specs.Sided.{side_seen, sides_seen}
-use Rattle.table_list.specs.declared.sides.Side.{Side as HeldSide}
-use Rattle.table_list.specs.declared.sides.Sides.{Sides}
+use Rattle.vo_spec.specs.Conditions.{Query}
+use Rattle.vo_spec.specs.Results.{Place, side_of, sides}
+use Rattle.query_binding.specs.Sided.{side_seen, sides_seen}
+use Rattle.query_binding.specs.declared.sides.Side.{Side as HeldSide}
+use Rattle.query_binding.specs.declared.sides.Sides.{Sides}
 use Rattle.query_plan.specs.declared.bound_query.BoundJoin.{BoundJoin}
 use Rattle.query_plan.specs.BoundQueries.{bound_join}
 use Rattle.query_plan.specs.declared.bound_query.Query.{Query as HeldQuery}

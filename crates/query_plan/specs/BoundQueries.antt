@@ -1,5 +1,5 @@
 -- Queries whose references are columns by their numbers, and what binding makes of a query by names.
-use Rattle.std.specs.Prelude.{ℕ, List, [], ◌∷◌, ◌++◌, Option, option_map}
+use Rattle.std.specs.Prelude.{List, [], ◌∷◌, ◌++◌, Option, option_map}
 use Rattle.std.specs.Option.{option_map_or}
 use Rattle.vo_spec.specs.declared.queries.Operand.{Operand}
 use Rattle.vo_spec.specs.declared.queries.Operand.TheVariants.{Ref as Column, Literal}

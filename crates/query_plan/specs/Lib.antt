@@ -1,3 +1,4 @@
+pub mod Answers
 pub mod BoundConditions
 pub mod BoundQueries
 pub mod BoundViews

@@ -1,5 +1,5 @@
 -- Plans as the program holds them.
-use Rattle.std.specs.Prelude.{List, map}
+use Rattle.std.specs.Prelude.{map}
 use Rattle.query_plan.specs.declared.plans.Plan.{Plan}
 use Rattle.query_plan.specs.BoundViews.{query_seen, conjunct_seen}
 use Rattle.query_plan.specs.Plans.{QueryPlan}

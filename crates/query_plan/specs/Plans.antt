@@ -1,5 +1,5 @@
 -- Plans: what of a query can be worked out before any row is seen.
-use Rattle.std.specs.Prelude.{ℕ, Bool, ◌==◌, true, false, if◌then◌else◌, List, [], ◌∷◌, Option}
+use Rattle.std.specs.Prelude.{ℕ, Bool, ◌==◌, true, false, if◌then◌else◌, List, [], ◌∷◌}
 use Rattle.std.specs.Option.{option_map_or}
 use Rattle.vo_spec.specs.declared.needs.Need.{Need}
 use Rattle.vo_spec.specs.declared.queries.Cmp.TheVariants as cmp

@@ -1,3 +1,4 @@
+<<<<<<< HEAD
 //! Queries bound to the tables of a catalog.
 ghost use Rattle.std.specs.Prelude.{◌≡◌, map, option_map, IfOk};
 ghost use Rattle.vo_spec.specs.Conditions.{conditions, condition_of, query_of};
@@ -5,14 +6,28 @@ ghost use Rattle.vo_spec.specs.Records.{headings};
 ghost use Rattle.vo_spec.specs.Results.{sides as sides_of, binding_fault};
 ghost use Rattle.table_list.specs.Sided.{sides_seen};
 ghost use Rattle.table_list.specs.Binding.{Passes};
+=======
+//! Queries bound to the tables that they are asked of.
+ghost use Rattle.std.specs.Prelude.{◌≡◌, map, option_map, IfOk};
+ghost use Rattle.vo_spec.specs.Conditions.{conditions, condition_of, query_of};
+ghost use Rattle.vo_spec.specs.Results.{sides as sides_of, binding_fault};
+ghost use Rattle.query_binding.specs.Sided.{sides_seen};
+ghost use Rattle.query_binding.specs.Binding.{Passes};
+>>>>>>> df9d1e6 (A query is bound once, over a catalog or plain tables; table_list comes apart)
 ghost use Rattle.query_plan.specs.BoundQueries.{bound_term, bound_condition, bound_conditions, bound_join, bound_query};
 ghost use Rattle.query_plan.specs.BoundViews.{term_seen, parts_seen, condition_seen, join_seen, query_seen};
 
 use crate::bound_cond::{BoundCond, BoundOperand};
 use crate::bound_query::{BoundJoin, Query};
+<<<<<<< HEAD
 use std::alloc::{AllocError, Global};
 use table_list::{BindFault, Sides, shown_places};
 use vo_spec::{Catalog, Cond, Join, List, Operand, QueryText};
+=======
+use query_binding::{BindFault, Schemas, Sides, bind_sources, shown_places};
+use std::alloc::{AllocError, Global};
+use vo_spec::{Cond, Join, List, Operand, QueryText};
+>>>>>>> df9d1e6 (A query is bound once, over a catalog or plain tables; table_list comes apart)
 
 fn bind_operand<'q>(sides: &Sides<'_>, operand: &'q Operand) -> BoundOperand<'q>
     ensures { term_seen result ≡ bound_term (sides_seen sides.now) operand.now }
@@ -94,13 +109,13 @@ fn bind_join(sides: &Sides<'_>, join: &Option<Join>) -> Option<BoundJoin>
 
 /// The query over the columns of its sources.
 #[tactic(auto, using(crate::proofs::SourceLaws::sources_joined))]
-fn bind_query<'q>(
+fn bind_query<'q, S: Schemas>(
     alloc: Global,
     sides: Sides<'q>,
-    catalog: &Catalog,
+    schemas: &S,
     text: &'q QueryText,
 ) -> Result<Query<'q>, AllocError>
-    requires { sides_seen sides ≡ sides_of (headings catalog.now) (query_of text.now) }
+    requires { sides_seen sides ≡ sides_of (S.headings schemas.now) (query_of text.now) }
     ensures { IfOk result (λ query. query_seen query ≡ bound_query (sides_seen sides.entry) (query_of text.now)) }
 {
     let output = shown_places(alloc, &sides, &text.items)?;
@@ -117,19 +132,24 @@ fn bind_query<'q>(
 
 /// The query over the columns of its tables, or the first of its tests that fails. Names are looked up here
 /// alone.
-pub fn bind<'q>(
+pub fn bind<'q, S: Schemas>(
     alloc: Global,
-    catalog: &'q Catalog,
+    schemas: &'q S,
     text: &'q QueryText,
 ) -> Result<Query<'q>, BindFault>
     // Each reference is the column that it names.
-    ensures value { IfOk result (λ query. query_seen query ≡ bound_query (sides_of (headings catalog.now) (query_of text.now)) (query_of text.now)) }
+    ensures value { IfOk result (λ query. query_seen query ≡ bound_query (sides_of (S.headings schemas.now) (query_of text.now)) (query_of text.now)) }
 
     // No test finds a fault, or the fault is the first that they find.
-    ensures fault { Passes result (binding_fault (headings catalog.now) (query_of text.now)) }
+    ensures fault { Passes result (binding_fault (S.headings schemas.now) (query_of text.now)) }
 {
+<<<<<<< HEAD
     match table_list::bind(alloc, catalog, text) {
         Ok(sides) => Ok(bind_query(alloc, sides, catalog, text)?),
+=======
+    match bind_sources(alloc, schemas, text) {
+        Ok(sides) => Ok(bind_query(alloc, sides, schemas, text)?),
+>>>>>>> df9d1e6 (A query is bound once, over a catalog or plain tables; table_list comes apart)
         Err(fault) => Err(fault),
     }
 }

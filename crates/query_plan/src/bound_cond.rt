@@ -1,5 +1,5 @@
 //! Conditions whose references are columns by their numbers.
-use table_list::Place;
+use query_binding::Place;
 use vo_spec::{Cmp, List, Value};
 
 /// The right side of a comparison.

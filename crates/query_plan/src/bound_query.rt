@@ -2,7 +2,7 @@
 ghost use Rattle.std.specs.Prelude.{◌≡◌, is_some};
 
 use crate::bound_cond::BoundCond;
-use table_list::{Place, Sides};
+use query_binding::{Place, Sides};
 use vo_spec::Items;
 
 /// The two columns of ON in the order of the text.
@@ -12,7 +12,7 @@ pub struct BoundJoin {
     pub second: Place,
 }
 
-/// A query that is bound to the tables of a catalog.
+/// A query that is bound to the tables that it is asked of.
 #[derive(Drop)]
 pub struct Query<'q> {
     /// The sources with their tables' names and schemas.

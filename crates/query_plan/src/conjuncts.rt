@@ -86,7 +86,7 @@ fn put_parts<'c, 'q>(
 }
 
 /// The conjuncts of the condition that are on left columns alone, or those that aren't.
-pub(crate) fn conjuncts<'c, 'q>(
+pub fn conjuncts_of<'c, 'q>(
     alloc: Global,
     cond: &'c Option<BoundCond<'q>>,
     on_left: bool,

@@ -1,13 +1,13 @@
 //! The interval of keys that a condition leaves of the left table.
 ghost use Rattle.std.specs.Prelude.{◌≡◌, map, drop, IfOk};
-ghost use Rattle.table_list.specs.Sided.{place_seen};
+ghost use Rattle.query_binding.specs.Sided.{place_seen};
 ghost use Rattle.query_plan.specs.BoundConditions.{is_left_key, comparison_interval, bound_interval, shared_interval};
 ghost use Rattle.query_plan.specs.BoundViews.{term_seen, parts_seen, condition_seen};
 
 use crate::bound_cond::{BoundCond, BoundOperand};
 use crate::intervals::{all_keys, keys_that, shared};
+use query_binding::Place;
 use std::alloc::{AllocError, Global};
-use table_list::Place;
 use vo_spec::{Cmp, Interval};
 
 fn is_left_key(key: usize, place: Place) -> bool

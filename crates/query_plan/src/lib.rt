@@ -1,14 +1,17 @@
-//! Queries bound to the tables of a catalog, their plans, and what they need of the tables' trees.
+//! Queries bound to tables, their plans, what these need of the tables' trees, and what they show of rows.
 #![tactic(auto)]
 
+mod answers;
 mod binding;
 mod bound_cond;
 mod bound_query;
 mod conjuncts;
 mod copies;
 mod intervals;
+mod keys;
 mod laws;
 mod left_interval;
+mod lines;
 mod named;
 mod needs;
 mod planning;
@@ -16,17 +19,22 @@ mod plans;
 mod rows;
 mod truths;
 mod used;
+mod value_order;
 
+pub use answers::{push_alone, push_answers, push_pairs};
 pub use binding::bind;
 pub use bound_cond::{BoundCond, BoundOperand, Conjunct};
 pub use bound_query::{BoundJoin, Query};
+pub use conjuncts::conjuncts_of;
 pub use copies::copy_need;
-pub use laws::{bindings_keep_conditions, plans_keep_needs};
+pub use keys::value_of_key;
+pub use laws::{bindings_keep_conditions, plans_keep_needs, plans_keep_results};
+pub use lines::{Line, value_at};
 pub use needs::{is_narrow, meets_left, right_need};
 pub use planning::plan;
 pub use plans::Plan;
+pub use query_binding::{BindFault, Place, Schemas, Side, Sides, header};
 pub use rows::{LeftRow, PlaceValues, RowPair};
-pub use table_list::{BindFault, Line, Place, Side, Sides, header};
 pub use truths::all_hold;
 pub use used::{has_one_tree, same_table, tables_used};
 pub use vo_spec::{Catalog, Interval, Need, QueryText};

@@ -4,7 +4,7 @@ ghost use Rattle.std.specs.Option.{option_map_or};
 ghost use Rattle.std.specs.List.{list_any};
 ghost use Rattle.vo_spec.specs.Batches.{most_columns};
 ghost use Rattle.vo_spec.specs.Results.{schema_at};
-ghost use Rattle.table_list.specs.Sided.{sides_seen, place_seen};
+ghost use Rattle.query_binding.specs.Sided.{sides_seen, place_seen};
 ghost use Rattle.query_plan.specs.BoundConditions.{term_places, condition_places, parts_places};
 ghost use Rattle.query_plan.specs.BoundQueries.{join_columns};
 ghost use Rattle.query_plan.specs.BoundViews.{term_seen, parts_seen, condition_seen, join_seen, query_seen};
@@ -12,8 +12,9 @@ ghost use Rattle.query_plan.specs.Named.{is_at, names, is_named_cell, cells_of, 
 
 use crate::bound_cond::{BoundCond, BoundOperand};
 use crate::bound_query::{BoundJoin, Query};
+use query_binding::Place;
 use std::alloc::{AllocError, Global};
-use table_list::{Place, cell_number};
+use table_list::cell_number;
 use vo_spec::{Items, List, Schema};
 
 fn is_at(at: Place, place: Place) -> bool

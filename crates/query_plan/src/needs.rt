@@ -2,7 +2,7 @@
 ghost use Rattle.std.specs.Prelude.{◌≡◌, ◌≤◌, ◌↔◌, [], ◌∷◌, length, IfOk, IsTrue};
 ghost use Rattle.vo_spec.specs.Batches.{most_columns};
 ghost use Rattle.vo_spec.specs.Results.{schema_at, place_value};
-ghost use Rattle.table_list.specs.Sided.{sides_seen, place_seen};
+ghost use Rattle.query_binding.specs.Sided.{sides_seen, place_seen};
 ghost use Rattle.query_plan.specs.BoundConditions.{all_hold};
 ghost use Rattle.query_plan.specs.BoundViews.{join_seen};
 ghost use Rattle.query_plan.specs.Plans.{left_column, right_need_of, meets_left};
@@ -11,12 +11,13 @@ ghost use Rattle.query_plan.specs.PlanViews.{plan_seen};
 use crate::bound_query::BoundJoin;
 use crate::copies::copy_cells;
 use crate::intervals::keys_that;
+use crate::lines::Line;
 use crate::plans::Plan;
 use crate::rows::{LeftRow, PlaceValues};
 use crate::truths::all_hold;
+use query_binding::{Place, Sides};
 use row_bytes::own_value;
 use std::alloc::{AllocError, Global};
-use table_list::{Line, Place, Sides};
 use vo_spec::{Cmp, Need, Value};
 
 /// Whether the source of this number has no more columns than a table may have.

@@ -4,7 +4,7 @@ ghost use Rattle.std.specs.Option.{option_map_or};
 ghost use Rattle.vo_spec.specs.Batches.{most_columns};
 ghost use Rattle.vo_spec.specs.Results.{schema_at};
 ghost use Rattle.vo_spec.specs.Needs.{all_keys};
-ghost use Rattle.table_list.specs.Sided.{sides_seen};
+ghost use Rattle.query_binding.specs.Sided.{sides_seen};
 ghost use Rattle.query_plan.specs.BoundConditions.{bound_interval};
 ghost use Rattle.query_plan.specs.BoundViews.{condition_seen, query_seen};
 ghost use Rattle.query_plan.specs.Plans.{bound_left_need, plan_of};
@@ -12,7 +12,7 @@ ghost use Rattle.query_plan.specs.PlanViews.{plan_seen};
 
 use crate::bound_cond::BoundCond;
 use crate::bound_query::Query;
-use crate::conjuncts::conjuncts;
+use crate::conjuncts::conjuncts_of;
 use crate::intervals::all_keys;
 use crate::left_interval::interval_of;
 use crate::named::named_cells;
@@ -52,8 +52,8 @@ pub fn plan<'p, 'q>(alloc: Global, query: &'p Query<'q>) -> Result<Plan<'p, 'q>,
 {
     let left_need = left_need(alloc, query)?;
     let right_cells = named_cells(alloc, query, 1)?;
-    let left = conjuncts(alloc, &query.condition, true)?;
-    let late = conjuncts(alloc, &query.condition, false)?;
+    let left = conjuncts_of(alloc, &query.condition, true)?;
+    let late = conjuncts_of(alloc, &query.condition, false)?;
     Ok(Plan {
         query,
         left_need,

@@ -3,9 +3,10 @@ ghost use Rattle.std.specs.Prelude.{◌≡◌, [], ◌∷◌};
 ghost use Rattle.vo_spec.specs.declared.values.Value.{Value as Plain};
 ghost use Rattle.vo_spec.specs.Lent.{value_of};
 ghost use Rattle.vo_spec.specs.Results.{Place as PlainPlace, place_value};
-ghost use Rattle.table_list.specs.Sided.{place_seen};
+ghost use Rattle.query_binding.specs.Sided.{place_seen};
 
-use table_list::{Line, Place};
+use crate::lines::Line;
+use query_binding::Place;
 use vo_spec::ValueRef;
 
 /// Rows, one of each source, as what they have at each column's place.

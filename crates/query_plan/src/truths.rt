@@ -2,14 +2,14 @@
 ghost use Rattle.std.specs.Prelude.{◌≡◌, map, drop};
 ghost use Rattle.vo_spec.specs.Lent.{value_of};
 ghost use Rattle.vo_spec.specs.Conditions.{compares};
-ghost use Rattle.table_list.specs.Sided.{place_seen};
+ghost use Rattle.query_binding.specs.Sided.{place_seen};
 ghost use Rattle.query_plan.specs.BoundConditions.{term_value, bound_truth, every_true, some_true, all_hold};
 ghost use Rattle.query_plan.specs.BoundViews.{term_seen, parts_seen, condition_seen, conjunct_seen};
 
 use crate::bound_cond::{BoundCond, BoundOperand, Conjunct};
 use crate::rows::PlaceValues;
+use crate::value_order::compare_values;
 use std::cmp::Ordering;
-use table_list::compare_values;
 use vo_spec::{Cmp, ValueRef};
 
 fn compares(op: Cmp, ordering: Ordering) -> bool

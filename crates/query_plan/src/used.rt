@@ -1,11 +1,11 @@
 //! The tables whose trees a query reads.
 ghost use Rattle.std.specs.Prelude.{◌≡◌, ◌==◌, ◌||◌, map, length, IfOk};
 ghost use Rattle.vo_spec.specs.Needs.{same_table, tables_used};
-ghost use Rattle.table_list.specs.Sided.{sides_seen};
+ghost use Rattle.query_binding.specs.Sided.{sides_seen};
 ghost use Rattle.query_plan.specs.Used.{has_one_tree, lent_name};
 
+use query_binding::Sides;
 use std::alloc::{AllocError, Global};
-use table_list::Sides;
 use vo_spec::Name;
 
 /// Whether a join is of a table with itself.

@@ -1,10 +1,4 @@
 pub mod KindLaws
-pub mod FirstLaws
-pub mod Passing
-pub mod ShownLaws
 pub mod PlainLaws
 pub mod PutLaws
 pub mod CommandLaws
-pub mod WidthLaws
-pub mod KeptLaws
-pub mod ResultLaws

@@ -2,11 +2,10 @@
 ghost use Rattle.std.specs.Prelude.{◌≡◌, ◌≤◌, length, map, bytes_eq, IfOk};
 ghost use Rattle.std.specs.List.{list_any};
 ghost use Rattle.vo_spec.specs.Tables.{column_at, column_number, has_column, is_key, suits, are_of_kinds, has_twice, is_bad_schema};
-ghost use Rattle.vo_spec.specs.Lent.{value_of};
-ghost use Rattle.vo_spec.specs.Values.{kind_of, same_kind, type_byte};
+ghost use Rattle.vo_spec.specs.Values.{kind_of, same_kind};
 
 use std::alloc::{AllocError, Global};
-use vo_spec::{Column, Kind, List, Name, Schema, Value, ValueRef};
+use vo_spec::{Column, Kind, List, Name, Schema, Value};
 
 /// The number of the column of this name, or else how many there are.
 pub fn column_number(columns: &[Column], name: &[u8]) -> usize
@@ -23,7 +22,7 @@ pub fn column_number(columns: &[Column], name: &[u8]) -> usize
     number
 }
 
-pub(crate) fn has_column(columns: &[Column], name: &[u8]) -> bool
+pub fn has_column(columns: &[Column], name: &[u8]) -> bool
     ensures { result ≡ has_column columns.now name.now }
 {
     column_number(columns, name) < columns.len()
@@ -42,17 +41,6 @@ pub fn kind_of(value: &Value) -> Kind
         Value::Int(_) => Kind::Int,
         Value::Text(_) => Kind::Text,
         Value::Bool(_) => Kind::Bool,
-    }
-}
-
-/// The byte of the value's kind, by which values of two kinds are compared.
-pub(crate) fn kind_of_ref(value: ValueRef<'_>) -> u8
-    ensures { result ≡ type_byte (kind_of (value_of value.entry)) }
-{
-    match value {
-        ValueRef::Int(_) => 1,
-        ValueRef::Text(_) => 2,
-        ValueRef::Bool(_) => 3,
     }
 }
 
@@ -76,7 +64,7 @@ pub fn kind_at(columns: &[Column], number: usize) -> Kind
 }
 
 /// The name of the column of this number, past the end nothing.
-pub(crate) fn name_at(columns: &[Column], number: usize) -> &[u8]
+pub fn name_at(columns: &[Column], number: usize) -> &[u8]
     ensures { result.now ≡ (column_at columns.now number).name }
 {
     match columns.get(number) {

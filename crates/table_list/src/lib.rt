@@ -1,55 +1,32 @@
-//! Plain tables: what commands and batches make of them, and what queries give.
+//! Plain tables, and what commands and batches make of them.
 #![tactic(auto)]
 
+<<<<<<< HEAD
 mod answering;
 mod bind_fault;
 mod binding;
 mod catalogs;
+=======
+>>>>>>> df9d1e6 (A query is bound once, over a catalog or plain tables; table_list comes apart)
 mod cells;
 mod columns;
 mod commands;
-mod comparisons;
-mod conditions;
 mod copies;
 mod fault;
-mod headers;
-mod joined;
-mod joins;
-mod lines;
 mod named;
 mod new_rows;
-mod plain;
-mod references;
 mod refusal;
-mod results;
 mod rows;
-mod same;
-mod schemas;
 mod sets;
-mod shown;
-mod sides;
-mod table_rows;
 mod tables;
 
-pub use answering::{push_alone, push_pairs};
-pub use bind_fault::BindFault;
-pub use binding::bind;
 pub use cells::cell_number;
-pub use columns::{column_number, copy_columns, has_twice, kind_at, kind_of, same_kind};
-pub use conditions::{RowValues, compare_values, truth};
+pub use columns::{
+    column_number, copy_columns, has_column, has_twice, kind_at, kind_of, name_at, same_kind,
+};
 pub use copies::copy_schema;
 pub use fault::{ApplyFault, BatchFault};
-pub use headers::header;
-pub use joined::Joined;
-pub use joins::join_places;
-pub use lines::Line;
-pub use named::command_name;
+pub use named::{command_name, table_named};
 pub use new_rows::{key_at, row_of};
 pub use refusal::{HeadingRef, first_refusal};
-pub use results::{result, result_on};
-pub use same::same_outcome;
-pub use schemas::Schemas;
-pub use shown::shown_places;
-pub use sides::{Place, Side, Sides};
-pub use table_rows::TableRow;
 pub use tables::{Tables, apply, apply_batch};

@@ -7,7 +7,7 @@ use crate::refusal::HeadingRef;
 use vo_spec::{Command, Table};
 
 /// The first table of this name.
-pub(crate) fn table_named<'t>(tables: &'t [Table], name: &[u8]) -> Option<&'t Table>
+pub fn table_named<'t>(tables: &'t [Table], name: &[u8]) -> Option<&'t Table>
     ensures { option_map (λ t. t.now) result ≡ table_named name.now tables.now }
 {
     for table in tables {

@@ -5,7 +5,6 @@ ghost use Rattle.vo_spec.specs.Tables.{apply, apply_batch};
 ghost use Rattle.vo_spec.specs.Batches.{FitsCommand, FitsBatch};
 ghost use Rattle.table_list.specs.Batched.{BatchGives};
 ghost use Rattle.table_list.specs.Changes.{Gives};
-ghost use Rattle.table_list.specs.Kept.{AreKept};
 
 use crate::commands::apply_command;
 use crate::copies::copy_tables;
@@ -23,13 +22,10 @@ pub struct Tables {
 impl Model for Tables {
     ghost use Rattle.std.specs.Prelude.{List};
     ghost use Rattle.vo_spec.specs.declared.tables.Table.{Table};
-    ghost use Rattle.table_list.specs.Kept.{AreKept};
 
     ghost Value = { List Table };
 
     ghost view = { λ t. t.tables.items };
-
-    ghost invariant = { λ t. AreKept t.tables.items };
 }
 
 impl Tables {
@@ -42,9 +38,9 @@ impl Tables {
         }
     }
 
-    pub(crate) fn as_slice(&self) -> &[Table]
-        ensures value { result.now ≡ self.now }
-        ensures kept { AreKept result.now }
+    /// The tables in their order.
+    pub fn as_slice(&self) -> &[Table]
+        ensures { result.now ≡ self.now }
     {
         self.tables.as_slice()
     }

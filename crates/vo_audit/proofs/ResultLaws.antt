@@ -1,11 +1,9 @@
--- Trees stand for one list of plain tables, whose rows have keys of their kinds.
+-- Trees stand for one list of plain tables.
 use Rattle.std.proofs.Common.{◌≡◌, List, [], ◌∷◌, map, refl, sym, ap, ◌∙◌}
-use Rattle.std.specs.List.{AllByRecursion}
 use Rattle.vo_spec.specs.declared.tables.Table.{Table}
 use Rattle.vo_spec.specs.Standing.{row_in}
 use Rattle.vo_spec.specs.Honest.{Stored, StandForTables, StandsForTable}
 use Rattle.mb_tree.proofs.RowLaws.{rows_in_leaf}
-use Rattle.table_list.specs.PlainLines.{IsKeyed}
 
 table_once : (s : Stored) (a b : Table) → StandsForTable s a → StandsForTable s b → a ≡ b
 table_once s a b y z =
@@ -19,9 +17,3 @@ tables_once [] (a ∷ us) bs ys zs = absurd ys
 tables_once (s ∷ stored) [] bs ys zs = absurd ys
 tables_once (s ∷ stored) (a ∷ us) [] ys zs = absurd zs
 tables_once (s ∷ stored) (a ∷ us) (b ∷ bs) ys zs = rw (table_once s a b ys.0 zs.0, tables_once stored us bs ys.1 zs.1) refl
-
-pub tables_keyed : (stored : List Stored) (tables : List Table) → StandForTables stored tables → AllByRecursion IsKeyed tables
-tables_keyed [] [] zs = tt
-tables_keyed [] (t ∷ tables) zs = absurd zs
-tables_keyed (s ∷ stored) [] zs = absurd zs
-tables_keyed (s ∷ stored) (t ∷ tables) zs = (zs.0.keys, tables_keyed stored tables zs.1)

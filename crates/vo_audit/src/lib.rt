@@ -5,7 +5,7 @@ mod auditing;
 mod evidence;
 mod holding;
 mod numbers;
-mod plain_result;
+mod outcome_test;
 mod tree_evidence;
 mod verdicts;
 

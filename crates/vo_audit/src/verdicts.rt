@@ -13,7 +13,7 @@ ghost use Rattle.vo_audit.specs.Auditing.{HasPassed, IsHeldVerdict, IsReadAt, se
 use crate::evidence::evidence;
 use crate::holding::holds;
 use crate::numbers::see_numbers;
-use crate::plain_result::is_result;
+use crate::outcome_test::is_result;
 use owner_state::OwnedJournal;
 use std::alloc::{AllocError, Global};
 use stored_tables::StoredTables;

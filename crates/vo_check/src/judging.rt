@@ -7,7 +7,7 @@ ghost use Rattle.vo_spec.specs.Results.{schema_at, binding_fault};
 ghost use Rattle.vo_spec.specs.Needs.{tables_used};
 ghost use Rattle.vo_spec.specs.Checks.{reply_fault, seen_outcome, answer_to};
 ghost use Rattle.vo_spec.specs.Batches.{most_columns};
-ghost use Rattle.table_list.specs.Sided.{sides_seen};
+ghost use Rattle.query_binding.specs.Sided.{sides_seen};
 ghost use Rattle.query_plan.specs.BoundViews.{query_seen};
 ghost use Rattle.query_plan.specs.Plans.{plan_of};
 ghost use Rattle.query_plan.specs.PlanViews.{plan_seen};

@@ -26,8 +26,8 @@ use Rattle.vo_laws.proofs.ScanLaws.{Shows, complete}
 use Rattle.vo_laws.proofs.StoredFits.{catalog_fits}
 use Rattle.vo_laws.proofs.Exact.{named_stands, same_headings}
 use Rattle.vo_laws.proofs.NeedLaws.{needs_of_left}
-use Rattle.table_list.specs.declared.sides.Side.{Side as HeldSide}
-use Rattle.table_list.specs.Sided.{side_seen}
+use Rattle.query_binding.specs.declared.sides.Side.{Side as HeldSide}
+use Rattle.query_binding.specs.Sided.{side_seen}
 use Rattle.stored_tables.specs.Standing.{IsStanding}
 use Rattle.query_plan.proofs.Narrow.{sides_narrow}
 use Rattle.query_plan.specs.BoundQueries.{bound_query}

@@ -7,7 +7,7 @@ ghost use Rattle.vo_spec.specs.Scans.{seen};
 ghost use Rattle.vo_spec.specs.Pruned.{pruned};
 ghost use Rattle.vo_spec.specs.Honest.{catalog_of, stored_tree};
 ghost use Rattle.mb_tree.specs.View.{part_of};
-ghost use Rattle.table_list.specs.Sided.{sides_seen};
+ghost use Rattle.query_binding.specs.Sided.{sides_seen};
 ghost use Rattle.query_plan.specs.BoundViews.{query_seen};
 ghost use Rattle.query_plan.specs.Plans.{plan_of};
 ghost use Rattle.query_plan.specs.PlanViews.{plan_seen};

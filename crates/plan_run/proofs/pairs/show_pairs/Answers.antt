@@ -1,4 +1,4 @@
-use Rattle.std.proofs.Common.{◌≡◌, true, map, Err, List}
+use Rattle.std.proofs.Common.{◌≡◌, true, Err, List}
 use Rattle.vo_spec.specs.declared.trees.ScanFault.{ScanFault}
 use Rattle.vo_spec.specs.declared.trees.ScanFault.TheVariants.{Missing, Memory}
 use Rattle.vo_spec.specs.Results.{Place, Line}

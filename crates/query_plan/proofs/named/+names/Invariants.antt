@@ -1,6 +1,6 @@
 use Rattle.std.proofs.Common.{◌≡◌, map, drop}
 use Rattle.std.specs.List.{list_any}
-use Rattle.table_list.specs.Sided.{place_seen}
+use Rattle.query_binding.specs.Sided.{place_seen}
 use Rattle.query_plan.specs.BoundConditions.{parts_places}
 use Rattle.query_plan.specs.BoundViews.{parts_seen, condition_seen}
 use Rattle.query_plan.specs.Named.{is_at}

@@ -1,6 +1,6 @@
-use Rattle.std.proofs.Common.{◌≡◌, ◌<◌, ◌-◌, ◌++◌, ◌+◌, true, false, length, arith}
+use Rattle.std.proofs.Common.{◌≡◌, ◌<◌, true, false, length, arith}
 use Rattle.query_plan.specs.BoundViews.{query_seen}
-use Rattle.query_plan.specs.Named.{is_named_cell, cells_from, cells_of}
+use Rattle.query_plan.specs.Named.{is_named_cell}
 use Rattle.query_plan.proofs.Naming.{step_named, step_passed}
 use Rattle.query_plan.proofs.named.cells_of.Goals as goal
 use Rattle.query_plan.proofs.named.cells_of.Goals.{then-is_named_cell+in_ok-push, else-is_named_cell}

@@ -1,6 +1,6 @@
 use Rattle.std.proofs.Common.{◌≡◌, map, ap, ◌∙◌}
 use Rattle.vo_spec.specs.Needs.{tables_used}
-use Rattle.table_list.specs.Sided.{sides_seen}
+use Rattle.query_binding.specs.Sided.{sides_seen}
 use Rattle.query_plan.specs.BoundViews.{query_seen}
 use Rattle.query_plan.specs.PlanViews.{plan_seen}
 use Rattle.query_plan.specs.Used.{lent_name}

@@ -4,8 +4,8 @@ use Rattle.vo_spec.specs.Trees.{RowTree}
 use Rattle.vo_spec.specs.Pruned.{pruned}
 use Rattle.vo_spec.specs.Needs.{same_table}
 use Rattle.vo_spec.specs.Honest.{stored_tree}
-use Rattle.table_list.specs.declared.sides.Side.{Side as HeldSide}
-use Rattle.table_list.specs.Sided.{sides_seen}
+use Rattle.query_binding.specs.declared.sides.Side.{Side as HeldSide}
+use Rattle.query_binding.specs.Sided.{sides_seen}
 use Rattle.query_plan.specs.PlanViews.{plan_seen}
 use Rattle.plan_run.specs.Running.{lefts_seen, needs_of}
 use Rattle.vo_format.specs.View.{trees_of}

@@ -3,8 +3,8 @@ use Rattle.vo_spec.specs.Trees.{RowTree}
 use Rattle.vo_spec.specs.Scans.{seen}
 use Rattle.vo_spec.specs.Pruned.{pruned}
 use Rattle.mb_tree.specs.View.{part_of}
-use Rattle.table_list.specs.declared.sides.Side.{Side as HeldSide}
-use Rattle.table_list.specs.Sided.{sides_seen}
+use Rattle.query_binding.specs.declared.sides.Side.{Side as HeldSide}
+use Rattle.query_binding.specs.Sided.{sides_seen}
 use Rattle.query_plan.specs.PlanViews.{plan_seen}
 use Rattle.vo_format.specs.View.{trees_of}
 use Rattle.vo_store.specs.Proving.{HasTables, left_proof}

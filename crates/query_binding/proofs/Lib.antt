@@ -1,0 +1,3 @@
+mod FirstLaws
+mod Passing
+mod ShownLaws

@@ -1,0 +1,17 @@
+use Rattle.std.proofs.Common.{◌++◌, [], ◌∷◌, map, ap, sym, ◌∙◌}
+use Rattle.std.proofs.lemmas.List.{map-append, append_assoc}
+use Rattle.query_binding.specs.Sided.{place_seen}
+use Rattle.query_binding.specs.Shown.{column_of, places_until}
+use Rattle.query_binding.proofs.ShownLaws.{places_more}
+use Rattle.query_binding.proofs.shown.push_places.Goals as goal
+
+pub loop-column-preserved : goal.loop-column-preserved
+loop-column-preserved c =
+    let side = c.args.side in
+    let column = c.loop-column.column in
+    let last = column_of side column ∷ [] in
+    ap (map place_seen) c.in_ok-push.ensures.items
+    ∙ map-append place_seen c.loop-column.out.items (record { side = side; column = column } ∷ [])
+    ∙ ap (λ places. places ++ last) c.loop-column.invariant
+    ∙ append_assoc (map place_seen c.args.out.now.items) (places_until side column) last
+    ∙ ap (λ places. map place_seen c.args.out.now.items ++ places) (sym (places_more side column))

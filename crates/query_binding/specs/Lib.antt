@@ -1,0 +1,4 @@
+pub mod Sided
+pub mod Binding
+pub mod Catalogs
+pub mod Shown

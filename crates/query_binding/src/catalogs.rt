@@ -1,0 +1,32 @@
+//! The tables of a catalog, as queries find them by their names.
+ghost use Rattle.std.specs.Prelude.{◌≡◌, map, drop, option_map};
+ghost use Rattle.vo_spec.specs.Tables.{heading_named};
+ghost use Rattle.vo_spec.specs.Records.{headings as headings_of};
+<<<<<<<< HEAD:crates/table_list/src/catalogs.rt
+ghost use Rattle.table_list.specs.Catalogs.{schema_named};
+========
+ghost use Rattle.query_binding.specs.Catalogs.{schema_named};
+>>>>>>>> df9d1e6 (A query is bound once, over a catalog or plain tables; table_list comes apart):crates/query_binding/src/catalogs.rt
+
+use crate::schemas::Schemas;
+use vo_spec::{Catalog, CatalogTable, Schema};
+
+impl Schemas for Catalog {
+    ghost headings = { λ catalog. headings_of catalog };
+
+    fn schema(&self, name: &[u8]) -> Option<&Schema> {
+        find_schema(self.tables.as_slice(), name)
+    }
+}
+
+/// The schema of the first table of this name.
+fn find_schema<'c>(tables: &'c [CatalogTable], name: &[u8]) -> Option<&'c Schema>
+    ensures { option_map (λ s. s.now) result ≡ schema_named name.now tables.now }
+{
+    for table in tables {
+        if table.name.as_bytes() == name {
+            return Some(&table.schema);
+        }
+    }
+    None
+}

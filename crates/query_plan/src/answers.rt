@@ -1,0 +1,123 @@
+//! The rows that a bound query shows of rows of its sources, whoever saw these.
+ghost use Rattle.std.specs.Prelude.{◌≡◌, ◌++◌, [], ◌∷◌, map, flat_map, option_map, IfOk, OnOk};
+ghost use Rattle.vo_spec.specs.Results.{place_value};
+ghost use Rattle.query_binding.specs.Sided.{place_seen};
+ghost use Rattle.query_plan.specs.BoundViews.{conjunct_seen, join_seen, query_seen};
+ghost use Rattle.query_plan.specs.Answers.{are_joined, answer_at, pair_answers, left_answers};
+
+use crate::bound_cond::Conjunct;
+use crate::bound_query::{BoundJoin, Query};
+use crate::lines::Line;
+use crate::rows::{LeftRow, PlaceValues, RowPair};
+use crate::truths::all_hold;
+use crate::value_order::compare_values;
+use query_binding::Place;
+use std::alloc::{AllocError, Global};
+use vo_spec::{List, Value};
+
+fn are_joined<V: PlaceValues>(rows: &V, join: &Option<BoundJoin>) -> bool
+    ensures { result ≡ are_joined (V.values rows.now) (option_map join_seen join.now) }
+{
+    match join {
+        None => true,
+        Some(join) => compare_values(rows.value(join.first), rows.value(join.second)).is_eq(),
+    }
+}
+
+/// What stands at each of the places.
+fn projected<V: PlaceValues>(
+    alloc: Global,
+    rows: &V,
+    places: &[Place],
+) -> Result<List<Value>, AllocError>
+    ensures { IfOk result (λ values. values ≡ map (V.values rows.now) (map place_seen places.now)) }
+{
+    let mut values = Vec::with_capacity(alloc, places.len())?;
+    for place in places {
+        values.push(rows.value(*place).to_value(alloc)?)?;
+    }
+    Ok(List::from_vec(values))
+}
+
+/// Puts what the query shows of rows that meet the left condition at the end of the answer, where they are
+/// joined and meet the late condition.
+fn push_answer<V: PlaceValues>(
+    alloc: Global,
+    query: &Query<'_>,
+    late: &[Conjunct<'_, '_>],
+    rows: &V,
+    out: &mut Vec<List<Value>>,
+) -> Result<(), AllocError>
+    ensures { OnOk result (out.new.items ≡ out.old.items
+        ++ answer_at (query_seen query.now) (map conjunct_seen late.now) (V.values rows.now)) }
+{
+    if are_joined(rows, &query.join) && all_hold(late, rows) {
+        out.push(projected(alloc, rows, &query.output)?)?;
+    }
+    Ok(())
+}
+
+/// Puts what the query shows of a left row alone at the end of the answer.
+pub fn push_alone<L: Line>(
+    alloc: Global,
+    query: &Query<'_>,
+    late: &[Conjunct<'_, '_>],
+    left: &L,
+    out: &mut Vec<List<Value>>,
+) -> Result<(), AllocError>
+    ensures { OnOk result (out.new.items ≡ out.old.items
+        ++ answer_at (query_seen query.now) (map conjunct_seen late.now) (place_value (L.line left.now ∷ []))) }
+{
+    push_answer(alloc, query, late, &LeftRow { left }, out)
+}
+
+fn push_pair<'r, L: Line, R: Line>(
+    alloc: Global,
+    query: &Query<'_>,
+    late: &[Conjunct<'_, '_>],
+    left: &'r L,
+    right: &'r R,
+    out: &mut Vec<List<Value>>,
+) -> Result<(), AllocError>
+    ensures { OnOk result (out.new.items ≡ out.old.items
+        ++ answer_at (query_seen query.now) (map conjunct_seen late.now) (place_value (L.line left.now ∷ R.line right.now ∷ []))) }
+{
+    push_answer(alloc, query, late, &RowPair { left, right }, out)
+}
+
+/// Puts what the query shows of a left row beside each of its right rows at the end of the answer.
+pub fn push_pairs<L: Line, R: Line>(
+    alloc: Global,
+    query: &Query<'_>,
+    late: &[Conjunct<'_, '_>],
+    left: &L,
+    rights: &[R],
+    out: &mut Vec<List<Value>>,
+) -> Result<(), AllocError>
+    ensures { OnOk result (out.new.items ≡ out.old.items
+        ++ pair_answers (query_seen query.now) (map conjunct_seen late.now) (map R.line rights.now) (L.line left.now)) }
+{
+    for right in rights {
+        push_pair(alloc, query, late, &*left, right, out)?;
+    }
+    Ok(())
+}
+
+/// Puts what the query shows of a left row at the end of the answer: alone, or in a join beside its right
+/// rows.
+pub fn push_answers<L: Line, R: Line>(
+    alloc: Global,
+    query: &Query<'_>,
+    late: &[Conjunct<'_, '_>],
+    left: &L,
+    rights: &[R],
+    out: &mut Vec<List<Value>>,
+) -> Result<(), AllocError>
+    ensures { OnOk result (out.new.items ≡ out.old.items
+        ++ left_answers (query_seen query.now) (map conjunct_seen late.now) (option_map join_seen query.now.join) (map R.line rights.now) (L.line left.now)) }
+{
+    match query.join {
+        None => push_alone(alloc, query, late, left, out),
+        Some(_) => push_pairs(alloc, query, late, left, rights, out),
+    }
+}

@@ -1,9 +1,0 @@
-use Rattle.std.proofs.Common.{◌≡◌, map, drop}
-use Rattle.vo_spec.specs.Firsts.{first_some}
-use Rattle.vo_spec.specs.Conditions.{condition_of, conditions, comparisons_in}
-use Rattle.vo_spec.specs.Results.{kind_fault}
-use Rattle.table_list.specs.Sided.{sides_seen}
-use Rattle.table_list.proofs.comparisons.+condition_kinds.Given as goal
-
-abbrev pub invariant-test_parts-loop-part : goal.invariant-test_parts-loop-part
-invariant-test_parts-loop-part l = first_some (map (kind_fault (sides_seen l.sides)) (comparisons_in (conditions (map condition_of (drop l.part-index l.parts))))) ≡ first_some (map (kind_fault (sides_seen l.sides)) (comparisons_in (conditions (map condition_of l.parts))))

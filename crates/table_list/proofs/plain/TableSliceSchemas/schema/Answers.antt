@@ -1,9 +1,0 @@
-use Rattle.std.proofs.Common.{Some, None, sym}
-use Rattle.table_list.proofs.PlainLaws.{schema_by_name}
-use Rattle.table_list.proofs.plain.TableSliceSchemas.schema.Goals as goal
-
-pub returns-in-Some : goal.returns-in-Some
-returns-in-Some c = sym (schema_by_name c.args.name.now c.args.self.now.tables.now (Some c.in-Some.table.now) (sym c.in-Some.ensures))
-
-pub returns-in-None : goal.returns-in-None
-returns-in-None c = sym (schema_by_name c.args.name.now c.args.self.now.tables.now None (sym c.in-None.ensures))

@@ -1,7 +1,0 @@
-use Rattle.std.proofs.Common.{◌≡◌, map, take}
-use Rattle.vo_spec.specs.Results.{line_of}
-use Rattle.table_list.specs.PlainLines.{row_line}
-use Rattle.table_list.proofs.plain.row_lines.Given as goal
-
-abbrev pub invariant-loop-row : goal.invariant-loop-row
-invariant-loop-row l = map row_line l.lines.items ≡ map (line_of l.schema) (take l.row-index l.rows)

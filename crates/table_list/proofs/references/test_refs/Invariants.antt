@@ -1,8 +1,0 @@
-use Rattle.std.proofs.Common.{◌≡◌, map, drop}
-use Rattle.vo_spec.specs.Firsts.{first_some}
-use Rattle.vo_spec.specs.Results.{ref_fault}
-use Rattle.table_list.specs.Sided.{sides_seen}
-use Rattle.table_list.proofs.references.test_refs.Given as goal
-
-abbrev pub invariant-loop-reference : goal.invariant-loop-reference
-invariant-loop-reference l = first_some (map (ref_fault (sides_seen l.sides)) (drop l.reference-index l.references)) ≡ first_some (map (ref_fault (sides_seen l.sides)) l.references)

@@ -1,7 +1,0 @@
-use Rattle.std.proofs.Common.{◌≡◌, map, take}
-use Rattle.vo_spec.specs.Results.{place_of}
-use Rattle.table_list.specs.Sided.{sides_seen, place_seen}
-use Rattle.table_list.proofs.shown.places_of.Given as goal
-
-abbrev pub invariant-loop-reference : goal.invariant-loop-reference
-invariant-loop-reference l = map place_seen l.places.items ≡ map (place_of (sides_seen l.sides)) (take l.reference-index l.references)
