@@ -2,11 +2,7 @@
 ghost use Rattle.std.specs.Prelude.{◌≡◌, map, drop, option_map};
 ghost use Rattle.vo_spec.specs.Tables.{heading_named};
 ghost use Rattle.vo_spec.specs.Records.{headings as headings_of};
-<<<<<<<< HEAD:crates/table_list/src/catalogs.rt
-ghost use Rattle.table_list.specs.Catalogs.{schema_named};
-========
 ghost use Rattle.query_binding.specs.Catalogs.{schema_named};
->>>>>>>> df9d1e6 (A query is bound once, over a catalog or plain tables; table_list comes apart):crates/query_binding/src/catalogs.rt
 
 use crate::schemas::Schemas;
 use vo_spec::{Catalog, CatalogTable, Schema};

@@ -1,9 +1,5 @@
 -- A query with a join has two sources.
-<<<<<<< HEAD
-use Rattle.std.proofs.Common.{◌≡◌, List, [], ◌∷◌, ◌++◌, Option, Some, None, is_some, length, map, refl, ap, subst, arith, ◌∙◌}
-=======
 use Rattle.std.proofs.Common.{◌≡◌, List, ◌∷◌, Option, Some, None, is_some, length, map, refl, ap, arith, ◌∙◌}
->>>>>>> df9d1e6 (A query is bound once, over a catalog or plain tables; table_list comes apart)
 use Rattle.std.specs.Prelude.{◌==◌, false, option_map, option_to_list}
 use Rattle.vo_spec.specs.declared.queries.Join.{Join}
 use Rattle.vo_spec.specs.Tables.{Heading}

@@ -1,33 +1,17 @@
-<<<<<<< HEAD
-//! Queries bound to the tables of a catalog.
-ghost use Rattle.std.specs.Prelude.{◌≡◌, map, option_map, IfOk};
-ghost use Rattle.vo_spec.specs.Conditions.{conditions, condition_of, query_of};
-ghost use Rattle.vo_spec.specs.Records.{headings};
-ghost use Rattle.vo_spec.specs.Results.{sides as sides_of, binding_fault};
-ghost use Rattle.table_list.specs.Sided.{sides_seen};
-ghost use Rattle.table_list.specs.Binding.{Passes};
-=======
 //! Queries bound to the tables that they are asked of.
 ghost use Rattle.std.specs.Prelude.{◌≡◌, map, option_map, IfOk};
 ghost use Rattle.vo_spec.specs.Conditions.{conditions, condition_of, query_of};
 ghost use Rattle.vo_spec.specs.Results.{sides as sides_of, binding_fault};
 ghost use Rattle.query_binding.specs.Sided.{sides_seen};
 ghost use Rattle.query_binding.specs.Binding.{Passes};
->>>>>>> df9d1e6 (A query is bound once, over a catalog or plain tables; table_list comes apart)
 ghost use Rattle.query_plan.specs.BoundQueries.{bound_term, bound_condition, bound_conditions, bound_join, bound_query};
 ghost use Rattle.query_plan.specs.BoundViews.{term_seen, parts_seen, condition_seen, join_seen, query_seen};
 
 use crate::bound_cond::{BoundCond, BoundOperand};
 use crate::bound_query::{BoundJoin, Query};
-<<<<<<< HEAD
-use std::alloc::{AllocError, Global};
-use table_list::{BindFault, Sides, shown_places};
-use vo_spec::{Catalog, Cond, Join, List, Operand, QueryText};
-=======
 use query_binding::{BindFault, Schemas, Sides, bind_sources, shown_places};
 use std::alloc::{AllocError, Global};
 use vo_spec::{Cond, Join, List, Operand, QueryText};
->>>>>>> df9d1e6 (A query is bound once, over a catalog or plain tables; table_list comes apart)
 
 fn bind_operand<'q>(sides: &Sides<'_>, operand: &'q Operand) -> BoundOperand<'q>
     ensures { term_seen result ≡ bound_term (sides_seen sides.now) operand.now }
@@ -143,13 +127,8 @@ pub fn bind<'q, S: Schemas>(
     // No test finds a fault, or the fault is the first that they find.
     ensures fault { Passes result (binding_fault (S.headings schemas.now) (query_of text.now)) }
 {
-<<<<<<< HEAD
-    match table_list::bind(alloc, catalog, text) {
-        Ok(sides) => Ok(bind_query(alloc, sides, catalog, text)?),
-=======
     match bind_sources(alloc, schemas, text) {
         Ok(sides) => Ok(bind_query(alloc, sides, schemas, text)?),
->>>>>>> df9d1e6 (A query is bound once, over a catalog or plain tables; table_list comes apart)
         Err(fault) => Err(fault),
     }
 }

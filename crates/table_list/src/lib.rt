@@ -1,13 +1,6 @@
 //! Plain tables, and what commands and batches make of them.
 #![tactic(auto)]
 
-<<<<<<< HEAD
-mod answering;
-mod bind_fault;
-mod binding;
-mod catalogs;
-=======
->>>>>>> df9d1e6 (A query is bound once, over a catalog or plain tables; table_list comes apart)
 mod cells;
 mod columns;
 mod commands;
