@@ -14,7 +14,8 @@ use vo_spec::{Cell, CellValue, List, Row, RowPart, Value};
 /// The row with the cells of these columns shown, and all others hidden.
 pub fn hide<'b>(alloc: Global, row: &'b Row, shown: &[u8]) -> Result<RowPart<'b>, AllocError>
     requires { FitsRow row.now }
-    ensures { IfOk result (λ part. part ≡ Cells (shown_cells shown.now 0 (whole_cells row.now.cells))) }
+    ensures { IfOk result (λ part. part
+        ≡ Cells (shown_cells shown.now 0 (whole_cells row.now.cells))) }
 {
     let cells = hide_cells(alloc, row.cells.as_slice(), shown)?;
     Ok(RowPart::Cells(cells))

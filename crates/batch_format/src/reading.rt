@@ -37,7 +37,8 @@ fn take_set(alloc: Global, cursor: &mut Cursor<'_>) -> Result<SetPart, ReadFault
 }
 
 fn each_value(alloc: Global, cursor: &mut Cursor<'_>, count: u8) -> Result<Vec<Value>, ReadFault>
-    ensures { FoundOr (λ values. values.items) result cursor.new (times any_value_at count cursor.old) }
+    ensures { FoundOr (λ values. values.items) result cursor.new
+        (times any_value_at count cursor.old) }
 {
     let mut values = Vec::new(alloc);
     for _ in 0..count {
@@ -156,7 +157,8 @@ fn each_command(
     cursor: &mut Cursor<'_>,
     count: u16,
 ) -> Result<Vec<Command>, ReadFault>
-    ensures { FoundOr (λ commands. commands.items) result cursor.new (times command_at count cursor.old) }
+    ensures { FoundOr (λ commands. commands.items) result cursor.new
+        (times command_at count cursor.old) }
 {
     let mut commands = Vec::new(alloc);
     for _ in 0..count {
@@ -202,7 +204,8 @@ pub fn read_batch(alloc: Global, bytes: &[u8]) -> Result<Batch, ReadFault>
     ensures found { IfOk result (λ batch. IsBatch bytes.now batch.commands) }
 
     // What is spelled so is read, unless memory runs out.
-    ensures only { (commands : List Plain) → IsBatch bytes.now commands → BatchRead result (Some commands) }
+    ensures only { (commands : List Plain) → IsBatch bytes.now commands
+        → BatchRead result (Some commands) }
 {
     batch_of(alloc, bytes)
 }

@@ -34,9 +34,11 @@ pub fn put_siblings<N: TreeNode>(
     requires order { from ≤ to }
     requires keys { to ≤ length separators.now }
     requires children { to < length children.now }
-    ensures { IfOk result (λ contents. (grown : Grown N.Plain N.Mark) → IsGrown N.family N.Key.key N.kid siblings grown
+    ensures { IfOk result (λ contents. (grown : Grown N.Plain N.Mark)
+        → IsGrown N.family N.Key.key N.kid siblings grown
         → contents_of N.Key.key N.entry N.kid contents
-        ≡ node_of (splice N.family from to (map N.Key.key separators.now) (map N.kid children.now) grown)) }
+        ≡ node_of (splice N.family from to (map N.Key.key separators.now)
+        (map N.kid children.now) grown)) }
 {
     let separators = replace_range(alloc, separators, from, to, siblings.separators)?;
     let children = replace_range(alloc, children, from, to + 1, siblings.nodes)?;

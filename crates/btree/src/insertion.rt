@@ -19,7 +19,8 @@ use vo_spec::UpdateFault;
 /// The tree with this entry before the first of a greater key.
 pub fn insert<N: TreeNode>(alloc: Global, tree: &N::Tree, entry: N::Entry) -> Result<N, UpdateFault>
     requires { IsShaped (N.seen tree.now) }
-    ensures { Answers (λ node t. (N.kid node).1 ≡ t) result (inserted_by N.family (N.entry entry) (N.seen tree.now)) }
+    ensures { Answers (λ node t. (N.kid node).1 ≡ t) result
+        (inserted_by N.family (N.entry entry) (N.seen tree.now)) }
 {
     match insert_below::<N>(alloc, tree, entry) {
         Ok(siblings) => Ok(root_of(alloc, siblings)?),
@@ -35,7 +36,8 @@ fn insert_below<N: TreeNode>(
     entry: N::Entry,
 ) -> Result<Siblings<N::Key, N>, UpdateFault>
     requires { IsShaped (N.seen tree.now) }
-    ensures { Answers (IsGrown N.family N.Key.key N.kid) result (grow N.family (N.entry entry) (N.seen tree.now)) }
+    ensures { Answers (IsGrown N.family N.Key.key N.kid) result
+        (grow N.family (N.entry entry) (N.seen tree.now)) }
 {
     match N::open(tree) {
         NodeView::Stub(_) => Err(UpdateFault::Missing),
@@ -53,7 +55,8 @@ fn insert_in_leaf<N: TreeNode>(
     entry: N::Entry,
 ) -> Result<Siblings<N::Key, N>, UpdateFault>
     requires { length entries.now ≤ most_in_node }
-    ensures { Answers (IsGrown N.family N.Key.key N.kid) result (grow N.family (N.entry entry) (leaf (map N.entry entries.now))) }
+    ensures { Answers (IsGrown N.family N.Key.key N.kid) result
+        (grow N.family (N.entry entry) (leaf (map N.entry entries.now))) }
 {
     if has_key(entries, entry.key_bytes()) {
         return Err(UpdateFault::DuplicateKey);
@@ -75,7 +78,8 @@ fn insert_in_child<N: TreeNode>(
     requires between { length separators.now + 1 ≡ length children.now }
     requires shaped { AreShaped (parts_from (map N.kid children.now)) }
     ensures { Answers (IsGrown N.family N.Key.key N.kid) result
-        (grow N.family (N.entry entry) (inner (map N.Key.key separators.now) (parts_from (map N.kid children.now)))) }
+        (grow N.family (N.entry entry)
+        (inner (map N.Key.key separators.now) (parts_from (map N.kid children.now)))) }
 {
     let place = position_above(separators, entry.key_bytes());
     match insert_below::<N>(alloc, children[place].tree(), entry) {
@@ -92,7 +96,8 @@ fn root_of<N: TreeNode>(alloc: Global, siblings: Siblings<N::Key, N>) -> Result<
     requires some { 1 ≤ length siblings.nodes.items }
     requires most { length siblings.nodes.items ≤ 2 }
     requires between { length siblings.separators.items + 1 ≡ length siblings.nodes.items }
-    ensures { IfOk result (λ root. (grown : Grown N.Plain N.Mark) → IsGrown N.family N.Key.key N.kid siblings grown
+    ensures { IfOk result (λ root. (grown : Grown N.Plain N.Mark)
+        → IsGrown N.family N.Key.key N.kid siblings grown
         → (N.kid root).1 ≡ root_of_grown N.family grown) }
 {
     if siblings.nodes.len() == 1 {

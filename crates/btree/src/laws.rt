@@ -25,21 +25,26 @@ pub trait PruningFamily {
 /// Where a part prunes a tree, an insertion into the part is Missing, or it has the fault of the insertion
 /// into the tree, or it gives what prunes the tree that comes of that.
 pub fn insertions_agree<F: PruningFamily>()
-    ensures { (e f : F.Plain) (p t : Part F.Plain F.Mark) → F.EntryPrunes e f → PrunesBy F.family F.EntryPrunes p t
-        → Agrees (PrunesBy F.family F.EntryPrunes) (inserted_by F.family e p) (inserted_by F.family f t) }
+    ensures { (e f : F.Plain) (p t : Part F.Plain F.Mark) → F.EntryPrunes e f
+        → PrunesBy F.family F.EntryPrunes p t
+        → Agrees (PrunesBy F.family F.EntryPrunes) (inserted_by F.family e p)
+        (inserted_by F.family f t) }
 {}
 
 /// So it is with a removal.
 pub fn removals_agree<F: PruningFamily>()
     ensures { (key : List ℕ) (p t : Part F.Plain F.Mark) → PrunesBy F.family F.EntryPrunes p t
-        → Agrees (PrunesBy F.family F.EntryPrunes) (removed_by F.family key p) (removed_by F.family key t) }
+        → Agrees (PrunesBy F.family F.EntryPrunes) (removed_by F.family key p)
+        (removed_by F.family key t) }
 {}
 
 /// And with a replacement, where what comes in the place of an entry agrees with what comes in the place of
 /// one that it prunes.
 pub fn replacements_agree<F: PruningFamily>()
-    ensures { (edit other : F.Plain → Result F.Plain UpdateFault) (key : List ℕ) (p t : Part F.Plain F.Mark)
+    ensures { (edit other : F.Plain → Result F.Plain UpdateFault) (key : List ℕ)
+        (p t : Part F.Plain F.Mark)
         → ((e f : F.Plain) → F.EntryPrunes e f → Agrees F.EntryPrunes (edit e) (other f))
         → PrunesBy F.family F.EntryPrunes p t
-        → Agrees (PrunesBy F.family F.EntryPrunes) (edited_by F.family edit key p) (edited_by F.family other key t) }
+        → Agrees (PrunesBy F.family F.EntryPrunes) (edited_by F.family edit key p)
+        (edited_by F.family other key t) }
 {}

@@ -14,7 +14,8 @@ pub fn replace_range<T: TryClone + Drop>(
 ) -> Result<Vec<T>, AllocError>
     requires order { from ≤ to }
     requires end { to ≤ length items.now }
-    ensures { IfOk result (λ new. new.items ≡ take from items.now ++ others.items ++ drop to items.now) }
+    ensures { IfOk result (λ new. new.items ≡ take from items.now ++ others.items
+        ++ drop to items.now) }
 {
     let mut new = Vec::with_capacity(alloc, items.len().saturating_add(others.len()))?;
     extend_cloned(alloc, &items[..from], &mut new)?;

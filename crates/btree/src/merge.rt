@@ -43,7 +43,8 @@ pub fn merge<N: TreeNode>(
     second: Contents<N::Key, N::Entry, N>,
 ) -> Result<Contents<N::Key, N::Entry, N>, UpdateFault>
     ensures { Answers (IsContents N.Key.key N.entry N.kid) result
-        (merge_nodes (contents_of N.Key.key N.entry N.kid first) (N.Key.key separator.now) (contents_of N.Key.key N.entry N.kid second)) }
+        (merge_nodes (contents_of N.Key.key N.entry N.kid first) (N.Key.key separator.now)
+        (contents_of N.Key.key N.entry N.kid second)) }
 {
     match first {
         Contents::Leaf(entries) => match second {

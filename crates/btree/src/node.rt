@@ -67,7 +67,8 @@ pub trait TreeNode: TryClone + Sized + Drop {
         contents: Contents<Self::Key, Self::Entry, Self>,
     ) -> Result<Self, AllocError>
         requires { IsWithin 2 (contents_of Self.Key.key entry kid contents) }
-        ensures { IfOk result (λ node. kid node ≡ new_kid family (contents_of Self.Key.key entry kid contents)) };
+        ensures { IfOk result (λ node. kid node
+            ≡ new_kid family (contents_of Self.Key.key entry kid contents)) };
 
     /// The separator before a leaf whose first entry is this.
     fn separator(alloc: Global, first: &Self::Entry) -> Result<Self::Key, AllocError>

@@ -32,8 +32,10 @@ pub fn rebalance<N: TreeNode>(
     requires shaped { AreShaped (parts_from (map N.kid children.now)) }
     requires loose { IsWithin 1 (contents_of N.Key.key N.entry N.kid child) }
     ensures value { Answers (IsContents N.Key.key N.entry N.kid) result
-        (result_map node_of (rebalance_at N.family place (map N.Key.key separators.now) (map N.kid children.now) (contents_of N.Key.key N.entry N.kid child))) }
-    ensures loose { IfOk result (λ contents. IsWithin 1 (contents_of N.Key.key N.entry N.kid contents)) }
+        (result_map node_of (rebalance_at N.family place (map N.Key.key separators.now)
+        (map N.kid children.now) (contents_of N.Key.key N.entry N.kid child))) }
+    ensures loose { IfOk result (λ contents.
+        IsWithin 1 (contents_of N.Key.key N.entry N.kid contents)) }
 {
     if fill_of::<N>(&child) >= MIN_FILL {
         return Ok(put_child(alloc, separators, children, place, child)?);
@@ -59,8 +61,10 @@ fn put_child<N: TreeNode>(
     requires loose { IsWithin 1 (contents_of N.Key.key N.entry N.kid child) }
     requires enough { half ≤ size_of (contents_of N.Key.key N.entry N.kid child) }
     ensures value { IfOk result (λ contents. Ok (contents_of N.Key.key N.entry N.kid contents)
-        ≡ result_map node_of (rebalance_at N.family place (map N.Key.key separators.now) (map N.kid children.now) (contents_of N.Key.key N.entry N.kid child))) }
-    ensures loose { IfOk result (λ contents. IsWithin 1 (contents_of N.Key.key N.entry N.kid contents)) }
+        ≡ result_map node_of (rebalance_at N.family place (map N.Key.key separators.now)
+        (map N.kid children.now) (contents_of N.Key.key N.entry N.kid child))) }
+    ensures loose { IfOk result (λ contents.
+        IsWithin 1 (contents_of N.Key.key N.entry N.kid contents)) }
 {
     let siblings = Siblings::one(alloc, N::close(alloc, child)?)?;
     put_siblings(alloc, separators, children, place, place, siblings)
@@ -80,8 +84,10 @@ fn rebalance_first<N: TreeNode>(
     requires loose { IsWithin 1 (contents_of N.Key.key N.entry N.kid child) }
     requires underfull { size_of (contents_of N.Key.key N.entry N.kid child) < half }
     ensures value { Answers (IsContents N.Key.key N.entry N.kid) result
-        (result_map node_of (rebalance_with_sibling N.family zero (map N.Key.key separators.now) (map N.kid children.now) (contents_of N.Key.key N.entry N.kid child))) }
-    ensures loose { IfOk result (λ contents. IsWithin 1 (contents_of N.Key.key N.entry N.kid contents)) }
+        (result_map node_of (rebalance_with_sibling N.family zero (map N.Key.key separators.now)
+        (map N.kid children.now) (contents_of N.Key.key N.entry N.kid child))) }
+    ensures loose { IfOk result (λ contents.
+        IsWithin 1 (contents_of N.Key.key N.entry N.kid contents)) }
 {
     match rebalance_with_right::<N>(alloc, child, &separators[0], children[1].tree()) {
         Ok(siblings) => Ok(put_siblings(alloc, separators, children, 0, 1, siblings)?),
@@ -104,8 +110,11 @@ fn rebalance_next<N: TreeNode>(
     requires loose { IsWithin 1 (contents_of N.Key.key N.entry N.kid child) }
     requires underfull { size_of (contents_of N.Key.key N.entry N.kid child) < half }
     ensures value { Answers (IsContents N.Key.key N.entry N.kid) result
-        (result_map node_of (rebalance_with_sibling N.family (suc left) (map N.Key.key separators.now) (map N.kid children.now) (contents_of N.Key.key N.entry N.kid child))) }
-    ensures loose { IfOk result (λ contents. IsWithin 1 (contents_of N.Key.key N.entry N.kid contents)) }
+        (result_map node_of (rebalance_with_sibling N.family (suc left)
+        (map N.Key.key separators.now) (map N.kid children.now)
+        (contents_of N.Key.key N.entry N.kid child))) }
+    ensures loose { IfOk result (λ contents.
+        IsWithin 1 (contents_of N.Key.key N.entry N.kid contents)) }
 {
     match rebalance_with_left::<N>(alloc, children[left].tree(), &separators[left], child) {
         Ok(siblings) => Ok(put_siblings(alloc, separators, children, left, left + 1, siblings)?),
@@ -124,7 +133,8 @@ fn rebalance_with_left<N: TreeNode>(
     requires loose { IsWithin 1 (contents_of N.Key.key N.entry N.kid node) }
     requires underfull { size_of (contents_of N.Key.key N.entry N.kid node) < half }
     ensures { Answers (IsGrown N.family N.Key.key N.kid) result
-        (even_with_left N.family (N.seen left.now) (N.Key.key separator.now) (contents_of N.Key.key N.entry N.kid node)) }
+        (even_with_left N.family (N.seen left.now) (N.Key.key separator.now)
+        (contents_of N.Key.key N.entry N.kid node)) }
 {
     let first = clone_contents::<N>(alloc, left)?;
     let fill = fill_of::<N>(&first);
@@ -143,7 +153,8 @@ fn rebalance_with_right<N: TreeNode>(
     requires loose { IsWithin 1 (contents_of N.Key.key N.entry N.kid node) }
     requires underfull { size_of (contents_of N.Key.key N.entry N.kid node) < half }
     ensures { Answers (IsGrown N.family N.Key.key N.kid) result
-        (even_with_right N.family (contents_of N.Key.key N.entry N.kid node) (N.Key.key separator.now) (N.seen right.now)) }
+        (even_with_right N.family (contents_of N.Key.key N.entry N.kid node)
+        (N.Key.key separator.now) (N.seen right.now)) }
 {
     let at = fill_of::<N>(&node) + 1;
     let second = clone_contents::<N>(alloc, right)?;
@@ -160,11 +171,14 @@ fn divide_where_more<N: TreeNode>(
     at: usize,
 ) -> Result<Siblings<N::Key, N>, AllocError>
     requires linked { IsLinked 2 (contents_of N.Key.key N.entry N.kid all) }
-    requires whole { sibling ≤ half → size_of (contents_of N.Key.key N.entry N.kid all) ≤ most_in_node }
+    requires whole { sibling ≤ half
+        → size_of (contents_of N.Key.key N.entry N.kid all) ≤ most_in_node }
     requires two { half < sibling → CanDivide at (contents_of N.Key.key N.entry N.kid all) }
     requires first { at ≤ most_in_node }
     requires last { size_of (contents_of N.Key.key N.entry N.kid all) ≤ at + most_in_node }
-    ensures { IfOk result (λ siblings. IsGrown N.family N.Key.key N.kid siblings (divide_merged N.family sibling at (contents_of N.Key.key N.entry N.kid all))) }
+    ensures { IfOk result (λ siblings.
+        IsGrown N.family N.Key.key N.kid siblings
+        (divide_merged N.family sibling at (contents_of N.Key.key N.entry N.kid all))) }
 {
     if sibling <= MIN_FILL {
         return Siblings::one(alloc, N::close(alloc, all)?);

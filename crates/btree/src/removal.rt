@@ -18,7 +18,8 @@ use vo_spec::UpdateFault;
 /// is left underfull borrows from its sibling or is merged with it.
 pub fn remove<N: TreeNode>(alloc: Global, tree: &N::Tree, key: &[u8]) -> Result<N, UpdateFault>
     requires { IsShaped (N.seen tree.now) }
-    ensures { Answers (λ node t. (N.kid node).1 ≡ t) result (removed_by N.family key.now (N.seen tree.now)) }
+    ensures { Answers (λ node t. (N.kid node).1 ≡ t) result
+        (removed_by N.family key.now (N.seen tree.now)) }
 {
     match remove_below::<N>(alloc, tree, key) {
         Ok(contents) => Ok(root_of(alloc, contents)?),
@@ -34,8 +35,10 @@ fn remove_below<N: TreeNode>(
     key: &[u8],
 ) -> Result<Contents<N::Key, N::Entry, N>, UpdateFault>
     requires { IsShaped (N.seen tree.now) }
-    ensures value { Answers (IsContents N.Key.key N.entry N.kid) result (shrink N.family key.now (N.seen tree.now)) }
-    ensures loose { IfOk result (λ contents. IsWithin 1 (contents_of N.Key.key N.entry N.kid contents)) }
+    ensures value { Answers (IsContents N.Key.key N.entry N.kid) result
+        (shrink N.family key.now (N.seen tree.now)) }
+    ensures loose { IfOk result (λ contents.
+        IsWithin 1 (contents_of N.Key.key N.entry N.kid contents)) }
 {
     match N::open(tree) {
         NodeView::Stub(_) => Err(UpdateFault::Missing),
@@ -53,8 +56,10 @@ fn remove_in_leaf<N: TreeNode>(
     key: &[u8],
 ) -> Result<Contents<N::Key, N::Entry, N>, UpdateFault>
     requires { length entries.now ≤ most_in_node }
-    ensures value { Answers (IsContents N.Key.key N.entry N.kid) result (shrink N.family key.now (leaf (map N.entry entries.now))) }
-    ensures loose { IfOk result (λ contents. IsWithin 1 (contents_of N.Key.key N.entry N.kid contents)) }
+    ensures value { Answers (IsContents N.Key.key N.entry N.kid) result
+        (shrink N.family key.now (leaf (map N.entry entries.now))) }
+    ensures loose { IfOk result (λ contents.
+        IsWithin 1 (contents_of N.Key.key N.entry N.kid contents)) }
 {
     let place = position_of(entries, key);
     if place >= entries.len() {
@@ -76,8 +81,10 @@ fn remove_in_child<N: TreeNode>(
     requires between { length separators.now + 1 ≡ length children.now }
     requires shaped { AreShaped (parts_from (map N.kid children.now)) }
     ensures value { Answers (IsContents N.Key.key N.entry N.kid) result
-        (shrink N.family key.now (inner (map N.Key.key separators.now) (parts_from (map N.kid children.now)))) }
-    ensures loose { IfOk result (λ contents. IsWithin 1 (contents_of N.Key.key N.entry N.kid contents)) }
+        (shrink N.family key.now (inner (map N.Key.key separators.now)
+        (parts_from (map N.kid children.now)))) }
+    ensures loose { IfOk result (λ contents.
+        IsWithin 1 (contents_of N.Key.key N.entry N.kid contents)) }
 {
     let place = position_above(separators, key);
     match remove_below::<N>(alloc, children[place].tree(), key) {
@@ -92,7 +99,8 @@ fn root_of<N: TreeNode>(
     contents: Contents<N::Key, N::Entry, N>,
 ) -> Result<N, AllocError>
     requires { IsWithin 1 (contents_of N.Key.key N.entry N.kid contents) }
-    ensures { IfOk result (λ root. (N.kid root).1 ≡ settled_root (contents_of N.Key.key N.entry N.kid contents)) }
+    ensures { IfOk result (λ root. (N.kid root).1
+        ≡ settled_root (contents_of N.Key.key N.entry N.kid contents)) }
 {
     match contents {
         Contents::Leaf(entries) => N::close(alloc, Contents::Leaf(entries)),
@@ -111,7 +119,9 @@ fn root_of_inner<N: TreeNode>(
     requires least { 1 ≤ length children.items }
     requires most { length children.items ≤ most_in_node }
     requires between { length separators.items + 1 ≡ length children.items }
-    ensures { IfOk result (λ root. (N.kid root).1 ≡ settled_root (inner (map N.Key.key separators.items) (parts_from (map N.kid children.items)))) }
+    ensures { IfOk result (λ root. (N.kid root).1
+        ≡ settled_root (inner (map N.Key.key separators.items)
+        (parts_from (map N.kid children.items)))) }
 {
     if children.len() == 1 {
         return Ok(only(children));

@@ -24,7 +24,8 @@ pub fn set<N: TreeNode>(
     entry: N::Entry,
 ) -> Result<N, UpdateFault>
     requires { IsShaped (N.seen tree.now) }
-    ensures { Answers (IsNewKid N.family N.kid) result (edited_by N.family (λ _. Ok (N.entry entry)) key.now (N.seen tree.now)) }
+    ensures { Answers (IsNewKid N.family N.kid) result
+        (edited_by N.family (λ _. Ok (N.entry entry)) key.now (N.seen tree.now)) }
 {
     match N::open(tree) {
         NodeView::Stub(_) => Err(UpdateFault::Missing),
@@ -43,7 +44,8 @@ fn set_in_leaf<N: TreeNode>(
     entry: N::Entry,
 ) -> Result<N, UpdateFault>
     requires { length entries.now ≤ most_in_node }
-    ensures { Answers (IsNewKid N.family N.kid) result (edited_by N.family (λ _. Ok (N.entry entry)) key.now (leaf (map N.entry entries.now))) }
+    ensures { Answers (IsNewKid N.family N.kid) result
+        (edited_by N.family (λ _. Ok (N.entry entry)) key.now (leaf (map N.entry entries.now))) }
 {
     let place = position_of(entries, key);
     if place >= entries.len() {
@@ -66,7 +68,8 @@ fn set_in_child<N: TreeNode>(
     requires between { length separators.now + 1 ≡ length children.now }
     requires shaped { AreShaped (parts_from (map N.kid children.now)) }
     ensures { Answers (IsNewKid N.family N.kid) result
-        (edited_by N.family (λ _. Ok (N.entry entry)) key.now (inner (map N.Key.key separators.now) (parts_from (map N.kid children.now)))) }
+        (edited_by N.family (λ _. Ok (N.entry entry)) key.now
+        (inner (map N.Key.key separators.now) (parts_from (map N.kid children.now)))) }
 {
     let place = position_above(separators, key);
     match set::<N>(alloc, children[place].tree(), key, entry) {

@@ -18,7 +18,8 @@ pub fn find<'a, N: TreeNode + 'a>(
     key: &[u8],
 ) -> Result<&'a N::Entry, UpdateFault>
     requires { IsShaped (N.seen tree.now) }
-    ensures { Answers (λ entry e. N.entry entry.now ≡ e) result (found N.family key.now (N.seen tree.now)) }
+    ensures { Answers (λ entry e. N.entry entry.now ≡ e) result
+        (found N.family key.now (N.seen tree.now)) }
 {
     match N::open(tree) {
         NodeView::Stub(_) => Err(UpdateFault::Missing),
@@ -34,7 +35,8 @@ fn find_in_leaf<'a, N: TreeNode + 'a>(
     entries: &'a [N::Entry],
     key: &[u8],
 ) -> Result<&'a N::Entry, UpdateFault>
-    ensures { Answers (λ entry e. N.entry entry.now ≡ e) result (found N.family key.now (leaf (map N.entry entries.now))) }
+    ensures { Answers (λ entry e. N.entry entry.now ≡ e) result
+        (found N.family key.now (leaf (map N.entry entries.now))) }
 {
     let place = position_of(entries, key);
     if place >= entries.len() {
@@ -53,7 +55,8 @@ fn find_in_child<'a, N: TreeNode + 'a>(
     requires between { length separators.now + 1 ≡ length children.now }
     requires shaped { AreShaped (parts_from (map N.kid children.now)) }
     ensures { Answers (λ entry e. N.entry entry.now ≡ e) result
-        (found N.family key.now (inner (map N.Key.key separators.now) (parts_from (map N.kid children.now)))) }
+        (found N.family key.now (inner (map N.Key.key separators.now)
+        (parts_from (map N.kid children.now)))) }
 {
     let place = position_above(separators, key);
     find::<N>(children[place].tree(), key)

@@ -19,7 +19,9 @@ pub fn split<N: TreeNode>(
 ) -> Result<Siblings<N::Key, N>, AllocError>
     requires linked { IsLinked 2 (contents_of N.Key.key N.entry N.kid contents) }
     requires most { size_of (contents_of N.Key.key N.entry N.kid contents) ≤ most_in_node + 1 }
-    ensures { IfOk result (λ siblings. IsGrown N.family N.Key.key N.kid siblings (split_of N.family (contents_of N.Key.key N.entry N.kid contents))) }
+    ensures { IfOk result (λ siblings.
+        IsGrown N.family N.Key.key N.kid siblings
+        (split_of N.family (contents_of N.Key.key N.entry N.kid contents))) }
 {
     if fill_of::<N>(&contents) <= MAX_FILL {
         return Siblings::one(alloc, N::close(alloc, contents)?);
@@ -37,7 +39,9 @@ pub fn divide<N: TreeNode>(
     requires two { CanDivide at (contents_of N.Key.key N.entry N.kid contents) }
     requires first { at ≤ most_in_node }
     requires last { size_of (contents_of N.Key.key N.entry N.kid contents) ≤ at + most_in_node }
-    ensures { IfOk result (λ siblings. IsGrown N.family N.Key.key N.kid siblings (divide_at N.family at (contents_of N.Key.key N.entry N.kid contents))) }
+    ensures { IfOk result (λ siblings.
+        IsGrown N.family N.Key.key N.kid siblings
+        (divide_at N.family at (contents_of N.Key.key N.entry N.kid contents))) }
 {
     match contents {
         Contents::Leaf(entries) => divide_leaf::<N>(alloc, entries, at),
@@ -56,7 +60,9 @@ fn divide_leaf<N: TreeNode>(
     requires within { at < length entries.items }
     requires first { at ≤ most_in_node }
     requires last { length entries.items ≤ at + most_in_node }
-    ensures { IfOk result (λ siblings. IsGrown N.family N.Key.key N.kid siblings (divide_at N.family at (leaf (map N.entry entries.items)))) }
+    ensures { IfOk result (λ siblings.
+        IsGrown N.family N.Key.key N.kid siblings
+        (divide_at N.family at (leaf (map N.entry entries.items)))) }
 {
     let mut left = entries;
     let right = left.split_off(at)?;
@@ -78,7 +84,8 @@ fn divide_inner<N: TreeNode>(
     requires last { length children.items ≤ at + most_in_node }
     requires between { length separators.items + 1 ≡ length children.items }
     ensures { IfOk result (λ siblings. IsGrown N.family N.Key.key N.kid siblings
-        (divide_at N.family at (inner (map N.Key.key separators.items) (parts_from (map N.kid children.items))))) }
+        (divide_at N.family at (inner (map N.Key.key separators.items)
+        (parts_from (map N.kid children.items))))) }
 {
     let halves = cut(separators, children, at)?;
     let left = close_inner(alloc, halves.before, halves.left)?;
@@ -94,7 +101,9 @@ fn close_inner<N: TreeNode>(
     requires least { 2 ≤ length children.items }
     requires most { length children.items ≤ most_in_node }
     requires between { length separators.items + 1 ≡ length children.items }
-    ensures { IfOk result (λ node. N.kid node ≡ new_kid N.family (inner (map N.Key.key separators.items) (parts_from (map N.kid children.items)))) }
+    ensures { IfOk result (λ node. N.kid node
+        ≡ new_kid N.family (inner (map N.Key.key separators.items)
+        (parts_from (map N.kid children.items)))) }
 {
     N::close(
         alloc,

@@ -23,7 +23,8 @@ pub struct Step {
 
 /// The step of a change that leaves no node underfull.
 pub fn search_step<K: Keyed>(separators: &[K], key: &[u8]) -> Step
-    ensures child { result.child ≡ position_or_len (λ separator. is_less key.now (K.key separator)) separators.now }
+    ensures child { result.child ≡ position_or_len
+        (λ separator. is_less key.now (K.key separator)) separators.now }
     ensures within { result.child ≤ length separators.now }
     ensures opens_sibling { result.opens_sibling ≡ false }
 {
@@ -35,9 +36,11 @@ pub fn search_step<K: Keyed>(separators: &[K], key: &[u8]) -> Step
 
 /// The step of a removal.
 pub fn removal_step<N: TreeNode>(separators: &[N::Key], children: &[N], key: &[u8]) -> Step
-    ensures child { result.child ≡ position_or_len (λ separator. is_less key.now (N.Key.key separator)) separators.now }
+    ensures child { result.child ≡ position_or_len
+        (λ separator. is_less key.now (N.Key.key separator)) separators.now }
     ensures within { result.child ≤ length separators.now }
-    ensures opens_sibling { (child : N) → result.child < length children.now → child ≡ get_or children.now result.child child
+    ensures opens_sibling { (child : N) → result.child < length children.now
+        → child ≡ get_or children.now result.child child
         → result.opens_sibling ≡ opens_sibling_by N.family key.now (N.kid child).1 }
     ensures beyond { length children.now ≤ result.child → result.opens_sibling ≡ false }
 {
@@ -107,7 +110,8 @@ fn remaining_children<N: TreeNode>(
     children: &[N],
     key: &[u8],
 ) -> Result<usize, UpdateFault>
-    ensures { result ≡ remaining_by N.family key.now (inner (map N.Key.key separators.now) (parts_from (map N.kid children.now))) }
+    ensures { result ≡ remaining_by N.family key.now
+        (inner (map N.Key.key separators.now) (parts_from (map N.kid children.now))) }
 {
     let place = position_above(separators, key);
     if place >= children.len() {
@@ -128,7 +132,8 @@ fn remaining_beside<N: TreeNode>(
     left: usize,
 ) -> Result<usize, UpdateFault>
     requires { place < length children.now }
-    ensures { result ≡ count_remaining place (map (λ n. (N.kid n).1) children.now) (N.seen child.now) left }
+    ensures { result ≡ count_remaining place (map (λ n. (N.kid n).1) children.now)
+        (N.seen child.now) left }
 {
     let sibling = sibling_of(place);
     if left >= MIN_FILL || sibling >= children.len() {

@@ -52,7 +52,8 @@ impl TreeNode for Subtree {
         contents: Contents<NumberKey, Entry, Subtree>,
     ) -> Result<Subtree, AllocError>
         requires { IsWithin 2 (counted_contents contents) }
-        ensures { IfOk result (λ node. kid node ≡ new_kid counted_family (counted_contents contents)) }
+        ensures { IfOk result (λ node. kid node
+            ≡ new_kid counted_family (counted_contents contents)) }
     {
         match contents {
             Contents::Leaf(entries) => {

@@ -88,7 +88,8 @@ impl TreeNode for Branch {
         contents: Contents<TreeKey, TreeEntry, Branch>,
     ) -> Result<Branch, AllocError>
         requires { IsWithin 2 (whole_contents contents) }
-        ensures { IfOk result (λ node. whole_kid node ≡ new_kid row_family (whole_contents contents)) }
+        ensures { IfOk result (λ node. whole_kid node
+            ≡ new_kid row_family (whole_contents contents)) }
     {
         match contents {
             Contents::Leaf(entries) => Branch::leaf(alloc, entries),

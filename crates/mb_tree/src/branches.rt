@@ -82,7 +82,8 @@ impl Branch {
         requires least { 2 ≤ length children.items }
         requires most { length children.items ≤ most_in_node }
         requires between { length separators.items + 1 ≡ length children.items }
-        ensures { IfOk result (λ branch. branch ≡ inner separators.items (open_parts children.items)) }
+        ensures { IfOk result (λ branch. branch
+            ≡ inner separators.items (open_parts children.items)) }
     {
         let digest = inner_digest(&separators, &children);
         Ok(Branch {

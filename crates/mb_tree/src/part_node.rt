@@ -110,7 +110,8 @@ impl<'b> TreeNode for PartTree<'b> {
         contents: Contents<KeyPart<'b>, PartEntry<'b>, PartTree<'b>>,
     ) -> Result<PartTree<'b>, AllocError>
         requires { IsWithin 2 (part_contents contents) }
-        ensures { IfOk result (λ node. part_kid node ≡ new_kid row_family (part_contents contents.entry)) }
+        ensures { IfOk result (λ node. part_kid node
+            ≡ new_kid row_family (part_contents contents.entry)) }
     {
         match contents {
             Contents::Leaf(entries) => Ok(PartTree::Leaf(List::from_vec(entries))),

@@ -13,16 +13,20 @@ ghost use Rattle.mb_update.specs.Changing.{GoesOnPruning};
 /// into the tree, or it gives what prunes the tree that comes of that. So it is where the part's new entry
 /// has some of its cells hidden, or is the digest of its row.
 pub fn insertions_agree()
-    ensures row { (row : Row) (p t : RowTree) → Prunes p t → GoesOnPruning (inserted (whole_entry row) p) (inserted (whole_entry row) t) }
-    ensures entry { (e f : PartEntry) (p t : RowTree) → EntryPrunes e f → Prunes p t → GoesOnPruning (inserted e p) (inserted f t) }
+    ensures row { (row : Row) (p t : RowTree) → Prunes p t
+        → GoesOnPruning (inserted (whole_entry row) p) (inserted (whole_entry row) t) }
+    ensures entry { (e f : PartEntry) (p t : RowTree) → EntryPrunes e f → Prunes p t
+        → GoesOnPruning (inserted e p) (inserted f t) }
 {}
 
 /// So it is with a removal.
 pub fn removals_agree()
-    ensures { (key : List ℕ) (p t : RowTree) → Prunes p t → GoesOnPruning (removed key p) (removed key t) }
+    ensures { (key : List ℕ) (p t : RowTree) → Prunes p t
+        → GoesOnPruning (removed key p) (removed key t) }
 {}
 
 /// And with a replacement of some cells.
 pub fn replacements_agree()
-    ensures { (key : List ℕ) (changes : List CellChange) (p t : RowTree) → Prunes p t → GoesOnPruning (replaced key changes p) (replaced key changes t) }
+    ensures { (key : List ℕ) (changes : List CellChange) (p t : RowTree) → Prunes p t
+        → GoesOnPruning (replaced key changes p) (replaced key changes t) }
 {}

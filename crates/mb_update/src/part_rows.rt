@@ -92,7 +92,8 @@ fn set_all<'b>(alloc: Global, cells: &mut Vec<Cell<'b>>, sets: &[SetCell]) -> Re
 }
 
 fn set_cell<'b>(alloc: Global, cells: &mut Vec<Cell<'b>>, set: &SetCell) -> Result<(), AllocError>
-    ensures { OnOk result (cells.new.items ≡ slice_set cells.old.items set.now.column (Shown set.now.value)) }
+    ensures { OnOk result (cells.new.items
+        ≡ slice_set cells.old.items set.now.column (Shown set.now.value)) }
 {
     let column = usize::from(set.column);
     if column < cells.len() {

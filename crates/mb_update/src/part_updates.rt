@@ -36,7 +36,8 @@ fn replace_cells<'b>(
     sets: &[SetCell],
 ) -> Result<PartTree<'b>, UpdateFault>
     requires { FitsPart (part_of tree.now) }
-    ensures { ChangesTo part_of result (replaced key.now (map change_of sets.now) (part_of tree.now)) }
+    ensures { ChangesTo part_of result
+        (replaced key.now (map change_of sets.now) (part_of tree.now)) }
 {
     match find::<PartTree<'b>>(tree, key) {
         Ok(old) => match entry_with(alloc, old, sets) {
@@ -74,7 +75,8 @@ impl<'b> Updates for PartTree<'b> {
     fn insert(&self, alloc: Global, row: &Row) -> Result<PartTree<'b>, UpdateFault>
         requires fits { FitsRow row.now }
         requires room { FitsPart (part_of self.now) }
-        ensures change { ChangesTo part_of result (inserted (whole_entry row.now) (part_of self.now)) }
+        ensures change { ChangesTo part_of result
+            (inserted (whole_entry row.now) (part_of self.now)) }
         ensures within { IfOk result (λ change. FitsPart (part_of change)) }
     {
         let entry = entry_of(alloc, row)?;
@@ -89,7 +91,8 @@ impl<'b> Updates for PartTree<'b> {
     ) -> Result<PartTree<'b>, UpdateFault>
         requires fits { FitsSets sets.now }
         requires within { FitsPart (part_of self.now) }
-        ensures change { ChangesTo part_of result (replaced key.now (map change_of sets.now) (part_of self.now)) }
+        ensures change { ChangesTo part_of result
+            (replaced key.now (map change_of sets.now) (part_of self.now)) }
         ensures within { IfOk result (λ change. FitsPart (part_of change)) }
     {
         replace_cells(alloc, self, key.as_bytes(), sets)

@@ -37,7 +37,8 @@ fn values_with(alloc: Global, values: &[Value], sets: &[SetCell]) -> Result<List
 fn set_values(alloc: Global, values: &mut Vec<Value>, sets: &[SetCell]) -> Result<(), AllocError>
     requires cells { FitsCells values.old.items }
     requires sets { FitsSets sets.now }
-    ensures value { OnOk result (values.new.items ≡ changed_cells (map change_of sets.now) values.old.items) }
+    ensures value { OnOk result (values.new.items
+        ≡ changed_cells (map change_of sets.now) values.old.items) }
     ensures fits { OnOk result (FitsCells values.new.items) }
 {
     for set in sets {
@@ -48,7 +49,8 @@ fn set_values(alloc: Global, values: &mut Vec<Value>, sets: &[SetCell]) -> Resul
 
 /// A column beyond the row's end sets nothing.
 fn set_value(alloc: Global, values: &mut Vec<Value>, set: &SetCell) -> Result<(), AllocError>
-    ensures { OnOk result (values.new.items ≡ slice_set values.old.items set.now.column set.now.value) }
+    ensures { OnOk result (values.new.items
+        ≡ slice_set values.old.items set.now.column set.now.value) }
 {
     let column = usize::from(set.column);
     if column < values.len() {

@@ -39,7 +39,8 @@ pub trait Updates {
     ) -> Result<Self::Change, UpdateFault>
         requires fits { FitsSets sets.now }
         requires within { CanChange self.now }
-        ensures { ChangesTo changed result (replaced key.now (map change_of sets.now) (tree self.now)) };
+        ensures { ChangesTo changed result
+            (replaced key.now (map change_of sets.now) (tree self.now)) };
 
     /// The tree without the row of this key.
     fn remove(&self, alloc: Global, key: &Key) -> Result<Self::Change, UpdateFault>

@@ -32,7 +32,8 @@ fn rows_of(
     rights: &[TableRow<'_>],
 ) -> Result<List<List<Value>>, AllocError>
     ensures { IfOk result (λ rows. rows
-        ≡ flat_map (left_answers (query_seen query.now) (map conjunct_seen late.now) (option_map join_seen query.now.join) (map row_line rights.now))
+        ≡ flat_map (left_answers (query_seen query.now) (map conjunct_seen late.now)
+        (option_map join_seen query.now.join) (map row_line rights.now))
         (filter (meets (map conjunct_seen left.now)) (map row_line lefts.now))) }
 {
     let mut rows = Vec::new(alloc);
@@ -50,7 +51,8 @@ fn right_lines<'t>(
     tables: &'t [Table],
     query: &Query<'t>,
 ) -> Result<Vec<TableRow<'t>>, AllocError>
-    ensures { IfOk result (λ lines. map row_line lines.items ≡ right_lines (query_seen query.now) tables.now) }
+    ensures { IfOk result (λ lines. map row_line lines.items
+        ≡ right_lines (query_seen query.now) tables.now) }
 {
     match (query.join, query.sides.right) {
         (Some(_), Some(right)) => lines_of(alloc, tables, right),
@@ -81,7 +83,8 @@ fn answered<'t>(
     query: &Query<'t>,
 ) -> Result<Outcome, AllocError>
     ensures { IfOk result (λ outcome. outcome
-        ≡ Rows (header_of (sides_seen query.now.sides) query.now.items.now) (plain_rows (plan_of (query_seen query.now)) tables.now)) }
+        ≡ Rows (header_of (sides_seen query.now.sides) query.now.items.now)
+        (plain_rows (plan_of (query_seen query.now)) tables.now)) }
 {
     let header = header(alloc, &query.sides, query.items)?;
     let rows = answer_rows(alloc, tables, query)?;

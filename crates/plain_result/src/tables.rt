@@ -49,7 +49,8 @@ pub(crate) fn lines_of<'t>(
     side: Side<'t>,
 ) -> Result<Vec<TableRow<'t>>, AllocError>
     ensures { IfOk result (λ lines. map row_line lines.items
-        ≡ map (line_of (side_seen side.entry).schema) (rows_named (side_seen side.entry).table tables.now)) }
+        ≡ map (line_of (side_seen side.entry).schema)
+        (rows_named (side_seen side.entry).table tables.now)) }
 {
     match table_named(tables, side.table.as_bytes()) {
         Some(table) => row_lines(alloc, side.schema, table.rows.as_slice()),

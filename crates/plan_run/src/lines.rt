@@ -55,7 +55,8 @@ pub(crate) fn lines_of<'r>(
     cells: &'r [u8],
     seen: &'r [SeenRow],
 ) -> Result<Vec<SeenLine<'r>>, AllocError>
-    ensures { IfOk result (λ lines. map line_seen lines.items ≡ map (seen_line schema.now cells.now) seen.now) }
+    ensures { IfOk result (λ lines. map line_seen lines.items
+        ≡ map (seen_line schema.now cells.now) seen.now) }
 {
     let mut lines = Vec::with_capacity(alloc, seen.len())?;
     for row in seen {

@@ -23,7 +23,8 @@ fn needs_of_lefts(
     join: BoundJoin,
     lefts: &[SeenLine<'_>],
 ) -> Result<Vec<Need>, AllocError>
-    ensures { IfOk result (λ needs. needs.items ≡ map (right_need_of (plan_seen plan.now) (join_seen join)) (map line_seen lefts.now)) }
+    ensures { IfOk result (λ needs. needs.items
+        ≡ map (right_need_of (plan_seen plan.now) (join_seen join)) (map line_seen lefts.now)) }
 {
     let mut needs = Vec::with_capacity(alloc, lefts.len())?;
     for left in lefts {
@@ -39,7 +40,11 @@ fn needs_of_seen(
     join: BoundJoin,
     seen: &[SeenRow],
 ) -> Result<Vec<Need>, AllocError>
-    ensures { IfOk result (λ needs. needs.items ≡ map (right_need_of (plan_seen plan.now) (join_seen join)) (filter (meets_left (plan_seen plan.now)) (map (seen_line plan.now.query.now.sides.left.schema.now plan.now.left_need.columns) seen.now))) }
+    ensures { IfOk result (λ needs. needs.items
+        ≡ map (right_need_of (plan_seen plan.now) (join_seen join))
+        (filter (meets_left (plan_seen plan.now))
+        (map (seen_line plan.now.query.now.sides.left.schema.now plan.now.left_need.columns)
+        seen.now))) }
 {
     let lefts = lefts_of(alloc, plan, seen)?;
     needs_of_lefts(alloc, plan, join, &lefts)

@@ -34,7 +34,8 @@ fn push_left(
     shown: &mut Shown,
 ) -> Result<(), ScanFault>
     requires { schema.now ≡ schema_at (sides_seen plan.now.query.now.sides) 1 }
-    ensures { AddsPairs result shown.old shown.new (plan_seen plan.now) (join_seen join) (line_seen left.now) (part_of tree.now) }
+    ensures { AddsPairs result shown.old shown.new (plan_seen plan.now) (join_seen join)
+        (line_seen left.now) (part_of tree.now) }
 {
     let need = right_need(alloc, plan, join, left)?;
     match scan(alloc, tree, &need) {
@@ -65,7 +66,8 @@ pub(crate) fn show_pairs(
     lefts: &[SeenLine<'_>],
 ) -> Result<Shown, ScanFault>
     requires { schema.now ≡ schema_at (sides_seen plan.now.query.now.sides) 1 }
-    ensures { ShowsPairs result (plan_seen plan.now) (join_seen join) (map line_seen lefts.now) (part_of tree.now) }
+    ensures { ShowsPairs result (plan_seen plan.now) (join_seen join) (map line_seen lefts.now)
+        (part_of tree.now) }
 {
     let mut shown = Shown {
         rows: Vec::new(alloc),

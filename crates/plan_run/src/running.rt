@@ -26,7 +26,9 @@ fn show_seen(
 ) -> Result<Shown, ScanFault>
     requires { length trees.now ≡ length (tables_used (sides_seen plan.now.query.now.sides)) }
     ensures { Shows result (plan_seen plan.now)
-        (filter (meets_left (plan_seen plan.now)) (map (seen_line plan.now.query.now.sides.left.schema.now plan.now.left_need.columns) seen.now))
+        (filter (meets_left (plan_seen plan.now))
+        (map (seen_line plan.now.query.now.sides.left.schema.now plan.now.left_need.columns)
+        seen.now))
         (right_tree (sides_seen plan.now.query.now.sides) (map part_of trees.now)) }
 {
     let lefts = lefts_of(alloc, plan, seen)?;

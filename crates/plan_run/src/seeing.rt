@@ -16,7 +16,10 @@ pub fn lefts_of<'r>(
     plan: &'r Plan<'_, '_>,
     seen: &'r [SeenRow],
 ) -> Result<Vec<SeenLine<'r>>, AllocError>
-    ensures { IfOk result (λ lefts. map line_seen lefts.items ≡ filter (meets_left (plan_seen plan.now)) (map (seen_line plan.now.query.now.sides.left.schema.now plan.now.left_need.columns) seen.now)) }
+    ensures { IfOk result (λ lefts. map line_seen lefts.items
+        ≡ filter (meets_left (plan_seen plan.now))
+        (map (seen_line plan.now.query.now.sides.left.schema.now plan.now.left_need.columns)
+        seen.now)) }
 {
     let query = plan.query;
     let schema = query.sides.left.schema;

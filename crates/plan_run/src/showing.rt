@@ -24,7 +24,9 @@ fn rows_alone(
     plan: &Plan<'_, '_>,
     lefts: &[SeenLine<'_>],
 ) -> Result<Vec<List<Value>>, AllocError>
-    ensures { IfOk result (λ rows. rows.items ≡ flat_map (λ left. answer_at (plan_seen plan.now).query (plan_seen plan.now).late (place_value (left ∷ []))) (map line_seen lefts.now)) }
+    ensures { IfOk result (λ rows. rows.items
+        ≡ flat_map (λ left. answer_at (plan_seen plan.now).query (plan_seen plan.now).late
+        (place_value (left ∷ []))) (map line_seen lefts.now)) }
 {
     let mut rows = Vec::new(alloc);
     for left in lefts {
@@ -68,7 +70,8 @@ pub(crate) fn show(
     lefts: &[SeenLine<'_>],
 ) -> Result<Shown, ScanFault>
     requires { length trees.now ≡ length (tables_used (sides_seen plan.now.query.now.sides)) }
-    ensures { Shows result (plan_seen plan.now) (map line_seen lefts.now) (right_tree (sides_seen plan.now.query.now.sides) (map part_of trees.now)) }
+    ensures { Shows result (plan_seen plan.now) (map line_seen lefts.now)
+        (right_tree (sides_seen plan.now.query.now.sides) (map part_of trees.now)) }
 {
     match (plan.query.join, plan.query.sides.right) {
         (Some(join), Some(right)) => {

@@ -20,7 +20,8 @@ fn find_side<'q, S: Schemas>(
     schemas: &'q S,
     source: &'q Source,
 ) -> Result<Side<'q>, BindFault>
-    ensures value { IfOk result (λ side. side_seen side ≡ side_of (S.headings schemas.now) source.now) }
+    ensures value { IfOk result (λ side. side_seen side
+        ≡ side_of (S.headings schemas.now) source.now) }
     ensures fault { Passes result (missing_table (S.headings schemas.now) source.now) }
 {
     match schemas.schema(source.table.as_bytes()) {
@@ -41,8 +42,10 @@ fn find_sides<'q, S: Schemas>(
     schemas: &'q S,
     query: &'q QueryText,
 ) -> Result<Sides<'q>, BindFault>
-    ensures value { IfOk result (λ found. sides_seen found ≡ sides (S.headings schemas.now) (query_of query.now)) }
-    ensures fault { Passes result (first_some (map (missing_table (S.headings schemas.now)) (sources (query_of query.now)))) }
+    ensures value { IfOk result (λ found. sides_seen found
+        ≡ sides (S.headings schemas.now) (query_of query.now)) }
+    ensures fault { Passes result (first_some
+        (map (missing_table (S.headings schemas.now)) (sources (query_of query.now)))) }
 {
     let left = match find_side(alloc, schemas, &query.left) {
         Ok(side) => side,
@@ -77,7 +80,8 @@ fn test_alias(alloc: Global, query: &QueryText) -> Result<(), BindFault>
 
 /// Tests the references of the items and of ON.
 fn test_shown_refs(alloc: Global, sides: &Sides<'_>, query: &QueryText) -> Result<(), BindFault>
-    ensures { Passes result (first_some (map (ref_fault (sides_seen sides.now)) (shown_refs (query_of query.now)))) }
+    ensures { Passes result (first_some
+        (map (ref_fault (sides_seen sides.now)) (shown_refs (query_of query.now)))) }
 {
     match test_items(alloc, sides, &query.items) {
         Ok(()) => test_join_refs(alloc, sides, &query.join),
@@ -86,7 +90,8 @@ fn test_shown_refs(alloc: Global, sides: &Sides<'_>, query: &QueryText) -> Resul
 }
 
 fn test_references(alloc: Global, sides: &Sides<'_>, query: &QueryText) -> Result<(), BindFault>
-    ensures { Passes result (first_some (map (ref_fault (sides_seen sides.now)) (query_refs (query_of query.now)))) }
+    ensures { Passes result (first_some
+        (map (ref_fault (sides_seen sides.now)) (query_refs (query_of query.now)))) }
 {
     match test_shown_refs(alloc, sides, query) {
         Ok(()) => test_condition_refs(alloc, sides, &query.cond),
@@ -113,7 +118,9 @@ fn test_names(alloc: Global, sides: &Sides<'_>, query: &QueryText) -> Result<(),
 }
 
 fn test_sides(alloc: Global, sides: &Sides<'_>, query: &QueryText) -> Result<(), BindFault>
-    ensures { Passes result (first_some (same_alias (sources (query_of query.now)) ∷ name_tests (sides_seen sides.now) (query_of query.now))) }
+    ensures { Passes result (first_some
+        (same_alias (sources (query_of query.now))
+        ∷ name_tests (sides_seen sides.now) (query_of query.now))) }
 {
     match test_alias(alloc, query) {
         Ok(()) => test_names(alloc, sides, query),
@@ -128,7 +135,8 @@ pub fn bind_sources<'q, S: Schemas>(
     query: &'q QueryText,
 ) -> Result<Sides<'q>, BindFault>
     // The sources are those of the query.
-    ensures value { IfOk result (λ found. sides_seen found ≡ sides (S.headings schemas.now) (query_of query.now)) }
+    ensures value { IfOk result (λ found. sides_seen found
+        ≡ sides (S.headings schemas.now) (query_of query.now)) }
 
     // No test finds a fault, or the fault is the first that they find.
     ensures fault { Passes result (binding_fault (S.headings schemas.now) (query_of query.now)) }

@@ -40,7 +40,8 @@ fn test_kinds(sides: &Sides<'_>, left: &Ref, right: &Operand) -> Result<(), Bind
 /// Tests the comparisons of a condition in the order of its text.
 #[cycle(condition_kinds)]
 fn test_condition(sides: &Sides<'_>, cond: &Cond) -> Result<(), BindFault>
-    ensures { Passes result (first_some (map (kind_fault (sides_seen sides.now)) (comparisons (condition_of cond.now)))) }
+    ensures { Passes result (first_some
+        (map (kind_fault (sides_seen sides.now)) (comparisons (condition_of cond.now)))) }
 {
     match cond {
         Cond::All(parts) => test_parts(sides, parts.as_slice()),
@@ -52,7 +53,9 @@ fn test_condition(sides: &Sides<'_>, cond: &Cond) -> Result<(), BindFault>
 
 #[cycle(condition_kinds)]
 fn test_parts(sides: &Sides<'_>, parts: &[Cond]) -> Result<(), BindFault>
-    ensures { Passes result (first_some (map (kind_fault (sides_seen sides.now)) (comparisons_in (conditions (map condition_of parts.now))))) }
+    ensures { Passes result (first_some
+        (map (kind_fault (sides_seen sides.now))
+        (comparisons_in (conditions (map condition_of parts.now))))) }
 {
     for part in parts {
         match test_condition(sides, part) {
@@ -64,7 +67,9 @@ fn test_parts(sides: &Sides<'_>, parts: &[Cond]) -> Result<(), BindFault>
 }
 
 pub(crate) fn test_comparisons(sides: &Sides<'_>, cond: &Option<Cond>) -> Result<(), BindFault>
-    ensures { Passes result (first_some (map (kind_fault (sides_seen sides.now)) (option_map_or comparisons (option_map condition_of cond.now) []))) }
+    ensures { Passes result (first_some
+        (map (kind_fault (sides_seen sides.now))
+        (option_map_or comparisons (option_map condition_of cond.now) []))) }
 {
     match cond {
         None => Ok(()),

@@ -38,7 +38,8 @@ fn ref_title(alloc: Global, reference: &Ref) -> Result<Text, AllocError>
 
 /// The name of the column at the place, past all columns nothing.
 fn name_at<'q>(sides: &Sides<'q>, place: Place) -> &'q [u8]
-    ensures { result.now ≡ (column_at (schema_at (sides_seen sides.now) place.side).columns place.column).name }
+    ensures { result.now ≡ (column_at
+        (schema_at (sides_seen sides.now) place.side).columns place.column).name }
 {
     match sides.schema_at(place.side) {
         Some(schema) => column_name(schema.columns.as_slice(), place.column),
@@ -70,7 +71,8 @@ fn place_titles(
     sides: &Sides<'_>,
     places: &[Place],
 ) -> Result<List<Text>, AllocError>
-    ensures { IfOk result (λ titles. titles ≡ map (place_title (sides_seen sides.now)) (map place_seen places.now)) }
+    ensures { IfOk result (λ titles. titles
+        ≡ map (place_title (sides_seen sides.now)) (map place_seen places.now)) }
 {
     let mut titles = Vec::with_capacity(alloc, places.len())?;
     for place in places {

@@ -13,7 +13,8 @@ use vo_spec::{Join, QueryFault};
 
 /// Where the two columns of ON stand, that of the left source first where one of each is named.
 fn join_places(sides: &Sides<'_>, join: &Join) -> (Place, Place)
-    ensures { (place_seen result.0, place_seen result.1) ≡ join_places (sides_seen sides.now) join.now }
+    ensures { (place_seen result.0, place_seen result.1)
+        ≡ join_places (sides_seen sides.now) join.now }
 {
     let first = sides.place_of(&join.left_ref);
     let second = sides.place_of(&join.right_ref);
@@ -56,7 +57,8 @@ fn test_on(sides: &Sides<'_>, join: &Join) -> Result<(), BindFault>
 }
 
 pub(crate) fn test_join(sides: &Sides<'_>, join: &Option<Join>) -> Result<(), BindFault>
-    ensures { Passes result (first_some (map (join_fault (sides_seen sides.now)) (option_to_list join.now))) }
+    ensures { Passes result (first_some
+        (map (join_fault (sides_seen sides.now)) (option_to_list join.now))) }
 {
     match join {
         None => Ok(()),

@@ -65,7 +65,8 @@ fn test_refs(alloc: Global, sides: &Sides<'_>, references: &[Ref]) -> Result<(),
 }
 
 pub(crate) fn test_items(alloc: Global, sides: &Sides<'_>, items: &Items) -> Result<(), BindFault>
-    ensures { Passes result (first_some (map (ref_fault (sides_seen sides.now)) (item_refs items.now))) }
+    ensures { Passes result (first_some
+        (map (ref_fault (sides_seen sides.now)) (item_refs items.now))) }
 {
     match items {
         Items::All => Ok(()),
@@ -78,7 +79,8 @@ pub(crate) fn test_join_refs(
     sides: &Sides<'_>,
     join: &Option<Join>,
 ) -> Result<(), BindFault>
-    ensures { Passes result (first_some (map (ref_fault (sides_seen sides.now)) (option_map_or join_refs join.now []))) }
+    ensures { Passes result (first_some
+        (map (ref_fault (sides_seen sides.now)) (option_map_or join_refs join.now []))) }
 {
     match join {
         None => Ok(()),
@@ -90,7 +92,8 @@ pub(crate) fn test_join_refs(
 }
 
 fn test_operand(alloc: Global, sides: &Sides<'_>, operand: &Operand) -> Result<(), BindFault>
-    ensures { Passes result (first_some (map (ref_fault (sides_seen sides.now)) (operand_refs operand.now))) }
+    ensures { Passes result (first_some
+        (map (ref_fault (sides_seen sides.now)) (operand_refs operand.now))) }
 {
     match operand {
         Operand::Ref(reference) => test_ref(alloc, sides, reference),
@@ -104,7 +107,9 @@ fn test_compared(
     left: &Ref,
     right: &Operand,
 ) -> Result<(), BindFault>
-    ensures { Passes result (first_some (ref_fault (sides_seen sides.now) left.now ∷ map (ref_fault (sides_seen sides.now)) (operand_refs right.now))) }
+    ensures { Passes result (first_some
+        (ref_fault (sides_seen sides.now) left.now
+        ∷ map (ref_fault (sides_seen sides.now)) (operand_refs right.now))) }
 {
     match test_ref(alloc, sides, left) {
         Ok(()) => test_operand(alloc, sides, right),
@@ -115,7 +120,8 @@ fn test_compared(
 /// Tests the references of a condition in the order of its text.
 #[cycle(condition_references)]
 fn test_condition(alloc: Global, sides: &Sides<'_>, cond: &Cond) -> Result<(), BindFault>
-    ensures { Passes result (first_some (map (ref_fault (sides_seen sides.now)) (condition_refs (condition_of cond.now)))) }
+    ensures { Passes result (first_some
+        (map (ref_fault (sides_seen sides.now)) (condition_refs (condition_of cond.now)))) }
 {
     match cond {
         Cond::All(parts) => test_parts(alloc, sides, parts.as_slice()),
@@ -127,7 +133,9 @@ fn test_condition(alloc: Global, sides: &Sides<'_>, cond: &Cond) -> Result<(), B
 
 #[cycle(condition_references)]
 fn test_parts(alloc: Global, sides: &Sides<'_>, parts: &[Cond]) -> Result<(), BindFault>
-    ensures { Passes result (first_some (map (ref_fault (sides_seen sides.now)) (conditions_refs (conditions (map condition_of parts.now))))) }
+    ensures { Passes result (first_some
+        (map (ref_fault (sides_seen sides.now))
+        (conditions_refs (conditions (map condition_of parts.now))))) }
 {
     for part in parts {
         match test_condition(alloc, sides, part) {
@@ -143,7 +151,9 @@ pub(crate) fn test_condition_refs(
     sides: &Sides<'_>,
     cond: &Option<Cond>,
 ) -> Result<(), BindFault>
-    ensures { Passes result (first_some (map (ref_fault (sides_seen sides.now)) (option_map_or condition_refs (option_map condition_of cond.now) []))) }
+    ensures { Passes result (first_some
+        (map (ref_fault (sides_seen sides.now))
+        (option_map_or condition_refs (option_map condition_of cond.now) []))) }
 {
     match cond {
         None => Ok(()),

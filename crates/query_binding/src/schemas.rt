@@ -10,5 +10,6 @@ pub trait Schemas {
 
     /// The schema of the first table of this name.
     fn schema(&self, name: &[u8]) -> Option<&Schema>
-        ensures { option_map (λ s. s.now) result ≡ option_map (λ h. h.schema) (heading_named name.now (headings self.now)) };
+        ensures { option_map (λ s. s.now) result
+            ≡ option_map (λ h. h.schema) (heading_named name.now (headings self.now)) };
 }

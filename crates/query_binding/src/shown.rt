@@ -20,7 +20,8 @@ fn width(sides: &Sides<'_>, side: usize) -> usize
 
 /// Puts a place for each column of a source at the end.
 fn push_places(sides: &Sides<'_>, side: usize, out: &mut Vec<Place>) -> Result<(), AllocError>
-    ensures { OnOk result (map place_seen out.new.items ≡ map place_seen out.old.items ++ places_in (sides_seen sides.now) side) }
+    ensures { OnOk result (map place_seen out.new.items ≡ map place_seen out.old.items
+        ++ places_in (sides_seen sides.now) side) }
 {
     for column in 0..width(sides, side) {
         out.push(Place { side, column })?;
@@ -29,7 +30,8 @@ fn push_places(sides: &Sides<'_>, side: usize, out: &mut Vec<Place>) -> Result<(
 }
 
 fn all_places(alloc: Global, sides: &Sides<'_>) -> Result<Vec<Place>, AllocError>
-    ensures { IfOk result (λ places. map place_seen places.items ≡ shown_places (sides_seen sides.now) All) }
+    ensures { IfOk result (λ places. map place_seen places.items
+        ≡ shown_places (sides_seen sides.now) All) }
 {
     let mut places = Vec::new(alloc);
     push_places(sides, 0, &mut places)?;
@@ -40,7 +42,8 @@ fn all_places(alloc: Global, sides: &Sides<'_>) -> Result<Vec<Place>, AllocError
 }
 
 fn places_of(alloc: Global, sides: &Sides<'_>, references: &[Ref]) -> Result<Vec<Place>, AllocError>
-    ensures { IfOk result (λ places. map place_seen places.items ≡ map (place_of (sides_seen sides.now)) references.now) }
+    ensures { IfOk result (λ places. map place_seen places.items
+        ≡ map (place_of (sides_seen sides.now)) references.now) }
 {
     let mut places = Vec::with_capacity(alloc, references.len())?;
     for reference in references {
@@ -55,7 +58,8 @@ pub fn shown_places(
     sides: &Sides<'_>,
     items: &Items,
 ) -> Result<Vec<Place>, AllocError>
-    ensures { IfOk result (λ places. map place_seen places.items ≡ shown_places (sides_seen sides.now) items.now) }
+    ensures { IfOk result (λ places. map place_seen places.items
+        ≡ shown_places (sides_seen sides.now) items.now) }
 {
     match items {
         Items::All => all_places(alloc, sides),

@@ -61,7 +61,8 @@ impl<'q> Sides<'q> {
     /// The source of this number, from 0.
     pub fn side_at(&self, side: usize) -> Option<Side<'q>>
         ensures there { is_some result ≡ nat_lt side (length (sides_seen self.now)) }
-        ensures value { option_map_or side_seen result no_side ≡ side_at (sides_seen self.now) side }
+        ensures value { option_map_or side_seen result no_side
+            ≡ side_at (sides_seen self.now) side }
     {
         match side {
             0 => Some(self.left),
@@ -72,7 +73,8 @@ impl<'q> Sides<'q> {
 
     pub fn schema_at(&self, side: usize) -> Option<&'q Schema>
         ensures there { is_some result ≡ nat_lt side (length (sides_seen self.now)) }
-        ensures value { option_map_or (λ s. s.now) result no_schema ≡ schema_at (sides_seen self.now) side }
+        ensures value { option_map_or (λ s. s.now) result no_schema
+            ≡ schema_at (sides_seen self.now) side }
     {
         match self.side_at(side) {
             Some(found) => Some(found.schema),
@@ -103,7 +105,8 @@ impl<'q> Sides<'q> {
 
     /// Whether two sources have the column.
     pub(crate) fn are_ambiguous(&self, reference: &Ref) -> bool
-        ensures { result ≡ nat_lt 1 (count_by (means_column_of reference.now) (sides_seen self.now)) }
+        ensures { result ≡ nat_lt 1
+            (count_by (means_column_of reference.now) (sides_seen self.now)) }
     {
         match &self.right {
             Some(right) => {

@@ -66,7 +66,8 @@ pub fn push_alone<L: Line>(
     out: &mut Vec<List<Value>>,
 ) -> Result<(), AllocError>
     ensures { OnOk result (out.new.items ≡ out.old.items
-        ++ answer_at (query_seen query.now) (map conjunct_seen late.now) (place_value (L.line left.now ∷ []))) }
+        ++ answer_at (query_seen query.now) (map conjunct_seen late.now)
+        (place_value (L.line left.now ∷ []))) }
 {
     push_answer(alloc, query, late, &LeftRow { left }, out)
 }
@@ -80,7 +81,8 @@ fn push_pair<'r, L: Line, R: Line>(
     out: &mut Vec<List<Value>>,
 ) -> Result<(), AllocError>
     ensures { OnOk result (out.new.items ≡ out.old.items
-        ++ answer_at (query_seen query.now) (map conjunct_seen late.now) (place_value (L.line left.now ∷ R.line right.now ∷ []))) }
+        ++ answer_at (query_seen query.now) (map conjunct_seen late.now)
+        (place_value (L.line left.now ∷ R.line right.now ∷ []))) }
 {
     push_answer(alloc, query, late, &RowPair { left, right }, out)
 }
@@ -95,7 +97,8 @@ pub fn push_pairs<L: Line, R: Line>(
     out: &mut Vec<List<Value>>,
 ) -> Result<(), AllocError>
     ensures { OnOk result (out.new.items ≡ out.old.items
-        ++ pair_answers (query_seen query.now) (map conjunct_seen late.now) (map R.line rights.now) (L.line left.now)) }
+        ++ pair_answers (query_seen query.now) (map conjunct_seen late.now) (map R.line rights.now)
+        (L.line left.now)) }
 {
     for right in rights {
         push_pair(alloc, query, late, &*left, right, out)?;
@@ -114,7 +117,8 @@ pub fn push_answers<L: Line, R: Line>(
     out: &mut Vec<List<Value>>,
 ) -> Result<(), AllocError>
     ensures { OnOk result (out.new.items ≡ out.old.items
-        ++ left_answers (query_seen query.now) (map conjunct_seen late.now) (option_map join_seen query.now.join) (map R.line rights.now) (L.line left.now)) }
+        ++ left_answers (query_seen query.now) (map conjunct_seen late.now)
+        (option_map join_seen query.now.join) (map R.line rights.now) (L.line left.now)) }
 {
     match query.join {
         None => push_alone(alloc, query, late, left, out),

@@ -28,7 +28,8 @@ fn bind_condition<'q>(
     sides: &Sides<'_>,
     cond: &'q Cond,
 ) -> Result<BoundCond<'q>, AllocError>
-    ensures { IfOk result (λ bound. condition_seen bound ≡ bound_condition (sides_seen sides.now) (condition_of cond.now)) }
+    ensures { IfOk result (λ bound. condition_seen bound
+        ≡ bound_condition (sides_seen sides.now) (condition_of cond.now)) }
 {
     match cond {
         Cond::All(parts) => {
@@ -57,7 +58,8 @@ fn bind_parts<'q>(
     sides: &Sides<'_>,
     parts: &'q [Cond],
 ) -> Result<List<BoundCond<'q>>, AllocError>
-    ensures { IfOk result (λ bound. parts_seen (map condition_seen bound) ≡ bound_conditions (sides_seen sides.now) (conditions (map condition_of parts.now))) }
+    ensures { IfOk result (λ bound. parts_seen (map condition_seen bound)
+        ≡ bound_conditions (sides_seen sides.now) (conditions (map condition_of parts.now))) }
 {
     let mut bound = Vec::with_capacity(alloc, parts.len())?;
     for part in parts {
@@ -71,7 +73,8 @@ fn bind_where<'q>(
     sides: &Sides<'_>,
     cond: &'q Option<Cond>,
 ) -> Result<Option<BoundCond<'q>>, AllocError>
-    ensures { IfOk result (λ bound. option_map condition_seen bound ≡ option_map (bound_condition (sides_seen sides.now)) (option_map condition_of cond.now)) }
+    ensures { IfOk result (λ bound. option_map condition_seen bound
+        ≡ option_map (bound_condition (sides_seen sides.now)) (option_map condition_of cond.now)) }
 {
     match cond {
         Some(cond) => Ok(Some(bind_condition(alloc, sides, cond)?)),
@@ -80,7 +83,8 @@ fn bind_where<'q>(
 }
 
 fn bind_join(sides: &Sides<'_>, join: &Option<Join>) -> Option<BoundJoin>
-    ensures { option_map join_seen result ≡ option_map (bound_join (sides_seen sides.now)) join.now }
+    ensures { option_map join_seen result
+        ≡ option_map (bound_join (sides_seen sides.now)) join.now }
 {
     match join {
         Some(join) => Some(BoundJoin {
@@ -100,7 +104,8 @@ fn bind_query<'q, S: Schemas>(
     text: &'q QueryText,
 ) -> Result<Query<'q>, AllocError>
     requires { sides_seen sides ≡ sides_of (S.headings schemas.now) (query_of text.now) }
-    ensures { IfOk result (λ query. query_seen query ≡ bound_query (sides_seen sides.entry) (query_of text.now)) }
+    ensures { IfOk result (λ query. query_seen query
+        ≡ bound_query (sides_seen sides.entry) (query_of text.now)) }
 {
     let output = shown_places(alloc, &sides, &text.items)?;
     let join = bind_join(&sides, &text.join);
@@ -122,7 +127,8 @@ pub fn bind<'q, S: Schemas>(
     text: &'q QueryText,
 ) -> Result<Query<'q>, BindFault>
     // Each reference is the column that it names.
-    ensures value { IfOk result (λ query. query_seen query ≡ bound_query (sides_of (S.headings schemas.now) (query_of text.now)) (query_of text.now)) }
+    ensures value { IfOk result (λ query. query_seen query
+        ≡ bound_query (sides_of (S.headings schemas.now) (query_of text.now)) (query_of text.now)) }
 
     // No test finds a fault, or the fault is the first that they find.
     ensures fault { Passes result (binding_fault (S.headings schemas.now) (query_of text.now)) }

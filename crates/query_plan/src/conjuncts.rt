@@ -22,7 +22,8 @@ fn is_on_left(cond: &BoundCond<'_>) -> bool
 
 #[cycle(left)]
 fn are_on_left(parts: &[BoundCond<'_>]) -> bool
-    ensures { result ≡ list_all is_left_place (parts_places (parts_seen (map condition_seen parts.now))) }
+    ensures { result ≡ list_all is_left_place
+        (parts_places (parts_seen (map condition_seen parts.now))) }
 {
     for part in parts {
         if !is_on_left(part) {
@@ -47,7 +48,8 @@ fn put_one<'c, 'q>(
     on_left: bool,
     out: &mut Vec<Conjunct<'c, 'q>>,
 ) -> Result<(), AllocError>
-    ensures { OnOk result (map conjunct_seen out.new.items ≡ map conjunct_seen out.old.items ++ one_where on_left (condition_seen cond.now)) }
+    ensures { OnOk result (map conjunct_seen out.new.items ≡ map conjunct_seen out.old.items
+        ++ one_where on_left (condition_seen cond.now)) }
 {
     if is_on_left(cond) == on_left {
         out.push(Conjunct { cond })?;
@@ -61,7 +63,8 @@ fn put_conjuncts<'c, 'q>(
     on_left: bool,
     out: &mut Vec<Conjunct<'c, 'q>>,
 ) -> Result<(), AllocError>
-    ensures { OnOk result (map conjunct_seen out.new.items ≡ map conjunct_seen out.old.items ++ conjuncts_where on_left (condition_seen cond.now)) }
+    ensures { OnOk result (map conjunct_seen out.new.items ≡ map conjunct_seen out.old.items
+        ++ conjuncts_where on_left (condition_seen cond.now)) }
 {
     match cond {
         BoundCond::All(parts) => put_parts(parts.as_slice(), on_left, out),
@@ -77,7 +80,8 @@ fn put_parts<'c, 'q>(
     on_left: bool,
     out: &mut Vec<Conjunct<'c, 'q>>,
 ) -> Result<(), AllocError>
-    ensures { OnOk result (map conjunct_seen out.new.items ≡ map conjunct_seen out.old.items ++ all_where on_left (parts_seen (map condition_seen parts.now))) }
+    ensures { OnOk result (map conjunct_seen out.new.items ≡ map conjunct_seen out.old.items
+        ++ all_where on_left (parts_seen (map condition_seen parts.now))) }
 {
     for part in parts {
         put_conjuncts(part, on_left, out)?;
@@ -91,7 +95,8 @@ pub fn conjuncts_of<'c, 'q>(
     cond: &'c Option<BoundCond<'q>>,
     on_left: bool,
 ) -> Result<Vec<Conjunct<'c, 'q>>, AllocError>
-    ensures { IfOk result (λ conds. map conjunct_seen conds.items ≡ option_map_or (conjuncts_where on_left) (option_map condition_seen cond.now) []) }
+    ensures { IfOk result (λ conds. map conjunct_seen conds.items
+        ≡ option_map_or (conjuncts_where on_left) (option_map condition_seen cond.now) []) }
 {
     let mut conds = Vec::new(alloc);
     if let Some(cond) = cond {

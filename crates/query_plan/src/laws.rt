@@ -14,14 +14,17 @@ ghost use Rattle.query_plan.specs.Answers.{plain_rows};
 /// Rows meet the condition of a bound query where they meet that of the query.
 pub fn bindings_keep_conditions()
     ensures { (ss : List Side) (q : Query) (rows : List Line)
-        → option_map_or (bound_truth (place_value rows)) (bound_query ss q).condition true ≡ is_met (ref_value ss rows) q.condition }
+        → option_map_or (bound_truth (place_value rows)) (bound_query ss q).condition true
+        ≡ is_met (ref_value ss rows) q.condition }
 {}
 
 /// A plan needs what its query needs of the left tree, and of the right one for each left row.
 pub fn plans_keep_needs()
-    ensures left { (ss : List Side) (q : Query) → (plan_of (bound_query ss q)).left_need ≡ left_need_by_names ss q }
+    ensures left { (ss : List Side) (q : Query)
+        → (plan_of (bound_query ss q)).left_need ≡ left_need_by_names ss q }
     ensures right { (ss : List Side) (q : Query) (j : Join) (line : Line)
-        → right_need_of (plan_of (bound_query ss q)) (bound_join ss j) line ≡ right_need_by_names ss q j line }
+        → right_need_of (plan_of (bound_query ss q)) (bound_join ss j) line
+        ≡ right_need_by_names ss q j line }
     ensures kept { (ss : List Side) (q : Query) (line : Line)
         → meets_left (plan_of (bound_query ss q)) line ≡ meets_by_names ss q line }
 {}
@@ -29,5 +32,6 @@ pub fn plans_keep_needs()
 /// Over plain tables a plan gives the rows that its query gives.
 pub fn plans_keep_results()
     ensures { (ss : List Side) (q : Query) (tables : List Table)
-        → plain_rows (plan_of (bound_query ss q)) tables ≡ answer_rows ss q (lines_at tables ss 0) (λ left. lines_at tables ss 1) }
+        → plain_rows (plan_of (bound_query ss q)) tables
+        ≡ answer_rows ss q (lines_at tables ss 0) (λ left. lines_at tables ss 1) }
 {}

@@ -23,7 +23,8 @@ fn comparison_interval(
     op: Cmp,
     right: &BoundOperand<'_>,
 ) -> Result<Interval, AllocError>
-    ensures { IfOk result (λ interval. interval ≡ comparison_interval key (place_seen left) op (term_seen right.now)) }
+    ensures { IfOk result (λ interval. interval
+        ≡ comparison_interval key (place_seen left) op (term_seen right.now)) }
 {
     match right {
         BoundOperand::Literal(value) if is_left_key(key, left) => keys_that(alloc, op, value),
@@ -53,7 +54,8 @@ fn interval_of_all(
     key: usize,
     parts: &[BoundCond<'_>],
 ) -> Result<Interval, AllocError>
-    ensures { IfOk result (λ interval. interval ≡ shared_interval key (parts_seen (map condition_seen parts.now))) }
+    ensures { IfOk result (λ interval. interval
+        ≡ shared_interval key (parts_seen (map condition_seen parts.now))) }
 {
     let mut interval = all_keys();
     let mut place = parts.len();

@@ -37,7 +37,8 @@ fn is_among(at: Place, places: &[Place]) -> bool
 /// Whether the condition names the column at the place.
 #[cycle(names)]
 fn condition_names(at: Place, cond: &BoundCond<'_>) -> bool
-    ensures { result ≡ list_any (is_at (place_seen at)) (condition_places (condition_seen cond.now)) }
+    ensures { result ≡ list_any (is_at (place_seen at))
+        (condition_places (condition_seen cond.now)) }
 {
     match cond {
         BoundCond::All(parts) | BoundCond::Any(parts) => parts_name(at, parts.as_slice()),
@@ -48,7 +49,8 @@ fn condition_names(at: Place, cond: &BoundCond<'_>) -> bool
 
 #[cycle(names)]
 fn parts_name(at: Place, parts: &[BoundCond<'_>]) -> bool
-    ensures { result ≡ list_any (is_at (place_seen at)) (parts_places (parts_seen (map condition_seen parts.now))) }
+    ensures { result ≡ list_any (is_at (place_seen at))
+        (parts_places (parts_seen (map condition_seen parts.now))) }
 {
     for part in parts {
         if condition_names(at, part) {
@@ -68,7 +70,8 @@ fn operand_names(at: Place, operand: &BoundOperand<'_>) -> bool
 }
 
 fn join_names(at: Place, join: &Option<BoundJoin>) -> bool
-    ensures { result ≡ list_any (is_at (place_seen at)) (option_map_or join_columns (option_map join_seen join.now) []) }
+    ensures { result ≡ list_any (is_at (place_seen at))
+        (option_map_or join_columns (option_map join_seen join.now) []) }
 {
     match join {
         Some(join) => is_at(at, join.first) || is_at(at, join.second),
@@ -77,7 +80,8 @@ fn join_names(at: Place, join: &Option<BoundJoin>) -> bool
 }
 
 fn where_names(at: Place, cond: &Option<BoundCond<'_>>) -> bool
-    ensures { result ≡ list_any (is_at (place_seen at)) (option_map_or condition_places (option_map condition_seen cond.now) []) }
+    ensures { result ≡ list_any (is_at (place_seen at))
+        (option_map_or condition_places (option_map condition_seen cond.now) []) }
 {
     match cond {
         Some(cond) => condition_names(at, cond),

@@ -22,7 +22,8 @@ use vo_spec::{Cmp, Need, Value};
 
 /// Whether the source of this number has no more columns than a table may have.
 pub fn is_narrow(sides: &Sides<'_>, side: usize) -> bool
-    ensures { IsTrue result ↔ (length (schema_at (sides_seen sides.now) side).columns ≤ most_columns) }
+    ensures { IsTrue result ↔ (length (schema_at (sides_seen sides.now) side).columns
+        ≤ most_columns) }
 {
     match sides.schema_at(side) {
         Some(schema) => schema.columns.len() <= 32,
@@ -50,7 +51,8 @@ fn left_column(join: BoundJoin) -> Place
 
 /// The value by which a left row finds its right row.
 fn join_value<L: Line>(alloc: Global, join: BoundJoin, left: &L) -> Result<Value, AllocError>
-    ensures { IfOk result (λ value. value ≡ place_value (L.line left.now ∷ []) (left_column (join_seen join))) }
+    ensures { IfOk result (λ value. value
+        ≡ place_value (L.line left.now ∷ []) (left_column (join_seen join))) }
 {
     let rows = LeftRow { left };
     own_value(alloc, rows.value(left_column(join)))
@@ -63,7 +65,8 @@ pub fn right_need<L: Line>(
     join: BoundJoin,
     left: &L,
 ) -> Result<Need, AllocError>
-    ensures { IfOk result (λ need. need ≡ right_need_of (plan_seen plan.now) (join_seen join) (L.line left.now)) }
+    ensures { IfOk result (λ need. need
+        ≡ right_need_of (plan_seen plan.now) (join_seen join) (L.line left.now)) }
 {
     let value = join_value(alloc, join, left)?;
     let interval = keys_that(alloc, Cmp::Eq, &value)?;

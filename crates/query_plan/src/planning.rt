@@ -25,7 +25,8 @@ fn left_interval(
     key: usize,
     cond: &Option<BoundCond<'_>>,
 ) -> Result<Interval, AllocError>
-    ensures { IfOk result (λ interval. interval ≡ option_map_or (bound_interval key) (option_map condition_seen cond.now) all_keys) }
+    ensures { IfOk result (λ interval. interval
+        ≡ option_map_or (bound_interval key) (option_map condition_seen cond.now) all_keys) }
 {
     match cond {
         Some(cond) => interval_of(alloc, key, cond),

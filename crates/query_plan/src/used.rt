@@ -28,7 +28,8 @@ pub fn has_one_tree(sides: &Sides<'_>) -> bool
 
 /// The names of the tables whose trees the query reads, the left one first.
 pub fn tables_used<'q>(alloc: Global, sides: &Sides<'q>) -> Result<Vec<&'q Name>, AllocError>
-    ensures { IfOk result (λ names. map lent_name names.items ≡ tables_used (sides_seen sides.now)) }
+    ensures { IfOk result (λ names. map lent_name names.items
+        ≡ tables_used (sides_seen sides.now)) }
 {
     let mut names = Vec::new(alloc);
     names.push(sides.left.table)?;

@@ -43,7 +43,8 @@ pub fn follow_children<'b>(
     need: &Need,
 ) -> Result<Nodes<'b>, AllocError>
     ensures { IfOk result (λ parts. parts
-        ≡ pruned_in (walk_for visitors.now.all) row_family (need.now ∷ []) None separators.now (open_parts children.now)) }
+        ≡ pruned_in (walk_for visitors.now.all) row_family (need.now ∷ []) None separators.now
+        (open_parts children.now)) }
 {
     let mut parts = Vec::with_capacity(alloc, children.len())?;
     let mut is_past = false;

@@ -21,7 +21,8 @@ pub fn lend_needs<'n>(alloc: Global, needs: &'n [Need]) -> Result<Vec<&'n Need>,
 
 /// Those whose scans visit the root.
 pub fn going_in<'n>(alloc: Global, needs: &[&'n Need]) -> Result<Vec<&'n Need>, AllocError>
-    ensures { IfOk result (λ going. map lent_need going.items ≡ first_going (map lent_need needs.now)) }
+    ensures { IfOk result (λ going. map lent_need going.items
+        ≡ first_going (map lent_need needs.now)) }
 {
     let mut going = Vec::new(alloc);
     for need in needs {
@@ -43,7 +44,8 @@ pub fn put_going_on<'n>(
 ) -> Result<(), AllocError>
     requires { going.now.items ≡ [] }
     ensures { OnOk result (map lent_need going.new.items
-        ≡ next_going (map lent_need needs.now) (option_copied lower.entry) (option_copied upper.entry)) }
+        ≡ next_going (map lent_need needs.now) (option_copied lower.entry)
+        (option_copied upper.entry)) }
 {
     for need in needs {
         if visits(&need.interval, lower, upper) {

@@ -70,7 +70,8 @@ pub fn is_empty_interval(interval: &Interval) -> bool
 // Asked of each need at each child: a call would take as long as most of what it does.
 #[inline(always)]
 pub fn visits(interval: &Interval, lower: Option<&[u8]>, upper: Option<&[u8]>) -> bool
-    ensures { result ≡ does_visit interval.now (option_copied lower.entry) (option_copied upper.entry) }
+    ensures { result ≡ does_visit interval.now (option_copied lower.entry)
+        (option_copied upper.entry) }
 {
     ends_above(&interval.low, upper) && begins_below(&interval.high, lower)
 }
@@ -84,7 +85,8 @@ pub fn visits_from(
     lower: Option<&[u8]>,
     upper: Option<&[u8]>,
 ) -> bool
-    ensures { result ≡ does_visit interval.now (option_copied lower.entry) (option_copied upper.entry) }
+    ensures { result ≡ does_visit interval.now (option_copied lower.entry)
+        (option_copied upper.entry) }
 {
     if is_past {
         begins_below(&interval.high, lower) && ends_above(&interval.low, upper)
@@ -116,7 +118,8 @@ fn begins_below(high: &Bound, lower: Option<&[u8]>) -> bool
 
 /// Whether the key is from the one separator on and before the other; a missing one lets it pass.
 pub fn is_between(lower: Option<&[u8]>, upper: Option<&[u8]>, key: &[u8]) -> bool
-    ensures { result ≡ does_stand_between (option_copied lower.entry) (option_copied upper.entry) key.now }
+    ensures { result ≡ does_stand_between (option_copied lower.entry)
+        (option_copied upper.entry) key.now }
 {
     is_from(lower, key) && is_before(upper, key)
 }
@@ -141,7 +144,8 @@ fn is_before(upper: Option<&[u8]>, key: &[u8]) -> bool
 
 /// The greater of two lower separators; a missing one is below all.
 pub fn later<'k>(first: Option<&'k [u8]>, second: Option<&'k [u8]>) -> Option<&'k [u8]>
-    ensures { option_copied result ≡ later_of (option_copied first.entry) (option_copied second.entry) }
+    ensures { option_copied result ≡ later_of (option_copied first.entry)
+        (option_copied second.entry) }
 {
     match (first, second) {
         (None, _) => second,
@@ -152,7 +156,8 @@ pub fn later<'k>(first: Option<&'k [u8]>, second: Option<&'k [u8]>) -> Option<&'
 
 /// The smaller of two upper separators; a missing one is above all.
 pub fn sooner<'k>(first: Option<&'k [u8]>, second: Option<&'k [u8]>) -> Option<&'k [u8]>
-    ensures { option_copied result ≡ sooner_of (option_copied first.entry) (option_copied second.entry) }
+    ensures { option_copied result ≡ sooner_of (option_copied first.entry)
+        (option_copied second.entry) }
 {
     match (first, second) {
         (None, _) => second,

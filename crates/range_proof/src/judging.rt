@@ -16,7 +16,8 @@ use vo_spec::{KeyPart, Need, PartEntry, ScanFault};
 /// Whether the part is the proof for these needs, as far as it alone can tell: with nothing missing, true
 /// exactly where nothing is there beyond what is needed.
 pub fn is_canonical(alloc: Global, tree: &PartTree<'_>, needs: &[Need]) -> Result<bool, ScanFault>
-    ensures { Judges result (is_missing needs.now (part_of tree.now)) (not (has_surplus needs.now (part_of tree.now))) }
+    ensures { Judges result (is_missing needs.now (part_of tree.now))
+        (not (has_surplus needs.now (part_of tree.now))) }
 {
     let all = lend_needs(alloc, needs)?;
     let visitors = Visitors::of_root(alloc, &all)?;
@@ -87,7 +88,8 @@ fn judge_entries(
     entries: &[PartEntry<'_>],
     visitors: &Visitors<'_, '_>,
 ) -> Result<bool, ScanFault>
-    ensures { let walk = walk_for visitors.now.all in Judges result (list_any walk.lacks entries.now) (list_any walk.exceeds entries.now) }
+    ensures { let walk = walk_for visitors.now.all in Judges result
+        (list_any walk.lacks entries.now) (list_any walk.exceeds entries.now) }
 {
     let mut surplus = false;
     for entry in entries {

@@ -43,7 +43,8 @@ pub fn prune_entries<'b>(
     entries: &'b [TreeEntry],
     visitors: &Visitors<'_, '_>,
 ) -> Result<List<PartEntry<'b>>, AllocError>
-    ensures { IfOk result (λ shown. shown ≡ map (shown_entry visitors.now.all) (map whole_entry entries.now)) }
+    ensures { IfOk result (λ shown. shown
+        ≡ map (shown_entry visitors.now.all) (map whole_entry entries.now)) }
 {
     let mut shown = Vec::with_capacity(alloc, entries.len())?;
     for entry in entries {

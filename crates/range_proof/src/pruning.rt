@@ -55,7 +55,8 @@ fn prune_children<'b>(
     visitors: &Visitors<'_, 'b>,
 ) -> Result<Nodes<'b>, AllocError>
     ensures { IfOk result (λ parts. parts
-        ≡ pruned_in (walk_for visitors.now.all) row_family visitors.now.going None separators.now (open_parts children.now)) }
+        ≡ pruned_in (walk_for visitors.now.all) row_family visitors.now.going None separators.now
+        (open_parts children.now)) }
 {
     match visitors.only() {
         Some(need) => follow_children(alloc, separators, children, visitors, need),
@@ -71,7 +72,8 @@ fn prune_each<'b>(
     visitors: &Visitors<'_, 'b>,
 ) -> Result<Nodes<'b>, AllocError>
     ensures { IfOk result (λ parts. parts
-        ≡ pruned_in (walk_for visitors.now.all) row_family visitors.now.going None separators.now (open_parts children.now)) }
+        ≡ pruned_in (walk_for visitors.now.all) row_family visitors.now.going None separators.now
+        (open_parts children.now)) }
 {
     let mut parts = Vec::with_capacity(alloc, children.len())?;
     let mut lower = None;

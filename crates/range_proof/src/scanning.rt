@@ -61,7 +61,8 @@ fn scan_children(
     need: &Need,
     rows: &mut Vec<SeenRow>,
 ) -> Result<(), ScanFault>
-    ensures { Appends result rows.old.items rows.new.items (seen_in_each need.now None separators.now (parts_of children.now)) }
+    ensures { Appends result rows.old.items rows.new.items
+        (seen_in_each need.now None separators.now (parts_of children.now)) }
 {
     let mut lower = None;
     for (place, child) in children.iter().enumerate() {
@@ -111,7 +112,8 @@ fn push_row(
     key: &[u8],
     values: List<Value>,
 ) -> Result<(), AllocError>
-    ensures { OnOk result (rows.new.items ≡ rows.old.items ++ record { key = key.now; values = values } ∷ []) }
+    ensures { OnOk result (rows.new.items ≡ rows.old.items
+        ++ record { key = key.now; values = values } ∷ []) }
 {
     let key = Key::from_vec(Vec::from_slice(alloc, key)?);
     rows.push(SeenRow { key, values })?;

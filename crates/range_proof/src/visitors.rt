@@ -38,7 +38,8 @@ impl<'n, 'k> Model for Visitors<'n, 'k> {
 impl<'n, 'k> Visitors<'n, 'k> {
     /// Those that visit the root.
     pub fn of_root(alloc: Global, all: &'n [&'n Need]) -> Result<Visitors<'n, 'k>, AllocError>
-        ensures { IfOk result (λ v. v ≡ record { all = map lent_need all.now; going = first_going (map lent_need all.now) }) }
+        ensures { IfOk result (λ v. v
+            ≡ record { all = map lent_need all.now; going = first_going (map lent_need all.now) }) }
     {
         Ok(Visitors {
             all,
@@ -71,7 +72,8 @@ impl<'n, 'k> Visitors<'n, 'k> {
         lower: Option<&'k [u8]>,
         upper: Option<&'k [u8]>,
     ) -> Visitors<'n, 'k>
-        requires { map lent_need going.items ≡ next_going self.now.going (option_copied lower) (option_copied upper) }
+        requires { map lent_need going.items
+            ≡ next_going self.now.going (option_copied lower) (option_copied upper) }
         ensures { result ≡ record { all = self.now.all; going = map lent_need going.entry.items } }
     {
         if going.is_empty() {

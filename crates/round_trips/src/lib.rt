@@ -18,9 +18,11 @@ ghost use Rattle.round_trips.specs.Trips.{AreSealable, IsHonestReply, plain_answ
 /// What is sealed is a journal of the key's owner, and one that a store of the key takes.
 pub fn sealed_journals_are_taken()
     ensures owned { (secret : Secret) (batches : List (List Command)) → AreSealable secret batches
-        → let es = sealed secret batches in IsOwned (public_of_secret secret) (journal_bytes es) es }
+        → let es = sealed secret batches in IsOwned (public_of_secret secret)
+        (journal_bytes es) es }
     ensures loaded { (secret : Secret) (batches : List (List Command)) → AreSealable secret batches
-        → let es = sealed secret batches in IsLoaded (public_of_secret secret) (journal_bytes es) es }
+        → let es = sealed secret batches in IsLoaded (public_of_secret secret)
+        (journal_bytes es) es }
 {}
 
 /// What is sealed is read back. The reply of a store that has loaded the journal of some batches is one whose
@@ -30,7 +32,8 @@ pub fn sealed_batches_are_read_back()
     ensures replied { (secret : Secret) (batches : List (List Command)) (q : Query)
         → IsSome (reply_of q (sealed secret batches)) }
     ensures read { (secret : Secret) (batches : List (List Command)) (q : Query) (r : Reply)
-        → AreSealable secret batches → IsHonestReply secret batches q r → IsReply (reply_bytes r) r }
+        → AreSealable secret batches → IsHonestReply secret batches q r
+        → IsReply (reply_bytes r) r }
     ensures answer { (secret : Secret) (batches : List (List Command)) (least : ℕ) (q : Query)
         (r : Reply) → AreSealable secret batches → FitsQuery q → IsHonestReply secret batches q r
         → least ≤ length batches
@@ -40,7 +43,8 @@ pub fn sealed_batches_are_read_back()
         → least ≤ length batches
         → CheckOf (public_of_secret secret) least q (reply_bytes r) (Ok (plain_answer batches q)) }
     ensures exact { (secret : Secret) (batches later : List (List Command)) (q : Query) (r : Reply)
-        (verdict : Verdict) → AreSealable secret (batches ++ later) → IsHonestReply secret batches q r
+        (verdict : Verdict) → AreSealable secret (batches ++ later)
+        → IsHonestReply secret batches q r
         → IsVerdict (sealed secret (batches ++ later)) q r (plain_answer batches q) verdict
         → verdict ≡ Exact (length batches) }
     ensures audited { (secret : Secret) (batches later : List (List Command)) (q : Query)

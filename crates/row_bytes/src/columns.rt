@@ -54,7 +54,8 @@ pub fn take_columns(alloc: Global, cursor: &mut Cursor<'_>) -> Result<List<Colum
 }
 
 fn take_each(alloc: Global, cursor: &mut Cursor<'_>, count: u8) -> Result<Vec<Column>, ReadFault>
-    ensures { FoundOr (λ columns. columns.items) result cursor.new (times column_at count cursor.old) }
+    ensures { FoundOr (λ columns. columns.items) result cursor.new
+        (times column_at count cursor.old) }
 {
     let mut columns = Vec::new(alloc);
     for _ in 0..count {

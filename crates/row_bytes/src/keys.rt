@@ -83,6 +83,8 @@ pub fn value_of_key(kind: Kind, key: &[u8]) -> Result<ValueRef<'_>, FormFault>
 
 /// A value has one key, and a key one value.
 pub fn one_key()
-    ensures value { (v : Plain) → FitsValue v → kind_of v ≢ Kind.Bool → value_of_key (kind_of v) (key_of v) ≡ v }
-    ensures key { (kind : KeyKind) (key : List ℕ) → IsBytes key → key_fault kind key ≡ None → key_of (value_of_key kind key) ≡ key }
+    ensures value { (v : Plain) → FitsValue v → kind_of v ≢ Kind.Bool
+        → value_of_key (kind_of v) (key_of v) ≡ v }
+    ensures key { (kind : KeyKind) (key : List ℕ) → IsBytes key → key_fault kind key ≡ None
+        → key_of (value_of_key kind key) ≡ key }
 {}

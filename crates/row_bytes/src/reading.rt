@@ -60,7 +60,8 @@ fn value_at(bytes: &[u8]) -> Result<(ValueRef<'_>, &[u8]), FormFault>
 /// The value in front, and the bytes after it.
 fn front_value(bytes: &[u8]) -> Result<(ValueRef<'_>, &[u8]), FormFault>
     ensures exact { Read result (value_at bytes.now) }
-    ensures found { IfOk result (λ x. FitsValue (value_of x.0) × (bytes.now ≡ value_bytes (value_of x.0) ++ x.1.now)) }
+    ensures found { IfOk result (λ x. FitsValue (value_of x.0)
+        × (bytes.now ≡ value_bytes (value_of x.0) ++ x.1.now)) }
     ensures only { (v : Plain) (rest : List ℕ) → FitsValue v → bytes.now ≡ value_bytes v ++ rest
         → IsOkAnd result (λ x. (value_of x.0 ≡ v) × (x.1.now ≡ rest)) }
 {
@@ -70,7 +71,8 @@ fn front_value(bytes: &[u8]) -> Result<(ValueRef<'_>, &[u8]), FormFault>
 /// Takes the value whose bytes come next, and lends its text.
 pub fn take_value<'b>(cursor: &mut Cursor<'b>) -> Result<ValueRef<'b>, FormFault>
     // What is taken is a value's spelling.
-    ensures found { IfOk result (λ v. FitsValue (value_of v) × (cursor.old ≡ value_bytes (value_of v) ++ cursor.new)) }
+    ensures found { IfOk result (λ v. FitsValue (value_of v)
+        × (cursor.old ≡ value_bytes (value_of v) ++ cursor.new)) }
 
     // What is spelled is taken.
     ensures only { (v : Plain) (rest : List ℕ) → FitsValue v → cursor.old ≡ value_bytes v ++ rest

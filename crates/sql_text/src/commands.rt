@@ -52,7 +52,8 @@ impl<'a> Parser<'a> {
     /// The mark NOT NULL, if it is there.
     #[tactic(auto, unfolding(crate::specs::Rules::optional))]
     fn not_null(&mut self) -> Result<Option<(Lexeme<'a>, Lexeme<'a>)>, Halt>
-        ensures value { Reads (option_map (λ x. (token_of x.0, token_of x.1))) (optional (both (token k.Not) (token k.Null))) self.old result self.new }
+        ensures value { Reads (option_map (λ x. (token_of x.0, token_of x.1)))
+            (optional (both (token k.Not) (token k.Null))) self.old result self.new }
         ensures levels { self.new.levels ≡ self.old.levels }
         ensures list { self.new.list.now ≡ self.old.list.now }
     {
@@ -67,7 +68,9 @@ impl<'a> Parser<'a> {
 
     /// A column's kind and its mark.
     fn marked_kind(&mut self) -> Result<(Kind, Option<(Lexeme<'a>, Lexeme<'a>)>), Halt>
-        ensures value { Reads (λ x. (x.0, option_map (λ y. (token_of y.0, token_of y.1)) x.1)) (both column_kind (optional (both (token k.Not) (token k.Null)))) self.old result self.new }
+        ensures value { Reads (λ x. (x.0, option_map (λ y. (token_of y.0, token_of y.1)) x.1))
+            (both column_kind (optional (both (token k.Not) (token k.Null)))) self.old result
+            self.new }
         ensures levels { self.new.levels ≡ self.old.levels }
         ensures list { self.new.list.now ≡ self.old.list.now }
     {
@@ -90,7 +93,8 @@ impl<'a> Parser<'a> {
 
     /// Columns with a comma behind each, at most 32.
     fn columns(&mut self, alloc: Global) -> Result<Vec<Column>, Halt>
-        ensures value { Reads (λ (v : Vec Column Global). v.items) (ended (Some 31) column k.Comma) self.old result self.new }
+        ensures value { Reads (λ (v : Vec Column Global). v.items)
+            (ended (Some 31) column k.Comma) self.old result self.new }
         ensures levels { self.new.levels ≡ self.old.levels }
         ensures list { self.new.list.now ≡ self.old.list.now }
     {
@@ -131,7 +135,9 @@ impl<'a> Parser<'a> {
     /// ( columns and the key )
     #[tactic(auto, unfolding(crate::specs::Rules::before, crate::specs::Rules::in_parens, crate::specs::Rules::closed))]
     fn table_body(&mut self, alloc: Global) -> Result<(List<Column>, Name), Halt>
-        ensures value { Reads (λ x. x) (in_parens (both (ended (Some 31) column k.Comma) key_clause)) self.old result self.new }
+        ensures value { Reads (λ x. x)
+            (in_parens (both (ended (Some 31) column k.Comma) key_clause)) self.old result
+            self.new }
         ensures levels { self.new.levels ≡ self.old.levels }
         ensures list { self.new.list.now ≡ self.old.list.now }
     {
@@ -179,7 +185,8 @@ impl<'a> Parser<'a> {
 
     /// Literals, at most 32.
     fn literals(&mut self, alloc: Global) -> Result<Vec<Value>, Halt>
-        ensures value { Reads (λ (v : Vec Value Global). v.items) (listed (Some 31) k.Comma literal) self.old result self.new }
+        ensures value { Reads (λ (v : Vec Value Global). v.items)
+            (listed (Some 31) k.Comma literal) self.old result self.new }
         ensures levels { self.new.levels ≡ self.old.levels }
         ensures list { self.new.list.now ≡ self.old.list.now }
     {
@@ -196,7 +203,8 @@ impl<'a> Parser<'a> {
     /// ( literals )
     #[tactic(auto, unfolding(crate::specs::Rules::before, crate::specs::Rules::in_parens, crate::specs::Rules::closed))]
     fn row(&mut self, alloc: Global) -> Result<List<Value>, Halt>
-        ensures value { Reads (λ x. x) (in_parens (listed (Some 31) k.Comma literal)) self.old result self.new }
+        ensures value { Reads (λ x. x)
+            (in_parens (listed (Some 31) k.Comma literal)) self.old result self.new }
         ensures levels { self.new.levels ≡ self.old.levels }
         ensures list { self.new.list.now ≡ self.old.list.now }
     {
@@ -255,7 +263,8 @@ impl<'a> Parser<'a> {
 
     /// The parts of a SET, at most 32.
     fn set_parts(&mut self, alloc: Global) -> Result<Vec<SetPart>, Halt>
-        ensures value { Reads (λ (v : Vec SetPart Global). v.items) (listed (Some 31) k.Comma set_part) self.old result self.new }
+        ensures value { Reads (λ (v : Vec SetPart Global). v.items)
+            (listed (Some 31) k.Comma set_part) self.old result self.new }
         ensures levels { self.new.levels ≡ self.old.levels }
         ensures list { self.new.list.now ≡ self.old.list.now }
     {
@@ -272,7 +281,8 @@ impl<'a> Parser<'a> {
     /// SET and its parts.
     #[tactic(auto, unfolding(crate::specs::Rules::before))]
     fn set_clause(&mut self, alloc: Global) -> Result<List<SetPart>, Halt>
-        ensures value { Reads (λ x. x) (before k.Set (listed (Some 31) k.Comma set_part)) self.old result self.new }
+        ensures value { Reads (λ x. x)
+            (before k.Set (listed (Some 31) k.Comma set_part)) self.old result self.new }
         ensures levels { self.new.levels ≡ self.old.levels }
         ensures list { self.new.list.now ≡ self.old.list.now }
     {
@@ -371,7 +381,8 @@ impl<'a> Parser<'a> {
 
     /// Commands with a semicolon behind each, at most 1,000.
     fn commands(&mut self, alloc: Global) -> Result<Vec<Command>, Halt>
-        ensures value { Reads (λ (v : Vec Command Global). v.items) (ended (Some 999) command k.Semicolon) self.old result self.new }
+        ensures value { Reads (λ (v : Vec Command Global). v.items)
+            (ended (Some 999) command k.Semicolon) self.old result self.new }
         ensures levels { self.new.levels ≡ self.old.levels }
         ensures list { self.new.list.now ≡ self.old.list.now }
     {
@@ -409,7 +420,8 @@ impl<'a> Parser<'a> {
     /// A batch, its COMMIT and the semicolon behind that.
     #[tactic(auto, unfolding(crate::specs::Rules::closed))]
     fn committed_batch(&mut self, alloc: Global) -> Result<Batch, Halt>
-        ensures value { Reads (λ x. x) (closed (closed batch k.Commit) k.Semicolon) self.old result self.new }
+        ensures value { Reads (λ x. x)
+            (closed (closed batch k.Commit) k.Semicolon) self.old result self.new }
         ensures levels { self.new.levels ≡ self.old.levels }
         ensures list { self.new.list.now ≡ self.old.list.now }
     {

@@ -57,9 +57,12 @@ impl<'a> Parser<'a> {
     /// The token that opens a level, which is next.
     fn open(&mut self, kind: TokenKind) -> Result<Lexeme<'a>, Halt>
         requires { begins sql (kind ∷ []) (left_of self.old) ≡ true }
-        ensures opened { IfOk result (λ x. taken sql kind (left_of self.old) ≡ (Ok (token_of x), left_of self.new)) }
+        ensures opened { IfOk result
+            (λ x. taken sql kind (left_of self.old) ≡ (Ok (token_of x), left_of self.new)) }
         ensures levels { OnOk result (self.new.levels + 1 ≡ self.old.levels) }
-        ensures deep { OnErr result ((result ≡ Err (Halt.Fault Stop.Nesting)) × (self.old.levels ≡ 0) × (left_of self.new ≡ left_of self.old)) }
+        ensures deep { OnErr result
+            ((result ≡ Err (Halt.Fault Stop.Nesting)) × (self.old.levels ≡ 0)
+            × (left_of self.new ≡ left_of self.old)) }
         ensures list { self.new.list.now ≡ self.old.list.now }
     {
         if self.levels == 0 {

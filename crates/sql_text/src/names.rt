@@ -151,7 +151,8 @@ impl<'a> Parser<'a> {
     /// The alias behind a table's name, if it is there.
     #[tactic(auto, unfolding(crate::specs::Rules::optional, crate::specs::Rules::before), using(crate::proofs::Firsts::first_name, crate::proofs::Firsts::first_alias))]
     fn alias_if_any(&mut self, alloc: Global) -> Result<Option<Name>, Halt>
-        ensures value { Reads (λ x. x) (optional (either (before k.As name) name)) self.old result self.new }
+        ensures value { Reads (λ x. x)
+            (optional (either (before k.As name) name)) self.old result self.new }
         ensures levels { self.new.levels ≡ self.old.levels }
         ensures list { self.new.list.now ≡ self.old.list.now }
     {
@@ -192,7 +193,8 @@ impl<'a> Parser<'a> {
 
     /// References, at most 64.
     pub fn references(&mut self, alloc: Global) -> Result<Vec<Ref>, Halt>
-        ensures value { Reads (λ (v : Vec Ref Global). v.items) (listed (Some 63) k.Comma reference) self.old result self.new }
+        ensures value { Reads (λ (v : Vec Ref Global). v.items)
+            (listed (Some 63) k.Comma reference) self.old result self.new }
         ensures levels { self.new.levels ≡ self.old.levels }
         ensures list { self.new.list.now ≡ self.old.list.now }
     {

@@ -42,7 +42,8 @@ impl<'a> Parser<'a> {
     /// The next token, which is of this kind.
     pub fn take(&mut self, kind: TokenKind) -> Lexeme<'a>
         requires { begins sql (kind ∷ []) (left_of self.old) ≡ true }
-        ensures value { taken sql kind (left_of self.old) ≡ (Ok (token_of result), left_of self.new) }
+        ensures value { taken sql kind (left_of self.old)
+            ≡ (Ok (token_of result), left_of self.new) }
         ensures levels { self.new.levels ≡ self.old.levels }
         ensures list { self.new.list.now ≡ self.old.list.now }
     {
@@ -67,7 +68,8 @@ impl<'a> Parser<'a> {
     /// The value that was read, with a token of this kind behind it.
     #[tactic(auto, using(crate::proofs::Closing::taken_first))]
     pub fn closed_by<T: Drop>(&mut self, found: T, kind: TokenKind) -> Result<T, Halt>
-        ensures value { Reads {B = T} (λ x. first_of (left_of self.old)) (token kind) self.old result self.new }
+        ensures value { Reads {B = T} (λ x. first_of (left_of self.old))
+            (token kind) self.old result self.new }
         ensures same { IfOk result (λ x. x ≡ found) }
         ensures levels { self.new.levels ≡ self.old.levels }
         ensures list { self.new.list.now ≡ self.old.list.now }

@@ -100,7 +100,8 @@ pub fn print_separated<P: Print>(
     parts: &[P],
     separator: TokenKind,
 ) -> Result<(), AllocError>
-    ensures { OnOk result (out.new.items ≡ out.old.items ++ written (separated separator P.tokens parts.now)) }
+    ensures { OnOk result (out.new.items ≡ out.old.items
+        ++ written (separated separator P.tokens parts.now)) }
 {
     if let Some((first, others)) = parts.split_first() {
         first.print(alloc, out)?;
@@ -115,7 +116,8 @@ fn print_others<P: Print>(
     others: &[P],
     separator: TokenKind,
 ) -> Result<(), AllocError>
-    ensures { OnOk result (out.new.items ≡ out.old.items ++ written (flat_map (λ part. word separator ∷ P.tokens part) others.now)) }
+    ensures { OnOk result (out.new.items ≡ out.old.items
+        ++ written (flat_map (λ part. word separator ∷ P.tokens part) others.now)) }
 {
     for part in others {
         put_word(out, separator)?;
@@ -131,7 +133,8 @@ pub fn print_terminated<P: Print>(
     parts: &[P],
     end: TokenKind,
 ) -> Result<(), AllocError>
-    ensures { OnOk result (out.new.items ≡ out.old.items ++ written (terminated end P.tokens parts.now)) }
+    ensures { OnOk result (out.new.items ≡ out.old.items
+        ++ written (terminated end P.tokens parts.now)) }
 {
     for part in parts {
         part.print(alloc, out)?;

@@ -38,7 +38,8 @@ fn print_set(
     column: &Name,
     value: &Value,
 ) -> Result<(), AllocError>
-    ensures { OnOk result (out.new.items ≡ out.old.items ++ written (set_tokens (record { column = column.now; value = value.now }))) }
+    ensures { OnOk result (out.new.items ≡ out.old.items
+        ++ written (set_tokens (record { column = column.now; value = value.now }))) }
 {
     column.print(alloc, out)?;
     put_word(out, TokenKind::Equal)?;
@@ -71,7 +72,8 @@ fn print_columns(
     columns: &[Column],
     key: &Name,
 ) -> Result<(), AllocError>
-    ensures { OnOk result (out.new.items ≡ out.old.items ++ written (columns_tokens columns.now key.now)) }
+    ensures { OnOk result (out.new.items ≡ out.old.items
+        ++ written (columns_tokens columns.now key.now)) }
 {
     print_terminated(alloc, out, columns, TokenKind::Comma)?;
     print_key(alloc, out, key)
@@ -84,7 +86,8 @@ fn print_create(
     columns: &[Column],
     key: &Name,
 ) -> Result<(), AllocError>
-    ensures { OnOk result (out.new.items ≡ out.old.items ++ written (command_tokens (Command.Create name.now columns.now key.now))) }
+    ensures { OnOk result (out.new.items ≡ out.old.items
+        ++ written (command_tokens (Command.Create name.now columns.now key.now))) }
 {
     put_word(out, TokenKind::Create)?;
     put_word(out, TokenKind::Table)?;
@@ -100,7 +103,8 @@ fn print_insert(
     name: &Name,
     values: &[Value],
 ) -> Result<(), AllocError>
-    ensures { OnOk result (out.new.items ≡ out.old.items ++ written (command_tokens (Command.Insert name.now values.now))) }
+    ensures { OnOk result (out.new.items ≡ out.old.items
+        ++ written (command_tokens (Command.Insert name.now values.now))) }
 {
     put_word(out, TokenKind::Insert)?;
     put_word(out, TokenKind::Into)?;
@@ -112,7 +116,8 @@ fn print_insert(
 }
 
 fn print_drop(alloc: Global, out: &mut Vec<u8>, name: &Name) -> Result<(), AllocError>
-    ensures { OnOk result (out.new.items ≡ out.old.items ++ written (command_tokens (Command.Drop name.now))) }
+    ensures { OnOk result (out.new.items ≡ out.old.items
+        ++ written (command_tokens (Command.Drop name.now))) }
 {
     put_word(out, TokenKind::Drop)?;
     put_word(out, TokenKind::Table)?;
@@ -126,7 +131,9 @@ fn print_row(
     column: &Name,
     value: &Value,
 ) -> Result<(), AllocError>
-    ensures { OnOk result (out.new.items ≡ out.old.items ++ written (word k.Where ∷ set_tokens (record { column = column.now; value = value.now }))) }
+    ensures { OnOk result (out.new.items ≡ out.old.items
+        ++ written (word k.Where ∷ set_tokens
+        (record { column = column.now; value = value.now }))) }
 {
     put_word(out, TokenKind::Where)?;
     print_set(alloc, out, column, value)
@@ -140,7 +147,8 @@ fn print_update(
     column: &Name,
     value: &Value,
 ) -> Result<(), AllocError>
-    ensures { OnOk result (out.new.items ≡ out.old.items ++ written (command_tokens (Command.Update name.now sets.now column.now value.now))) }
+    ensures { OnOk result (out.new.items ≡ out.old.items
+        ++ written (command_tokens (Command.Update name.now sets.now column.now value.now))) }
 {
     put_word(out, TokenKind::Update)?;
     name.print(alloc, out)?;
@@ -156,7 +164,8 @@ fn print_delete(
     column: &Name,
     value: &Value,
 ) -> Result<(), AllocError>
-    ensures { OnOk result (out.new.items ≡ out.old.items ++ written (command_tokens (Command.Delete name.now column.now value.now))) }
+    ensures { OnOk result (out.new.items ≡ out.old.items
+        ++ written (command_tokens (Command.Delete name.now column.now value.now))) }
 {
     put_word(out, TokenKind::Delete)?;
     put_word(out, TokenKind::From)?;

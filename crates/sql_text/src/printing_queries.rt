@@ -76,7 +76,8 @@ fn print_test(
     op: Cmp,
     right: &Operand,
 ) -> Result<(), AllocError>
-    ensures { OnOk result (out.new.items ≡ out.old.items ++ written (reference_tokens left.now ++ word (operator op) ∷ operand_tokens right.now)) }
+    ensures { OnOk result (out.new.items ≡ out.old.items
+        ++ written (reference_tokens left.now ++ word (operator op) ∷ operand_tokens right.now)) }
 {
     left.print(alloc, out)?;
     put_word(out, operator(op))?;
@@ -92,7 +93,8 @@ fn print_part(
     in_word: TokenKind,
 ) -> Result<(), AllocError>
     ensures { OnOk result (out.new.items ≡ out.old.items
-        ++ written (enclosed (is_enclosed in_word (condition_of part.now)) (condition_tokens (condition_of part.now)))) }
+        ++ written (enclosed (is_enclosed in_word (condition_of part.now))
+        (condition_tokens (condition_of part.now)))) }
 {
     if !is_enclosed(in_word, part) {
         return print_condition(alloc, out, part);
@@ -110,7 +112,8 @@ fn print_parts(
     parts: &[Cond],
     word: TokenKind,
 ) -> Result<(), AllocError>
-    ensures { OnOk result (out.new.items ≡ out.old.items ++ written (drop 1 (parts_tokens word (conditions (map condition_of parts.now))))) }
+    ensures { OnOk result (out.new.items ≡ out.old.items
+        ++ written (drop 1 (parts_tokens word (conditions (map condition_of parts.now))))) }
 {
     if let Some((first, others)) = parts.split_first() {
         print_part(alloc, out, first, word)?;
@@ -127,7 +130,8 @@ fn print_other_parts(
     others: &[Cond],
     word: TokenKind,
 ) -> Result<(), AllocError>
-    ensures { OnOk result (out.new.items ≡ out.old.items ++ written (parts_tokens word (conditions (map condition_of others.now)))) }
+    ensures { OnOk result (out.new.items ≡ out.old.items
+        ++ written (parts_tokens word (conditions (map condition_of others.now)))) }
 {
     for part in others {
         put_word(out, word)?;
@@ -139,7 +143,8 @@ fn print_other_parts(
 /// Prints a NOT and its part.
 #[cycle(print_part)]
 fn print_negated(alloc: Global, out: &mut Vec<u8>, part: &Cond) -> Result<(), AllocError>
-    ensures { OnOk result (out.new.items ≡ out.old.items ++ written (condition_tokens (negated (condition_of part.now)))) }
+    ensures { OnOk result (out.new.items ≡ out.old.items
+        ++ written (condition_tokens (negated (condition_of part.now)))) }
 {
     put_word(out, TokenKind::Not)?;
     print_part(alloc, out, part, TokenKind::Not)
@@ -148,7 +153,8 @@ fn print_negated(alloc: Global, out: &mut Vec<u8>, part: &Cond) -> Result<(), Al
 /// Prints a whole condition.
 #[cycle(print_part)]
 fn print_condition(alloc: Global, out: &mut Vec<u8>, cond: &Cond) -> Result<(), AllocError>
-    ensures { OnOk result (out.new.items ≡ out.old.items ++ written (condition_tokens (condition_of cond.now))) }
+    ensures { OnOk result (out.new.items ≡ out.old.items
+        ++ written (condition_tokens (condition_of cond.now))) }
 {
     match cond {
         Cond::All(parts) => print_parts(alloc, out, parts.as_slice(), TokenKind::And),
@@ -172,7 +178,8 @@ impl Print for Join {
 }
 
 fn print_join(alloc: Global, out: &mut Vec<u8>, join: &Option<Join>) -> Result<(), AllocError>
-    ensures { OnOk result (out.new.items ≡ out.old.items ++ written (option_map_or join_tokens join.now [])) }
+    ensures { OnOk result (out.new.items ≡ out.old.items
+        ++ written (option_map_or join_tokens join.now [])) }
 {
     match join {
         Some(join) => join.print(alloc, out),
@@ -181,7 +188,8 @@ fn print_join(alloc: Global, out: &mut Vec<u8>, join: &Option<Join>) -> Result<(
 }
 
 fn print_where(alloc: Global, out: &mut Vec<u8>, cond: &Option<Cond>) -> Result<(), AllocError>
-    ensures { OnOk result (out.new.items ≡ out.old.items ++ written (option_map_or where_tokens (option_map condition_of cond.now) [])) }
+    ensures { OnOk result (out.new.items ≡ out.old.items
+        ++ written (option_map_or where_tokens (option_map condition_of cond.now) [])) }
 {
     match cond {
         Some(cond) => {
@@ -210,7 +218,8 @@ pub fn print_query(alloc: Global, query: &QueryText) -> Result<String, AllocErro
     requires { PrintableQuery (query_of query.now) }
     ensures printed { IfOk result (λ text. string_bytes text ≡ query_text (query_of query.now)) }
     ensures reads { SpellableQuery (query_of query.now)
-        → IfOk result (λ text. IsTextOf most_bytes query_rule (string_bytes text) (query_of query.now)) }
+        → IfOk result (λ text. IsTextOf most_bytes query_rule (string_bytes text)
+        (query_of query.now)) }
 {
     let mut out = Vec::new(alloc);
     query.print(alloc, &mut out)?;

@@ -20,7 +20,8 @@ impl<'a> Parser<'a> {
     /// A token of this kind, if it is next.
     #[tactic(auto, unfolding(crate::specs::Rules::optional))]
     pub fn skip(&mut self, kind: TokenKind) -> Option<Lexeme<'a>>
-        ensures value { read (reader conditions_of self.old.levels) (optional (token kind)) (left_of self.old) ≡ (Ok (option_map token_of result), left_of self.new) }
+        ensures value { read (reader conditions_of self.old.levels) (optional (token kind))
+            (left_of self.old) ≡ (Ok (option_map token_of result), left_of self.new) }
         ensures levels { self.new.levels ≡ self.old.levels }
         ensures list { self.new.list.now ≡ self.old.list.now }
     {
@@ -101,7 +102,8 @@ impl<'a> Parser<'a> {
 
     #[tactic(auto, unfolding(crate::specs::Rules::optional, crate::specs::Rules::before))]
     fn condition_if_any(&mut self, alloc: Global) -> Result<Option<Cond>, Halt>
-        ensures value { Reads (option_map condition_of) (optional (before k.Where disj)) self.old result self.new }
+        ensures value { Reads (option_map condition_of)
+            (optional (before k.Where disj)) self.old result self.new }
         ensures levels { OnOk result (self.new.levels ≡ self.old.levels) }
         ensures list { self.new.list.now ≡ self.old.list.now }
     {
@@ -141,7 +143,8 @@ impl<'a> Parser<'a> {
         alloc: Global,
     ) -> Result<(Option<Join>, Option<Cond>, Option<Lexeme<'a>>), Halt>
         ensures value { Reads (λ x. (x.0, (option_map condition_of x.1, option_map token_of x.2)))
-            (both (optional join) (both (optional (before k.Where disj)) (optional (token k.Semicolon)))) self.old result self.new }
+            (both (optional join) (both (optional (before k.Where disj))
+            (optional (token k.Semicolon)))) self.old result self.new }
         ensures list { self.new.list.now ≡ self.old.list.now }
     {
         let join = self.join_if_any(alloc)?;

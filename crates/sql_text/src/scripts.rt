@@ -63,7 +63,8 @@ fn ended_script<T: Drop>(
 /// The batches that a script is, or its first fault.
 pub fn parse_script(alloc: Global, text: &str) -> Result<Vec<Batch>, SqlFault>
     ensures found { AnswersScript (λ (v : Vec Batch Global). v.items) text.now result }
-    ensures only { (batches : List Batch) → IsScript text.now batches → Accepts (λ (v : Vec Batch Global). v.items) result batches }
+    ensures only { (batches : List Batch) → IsScript text.now batches
+        → Accepts (λ (v : Vec Batch Global). v.items) result batches }
     ensures fits { IfOk result (λ (v : Vec Batch Global). AllFit v.items) }
 {
     let bytes = text.as_bytes();

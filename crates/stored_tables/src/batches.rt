@@ -41,7 +41,8 @@ fn worked_in_turn(
     requires standing { IsStanding (stored_in tables.now) }
     requires fits { AllByRecursion FitsCommand commands.now }
     requires count { length commands.now ≤ 1000 }
-    ensures answer { BatchGives (λ new. stored_in new.items) result (work_from 0 commands.now (stored_in tables.now)) }
+    ensures answer { BatchGives (λ new. stored_in new.items) result
+        (work_from 0 commands.now (stored_in tables.now)) }
     ensures standing { IfOk result (λ new. IsStanding (stored_in new.items)) }
 {
     let mut new = shared(alloc, tables)?;
@@ -67,10 +68,13 @@ pub(crate) fn worked_batch(
     requires standing { IsStanding (stored_in tables.now) }
     requires fits { AllByRecursion FitsCommand commands.now }
     requires count { length commands.now ≤ 1000 }
-    ensures answer { BatchGives (λ new. stored_in new.items) result (work_from 0 commands.now (stored_in tables.now)) }
+    ensures answer { BatchGives (λ new. stored_in new.items) result
+        (work_from 0 commands.now (stored_in tables.now)) }
     ensures standing { IfOk result (λ new. IsStanding (stored_in new.items)) }
-    ensures done { IfOk result (λ new. work_all commands.now (stored_in tables.now) ≡ Ok (stored_in new.items)) }
-    ensures plain { (plain : List PlainTable) → StandForTables (stored_in tables.now) plain → FitTables plain
+    ensures done { IfOk result (λ new. work_all commands.now (stored_in tables.now)
+        ≡ Ok (stored_in new.items)) }
+    ensures plain { (plain : List PlainTable) → StandForTables (stored_in tables.now) plain
+        → FitTables plain
         → GivesPlain (λ new. stored_in new.items) result (apply_plain commands.now plain) }
 {
     worked_in_turn(alloc, tables, commands)

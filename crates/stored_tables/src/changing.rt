@@ -40,7 +40,8 @@ pub(crate) fn with_table(
     tables: &[Rc<StoredTable>],
     table: StoredTable,
 ) -> Result<Vec<Rc<StoredTable>>, AllocError>
-    ensures { IfOk result (λ new. stored_in new.items ≡ put_stored (stored_of table) (stored_in tables.now)) }
+    ensures { IfOk result (λ new. stored_in new.items
+        ≡ put_stored (stored_of table) (stored_in tables.now)) }
 {
     let at = place_for(tables, &table);
     let table = [Rc::new(alloc, table)?];
@@ -53,7 +54,8 @@ pub(crate) fn without_table(
     tables: &[Rc<StoredTable>],
     name: &[u8],
 ) -> Result<Vec<Rc<StoredTable>>, AllocError>
-    ensures { IfOk result (λ new. stored_in new.items ≡ filter (λ s. not (bytes_eq s.name name.now)) (stored_in tables.now)) }
+    ensures { IfOk result (λ new. stored_in new.items
+        ≡ filter (λ s. not (bytes_eq s.name name.now)) (stored_in tables.now)) }
 {
     let mut others = Vec::new(alloc);
     for table in tables {
@@ -73,7 +75,8 @@ pub(crate) fn replace_table(
 ) -> Result<Vec<Rc<StoredTable>>, AllocError>
     requires { at < length tables.now }
     ensures { IfOk result (λ new. stored_in new.items
-        ≡ take at (stored_in tables.now) ++ stored_of table ∷ drop (at + 1) (stored_in tables.now)) }
+        ≡ take at (stored_in tables.now) ++ stored_of table
+        ∷ drop (at + 1) (stored_in tables.now)) }
 {
     let table = [Rc::new(alloc, table)?];
     Ok(replace_range(alloc, tables, at, at + 1, &table)?)

@@ -22,7 +22,8 @@ pub(crate) fn proof_of<'t>(
     command: &Command,
 ) -> Result<Option<PartTree<'t>>, AllocError>
     requires standing { IsStanding (stored_in tables.now) }
-    ensures honest { IfOk result (λ proof. proof_list proof ≡ command_proof command.now (stored_in tables.now)) }
+    ensures honest { IfOk result (λ proof. proof_list proof
+        ≡ command_proof command.now (stored_in tables.now)) }
     ensures fits { IfOk result (λ proof. AllByRecursion FitsTree (proof_list proof)) }
 {
     match place_of(tables, command_name(command)) {

@@ -46,7 +46,8 @@ pub(crate) fn place_of<'t>(tables: &'t [Rc<StoredTable>], name: &[u8]) -> Option
 /// The table of this name.
 pub(crate) fn table_of<'t>(tables: &'t [Rc<StoredTable>], name: &[u8]) -> Option<&'t StoredTable>
     requires { IsStanding (stored_in tables.now) }
-    ensures found { option_map lent_stored result ≡ find (λ s. bytes_eq s.name name.now) (stored_in tables.now) }
+    ensures found { option_map lent_stored result
+        ≡ find (λ s. bytes_eq s.name name.now) (stored_in tables.now) }
     ensures fits { IfSome result (λ table. FitsTree (lent_stored table).tree) }
 {
     match place_of(tables, name) {
@@ -65,7 +66,8 @@ fn is_before(table: &StoredTable, other: &StoredTable) -> bool
 pub(crate) fn place_for(tables: &[Rc<StoredTable>], table: &StoredTable) -> usize
     ensures bound { result ≤ length tables.now }
     ensures place { put_stored (stored_of table.now) (stored_in tables.now)
-        ≡ take result (stored_in tables.now) ++ stored_of table.now ∷ drop result (stored_in tables.now) }
+        ≡ take result (stored_in tables.now) ++ stored_of table.now
+        ∷ drop result (stored_in tables.now) }
 {
     for at in 0..tables.len() {
         if is_before(table, table_at(tables, at)) {

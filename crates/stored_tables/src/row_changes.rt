@@ -40,7 +40,8 @@ fn with_tree(
     change: Result<Tree, UpdateFault>,
 ) -> Result<StoredTable, ApplyFault>
     ensures { (after : Result RowTree TreeFault) → ChangesTo (λ tree. tree) change after
-        → Gives stored_of result (result_map_both (with_new_tree (stored_of table.now)) row_refusal after) }
+        → Gives stored_of result (result_map_both
+        (with_new_tree (stored_of table.now)) row_refusal after) }
 {
     match change {
         Ok(tree) => Ok(StoredTable {
@@ -90,7 +91,8 @@ fn with_cells(
 ) -> Result<StoredTable, ApplyFault>
     requires fits { AllByRecursion FitsSet sets.now }
     requires columns { length table.now.schema.columns ≤ 32 }
-    ensures { Gives stored_of result (table_after (Update [] sets.now [] value.now) (stored_of table.now)) }
+    ensures { Gives stored_of result
+        (table_after (Update [] sets.now [] value.now) (stored_of table.now)) }
 {
     let cells = set_cells(alloc, &table.schema, sets)?;
     let key = key_of(alloc, value)?;

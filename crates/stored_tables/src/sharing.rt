@@ -6,7 +6,8 @@ use std::rc::Rc;
 
 /// Puts the same items at the end.
 fn share<T: Drop>(out: &mut Vec<Rc<T>>, items: &[Rc<T>]) -> Result<(), AllocError>
-    ensures { OnOk result (map (λ x. x.value) out.new.items ≡ map (λ x. x.value) out.old.items ++ map (λ x. x.value) items.now) }
+    ensures { OnOk result (map (λ x. x.value) out.new.items ≡ map (λ x. x.value) out.old.items
+        ++ map (λ x. x.value) items.now) }
 {
     for item in items {
         out.push(item.clone()?)?;
@@ -25,7 +26,8 @@ pub(crate) fn replace_range<T: Drop>(
     requires order { from ≤ to }
     requires end { to ≤ length items.now }
     ensures { IfOk result (λ new. map (λ x. x.value) new.items
-        ≡ take from (map (λ x. x.value) items.now) ++ map (λ x. x.value) others.now ++ drop to (map (λ x. x.value) items.now)) }
+        ≡ take from (map (λ x. x.value) items.now) ++ map (λ x. x.value) others.now
+        ++ drop to (map (λ x. x.value) items.now)) }
 {
     let mut out = Vec::new(alloc);
     out.reserve(items.len())?;

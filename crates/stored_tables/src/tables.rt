@@ -73,7 +73,8 @@ impl StoredTables {
 
     /// The table of this name.
     pub fn find(&self, name: &[u8]) -> Option<&StoredTable>
-        ensures found { option_map lent_stored result ≡ find (λ s. bytes_eq s.name name.now) self.now }
+        ensures found { option_map lent_stored result
+            ≡ find (λ s. bytes_eq s.name name.now) self.now }
         ensures fits { IfSome result (λ table. FitsTree (lent_stored table).tree) }
     {
         table_of(self.tables.as_slice(), name)
@@ -92,7 +93,8 @@ impl StoredTables {
         alloc: Global,
         command: &Command,
     ) -> Result<Option<PartTree<'_>>, AllocError>
-        ensures honest { IfOk result (λ proof. proof_list proof ≡ command_proof command.now self.now) }
+        ensures honest { IfOk result
+            (λ proof. proof_list proof ≡ command_proof command.now self.now) }
         ensures fits { IfOk result (λ proof. AllByRecursion FitsTree (proof_list proof)) }
     {
         proof_of(alloc, self.tables.as_slice(), command)
@@ -111,7 +113,8 @@ impl StoredTables {
     /// memory.
     pub fn apply_batch(&mut self, alloc: Global, batch: &Batch) -> Result<(), BatchFault>
         requires fits { FitsBatch batch.now.commands }
-        ensures answer { BatchGives (λ _. self.new) result (work_from 0 batch.now.commands self.old) }
+        ensures answer { BatchGives (λ _. self.new) result
+            (work_from 0 batch.now.commands self.old) }
         ensures done { OnOk result (work_all batch.now.commands self.old ≡ Ok self.new) }
         ensures left { OnErr result (self.new ≡ self.old) }
         ensures plain { (tables : List Table) → StandForTables self.old tables → FitTables tables

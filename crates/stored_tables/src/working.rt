@@ -9,7 +9,7 @@ ghost use Rattle.stored_tables.specs.View.{stored_in};
 ghost use Rattle.stored_tables.specs.Standing.{IsStanding};
 ghost use Rattle.stored_tables.specs.Ready.{changes_rows};
 
-use crate::changing::{replace_table, new_table, with_table, without_table};
+use crate::changing::{new_table, replace_table, with_table, without_table};
 use crate::placing::place_of;
 use crate::refusing::fault_of;
 use crate::row_changes::changed_table;
@@ -27,7 +27,8 @@ fn created(
     key: &Name,
 ) -> Result<Vec<Rc<StoredTable>>, ApplyFault>
     requires { length columns.now ≤ 32 }
-    ensures { Gives (λ new. stored_in new.items) result (changed_trees (Create name.now columns.now key.now) (stored_in tables.now)) }
+    ensures { Gives (λ new. stored_in new.items) result
+        (changed_trees (Create name.now columns.now key.now) (stored_in tables.now)) }
 {
     let table = new_table(alloc, name, columns, key)?;
     Ok(with_table(alloc, tables, table)?)
@@ -43,7 +44,8 @@ fn changed_rows(
     requires fits { FitsCommand command.now }
     requires rows { IsTrue (changes_rows command.now) }
     requires allowed { refusal command.now (map stored_heading (stored_in tables.now)) ≡ None }
-    ensures { Gives (λ new. stored_in new.items) result (changed_trees command.now (stored_in tables.now)) }
+    ensures { Gives (λ new. stored_in new.items) result
+        (changed_trees command.now (stored_in tables.now)) }
 {
     match place_of(tables, command_name(command)) {
         None => unreachable!(),
@@ -64,7 +66,8 @@ fn changed(
     requires standing { IsStanding (stored_in tables.now) }
     requires fits { FitsCommand command.now }
     requires allowed { refusal command.now (map stored_heading (stored_in tables.now)) ≡ None }
-    ensures { Gives (λ new. stored_in new.items) result (changed_trees command.now (stored_in tables.now)) }
+    ensures { Gives (λ new. stored_in new.items) result
+        (changed_trees command.now (stored_in tables.now)) }
 {
     match command {
         Command::Create { name, columns, key } => {
@@ -86,7 +89,8 @@ pub(crate) fn worked(
 ) -> Result<Vec<Rc<StoredTable>>, ApplyFault>
     requires standing { IsStanding (stored_in tables.now) }
     requires fits { FitsCommand command.now }
-    ensures answer { Gives (λ new. stored_in new.items) result (work command.now (stored_in tables.now)) }
+    ensures answer { Gives (λ new. stored_in new.items) result
+        (work command.now (stored_in tables.now)) }
     ensures standing { IfOk result (λ new. IsStanding (stored_in new.items)) }
 {
     match fault_of(tables, command) {

@@ -25,7 +25,8 @@ pub(crate) fn changed_cells(
     sets: &[SetPart],
     cells: &[Value],
 ) -> Result<List<Value>, AllocError>
-    ensures { IfOk result (λ new. new ≡ changed_cells (cell_changes schema.now sets.now) cells.now) }
+    ensures { IfOk result (λ new. new
+        ≡ changed_cells (cell_changes schema.now sets.now) cells.now) }
 {
     let mut changed = copy_values(alloc, cells)?.into_vec();
     for part in sets {

@@ -112,7 +112,8 @@ fn with_rows(alloc: Global, tables: &[Table], command: &Command) -> Result<Vec<T
 
 /// The tables but for those of this name.
 fn without_table(alloc: Global, tables: &[Table], name: &[u8]) -> Result<Vec<Table>, AllocError>
-    ensures { IfOk result (λ new. new.items ≡ filter (λ t. not (bytes_eq t.name name.now)) tables.now) }
+    ensures { IfOk result (λ new. new.items
+        ≡ filter (λ t. not (bytes_eq t.name name.now)) tables.now) }
 {
     let mut new = Vec::new(alloc);
     for table in tables {

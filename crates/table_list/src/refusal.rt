@@ -32,7 +32,8 @@ pub(crate) fn create_fault(
     columns: &[Column],
     key: &[u8],
 ) -> Option<CommandFault>
-    ensures { (name : List ℕ) (headings : List Heading) → is_some (heading_named name headings) ≡ exists → length headings ≡ tables
+    ensures { (name : List ℕ) (headings : List Heading)
+        → is_some (heading_named name headings) ≡ exists → length headings ≡ tables
         → result ≡ first_of (create_tests name columns.now key.now headings) }
 {
     if exists {
@@ -85,7 +86,8 @@ pub(crate) fn update_fault(
     column: &[u8],
     value: &Value,
 ) -> Option<CommandFault>
-    ensures { result ≡ first_of (update_tests sets.now column.now value.now (heading_seen heading.entry)) }
+    ensures { result ≡ first_of (update_tests sets.now column.now value.now
+        (heading_seen heading.entry)) }
 {
     let columns = heading.schema.columns.as_slice();
     if !(have_columns(columns, sets) && has_column(columns, column)) {
@@ -130,7 +132,8 @@ pub fn first_refusal(
     found: Option<HeadingRef<'_>>,
     tables: usize,
 ) -> Option<CommandFault>
-    ensures { (headings : List Heading) → heading_named (command_name command.now) headings ≡ option_map heading_seen found.entry
+    ensures { (headings : List Heading)
+        → heading_named (command_name command.now) headings ≡ option_map heading_seen found.entry
         → length headings ≡ tables → result ≡ refusal command.now headings }
 {
     match (command, found) {

@@ -62,7 +62,8 @@ fn changed_row(
     key: &[u8],
     row: &Row,
 ) -> Result<Row, AllocError>
-    ensures { IfOk result (λ new. new ≡ changed_row key.now (cell_changes schema.now sets.now) row.now) }
+    ensures { IfOk result (λ new. new
+        ≡ changed_row key.now (cell_changes schema.now sets.now) row.now) }
 {
     if row.key.as_bytes() != key {
         return copy_row(alloc, row);
@@ -81,7 +82,8 @@ pub(crate) fn update_row(
     key: &[u8],
     rows: &[Row],
 ) -> Result<List<Row>, AllocError>
-    ensures { IfOk result (λ new. new ≡ map (changed_row key.now (cell_changes schema.now sets.now)) rows.now) }
+    ensures { IfOk result (λ new. new
+        ≡ map (changed_row key.now (cell_changes schema.now sets.now)) rows.now) }
 {
     let mut new = Vec::new(alloc);
     for row in rows {

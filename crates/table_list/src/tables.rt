@@ -85,7 +85,8 @@ fn apply_commands(
 /// memory.
 pub fn apply_batch(alloc: Global, tables: &mut Tables, batch: &Batch) -> Result<(), BatchFault>
     requires { FitsBatch batch.now.commands }
-    ensures answer { BatchGives (λ _. tables.new) result (apply_batch batch.now.commands tables.old) }
+    ensures answer { BatchGives (λ _. tables.new) result
+        (apply_batch batch.now.commands tables.old) }
     ensures err { OnErr result (tables.new ≡ tables.old) }
 {
     let new = apply_commands(alloc, tables.tables.as_slice(), batch.commands.as_slice())?;

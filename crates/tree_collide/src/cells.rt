@@ -63,7 +63,8 @@ fn agree_value(
 ) -> Result<Option<Collision>, AllocError>
     requires fits { FitsValue (value_of shown) }
     requires value_fits { FitsValue value.now }
-    requires same { sha256 (attribute_bytes column (value_of shown)) ≡ sha256 (attribute_bytes column value.now) }
+    requires same { sha256 (attribute_bytes column (value_of shown))
+        ≡ sha256 (attribute_bytes column value.now) }
     ensures { IfOk result (λ found. Agrees found (value_of shown.entry ≡ value.now)
         (AttributesOf column (Shown (value_of shown.entry)) (Shown value.now))) }
 {
@@ -80,7 +81,8 @@ fn agree_values(
 ) -> Result<Option<Collision>, AllocError>
     requires fits { FitsValue shown.now }
     requires value_fits { FitsValue value.now }
-    requires same { sha256 (attribute_bytes column shown.now) ≡ sha256 (attribute_bytes column value.now) }
+    requires same { sha256 (attribute_bytes column shown.now)
+        ≡ sha256 (attribute_bytes column value.now) }
     ensures { IfOk result (λ found. Agrees found (shown.now ≡ value.now)
         (AttributesOf column (Shown shown.now) (Shown value.now))) }
 {

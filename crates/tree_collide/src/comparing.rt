@@ -8,7 +8,8 @@ use vo_spec::Collision;
 /// None where the strings are the same, else the two of them.
 pub fn compare(first: Vec<u8>, second: Vec<u8>) -> Option<Collision>
     requires { sha256 first.items ≡ sha256 second.items }
-    ensures { Agrees result (first.items ≡ second.items) (λ x y. (x ≡ first.items) × (y ≡ second.items)) }
+    ensures { Agrees result (first.items ≡ second.items)
+        (λ x y. (x ≡ first.items) × (y ≡ second.items)) }
 {
     if first.as_slice() == second.as_slice() {
         return None;

@@ -20,7 +20,8 @@ pub fn agree_entries(
     requires count { length parts.now ≡ length entries.now }
     requires fit { All FitsEntry parts.now }
     requires same { SameEntries parts.now (map whole_entry entries.now) }
-    ensures { IfOk result (λ found. Agrees found (AllZip EntryPrunes parts.now (map whole_entry entries.now))
+    ensures { IfOk result (λ found.
+        Agrees found (AllZip EntryPrunes parts.now (map whole_entry entries.now))
         (RowsIn parts.now (map whole_entry entries.now))) }
 {
     for (place, part) in parts.iter().enumerate() {

@@ -20,7 +20,8 @@ use vo_spec::{Agreement, Collision};
 pub fn agree(alloc: Global, part: &PartTree<'_>, tree: &Tree) -> Result<Agreement, AllocError>
     requires fits { FitsPart (part_of part.now) }
     requires same { digest (part_of part.now) ≡ digest tree.now }
-    ensures prunes { IfOk result (λ agreement. AgreesAs agreement (Prunes (part_of part.now) tree.now)) }
+    ensures prunes { IfOk result (λ agreement.
+        AgreesAs agreement (Prunes (part_of part.now) tree.now)) }
     ensures strings { IfOk result (λ agreement.
         FoundAre agreement (ArePreimages (part_of part.now) tree.now)) }
 {
@@ -106,7 +107,8 @@ fn agree_children(
     requires count { length parts.now ≡ length branches.now }
     requires fit { FitsEach FitsEntry (parts_of parts.now) }
     requires same { SameNodes (parts_of parts.now) (open_parts branches.now) }
-    ensures { IfOk result (λ found. let ps = parts_of parts.now in let ts = open_parts branches.now in
+    ensures { IfOk result (λ found.
+        let ps = parts_of parts.now in let ts = open_parts branches.now in
         Agrees found (PrunesEach row_family EntryPrunes ps ts) (NodesIn ps ts)) }
 {
     for (place, part) in parts.iter().enumerate() {

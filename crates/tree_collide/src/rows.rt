@@ -40,7 +40,8 @@ fn agree_open(
     requires count { length parts.now ≤ most_cells }
     requires fit { All FitsCell parts.now }
     requires values_fit { FitsCells values.now }
-    requires same { sha256 (row_bytes_of parts.now) ≡ sha256 (row_bytes_of (whole_cells values.now)) }
+    requires same { sha256 (row_bytes_of parts.now)
+        ≡ sha256 (row_bytes_of (whole_cells values.now)) }
     ensures { IfOk result (λ found. Agrees found (CellsPrune 0 parts.now (whole_cells values.now))
         (RowsOf (Cells parts.now) (whole_row values.now))) }
 {

@@ -8,7 +8,10 @@ ghost use Rattle.update_proof.specs.Proving.{replace_misses, replace_goes_beyond
 /// Of the parts of a tree, the proof of a change is the one in which nothing is missing and nothing is
 /// open that the change doesn't look at.
 pub fn proofs_are_alone()
-    ensures insertion { (key : List ℕ) (p t : RowTree) → insert_misses key p ≡ false → insert_goes_beyond key p ≡ false → Prunes p t → p ≡ insert_proof key t }
-    ensures replacement { (key : List ℕ) (p t : RowTree) → replace_misses key p ≡ false → replace_goes_beyond key p ≡ false → Prunes p t → p ≡ replace_proof key t }
-    ensures removal { (key : List ℕ) (p t : RowTree) → remove_misses key p ≡ false → remove_goes_beyond key p ≡ false → Prunes p t → p ≡ remove_proof key t }
+    ensures insertion { (key : List ℕ) (p t : RowTree) → insert_misses key p ≡ false
+        → insert_goes_beyond key p ≡ false → Prunes p t → p ≡ insert_proof key t }
+    ensures replacement { (key : List ℕ) (p t : RowTree) → replace_misses key p ≡ false
+        → replace_goes_beyond key p ≡ false → Prunes p t → p ≡ replace_proof key t }
+    ensures removal { (key : List ℕ) (p t : RowTree) → remove_misses key p ≡ false
+        → remove_goes_beyond key p ≡ false → Prunes p t → p ≡ remove_proof key t }
 {}

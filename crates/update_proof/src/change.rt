@@ -42,9 +42,11 @@ pub fn step_of<N: TreeNode>(
     children: &[N],
     key: &[u8],
 ) -> Step
-    ensures child { result.child ≡ position_or_len (λ separator. is_less key.now (N.Key.key separator)) separators.now }
+    ensures child { result.child ≡ position_or_len
+        (λ separator. is_less key.now (N.Key.key separator)) separators.now }
     ensures within { result.child ≤ length separators.now }
-    ensures opens_sibling { (child : N) → result.child < length children.now → child ≡ get_or children.now result.child child
+    ensures opens_sibling { (child : N) → result.child < length children.now
+        → child ≡ get_or children.now result.child child
         → result.opens_sibling ≡ opens_sibling_in N.family change key.now (N.kid child).1 }
 {
     match change {

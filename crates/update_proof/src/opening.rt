@@ -92,7 +92,8 @@ fn open_children<'b>(
 ) -> Result<Nodes<'b>, AllocError>
     requires least { 2 ≤ length children.now }
     requires between { length separators.now + 1 ≡ length children.now }
-    ensures { IfOk result (λ parts. inner separators.now parts ≡ change_proof change key.now (inner separators.now (open_parts children.now))) }
+    ensures { IfOk result (λ parts. inner separators.now parts
+        ≡ change_proof change key.now (inner separators.now (open_parts children.now))) }
 {
     let step = step_of(change, separators, children, key);
     let part = open_along(alloc, &children[step.child], key, change)?;
@@ -109,7 +110,9 @@ fn open_beside<'b>(
 ) -> Result<Nodes<'b>, AllocError>
     requires at { step.child < length children.now }
     requires least { 2 ≤ length children.now }
-    ensures { IfOk result (λ parts. parts ≡ open_parts (opened_along step.child step.opens_sibling (part_of part.entry) children.now)) }
+    ensures { IfOk result (λ parts. parts
+        ≡ open_parts (opened_along step.child step.opens_sibling
+        (part_of part.entry) children.now)) }
 {
     let parts = with_part(close_branches(alloc, children)?, step.child, part);
     if !step.opens_sibling {
@@ -123,7 +126,8 @@ fn open_beside<'b>(
 /// The parts with this in the place of the one of this number.
 fn with_part<'b>(parts: Vec<PartTree<'b>>, place: usize, part: PartTree<'b>) -> Vec<PartTree<'b>>
     requires { place < length parts.items }
-    ensures { map part_of result.items ≡ slice_set (map part_of parts.entry.items) place (part_of part.entry) }
+    ensures { map part_of result.items
+        ≡ slice_set (map part_of parts.entry.items) place (part_of part.entry) }
 {
     let mut parts = parts;
     parts[place] = part;

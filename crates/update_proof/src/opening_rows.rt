@@ -20,7 +20,8 @@ pub fn open_rows<'b>(
     key: &[u8],
     change: Change,
 ) -> Result<List<PartEntry<'b>>, AllocError>
-    ensures { IfOk result (λ rows. rows ≡ rows_in_proof change key.now (map whole_entry entries.now)) }
+    ensures { IfOk result (λ rows. rows
+        ≡ rows_in_proof change key.now (map whole_entry entries.now)) }
 {
     match change {
         Change::Insertion | Change::Removal => close_entries(alloc, entries),

@@ -18,7 +18,8 @@ use vo_spec::{KeyPart, ScanFault};
 /// Whether the part is the proof of the change, as far as it alone can tell: with nothing missing, true
 /// exactly where nothing is open that the change doesn't look at. It takes no memory.
 pub fn is_update_proof(tree: &PartTree<'_>, op: &Op) -> Result<bool, ScanFault>
-    ensures { result ≡ told (update_misses op.now (part_of tree.now)) (not (update_goes_beyond op.now (part_of tree.now))) }
+    ensures { result ≡ told (update_misses op.now (part_of tree.now))
+        (not (update_goes_beyond op.now (part_of tree.now))) }
 {
     let key = key_of(op);
     let change = change_of(op);
@@ -50,7 +51,8 @@ fn children_have_surplus<'b>(
     key: &[u8],
     change: Change,
 ) -> bool
-    ensures { result ≡ change_goes_beyond change key.now (inner separators.now (parts_of children.now)) }
+    ensures { result ≡ change_goes_beyond change key.now
+        (inner separators.now (parts_of children.now)) }
 {
     let step = step_of(change, separators, children, key);
     if step.child >= children.len() {

@@ -33,7 +33,8 @@ fn others_have_surplus(entries: &[PartEntry<'_>], key: &[u8]) -> bool
 /// Whether another row than that of this number stands as cells.
 fn cells_beside(entries: &[PartEntry<'_>], place: usize) -> bool
     requires { place < length entries.now }
-    ensures { result ≡ list_any shows_cells (take place entries.now) || list_any shows_cells (drop (place + 1) entries.now) }
+    ensures { result ≡ list_any shows_cells (take place entries.now)
+        || list_any shows_cells (drop (place + 1) entries.now) }
 {
     any_cells(&entries[..place]) || any_cells(&entries[place + 1..])
 }

@@ -49,7 +49,8 @@ pub fn catalog_digest(alloc: Global, catalog: &Catalog) -> Result<Digest, AllocE
 
 fn put_tables(out: &mut Vec<u8>, tables: &[CatalogTable]) -> Result<(), AllocError>
     requires { AllByRecursion FitsCatalogTable tables.now }
-    ensures { OnOk result (out.new.items ≡ out.old.items ++ flat_map catalog_table_bytes tables.now) }
+    ensures { OnOk result (out.new.items ≡ out.old.items
+        ++ flat_map catalog_table_bytes tables.now) }
 {
     for table in tables {
         put_table(out, table)?;
@@ -93,7 +94,8 @@ pub fn read_catalog(alloc: Global, bytes: &[u8]) -> Result<Catalog, ReadFault>
     ensures found { IfOk result (λ catalog. IsCatalog bytes.now catalog) }
 
     // What is spelled so is read, unless memory runs out.
-    ensures only { (catalog : Plain) → IsCatalog bytes.now catalog → CatalogRead result (Some catalog) }
+    ensures only { (catalog : Plain) → IsCatalog bytes.now catalog
+        → CatalogRead result (Some catalog) }
 {
     catalog_in(alloc, bytes)
 }
@@ -103,7 +105,8 @@ fn take_tables(
     cursor: &mut Cursor<'_>,
     count: u16,
 ) -> Result<Vec<CatalogTable>, ReadFault>
-    ensures { FoundOr (λ tables. tables.items) result cursor.new (times catalog_table_at count cursor.old) }
+    ensures { FoundOr (λ tables. tables.items) result cursor.new
+        (times catalog_table_at count cursor.old) }
 {
     let mut tables = Vec::new(alloc);
     for _ in 0..count {

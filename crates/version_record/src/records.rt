@@ -23,7 +23,8 @@ pub fn record_bytes(rec: &Record) -> [u8; 60]
 /// Puts a piece over the bytes from a place on.
 fn put_chunk<const N: usize>(bytes: &mut [u8; 60], at: usize, piece: &[u8; N])
     requires { at + N ≤ 60 }
-    ensures put { bytes.new ≡ take at bytes.old ++ piece.now ++ drop (at + length piece.now) bytes.old }
+    ensures put { bytes.new ≡ take at bytes.old ++ piece.now
+        ++ drop (at + length piece.now) bytes.old }
     ensures len { length piece.now ≡ N }
 {
     bytes[at..at + piece.len()].copy_from_slice(piece);

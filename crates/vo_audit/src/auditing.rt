@@ -43,7 +43,8 @@ fn audit_reply(
 ) -> Result<Verdict, AuditFault>
     requires read { IsReadAt reply.now.rec.version owned.now }
     requires fits { FitsReply (reply_of reply.now) }
-    ensures { AuditsReply key.now owned.now.entries (query_of query.now) (reply_of reply.now) result }
+    ensures { AuditsReply key.now owned.now.entries (query_of query.now)
+        (reply_of reply.now) result }
 {
     let answer = match judge(alloc, key, 0, query, reply) {
         Ok(answer) => answer,
@@ -64,7 +65,8 @@ pub fn audit(
     query: &QueryText,
     reply: &[u8],
 ) -> Result<Verdict, AuditFault>
-    ensures { (result ≡ Err AuditFault.Memory) ⊎ AuditOf key.now journal.now (query_of query.now) reply.now result }
+    ensures { (result ≡ Err AuditFault.Memory)
+        ⊎ AuditOf key.now journal.now (query_of query.now) reply.now result }
 {
     let read = read_within(alloc, reply);
     match read_owned(alloc, key, journal, version_of(&read)) {

@@ -54,7 +54,8 @@ pub(crate) fn evidence(
     requires fits { FitsReply (reply_of reply.now) }
     requires passed { HasPassed (query_of query.now) (reply_of reply.now) }
     requires held { reply.now.rec.catalog ≡ catalog_digest (catalog_of tables.now) }
-    ensures { IfOk result (λ found. Finds found (IsPartOf (query_of query.now) (reply_of reply.now) tables.now)) }
+    ensures { IfOk result (λ found.
+        Finds found (IsPartOf (query_of query.now) (reply_of reply.now) tables.now)) }
 {
     let found = compare_catalogs(alloc, tables, &reply.catalog)?;
     if found.is_some() {

@@ -32,7 +32,8 @@ fn compare_tree(
     tree: &PartTree<'_>,
 ) -> Result<Option<Collision>, AllocError>
     requires { IsWanted tables.now name.now (part_of tree.now) }
-    ensures { IfOk result (λ found. Finds found (Prunes (part_of tree.now) (stored_tree tables.now name.now))) }
+    ensures { IfOk result (λ found.
+        Finds found (Prunes (part_of tree.now) (stored_tree tables.now name.now))) }
 {
     match tables.find(name.as_bytes()) {
         Some(table) => match agree(alloc, tree, &table.tree)? {
@@ -50,8 +51,11 @@ pub(crate) fn compare_trees(
     query: &QueryText,
     trees: &[PartTree<'_>],
 ) -> Result<Option<Collision>, AllocError>
-    requires { AllZip (IsWanted tables.now) (tables_wanted (query_of query.now) (catalog_of tables.now)) (map part_of trees.now) }
-    ensures { IfOk result (λ found. Finds found (AllZip Prunes (map part_of trees.now) (trees_for (query_of query.now) tables.now))) }
+    requires { AllZip (IsWanted tables.now)
+        (tables_wanted (query_of query.now) (catalog_of tables.now)) (map part_of trees.now) }
+    ensures { IfOk result (λ found.
+        Finds found (AllZip Prunes (map part_of trees.now)
+        (trees_for (query_of query.now) tables.now))) }
 {
     for (place, tree) in trees.iter().enumerate() {
         let found = compare_tree(alloc, tables, table_at(query, place), tree)?;

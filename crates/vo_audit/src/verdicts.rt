@@ -23,7 +23,8 @@ use vo_spec::{Answer, List, QueryText, Verdict};
 /// The journal of so many entries does not hold the reply's record.
 fn unsigned(alloc: Global, entries: usize, reply: &Reply<'_>) -> Result<Verdict, AllocError>
     requires { 0 < entries }
-    ensures { IfOk result (λ verdict. verdict ≡ Unsigned reply.now.rec reply.now.signature.now (entries - 1)) }
+    ensures { IfOk result (λ verdict. verdict
+        ≡ Unsigned reply.now.rec reply.now.signature.now (entries - 1)) }
 {
     let signature = List::from_vec(Vec::from_slice(alloc, reply.signature)?);
     Ok(Verdict::Unsigned {
@@ -76,7 +77,8 @@ pub(crate) fn verdict_on(
     requires fits { FitsReply (reply_of reply.now) }
     requires passed { HasPassed (query_of query.now) (reply_of reply.now) }
     requires answer { answer.now ≡ seen_answer (query_of query.now) (reply_of reply.now) }
-    ensures { IfOk result (λ verdict. IsVerdict owned.now.entries (query_of query.now) (reply_of reply.now) answer.now verdict) }
+    ensures { IfOk result (λ verdict.
+        IsVerdict owned.now.entries (query_of query.now) (reply_of reply.now) answer.now verdict) }
 {
     if !holds(owned.entries.as_slice(), &reply.rec) {
         return unsigned(alloc, owned.entries.len(), reply);

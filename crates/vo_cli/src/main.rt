@@ -49,13 +49,16 @@ fn run_on_words<F: Shelf, D: Disk, N: Net, S: Sink>(
 ) -> u8
     ensures lines { IfOk words (λ words.
         IfSome (due_to (F.contents files.old) (asked_by (map string_bytes words.items))) (λ due.
-        Ends due (Rose (F.faults files.old) (F.faults files.new)) (Rose (S.faults out.old) (S.faults out.new))
+        Ends due (Rose (F.faults files.old) (F.faults files.new))
+        (Rose (S.faults out.old) (S.faults out.new))
         result (S.written out.old) (S.written out.new))) }
     ensures memory { IfErr words (λ error. error_kind error ≡ ErrorKind.OutOfMemory → result ≡ 4) }
-    ensures silent { IfErr words (λ error. error_kind error ≡ ErrorKind.OutOfMemory → out.new ≡ out.old) }
+    ensures silent { IfErr words (λ error. error_kind error ≡ ErrorKind.OutOfMemory
+        → out.new ≡ out.old) }
     ensures no_text { IfErr words (λ error. error_kind error ≢ ErrorKind.OutOfMemory
         → Ends (Exactly refused_words) (Rose (F.faults files.old) (F.faults files.new))
-        (Rose (S.faults out.old) (S.faults out.new)) result (S.written out.old) (S.written out.new)) }
+        (Rose (S.faults out.old) (S.faults out.new)) result (S.written out.old)
+        (S.written out.new)) }
 {
     match words {
         Ok(words) => run(alloc, &words, files, disk, net, out),

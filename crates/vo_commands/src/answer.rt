@@ -31,7 +31,8 @@ pub fn answer<F: Shelf>(
     ensures counts { F.faults files.old ≤ F.faults files.new }
     ensures cause { IsErrOf result Stop.Outside → Rose (F.faults files.old) (F.faults files.new) }
     ensures misses { IfSome (F.contents files.old)
-        (λ told. HoldsEach told (key.now ∷ journal.now ∷ []) → F.misses files.new ≡ F.misses files.old) }
+        (λ told. HoldsEach told (key.now ∷ journal.now ∷ [])
+        → F.misses files.new ≡ F.misses files.old) }
 {
     let key = take_key(alloc, files, key)?;
     let journal = take_file(alloc, files, journal, JOURNAL_LIMIT)?;

@@ -40,7 +40,8 @@ fn push_outcome(alloc: Global, out: &mut Vec<u8>, outcome: &Outcome) -> Result<(
 }
 
 fn push_rows(alloc: Global, out: &mut Vec<u8>, rows: &[List<Value>]) -> Result<(), AllocError>
-    ensures { OnOk result (out.new.items ≡ out.old.items ++ flat_map (λ row. columns_line (map literal row)) rows.now) }
+    ensures { OnOk result (out.new.items ≡ out.old.items
+        ++ flat_map (λ row. columns_line (map literal row)) rows.now) }
 {
     for row in rows {
         push_columns(alloc, out, row.as_slice())?;
@@ -49,7 +50,8 @@ fn push_rows(alloc: Global, out: &mut Vec<u8>, rows: &[List<Value>]) -> Result<(
 }
 
 fn push_wrong(alloc: Global, out: &mut Vec<u8>, fault: &QueryFault) -> Result<(), AllocError>
-    ensures { OnOk result (out.new.items ≡ out.old.items ++ outcome_lines (Outcome.Wrong fault.now)) }
+    ensures { OnOk result (out.new.items ≡ out.old.items
+        ++ outcome_lines (Outcome.Wrong fault.now)) }
 {
     match fault {
         QueryFault::NoTable(name) => push_wrong_name(alloc, out, "no table", name.as_bytes()),
@@ -78,7 +80,8 @@ fn push_wrong_name<'a>(
     what: &'a str,
     name: &'a [u8],
 ) -> Result<(), AllocError>
-    ensures { OnOk result (out.new.items ≡ out.old.items ++ words_line (codes "wrong:" ∷ what.now ∷ name.now ∷ [])) }
+    ensures { OnOk result (out.new.items ≡ out.old.items
+        ++ words_line (codes "wrong:" ∷ what.now ∷ name.now ∷ [])) }
 {
     push_words(
         alloc,

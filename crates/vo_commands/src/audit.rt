@@ -37,7 +37,8 @@ pub fn audit<F: Shelf>(
     ensures counts { F.faults files.old ≤ F.faults files.new }
     ensures cause { IsErrOf result Stop.Outside → Rose (F.faults files.old) (F.faults files.new) }
     ensures misses { IfSome (F.contents files.old)
-        (λ told. HoldsEach told (key.now ∷ journal.now ∷ reply.now ∷ []) → F.misses files.new ≡ F.misses files.old) }
+        (λ told. HoldsEach told (key.now ∷ journal.now ∷ reply.now ∷ [])
+        → F.misses files.new ≡ F.misses files.old) }
 {
     let key = take_key(alloc, files, key)?;
     let journal = take_file(alloc, files, journal, JOURNAL_LIMIT)?;
@@ -54,7 +55,9 @@ fn audit_query<F: Shelf>(
     reply: &str,
 ) -> Result<Report, Stop>
     ensures told { IfSome (F.contents files.old)
-        (λ told. Answers (OfQuery query.now (λ q. with_file told reply.now reply_limit (λ bytes. Audits key.now journal.now q bytes))) result) }
+        (λ told. Answers (OfQuery query.now
+        (λ q. with_file told reply.now reply_limit
+        (λ bytes. Audits key.now journal.now q bytes))) result) }
     ensures kept { F.contents files.new ≡ F.contents files.old }
     ensures counts { F.faults files.old ≤ F.faults files.new }
     ensures cause { IsErrOf result Stop.Outside → Rose (F.faults files.old) (F.faults files.new) }
@@ -77,7 +80,8 @@ fn audit_file<F: Shelf>(
     reply: &str,
 ) -> Result<Report, Stop>
     ensures told { IfSome (F.contents files.old)
-        (λ told. Answers (with_file told reply.now reply_limit (λ bytes. Audits key.now journal.now (query_of query.now) bytes)) result) }
+        (λ told. Answers (with_file told reply.now reply_limit
+        (λ bytes. Audits key.now journal.now (query_of query.now) bytes)) result) }
     ensures kept { F.contents files.new ≡ F.contents files.old }
     ensures counts { F.faults files.old ≤ F.faults files.new }
     ensures cause { IsErrOf result Stop.Outside → Rose (F.faults files.old) (F.faults files.new) }

@@ -35,7 +35,8 @@ pub fn check<F: Shelf>(
     ensures counts { F.faults files.old ≤ F.faults files.new }
     ensures cause { IsErrOf result Stop.Outside → Rose (F.faults files.old) (F.faults files.new) }
     ensures misses { IfSome (F.contents files.old)
-        (λ told. HoldsEach told (key.now ∷ reply.now ∷ []) → F.misses files.new ≡ F.misses files.old) }
+        (λ told. HoldsEach told (key.now ∷ reply.now ∷ [])
+        → F.misses files.new ≡ F.misses files.old) }
 {
     let key = take_key(alloc, files, key)?;
     let query = query_in(alloc, query)?;
@@ -52,7 +53,8 @@ fn check_file<F: Shelf>(
     reply: &str,
 ) -> Result<Report, Stop>
     ensures told { IfSome (F.contents files.old)
-        (λ told. Answers (with_file told reply.now reply_limit (λ bytes. Checks key least (query_of query.now) bytes)) result) }
+        (λ told. Answers (with_file told reply.now reply_limit
+        (λ bytes. Checks key least (query_of query.now) bytes)) result) }
     ensures kept { F.contents files.new ≡ F.contents files.old }
     ensures counts { F.faults files.old ≤ F.faults files.new }
     ensures cause { IsErrOf result Stop.Outside → Rose (F.faults files.old) (F.faults files.new) }

@@ -60,7 +60,8 @@ pub fn take_seed<F: Shelf>(
 }
 
 fn secret_key(alloc: Global, bytes: &[u8], height: Height) -> Result<SecretKey, Stop>
-    ensures told { GoesOn (λ key. key) (λ rest. with_secret (number_of height) rest bytes.now) result }
+    ensures told { GoesOn (λ key. key)
+        (λ rest. with_secret (number_of height) rest bytes.now) result }
     ensures inside { IsErrOf result Stop.Outside → ⊥ }
 {
     let Some((id, seed)) = parts_of(bytes) else {
@@ -73,7 +74,8 @@ fn secret_key(alloc: Global, bytes: &[u8], height: Height) -> Result<SecretKey, 
 /// The identifier and the seed, where there are 48 bytes.
 fn parts_of(bytes: &[u8]) -> Option<(&[u8; 16], &[u8; 32])>
     ensures some { is_some result ≡ (length bytes.now == seed_limit) }
-    ensures parts { IfSome result (λ parts. (parts.0.now ≡ take 16 bytes.now) × (parts.1.now ≡ take 32 (drop 16 bytes.now))) }
+    ensures parts { IfSome result (λ parts. (parts.0.now ≡ take 16 bytes.now)
+        × (parts.1.now ≡ take 32 (drop 16 bytes.now))) }
 {
     let (id, rest) = bytes.split_first_chunk::<16>()?;
     let (seed, rest) = rest.split_first_chunk::<32>()?;

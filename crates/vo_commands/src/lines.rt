@@ -19,7 +19,8 @@ pub fn push_columns<P: Printed>(
     out: &mut Vec<u8>,
     columns: &[P],
 ) -> Result<(), AllocError>
-    ensures { OnOk result (out.new.items ≡ out.old.items ++ columns_line (map P.printed columns.now)) }
+    ensures { OnOk result (out.new.items ≡ out.old.items
+        ++ columns_line (map P.printed columns.now)) }
 {
     push_line(alloc, out, columns, b',')
 }
@@ -30,7 +31,8 @@ fn push_line<P: Printed>(
     pieces: &[P],
     separator: u8,
 ) -> Result<(), AllocError>
-    ensures { OnOk result (out.new.items ≡ out.old.items ++ line (separated separator (map P.printed pieces.now))) }
+    ensures { OnOk result (out.new.items ≡ out.old.items
+        ++ line (separated separator (map P.printed pieces.now))) }
 {
     if let Some((first, others)) = pieces.split_first() {
         first.push_to(alloc, out)?;

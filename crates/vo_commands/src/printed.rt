@@ -67,7 +67,8 @@ impl Printed for Value {
 
 /// A text in quotes, each quote in it doubled.
 fn push_quoted(out: &mut Vec<u8>, text: &[u8]) -> Result<(), AllocError>
-    ensures { OnOk result (out.new.items ≡ out.old.items ++ 39 ∷ flat_map quoted_byte text.now ++ 39 ∷ []) }
+    ensures { OnOk result (out.new.items ≡ out.old.items ++ 39 ∷ flat_map quoted_byte text.now ++ 39
+        ∷ []) }
 {
     out.push(b'\'')?;
     push_doubled(out, text)?;

@@ -12,7 +12,8 @@ use vo_spec::CommandFault;
 
 /// A refusal in one line: these words behind `refused:`.
 pub fn refusal(alloc: Global, status: Status, words: &[Word<'_>]) -> Result<Report, AllocError>
-    ensures { IfOk result (λ report. said_of report ≡ refused (status_code status) (map word_text words.now)) }
+    ensures { IfOk result (λ report. said_of report
+        ≡ refused (status_code status) (map word_text words.now)) }
 {
     let mut all = Vec::new(alloc);
     all.push(Word::Phrase("refused:"))?;

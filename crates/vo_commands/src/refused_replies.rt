@@ -58,7 +58,8 @@ fn with_number(alloc: Global, what: &str, number: u64) -> Result<Report, AllocEr
 }
 
 fn with_numbers(alloc: Global, what: &str, first: u64, second: u64) -> Result<Report, AllocError>
-    ensures { IfOk result (λ report. said_of report ≡ refused 1 (what.now ∷ decimal first ∷ decimal second ∷ [])) }
+    ensures { IfOk result (λ report. said_of report
+        ≡ refused 1 (what.now ∷ decimal first ∷ decimal second ∷ [])) }
 {
     refused(
         alloc,
@@ -77,7 +78,8 @@ fn with_bytes<'a>(
     want: &'a [u8],
     got: &'a [u8],
 ) -> Result<Report, AllocError>
-    ensures { IfOk result (λ report. said_of report ≡ refused 1 (what.now ∷ encode_lower want.now ∷ encode_lower got.now ∷ [])) }
+    ensures { IfOk result (λ report. said_of report
+        ≡ refused 1 (what.now ∷ encode_lower want.now ∷ encode_lower got.now ∷ [])) }
 {
     refused(
         alloc,
@@ -95,7 +97,8 @@ fn wrong_root<'a>(
     want: &'a [u8],
     got: &'a [u8],
 ) -> Result<Report, AllocError>
-    ensures { IfOk result (λ report. said_of report ≡ refused 1 (fault_words (CheckFault.WrongRoot table.now want.now got.now))) }
+    ensures { IfOk result (λ report. said_of report
+        ≡ refused 1 (fault_words (CheckFault.WrongRoot table.now want.now got.now))) }
 {
     refused(
         alloc,

@@ -35,7 +35,8 @@ pub fn seal<F: Shelf>(
     ensures counts { F.faults files.old ≤ F.faults files.new }
     ensures cause { IsErrOf result Stop.Outside → Rose (F.faults files.old) (F.faults files.new) }
     ensures misses { IfSome (F.contents files.old)
-        (λ told. HoldsEach told (seed.now ∷ script.now ∷ []) → F.misses files.new ≡ F.misses files.old) }
+        (λ told. HoldsEach told (seed.now ∷ script.now ∷ [])
+        → F.misses files.new ≡ F.misses files.old) }
 {
     let key = take_seed(alloc, files, seed, height)?;
     let script = take_file(alloc, files, script, SCRIPT_LIMIT)?;

@@ -39,7 +39,8 @@ fn exact(alloc: Global, version: u64) -> Result<Report, AllocError>
 }
 
 fn unsigned(alloc: Global, rec: &Record, signature: &[u8], last: u64) -> Result<Report, AllocError>
-    ensures { IfOk result (λ report. said_of report ≡ verdict_said (Unsigned rec.now signature.now last)) }
+    ensures { IfOk result (λ report. said_of report
+        ≡ verdict_said (Unsigned rec.now signature.now last)) }
 {
     let mut bytes = Vec::new(alloc);
     push_words(alloc, &mut bytes, &[Word::Phrase("unsigned")])?;

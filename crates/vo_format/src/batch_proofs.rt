@@ -57,7 +57,8 @@ pub fn read_proofs<'b>(alloc: Global, bytes: &'b [u8]) -> Result<Vec<PartTree<'b
     ensures bad { result ≡ Err BadForm → (trees : List RowTree) → AreProofs bytes.now trees → ⊥ }
 
     // What is spelled so is read, unless memory runs out.
-    ensures only { (trees : List RowTree) → AreProofs bytes.now trees → ReadsAs trees_of result (Some trees) }
+    ensures only { (trees : List RowTree) → AreProofs bytes.now trees
+        → ReadsAs trees_of result (Some trees) }
 {
     proofs_in(alloc, bytes)
 }

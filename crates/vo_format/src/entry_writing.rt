@@ -72,7 +72,8 @@ fn put_cell(out: &mut Vec<u8>, cell: &Cell<'_>) -> Result<(), AllocError>
 fn put_cells(out: &mut Vec<u8>, cells: &[Cell<'_>]) -> Result<(), AllocError>
     requires count { length cells.now ≤ most_cells }
     requires fits { All FitsCell cells.now }
-    ensures { OnOk result (out.new.items ≡ out.old.items ++ 1 ∷ length cells.now ∷ flat_map cell_form cells.now) }
+    ensures { OnOk result (out.new.items ≡ out.old.items ++ 1 ∷ length cells.now
+        ∷ flat_map cell_form cells.now) }
 {
     out.extend_from_slice(&[1, cells.len() as u8])?;
     for cell in cells {

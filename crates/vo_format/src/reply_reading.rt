@@ -90,7 +90,8 @@ pub fn read_reply<'b>(alloc: Global, bytes: &'b [u8]) -> Result<Reply<'b>, ReadF
     ensures bad { result ≡ Err BadForm → IsNoReply bytes.now }
 
     // What is spelled so is read, unless memory runs out.
-    ensures only { (reply : Plain) → IsReply bytes.now reply → ReadsAs reply_of result (Some reply) }
+    ensures only { (reply : Plain) → IsReply bytes.now reply
+        → ReadsAs reply_of result (Some reply) }
 {
     reply_in(alloc, bytes)
 }

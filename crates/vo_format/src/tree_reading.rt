@@ -24,10 +24,12 @@ const MOST_LEVELS: u8 = 11;
 /// The tree that comes next, of at most [`MOST_LEVELS`] levels. It is lent by the bytes.
 pub fn take_tree<'b>(alloc: Global, cursor: &mut Cursor<'b>) -> Result<PartTree<'b>, ReadFault>
     // What is taken is spelled so, and keeps the limits.
-    ensures found { IfOk result (λ tree. FitsTree (part_of tree) × (cursor.old ≡ tree_bytes (part_of tree) ++ cursor.new)) }
+    ensures found { IfOk result (λ tree. FitsTree (part_of tree)
+        × (cursor.old ≡ tree_bytes (part_of tree) ++ cursor.new)) }
 
     // What is spelled so is taken, unless memory runs out.
-    ensures only { (tree : RowTree) (rest : List ℕ) → FitsTree tree → cursor.old ≡ tree_bytes tree ++ rest
+    ensures only { (tree : RowTree) (rest : List ℕ) → FitsTree tree
+        → cursor.old ≡ tree_bytes tree ++ rest
         → FoundOr part_of result cursor.new (Some (tree, rest)) }
 
     // What reading gives, unless memory runs out.
@@ -102,7 +104,8 @@ fn each_entry<'b>(
     cursor: &mut Cursor<'b>,
     count: u8,
 ) -> Result<Vec<PartEntry<'b>>, ReadFault>
-    ensures { FoundOr (λ entries. entries.items) result cursor.new (times entry_at count cursor.old) }
+    ensures { FoundOr (λ entries. entries.items) result cursor.new
+        (times entry_at count cursor.old) }
 {
     let mut entries = Vec::new(alloc);
     for _ in 0..count {

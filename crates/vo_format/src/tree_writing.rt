@@ -32,7 +32,8 @@ pub fn put_tree(out: &mut Vec<u8>, tree: &PartTree<'_>) -> Result<(), AllocError
 fn put_leaf(out: &mut Vec<u8>, entries: &[PartEntry<'_>]) -> Result<(), AllocError>
     requires count { length entries.now ≤ most_in_node }
     requires fits { All FitsEntry entries.now }
-    ensures { OnOk result (out.new.items ≡ out.old.items ++ 1 ∷ length entries.now ∷ flat_map entry_form entries.now) }
+    ensures { OnOk result (out.new.items ≡ out.old.items ++ 1 ∷ length entries.now
+        ∷ flat_map entry_form entries.now) }
 {
     out.extend_from_slice(&[1, entries.len() as u8])?;
     for entry in entries {
@@ -51,7 +52,8 @@ fn put_inner(
     requires count { length children.now ≤ most_in_node }
     requires keys { All FitsKey separators.now }
     requires fits { FitsEach FitsEntry (parts_of children.now) }
-    ensures { OnOk result (out.new.items ≡ out.old.items ++ tree_bytes (inner separators.now (parts_of children.now))) }
+    ensures { OnOk result (out.new.items ≡ out.old.items
+        ++ tree_bytes (inner separators.now (parts_of children.now))) }
 {
     out.extend_from_slice(&[2, children.len() as u8])?;
     put_separators(out, separators)?;
@@ -71,7 +73,8 @@ fn put_separators(out: &mut Vec<u8>, separators: &[KeyPart<'_>]) -> Result<(), A
 #[cycle(put_tree)]
 fn put_children(out: &mut Vec<u8>, children: &[PartTree<'_>]) -> Result<(), AllocError>
     requires { FitsEach FitsEntry (parts_of children.now) }
-    ensures { OnOk result (out.new.items ≡ out.old.items ++ flat_map tree_bytes (map part_of children.now)) }
+    ensures { OnOk result (out.new.items ≡ out.old.items
+        ++ flat_map tree_bytes (map part_of children.now)) }
 {
     for child in children {
         match child {
@@ -86,7 +89,8 @@ fn put_children(out: &mut Vec<u8>, children: &[PartTree<'_>]) -> Result<(), Allo
 /// Puts trees at the end, one after another.
 pub fn put_trees(out: &mut Vec<u8>, trees: &[PartTree<'_>]) -> Result<(), AllocError>
     requires { AllByRecursion FitsTree (map part_of trees.now) }
-    ensures { OnOk result (out.new.items ≡ out.old.items ++ flat_map tree_bytes (map part_of trees.now)) }
+    ensures { OnOk result (out.new.items ≡ out.old.items
+        ++ flat_map tree_bytes (map part_of trees.now)) }
 {
     for tree in trees {
         put_tree(out, tree)?;

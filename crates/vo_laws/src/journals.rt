@@ -27,23 +27,35 @@ ghost use Rattle.vo_laws.specs.Sealing.{AreAcceptedAfter, SignsValidly};
 /// before others, as version 0 has, makes no difference; and a batch is accepted on the trees where it is on
 /// the tables, or else refused on both for one reason.
 pub fn trees_follow_batches()
-    ensures trees { (batches : List (List Command)) (batch : List Command) → honest_trees (batches ++ batch ∷ []) ≡ after_work (honest_trees batches) batch }
-    ensures tables { (batches : List (List Command)) (batch : List Command) → tables_after (batches ++ batch ∷ []) ≡ after_batch (tables_after batches) batch }
+    ensures trees { (batches : List (List Command)) (batch : List Command)
+        → honest_trees (batches ++ batch ∷ []) ≡ after_work (honest_trees batches) batch }
+    ensures tables { (batches : List (List Command)) (batch : List Command)
+        → tables_after (batches ++ batch ∷ []) ≡ after_batch (tables_after batches) batch }
     ensures no_commands_fit { FitsBatch [] }
-    ensures no_tables_before { (batches : List (List Command)) → tables_after ([] ∷ batches) ≡ tables_after batches }
-    ensures no_trees_before { (batches : List (List Command)) → honest_trees ([] ∷ batches) ≡ honest_trees batches }
-    ensures accepted { (batches : List (List Command)) (batch : List Command) → AllByRecursion FitsBatch batches → FitsBatch batch
-        → IsOk (work_all batch (honest_trees batches)) ↔ IsOk (apply_batch batch (tables_after batches)) }
-    ensures refused { (batches : List (List Command)) (batch : List Command) (index : ℕ) (fault : CommandFault) → AllByRecursion FitsBatch batches → FitsBatch batch
-        → apply_batch batch (tables_after batches) ≡ Err (index, fault) → work_all batch (honest_trees batches) ≡ Err fault }
+    ensures no_tables_before { (batches : List (List Command))
+        → tables_after ([] ∷ batches) ≡ tables_after batches }
+    ensures no_trees_before { (batches : List (List Command))
+        → honest_trees ([] ∷ batches) ≡ honest_trees batches }
+    ensures accepted { (batches : List (List Command)) (batch : List Command)
+        → AllByRecursion FitsBatch batches → FitsBatch batch
+        → IsOk (work_all batch (honest_trees batches))
+        ↔ IsOk (apply_batch batch (tables_after batches)) }
+    ensures refused { (batches : List (List Command)) (batch : List Command) (index : ℕ)
+        (fault : CommandFault) → AllByRecursion FitsBatch batches → FitsBatch batch
+        → apply_batch batch (tables_after batches) ≡ Err (index, fault)
+        → work_all batch (honest_trees batches) ≡ Err fault }
 {}
 
 /// The proofs that an honest owner makes of a batch fit their bytes.
 pub fn honest_proofs_fit()
-    ensures size { (key : List ℕ) (t : RowTree) → FitsTree t → length (tree_bytes (insert_proof key t)) ≤ levels t * 5634 }
-    ensures replace_size { (key : List ℕ) (t : RowTree) → FitsTree t → length (tree_bytes (replace_proof key t)) ≤ levels t * 5634 }
-    ensures remove_size { (key : List ℕ) (t : RowTree) → FitsTree t → length (tree_bytes (remove_proof key t)) ≤ levels t * 11268 }
-    ensures fit { (earlier : List (List Command)) (batch : List Command) → AllByRecursion FitsBatch earlier
+    ensures size { (key : List ℕ) (t : RowTree) → FitsTree t
+        → length (tree_bytes (insert_proof key t)) ≤ levels t * 5634 }
+    ensures replace_size { (key : List ℕ) (t : RowTree) → FitsTree t
+        → length (tree_bytes (replace_proof key t)) ≤ levels t * 5634 }
+    ensures remove_size { (key : List ℕ) (t : RowTree) → FitsTree t
+        → length (tree_bytes (remove_proof key t)) ≤ levels t * 11268 }
+    ensures fit { (earlier : List (List Command)) (batch : List Command)
+        → AllByRecursion FitsBatch earlier
         → FitsBatch batch → FitsProofs (honest_proofs batch (honest_trees earlier)) }
 {}
 
@@ -51,56 +63,81 @@ pub fn honest_proofs_fit()
 /// journal of that owner, where its batches are accepted one after the other and its records are signed.
 pub fn sealed_journals_are_owned()
     ensures signatures_short { (key : List ℕ) → key_signature_len key ≤ most_signature }
-    ensures entry_fits { (secret : Secret) (earlier : List (List Command)) (batch : List Command) → length secret.id ≡ 16
+    ensures entry_fits { (secret : Secret) (earlier : List (List Command)) (batch : List Command)
+        → length secret.id ≡ 16
         → AllByRecursion FitsBatch earlier → FitsBatch batch
-        → length earlier < 2 ^ 64 → length (sealed_entry secret earlier batch).signature ≤ most_signature
+        → length earlier < 2 ^ 64 → length (sealed_entry secret earlier batch).signature
+        ≤ most_signature
         → FitsEntry (sealed_entry secret earlier batch) }
-    ensures entries_fit { (secret : Secret) (batches : List (List Command)) → length secret.id ≡ 16 → AllByRecursion FitsBatch batches
-        → length batches < 2 ^ 64 → AllByRecursion (λ (e : Entry). length e.signature ≤ most_signature) (sealed secret batches)
+    ensures entries_fit { (secret : Secret) (batches : List (List Command)) → length secret.id ≡ 16
+        → AllByRecursion FitsBatch batches
+        → length batches < 2 ^ 64 → AllByRecursion
+        (λ (e : Entry). length e.signature ≤ most_signature) (sealed secret batches)
         → AllByRecursion FitsEntry (sealed secret batches) }
-    ensures entry_is_honest { (secret : Secret) (earlier : List (List Command)) (batch : List Command)
+    ensures entry_is_honest { (secret : Secret) (earlier : List (List Command))
+        (batch : List Command)
         → IsOk (apply_batch batch (tables_after earlier))
-        → IsSigned (public_of_secret secret) (sealed_entry secret earlier batch).rec (sealed_entry secret earlier batch).signature
+        → IsSigned (public_of_secret secret) (sealed_entry secret earlier batch).rec
+        (sealed_entry secret earlier batch).signature
         → IsHonestEntry (public_of_secret secret) earlier (sealed_entry secret earlier batch) }
     ensures owned { (secret : Secret) (batches : List (List Command)) → AreAcceptedAfter [] batches
-        → AllByRecursion (λ (e : Entry). IsSigned (public_of_secret secret) e.rec e.signature) (sealed secret batches)
+        → AllByRecursion (λ (e : Entry). IsSigned (public_of_secret secret) e.rec e.signature)
+        (sealed secret batches)
         → AreOwned (public_of_secret secret) (sealed secret batches) }
-    ensures signed { (secret : Secret) (batches : List (List Command)) → SignsValidly secret → length batches < leaves_of secret.lms
-        → AllByRecursion (λ (e : Entry). IsSigned (public_of_secret secret) e.rec e.signature) (sealed secret batches) }
+    ensures signed { (secret : Secret) (batches : List (List Command)) → SignsValidly secret
+        → length batches < leaves_of secret.lms
+        → AllByRecursion (λ (e : Entry). IsSigned (public_of_secret secret) e.rec e.signature)
+        (sealed secret batches) }
     ensures grows { (secret : Secret) (batches : List (List Command)) (batch : List Command)
-        → sealed secret (batches ++ batch ∷ []) ≡ sealed secret batches ++ sealed_entry secret ([] ∷ batches) batch ∷ [] }
-    ensures batches { (secret : Secret) (batches : List (List Command)) → batches_of (sealed secret batches) ≡ [] ∷ batches }
+        → sealed secret (batches ++ batch ∷ []) ≡ sealed secret batches
+        ++ sealed_entry secret ([] ∷ batches) batch ∷ [] }
+    ensures batches { (secret : Secret) (batches : List (List Command))
+        → batches_of (sealed secret batches) ≡ [] ∷ batches }
 {}
 
 /// Journals grow entry by entry, an owner's and those that a store takes; what stands before an entry is such
 /// a journal too; and a store takes what an owner has written.
 pub fn journals_grow_by_entries()
-    ensures owned_first { (key : List ℕ) (e : Entry) → AreOwned key (e ∷ []) ↔ ((e.batch.commands ≡ []) × IsHonestEntry key [] e) }
+    ensures owned_first { (key : List ℕ) (e : Entry) → AreOwned key (e ∷ [])
+        ↔ ((e.batch.commands ≡ []) × IsHonestEntry key [] e) }
     ensures owned_grows { (key : List ℕ) (es : List Entry) (e : Entry) → 0 < length es
         → AreOwned key (es ++ e ∷ []) ↔ (AreOwned key es × IsHonestEntry key (batches_of es) e) }
-    ensures owned_front { (key : List ℕ) (n : ℕ) (es : List Entry) → AreOwned key es → AreOwned key (take n es) }
-    ensures owned_entry { (key : List ℕ) (es : List Entry) (version : ℕ) (e : Entry) → AreOwned key es → slice_get es version ≡ Some e
+    ensures owned_front { (key : List ℕ) (n : ℕ) (es : List Entry) → AreOwned key es
+        → AreOwned key (take n es) }
+    ensures owned_entry { (key : List ℕ) (es : List Entry) (version : ℕ) (e : Entry)
+        → AreOwned key es → slice_get es version ≡ Some e
         → IsHonestEntry key (batches_of (take version es)) e }
     ensures taken_first { (key : List ℕ) (e : Entry)
-        → AreTaken key (e ∷ []) ↔ ((e.rec ≡ honest_record key 0 (honest_trees [])) × IsSigned key e.rec e.signature) }
+        → AreTaken key (e ∷ []) ↔ ((e.rec ≡ honest_record key 0 (honest_trees []))
+        × IsSigned key e.rec e.signature) }
     ensures taken_grows { (key : List ℕ) (es : List Entry) (e : Entry) → 0 < length es
-        → AreTaken key (es ++ e ∷ []) ↔ (AreTaken key es × IsTakenEntry key ([] ∷ batches_of (drop 1 es)) e) }
-    ensures taken_front { (key : List ℕ) (n : ℕ) (es : List Entry) → AreTaken key es → AreTaken key (take n es) }
+        → AreTaken key (es ++ e ∷ [])
+        ↔ (AreTaken key es × IsTakenEntry key ([] ∷ batches_of (drop 1 es)) e) }
+    ensures taken_front { (key : List ℕ) (n : ℕ) (es : List Entry) → AreTaken key es
+        → AreTaken key (take n es) }
     ensures owned_are_taken { (key : List ℕ) (es : List Entry) → AreOwned key es → AreTaken key es }
 {}
 
 /// Each entry that a store takes holds the record of the honest trees after the batches of its version, signed;
 /// these batches fit, and the trees stand for that version's tables.
 pub fn journals_hold_honest_records()
-    ensures record_is { (key : List ℕ) (es : List Entry) (version : ℕ) (e : Entry) → AreTaken key es → slice_get es version ≡ Some e
+    ensures record_is { (key : List ℕ) (es : List Entry) (version : ℕ) (e : Entry) → AreTaken key es
+        → slice_get es version ≡ Some e
         → e.rec ≡ honest_record key version (honest_trees (batches_of (take version (drop 1 es)))) }
-    ensures signed { (key : List ℕ) (es : List Entry) (version : ℕ) (e : Entry) → AreTaken key es → slice_get es version ≡ Some e
+    ensures signed { (key : List ℕ) (es : List Entry) (version : ℕ) (e : Entry) → AreTaken key es
+        → slice_get es version ≡ Some e
         → IsSigned key e.rec e.signature }
     ensures held { (key : List ℕ) (es : List Entry) (rec : Record) → AreTaken key es → Holds es rec
-        → rec ≡ honest_record key rec.version (honest_trees (batches_of (take rec.version (drop 1 es)))) }
-    ensures batches_fit { (es : List Entry) → AllByRecursion FitsEntry es → AllByRecursion FitsBatch (batches_of es) }
-    ensures all_fit { (es : List Entry) → AllByRecursion FitsEntry es → AllByRecursion FitsBatch (batches_of (drop 1 es)) }
-    ensures fit_at { (version : ℕ) (es : List Entry) → AllByRecursion FitsEntry es → AllByRecursion FitsBatch (batches_of (take version (drop 1 es))) }
-    ensures stand_at { (key : List ℕ) (version : ℕ) (es : List Entry) → AreTaken key es → AllByRecursion FitsEntry es
-        → StandForTables (honest_trees (batches_of (take version (drop 1 es)))) (tables_at version es) }
+        → rec ≡ honest_record key rec.version
+        (honest_trees (batches_of (take rec.version (drop 1 es)))) }
+    ensures batches_fit { (es : List Entry) → AllByRecursion FitsEntry es
+        → AllByRecursion FitsBatch (batches_of es) }
+    ensures all_fit { (es : List Entry) → AllByRecursion FitsEntry es
+        → AllByRecursion FitsBatch (batches_of (drop 1 es)) }
+    ensures fit_at { (version : ℕ) (es : List Entry) → AllByRecursion FitsEntry es
+        → AllByRecursion FitsBatch (batches_of (take version (drop 1 es))) }
+    ensures stand_at { (key : List ℕ) (version : ℕ) (es : List Entry) → AreTaken key es
+        → AllByRecursion FitsEntry es
+        → StandForTables (honest_trees (batches_of (take version (drop 1 es))))
+        (tables_at version es) }
 {}

@@ -37,8 +37,10 @@ ghost use Rattle.vo_spec.specs.Honest.{Stored, StandForTables, catalog_of, hones
 /// Where each tree of a reply prunes the whole tree of its table, nothing is missing, and the whole trees
 /// stand for plain tables, the outcome that the trees show is the query's result on these tables.
 pub fn complete_proofs_show_the_result()
-    ensures { (q : Query) (r : Reply) (stored : List Stored) (tables : List Table) → StandForTables stored tables → FitsQuery q
-        → r.catalog ≡ catalog_of stored → AllZip Prunes r.trees (trees_for q stored) → missing_fault q r ≡ None
+    ensures { (q : Query) (r : Reply) (stored : List Stored) (tables : List Table)
+        → StandForTables stored tables → FitsQuery q
+        → r.catalog ≡ catalog_of stored → AllZip Prunes r.trees (trees_for q stored)
+        → missing_fault q r ≡ None
         → seen_outcome q r.catalog r.trees ≡ result_of q tables }
 {}
 
@@ -51,15 +53,19 @@ pub fn honest_trees_stand_for_the_tables()
         → AllByRecursion (λ (s : Stored). FitsTree s.tree) (honest_trees batches) }
     ensures catalog_fits { (batches : List (List Command)) → AllByRecursion FitsBatch batches
         → FitsCatalog (catalog_of (honest_trees batches)) }
-    ensures record_fits { (key : List ℕ) (version : ℕ) (stored : List Stored) → 24 ≤ length key → version < 2 ^ 64
+    ensures record_fits { (key : List ℕ) (version : ℕ) (stored : List Stored) → 24 ≤ length key
+        → version < 2 ^ 64
         → FitsRecord (honest_record key version stored) }
-    ensures reply_fits { (batches : List (List Command)) (q : Query) (rec : Record) (signature : List ℕ) → AllByRecursion FitsBatch batches
-        → FitsRecord rec → length signature ≤ most_signature → FitsReply (honest_reply q rec signature (honest_trees batches)) }
+    ensures reply_fits { (batches : List (List Command)) (q : Query) (rec : Record)
+        (signature : List ℕ) → AllByRecursion FitsBatch batches
+        → FitsRecord rec → length signature ≤ most_signature
+        → FitsReply (honest_reply q rec signature (honest_trees batches)) }
 {}
 
 /// A client takes the reply of an honest store, and its outcome is the query's result on the plain tables.
 pub fn honest_replies_are_accepted()
-    ensures { (batches : List (List Command)) (key : List ℕ) (version : ℕ) (least : ℕ) (q : Query) (rec : Record) (signature : List ℕ)
+    ensures { (batches : List (List Command)) (key : List ℕ) (version : ℕ) (least : ℕ) (q : Query)
+        (rec : Record) (signature : List ℕ)
         → AllByRecursion FitsBatch batches → rec ≡ honest_record key version (honest_trees batches)
         → IsSigned key rec signature → least ≤ rec.version → FitsQuery q
         → answer_to key least q (honest_reply q rec signature (honest_trees batches))
@@ -69,20 +75,27 @@ pub fn honest_replies_are_accepted()
 /// A scan of a tree's proof for one need gives what a scan of the whole tree gives, where the rows have the
 /// need's columns; so a store finds a query's needs from the proof for its left need.
 pub fn proofs_show_what_their_need_sees()
-    ensures seen { (cells : ℕ) (need : Need) (t : RowTree) (rows : List Row) → StandsFor t rows → AllByRecursion (λ column. column < cells) need.columns
-        → AllByRecursion (λ (row : Row). length row.cells ≡ cells) rows → seen need (pruned (need ∷ []) t) ≡ seen need t }
+    ensures seen { (cells : ℕ) (need : Need) (t : RowTree) (rows : List Row) → StandsFor t rows
+        → AllByRecursion (λ column. column < cells) need.columns
+        → AllByRecursion (λ (row : Row). length row.cells ≡ cells) rows
+        → seen need (pruned (need ∷ []) t) ≡ seen need t }
     ensures by_seen { (ss : List Side) (q : Query) (trees : List RowTree) (others : List RowTree)
-        → seen (left_need ss q) (tree_at trees 0) ≡ seen (left_need ss q) (tree_at others 0) → needs ss q trees ≡ needs ss q others }
-    ensures needs { (batches : List (List Command)) (q : Query) (others : List RowTree) → AllByRecursion FitsBatch batches
+        → seen (left_need ss q) (tree_at trees 0) ≡ seen (left_need ss q) (tree_at others 0)
+        → needs ss q trees ≡ needs ss q others }
+    ensures needs { (batches : List (List Command)) (q : Query) (others : List RowTree)
+        → AllByRecursion FitsBatch batches
         → let stored : List Stored = honest_trees batches in
         let ss : List Side = sides (headings (catalog_of stored)) q in
-        needs ss q (pruned (left_need ss q ∷ []) (tree_at (trees_for q stored) 0) ∷ others) ≡ needs ss q (trees_for q stored) }
+        needs ss q (pruned (left_need ss q ∷ []) (tree_at (trees_for q stored) 0) ∷ others)
+        ≡ needs ss q (trees_for q stored) }
 {}
 
 /// Two catalogs that fit and have the same bytes are the same; so two different ones with one digest give two
 /// different strings with one digest.
 pub fn catalogs_are_told_from_their_bytes()
-    ensures told { (a : Catalog) (b : Catalog) → FitsCatalog a → FitsCatalog b → catalog_bytes a ≡ catalog_bytes b → a ≡ b }
-    ensures collide { (a : Catalog) (b : Catalog) → FitsCatalog a → FitsCatalog b → a ≢ b → catalog_digest a ≡ catalog_digest b
+    ensures told { (a : Catalog) (b : Catalog) → FitsCatalog a → FitsCatalog b
+        → catalog_bytes a ≡ catalog_bytes b → a ≡ b }
+    ensures collide { (a : Catalog) (b : Catalog) → FitsCatalog a → FitsCatalog b → a ≢ b
+        → catalog_digest a ≡ catalog_digest b
         → Collides (5 ∷ catalog_bytes a) (5 ∷ catalog_bytes b) }
 {}
