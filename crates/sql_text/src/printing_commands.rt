@@ -212,5 +212,6 @@ pub fn print_batch(alloc: Global, batch: &Batch) -> Result<String, AllocError>
         batch.commands.as_slice(),
         TokenKind::Semicolon,
     )?;
+    // That the bytes are UTF-8 is proved, so they aren't read once more to see it.
     Ok(unsafe { String::from_utf8_unchecked(without_last_blank(out)) })
 }

@@ -223,5 +223,6 @@ pub fn print_query(alloc: Global, query: &QueryText) -> Result<String, AllocErro
 {
     let mut out = Vec::new(alloc);
     query.print(alloc, &mut out)?;
+    // That the bytes are UTF-8 is proved, so they aren't read once more to see it.
     Ok(unsafe { String::from_utf8_unchecked(without_last_blank(out)) })
 }
