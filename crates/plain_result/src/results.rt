@@ -77,7 +77,7 @@ fn answer_rows<'t>(
 }
 
 /// The answer of a query that passes all tests.
-fn answered<'t>(
+fn answer_of<'t>(
     alloc: Global,
     tables: &'t [Table],
     query: &Query<'t>,
@@ -97,7 +97,7 @@ pub fn result_on(alloc: Global, tables: &[Table], query: &QueryText) -> Result<O
     ensures { IfOk result (λ outcome. outcome ≡ result_of (query_of query.now) tables.now) }
 {
     match bind(alloc, &TableSlice { tables }, query) {
-        Ok(bound) => answered(alloc, tables, &bound),
+        Ok(bound) => answer_of(alloc, tables, &bound),
         Err(BindFault::Wrong(fault)) => Ok(Outcome::Wrong(fault)),
         Err(BindFault::Memory) => Err(AllocError),
     }

@@ -25,7 +25,7 @@ fn are_joined<V: PlaceValues>(rows: &V, join: &Option<BoundJoin>) -> bool
 }
 
 /// What stands at each of the places.
-fn projected<V: PlaceValues>(
+fn project<V: PlaceValues>(
     alloc: Global,
     rows: &V,
     places: &[Place],
@@ -52,7 +52,7 @@ fn push_answer<V: PlaceValues>(
         ++ answer_at (query_seen query.now) (map conjunct_seen late.now) (V.values rows.now)) }
 {
     if are_joined(rows, &query.join) && all_hold(late, rows) {
-        out.push(projected(alloc, rows, &query.output)?)?;
+        out.push(project(alloc, rows, &query.output)?)?;
     }
     Ok(())
 }

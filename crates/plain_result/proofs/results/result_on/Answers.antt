@@ -7,6 +7,6 @@ use Rattle.plain_result.proofs.results.result_on.Goals as goal
 
 pub returns-in-Ok : goal.returns-in-Ok
 returns-in-Ok c =
-    subst (λ outcome. IfOk c.answered.result (λ o. o ≡ outcome))
+    subst (λ outcome. IfOk c.answer_of.result (λ o. o ≡ outcome))
     (answered (query_of c.args.query.now) c.args.tables.now (query_seen c.in-Ok.bound) c.in-Ok.ensures.fault c.in-Ok.ensures.value)
-    c.answered.ensures
+    c.answer_of.ensures

@@ -1,6 +1,6 @@
 use Rattle.std.proofs.Common.{◌≡◌, map, take}
 use Rattle.query_binding.specs.Sided.{place_seen}
-use Rattle.query_plan.proofs.answers.projected.Given as goal
+use Rattle.query_plan.proofs.answers.project.Given as goal
 
 -- the values at the places so far
 abbrev pub invariant-loop-place : goal.invariant-loop-place
