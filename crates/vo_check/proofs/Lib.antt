@@ -2,3 +2,4 @@ pub mod CellLaws
 pub mod LeafLaws
 pub mod Judged
 pub mod Unread
+pub mod Accepted

@@ -2,6 +2,7 @@
 ghost use Rattle.std.specs.Prelude.{◌≡◌, ◌⊎◌, IfOk, OnErr, Err};
 ghost use Rattle.vo_spec.specs.Conditions.{query_of};
 ghost use Rattle.vo_spec.specs.Checks.{CheckOf};
+ghost use Rattle.vo_check.specs.Accepting.{IsSignedReply};
 
 use crate::judging::judge;
 use crate::reading::read_within;
@@ -42,6 +43,8 @@ impl Client {
         reply: &[u8],
     ) -> Result<Answer, CheckFault>
         ensures answers { (result ≡ Err CheckFault.Memory) ⊎ CheckOf self.old.key self.old.least (query_of query.now) reply.now result }
+        ensures accepted { IfOk result (λ answer.
+            IsSignedReply self.old.key self.old.least reply.now answer.version) }
         ensures least { IfOk result (λ answer. self.new.least ≡ answer.version) }
         ensures key { self.new.key ≡ self.old.key }
         ensures kept { OnErr result (self.new ≡ self.old) }

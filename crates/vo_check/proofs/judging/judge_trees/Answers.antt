@@ -1,7 +1,7 @@
-use Rattle.std.proofs.Common.{◌≡◌, ◌≤◌, List, length, ap, sym, subst}
+use Rattle.std.proofs.Common.{◌≤◌, length, sym, subst}
 use Rattle.vo_spec.specs.Batches.{most_columns}
 use Rattle.vo_spec.specs.Conditions.{query_of}
-use Rattle.vo_spec.specs.Results.{Side, schema_at}
+use Rattle.vo_spec.specs.Results.{schema_at}
 use Rattle.query_plan.specs.BoundQueries.{BoundQuery}
 use Rattle.query_plan.specs.Plans.{plan_of}
 use Rattle.query_plan.proofs.Narrow.{sides_narrow}
