@@ -21,7 +21,7 @@ pub leaves_told : (secret : Secret) → leaf_count (public_of_secret secret) ≡
 unfolding public_of_secret
 leaves_told secret = leaf_count-public_bytes secret.lms secret.ots secret.id (tree_node secret 1)
 
-some_leaf : (lms : LmsType) → 0 < leaves_of lms
+pub some_leaf : (lms : LmsType) → 0 < leaves_of lms
 some_leaf H5 = lit< tt
 some_leaf H10 = lit< tt
 some_leaf H15 = lit< tt

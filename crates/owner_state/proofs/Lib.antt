@@ -9,3 +9,4 @@ pub mod WorkTurns
 pub mod EntrySteps
 pub mod SealSteps
 pub mod FirstVersion
+pub mod SealedJournals

@@ -4,6 +4,7 @@ ghost use Rattle.vo_spec.specs.LmsSets.{leaves_of};
 ghost use Rattle.vo_spec.specs.Secret.{public_of_secret};
 ghost use Rattle.vo_spec.specs.Journals.{journal_bytes, slot};
 ghost use Rattle.vo_spec.specs.Honest.{sealed};
+ghost use Rattle.vo_spec.specs.Owners.{IsLoaded, IsOwned};
 ghost use Rattle.owner_state.specs.Standing.{entry_on};
 ghost use Rattle.owner_state.specs.Sealing.{commands_of, seal_fault, FitEach};
 
@@ -38,15 +39,21 @@ impl From<AllocError> for SealFault {
     }
 }
 
-/// The journal of these batches, a version for each, behind version 0, which has no commands.
+/// The journal of these batches, a version for each, behind version 0, which has no commands: a journal of
+/// the key's owner, and one that a store of the key takes.
 pub fn seal(alloc: Global, key: &SecretKey, batches: List<Batch>) -> Result<Vec<u8>, SealFault>
     requires { FitEach batches }
     ensures journal { IfOk result (λ journal. journal.items ≡ journal_bytes (sealed key.now (commands_of batches))) }
+    ensures owned { IfOk result (λ journal.
+        IsOwned (public_of_secret key.now) journal.items (sealed key.now (commands_of batches))) }
+    ensures loaded { IfOk result (λ journal.
+        IsLoaded (public_of_secret key.now) journal.items (sealed key.now (commands_of batches))) }
     ensures sealed { IfOk result (λ _. seal_fault (leaves_of key.now.lms) ([] ∷ []) (commands_of batches) ≡ None) }
     ensures fault { IfErr result (λ fault. fault ≢ SealFault.Memory
         → seal_fault (leaves_of key.now.lms) ([] ∷ []) (commands_of batches) ≡ Some fault) }
 {
-    match seal_each(alloc, key, batches) {
+    let public = key.public();
+    match seal_each(alloc, key, &public, batches) {
         Ok(mut journal) => {
             journal.extend_from_slice(&[0])?;
             Ok(journal)
@@ -55,19 +62,24 @@ pub fn seal(alloc: Global, key: &SecretKey, batches: List<Batch>) -> Result<Vec<
     }
 }
 
-fn seal_each(alloc: Global, key: &SecretKey, batches: List<Batch>) -> Result<Vec<u8>, SealFault>
-    requires { FitEach batches }
+fn seal_each(
+    alloc: Global,
+    key: &SecretKey,
+    public: &PublicKey,
+    batches: List<Batch>,
+) -> Result<Vec<u8>, SealFault>
+    requires fits { FitEach batches }
+    requires public { public.now ≡ public_of_secret key.now }
     ensures slots { IfOk result (λ slots. slots.items ≡ flat_map slot (sealed key.now (commands_of batches))) }
     ensures sealed { IfOk result (λ _. seal_fault (leaves_of key.now.lms) ([] ∷ []) (commands_of batches) ≡ None) }
     ensures fault { IfErr result (λ fault. fault ≢ SealFault.Memory
         → seal_fault (leaves_of key.now.lms) ([] ∷ []) (commands_of batches) ≡ Some fault) }
 {
-    let public = key.public();
-    let mut sealed = seal_first(alloc, key, &public)?;
+    let mut sealed = seal_first(alloc, key, public)?;
     let mut version = 0;
     for batch in batches.into_vec() {
         version += 1;
-        match seal_next(alloc, key, &public, version, sealed, batch) {
+        match seal_next(alloc, key, public, version, sealed, batch) {
             Ok(next) => sealed = next,
             Err(fault) => return Err(fault),
         }

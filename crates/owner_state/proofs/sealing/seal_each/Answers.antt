@@ -21,7 +21,7 @@ seal_next-requires-clause-proofs c =
     let items = c.into_vec-batch-items.ensures in
     let road = YieldsList-from_vec {s = c.into_iter-batch-iterator.result} c.args.batches (gives.0 ∙ items) (gives.1 ∙ c.into_vec-batch-items.result.ok.0 ∙ ap (λ (bs : List Batch). length bs) items) in
     let turn = YieldsList-turn road c.loop-batch.yielded c.loop-batch.batch-iterator c.loop-batch.yielded_by c.next.result c.next.new.self c.in-Some.batch c.in-Some.is c.next.ensures.steps in
-    (ready (commands_of c.args.batches) c.loop-batch.version c.in-Some.batch.commands c.loop-batch.sealed.tables (each_fits c.args.batches c.requires)
+    (ready (commands_of c.args.batches) c.loop-batch.version c.in-Some.batch.commands c.loop-batch.sealed.tables (each_fits c.args.batches c.requires.fits)
     (next_is c.args.batches c.loop-batch.version (length c.loop-batch.yielded) c.in-Some.batch c.loop-batch.invariant.counted turn) c.loop-batch.invariant.sealed.trees).proofs
 
 pub loop-batch-preserved : goal.loop-batch-preserved
@@ -36,7 +36,7 @@ loop-batch-preserved c =
       finite = tt;
       counted = omega (arith, length-append c.loop-batch.yielded (c.in-Some.batch ∷ []));
       sealed = next_sealed c.args.key.now (commands_of c.args.batches) c.loop-batch.version c.in-Some.batch.commands c.loop-batch.sealed c.in-Ok.next
-          (each_fits c.args.batches c.requires) c.loop-batch.invariant.sealed
+          (each_fits c.args.batches c.requires.fits) c.loop-batch.invariant.sealed
           (next_is c.args.batches c.loop-batch.version (length c.loop-batch.yielded) c.in-Some.batch counted turn) c.in-Ok.ensures;
     }
 
@@ -47,7 +47,7 @@ returns-in-Err-clause-fault c =
     let road = YieldsList-from_vec {s = c.into_iter-batch-iterator.result} c.args.batches (gives.0 ∙ items) (gives.1 ∙ c.into_vec-batch-items.result.ok.0 ∙ ap (λ (bs : List Batch). length bs) items) in
     let turn = YieldsList-turn road c.loop-batch.yielded c.loop-batch.batch-iterator c.loop-batch.yielded_by c.next.result c.next.new.self c.in-Some.batch c.in-Some.is c.next.ensures.steps in
     λ known. not_sealed c.args.key.now (commands_of c.args.batches) c.loop-batch.version c.in-Some.batch.commands c.loop-batch.sealed c.in-Err.fault
-    (each_fits c.args.batches c.requires) c.loop-batch.invariant.sealed
+    (each_fits c.args.batches c.requires.fits) c.loop-batch.invariant.sealed
     (next_is c.args.batches c.loop-batch.version (length c.loop-batch.yielded) c.in-Some.batch c.loop-batch.invariant.counted turn) c.in-Err.ensures known
 
 pub returns-clause-sealed : goal.returns-clause-sealed

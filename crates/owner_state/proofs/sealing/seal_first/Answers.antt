@@ -1,4 +1,4 @@
-use Rattle.std.proofs.Common.{[], List, refl, sym, subst}
+use Rattle.std.proofs.Common.{[], List, sym, subst}
 use Rattle.vo_spec.specs.declared.tables.Command.{Command}
 use Rattle.vo_spec.specs.Batches.{FitsBatch}
 use Rattle.vo_spec.specs.Replies.{FitsProofs}

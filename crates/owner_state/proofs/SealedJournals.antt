@@ -1,0 +1,67 @@
+-- What is sealed: a journal of the key's owner, and one that a store takes.
+use Rattle.std.proofs.Common.{◌≡◌, ℕ, ◌+◌, ◌<◌, Bool, true, false, cond, leb, List, [], ◌∷◌, ◌++◌, length, Option, Some, None, Result, Ok, Err, refl, subst, inl, inr, arith}
+use Rattle.std.specs.Prelude.{IsOk, IsTrue}
+use Rattle.std.specs.List.{AllByRecursion}
+use Rattle.std.proofs.lemmas.Bool.Decides.{leb_tells}
+use Rattle.std.proofs.lemmas.List.{length-append}
+use Rattle.vo_spec.specs.declared.tables.Command.{Command}
+use Rattle.vo_spec.specs.declared.tables.CommandFault.{CommandFault}
+use Rattle.vo_spec.specs.declared.tables.Table.{Table}
+use Rattle.vo_spec.specs.Batches.{FitsBatch}
+use Rattle.vo_spec.specs.Tables.{apply_batch, tables_after}
+use Rattle.vo_spec.specs.LmsSets.{leaves_of}
+use Rattle.vo_spec.specs.Lms.{leaf_of, lms_valid}
+use Rattle.vo_spec.specs.Secret.{Secret, public_of_secret, lms_signature}
+use Rattle.vo_laws.specs.Sealing.{AreAcceptedAfter, SignsValidly}
+use Rattle.vo_laws.proofs.StepLaws.{no_tables_before}
+use Rattle.round_trips.specs.Trips.{AreSealable}
+use Rattle.owner_state.specs.declared.sealing.SealFault.{SealFault}
+use Rattle.owner_state.specs.declared.sealing.SealFault.TheVariants.{KeySpent}
+use Rattle.owner_state.specs.Sealing.{or_later, seal_fault}
+use Rattle.owner_state.proofs.FirstVersion.{some_leaf}
+
+-- Batches that no fault keeps from being sealed.
+
+passes : (spent : Bool) (r : Result (List Table) (ℕ × CommandFault)) (later : Option SealFault) → cond spent (Some KeySpent) (or_later r later) ≡ None
+    → (spent ≡ false) × IsOk r × (later ≡ None)
+passes true r later e = absurd (cc)
+passes false (Ok tables) later e = (refl, refl, e)
+passes false (Err refused) later e = absurd (cc)
+
+leaf_left : (leaves version : ℕ) → leb leaves version ≡ false → version < leaves
+leaf_left leaves version e =
+    elim (leb_tells leaves version) [
+      | inl t ↦ let yes : leb leaves version ≡ true = t.0 in absurd (cc)
+      | inr t ↦ t.1
+    ]
+
+pub no_fault : (leaves : ℕ) (earlier batches : List (List Command)) → length earlier < leaves → seal_fault leaves ([] ∷ earlier) batches ≡ None
+    → AreAcceptedAfter earlier batches × (length earlier + length batches < leaves)
+unfolding seal_fault
+no_fault leaves earlier [] there e = (tt, omega arith)
+no_fault leaves earlier (batch ∷ batches) there e =
+    let p = passes (leb leaves (length ([] ∷ earlier))) (apply_batch batch (tables_after ([] ∷ earlier))) (seal_fault leaves ([] ∷ earlier ++ batch ∷ []) batches) e in
+    let next : length ([] ∷ earlier) < leaves = leaf_left leaves (length ([] ∷ earlier)) p.0 in
+    let long : length (earlier ++ batch ∷ []) ≡ length earlier + 1 = length-append earlier (batch ∷ []) in
+    let rest = no_fault leaves (earlier ++ batch ∷ []) batches (omega arith) p.2 in (
+      (subst (λ (ts : List Table). IsOk (apply_batch batch ts)) (no_tables_before earlier) p.1, rest.0),
+      omega (arith, rest.1, long),
+    )
+
+-- A key that signs validly.
+
+-- it does by what its public key tells
+pub signs_validly : (secret : Secret) (key : List ℕ) → key ≡ public_of_secret secret
+    → ((q : ℕ) (message : List ℕ) → q < leaves_of secret.lms → IsTrue (lms_valid key message (lms_signature secret q message)))
+    → ((q : ℕ) (message : List ℕ) → q < leaves_of secret.lms → leaf_of key (lms_signature secret q message) ≡ Some q)
+    → SignsValidly secret
+signs_validly secret key e valid by = λ q message leaf.
+    subst (λ (k : List ℕ). IsTrue (lms_valid k message (lms_signature secret q message)) × (leaf_of k (lms_signature secret q message) ≡ Some q)) e
+    (valid q message leaf, by q message leaf)
+
+-- what `seal` has sealed may be sealed
+pub sealable : (secret : Secret) (batches : List (List Command)) → SignsValidly secret → AllByRecursion FitsBatch batches
+    → seal_fault (leaves_of secret.lms) ([] ∷ []) batches ≡ None → AreSealable secret batches
+sealable secret batches signs fit e =
+    let n = no_fault (leaves_of secret.lms) [] batches (some_leaf secret.lms) e in
+    record { signs = signs; fit = fit; accepted = n.0; few = omega (arith, n.1) }
