@@ -110,7 +110,7 @@ is_journal bytes (e ∷ es) rest s (inl short) =
     absurd (omega (arith, ap length (s.1 ∙ append_assoc (slot e) (flat_map slot es) rest), length-append (slot e) (flat_map slot es ++ rest), slot_long e, short))
 is_journal bytes (e ∷ es) rest s (inr shut) = (s.0, rest, shut, s.1)
 
-journal_stops : (bytes : List ℕ) (es : List Entry) → IsJournal bytes es → (rest : List ℕ) × StopsAt bytes es rest × EndsClosed bytes rest
+pub journal_stops : (bytes : List ℕ) (es : List Entry) → IsJournal bytes es → (rest : List ℕ) × StopsAt bytes es rest × EndsClosed bytes rest
 journal_stops bytes [] (inl short) = (bytes, (tt, refl, short_stops bytes short), inl short)
 journal_stops bytes [] (inr shut) = (bytes, (tt, refl, closed_stops bytes shut), inr shut)
 journal_stops bytes (e ∷ es) j = (j.1, (j.0, j.3, closed_stops j.1 j.2), inr j.2)

@@ -24,7 +24,7 @@ front bytes es n b =
     ∙ ap (λ (t : List ℕ). t ++ b.1) (flat_map-append slot (take n es) (drop n es))
     ∙ append_assoc (flat_map slot (take n es)) (flat_map slot (drop n es)) b.1
 
-begins_front : (bytes : List ℕ) (es : List Entry) (n : ℕ) → Begins bytes es → Begins bytes (take n es)
+pub begins_front : (bytes : List ℕ) (es : List Entry) (n : ℕ) → Begins bytes es → Begins bytes (take n es)
 begins_front bytes es n b = (each_taken FitsEntry n es b.0, flat_map slot (drop n es) ++ b.1, front bytes es n b)
 
 -- behind fewer entries the next gate is open
