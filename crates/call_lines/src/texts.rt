@@ -22,7 +22,12 @@ pub fn answer(
     }
 }
 
-fn answer_call(alloc: Global, tables: &mut Tables, call: TextCall, text: &str) -> io::Result<String> {
+fn answer_call(
+    alloc: Global,
+    tables: &mut Tables,
+    call: TextCall,
+    text: &str,
+) -> io::Result<String> {
     match call {
         TextCall::Query => read_query(alloc, text),
         TextCall::Batch => read_batch(alloc, text),

@@ -42,7 +42,8 @@ impl SecretKey {
     // The bytes with the path from a leaf to the root behind them.
     fn put_path(&self, mut bytes: Vec<u8>, q: u32) -> Result<Vec<u8>, AllocError>
         requires { q < leaves_of self.now.lms }
-        ensures { IfOk result (λ put. put.items ≡ bytes.items ++ joined (path_node self.now q) (height_of self.now.lms)) }
+        ensures { IfOk result (λ put. put.items ≡ bytes.items
+            ++ joined (path_node self.now q) (height_of self.now.lms)) }
     {
         let r = (1 << self.lms.height()) + q;
         for level in 0..self.lms.height() {
@@ -54,7 +55,8 @@ impl SecretKey {
     // The signature of the message by a leaf that the key has.
     fn sign_by_leaf(&self, alloc: Global, q: u32, message: &[u8]) -> Result<Vec<u8>, AllocError>
         requires { q < leaves_of self.now.lms }
-        ensures { IfOk result (λ signature. signature.items ≡ lms_signature self.now q message.now) }
+        ensures { IfOk result (λ signature. signature.items
+            ≡ lms_signature self.now q message.now) }
     {
         let len = 8 + self.ots.signature_len() + 32 * self.lms.height() as usize;
         let mut signature = Vec::with_capacity(alloc, len)?;
@@ -68,10 +70,15 @@ impl SecretKey {
     /// here keeps a leaf from signing two messages.
     pub fn sign(&self, alloc: Global, q: u64, message: &[u8]) -> Result<Vec<u8>, SignFault>
         ensures leaf { (result ≡ Err SignFault.Leaf) ↔ (leaves_of self.now.lms ≤ q) }
-        ensures bytes { IfOk result (λ signature. signature.items ≡ lms_signature self.now q message.now) }
-        ensures valid { IfOk result (λ signature. IsTrue (lms_valid (public_of_secret self.now) message.now signature.items)) }
-        ensures by { IfOk result (λ signature. leaf_of (public_of_secret self.now) signature.items ≡ Some q) }
-        ensures len { IfOk result (λ signature. length signature.items ≡ key_signature_len (public_of_secret self.now)) }
+        ensures bytes { IfOk result
+            (λ signature. signature.items ≡ lms_signature self.now q message.now) }
+        ensures valid { IfOk result
+            (λ signature. IsTrue (lms_valid
+            (public_of_secret self.now) message.now signature.items)) }
+        ensures by { IfOk result (λ signature. leaf_of (public_of_secret self.now) signature.items
+            ≡ Some q) }
+        ensures len { IfOk result (λ signature. length signature.items
+            ≡ key_signature_len (public_of_secret self.now)) }
     {
         if q >= 1 << self.lms.height() {
             return Err(SignFault::Leaf);

@@ -67,7 +67,8 @@ fn candidate_root(
 ) -> Option<Digest>
     requires { IsTrue (is_lms_form lms ots signature.now) }
     ensures form { is_some result ≡ is_ots_form ots (ots_part ots signature.now) }
-    ensures value { IfSome result (λ root. root ≡ lms_candidate lms ots id.now message.now signature.now) }
+    ensures value { IfSome result (λ root. root
+        ≡ lms_candidate lms ots id.now message.now signature.now) }
 {
     let q = u32_at(signature, 0);
     let Some(key) = candidate(id, q, ots, message, ots_part(ots, signature)) else {

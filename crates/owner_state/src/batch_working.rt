@@ -31,7 +31,8 @@ pub(crate) fn worked(
     requires fits { FitsBatch commands.now }
     requires proofs { FitsProofs (honest_proofs commands.now tables) }
     ensures answer { BatchGives (λ worked. worked.tables) result (work_from 0 commands.now tables) }
-    ensures proofs { IfOk result (λ worked. worked.proofs.items ≡ proofs_bytes (honest_proofs commands.now tables)) }
+    ensures proofs { IfOk result (λ worked. worked.proofs.items
+        ≡ proofs_bytes (honest_proofs commands.now tables)) }
 {
     let mut proofs = Vec::new(alloc);
     begin_proofs(&mut proofs, proof_count(commands))?;
@@ -62,8 +63,10 @@ fn worked_in_turn(
     requires fits { AllByRecursion FitsCommand commands.now }
     requires count { length commands.now ≤ 1000 }
     requires trees { AllByRecursion FitsTree (honest_proofs commands.now before.tables) }
-    ensures answer { BatchGives (λ worked. worked.tables) result (work_from 0 commands.now before.tables) }
-    ensures proofs { IfOk result (λ worked. worked.proofs.items ≡ before.proofs.items ++ flat_map tree_bytes (honest_proofs commands.now before.tables)) }
+    ensures answer { BatchGives (λ worked. worked.tables) result
+        (work_from 0 commands.now before.tables) }
+    ensures proofs { IfOk result (λ worked. worked.proofs.items ≡ before.proofs.items
+        ++ flat_map tree_bytes (honest_proofs commands.now before.tables)) }
 {
     let AfterBatch {
         mut tables,
@@ -93,7 +96,8 @@ fn put_proof(
     command: &Command,
 ) -> Result<(), AllocError>
     requires { AllByRecursion FitsTree (command_proof command.now tables.now) }
-    ensures { OnOk result (out.new.items ≡ out.old.items ++ flat_map tree_bytes (command_proof command.now tables.now)) }
+    ensures { OnOk result (out.new.items ≡ out.old.items
+        ++ flat_map tree_bytes (command_proof command.now tables.now)) }
 {
     match tables.command_proof(alloc, command)? {
         Some(tree) => put_tree(out, &tree),

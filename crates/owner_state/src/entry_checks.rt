@@ -21,7 +21,8 @@ pub(crate) fn recorded(
     tables: StoredTables,
     entry: &Entry,
 ) -> Result<Option<StoredTables>, AllocError>
-    ensures { IfOk result (λ after. GoesOn (IsRecorded key.now version tables entry.now) tables after) }
+    ensures { IfOk result (λ after.
+        GoesOn (IsRecorded key.now version tables entry.now) tables after) }
 {
     if is_recorded(alloc, key, version, &tables, entry)? {
         Ok(Some(tables))
@@ -39,7 +40,9 @@ pub(crate) fn taken_on(
     entry: &Entry,
 ) -> Result<Option<StoredTables>, AllocError>
     requires { FitsBatch entry.now.batch.commands }
-    ensures { IfOk result (λ after. GoesOn (IsTakenOn key.now version tables entry.now) (after_work tables entry.now.batch.commands) after) }
+    ensures { IfOk result (λ after.
+        GoesOn (IsTakenOn key.now version tables entry.now)
+        (after_work tables entry.now.batch.commands) after) }
 {
     match after_batch(alloc, tables, &entry.batch)? {
         Some(after) => recorded(alloc, key, version, after, entry),
@@ -54,7 +57,9 @@ fn after_batch(
     batch: &Batch,
 ) -> Result<Option<StoredTables>, AllocError>
     requires { FitsBatch batch.now.commands }
-    ensures { IfOk result (λ after. GoesOn (IsOk (work_all batch.now.commands tables)) (after_work tables batch.now.commands) after) }
+    ensures { IfOk result (λ after.
+        GoesOn (IsOk (work_all batch.now.commands tables))
+        (after_work tables batch.now.commands) after) }
 {
     match tables.apply_batch(alloc, batch) {
         Ok(()) => Ok(Some(tables)),
@@ -73,7 +78,9 @@ pub(crate) fn honest_on(
 ) -> Result<Option<StoredTables>, AllocError>
     requires fits { FitsBatch entry.now.batch.commands }
     requires proofs { FitsProofs (honest_proofs entry.now.batch.commands tables) }
-    ensures { IfOk result (λ after. GoesOn (IsHonestOn key.now version tables entry.now) (after_work tables entry.now.batch.commands) after) }
+    ensures { IfOk result (λ after.
+        GoesOn (IsHonestOn key.now version tables entry.now)
+        (after_work tables entry.now.batch.commands) after) }
 {
     match proved_on(alloc, tables, entry)? {
         Some(after) => recorded(alloc, key, version, after, entry),
@@ -90,7 +97,9 @@ pub(crate) fn honest_first(
 ) -> Result<Option<StoredTables>, AllocError>
     requires fits { FitsBatch entry.now.batch.commands }
     requires proofs { FitsProofs (honest_proofs entry.now.batch.commands tables) }
-    ensures { IfOk result (λ after. GoesOn ((entry.now.batch.commands ≡ []) × IsHonestOn key.now 0 tables entry.now) (after_work tables entry.now.batch.commands) after) }
+    ensures { IfOk result (λ after.
+        GoesOn ((entry.now.batch.commands ≡ []) × IsHonestOn key.now 0 tables entry.now)
+        (after_work tables entry.now.batch.commands) after) }
 {
     if !entry.batch.commands.is_empty() {
         return Ok(None);
@@ -106,7 +115,8 @@ fn proved_on(
 ) -> Result<Option<StoredTables>, AllocError>
     requires fits { FitsBatch entry.now.batch.commands }
     requires proofs { FitsProofs (honest_proofs entry.now.batch.commands tables) }
-    ensures { IfOk result (λ after. GoesOn (IsProvedOn tables entry.now) (after_work tables entry.now.batch.commands) after) }
+    ensures { IfOk result (λ after.
+        GoesOn (IsProvedOn tables entry.now) (after_work tables entry.now.batch.commands) after) }
 {
     match worked(alloc, tables, entry.batch.commands.as_slice()) {
         Ok(AfterBatch { tables, proofs }) => {

@@ -57,9 +57,12 @@ pub fn read_owned(
     version: u64,
 ) -> Result<OwnedJournal, JournalFault>
     ensures owned { IfOk result (λ read. IsOwned key.now journal.now read.entries) }
-    ensures tables { IfOk result (λ read. IfSome read.tables (λ tables. tables ≡ honest_trees (batches_of (take version (drop 1 read.entries))))) }
+    ensures tables { IfOk result (λ read.
+        IfSome read.tables (λ tables. tables
+        ≡ honest_trees (batches_of (take version (drop 1 read.entries))))) }
     ensures there { IfOk result (λ read. version < length read.entries → IsSome read.tables) }
-    ensures bad { (index : ℕ) → result ≡ Err (JournalFault.BadAt index) → IsBadAt key.now journal.now index }
+    ensures bad { (index : ℕ) → result ≡ Err (JournalFault.BadAt index)
+        → IsBadAt key.now journal.now index }
 {
     let slots = read_slots(alloc, journal)?;
     match walk_owned(alloc, key, slots.entries.as_slice(), version) {
@@ -81,8 +84,10 @@ pub fn read_taken(
     journal: &[u8],
 ) -> Result<TakenJournal, JournalFault>
     ensures taken { IfOk result (λ read. IsLoaded key.now journal.now read.entries) }
-    ensures tables { IfOk result (λ read. read.tables ≡ honest_trees (batches_of (drop 1 read.entries))) }
-    ensures bad { (index : ℕ) → result ≡ Err (JournalFault.BadAt index) → IsUnloadedAt key.now journal.now index }
+    ensures tables { IfOk result (λ read. read.tables
+        ≡ honest_trees (batches_of (drop 1 read.entries))) }
+    ensures bad { (index : ℕ) → result ≡ Err (JournalFault.BadAt index)
+        → IsUnloadedAt key.now journal.now index }
 {
     let slots = read_slots(alloc, journal)?;
     match walk_taken(alloc, key, slots.entries.as_slice()) {

@@ -68,7 +68,8 @@ fn signed(
 ) -> Result<Entry, AllocError>
     requires public { public.now ≡ public_of_secret key.now }
     requires leaf { version < leaves_of key.now.lms }
-    ensures value { IfOk result (λ entry. entry ≡ signed_entry key.now version tables.now batch.commands proofs.items) }
+    ensures value { IfOk result (λ entry. entry
+        ≡ signed_entry key.now version tables.now batch.commands proofs.items) }
     ensures rec { IfOk result (λ entry. FitsRecord entry.rec) }
     ensures signature { IfOk result (λ entry. length entry.signature ≤ most_signature) }
 {

@@ -46,7 +46,8 @@ pub(crate) fn is_recorded(
     tables: &StoredTables,
     entry: &Entry,
 ) -> Result<bool, AllocError>
-    ensures { IfOk result (λ recorded. IsTrue recorded ↔ IsRecorded key.now version tables.now entry.now) }
+    ensures { IfOk result (λ recorded. IsTrue recorded
+        ↔ IsRecorded key.now version tables.now entry.now) }
 {
     if !is_signed(key, entry) {
         return Ok(false);

@@ -43,12 +43,14 @@ impl From<AllocError> for SealFault {
 /// the key's owner, and one that a store of the key takes.
 pub fn seal(alloc: Global, key: &SecretKey, batches: List<Batch>) -> Result<Vec<u8>, SealFault>
     requires { FitEach batches }
-    ensures journal { IfOk result (λ journal. journal.items ≡ journal_bytes (sealed key.now (commands_of batches))) }
+    ensures journal { IfOk result (λ journal. journal.items
+        ≡ journal_bytes (sealed key.now (commands_of batches))) }
     ensures owned { IfOk result (λ journal.
         IsOwned (public_of_secret key.now) journal.items (sealed key.now (commands_of batches))) }
     ensures loaded { IfOk result (λ journal.
         IsLoaded (public_of_secret key.now) journal.items (sealed key.now (commands_of batches))) }
-    ensures sealed { IfOk result (λ _. seal_fault (leaves_of key.now.lms) ([] ∷ []) (commands_of batches) ≡ None) }
+    ensures sealed { IfOk result (λ _.
+        seal_fault (leaves_of key.now.lms) ([] ∷ []) (commands_of batches) ≡ None) }
     ensures fault { IfErr result (λ fault. fault ≢ SealFault.Memory
         → seal_fault (leaves_of key.now.lms) ([] ∷ []) (commands_of batches) ≡ Some fault) }
 {
@@ -70,8 +72,10 @@ fn seal_each(
 ) -> Result<Vec<u8>, SealFault>
     requires fits { FitEach batches }
     requires public { public.now ≡ public_of_secret key.now }
-    ensures slots { IfOk result (λ slots. slots.items ≡ flat_map slot (sealed key.now (commands_of batches))) }
-    ensures sealed { IfOk result (λ _. seal_fault (leaves_of key.now.lms) ([] ∷ []) (commands_of batches) ≡ None) }
+    ensures slots { IfOk result (λ slots. slots.items
+        ≡ flat_map slot (sealed key.now (commands_of batches))) }
+    ensures sealed { IfOk result (λ _.
+        seal_fault (leaves_of key.now.lms) ([] ∷ []) (commands_of batches) ≡ None) }
     ensures fault { IfErr result (λ fault. fault ≢ SealFault.Memory
         → seal_fault (leaves_of key.now.lms) ([] ∷ []) (commands_of batches) ≡ Some fault) }
 {

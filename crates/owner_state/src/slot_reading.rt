@@ -40,7 +40,8 @@ pub fn read_slots(alloc: Global, bytes: &[u8]) -> Result<Slots, AllocError>
 
     // Whatever entries can be read from the front are the first of these.
     ensures only { (es : List Plain) → Begins bytes.now es →
-        IfOk result (λ slots. (es ≡ take (length es) slots.entries) × (length es ≤ length slots.entries)) }
+        IfOk result (λ slots. (es ≡ take (length es) slots.entries)
+        × (length es ≤ length slots.entries)) }
 {
     let front = read_front(alloc, bytes)?;
     let ending = ending_at(bytes, front.rest);

@@ -21,8 +21,10 @@ pub(crate) fn walk_taken(
 ) -> Result<StoredTables, JournalFault>
     requires { AllByRecursion FitsEntry entries.now }
     ensures taken { IfOk result (λ _. AreTaken key.now entries.now) }
-    ensures tables { IfOk result (λ tables. tables ≡ honest_trees (batches_of (drop 1 entries.now))) }
-    ensures bad { (index : ℕ) → result ≡ Err (JournalFault.BadAt index) → StopsAt (AreTaken key.now) entries.now index }
+    ensures tables { IfOk result (λ tables. tables
+        ≡ honest_trees (batches_of (drop 1 entries.now))) }
+    ensures bad { (index : ℕ) → result ≡ Err (JournalFault.BadAt index)
+        → StopsAt (AreTaken key.now) entries.now index }
 {
     let mut tables = StoredTables::new(alloc);
     for (index, entry) in entries.iter().enumerate() {
@@ -49,7 +51,9 @@ fn taken_behind(
     requires fits { FitsEntry entry.now }
     requires taken { AreTaken key.now earlier.now }
     requires tables { tables ≡ honest_trees (batches_of (drop 1 earlier.now)) }
-    ensures { IfOk result (λ after. GoesOn (AreTaken key.now (earlier.now ++ entry.now ∷ [])) (honest_trees (batches_of (drop 1 (earlier.now ++ entry.now ∷ [])))) after) }
+    ensures { IfOk result (λ after.
+        GoesOn (AreTaken key.now (earlier.now ++ entry.now ∷ []))
+        (honest_trees (batches_of (drop 1 (earlier.now ++ entry.now ∷ [])))) after) }
 {
     if earlier.is_empty() {
         recorded(alloc, key, 0, tables, entry)
@@ -67,9 +71,12 @@ pub(crate) fn walk_owned(
 ) -> Result<Option<StoredTables>, JournalFault>
     requires { AllByRecursion FitsEntry entries.now }
     ensures owned { IfOk result (λ _. AreOwned key.now entries.now) }
-    ensures tables { IfOk result (λ kept. IfSome kept (λ tables. tables ≡ honest_trees (batches_of (take version (drop 1 entries.now))))) }
+    ensures tables { IfOk result (λ kept.
+        IfSome kept (λ tables. tables
+        ≡ honest_trees (batches_of (take version (drop 1 entries.now))))) }
     ensures there { IfOk result (λ kept. version < length entries.now → IsSome kept) }
-    ensures bad { (index : ℕ) → result ≡ Err (JournalFault.BadAt index) → StopsAt (AreOwned key.now) entries.now index }
+    ensures bad { (index : ℕ) → result ≡ Err (JournalFault.BadAt index)
+        → StopsAt (AreOwned key.now) entries.now index }
 {
     let mut tables = StoredTables::new(alloc);
     let mut kept = None;
@@ -100,7 +107,9 @@ fn owned_behind(
     requires fits { FitsEntry entry.now }
     requires owned { AreOwned key.now earlier.now }
     requires tables { tables ≡ honest_trees (batches_of earlier.now) }
-    ensures { IfOk result (λ after. GoesOn (AreOwned key.now (earlier.now ++ entry.now ∷ [])) (honest_trees (batches_of (earlier.now ++ entry.now ∷ []))) after) }
+    ensures { IfOk result (λ after.
+        GoesOn (AreOwned key.now (earlier.now ++ entry.now ∷ []))
+        (honest_trees (batches_of (earlier.now ++ entry.now ∷ []))) after) }
 {
     if earlier.is_empty() {
         honest_first(alloc, key, tables, entry)

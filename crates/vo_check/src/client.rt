@@ -42,7 +42,8 @@ impl Client {
         query: &QueryText,
         reply: &[u8],
     ) -> Result<Answer, CheckFault>
-        ensures answers { (result ≡ Err CheckFault.Memory) ⊎ CheckOf self.old.key self.old.least (query_of query.now) reply.now result }
+        ensures answers { (result ≡ Err CheckFault.Memory)
+            ⊎ CheckOf self.old.key self.old.least (query_of query.now) reply.now result }
         ensures accepted { IfOk result (λ answer.
             IsSignedReply self.old.key self.old.least reply.now answer.version) }
         ensures least { IfOk result (λ answer. self.new.least ≡ answer.version) }

@@ -28,7 +28,8 @@ use vo_spec::{Answer, CheckFault, Outcome, QueryFault, QueryText, ScanFault};
 
 /// The rows that the trees show, which have all that the query needs and nothing else.
 fn judge_needs(alloc: Global, plan: &Plan<'_, '_>, reply: &Reply<'_>) -> Result<Outcome, CheckFault>
-    requires { length (tables_used (sides_seen plan.now.query.now.sides)) ≡ length reply.now.trees.items }
+    requires { length (tables_used (sides_seen plan.now.query.now.sides))
+        ≡ length reply.now.trees.items }
     ensures { let p = plan_seen plan.now in let r = reply_of reply.now in
         Gives result (needs_fault (needed_for p r)) (shown_for p r) }
 {
@@ -117,7 +118,8 @@ fn answer_of(
 ) -> Result<Answer, CheckFault>
     requires { FitsReply (reply_of reply.now) }
     ensures { let q = query_of query.now in let r = reply_of reply.now in
-        Gives result (reply_fault key.now least q r) (record { version = r.rec.version; outcome = seen_outcome q r.catalog r.trees }) }
+        Gives result (reply_fault key.now least q r)
+        (record { version = r.rec.version; outcome = seen_outcome q r.catalog r.trees }) }
 {
     if let Some(fault) = record_fault(key, least, reply) {
         return Err(fault);
@@ -146,7 +148,8 @@ pub fn judge(
     reply: &Reply<'_>,
 ) -> Result<Answer, CheckFault>
     requires { FitsReply (reply_of reply.now) }
-    ensures { (result ≡ Err CheckFault.Memory) ⊎ (result ≡ answer_to key.now least (query_of query.now) (reply_of reply.now)) }
+    ensures { (result ≡ Err CheckFault.Memory)
+        ⊎ (result ≡ answer_to key.now least (query_of query.now) (reply_of reply.now)) }
 {
     answer_of(alloc, key, least, query, reply)
 }

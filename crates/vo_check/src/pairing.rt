@@ -11,7 +11,8 @@ use vo_format::Reply;
 use vo_spec::{CatalogTable, Name};
 
 fn table_named<'r>(tables: &'r [CatalogTable], name: &Name) -> Option<&'r CatalogTable>
-    ensures { option_map (λ t. t.now) result ≡ table_named name.now (record { tables = tables.now }) }
+    ensures { option_map (λ t. t.now) result
+        ≡ table_named name.now (record { tables = tables.now }) }
 {
     for table in tables {
         if table.name.as_bytes() == name.as_bytes() {
@@ -28,7 +29,8 @@ pub(crate) fn pair_trees<'r, 'b>(
     reply: &'r Reply<'b>,
 ) -> Result<Vec<TableTree<'r, 'b>>, AllocError>
     requires { length names.now ≡ length reply.now.trees.items }
-    ensures pairs { IfOk result (λ pairs. map tree_seen pairs.items ≡ paired (map lent_name names.now) (reply_of reply.now)) }
+    ensures pairs { IfOk result (λ pairs. map tree_seen pairs.items
+        ≡ paired (map lent_name names.now) (reply_of reply.now)) }
     ensures trees { IfOk result (λ pairs. map tree_in pairs.items ≡ trees_of reply.now.trees) }
 {
     let tables = reply.catalog.tables.as_slice();

@@ -42,7 +42,8 @@ fn needs_by_proof(
     proof: &PartTree<'_>,
 ) -> Result<Vec<Need>, AllocError>
     requires shown { seen plan.now.left_need (part_of proof.now) ≡ None → ⊥ }
-    ensures { IfOk result (λ needs. needs.items ≡ needs_of (plan_seen plan.now) (lefts_seen (plan_seen plan.now) (part_of proof.now))) }
+    ensures { IfOk result (λ needs. needs.items
+        ≡ needs_of (plan_seen plan.now) (lefts_seen (plan_seen plan.now) (part_of proof.now))) }
 {
     match right_needs(alloc, plan, proof) {
         Ok(needs) => Ok(needs),
@@ -78,7 +79,8 @@ fn two_proofs<'t>(
     left: PartTree<'t>,
     right: PartTree<'t>,
 ) -> Result<Vec<PartTree<'t>>, AllocError>
-    ensures { IfOk result (λ proofs. trees_of proofs ≡ part_of left.entry ∷ part_of right.entry ∷ []) }
+    ensures { IfOk result (λ proofs. trees_of proofs ≡ part_of left.entry ∷ part_of right.entry
+        ∷ []) }
 {
     let mut proofs = Vec::new(alloc);
     proofs.push(left)?;
@@ -93,7 +95,8 @@ fn proofs_of_both<'t>(
     left: &Need,
     rights: Vec<Need>,
 ) -> Result<Vec<PartTree<'t>>, AllocError>
-    ensures { IfOk result (λ proofs. trees_of proofs ≡ pruned (left.now ∷ rights.items) tree.now ∷ []) }
+    ensures { IfOk result (λ proofs. trees_of proofs ≡ pruned (left.now ∷ rights.items) tree.now
+        ∷ []) }
 {
     let proof = proof_of_both(alloc, tree, left, rights)?;
     one_proof(alloc, proof)
@@ -106,7 +109,8 @@ fn proofs_of_each<'t>(
     tree: &'t Tree,
     rights: &[Need],
 ) -> Result<Vec<PartTree<'t>>, AllocError>
-    ensures { IfOk result (λ proofs. trees_of proofs ≡ part_of left.entry ∷ pruned rights.now tree.now ∷ []) }
+    ensures { IfOk result (λ proofs. trees_of proofs ≡ part_of left.entry
+        ∷ pruned rights.now tree.now ∷ []) }
 {
     let right = prune(alloc, tree, rights)?;
     two_proofs(alloc, left, right)
@@ -145,7 +149,8 @@ fn plan_proofs<'t>(
     plan: &Plan<'_, '_>,
 ) -> Result<Vec<PartTree<'t>>, AllocError>
     requires tables { HasTables tables.now (sides_seen plan.now.query.now.sides) }
-    requires shown { seen plan.now.left_need (left_proof (plan_seen plan.now) tables.now) ≡ None → ⊥ }
+    requires shown { seen plan.now.left_need (left_proof (plan_seen plan.now) tables.now) ≡ None
+        → ⊥ }
     ensures { IfOk result (λ trees. trees_of trees ≡ plan_proofs (plan_seen plan.now) tables.now) }
 {
     let query = plan.query;
@@ -166,8 +171,10 @@ fn bound_proofs<'t>(
     requires tables { HasTables tables.now (sides_seen query.now.sides) }
     requires left { length (schema_at (sides_seen query.now.sides) 0).columns ≤ most_columns }
     requires right { length (schema_at (sides_seen query.now.sides) 1).columns ≤ most_columns }
-    requires shown { let p = plan_of (query_seen query.now) in seen p.left_need (left_proof p tables.now) ≡ None → ⊥ }
-    ensures { IfOk result (λ trees. trees_of trees ≡ plan_proofs (plan_of (query_seen query.now)) tables.now) }
+    requires shown { let p = plan_of (query_seen query.now) in seen p.left_need
+        (left_proof p tables.now) ≡ None → ⊥ }
+    ensures { IfOk result (λ trees. trees_of trees
+        ≡ plan_proofs (plan_of (query_seen query.now)) tables.now) }
 {
     let plan = plan(alloc, query)?;
     plan_proofs(alloc, tables, &plan)

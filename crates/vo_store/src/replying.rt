@@ -31,7 +31,8 @@ fn reply_to<'t>(
     query: &QueryText,
 ) -> Result<Reply<'t>, AllocError>
     requires { IsTaken taken.now.entries taken.now.tables }
-    ensures value { IfOk result (λ reply. reply_to (query_of query.now) taken.now.entries ≡ Some (reply_of reply)) }
+    ensures value { IfOk result (λ reply. reply_to (query_of query.now) taken.now.entries
+        ≡ Some (reply_of reply)) }
     ensures fits { IfOk result (λ reply. FitsReply (reply_of reply)) }
 {
     let entry = last(taken.entries.as_slice());
@@ -52,9 +53,12 @@ pub fn reply_by(
     journal: &[u8],
     query: &QueryText,
 ) -> Result<Vec<u8>, ReplyFault>
-    ensures replies { IfOk result (λ bytes. IsReplyBy key journal.now (query_of query.now) bytes.items) }
-    ensures bad { (index : ℕ) → result ≡ Err (ReplyFault.BadJournal index) → IsUnloadedAt key journal.now index }
-    ensures large { (size : ℕ) → result ≡ Err (ReplyFault.TooLarge size) → IsTooLarge key journal.now (query_of query.now) size }
+    ensures replies { IfOk result (λ bytes.
+        IsReplyBy key journal.now (query_of query.now) bytes.items) }
+    ensures bad { (index : ℕ) → result ≡ Err (ReplyFault.BadJournal index)
+        → IsUnloadedAt key journal.now index }
+    ensures large { (size : ℕ) → result ≡ Err (ReplyFault.TooLarge size)
+        → IsTooLarge key journal.now (query_of query.now) size }
 {
     match read_taken(alloc, &key, journal) {
         Ok(taken) => match reply_to(alloc, &taken, query) {
