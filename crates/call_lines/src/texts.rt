@@ -62,7 +62,7 @@ fn result_of(alloc: Global, tables: &Tables, text: &str) -> io::Result<String> {
 /// The text that the query of a text is printed as.
 fn reprint_query(alloc: Global, text: &str) -> io::Result<String> {
     match parse_query(alloc, text) {
-        Ok(query) => printed(alloc, print_query(alloc, &query)),
+        Ok(query) => Ok(print_query(alloc, &query)?),
         Err(_) => word(alloc, "none"),
     }
 }
@@ -70,15 +70,8 @@ fn reprint_query(alloc: Global, text: &str) -> io::Result<String> {
 /// The text that the batch of a text is printed as.
 fn reprint_batch(alloc: Global, text: &str) -> io::Result<String> {
     match parse_batch(alloc, text) {
-        Ok(batch) => printed(alloc, print_batch(alloc, &batch)),
+        Ok(batch) => Ok(print_batch(alloc, &batch)?),
         Err(_) => word(alloc, "none"),
-    }
-}
-
-fn printed(alloc: Global, text: Result<Vec<u8>, AllocError>) -> io::Result<String> {
-    match String::from_utf8(text?) {
-        Ok(text) => Ok(text),
-        Err(_) => word(alloc, "no text"),
     }
 }
 
