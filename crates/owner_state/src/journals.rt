@@ -61,6 +61,7 @@ pub fn read_owned(
         IfSome read.tables (λ tables. tables
         ≡ honest_trees (batches_of (take version (drop 1 read.entries))))) }
     ensures there { IfOk result (λ read. version < length read.entries → IsSome read.tables) }
+    ensures only { IfOk result (λ read. IsSome read.tables → version < length read.entries) }
     ensures bad { (index : ℕ) → result ≡ Err (JournalFault.BadAt index)
         → IsBadAt key.now journal.now index }
 {

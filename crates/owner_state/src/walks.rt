@@ -75,6 +75,7 @@ pub(crate) fn walk_owned(
         IfSome kept (λ tables. tables
         ≡ honest_trees (batches_of (take version (drop 1 entries.now))))) }
     ensures there { IfOk result (λ kept. version < length entries.now → IsSome kept) }
+    ensures only { IfOk result (λ kept. IsSome kept → version < length entries.now) }
     ensures bad { (index : ℕ) → result ≡ Err (JournalFault.BadAt index)
         → StopsAt (AreOwned key.now) entries.now index }
 {

@@ -7,7 +7,7 @@ use Rattle.owner_state.proofs.walks.walk_owned.Goals as goal
 
 pub loop-index-init : goal.loop-index-init
 unfolding AreOwned honest_trees
-loop-index-init c = record { owned = tt; trees = c.new-tables.ensures; kept = tt; there = λ below. absurd (omega (arith, below)) }
+loop-index-init c = record { owned = tt; trees = c.new-tables.ensures; kept = tt; there = λ below. absurd (omega (arith, below)); only = λ none. absurd (cc) }
 
 pub returns-clause-tables : goal.returns-clause-tables
 returns-clause-tables c =

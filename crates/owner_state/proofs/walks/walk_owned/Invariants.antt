@@ -12,4 +12,5 @@ invariant-loop-index l = record {
   trees : l.tables ≡ honest_trees (batches_of (take l.index l.entries));
   kept : IfSome l.kept (λ tables. tables ≡ honest_trees (batches_of (take (l.version + 1) l.entries)));
   there : l.version < l.index → IsSome l.kept;
+  only : IsSome l.kept → l.version < l.index;
 }
