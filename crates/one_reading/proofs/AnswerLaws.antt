@@ -38,16 +38,16 @@ checked secret batches least q r answer all numbers honest recent =
 
 -- An audit.
 
-abbrev answered : Answer → Result Answer CheckFault
-answered answer = Ok answer
+abbrev answer_of : Answer → Result Answer CheckFault
+answer_of answer = Ok answer
 
-abbrev refused : CheckFault → Result Answer CheckFault
-refused fault = Err fault
+abbrev refusal_of : CheckFault → Result Answer CheckFault
+refusal_of fault = Err fault
 
-never_refused : (fault : CheckFault) (answer : Answer) → refused fault ≡ answered answer → ⊥
+never_refused : (fault : CheckFault) (answer : Answer) → refusal_of fault ≡ answer_of answer → ⊥
 never_refused fault answer e = absurd (cc)
 
-same_answer : (a b : Answer) → answered a ≡ answered b → a ≡ b
+same_answer : (a b : Answer) → answer_of a ≡ answer_of b → a ≡ b
 same_answer a b e = cc
 
 pub audited : (secret : Secret) (batches later : List (List Command)) (q : Query) (r : Reply) (verdict : Result Verdict AuditFault)
