@@ -6,7 +6,7 @@ ghost use Rattle.vo_spec.specs.declared.values.Value.TheVariants.{Int, Text};
 ghost use Rattle.vo_spec.specs.Lent.{value_of};
 ghost use Rattle.vo_spec.specs.Values.{value_bytes, FitsValue};
 ghost use Rattle.vo_spec.specs.Cells.{cell_digest as cell_digest_of, row_bytes, row_digest as row_digest_of, whole_row};
-ghost use Rattle.vo_spec.specs.Fits.{FitsCell, FitsCells, FitsRowPart, most_cells};
+ghost use Rattle.vo_spec.specs.Fits.{FitsCell, FitsCells, FitsRowPart, max_cells};
 ghost use Rattle.attr_digest.specs.Adding.{Adds};
 
 use tagged_hash::Hasher;
@@ -78,7 +78,7 @@ pub fn whole_row_digest(values: &[Value]) -> Digest
 
 #[tactic(auto, using(crate::proofs::Digests::cell_digests_more))]
 fn cells_digest(cells: &[Cell<'_>]) -> Digest
-    requires count { length cells.now ≤ most_cells }
+    requires count { length cells.now ≤ max_cells }
     requires fits { All FitsCell cells.now }
     ensures { result ≡ sha256 (row_bytes cells.now) }
 {

@@ -11,12 +11,12 @@ use Rattle.vo_spec.specs.declared.tables.Column.{Column}
 use Rattle.vo_spec.specs.Bytes.{IsBytes, short_string}
 use Rattle.vo_spec.specs.Names.{is_name, FitsName}
 use Rattle.vo_spec.specs.Values.{type_byte, value_bytes, FitsValue}
-use Rattle.vo_spec.specs.Batches.{counted, column_bytes, FitCounted, FitsColumn, most_columns}
+use Rattle.vo_spec.specs.Batches.{counted, column_bytes, FitCounted, FitsColumn, max_columns}
 use Rattle.row_bytes.specs.declared.fault.FormFault.{FormFault}
 use Rattle.row_bytes.specs.Reading.{byte_at, bytes_at, value_at}
 use Rattle.row_bytes.specs.Fields.{◌>>=◌, where_true, short_string_at, name_at, kind_of_byte, kind_at, column_at, count_at, times}
 use Rattle.row_bytes.proofs.Readers.{IsBytes-rest, IsBytes-drop, IsBytes-after, chosen}
-use Rattle.row_bytes.proofs.ValueLaws.{value_spells, value_read}
+use Rattle.row_bytes.proofs.ValueLaws.{value_encodes, value_read}
 use Rattle.batch_format.specs.BatchReading.{Reader, any_value_at}
 
 -- what was in front, and what is behind it
@@ -24,9 +24,9 @@ pub record Took (bytes text rest : List ℕ) : Type 0 where
   pub parts : bytes ≡ text ++ rest
   pub behind : IsBytes rest
 
-pub record IsReader {A : Type 0} (read : Reader A) (spelling : A → List ℕ) (Fits : A → Type 0) : Type 0 where
-  pub found : (bytes : List ℕ) (x : A) (rest : List ℕ) → IsBytes bytes → read bytes ≡ Some (x, rest) → Took bytes (spelling x) rest × Fits x
-  pub again : (x : A) (rest : List ℕ) → Fits x → read (spelling x ++ rest) ≡ Some (x, rest)
+pub record IsReader {A : Type 0} (read : Reader A) (encoding : A → List ℕ) (Fits : A → Type 0) : Type 0 where
+  pub found : (bytes : List ℕ) (x : A) (rest : List ℕ) → IsBytes bytes → read bytes ≡ Some (x, rest) → Took bytes (encoding x) rest × Fits x
+  pub again : (x : A) (rest : List ℕ) → Fits x → read (encoding x ++ rest) ≡ Some (x, rest)
 
 -- Steps.
 
@@ -92,8 +92,8 @@ names_read = record { found = name_found; again = name_again }
 
 -- Kinds and columns.
 
-kind_spelled : (byte : ℕ) (k : Kind) → kind_of_byte byte ≡ Some k → byte ≡ type_byte k
-kind_spelled byte k e =
+kind_encoded : (byte : ℕ) (k : Kind) → kind_of_byte byte ≡ Some k → byte ≡ type_byte k
+kind_encoded byte k e =
     elim (chosen (eqb byte 1) (Some kind.Int) _ (Some k) e) [
       | inl a ↦ eqb-true byte 1 a.0 ∙ ap type_byte (some_is kind.Int k a.1)
       | inr a ↦ elim (chosen (eqb byte 2) (Some kind.Text) _ (Some k) a.1) [
@@ -117,7 +117,7 @@ kind_found (byte ∷ bytes) k rest fits e =
     let b = bound (kind_of_byte byte) (λ k. Some (k, bytes)) (k, rest) e in
     let is : (b.0, bytes) ≡ (k, rest) = some_is (b.0, bytes) (k, rest) b.2 in
     subst (λ (p : Kind × List ℕ). Took (byte ∷ bytes) (type_byte p.0 ∷ []) p.1) is
-    (record { parts = ap (λ (n : ℕ). n ∷ bytes) (kind_spelled byte b.0 b.1); behind = IsBytes-rest byte bytes fits })
+    (record { parts = ap (λ (n : ℕ). n ∷ bytes) (kind_encoded byte b.0 b.1); behind = IsBytes-rest byte bytes fits })
 
 kind_again : (k : Kind) (rest : List ℕ) → kind_at (type_byte k ∷ [] ++ rest) ≡ Some (k, rest)
 unfolding kind_at byte_at
@@ -152,7 +152,7 @@ result_some (Err fault) x e = absurd cc
 any_value_found : (bytes : List ℕ) (v : Value) (rest : List ℕ) → IsBytes bytes → any_value_at bytes ≡ Some (v, rest) → Took bytes (value_bytes v) rest × FitsValue v
 unfolding any_value_at
 any_value_found bytes v rest fits e =
-    let s = value_spells bytes v rest fits (result_some (value_at bytes) (v, rest) e) in
+    let s = value_encodes bytes v rest fits (result_some (value_at bytes) (v, rest) e) in
     (record { parts = s.parts; behind = IsBytes-after (value_bytes v) rest bytes s.parts fits }, s.fits)
 
 any_value_again : (v : Value) (rest : List ℕ) → FitsValue v → any_value_at (value_bytes v ++ rest) ≡ Some (v, rest)
@@ -164,11 +164,11 @@ values_read = record { found = any_value_found; again = any_value_again }
 
 -- So many in a row.
 
-module _ {A : Type 0} (read : Reader A) (spelling : A → List ℕ) (Fits : A → Type 0) (law : IsReader read spelling Fits) where
+module _ {A : Type 0} (read : Reader A) (encoding : A → List ℕ) (Fits : A → Type 0) (law : IsReader read encoding Fits) where
   pub times_found : (count : ℕ) (bytes : List ℕ) (xs : List A) (rest : List ℕ) → IsBytes bytes → times read count bytes ≡ Some (xs, rest)
-      → Took bytes (flat_map spelling xs) rest × (length xs ≡ count) × AllByRecursion Fits xs
+      → Took bytes (flat_map encoding xs) rest × (length xs ≡ count) × AllByRecursion Fits xs
   times_found zero bytes xs rest fits e =
-      subst (λ (p : List A × List ℕ). Took bytes (flat_map spelling p.0) p.1 × (length p.0 ≡ 0) × AllByRecursion Fits p.0) (some_is ([], bytes) (xs, rest) e)
+      subst (λ (p : List A × List ℕ). Took bytes (flat_map encoding p.0) p.1 × (length p.0 ≡ 0) × AllByRecursion Fits p.0) (some_is ([], bytes) (xs, rest) e)
       (record { parts = refl; behind = fits }, refl, tt)
   times_found (suc count) bytes xs rest fits e =
       let a = bound (read bytes) (λ first. times read count first.1 >>= λ others. Some (first.0 ∷ others.0, others.1)) (xs, rest) e in
@@ -176,48 +176,48 @@ module _ {A : Type 0} (read : Reader A) (spelling : A → List ℕ) (Fits : A �
       let first = law.found bytes a.0.0 a.0.1 fits a.1 in
       let others = times_found count a.0.1 b.0.0 b.0.1 first.0.behind b.1 in
       let made : List A × List ℕ = (a.0.0 ∷ b.0.0, b.0.1) in
-      subst (λ (p : List A × List ℕ). Took bytes (flat_map spelling p.0) p.1 × (length p.0 ≡ suc count) × AllByRecursion Fits p.0) (some_is made (xs, rest) b.2)
-      (took_then bytes (spelling a.0.0) a.0.1 (flat_map spelling b.0.0) b.0.1 first.0 others.0, ap suc others.1, (first.1, others.2))
+      subst (λ (p : List A × List ℕ). Took bytes (flat_map encoding p.0) p.1 × (length p.0 ≡ suc count) × AllByRecursion Fits p.0) (some_is made (xs, rest) b.2)
+      (took_then bytes (encoding a.0.0) a.0.1 (flat_map encoding b.0.0) b.0.1 first.0 others.0, ap suc others.1, (first.1, others.2))
 
-  pub times_again : (xs : List A) (rest : List ℕ) → AllByRecursion Fits xs → times read (length xs) (flat_map spelling xs ++ rest) ≡ Some (xs, rest)
+  pub times_again : (xs : List A) (rest : List ℕ) → AllByRecursion Fits xs → times read (length xs) (flat_map encoding xs ++ rest) ≡ Some (xs, rest)
   times_again [] rest fits = refl
   times_again (x ∷ xs) rest fits =
-      ap (times read (suc (length xs))) (append_assoc (spelling x) (flat_map spelling xs) rest)
-      ∙ rw (law.again x (flat_map spelling xs ++ rest) fits.0, times_again xs rest fits.1) refl
+      ap (times read (suc (length xs))) (append_assoc (encoding x) (flat_map encoding xs) rest)
+      ∙ rw (law.again x (flat_map encoding xs ++ rest) fits.0, times_again xs rest fits.1) refl
 
   -- behind a byte that says how many
   abbrev pub many_at : Reader (List A)
   many_at bytes = count_at bytes >>= λ count. times read count.0 count.1
 
-  many_found : (bytes : List ℕ) (xs : List A) (rest : List ℕ) → IsBytes bytes → many_at bytes ≡ Some (xs, rest) → Took bytes (counted spelling xs) rest × FitCounted Fits xs
+  many_found : (bytes : List ℕ) (xs : List A) (rest : List ℕ) → IsBytes bytes → many_at bytes ≡ Some (xs, rest) → Took bytes (counted encoding xs) rest × FitCounted Fits xs
   unfolding count_at byte_at
   many_found [] xs rest fits e = absurd cc
   many_found (count ∷ bytes) xs rest fits e =
-      let a = bound (where_true (leb 1 count && leb count most_columns) (count, bytes)) (λ count. times read count.0 count.1) (xs, rest) e in
-      let t = tested (leb 1 count && leb count most_columns) (count, bytes) a.0 a.1 in
-      let both = all_true (leb 1 count) (leb count most_columns) t.0 in
+      let a = bound (where_true (leb 1 count && leb count max_columns) (count, bytes)) (λ count. times read count.0 count.1) (xs, rest) e in
+      let t = tested (leb 1 count && leb count max_columns) (count, bytes) a.0 a.1 in
+      let both = all_true (leb 1 count) (leb count max_columns) t.0 in
       let is : times read count bytes ≡ Some (xs, rest) = ap (λ (p : ℕ × List ℕ). times read p.0 p.1) t.1 ∙ a.2 in
       let f = times_found count bytes xs rest (IsBytes-rest count bytes fits) is in
       let low : 1 ≤ length xs = omega (arith, leb-true 1 count both.0, f.1) in
-      let high : length xs ≤ most_columns = omega (arith, leb-true count most_columns both.1, f.1) in
+      let high : length xs ≤ max_columns = omega (arith, leb-true count max_columns both.1, f.1) in
       (record { parts = ap (λ (n : ℕ). n ∷ bytes) (sym f.1) ∙ ap (λ (t : List ℕ). length xs ∷ t) f.0.parts; behind = f.0.behind }, (low, high, f.2))
 
-  many_again : (xs : List A) (rest : List ℕ) → FitCounted Fits xs → many_at (counted spelling xs ++ rest) ≡ Some (xs, rest)
+  many_again : (xs : List A) (rest : List ℕ) → FitCounted Fits xs → many_at (counted encoding xs ++ rest) ≡ Some (xs, rest)
   unfolding count_at byte_at
-  many_again xs rest fits = rw (le-leb 1 (length xs) fits.0, le-leb (length xs) most_columns fits.1, times_again xs rest fits.2) refl
+  many_again xs rest fits = rw (le-leb 1 (length xs) fits.0, le-leb (length xs) max_columns fits.1, times_again xs rest fits.2) refl
 
-  pub many_read : IsReader many_at (counted spelling) (FitCounted Fits)
+  pub many_read : IsReader many_at (counted encoding) (FitCounted Fits)
   many_read = record { found = many_found; again = many_again }
 
 -- Things in turn.
 
-pub next_found : {A B : Type 0} {read : Reader A} {spelling : A → List ℕ} {Fits : A → Type 0} → IsReader read spelling Fits → (next : A → Reader B) (bytes : List ℕ) (y : B × List ℕ) → IsBytes bytes
-    → (read bytes >>= λ x. next x.0 x.1) ≡ Some y → (x : A) × (rest : List ℕ) × Took bytes (spelling x) rest × Fits x × (next x rest ≡ Some y)
+pub next_found : {A B : Type 0} {read : Reader A} {encoding : A → List ℕ} {Fits : A → Type 0} → IsReader read encoding Fits → (next : A → Reader B) (bytes : List ℕ) (y : B × List ℕ) → IsBytes bytes
+    → (read bytes >>= λ x. next x.0 x.1) ≡ Some y → (x : A) × (rest : List ℕ) × Took bytes (encoding x) rest × Fits x × (next x rest ≡ Some y)
 next_found {read = read} law next bytes y fits e =
     let b = bound (read bytes) (λ x. next x.0 x.1) y e in
     let f = law.found bytes b.0.0 b.0.1 fits b.1 in
     (b.0.0, b.0.1, f.0, f.1, b.2)
 
-pub next_again : {A B : Type 0} {read : Reader A} {spelling : A → List ℕ} {Fits : A → Type 0} → IsReader read spelling Fits → (next : A → Reader B) (x : A) (rest : List ℕ) → Fits x
-    → (read (spelling x ++ rest) >>= λ x. next x.0 x.1) ≡ next x rest
+pub next_again : {A B : Type 0} {read : Reader A} {encoding : A → List ℕ} {Fits : A → Type 0} → IsReader read encoding Fits → (next : A → Reader B) (x : A) (rest : List ℕ) → Fits x
+    → (read (encoding x ++ rest) >>= λ x. next x.0 x.1) ≡ next x rest
 next_again law next x rest fits = rw (law.again x rest fits) refl

@@ -6,7 +6,7 @@ use Rattle.vo_spec.specs.declared.tables.Batch.{Batch}
 use Rattle.vo_spec.specs.declared.tables.SetPart.{SetPart}
 use Rattle.vo_spec.specs.declared.tables.Command.{Command}
 use Rattle.vo_spec.specs.declared.tables.Command.TheVariants.{Create, Drop, Insert, Update, Delete}
-use Rattle.vo_spec.specs.Batches.{most_commands, most_batch_bytes}
+use Rattle.vo_spec.specs.Batches.{max_commands, max_batch_bytes}
 use Rattle.row_bytes.specs.declared.read_fault.ReadFault.{ReadFault}
 use Rattle.row_bytes.specs.declared.read_fault.ReadFault.TheVariants.{BadForm, Memory}
 use Rattle.row_bytes.specs.Reading.{u16_at, value_at}
@@ -26,7 +26,8 @@ two make a b bytes = a bytes >>= λ x. one (make x.0) b x.1
 abbrev pub three : {A B C X : Type 0} → (A → B → C → X) → Reader A → Reader B → Reader C → Reader X
 three make a b c bytes = a bytes >>= λ x. two (make x.0) b c x.1
 
-abbrev pub four : {A B C D X : Type 0} → (A → B → C → D → X) → Reader A → Reader B → Reader C → Reader D → Reader X
+abbrev pub four : {A B C D X : Type 0} → (A → B → C → D → X) → Reader A → Reader B → Reader C
+    → Reader D → Reader X
 four make a b c d bytes = a bytes >>= λ x. three (make x.0) b c d x.1
 
 unfoldable pub any_value_at : Reader Value
@@ -73,11 +74,12 @@ command_at (byte ∷ bytes) =
     else None
 
 unfoldable pub commands_at : Reader (List Command)
-commands_at bytes = u16_at bytes >>= λ count. if nat_le count.0 most_commands then times command_at count.0 count.1 else None
+commands_at bytes = u16_at bytes >>= λ count. if nat_le count.0 max_commands
+    then times command_at count.0 count.1 else None
 
 -- the batch that all the bytes are
 unfoldable pub batch_of : List ℕ → Option (List Command)
-batch_of bytes = if nat_le (length bytes) most_batch_bytes then whole (commands_at bytes) else None
+batch_of bytes = if nat_le (length bytes) max_batch_bytes then whole (commands_at bytes) else None
 
 -- a call gives what is read, or says that nothing is, unless memory ran out
 abbrev pub BatchRead : Result Batch ReadFault → Option (List Command) → Type 0

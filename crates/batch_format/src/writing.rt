@@ -2,7 +2,7 @@
 ghost use Rattle.std.specs.Prelude.{◌≡◌, ◌++◌, ◌≤◌, length, IfOk, OnOk};
 ghost use Rattle.std.specs.List.{AllByRecursion};
 ghost use Rattle.vo_spec.specs.Values.{value_bytes, FitsValue};
-ghost use Rattle.vo_spec.specs.Batches.{counted, set_bytes, command_bytes, batch_bytes, FitCounted, FitsSet, FitsCommand, most_commands};
+ghost use Rattle.vo_spec.specs.Batches.{counted, set_bytes, command_bytes, batch_bytes, FitCounted, FitsSet, FitsCommand, max_commands};
 
 use crate::columns::{put_columns, put_name};
 use row_bytes::put_value;
@@ -88,7 +88,7 @@ fn put_command(out: &mut Vec<u8>, command: &Command) -> Result<(), AllocError>
 /// The batch's bytes, be they within the limit of a batch or not.
 #[tactic(auto, unfolding(vo_spec::specs::Batches::batch_bytes))]
 pub fn batch_bytes(alloc: Global, batch: &Batch) -> Result<Vec<u8>, AllocError>
-    requires count { length batch.now.commands ≤ most_commands }
+    requires count { length batch.now.commands ≤ max_commands }
     requires each { AllByRecursion FitsCommand batch.now.commands }
     ensures { IfOk result (λ bytes. bytes.items ≡ batch_bytes batch.now.commands) }
 {

@@ -4,11 +4,11 @@ use Rattle.vo_spec.specs.declared.trees.UpdateFault.{UpdateFault}
 use Rattle.vo_spec.specs.declared.trees.UpdateFault.TheVariants.{DuplicateKey, NoRow, Missing, Memory}
 use Rattle.vo_spec.specs.Firsts.{and_then}
 use Rattle.vo_spec.specs.Inserts.{result_map}
-use Rattle.btree.specs.Agreeing.{Agrees}
+use Rattle.btree.specs.Agreeing.{AgreesWithTree}
 
 pub agrees_then : {A B : Type 0} (R : A → A → Type 0) (S : B → B → Type 0) (f g : A → Result B UpdateFault)
-    (r s : Result A UpdateFault) → ((x y : A) → R x y → Agrees S (f x) (g y))
-    → Agrees R r s → Agrees S (and_then f r) (and_then g s)
+    (r s : Result A UpdateFault) → ((x y : A) → R x y → AgreesWithTree S (f x) (g y))
+    → AgreesWithTree R r s → AgreesWithTree S (and_then f r) (and_then g s)
 agrees_then R S f g (Ok x) (Ok y) on h = on x y h
 agrees_then R S f g (Ok x) (Err other) on h = absurd h
 agrees_then R S f g (Err DuplicateKey) (Ok y) on h = absurd h
@@ -21,7 +21,7 @@ agrees_then R S f g (Err Memory) (Err other) on h = h
 
 pub agrees_map : {A B : Type 0} (R : A → A → Type 0) (S : B → B → Type 0) (f g : A → B)
     (r s : Result A UpdateFault) → ((x y : A) → R x y → S (f x) (g y))
-    → Agrees R r s → Agrees S (result_map f r) (result_map g s)
+    → AgreesWithTree R r s → AgreesWithTree S (result_map f r) (result_map g s)
 agrees_map R S f g (Ok x) (Ok y) on h = on x y h
 agrees_map R S f g (Ok x) (Err other) on h = absurd h
 agrees_map R S f g (Err DuplicateKey) (Ok y) on h = absurd h
@@ -33,12 +33,12 @@ agrees_map R S f g (Err Memory) (Ok y) on h = absurd h
 agrees_map R S f g (Err Memory) (Err other) on h = h
 
 pub agrees_cond : {A : Type 0} (R : A → A → Type 0) (b : Bool) (w x y z : Result A UpdateFault)
-    → Agrees R w y → Agrees R x z → Agrees R (cond b w x) (cond b y z)
+    → AgreesWithTree R w y → AgreesWithTree R x z → AgreesWithTree R (cond b w x) (cond b y z)
 agrees_cond R true w x y z h g = h
 agrees_cond R false w x y z h g = g
 
 pub agrees_weaker : {A : Type 0} (R S : A → A → Type 0) (r s : Result A UpdateFault)
-    → ((x y : A) → R x y → S x y) → Agrees R r s → Agrees S r s
+    → ((x y : A) → R x y → S x y) → AgreesWithTree R r s → AgreesWithTree S r s
 agrees_weaker R S (Ok x) (Ok y) on h = on x y h
 agrees_weaker R S (Ok x) (Err other) on h = absurd h
 agrees_weaker R S (Err DuplicateKey) (Ok y) on h = absurd h

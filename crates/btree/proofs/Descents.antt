@@ -4,7 +4,7 @@ use Rattle.std.specs.List.{position_or_len}
 use Rattle.vo_spec.specs.declared.trees.UpdateFault.{UpdateFault}
 use Rattle.vo_spec.specs.Values.{key_lt}
 use Rattle.vo_spec.specs.Parts.{Part, Parts, inner, more, Family}
-use Rattle.vo_spec.specs.Inserts.{Grown, one, two, result_map, after_child, put_grown, split_inner, grow, grow_in}
+use Rattle.vo_spec.specs.Inserts.{Insertion, one, two, result_map, after_child, put_insertion, split_inner, grow, grow_in}
 use Rattle.vo_spec.specs.Removes.{edited_by, edited_in}
 use Rattle.btree.specs.Nodes.{Kid, parts_from, new_kid}
 use Rattle.btree.specs.Placing.{splice, split, node_of}
@@ -19,11 +19,11 @@ map_same f g (Ok a) e = ap Ok (e a)
 map_same f g (Err fault) e = refl
 
 module _ {E M : Type 0} (family : Family E M) where
-  pub put_first : (ss : List (List ℕ)) (k : Kid E M) (ks : List (Kid E M)) (g : Grown E M) → put_grown family ss (parts_from ks) g ≡ splice family 0 0 ss (k ∷ ks) g
+  pub put_first : (ss : List (List ℕ)) (k : Kid E M) (ks : List (Kid E M)) (g : Insertion E M) → put_insertion family ss (parts_from ks) g ≡ splice family 0 0 ss (k ∷ ks) g
   put_first ss k ks (one t) = refl
   put_first ss k ks (two left key right) = refl
 
-  pub spliced_next : (i j : ℕ) (s : List ℕ) (ss : List (List ℕ)) (k : Kid E M) (ks : List (Kid E M)) (g : Grown E M)
+  pub spliced_next : (i j : ℕ) (s : List ℕ) (ss : List (List ℕ)) (k : Kid E M) (ks : List (Kid E M)) (g : Insertion E M)
       → after_child k.0 k.1 (s ∷ ss) (splice family i j ss ks g) ≡ splice family (suc i) (suc j) (s ∷ ss) (k ∷ ks) g
   spliced_next i j s ss k ks g = rw (add-one j, add-one (suc j)) refl
 
@@ -31,10 +31,10 @@ module _ {E M : Type 0} (family : Family E M) where
   grow_step : (b : Bool) (i j : ℕ) (e : E) (s : List ℕ) (ss : List (List ℕ)) (k : Kid E M) (ks : List (Kid E M)) (c : Kid E M)
       → j ≡ suc i → c ≡ get_or (k ∷ ks) (cond (not b) j 0) c
       → (c ≡ get_or ks i c → grow_in family e ss (parts_from ks) ≡ result_map (splice family i i ss ks) (grow family e c.1))
-      → cond b (result_map (put_grown family (s ∷ ss) (parts_from ks)) (grow family e k.1)) (result_map (after_child k.0 k.1 (s ∷ ss)) (grow_in family e ss (parts_from ks)))
+      → cond b (result_map (put_insertion family (s ∷ ss) (parts_from ks)) (grow family e k.1)) (result_map (after_child k.0 k.1 (s ∷ ss)) (grow_in family e ss (parts_from ks)))
       ≡ result_map (splice family (cond (not b) j 0) (cond (not b) j 0) (s ∷ ss) (k ∷ ks)) (grow family e c.1)
   grow_step true i j e s ss k ks c next is on =
-      map_same (put_grown family (s ∷ ss) (parts_from ks)) (splice family 0 0 (s ∷ ss) (k ∷ ks)) (grow family e k.1) (put_first (s ∷ ss) k ks)
+      map_same (put_insertion family (s ∷ ss) (parts_from ks)) (splice family 0 0 (s ∷ ss) (k ∷ ks)) (grow family e k.1) (put_first (s ∷ ss) k ks)
       ∙ ap (λ (u : Kid E M). result_map (splice family 0 0 (s ∷ ss) (k ∷ ks)) (grow family e u.1)) (sym is)
   grow_step false i j e s ss k ks c next is on =
       ap (result_map (after_child k.0 k.1 (s ∷ ss))) (on (is ∙ ap (λ n. get_or (k ∷ ks) n c) next))
@@ -46,7 +46,7 @@ module _ {E M : Type 0} (family : Family E M) where
       → grow_in family e ss (parts_from ks) ≡ result_map (splice family (position_or_len (key_lt (family.key e)) ss) (position_or_len (key_lt (family.key e)) ss) ss ks) (grow family e c.1)
   grow_at e [] [] c h is = absurd (omega arith)
   grow_at e [] (k ∷ ks) c h is =
-      map_same (put_grown family [] (parts_from ks)) (splice family 0 0 [] (k ∷ ks)) (grow family e k.1) (put_first [] k ks)
+      map_same (put_insertion family [] (parts_from ks)) (splice family 0 0 [] (k ∷ ks)) (grow family e k.1) (put_first [] k ks)
       ∙ ap (λ (u : Kid E M). result_map (splice family 0 0 [] (k ∷ ks)) (grow family e u.1)) (sym is)
   grow_at e (s ∷ ss) [] c h is = absurd (omega arith)
   grow_at e (s ∷ ss) (k ∷ ks) c h is =
@@ -62,7 +62,7 @@ module _ {E M : Type 0} (family : Family E M) where
         (grow_at e ss ks c between (is ∙ ap (λ n. get_or ks n c) at)
         ∙ ap (λ n. result_map (splice family n n ss ks) (grow family e c.1)) (sym at))
 
-    pub inner_grows : (c : Kid E M) (g : Grown E M) → c ≡ get_or ks place c → grow family e c.1 ≡ Ok g
+    pub inner_grows : (c : Kid E M) (g : Insertion E M) → c ≡ get_or ks place c → grow family e c.1 ≡ Ok g
         → grow family e (inner ss (parts_from ks)) ≡ Ok (split family (node_of (splice family place place ss ks g)))
     inner_grows c g is grows = child_grows c is ∙ ap (λ r. result_map (split_inner family) (result_map (splice family place place ss ks) r)) grows
 
@@ -80,7 +80,7 @@ module _ {E M : Type 0} (family : Family E M) where
 
     edited_step : (b : Bool) (i j : ℕ) (ss : List (List ℕ)) (k : Kid E M) (ks : List (Kid E M)) (c : Kid E M) → j ≡ suc i → cond (not b) j 0 < suc (length ks) → c ≡ get_or (k ∷ ks) (cond (not b) j 0) c
         → (i < length ks → c ≡ get_or ks i c → edited_in family edit key ss (parts_from ks) ≡ result_map (with_kid i ks) (edited_by family edit key c.1))
-        → cond b (result_map (λ q. more (family.mark q) q (parts_from ks)) (edited_by family edit key k.1)) (result_map (more k.0 k.1) (edited_in family edit key ss (parts_from ks)))
+        → cond b (result_map (λ q. more (family.annotation q) q (parts_from ks)) (edited_by family edit key k.1)) (result_map (more k.0 k.1) (edited_in family edit key ss (parts_from ks)))
         ≡ result_map (with_kid (cond (not b) j 0) (k ∷ ks)) (edited_by family edit key c.1)
     edited_step true i j ss k ks c next lt is on = ap (λ (u : Kid E M). result_map (with_kid 0 (k ∷ ks)) (edited_by family edit key u.1)) (sym is)
     edited_step false i j ss k ks c next lt is on =

@@ -4,13 +4,13 @@ use Rattle.std.proofs.lemmas.List.{length-map, take-map, drop-map, map-append, t
 use Rattle.std.specs.declared.vec.Vec.{Vec}
 use Rattle.std.specs.declared.alloc.Global.{Global}
 use Rattle.vo_spec.specs.Parts.{Part, leaf, inner, count, Family}
-use Rattle.vo_spec.specs.Fits.{most_in_node}
-use Rattle.vo_spec.specs.Inserts.{Grown, one, first_key, take_parts, drop_parts}
+use Rattle.vo_spec.specs.Fits.{max_fill}
+use Rattle.vo_spec.specs.Inserts.{Insertion, one, first_key, take_parts, drop_parts}
 use Rattle.btree.specs.declared.node.Contents.{Contents}
 use Rattle.btree.specs.declared.node.Contents.TheVariants.{Inner}
 use Rattle.btree.specs.declared.siblings.Siblings.{Siblings}
 use Rattle.btree.specs.declared.split.Halves.{Halves}
-use Rattle.btree.specs.Nodes.{Kid, parts_from, new_kid, contents_of, HasNodes, IsGrown}
+use Rattle.btree.specs.Nodes.{Kid, parts_from, new_kid, contents_of, HasNodes, IsInsertion}
 use Rattle.btree.specs.Placing.{divide_at, splice, node_of, CanDivide, AreCut}
 use Rattle.btree.specs.Shapes.{size_of, IsLinked, IsWithin}
 use Rattle.btree.proofs.Listed.{count_parts, take_parts_from, drop_parts_from, map_spliced}
@@ -22,7 +22,7 @@ module _ {K F N E M : Type 0} (key : K → List ℕ) (entry : F → E) (kid : N 
   pub filled : (c : Contents K F N) (ss : Vec K Global) (ns : Vec N Global) → c ≡ Inner ss ns → size_of (contents_of key entry kid c) ≡ length ns.items
   filled c ss ns is = rw is (counted ns.items)
 
-  pub inner_within : (least : ℕ) (ss : List K) (ns : List N) → least ≤ length ns → length ns ≤ most_in_node → length ss + 1 ≡ length ns → IsWithin least (inner (map key ss) (parts_from (map kid ns)))
+  pub inner_within : (least : ℕ) (ss : List K) (ns : List N) → least ≤ length ns → length ns ≤ max_fill → length ss + 1 ≡ length ns → IsWithin least (inner (map key ss) (parts_from (map kid ns)))
   inner_within least ss ns few most between =
       let children = counted ns in
       let keys = length-map ss key in
@@ -31,20 +31,20 @@ module _ {K F N E M : Type 0} (key : K → List ℕ) (entry : F → E) (kid : N 
   -- an inner node's contents that can be divided before this place
   pub record Divides (at : ℕ) (ss : List K) (ns : List N) : Type 0 where
     pub within : at + 2 ≤ length ns
-    pub last : length ns ≤ at + most_in_node
+    pub last : length ns ≤ at + max_fill
     pub between : length ss + 1 ≡ length ns
 
   pub divides_inner : (at : ℕ) (c : Contents K F N) (ss : Vec K Global) (ns : Vec N Global) → c ≡ Inner ss ns
-      → IsLinked 2 (contents_of key entry kid c) → CanDivide at (contents_of key entry kid c) → size_of (contents_of key entry kid c) ≤ at + most_in_node → Divides at ss.items ns.items
+      → IsLinked 2 (contents_of key entry kid c) → CanDivide at (contents_of key entry kid c) → size_of (contents_of key entry kid c) ≤ at + max_fill → Divides at ss.items ns.items
   divides_inner at c ss ns is linked can last =
       let children = counted ns.items in
       let keys = length-map ss.items key in
       let P : Contents K F N → Type 0 = λ x. IsLinked 2 (contents_of key entry kid x) in
       let Q : Contents K F N → Type 0 = λ x. CanDivide at (contents_of key entry kid x) in
-      let R : Contents K F N → Type 0 = λ x. size_of (contents_of key entry kid x) ≤ at + most_in_node in
+      let R : Contents K F N → Type 0 = λ x. size_of (contents_of key entry kid x) ≤ at + max_fill in
       let l : IsLinked 2 (contents_of key entry kid (Inner ss ns)) = subst P is linked in
       let d : CanDivide at (contents_of key entry kid (Inner ss ns)) = subst Q is can in
-      let r : count (parts_from (map kid ns.items)) ≤ at + most_in_node = subst R is last in
+      let r : count (parts_from (map kid ns.items)) ≤ at + max_fill = subst R is last in
       let two : at + 2 ≤ count (parts_from (map kid ns.items)) = d.1 in
       let between : length (map key ss.items) + 1 ≡ count (parts_from (map kid ns.items)) = l.1 in
       record { within = omega arith; last = omega arith; between = omega arith }
@@ -57,7 +57,7 @@ module _ {K F N E M : Type 0} (key : K → List ℕ) (entry : F → E) (kid : N 
     pub leaf_divided : (at : ℕ) (es left right : List F) (first : F) (separator : K) (l r : N) (s : Siblings K N)
         → 0 < length right → left ≡ take at es → right ≡ drop at es → first ≡ get_or right 0 first → key separator ≡ family.key (entry first)
         → kid l ≡ new_kid family (leaf (map entry left)) → kid r ≡ new_kid family (leaf (map entry right)) → HasNodes s (separator ∷ []) (l ∷ r ∷ [])
-        → IsGrown family key kid s (divide_at family at (leaf (map entry es)))
+        → IsInsertion family key kid s (divide_at family at (leaf (map entry es)))
     leaf_divided at es left right first separator l r s some is_left is_right is_first is_key is_l is_r has = record {
       keys = ap (map key) has.keys ∙ ap (λ x. x ∷ []) (is_key ∙ sym (ap (first_key family) (drop-map entry at es ∙ ap (map entry) (sym is_right)) ∙ first_is right first some is_first));
       nodes = ap (map kid) has.are
@@ -81,7 +81,7 @@ module _ {K F N E M : Type 0} (key : K → List ℕ) (entry : F → E) (kid : N 
         → kid l ≡ new_kid family (inner (map key h.before.items) (parts_from (map kid h.left.items)))
         → kid r ≡ new_kid family (inner (map key h.after.items) (parts_from (map kid h.right.items)))
         → HasNodes s (h.separator ∷ []) (l ∷ r ∷ [])
-        → IsGrown family key kid s (divide_at family at (inner (map key ss) (parts_from (map kid ns))))
+        → IsInsertion family key kid s (divide_at family at (inner (map key ss) (parts_from (map kid ns))))
     inner_divided at ss ns h l r s some many cut is_l is_r has =
         let keys = length-map ss key in
         let k = keys_cut at (map key ss) (map key h.before.items) (key h.separator) some (omega arith) (take-map key at ss ∙ ap (map key) cut.first_keys ∙ map-append key h.before.items (h.separator ∷ [])) in
@@ -94,11 +94,11 @@ module _ {K F N E M : Type 0} (key : K → List ℕ) (entry : F → E) (kid : N 
         }
 
     -- what has come in the place of some children
-    pub put_parts_from : (from to : ℕ) (ss keys : List K) (ns nodes : List N) (s : Siblings K N) (g : Grown E M)
-        → keys ≡ take from ss ++ s.separators.items ++ drop to ss → nodes ≡ take from ns ++ s.nodes.items ++ drop (to + 1) ns → IsGrown family key kid s g
+    pub put_parts_from : (from to : ℕ) (ss keys : List K) (ns nodes : List N) (s : Siblings K N) (g : Insertion E M)
+        → keys ≡ take from ss ++ s.separators.items ++ drop to ss → nodes ≡ take from ns ++ s.nodes.items ++ drop (to + 1) ns → IsInsertion family key kid s g
         → inner (map key keys) (parts_from (map kid nodes)) ≡ node_of (splice family from to (map key ss) (map kid ns) g)
-    put_parts_from from to ss keys ns nodes s g is_keys is_nodes grown =
-        rw (is_keys, is_nodes, map_spliced key ss s.separators.items from to, map_spliced kid ns s.nodes.items from (to + 1), grown.keys, grown.nodes) refl
+    put_parts_from from to ss keys ns nodes s g is_keys is_nodes insertion =
+        rw (is_keys, is_nodes, map_spliced key ss s.separators.items from to, map_spliced kid ns s.nodes.items from (to + 1), insertion.keys, insertion.nodes) refl
 
-    pub one_grown : (c : Part E M) (n : N) (s : Siblings K N) → kid n ≡ new_kid family c → HasNodes s [] (n ∷ []) → IsGrown family key kid s (one c)
-    one_grown c n s is has = record { keys = ap (map key) has.keys; nodes = ap (map kid) has.are ∙ ap (λ x. x ∷ []) is }
+    pub one_insertion : (c : Part E M) (n : N) (s : Siblings K N) → kid n ≡ new_kid family c → HasNodes s [] (n ∷ []) → IsInsertion family key kid s (one c)
+    one_insertion c n s is has = record { keys = ap (map key) has.keys; nodes = ap (map kid) has.are ∙ ap (λ x. x ∷ []) is }

@@ -53,12 +53,12 @@ module _ {E M : Type 0} (family : Family E M) (edit : E → Result E UpdateFault
   children_step : (b : Bool) (m : M) (p : Part E M) (ss : List (List ℕ)) (ps : Parts E M)
       → edited_by family edit key p ≡ with_edit edit (λ f. edited_by family (λ x. Ok f) key p) (found family key p)
       → edited_in family edit key ss ps ≡ with_edit edit (λ f. edited_in family (λ x. Ok f) key ss ps) (found_in family key ss ps)
-      → cond b (result_map (λ q. more (family.mark q) q ps) (edited_by family edit key p)) (result_map (more m p) (edited_in family edit key ss ps))
-      ≡ with_edit edit (λ f. cond b (result_map (λ q. more (family.mark q) q ps) (edited_by family (λ x. Ok f) key p)) (result_map (more m p) (edited_in family (λ x. Ok f) key ss ps)))
+      → cond b (result_map (λ q. more (family.annotation q) q ps) (edited_by family edit key p)) (result_map (more m p) (edited_in family edit key ss ps))
+      ≡ with_edit edit (λ f. cond b (result_map (λ q. more (family.annotation q) q ps) (edited_by family (λ x. Ok f) key p)) (result_map (more m p) (edited_in family (λ x. Ok f) key ss ps)))
       (cond b (found family key p) (found_in family key ss ps))
   children_step true m p ss ps first rest =
-      ap (result_map (λ q. more (family.mark q) q ps)) first
-      ∙ map_with_edit edit (λ f. edited_by family (λ x. Ok f) key p) (λ q. more (family.mark q) q ps) (found family key p)
+      ap (result_map (λ q. more (family.annotation q) q ps)) first
+      ∙ map_with_edit edit (λ f. edited_by family (λ x. Ok f) key p) (λ q. more (family.annotation q) q ps) (found family key p)
   children_step false m p ss ps first rest =
       ap (result_map (more m p)) rest
       ∙ map_with_edit edit (λ f. edited_in family (λ x. Ok f) key ss ps) (more m p) (found_in family key ss ps)

@@ -7,7 +7,7 @@ use Rattle.vo_spec.specs.declared.trees.UpdateFault.TheVariants.{DuplicateKey}
 use Rattle.vo_spec.specs.Values.{key_lt}
 use Rattle.vo_spec.specs.Parts.{Part, Parts, stub, leaf, inner, none, more, Family, count}
 use Rattle.vo_spec.specs.Fits.{FitsKey, FitsBy, FitsEach}
-use Rattle.vo_spec.specs.Inserts.{Grown, one, two, Children, half, result_map, take_parts, drop_parts, after_child, has_key, put_entry, first_key, split_leaf, split_inner, put_grown, grow, grow_in, root_of, inserted_by}
+use Rattle.vo_spec.specs.Inserts.{Insertion, one, two, Children, min_fill, result_map, take_parts, drop_parts, after_child, has_key, put_entry, first_key, split_leaf, split_inner, put_insertion, grow, grow_in, root_of, inserted_by}
 use Rattle.btree.proofs.OkResults.{ok_same, map_ok, cond_ok}
 
 -- Some of a node's children.
@@ -39,9 +39,9 @@ module _ {E M : Type 0} (FitsE : E → Type 0) where
   drop_fits (suc n) (more m p ps) all = drop_fits n ps all.1
 
   -- what comes in a node's place
-  abbrev pub FitsGrown : Grown E M → Type 0
-  FitsGrown (one t) = FitsBy FitsE t
-  FitsGrown (two left key right) = FitsBy FitsE left × FitsKey key × FitsBy FitsE right
+  abbrev pub FitsInsertion : Insertion E M → Type 0
+  FitsInsertion (one t) = FitsBy FitsE t
+  FitsInsertion (two left key right) = FitsBy FitsE left × FitsKey key × FitsBy FitsE right
 
   -- the separators and children of a node that had so many, of which one has grown
   record FitsChildren (c : Children E M) (n : ℕ) : Type 0 where
@@ -60,11 +60,11 @@ module _ {E M : Type 0} (family : Family E M) (FitsE : E → Type 0) (key_fits :
   first_fits (e ∷ es) all = key_fits e (All-head FitsE e es all)
 
   split_leaf_fits : (es : List E) → length es ≤ 17 → All FitsE es
-      → FitsGrown FitsE (split_leaf family es)
+      → FitsInsertion FitsE (split_leaf family es)
   split_leaf_fits es few all = step (nat_le (length es) 16) refl
     where
       step : (b : Bool) → nat_le (length es) 16 ≡ b
-          → FitsGrown {M = M} FitsE (cond b (one (leaf es)) (two (leaf (take half es)) (first_key family (drop half es)) (leaf (drop half es))))
+          → FitsInsertion {M = M} FitsE (cond b (one (leaf es)) (two (leaf (take min_fill es)) (first_key family (drop min_fill es)) (leaf (drop min_fill es))))
       step true h = (grind (arith, nat_tests), all)
       step false h =
           let many : 16 < length es = grind (arith, nat_tests) in
@@ -96,12 +96,12 @@ module _ {E M : Type 0} (family : Family E M) (FitsE : E → Type 0) (key_fits :
   -- Inner nodes.
 
   split_inner_fits : (c : Children E M) (n : ℕ) → 2 ≤ n → n ≤ 16 → FitsChildren FitsE c n
-      → FitsGrown FitsE (split_inner family c)
+      → FitsInsertion FitsE (split_inner family c)
   split_inner_fits c n least most fits = step (nat_le (count c.parts) 16) refl
     where
       step : (b : Bool) → nat_le (count c.parts) 16 ≡ b
-          → FitsGrown FitsE (cond b (one (inner c.separators c.parts))
-          (two (inner (take 7 c.separators) (take_parts half c.parts)) (get_or c.separators 7 []) (inner (drop half c.separators) (drop_parts half c.parts))))
+          → FitsInsertion FitsE (cond b (one (inner c.separators c.parts))
+          (two (inner (take 7 c.separators) (take_parts min_fill c.parts)) (get_or c.separators 7 []) (inner (drop min_fill c.separators) (drop_parts min_fill c.parts))))
       step true h = (omega (arith, fits.least), grind (arith, nat_tests), fits.between, fits.keys, fits.parts)
       step false h =
           let many : 16 < count c.parts = grind (arith, nat_tests) in
@@ -116,13 +116,13 @@ module _ {E M : Type 0} (family : Family E M) (FitsE : E → Type 0) (key_fits :
             (omega arith, omega arith, omega arith, All-drop FitsKey 8 c.separators fits.keys, drop_fits FitsE 8 c.parts fits.parts),
           )
 
-  put_grown_fits : (ss : List (List ℕ)) (ps : Parts E M) (g : Grown E M) → length ss ≡ count ps
+  put_insertion_fits : (ss : List (List ℕ)) (ps : Parts E M) (g : Insertion E M) → length ss ≡ count ps
       → All FitsKey ss
-      → FitsEach FitsE ps → FitsGrown FitsE g
-      → FitsChildren FitsE (put_grown family ss ps g) (count ps + 1)
-  put_grown_fits ss ps (one t) same keys parts fits =
+      → FitsEach FitsE ps → FitsInsertion FitsE g
+      → FitsChildren FitsE (put_insertion family ss ps g) (count ps + 1)
+  put_insertion_fits ss ps (one t) same keys parts fits =
       record { between = omega arith; keys = keys; parts = (fits, parts); least = omega arith; most = omega arith }
-  put_grown_fits ss ps (two left key right) same keys parts fits =
+  put_insertion_fits ss ps (two left key right) same keys parts fits =
       record { between = omega arith; keys = All-cons FitsKey key ss fits.1 keys; parts = (fits.0, (fits.2, parts)); least = omega arith; most = omega arith }
 
   after_child_fits : (m : M) (s : List ℕ) (ss : List (List ℕ)) (p : Part E M) (n : ℕ) (c : Children E M)
@@ -138,35 +138,35 @@ module _ {E M : Type 0} (family : Family E M) (FitsE : E → Type 0) (key_fits :
 
   -- Nodes with the entry.
 
-  leaf_fits : (b : Bool) (e : E) (es : List E) (g : Grown E M) → FitsE e → length es ≤ 16 → All FitsE es
+  leaf_fits : (b : Bool) (e : E) (es : List E) (g : Insertion E M) → FitsE e → length es ≤ 16 → All FitsE es
       → cond b (Err DuplicateKey) (Ok (split_leaf family (put_entry family e es))) ≡ Ok g
-      → FitsGrown FitsE g
+      → FitsInsertion FitsE g
   leaf_fits true e es g new few all h = absurd (cc)
   leaf_fits false e es g new few all h =
-      let P : Grown E M → Type 0 = λ x. FitsGrown FitsE x in
+      let P : Insertion E M → Type 0 = λ x. FitsInsertion FitsE x in
       subst P (ok_same _ g h) (split_leaf_fits (put_entry family e es) (omega (arith, put_count e es)) (put_fits e new es all))
 
   -- where the search goes to the first child
   here_fits : (e : E) (ss : List (List ℕ)) (p : Part E M) (ps : Parts E M) (c : Children E M)
       → length ss ≡ count ps
       → All FitsKey ss → FitsEach FitsE ps
-      → ((g : Grown E M) → grow family e p ≡ Ok g → FitsGrown FitsE g)
-      → result_map (put_grown family ss ps) (grow family e p) ≡ Ok c
+      → ((g : Insertion E M) → grow family e p ≡ Ok g → FitsInsertion FitsE g)
+      → result_map (put_insertion family ss ps) (grow family e p) ≡ Ok c
       → FitsChildren FitsE c (count ps + 1)
   here_fits e ss p ps c same keys parts grows h =
-      let m = map_ok (put_grown family ss ps) (grow family e p) c h in
+      let m = map_ok (put_insertion family ss ps) (grow family e p) c h in
       let P : Children E M → Type 0 = λ x. FitsChildren FitsE x (count ps + 1) in
-      subst P (sym m.made) (put_grown_fits ss ps m.value same keys parts (grows m.value m.ok))
+      subst P (sym m.made) (put_insertion_fits ss ps m.value same keys parts (grows m.value m.ok))
 
   module _ (e : E) (new : FitsE e) where
     mutual
-      pub grow_fits : (t : Part E M) (g : Grown E M) → FitsBy FitsE t → grow family e t ≡ Ok g
-          → FitsGrown FitsE g
+      pub grow_fits : (t : Part E M) (g : Insertion E M) → FitsBy FitsE t → grow family e t ≡ Ok g
+          → FitsInsertion FitsE g
       grow_fits (stub d) g fits h = absurd (cc)
       grow_fits (leaf es) g fits h = leaf_fits (has_key family (family.key e) es) e es g new fits.0 fits.1 h
       grow_fits (inner ss ps) g fits h =
           let m = map_ok (split_inner family) (grow_in family e ss ps) g h in
-          let P : Grown E M → Type 0 = λ x. FitsGrown FitsE x in
+          let P : Insertion E M → Type 0 = λ x. FitsInsertion FitsE x in
           subst P (sym m.made) (split_inner_fits m.value (count ps) fits.0 fits.1 (grow_in_fits ss ps m.value fits.2 fits.3 fits.4 m.ok))
 
       grow_in_fits : (ss : List (List ℕ)) (ps : Parts E M) (c : Children E M) → length ss + 1 ≡ count ps
@@ -174,17 +174,17 @@ module _ {E M : Type 0} (family : Family E M) (FitsE : E → Type 0) (key_fits :
           → FitsEach FitsE ps → grow_in family e ss ps ≡ Ok c → FitsChildren FitsE c (count ps)
       grow_in_fits ss none c between keys parts h = absurd (cc)
       grow_in_fits [] (more k p ps) c between keys parts h =
-          here_fits e [] p ps c (omega arith) keys parts.1 (λ g grown. grow_fits p g parts.0 grown) h
+          here_fits e [] p ps c (omega arith) keys parts.1 (λ g insertion. grow_fits p g parts.0 insertion) h
       grow_in_fits (s ∷ ss) (more k p ps) c between keys parts h =
           cond_ok _ _ _ c h
-          (λ here. here_fits e (s ∷ ss) p ps c (omega arith) keys parts.1 (λ g grown. grow_fits p g parts.0 grown) here)
+          (λ here. here_fits e (s ∷ ss) p ps c (omega arith) keys parts.1 (λ g insertion. grow_fits p g parts.0 insertion) here)
           (λ on. let m = map_ok (after_child k p (s ∷ ss)) (grow_in family e ss ps) c on in
           let P : Children E M → Type 0 = λ x. FitsChildren FitsE x (count ps + 1) in
           subst P (sym m.made)
           (after_child_fits k s ss p (count ps) m.value (All-head FitsKey s ss keys) parts.0
           (grow_in_fits ss ps m.value (omega arith) (All-tail FitsKey s ss keys) parts.1 m.ok)))
 
-    root_fits : (g : Grown E M) → FitsGrown FitsE g → FitsBy FitsE (root_of family g)
+    root_fits : (g : Insertion E M) → FitsInsertion FitsE g → FitsBy FitsE (root_of family g)
     root_fits (one t) fits = fits
     root_fits (two left key right) fits =
         (omega arith, omega arith, refl, All-cons FitsKey key [] fits.1 (All-nil FitsKey), (fits.0, (fits.2, tt)))

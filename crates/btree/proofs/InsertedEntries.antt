@@ -5,7 +5,7 @@ use Rattle.std.specs.List.{AllByRecursion}
 use Rattle.vo_spec.specs.declared.trees.UpdateFault.TheVariants.{DuplicateKey}
 use Rattle.vo_spec.specs.Values.{key_lt}
 use Rattle.vo_spec.specs.Parts.{Part, Parts, stub, leaf, inner, none, more, Family, entries, entries_in}
-use Rattle.vo_spec.specs.Inserts.{Grown, one, two, Children, half, take_parts, drop_parts, after_child, has_key, put_entry, first_key, split_leaf, split_inner, put_grown, grow, grow_in, root_of, inserted_by}
+use Rattle.vo_spec.specs.Inserts.{Insertion, one, two, Children, min_fill, take_parts, drop_parts, after_child, has_key, put_entry, first_key, split_leaf, split_inner, put_insertion, grow, grow_in, root_of, inserted_by}
 use Rattle.btree.proofs.OkResults.{ok_same, map_ok, cond_ok}
 
 -- the second list is the first with the entry somewhere in it
@@ -70,7 +70,7 @@ module _ {E : Type 0} where
 -- The entries of what comes in a node's place.
 
 module _ {E M : Type 0} where
-  abbrev pub entries_of : Grown E M → List E
+  abbrev pub entries_of : Insertion E M → List E
   entries_of (one t) = entries t
   entries_of (two left key right) = entries left ++ entries right
 
@@ -82,22 +82,22 @@ module _ {E M : Type 0} where
       append_assoc (entries p) (entries_in (take_parts n ps)) (entries_in (drop_parts n ps)) ∙ ap (λ l. entries p ++ l) (take_drop_parts n ps)
 
   split_inner_step : (b : Bool) (c : Children E M) (left right : List (List ℕ)) (key : List ℕ)
-      → entries_of (cond b (one (inner c.separators c.parts)) (two (inner left (take_parts half c.parts)) key (inner right (drop_parts half c.parts)))) ≡ entries_in c.parts
+      → entries_of (cond b (one (inner c.separators c.parts)) (two (inner left (take_parts min_fill c.parts)) key (inner right (drop_parts min_fill c.parts)))) ≡ entries_in c.parts
   split_inner_step true c left right key = refl
-  split_inner_step false c left right key = take_drop_parts half c.parts
+  split_inner_step false c left right key = take_drop_parts min_fill c.parts
 
 module _ {E M : Type 0} (family : Family E M) where
   split_leaf_step : (b : Bool) (es : List E)
-      → entries_of {M = M} (cond b (one (leaf es)) (two (leaf (take half es)) (first_key family (drop half es)) (leaf (drop half es)))) ≡ es
+      → entries_of {M = M} (cond b (one (leaf es)) (two (leaf (take min_fill es)) (first_key family (drop min_fill es)) (leaf (drop min_fill es)))) ≡ es
   split_leaf_step true es = refl
-  split_leaf_step false es = take-append-drop half es
+  split_leaf_step false es = take-append-drop min_fill es
 
-  pub put_grown_entries : (ss : List (List ℕ)) (ps : Parts E M) (g : Grown E M)
-      → entries_in (put_grown family ss ps g).parts ≡ entries_of g ++ entries_in ps
-  put_grown_entries ss ps (one t) = refl
-  put_grown_entries ss ps (two left key right) = sym (append_assoc (entries left) (entries right) (entries_in ps))
+  pub put_insertion_entries : (ss : List (List ℕ)) (ps : Parts E M) (g : Insertion E M)
+      → entries_in (put_insertion family ss ps g).parts ≡ entries_of g ++ entries_in ps
+  put_insertion_entries ss ps (one t) = refl
+  put_insertion_entries ss ps (two left key right) = sym (append_assoc (entries left) (entries right) (entries_in ps))
 
-  root_entries : (g : Grown E M) → entries (root_of family g) ≡ entries_of g
+  root_entries : (g : Insertion E M) → entries (root_of family g) ≡ entries_of g
   root_entries (one t) = refl
   root_entries (two left key right) = ap (λ l. entries left ++ l) (append-nil (entries right))
 
@@ -111,7 +111,7 @@ module _ {E M : Type 0} (family : Family E M) where
     put_puts [] = record { before = []; after = []; was = refl; is = refl }
     put_puts (f ∷ fs) = put_step (key_lt (family.key e) (family.key f)) f fs (put_entry family e fs) (put_puts fs)
 
-    leaf_puts : (b : Bool) (es : List E) (g : Grown E M)
+    leaf_puts : (b : Bool) (es : List E) (g : Insertion E M)
         → cond b (Err DuplicateKey) (Ok (split_leaf family (put_entry family e es))) ≡ Ok g
         → Puts e es (entries_of g)
     leaf_puts true es g h = absurd (cc)
@@ -120,7 +120,7 @@ module _ {E M : Type 0} (family : Family E M) where
         puts_same e es all (entries_of g) (put_puts es) (sym (split_leaf_step _ all) ∙ ap entries_of (ok_same (split_leaf family all) g h))
 
     mutual
-      pub grow_puts : (t : Part E M) (g : Grown E M) → grow family e t ≡ Ok g
+      pub grow_puts : (t : Part E M) (g : Insertion E M) → grow family e t ≡ Ok g
           → Puts e (entries t) (entries_of g)
       grow_puts (stub d) g h = absurd (cc)
       grow_puts (leaf es) g h = leaf_puts (has_key family (family.key e) es) es g h
@@ -133,8 +133,8 @@ module _ {E M : Type 0} (family : Family E M) where
       grow_in_puts ss none c h = absurd (cc)
       grow_in_puts ss (more k p ps) c h =
           cond_ok _ _ _ c h
-          (λ here. let m = map_ok (put_grown family ss ps) (grow family e p) c here in
-          puts_same e _ _ _ (before_others e (entries_in ps) _ _ (grow_puts p m.value m.ok)) (sym (put_grown_entries ss ps m.value) ∙ ap (λ x. entries_in x.parts) (sym m.made)))
+          (λ here. let m = map_ok (put_insertion family ss ps) (grow family e p) c here in
+          puts_same e _ _ _ (before_others e (entries_in ps) _ _ (grow_puts p m.value m.ok)) (sym (put_insertion_entries ss ps m.value) ∙ ap (λ x. entries_in x.parts) (sym m.made)))
           (λ on. let m = map_ok (after_child k p ss) (grow_in family e (drop 1 ss) ps) c on in
           puts_same e _ _ _ (after_others e (entries p) _ _ (grow_in_puts (drop 1 ss) ps m.value m.ok)) (ap (λ x. entries_in x.parts) (sym m.made)))
 

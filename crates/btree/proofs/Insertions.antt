@@ -5,9 +5,9 @@ use Rattle.std.specs.List.{list_any, position_or_len}
 use Rattle.vo_spec.specs.declared.trees.UpdateFault.TheVariants.{DuplicateKey}
 use Rattle.vo_spec.specs.Values.{key_lt}
 use Rattle.vo_spec.specs.Parts.{Part, leaf, inner, levels, levels_in, Family}
-use Rattle.vo_spec.specs.Inserts.{Grown, one, two, has_key, put_entry, split_leaf, grow, root_of}
+use Rattle.vo_spec.specs.Inserts.{Insertion, one, two, has_key, put_entry, split_leaf, grow, root_of}
 use Rattle.btree.specs.declared.siblings.Siblings.{Siblings}
-use Rattle.btree.specs.Nodes.{Kid, parts_from, new_kid, IsGrown}
+use Rattle.btree.specs.Nodes.{Kid, parts_from, new_kid, IsInsertion}
 use Rattle.btree.specs.Placing.{splice, split, node_of}
 use Rattle.btree.specs.Shapes.{size_of, IsLinked, IsShaped, AreShaped}
 use Rattle.btree.proofs.Listed.{child_falls, child_shaped, kid_at, map_put}
@@ -67,14 +67,14 @@ child kid ns place n t lt is tree shaped =
     record { at = at; within = within; falls = omega (arith, ap levels tree, falls); shaped = subst P (sym tree) (child_shaped (map kid ns) shaped place (kid n) within at) }
 
 module _ {E M : Type 0} (family : Family E M) where
-  pub put_linked : (place : ℕ) (ss : List (List ℕ)) (ks : List (Kid E M)) (g : Grown E M) (t : Part E M) → place < length ks → 2 ≤ length ks → length ss + 1 ≡ length ks
+  pub put_linked : (place : ℕ) (ss : List (List ℕ)) (ks : List (Kid E M)) (g : Insertion E M) (t : Part E M) → place < length ks → 2 ≤ length ks → length ss + 1 ≡ length ks
       → t ≡ node_of (splice family place place ss ks g) → IsLinked 2 t
   put_linked place ss ks g t lt least between is =
       let p = placed family place place ss ks g (omega arith) lt between in
       let P : Part E M → Type 0 = λ x. IsLinked 2 x in
       subst P (sym is) (omega (arith, p.least), p.between)
 
-  pub put_most : (place : ℕ) (ss : List (List ℕ)) (ks : List (Kid E M)) (g : Grown E M) (t : Part E M) → place < length ks → length ks ≤ 16 → length ss + 1 ≡ length ks
+  pub put_most : (place : ℕ) (ss : List (List ℕ)) (ks : List (Kid E M)) (g : Insertion E M) (t : Part E M) → place < length ks → length ks ≤ 16 → length ss + 1 ≡ length ks
       → t ≡ node_of (splice family place place ss ks g) → size_of t ≤ 17
   put_most place ss ks g t lt most between is =
       let p = placed family place place ss ks g (omega arith) lt between in
@@ -82,10 +82,10 @@ module _ {E M : Type 0} (family : Family E M) where
 
   -- the root that is made of one node or of two
   module _ {K N : Type 0} (key : K → List ℕ) (kid : N → Kid E M) where
-    pub root_one : (s : Siblings K N) (n : N) (g : Grown E M) → s.nodes.items ≡ n ∷ [] → IsGrown family key kid s g → (kid n).1 ≡ root_of family g
-    root_one s n (one t) is grown = let e : kid n ∷ [] ≡ new_kid family t ∷ [] = sym (ap (map kid) is) ∙ grown.nodes in ap (λ (ks : List (Kid E M)). (get_or ks 0 (kid n)).1) e
-    root_one s n (two left k right) is grown = let e : kid n ∷ [] ≡ new_kid family left ∷ new_kid family right ∷ [] = sym (ap (map kid) is) ∙ grown.nodes in absurd (omega (arith, ap length e))
+    pub root_one : (s : Siblings K N) (n : N) (g : Insertion E M) → s.nodes.items ≡ n ∷ [] → IsInsertion family key kid s g → (kid n).1 ≡ root_of family g
+    root_one s n (one t) is insertion = let e : kid n ∷ [] ≡ new_kid family t ∷ [] = sym (ap (map kid) is) ∙ insertion.nodes in ap (λ (ks : List (Kid E M)). (get_or ks 0 (kid n)).1) e
+    root_one s n (two left k right) is insertion = let e : kid n ∷ [] ≡ new_kid family left ∷ new_kid family right ∷ [] = sym (ap (map kid) is) ∙ insertion.nodes in absurd (omega (arith, ap length e))
 
-    pub root_two : (s : Siblings K N) (n : N) (g : Grown E M) → (length s.nodes.items ≡ 1 → ⊥) → kid n ≡ new_kid family (inner (map key s.separators.items) (parts_from (map kid s.nodes.items))) → IsGrown family key kid s g → (kid n).1 ≡ root_of family g
-    root_two s n (one t) more is grown = absurd (more (omega (arith, ap length grown.nodes, length-map s.nodes.items kid)))
-    root_two s n (two left k right) more is grown = ap (λ (x : Kid E M). x.1) is ∙ rw (grown.keys, grown.nodes) refl
+    pub root_two : (s : Siblings K N) (n : N) (g : Insertion E M) → (length s.nodes.items ≡ 1 → ⊥) → kid n ≡ new_kid family (inner (map key s.separators.items) (parts_from (map kid s.nodes.items))) → IsInsertion family key kid s g → (kid n).1 ≡ root_of family g
+    root_two s n (one t) more is insertion = absurd (more (omega (arith, ap length insertion.nodes, length-map s.nodes.items kid)))
+    root_two s n (two left k right) more is insertion = ap (λ (x : Kid E M). x.1) is ∙ rw (insertion.keys, insertion.nodes) refl

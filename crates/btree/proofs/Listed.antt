@@ -2,7 +2,7 @@
 use Rattle.std.proofs.Common.{◌≡◌, ℕ, zero, suc, ◌+◌, ◌<◌, ◌≤◌, List, [], ◌∷◌, ◌++◌, length, map, take, drop, get_or, refl, sym, ap, ◌∙◌, subst, arith}
 use Rattle.std.proofs.lemmas.List.{length-map, take-map, drop-map, map-append, get_or-map}
 use Rattle.vo_spec.specs.Parts.{Part, inner, more, count, levels, levels_in}
-use Rattle.vo_spec.specs.Fits.{most_in_node}
+use Rattle.vo_spec.specs.Fits.{max_fill}
 use Rattle.vo_spec.specs.Inserts.{take_parts, drop_parts}
 use Rattle.btree.specs.Nodes.{Kid, parts_from}
 use Rattle.btree.specs.Shapes.{IsShaped, AreShaped}
@@ -52,7 +52,7 @@ kid_at kid ns place n lt is = ap kid is ∙ sym (get_or-map kid ns place n (kid 
 -- An inner node that was opened.
 pub record Opened {K N E M : Type 0} (t : Part E M) (ss : List K) (ns : List N) (kid : N → Kid E M) : Type 0 where
   pub least : 2 ≤ length ns
-  pub most : length ns ≤ most_in_node
+  pub most : length ns ≤ max_fill
   pub between : length ss + 1 ≡ length ns
   pub shaped : AreShaped (parts_from (map kid ns))
   pub falls : levels t ≡ levels_in (parts_from (map kid ns)) + 1
@@ -66,6 +66,6 @@ opened key kid ss ns t is shaped =
     let children = length-map ns kid in
     let keys = length-map ss key in
     let least : 2 ≤ count (parts_from (map kid ns)) = s.0 in
-    let most : count (parts_from (map kid ns)) ≤ most_in_node = s.1 in
+    let most : count (parts_from (map kid ns)) ≤ max_fill = s.1 in
     let between : length (map key ss) + 1 ≡ count (parts_from (map kid ns)) = s.2 in
     record { least = omega arith; most = omega arith; between = omega arith; shaped = s.3; falls = ap levels (sym is) }

@@ -3,8 +3,8 @@ use Rattle.std.proofs.Common.{◌≡◌, ℕ, zero, suc, ◌+◌, ◌-◌, ◌<�
 use Rattle.std.proofs.lemmas.List.{take-append-le, drop-append-le, drop_at, get_or_append_left, get_or-append-add, length-drop}
 use Rattle.std.proofs.lemmas.Bool.Decides.{nat_tests}
 use Rattle.vo_spec.specs.Parts.{Part, Parts, stub, leaf, inner, none, more, Family, count}
-use Rattle.vo_spec.specs.Fits.{most_in_node}
-use Rattle.vo_spec.specs.Inserts.{half, result_map, Grown, one, two, first_key, take_parts, drop_parts}
+use Rattle.vo_spec.specs.Fits.{max_fill}
+use Rattle.vo_spec.specs.Inserts.{min_fill, result_map, Insertion, one, two, first_key, take_parts, drop_parts}
 use Rattle.vo_spec.specs.Removes.{joined_parts, with_left, with_right}
 use Rattle.btree.specs.Nodes.{Kid, parts_from}
 use Rattle.btree.specs.Placing.{merge_nodes, divide_at, CanDivide, divide_merged}
@@ -59,7 +59,7 @@ module _ {E M : Type 0} (family : Family E M) where
       let e : count ps + 1 + n ≡ suc (count ps + n) = omega arith in
       rw e (drop_beyond n ps qs)
 
-  -- With the left neighbour.
+  -- With the left sibling.
 
   leaves_left : (b : Bool) (n : ℕ) (ls rs : List E) → n < length ls
       → cond b (two (leaf (take n ls)) (first_key family (drop n ls)) (leaf (drop n ls ++ rs))) (one (leaf (ls ++ rs)))
@@ -85,9 +85,9 @@ module _ {E M : Type 0} (family : Family E M) where
   pub with_left_joined : (t : Part E M) (s : List ℕ) (u : Part E M) → IsLinked 2 t → with_left family t s u ≡ result_map (divide_merged family (size_of t) (size_of t - 1)) (merge_nodes t s u)
   with_left_joined (stub d) s u linked = refl
   with_left_joined (leaf ls) s (stub d) linked = refl
-  with_left_joined (leaf ls) s (leaf rs) linked = ap Ok (step (nat_lt half (length ls)) refl)
+  with_left_joined (leaf ls) s (leaf rs) linked = ap Ok (step (nat_lt min_fill (length ls)) refl)
     where
-      step : (b : Bool) → nat_lt half (length ls) ≡ b
+      step : (b : Bool) → nat_lt min_fill (length ls) ≡ b
           → cond b (two (leaf (take (length ls - 1) ls)) (first_key family (drop (length ls - 1) ls)) (leaf (drop (length ls - 1) ls ++ rs))) (one (leaf (ls ++ rs)))
           ≡ cond b (divide_at family (length ls - 1) (leaf (ls ++ rs))) (one (leaf (ls ++ rs)))
       step true h = let many : 8 < length ls = grind (arith, nat_tests) in leaves_left true (length ls - 1) ls rs (omega arith)
@@ -98,9 +98,9 @@ module _ {E M : Type 0} (family : Family E M) where
   with_left_joined (inner ls ps) s (inner rs qs) linked =
       let least : 2 ≤ count ps = linked.0 in
       let between : length ls + 1 ≡ count ps = linked.1 in
-      ap Ok (inner_left (nat_lt half (count ps)) (count ps - 1) ls ps s rs qs (omega arith) (omega arith) (omega arith))
+      ap Ok (inner_left (nat_lt min_fill (count ps)) (count ps - 1) ls ps s rs qs (omega arith) (omega arith) (omega arith))
 
-  -- With the right neighbour.
+  -- With the right sibling.
 
   leaves_right : (b : Bool) (ls rs : List E)
       → cond b (two (leaf (ls ++ take 1 rs)) (first_key family (drop 1 rs)) (leaf (drop 1 rs))) (one (leaf (ls ++ rs)))
@@ -126,13 +126,13 @@ module _ {E M : Type 0} (family : Family E M) where
   pub with_right_joined : (t : Part E M) (s : List ℕ) (u : Part E M) → IsLinked 1 t → with_right family t s u ≡ result_map (divide_merged family (size_of u) (size_of t + 1)) (merge_nodes t s u)
   with_right_joined (stub d) s u linked = refl
   with_right_joined (leaf ls) s (stub d) linked = refl
-  with_right_joined (leaf ls) s (leaf rs) linked = ap Ok (leaves_right (nat_lt half (length rs)) ls rs)
+  with_right_joined (leaf ls) s (leaf rs) linked = ap Ok (leaves_right (nat_lt min_fill (length rs)) ls rs)
   with_right_joined (leaf ls) s (inner rs qs) linked = refl
   with_right_joined (inner ls ps) s (stub d) linked = refl
   with_right_joined (inner ls ps) s (leaf rs) linked = refl
   with_right_joined (inner ls ps) s (inner rs qs) linked =
       let between : length ls + 1 ≡ count ps = linked.1 in
-      ap Ok (inner_right (nat_lt half (count qs)) (count ps + 1) ls ps s rs qs between refl)
+      ap Ok (inner_right (nat_lt min_fill (count qs)) (count ps + 1) ls ps s rs qs between refl)
 
   -- What the two together keep to.
 
@@ -193,7 +193,7 @@ module _ {E M : Type 0} (family : Family E M) where
   linked_less (leaf es) l = tt
   linked_less (inner ss ps) l = let least : 2 ≤ count ps = l.0 in (omega arith, l.1)
 
-  pub left_redivided : (t : Part E M) (s : List ℕ) (u v : Part E M) (n at : ℕ) (g : Grown E M) → IsLinked 2 t → merge_nodes t s u ≡ Ok v → n ≡ size_of t → at ≡ size_of t - 1
+  pub left_redivided : (t : Part E M) (s : List ℕ) (u v : Part E M) (n at : ℕ) (g : Insertion E M) → IsLinked 2 t → merge_nodes t s u ≡ Ok v → n ≡ size_of t → at ≡ size_of t - 1
       → divide_merged family n at v ≡ g → with_left family t s u ≡ Ok g
   left_redivided t s u v n at g linked is_merged is_n is_at is =
       with_left_joined t s u linked
@@ -202,7 +202,7 @@ module _ {E M : Type 0} (family : Family E M) where
       ∙ ap (λ m. Ok (divide_merged family n m v)) (sym is_at)
       ∙ ap Ok is
 
-  pub right_redivided : (t : Part E M) (s : List ℕ) (u v : Part E M) (n at : ℕ) (g : Grown E M) → IsLinked 1 t → merge_nodes t s u ≡ Ok v → n ≡ size_of u → at ≡ size_of t + 1
+  pub right_redivided : (t : Part E M) (s : List ℕ) (u v : Part E M) (n at : ℕ) (g : Insertion E M) → IsLinked 1 t → merge_nodes t s u ≡ Ok v → n ≡ size_of u → at ≡ size_of t + 1
       → divide_merged family n at v ≡ g → with_right family t s u ≡ Ok g
   right_redivided t s u v n at g linked is_merged is_n is_at is =
       with_right_joined t s u linked
@@ -218,12 +218,12 @@ module _ {E M : Type 0} (family : Family E M) where
   -- what the code that evens the two asks
   pub record EvenLimits (n at : ℕ) (v : Part E M) : Type 0 where
     pub linked : IsLinked 2 v
-    pub whole : n ≤ half → size_of v ≤ most_in_node
-    pub two : half < n → CanDivide at v
-    pub first : at ≤ most_in_node
-    pub last : size_of v ≤ at + most_in_node
+    pub whole : n ≤ min_fill → size_of v ≤ max_fill
+    pub two : min_fill < n → CanDivide at v
+    pub first : at ≤ max_fill
+    pub last : size_of v ≤ at + max_fill
 
-  pub left_limits : (t : Part E M) (s : List ℕ) (u v : Part E M) (n at : ℕ) → IsShaped t → IsWithin 1 u → size_of u < half → merge_nodes t s u ≡ Ok v → n ≡ size_of t → at ≡ n - 1
+  pub left_limits : (t : Part E M) (s : List ℕ) (u v : Part E M) (n at : ℕ) → IsShaped t → IsWithin 1 u → size_of u < min_fill → merge_nodes t s u ≡ Ok v → n ≡ size_of t → at ≡ n - 1
       → EvenLimits n at v
   left_limits t s u v n at fits within small is_merged is_n is_at =
       let j = joins t s u v (linked_less t (linked_part t fits)) within.linked is_merged in
@@ -239,7 +239,7 @@ module _ {E M : Type 0} (family : Family E M) where
         last = omega arith;
       }
 
-  pub right_limits : (t : Part E M) (s : List ℕ) (u v : Part E M) (n at : ℕ) → IsShaped u → IsWithin 1 t → size_of t < half → merge_nodes t s u ≡ Ok v → n ≡ size_of u → at ≡ size_of t + 1
+  pub right_limits : (t : Part E M) (s : List ℕ) (u v : Part E M) (n at : ℕ) → IsShaped u → IsWithin 1 t → size_of t < min_fill → merge_nodes t s u ≡ Ok v → n ≡ size_of u → at ≡ size_of t + 1
       → EvenLimits n at v
   right_limits t s u v n at fits within small is_merged is_n is_at =
       let j = joins t s u v within.linked (linked_less u (linked_part u fits)) is_merged in

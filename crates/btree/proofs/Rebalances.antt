@@ -7,9 +7,9 @@ use Rattle.std.specs.declared.alloc.Global.{Global}
 use Rattle.vo_spec.specs.declared.trees.UpdateFault.{UpdateFault}
 use Rattle.vo_spec.specs.declared.trees.UpdateFault.TheVariants.{Missing}
 use Rattle.vo_spec.specs.Parts.{Part, stub, leaf, inner, count, Family}
-use Rattle.vo_spec.specs.Fits.{most_in_node}
-use Rattle.vo_spec.specs.Inserts.{result_map, Grown, one}
-use Rattle.vo_spec.specs.Removes.{is_small, with_left, with_right, settled_root}
+use Rattle.vo_spec.specs.Fits.{max_fill}
+use Rattle.vo_spec.specs.Inserts.{result_map, Insertion, one}
+use Rattle.vo_spec.specs.Removes.{is_underfull, with_left, with_right, settled_root}
 use Rattle.btree.specs.declared.node.Contents.{Contents}
 use Rattle.btree.specs.declared.node.Contents.TheVariants.{Leaf, Inner}
 use Rattle.btree.specs.Nodes.{Kid, parts_from, new_kid, contents_of}
@@ -32,14 +32,14 @@ module _ {K F N E M : Type 0} (family : Family E M) (key : K → List ℕ) (entr
       ∙ ap (λ l. Ok (inner l (parts_from (map kid nodes)))) (sym (ap (map key) is_keys ∙ map-append key ss.items (s ∷ ts.items)))
 
   -- contents that are underfull
-  pub underfull : (c : Contents K F N) → size_of (contents_of key entry kid c) < 8 → is_small (contents_of key entry kid c) ≡ true
+  pub underfull : (c : Contents K F N) → size_of (contents_of key entry kid c) < 8 → is_underfull (contents_of key entry kid c) ≡ true
   underfull (Leaf es) h = let l : length (map entry es.items) < 8 = h in grind (arith, nat_tests)
   underfull (Inner ss ns) h = let l : count (parts_from (map kid ns.items)) < 8 = h in grind (arith, nat_tests)
 
   -- an inner node's contents, by how many there are
   pub record Counts (least : ℕ) (ss : List K) (ns : List N) : Type 0 where
     pub fewest : least ≤ length ns
-    pub most : length ns ≤ most_in_node
+    pub most : length ns ≤ max_fill
     pub between : length ss + 1 ≡ length ns
 
   pub counts : (least : ℕ) (c : Contents K F N) (ss : Vec K Global) (ns : Vec N Global) → c ≡ Inner ss ns → IsWithin least (contents_of key entry kid c) → Counts least ss.items ns.items
@@ -50,7 +50,7 @@ module _ {K F N E M : Type 0} (family : Family E M) (key : K → List ℕ) (entr
       let keys = length-map ss.items key in
       let fewest : least ≤ count (parts_from (map kid ns.items)) = w.linked.0 in
       let between : length (map key ss.items) + 1 ≡ count (parts_from (map kid ns.items)) = w.linked.1 in
-      let most : count (parts_from (map kid ns.items)) ≤ most_in_node = w.most in
+      let most : count (parts_from (map kid ns.items)) ≤ max_fill = w.most in
       record { fewest = omega arith; most = omega arith; between = omega arith }
 
   -- a root of one child, and one of more
@@ -93,7 +93,7 @@ module _ {E M : Type 0} (family : Family E M) where
 
   -- A child that isn't underfull.
 
-  enough : (t : Part E M) → 8 ≤ size_of t → is_small t ≡ false
+  enough : (t : Part E M) → 8 ≤ size_of t → is_underfull t ≡ false
   enough (stub d) many = refl
   enough (leaf es) many = let h : 8 ≤ length es = many in grind (arith, nat_tests)
   enough (inner ss ps) many = let h : 8 ≤ count ps = many in grind (arith, nat_tests)
@@ -110,7 +110,7 @@ module _ {E M : Type 0} (family : Family E M) where
       let P : Part E M → Type 0 = λ x. IsWithin 1 x in
       subst P (sym is) (record { linked = (omega (arith, p.least), p.between); most = omega arith })
 
-  pub pair_within : (i : ℕ) (ss : List (List ℕ)) (ks : List (Kid E M)) (g : Grown E M) (c : Part E M) → i + 1 < length ks → length ks ≤ 16 → length ss + 1 ≡ length ks → c ≡ node_of (splice family i (i + 1) ss ks g) → IsWithin 1 c
+  pub pair_within : (i : ℕ) (ss : List (List ℕ)) (ks : List (Kid E M)) (g : Insertion E M) (c : Part E M) → i + 1 < length ks → length ks ≤ 16 → length ss + 1 ≡ length ks → c ≡ node_of (splice family i (i + 1) ss ks g) → IsWithin 1 c
   pair_within i ss ks g c lt most between is =
       let p = placed family i (i + 1) ss ks g (omega arith) lt between in
       let P : Part E M → Type 0 = λ x. IsWithin 1 x in
@@ -119,7 +119,7 @@ module _ {E M : Type 0} (family : Family E M) where
   -- The sibling among the children, and the separator between the two.
 
   module _ {K N : Type 0} (key : K → List ℕ) (kid : N → Kid E M) (ss : List K) (ns : List N) where
-    pub left_borrowed : (i : ℕ) (n : N) (s : K) (t left : Part E M) (r : Result (Grown E M) UpdateFault) → i < length ss → i < length ns → n ≡ get_or ns i n → s ≡ get_or ss i s → left ≡ (kid n).1
+    pub left_borrowed : (i : ℕ) (n : N) (s : K) (t left : Part E M) (r : Result (Insertion E M) UpdateFault) → i < length ss → i < length ns → n ≡ get_or ns i n → s ≡ get_or ss i s → left ≡ (kid n).1
         → with_left family left (key s) t ≡ r → rebalance_with_sibling family (suc i) (map key ss) (map kid ns) t ≡ result_map (splice family i (i + 1) (map key ss) (map kid ns)) r
     left_borrowed i n s t left r in_ss in_ns is_n is_s is_left evens =
         let sibling : (get_or (map kid ns) i (new_kid family t)).1 ≡ left = ap (λ (k : Kid E M). k.1) (get_or-map kid ns i n (new_kid family t) in_ns ∙ ap kid (sym is_n)) ∙ sym is_left in
@@ -128,7 +128,7 @@ module _ {E M : Type 0} (family : Family E M) where
         ∙ ap (λ k. result_map (splice family i (i + 1) (map key ss) (map kid ns)) (with_left family left k t)) separator
         ∙ ap (result_map (splice family i (i + 1) (map key ss) (map kid ns))) evens
 
-    pub right_borrowed : (n : N) (s : K) (t right : Part E M) (r : Result (Grown E M) UpdateFault) → 0 < length ss → 1 < length ns → n ≡ get_or ns 1 n → s ≡ get_or ss 0 s → right ≡ (kid n).1
+    pub right_borrowed : (n : N) (s : K) (t right : Part E M) (r : Result (Insertion E M) UpdateFault) → 0 < length ss → 1 < length ns → n ≡ get_or ns 1 n → s ≡ get_or ss 0 s → right ≡ (kid n).1
         → with_right family t (key s) right ≡ r → rebalance_with_sibling family zero (map key ss) (map kid ns) t ≡ result_map (splice family 0 1 (map key ss) (map kid ns)) r
     right_borrowed n s t right r in_ss in_ns is_n is_s is_right evens =
         let sibling : (get_or (map kid ns) 1 (new_kid family t)).1 ≡ right = ap (λ (k : Kid E M). k.1) (get_or-map kid ns 1 n (new_kid family t) in_ns ∙ ap kid (sym is_n)) ∙ sym is_right in

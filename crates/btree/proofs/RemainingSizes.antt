@@ -8,8 +8,8 @@ use Rattle.vo_spec.specs.declared.trees.UpdateFault.TheVariants.{NoRow, Missing}
 use Rattle.vo_spec.specs.Firsts.{and_then}
 use Rattle.vo_spec.specs.Values.{key_lt}
 use Rattle.vo_spec.specs.Parts.{Part, Parts, stub, leaf, inner, none, more, Family, count}
-use Rattle.vo_spec.specs.Inserts.{half, result_map, has_key, one, two, Children, after_child, put_grown}
-use Rattle.vo_spec.specs.Removes.{is_small, without_entry, with_left, with_right, settle_first, settle_next, shrink, shrink_in, shrink_after}
+use Rattle.vo_spec.specs.Inserts.{min_fill, result_map, has_key, one, two, Children, after_child, put_insertion}
+use Rattle.vo_spec.specs.Removes.{is_underfull, without_entry, with_left, with_right, settle_first, settle_next, shrink, shrink_in, shrink_after}
 use Rattle.btree.specs.Nodes.{Kid, parts_from}
 use Rattle.btree.specs.Placing.{node_of}
 use Rattle.btree.specs.Shapes.{size_of}
@@ -33,7 +33,7 @@ module _ {E M : Type 0} (family : Family E M) where
   -- What remains of a node is of its kind.
   pub record IsAlike (c q : Part E M) : Type 0 where
     pub like : (n : Part E M) → size_if_alike q n ≡ size_if_alike c n
-    pub small : is_small q ≡ nat_lt (size_of q) half
+    pub small : is_underfull q ≡ nat_lt (size_of q) min_fill
 
   leaves_alike : (es fs : List E) → IsAlike (leaf es) (leaf fs)
   leaves_alike es fs = record { like = each; small = refl }
@@ -112,38 +112,38 @@ module _ {E M : Type 0} (family : Family E M) where
   counted r = result_map (λ (c : Children E M). count c.parts) r
 
   merge_step : (b : Bool) (ss : List (List ℕ)) (ps : Parts E M) (left : Part E M) (key : List ℕ) (right all : Part E M) (n : ℕ) → n ≡ count ps + 2
-      → count (put_grown family ss ps (cond b (two left key right) (one all))).parts ≡ cond b n (n - 1)
+      → count (put_insertion family ss ps (cond b (two left key right) (one all))).parts ≡ cond b n (n - 1)
   merge_step true ss ps left key right all n h = omega arith
   merge_step false ss ps left key right all n h = omega arith
 
   merged_left : (ss : List (List ℕ)) (ps : Parts E M) (u : Part E M) (s : List ℕ) (q : Part E M) (n : ℕ) → n ≡ count ps + 2
-      → counted (result_map (put_grown family ss ps) (with_left family u s q)) ≡ count_of_merged n (size_if_alike q u)
+      → counted (result_map (put_insertion family ss ps) (with_left family u s q)) ≡ count_of_merged n (size_if_alike q u)
   merged_left ss ps (stub d) s (stub e) n h = refl
   merged_left ss ps (stub d) s (leaf rs) n h = refl
   merged_left ss ps (stub d) s (inner rs qs) n h = refl
   merged_left ss ps (leaf ls) s (stub e) n h = refl
-  merged_left ss ps (leaf ls) s (leaf rs) n h = ap (λ m. Ok m) (merge_step (nat_lt half (length ls)) ss ps _ _ _ _ n h)
+  merged_left ss ps (leaf ls) s (leaf rs) n h = ap (λ m. Ok m) (merge_step (nat_lt min_fill (length ls)) ss ps _ _ _ _ n h)
   merged_left ss ps (leaf ls) s (inner rs qs) n h = refl
   merged_left ss ps (inner ls us) s (stub e) n h = refl
   merged_left ss ps (inner ls us) s (leaf rs) n h = refl
-  merged_left ss ps (inner ls us) s (inner rs qs) n h = ap (λ m. Ok m) (merge_step (nat_lt half (count us)) ss ps _ _ _ _ n h)
+  merged_left ss ps (inner ls us) s (inner rs qs) n h = ap (λ m. Ok m) (merge_step (nat_lt min_fill (count us)) ss ps _ _ _ _ n h)
 
   merged_right : (ss : List (List ℕ)) (ps : Parts E M) (q : Part E M) (s : List ℕ) (u : Part E M) (n : ℕ) → n ≡ count ps + 2
-      → counted (result_map (put_grown family ss ps) (with_right family q s u)) ≡ count_of_merged n (size_if_alike q u)
+      → counted (result_map (put_insertion family ss ps) (with_right family q s u)) ≡ count_of_merged n (size_if_alike q u)
   merged_right ss ps (stub d) s (stub e) n h = refl
   merged_right ss ps (stub d) s (leaf rs) n h = refl
   merged_right ss ps (stub d) s (inner rs qs) n h = refl
   merged_right ss ps (leaf ls) s (stub e) n h = refl
-  merged_right ss ps (leaf ls) s (leaf rs) n h = ap (λ m. Ok m) (merge_step (nat_lt half (length rs)) ss ps _ _ _ _ n h)
+  merged_right ss ps (leaf ls) s (leaf rs) n h = ap (λ m. Ok m) (merge_step (nat_lt min_fill (length rs)) ss ps _ _ _ _ n h)
   merged_right ss ps (leaf ls) s (inner rs qs) n h = refl
   merged_right ss ps (inner ls us) s (stub e) n h = refl
   merged_right ss ps (inner ls us) s (leaf rs) n h = refl
-  merged_right ss ps (inner ls us) s (inner rs qs) n h = ap (λ m. Ok m) (merge_step (nat_lt half (count qs)) ss ps _ _ _ _ n h)
+  merged_right ss ps (inner ls us) s (inner rs qs) n h = ap (λ m. Ok m) (merge_step (nat_lt min_fill (count qs)) ss ps _ _ _ _ n h)
 
   -- a first child that may have become underfull
   first_rebalances : (ss : List (List ℕ)) (ks : List (Kid E M)) (c q : Part E M) → IsAlike c q
       → counted (settle_first family ss (parts_from ks) q) ≡ count_remaining 0 (c ∷ trees_of ks) c (size_of q)
-  first_rebalances ss [] c q alike = step (nat_lt (size_of q) half)
+  first_rebalances ss [] c q alike = step (nat_lt (size_of q) min_fill)
     where
       only : Result ℕ UpdateFault
       only = Ok 1
@@ -151,7 +151,7 @@ module _ {E M : Type 0} (family : Family E M) where
       step : (b : Bool) → only ≡ cond b only only
       step true = refl
       step false = refl
-  first_rebalances ss (k ∷ ks) c q alike = step (is_small q) (nat_lt (size_of q) half) alike.small
+  first_rebalances ss (k ∷ ks) c q alike = step (is_underfull q) (nat_lt (size_of q) min_fill) alike.small
     where
       all : suc (suc (length (trees_of ks))) ≡ count (parts_from ks) + 2
       all =
@@ -160,7 +160,7 @@ module _ {E M : Type 0} (family : Family E M) where
           omega arith
 
       step : (b d : Bool) → b ≡ d
-          → counted (cond b (result_map (put_grown family (drop 1 ss) (parts_from ks)) (with_right family q (get_or ss 0 []) k.1)) (Ok (put_grown family ss (more k.0 k.1 (parts_from ks)) (one q))))
+          → counted (cond b (result_map (put_insertion family (drop 1 ss) (parts_from ks)) (with_right family q (get_or ss 0 []) k.1)) (Ok (put_insertion family ss (more k.0 k.1 (parts_from ks)) (one q))))
           ≡ cond d (count_of_merged (suc (suc (length (trees_of ks)))) (size_if_alike c k.1)) (Ok (suc (suc (length (trees_of ks)))))
       step true true e = merged_right (drop 1 ss) (parts_from ks) q (get_or ss 0 []) k.1 _ all ∙ ap (count_of_merged (suc (suc (length (trees_of ks))))) (alike.like k.1)
       step false false e = ap (λ n. Ok n) (omega (arith, all))
@@ -170,7 +170,7 @@ module _ {E M : Type 0} (family : Family E M) where
   -- a later one, with the child before it
   next_rebalances : (m : M) (left : Part E M) (ss : List (List ℕ)) (k : Kid E M) (ks : List (Kid E M)) (c q : Part E M) → IsAlike c q
       → counted (settle_next family m left ss (parts_from ks) q) ≡ count_remaining 1 (left ∷ trees_of (k ∷ ks)) c (size_of q)
-  next_rebalances m left ss k ks c q alike = step (is_small q) (nat_lt (size_of q) half) alike.small
+  next_rebalances m left ss k ks c q alike = step (is_underfull q) (nat_lt (size_of q) min_fill) alike.small
     where
       all : suc (suc (length (trees_of ks))) ≡ count (parts_from ks) + 2
       all =
@@ -179,7 +179,7 @@ module _ {E M : Type 0} (family : Family E M) where
           omega arith
 
       step : (b d : Bool) → b ≡ d
-          → counted (cond b (result_map (put_grown family (drop 1 ss) (parts_from ks)) (with_left family left (get_or ss 0 []) q)) (Ok (after_child m left ss (put_grown family (drop 1 ss) (parts_from ks) (one q)))))
+          → counted (cond b (result_map (put_insertion family (drop 1 ss) (parts_from ks)) (with_left family left (get_or ss 0 []) q)) (Ok (after_child m left ss (put_insertion family (drop 1 ss) (parts_from ks) (one q)))))
           ≡ cond d (count_of_merged (suc (suc (length (trees_of ks)))) (size_if_alike c left)) (Ok (suc (suc (length (trees_of ks)))))
       step true true e = merged_left (drop 1 ss) (parts_from ks) left (get_or ss 0 []) q _ all ∙ ap (count_of_merged (suc (suc (length (trees_of ks))))) (alike.like left)
       step false false e = ap (λ n. Ok n) (omega (arith, all))
@@ -195,7 +195,7 @@ module _ {E M : Type 0} (family : Family E M) where
   one_more : (i : ℕ) (u t : Part E M) (ts : List (Part E M)) (c : Part E M) (r : Result ℕ UpdateFault)
       → result_map (λ n. n + 1) (and_then (count_remaining (suc i) (t ∷ ts) c) r) ≡ and_then (count_remaining (suc (suc i)) (u ∷ t ∷ ts) c) r
   one_more i u t ts c (Err fault) = refl
-  one_more i u t ts c (Ok n) = step (nat_lt n half) (slice_get (t ∷ ts) i)
+  one_more i u t ts c (Ok n) = step (nat_lt n min_fill) (slice_get (t ∷ ts) i)
     where
       size : (b : Bool) (l : ℕ) → cond b (suc l) (suc l - 1) + 1 ≡ cond b (suc (suc l)) (suc (suc l) - 1)
       size true l = omega arith
@@ -203,7 +203,7 @@ module _ {E M : Type 0} (family : Family E M) where
 
       merge : (l : ℕ) (o : Option ℕ) → result_map (λ n. n + 1) (count_of_merged (suc l) o) ≡ count_of_merged (suc (suc l)) o
       merge l None = refl
-      merge l (Some z) = ap (λ n. Ok n) (size (nat_lt half z) l)
+      merge l (Some z) = ap (λ n. Ok n) (size (nat_lt min_fill z) l)
 
       step : (b : Bool) (o : Option (Part E M)) → result_map (λ n. n + 1) (cond b (count_rebalanced (suc (length ts)) c o) (Ok (suc (length ts)))) ≡ cond b (count_rebalanced (suc (suc (length ts))) c o) (Ok (suc (suc (length ts))))
       step true None = ap (λ n. Ok n) (omega arith)
@@ -326,22 +326,22 @@ inner_sizes ss ts ps ks t u n is at counted =
 
 -- A node of more than it needs keeps enough.
 
-pub enough_counted : {E M : Type 0} (i : ℕ) (ts : List (Part E M)) (c : Part E M) (r : Result ℕ UpdateFault) → half < length ts
+pub enough_counted : {E M : Type 0} (i : ℕ) (ts : List (Part E M)) (c : Part E M) (r : Result ℕ UpdateFault) → min_fill < length ts
     → is_underfull_count (and_then (count_remaining i ts c) r) ≡ false
 enough_counted i ts c (Err fault) over = refl
-enough_counted i ts c (Ok n) over = counts (nat_lt n half) (slice_get ts (sibling_of i))
+enough_counted i ts c (Ok n) over = counts (nat_lt n min_fill) (slice_get ts (sibling_of i))
   where
-    merged_enough : (b : Bool) (n : ℕ) → half < n → nat_lt (cond b n (n - 1)) half ≡ false
-    merged_enough true n over = le-ltb n half (omega arith)
-    merged_enough false n over = le-ltb (n - 1) half (omega arith)
+    merged_enough : (b : Bool) (n : ℕ) → min_fill < n → nat_lt (cond b n (n - 1)) min_fill ≡ false
+    merged_enough true n over = le-ltb n min_fill (omega arith)
+    merged_enough false n over = le-ltb (n - 1) min_fill (omega arith)
 
     merges : (size : Option ℕ) → is_underfull_count (count_of_merged (length ts) size) ≡ false
     merges None = refl
-    merges (Some size) = merged_enough (nat_lt half size) (length ts) over
+    merges (Some size) = merged_enough (nat_lt min_fill size) (length ts) over
 
     counts : (b : Bool) (sibling : Option (Part _ _)) → is_underfull_count (cond b (count_rebalanced (length ts) c sibling) (Ok (length ts))) ≡ false
-    counts false sibling = le-ltb (length ts) half (omega arith)
-    counts true None = le-ltb (length ts) half (omega arith)
+    counts false sibling = le-ltb (length ts) min_fill (omega arith)
+    counts true None = le-ltb (length ts) min_fill (omega arith)
     counts true (Some sibling) = merges (size_if_alike c sibling)
 
 record ChildAt {E M : Type 0} (ks : List (Kid E M)) (i : ℕ) : Type 0 where
@@ -362,13 +362,13 @@ parts_again none = refl
 parts_again (more m p ps) = ap (λ qs. more m p qs) (parts_again ps)
 
 module _ {E M : Type 0} (family : Family E M) (key : List ℕ) where
-  enough_in_leaf : (es : List E) (b : Bool) → has_key family key es ≡ b → half < length es
+  enough_in_leaf : (es : List E) (b : Bool) → has_key family key es ≡ b → min_fill < length es
       → is_underfull_count (result_map (size_of {M = M}) (cond b (Ok (leaf (without_entry family key es))) (Err NoRow))) ≡ false
   enough_in_leaf es false h over = refl
-  enough_in_leaf es true h over = let fewer = one_fewer family key es h in le-ltb (length (without_entry family key es)) half (omega arith)
+  enough_in_leaf es true h over = let fewer = one_fewer family key es h in le-ltb (length (without_entry family key es)) min_fill (omega arith)
 
   enough_in_children : (ss : List (List ℕ)) (ks : List (Kid E M)) (place : ℕ) → place ≡ position_or_len (key_lt key) ss → (b : Bool) → nat_lt place (length ks) ≡ b
-      → half < length ks → is_underfull_count (remaining_by family key (inner ss (parts_from ks))) ≡ false
+      → min_fill < length ks → is_underfull_count (remaining_by family key (inner ss (parts_from ks))) ≡ false
   enough_in_children ss ks place at false h over = ap is_underfull_count (sym (past_remains family key ss ks place at (omega (arith, ltb-false))))
   enough_in_children ss ks place at true h over =
       let within : place < length ks = omega (arith, ltb-true) in
@@ -377,10 +377,10 @@ module _ {E M : Type 0} (family : Family E M) (key : List ℕ) where
       ap is_underfull_count (sym (child_remains family key ss ks place at found.child within found.is))
       ∙ enough_counted place (trees_of ks) found.child.1 (remaining_by family key found.child.1) (omega arith)
 
-  enough_in_inner : (ss : List (List ℕ)) (ks : List (Kid E M)) → half < length ks → is_underfull_count (remaining_by family key (inner ss (parts_from ks))) ≡ false
+  enough_in_inner : (ss : List (List ℕ)) (ks : List (Kid E M)) → min_fill < length ks → is_underfull_count (remaining_by family key (inner ss (parts_from ks))) ≡ false
   enough_in_inner ss ks over = enough_in_children ss ks (position_or_len (key_lt key) ss) refl (nat_lt (position_or_len (key_lt key) ss) (length ks)) refl over
 
-  pub enough_remains : (t : Part E M) → half < size_of t → opens_sibling_by family key t ≡ false
+  pub enough_remains : (t : Part E M) → min_fill < size_of t → opens_sibling_by family key t ≡ false
   enough_remains (stub d) over = absurd (omega arith)
   enough_remains (leaf es) over = enough_in_leaf es (has_key family key es) refl over
   enough_remains (inner ss ps) over =

@@ -5,8 +5,8 @@ use Rattle.vo_spec.specs.declared.trees.UpdateFault.{UpdateFault}
 use Rattle.vo_spec.specs.Firsts.{and_then}
 use Rattle.vo_spec.specs.Values.{key_lt}
 use Rattle.vo_spec.specs.Parts.{Part, inner, Family}
-use Rattle.vo_spec.specs.Inserts.{Grown, one, two, result_map, after_child, put_grown}
-use Rattle.vo_spec.specs.Removes.{is_small, with_left, with_right, settle_first, settle_next, shrink, shrink_in, shrink_after}
+use Rattle.vo_spec.specs.Inserts.{Insertion, one, two, result_map, after_child, put_insertion}
+use Rattle.vo_spec.specs.Removes.{is_underfull, with_left, with_right, settle_first, settle_next, shrink, shrink_in, shrink_after}
 use Rattle.btree.specs.Nodes.{Kid, parts_from}
 use Rattle.btree.specs.Placing.{node_of, splice, rebalance_with_sibling, rebalance_at}
 use Rattle.btree.proofs.OkResults.{map_map}
@@ -25,39 +25,39 @@ one_more n = omega arith
 
 module _ {E M : Type 0} (family : Family E M) where
   -- the first two children
-  put_pair : (ss : List (List ℕ)) (k j : Kid E M) (ks : List (Kid E M)) (g : Grown E M) → put_grown family (drop 1 ss) (parts_from ks) g ≡ splice family 0 1 ss (k ∷ j ∷ ks) g
+  put_pair : (ss : List (List ℕ)) (k j : Kid E M) (ks : List (Kid E M)) (g : Insertion E M) → put_insertion family (drop 1 ss) (parts_from ks) g ≡ splice family 0 1 ss (k ∷ j ∷ ks) g
   put_pair ss k j ks (one t) = refl
   put_pair ss k j ks (two left key right) = refl
 
   -- a first child that may be underfull
 
   first_rebalances : (ss : List (List ℕ)) (k j : Kid E M) (ks : List (Kid E M)) (p : Part E M) → settle_first family ss (parts_from (j ∷ ks)) p ≡ rebalance_at family 0 ss (k ∷ j ∷ ks) p
-  first_rebalances ss k j ks p = step (is_small p)
+  first_rebalances ss k j ks p = step (is_underfull p)
     where
-      step : (b : Bool) → cond b (result_map (put_grown family (drop 1 ss) (parts_from ks)) (with_right family p (get_or ss 0 []) j.1)) (Ok (put_grown family ss (parts_from (j ∷ ks)) (one p)))
+      step : (b : Bool) → cond b (result_map (put_insertion family (drop 1 ss) (parts_from ks)) (with_right family p (get_or ss 0 []) j.1)) (Ok (put_insertion family ss (parts_from (j ∷ ks)) (one p)))
           ≡ cond b (rebalance_with_sibling family 0 ss (k ∷ j ∷ ks) p) (Ok (splice family 0 0 ss (k ∷ j ∷ ks) (one p)))
-      step true = map_same (put_grown family (drop 1 ss) (parts_from ks)) (splice family 0 1 ss (k ∷ j ∷ ks)) (with_right family p (get_or ss 0 []) j.1) (put_pair ss k j ks)
+      step true = map_same (put_insertion family (drop 1 ss) (parts_from ks)) (splice family 0 1 ss (k ∷ j ∷ ks)) (with_right family p (get_or ss 0 []) j.1) (put_pair ss k j ks)
       step false = refl
 
   -- a second one
 
   next_rebalances : (s : List ℕ) (ss : List (List ℕ)) (left k : Kid E M) (ks : List (Kid E M)) (p : Part E M) → settle_next family left.0 left.1 (s ∷ ss) (parts_from ks) p ≡ rebalance_at family 1 (s ∷ ss) (left ∷ k ∷ ks) p
-  next_rebalances s ss left k ks p = step (is_small p)
+  next_rebalances s ss left k ks p = step (is_underfull p)
     where
-      step : (b : Bool) → cond b (result_map (put_grown family ss (parts_from ks)) (with_left family left.1 s p)) (Ok (after_child left.0 left.1 (s ∷ ss) (put_grown family ss (parts_from ks) (one p))))
+      step : (b : Bool) → cond b (result_map (put_insertion family ss (parts_from ks)) (with_left family left.1 s p)) (Ok (after_child left.0 left.1 (s ∷ ss) (put_insertion family ss (parts_from ks) (one p))))
           ≡ cond b (rebalance_with_sibling family 1 (s ∷ ss) (left ∷ k ∷ ks) p) (Ok (splice family 1 1 (s ∷ ss) (left ∷ k ∷ ks) (one p)))
-      step true = map_same (put_grown family ss (parts_from ks)) (splice family 0 1 (s ∷ ss) (left ∷ k ∷ ks)) (with_left family left.1 s p) (put_pair (s ∷ ss) left k ks)
+      step true = map_same (put_insertion family ss (parts_from ks)) (splice family 0 1 (s ∷ ss) (left ∷ k ∷ ks)) (with_left family left.1 s p) (put_pair (s ∷ ss) left k ks)
       step false = refl
 
   -- one after these
 
   later_rebalances : (i : ℕ) (s : List ℕ) (ss : List (List ℕ)) (left : Kid E M) (ks : List (Kid E M)) (p : Part E M)
       → result_map (after_child left.0 left.1 (s ∷ ss)) (rebalance_at family (suc i) ss ks p) ≡ rebalance_at family (suc (suc i)) (s ∷ ss) (left ∷ ks) p
-  later_rebalances i s ss left ks p = step (is_small p)
+  later_rebalances i s ss left ks p = step (is_underfull p)
     where
       step : (b : Bool) → result_map (after_child left.0 left.1 (s ∷ ss)) (cond b (rebalance_with_sibling family (suc i) ss ks p) (Ok (splice family (suc i) (suc i) ss ks (one p))))
           ≡ cond b (rebalance_with_sibling family (suc (suc i)) (s ∷ ss) (left ∷ ks) p) (Ok (splice family (suc (suc i)) (suc (suc i)) (s ∷ ss) (left ∷ ks) (one p)))
-      step true = map_map (splice family i (i + 1) ss ks) (after_child left.0 left.1 (s ∷ ss)) (splice family (suc i) (suc i + 1) (s ∷ ss) (left ∷ ks)) (with_left family (get_or ks i (family.mark p, p)).1 (get_or ss i []) p)
+      step true = map_map (splice family i (i + 1) ss ks) (after_child left.0 left.1 (s ∷ ss)) (splice family (suc i) (suc i + 1) (s ∷ ss) (left ∷ ks)) (with_left family (get_or ks i (family.annotation p, p)).1 (get_or ss i []) p)
           (λ g. spliced_next family i (i + 1) s ss left ks g ∙ ap (λ n. splice family (suc i) n (s ∷ ss) (left ∷ ks) g) (one_more i))
       step false = ap Ok (spliced_next family (suc i) (suc i) s ss left ks (one p))
 

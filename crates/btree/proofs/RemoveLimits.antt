@@ -8,11 +8,11 @@ use Rattle.vo_spec.specs.declared.trees.UpdateFault.TheVariants.{NoRow}
 use Rattle.vo_spec.specs.Firsts.{and_then}
 use Rattle.vo_spec.specs.Parts.{Part, Parts, stub, leaf, inner, none, more, Family, count}
 use Rattle.vo_spec.specs.Fits.{FitsKey, FitsBy, FitsEach}
-use Rattle.vo_spec.specs.Inserts.{Grown, one, two, Children, result_map, take_parts, drop_parts, after_child, first_key, has_key, put_grown}
-use Rattle.vo_spec.specs.Removes.{joined_parts, is_small, settled_root, without_entry, with_left, with_right, settle_first, settle_next, shrink, shrink_in, shrink_after, removed_by}
+use Rattle.vo_spec.specs.Inserts.{Insertion, one, two, Children, result_map, take_parts, drop_parts, after_child, first_key, has_key, put_insertion}
+use Rattle.vo_spec.specs.Removes.{joined_parts, is_underfull, settled_root, without_entry, with_left, with_right, settle_first, settle_next, shrink, shrink_in, shrink_after, removed_by}
 use Rattle.btree.specs.Placing.{node_of}
 use Rattle.btree.proofs.OkResults.{ok_same, map_ok, then_ok, cond_ok}
-use Rattle.btree.proofs.InsertLimits.{FitsGrown, first_fits, take_count, drop_count, take_fits, drop_fits}
+use Rattle.btree.proofs.InsertLimits.{FitsInsertion, first_fits, take_count, drop_count, take_fits, drop_fits}
 
 module _ {E M : Type 0} (FitsE : E → Type 0) where
   -- what a node has left: an inner one may have one child
@@ -64,7 +64,7 @@ module _ {E M : Type 0} (family : Family E M) (FitsE : E → Type 0) (key_fits :
 
   leaf_left_fits : (b : Bool) (ls rs : List E) → nat_lt 8 (length ls) ≡ b → length ls ≤ 16
       → All FitsE ls → length rs < 8 → All FitsE rs
-      → FitsGrown {M = M} FitsE (cond b (two (leaf (take (length ls - 1) ls)) (first_key family (drop (length ls - 1) ls)) (leaf (drop (length ls - 1) ls ++ rs))) (one (leaf (ls ++ rs))))
+      → FitsInsertion {M = M} FitsE (cond b (two (leaf (take (length ls - 1) ls)) (first_key family (drop (length ls - 1) ls)) (leaf (drop (length ls - 1) ls ++ rs))) (one (leaf (ls ++ rs))))
   leaf_left_fits true ls rs h few f small g =
       let first : length (take (length ls - 1) ls) ≡ length ls - 1 = length-take-le (length ls - 1) ls (omega arith) in
       let last : length (drop (length ls - 1) ls) ≡ length ls - (length ls - 1) = length-drop (length ls - 1) ls in
@@ -79,7 +79,7 @@ module _ {E M : Type 0} (family : Family E M) (FitsE : E → Type 0) (key_fits :
 
   leaf_right_fits : (b : Bool) (ls rs : List E) → nat_lt 8 (length rs) ≡ b → length rs ≤ 16
       → All FitsE rs → length ls < 8 → All FitsE ls
-      → FitsGrown {M = M} FitsE (cond b (two (leaf (ls ++ take 1 rs)) (first_key family (drop 1 rs)) (leaf (drop 1 rs))) (one (leaf (ls ++ rs))))
+      → FitsInsertion {M = M} FitsE (cond b (two (leaf (ls ++ take 1 rs)) (first_key family (drop 1 rs)) (leaf (drop 1 rs))) (one (leaf (ls ++ rs))))
   leaf_right_fits true ls rs h few f small g =
       let many : 8 < length rs = grind (arith, nat_tests) in
       let first : length (take 1 rs) ≡ 1 = length-take-le 1 rs (omega arith) in
@@ -95,7 +95,7 @@ module _ {E M : Type 0} (family : Family E M) (FitsE : E → Type 0) (key_fits :
   inner_left_fits : (b : Bool) (ls rs : List (List ℕ)) (s : List ℕ) (ps qs : Parts E M)
       → nat_lt 8 (count ps) ≡ b → FitsBy FitsE (inner ls ps) → count qs < 8
       → FitsRemaining FitsE (inner rs qs) → FitsKey s
-      → FitsGrown FitsE (cond b (two (inner (take (length ls - 1) ls) (take_parts (count ps - 1) ps)) (get_or ls (length ls - 1) []) (inner (s ∷ rs) (joined_parts (drop_parts (count ps - 1) ps) qs))) (one (inner (ls ++ s ∷ rs) (joined_parts ps qs))))
+      → FitsInsertion FitsE (cond b (two (inner (take (length ls - 1) ls) (take_parts (count ps - 1) ps)) (get_or ls (length ls - 1) []) (inner (s ∷ rs) (joined_parts (drop_parts (count ps - 1) ps) qs))) (one (inner (ls ++ s ∷ rs) (joined_parts ps qs))))
   inner_left_fits true ls rs s ps qs h f small g key =
       let many : 8 < count ps = grind (arith, nat_tests) in
       let most : count ps ≤ 16 = f.1 in
@@ -122,7 +122,7 @@ module _ {E M : Type 0} (family : Family E M) (FitsE : E → Type 0) (key_fits :
   inner_right_fits : (b : Bool) (ls rs : List (List ℕ)) (s : List ℕ) (ps qs : Parts E M)
       → nat_lt 8 (count qs) ≡ b → FitsBy FitsE (inner rs qs) → count ps < 8
       → FitsRemaining FitsE (inner ls ps) → FitsKey s
-      → FitsGrown FitsE (cond b (two (inner (ls ++ s ∷ []) (joined_parts ps (take_parts 1 qs))) (get_or rs 0 []) (inner (drop 1 rs) (drop_parts 1 qs))) (one (inner (ls ++ s ∷ rs) (joined_parts ps qs))))
+      → FitsInsertion FitsE (cond b (two (inner (ls ++ s ∷ []) (joined_parts ps (take_parts 1 qs))) (get_or rs 0 []) (inner (drop 1 rs) (drop_parts 1 qs))) (one (inner (ls ++ s ∷ rs) (joined_parts ps qs))))
   inner_right_fits true ls rs s ps qs h f small g key =
       let many : 8 < count qs = grind (arith, nat_tests) in
       let most : count qs ≤ 16 = f.1 in
@@ -146,14 +146,14 @@ module _ {E M : Type 0} (family : Family E M) (FitsE : E → Type 0) (key_fits :
       let keys = length-append ls (s ∷ rs) in
       (omega arith, omega arith, omega arith, All-append FitsKey ls (s ∷ rs) g.3 (All-cons FitsKey s rs key f.3), join_fits ps qs g.4 f.4)
 
-  made_fits : (x g : Grown E M) → ◌≡◌ {A = Result (Grown E M) UpdateFault} (Ok x) (Ok g)
-      → FitsGrown FitsE x → FitsGrown FitsE g
+  made_fits : (x g : Insertion E M) → ◌≡◌ {A = Result (Insertion E M) UpdateFault} (Ok x) (Ok g)
+      → FitsInsertion FitsE x → FitsInsertion FitsE g
   made_fits x g h fits =
-      let P : Grown E M → Type 0 = λ y. FitsGrown FitsE y in
+      let P : Insertion E M → Type 0 = λ y. FitsInsertion FitsE y in
       subst P (ok_same x g h) fits
 
-  left_fits : (l p : Part E M) (s : List ℕ) (g : Grown E M) → FitsBy FitsE l → FitsRemaining FitsE p
-      → is_small p ≡ true → FitsKey s → with_left family l s p ≡ Ok g → FitsGrown FitsE g
+  left_fits : (l p : Part E M) (s : List ℕ) (g : Insertion E M) → FitsBy FitsE l → FitsRemaining FitsE p
+      → is_underfull p ≡ true → FitsKey s → with_left family l s p ≡ Ok g → FitsInsertion FitsE g
   left_fits l (stub d) s g f k small key h = absurd k
   left_fits (stub d) (leaf rs) s g f k small key h = absurd (cc)
   left_fits (stub d) (inner rs qs) s g f k small key h = absurd (cc)
@@ -164,8 +164,8 @@ module _ {E M : Type 0} (family : Family E M) (FitsE : E → Type 0) (key_fits :
   left_fits (inner ls ps) (inner rs qs) s g f k small key h =
       made_fits _ g h (inner_left_fits (nat_lt 8 (count ps)) ls rs s ps qs refl f (grind (arith, nat_tests)) k key)
 
-  right_fits : (p r : Part E M) (s : List ℕ) (g : Grown E M) → FitsRemaining FitsE p → is_small p ≡ true
-      → FitsBy FitsE r → FitsKey s → with_right family p s r ≡ Ok g → FitsGrown FitsE g
+  right_fits : (p r : Part E M) (s : List ℕ) (g : Insertion E M) → FitsRemaining FitsE p → is_underfull p ≡ true
+      → FitsBy FitsE r → FitsKey s → with_right family p s r ≡ Ok g → FitsInsertion FitsE g
   right_fits (stub d) r s g k small f key h = absurd k
   right_fits (leaf rs) (stub d) s g k small f key h = absurd (cc)
   right_fits (inner rs qs) (stub d) s g k small f key h = absurd (cc)
@@ -177,7 +177,7 @@ module _ {E M : Type 0} (family : Family E M) (FitsE : E → Type 0) (key_fits :
       made_fits _ g h (inner_right_fits (nat_lt 8 (count qs)) ls rs s ps qs refl f (grind (arith, nat_tests)) k key)
 
   -- a child that isn't underfull
-  large_fits : (p : Part E M) → FitsRemaining FitsE p → is_small p ≡ false → FitsBy FitsE p
+  large_fits : (p : Part E M) → FitsRemaining FitsE p → is_underfull p ≡ false → FitsBy FitsE p
   large_fits (stub d) k large = absurd k
   large_fits (leaf es) k large = k
   large_fits (inner ss ps) k large =
@@ -186,9 +186,9 @@ module _ {E M : Type 0} (family : Family E M) (FitsE : E → Type 0) (key_fits :
 
   -- Children of which one may be underfull.
 
-  put_fewer : (ss : List (List ℕ)) (ps : Parts E M) (g : Grown E M) → length ss ≡ count ps
-      → All FitsKey ss → FitsEach FitsE ps → FitsGrown FitsE g
-      → FitsOneFewer FitsE (put_grown family ss ps g) (count ps + 2)
+  put_fewer : (ss : List (List ℕ)) (ps : Parts E M) (g : Insertion E M) → length ss ≡ count ps
+      → All FitsKey ss → FitsEach FitsE ps → FitsInsertion FitsE g
+      → FitsOneFewer FitsE (put_insertion family ss ps g) (count ps + 2)
   put_fewer ss ps (one t) same keys parts fits =
       record { between = omega arith; keys = keys; parts = (fits, parts); least = omega arith; most = omega arith }
   put_fewer ss ps (two left key right) same keys parts fits =
@@ -196,7 +196,7 @@ module _ {E M : Type 0} (family : Family E M) (FitsE : E → Type 0) (key_fits :
 
   put_same : (ss : List (List ℕ)) (ps : Parts E M) (p : Part E M) → length ss ≡ count ps
       → All FitsKey ss → FitsEach FitsE ps → FitsBy FitsE p
-      → FitsOneFewer FitsE (put_grown family ss ps (one p)) (count ps + 1)
+      → FitsOneFewer FitsE (put_insertion family ss ps (one p)) (count ps + 1)
   put_same ss ps p same keys parts fits =
       record { between = omega arith; keys = keys; parts = (fits, parts); least = omega arith; most = omega arith }
 
@@ -219,32 +219,32 @@ module _ {E M : Type 0} (family : Family E M) (FitsE : E → Type 0) (key_fits :
       subst P same (subst Q count fits)
 
   first_fewer : (b : Bool) (s : List ℕ) (ss : List (List ℕ)) (m : M) (q : Part E M) (qs : Parts E M) (p : Part E M) (c : Children E M)
-      → is_small p ≡ b → length ss ≡ count qs
+      → is_underfull p ≡ b → length ss ≡ count qs
       → All FitsKey (s ∷ ss) → FitsBy FitsE q → FitsEach FitsE qs → FitsRemaining FitsE p
-      → cond b (result_map (put_grown family ss qs) (with_right family p s q)) (Ok (put_grown family (s ∷ ss) (more m q qs) (one p))) ≡ Ok c
+      → cond b (result_map (put_insertion family ss qs) (with_right family p s q)) (Ok (put_insertion family (s ∷ ss) (more m q qs) (one p))) ≡ Ok c
       → FitsOneFewer FitsE c (count qs + 2)
   first_fewer true s ss m q qs p c small same keys beside parts fits h =
-      let r = map_ok (put_grown family ss qs) (with_right family p s q) c h in
-      same_fewer (put_grown family ss qs r.value) c (count qs + 2) (count qs + 2) (sym r.made) refl
+      let r = map_ok (put_insertion family ss qs) (with_right family p s q) c h in
+      same_fewer (put_insertion family ss qs r.value) c (count qs + 2) (count qs + 2) (sym r.made) refl
       (put_fewer ss qs r.value same (All-tail FitsKey s ss keys) parts (right_fits p q s r.value fits small beside (All-head FitsKey s ss keys) r.ok))
   first_fewer false s ss m q qs p c large same keys beside parts fits h =
-      let made : put_grown family (s ∷ ss) (more m q qs) (one p) ≡ c = cc in
-      same_fewer (put_grown family (s ∷ ss) (more m q qs) (one p)) c (count qs + 1 + 1) (count qs + 2) made (omega arith)
+      let made : put_insertion family (s ∷ ss) (more m q qs) (one p) ≡ c = cc in
+      same_fewer (put_insertion family (s ∷ ss) (more m q qs) (one p)) c (count qs + 1 + 1) (count qs + 2) made (omega arith)
       (put_same (s ∷ ss) (more m q qs) p (omega arith) keys (beside, parts) (large_fits p fits large))
 
   next_fewer : (b : Bool) (s : List ℕ) (ss : List (List ℕ)) (m : M) (l : Part E M) (ps : Parts E M) (p : Part E M) (c : Children E M)
-      → is_small p ≡ b → length ss ≡ count ps
+      → is_underfull p ≡ b → length ss ≡ count ps
       → All FitsKey (s ∷ ss) → FitsBy FitsE l → FitsEach FitsE ps → FitsRemaining FitsE p
-      → cond b (result_map (put_grown family ss ps) (with_left family l s p)) (Ok (after_child m l (s ∷ ss) (put_grown family ss ps (one p)))) ≡ Ok c
+      → cond b (result_map (put_insertion family ss ps) (with_left family l s p)) (Ok (after_child m l (s ∷ ss) (put_insertion family ss ps (one p)))) ≡ Ok c
       → FitsOneFewer FitsE c (count ps + 2)
   next_fewer true s ss m l ps p c small same keys beside parts fits h =
-      let r = map_ok (put_grown family ss ps) (with_left family l s p) c h in
-      same_fewer (put_grown family ss ps r.value) c (count ps + 2) (count ps + 2) (sym r.made) refl
+      let r = map_ok (put_insertion family ss ps) (with_left family l s p) c h in
+      same_fewer (put_insertion family ss ps r.value) c (count ps + 2) (count ps + 2) (sym r.made) refl
       (put_fewer ss ps r.value same (All-tail FitsKey s ss keys) parts (left_fits l p s r.value beside fits small (All-head FitsKey s ss keys) r.ok))
   next_fewer false s ss m l ps p c large same keys beside parts fits h =
-      let made : after_child m l (s ∷ ss) (put_grown family ss ps (one p)) ≡ c = cc in
-      same_fewer (after_child m l (s ∷ ss) (put_grown family ss ps (one p))) c (count ps + 1 + 1) (count ps + 2) made (omega arith)
-      (after_fewer m s ss l (count ps + 1) (put_grown family ss ps (one p)) (All-head FitsKey s ss keys) beside (put_same ss ps p same (All-tail FitsKey s ss keys) parts (large_fits p fits large)))
+      let made : after_child m l (s ∷ ss) (put_insertion family ss ps (one p)) ≡ c = cc in
+      same_fewer (after_child m l (s ∷ ss) (put_insertion family ss ps (one p))) c (count ps + 1 + 1) (count ps + 2) made (omega arith)
+      (after_fewer m s ss l (count ps + 1) (put_insertion family ss ps (one p)) (All-head FitsKey s ss keys) beside (put_same ss ps p same (All-tail FitsKey s ss keys) parts (large_fits p fits large)))
 
   -- Nodes without the entry of the key.
 
@@ -269,7 +269,7 @@ module _ {E M : Type 0} (family : Family E M) (FitsE : E → Type 0) (key_fits :
   next_fits key m l s ss p ps c same keys left parts shrinks h =
       let r = then_ok (settle_next family m l (s ∷ ss) ps) (shrink family key p) c h in
       same_fewer c c (count ps + 2) (count ps + 1 + 1) refl (omega arith)
-      (next_fewer (is_small r.value) s ss m l ps r.value c refl same keys left parts (shrinks r.value r.ok) r.made)
+      (next_fewer (is_underfull r.value) s ss m l ps r.value c refl same keys left parts (shrinks r.value r.ok) r.made)
 
   module _ (key : List ℕ) where
     mutual
@@ -293,7 +293,7 @@ module _ {E M : Type 0} (family : Family E M) (FitsE : E → Type 0) (key_fits :
           cond_ok _ _ _ c h
           (λ here. let r = then_ok (settle_first family (s ∷ ss) (more n q qs)) (shrink family key p) c here in
           same_fewer c c (count qs + 2) (count qs + 1 + 1) refl (omega arith)
-          (first_fewer (is_small r.value) s ss n q qs r.value c refl (omega arith) keys parts.1.0 parts.1.1 (shrink_fits p r.value parts.0 r.ok) r.made))
+          (first_fewer (is_underfull r.value) s ss n q qs r.value c refl (omega arith) keys parts.1.0 parts.1.1 (shrink_fits p r.value parts.0 r.ok) r.made))
           (λ on. after_fits m p s ss (more n q qs) c (omega arith) keys parts.0 parts.1 on)
 
       after_fits : (m : M) (l : Part E M) (s : List ℕ) (ss : List (List ℕ)) (ps : Parts E M) (c : Children E M)

@@ -3,14 +3,14 @@ use Rattle.std.proofs.Common.{◌≡◌, ℕ, ◌-◌, Bool, true, false, cond, 
 use Rattle.std.specs.List.{AllZip}
 use Rattle.vo_spec.specs.declared.trees.UpdateFault.TheVariants.{NoRow}
 use Rattle.vo_spec.specs.Parts.{Part, Parts, stub, leaf, inner, none, more, Family, count, PrunesBy, PrunesEach}
-use Rattle.vo_spec.specs.Inserts.{Grown, one, two, Children, result_map, goes_here, take_parts, drop_parts, after_child, has_key, first_key, put_grown}
-use Rattle.vo_spec.specs.Removes.{joined_parts, is_small, settled_root, without_entry, with_left, with_right, settle_first, settle_next, shrink, shrink_in, shrink_after, removed_by}
-use Rattle.btree.specs.Agreeing.{Agrees}
-use Rattle.btree.specs.Pruning.{KeepsKeys, KeepsMarks}
+use Rattle.vo_spec.specs.Inserts.{Insertion, one, two, Children, result_map, goes_here, take_parts, drop_parts, after_child, has_key, first_key, put_insertion}
+use Rattle.vo_spec.specs.Removes.{joined_parts, is_underfull, settled_root, without_entry, with_left, with_right, settle_first, settle_next, shrink, shrink_in, shrink_after, removed_by}
+use Rattle.btree.specs.Agreeing.{AgreesWithTree}
+use Rattle.btree.specs.Pruning.{KeepsKeys, KeepsAnnotations}
 use Rattle.btree.specs.Pruning as pruning
 use Rattle.btree.proofs.AgreeingResults.{agrees_map, agrees_then, agrees_cond}
 use Rattle.btree.proofs.PrunedLists.{zip_length, zip_take, zip_drop, zip_join, zip_first, zip_has, each_count, each_take, each_drop, each_join}
-use Rattle.btree.proofs.InsertPrunes.{put_grown_prunes}
+use Rattle.btree.proofs.InsertPrunes.{put_insertion_prunes}
 use Rattle.btree.proofs.InsertPrunes as inserts
 
 module _ {E M : Type 0} (family : Family E M) (EntryPrunes : E → E → Type 0) where
@@ -26,15 +26,15 @@ module _ {E M : Type 0} (family : Family E M) (EntryPrunes : E → E → Type 0)
   abbrev OpenPrunes : Part E M → Part E M → Type 0
   OpenPrunes = pruning.OpenPrunes family EntryPrunes
 
-  abbrev GrownPrunes : Grown E M → Grown E M → Type 0
-  GrownPrunes = inserts.GrownPrunes family EntryPrunes
+  abbrev InsertionPrunes : Insertion E M → Insertion E M → Type 0
+  InsertionPrunes = inserts.InsertionPrunes family EntryPrunes
 
   abbrev ChildrenPrune : Children E M → Children E M → Type 0
   ChildrenPrune = inserts.ChildrenPrune family EntryPrunes
 
   -- What a node has left.
 
-  pub as_underfull : (p t : Part E M) → OpenPrunes p t → is_small p ≡ is_small t
+  pub as_underfull : (p t : Part E M) → OpenPrunes p t → is_underfull p ≡ is_underfull t
   as_underfull (stub d) t z = absurd z
   as_underfull (leaf es) (stub d) z = absurd z
   as_underfull (leaf es) (leaf fs) z = ap (λ n. nat_lt n 8) (zip_length EntryPrunes es fs z)
@@ -80,50 +80,50 @@ module _ {E M : Type 0} (family : Family E M) (EntryPrunes : E → E → Type 0)
 
     module _ (ls ms rs ns : List E) (y : Zip ls ms) (z : Zip rs ns) where
       leaf_left : (s : List ℕ)
-          → Agrees GrownPrunes (with_left family (leaf ls) s (leaf rs)) (with_left family (leaf ms) s (leaf ns))
-      leaf_left s = subst (λ n. GrownPrunes (filled (nat_lt 8 (length ls)) (length ls) ls rs) (filled (nat_lt 8 n) n ms ns)) (zip_length EntryPrunes ls ms y) (step (nat_lt 8 (length ls)) (length ls))
+          → AgreesWithTree InsertionPrunes (with_left family (leaf ls) s (leaf rs)) (with_left family (leaf ms) s (leaf ns))
+      leaf_left s = subst (λ n. InsertionPrunes (filled (nat_lt 8 (length ls)) (length ls) ls rs) (filled (nat_lt 8 n) n ms ns)) (zip_length EntryPrunes ls ms y) (step (nat_lt 8 (length ls)) (length ls))
         where
-          filled : Bool → ℕ → List E → List E → Grown E M
+          filled : Bool → ℕ → List E → List E → Insertion E M
           filled b n xs ys = cond b (two (leaf (take (n - 1) xs)) (first_key family (drop (n - 1) xs)) (leaf (drop (n - 1) xs ++ ys))) (one (leaf (xs ++ ys)))
 
-          step : (b : Bool) (n : ℕ) → GrownPrunes (filled b n ls rs) (filled b n ms ns)
+          step : (b : Bool) (n : ℕ) → InsertionPrunes (filled b n ls rs) (filled b n ms ns)
           step true n = (zip_take EntryPrunes (n - 1) ls ms y, zip_first family EntryPrunes same_key (drop (n - 1) ls) (drop (n - 1) ms) (zip_drop EntryPrunes (n - 1) ls ms y), zip_join EntryPrunes (drop (n - 1) ls) (drop (n - 1) ms) rs ns (zip_drop EntryPrunes (n - 1) ls ms y) z)
           step false n = zip_join EntryPrunes ls ms rs ns y z
 
       leaf_right : (s : List ℕ)
-          → Agrees GrownPrunes (with_right family (leaf ls) s (leaf rs)) (with_right family (leaf ms) s (leaf ns))
-      leaf_right s = subst (λ n. GrownPrunes (filled (nat_lt 8 (length rs)) ls rs) (filled (nat_lt 8 n) ms ns)) (zip_length EntryPrunes rs ns z) (step (nat_lt 8 (length rs)))
+          → AgreesWithTree InsertionPrunes (with_right family (leaf ls) s (leaf rs)) (with_right family (leaf ms) s (leaf ns))
+      leaf_right s = subst (λ n. InsertionPrunes (filled (nat_lt 8 (length rs)) ls rs) (filled (nat_lt 8 n) ms ns)) (zip_length EntryPrunes rs ns z) (step (nat_lt 8 (length rs)))
         where
-          filled : Bool → List E → List E → Grown E M
+          filled : Bool → List E → List E → Insertion E M
           filled b xs ys = cond b (two (leaf (xs ++ take 1 ys)) (first_key family (drop 1 ys)) (leaf (drop 1 ys))) (one (leaf (xs ++ ys)))
 
-          step : (b : Bool) → GrownPrunes (filled b ls rs) (filled b ms ns)
+          step : (b : Bool) → InsertionPrunes (filled b ls rs) (filled b ms ns)
           step true = (zip_join EntryPrunes ls ms (take 1 rs) (take 1 ns) y (zip_take EntryPrunes 1 rs ns z), zip_first family EntryPrunes same_key (drop 1 rs) (drop 1 ns) (zip_drop EntryPrunes 1 rs ns z), zip_drop EntryPrunes 1 rs ns z)
           step false = zip_join EntryPrunes ls ms rs ns y z
 
     module _ (ls rs : List (List ℕ)) (s : List ℕ) (ps qs us vs : Parts E M) (y : Each ps qs) (z : Each us vs) where
-      inner_left : Agrees GrownPrunes (with_left family (inner ls ps) s (inner rs us)) (with_left family (inner ls qs) s (inner rs vs))
-      inner_left = subst (λ n. GrownPrunes (filled (nat_lt 8 (count ps)) (count ps) ps us) (filled (nat_lt 8 n) n qs vs)) (each_count family EntryPrunes ps qs y) (step (nat_lt 8 (count ps)) (count ps))
+      inner_left : AgreesWithTree InsertionPrunes (with_left family (inner ls ps) s (inner rs us)) (with_left family (inner ls qs) s (inner rs vs))
+      inner_left = subst (λ n. InsertionPrunes (filled (nat_lt 8 (count ps)) (count ps) ps us) (filled (nat_lt 8 n) n qs vs)) (each_count family EntryPrunes ps qs y) (step (nat_lt 8 (count ps)) (count ps))
         where
-          filled : Bool → ℕ → Parts E M → Parts E M → Grown E M
+          filled : Bool → ℕ → Parts E M → Parts E M → Insertion E M
           filled b n xs ys = cond b (two (inner (take (length ls - 1) ls) (take_parts (n - 1) xs)) (get_or ls (length ls - 1) []) (inner (s ∷ rs) (joined_parts (drop_parts (n - 1) xs) ys))) (one (inner (ls ++ s ∷ rs) (joined_parts xs ys)))
 
-          step : (b : Bool) (n : ℕ) → GrownPrunes (filled b n ps us) (filled b n qs vs)
+          step : (b : Bool) (n : ℕ) → InsertionPrunes (filled b n ps us) (filled b n qs vs)
           step true n = ((refl, each_take family EntryPrunes (n - 1) ps qs y), refl, (refl, each_join family EntryPrunes (drop_parts (n - 1) ps) (drop_parts (n - 1) qs) us vs (each_drop family EntryPrunes (n - 1) ps qs y) z))
           step false n = (refl, each_join family EntryPrunes ps qs us vs y z)
 
-      inner_right : Agrees GrownPrunes (with_right family (inner ls ps) s (inner rs us)) (with_right family (inner ls qs) s (inner rs vs))
-      inner_right = subst (λ n. GrownPrunes (filled (nat_lt 8 (count us)) ps us) (filled (nat_lt 8 n) qs vs)) (each_count family EntryPrunes us vs z) (step (nat_lt 8 (count us)))
+      inner_right : AgreesWithTree InsertionPrunes (with_right family (inner ls ps) s (inner rs us)) (with_right family (inner ls qs) s (inner rs vs))
+      inner_right = subst (λ n. InsertionPrunes (filled (nat_lt 8 (count us)) ps us) (filled (nat_lt 8 n) qs vs)) (each_count family EntryPrunes us vs z) (step (nat_lt 8 (count us)))
         where
-          filled : Bool → Parts E M → Parts E M → Grown E M
+          filled : Bool → Parts E M → Parts E M → Insertion E M
           filled b xs ys = cond b (two (inner (ls ++ s ∷ []) (joined_parts xs (take_parts 1 ys))) (get_or rs 0 []) (inner (drop 1 rs) (drop_parts 1 ys))) (one (inner (ls ++ s ∷ rs) (joined_parts xs ys)))
 
-          step : (b : Bool) → GrownPrunes (filled b ps us) (filled b qs vs)
+          step : (b : Bool) → InsertionPrunes (filled b ps us) (filled b qs vs)
           step true = ((refl, each_join family EntryPrunes ps qs (take_parts 1 us) (take_parts 1 vs) y (each_take family EntryPrunes 1 us vs z)), refl, (refl, each_drop family EntryPrunes 1 us vs z))
           step false = (refl, each_join family EntryPrunes ps qs us vs y z)
 
     left_agrees : (s : List ℕ) (l m p t : Part E M) → Prunes l m → OpenPrunes p t
-        → Agrees GrownPrunes (with_left family l s p) (with_left family m s t)
+        → AgreesWithTree InsertionPrunes (with_left family l s p) (with_left family m s t)
     left_agrees s l m (stub d) t y z = absurd z
     left_agrees s (stub d) m (leaf es) t y z = tt
     left_agrees s (stub d) m (inner rs us) t y z = tt
@@ -139,11 +139,11 @@ module _ {E M : Type 0} (family : Family E M) (EntryPrunes : E → E → Type 0)
     left_agrees s (inner ls ps) (inner ms qs) (inner rs us) (stub d) y z = absurd z
     left_agrees s (inner ls ps) (inner ms qs) (inner rs us) (leaf ns) y z = absurd z
     left_agrees s (inner ls ps) (inner ms qs) (inner rs us) (inner ns vs) y z =
-        subst (λ ks. Agrees GrownPrunes (with_left family (inner ls ps) s (inner rs us)) (with_left family (inner ks qs) s (inner ns vs))) y.0
-        (subst (λ ks. Agrees GrownPrunes (with_left family (inner ls ps) s (inner rs us)) (with_left family (inner ls qs) s (inner ks vs))) z.0 (inner_left ls rs s ps qs us vs y.1 z.1))
+        subst (λ ks. AgreesWithTree InsertionPrunes (with_left family (inner ls ps) s (inner rs us)) (with_left family (inner ks qs) s (inner ns vs))) y.0
+        (subst (λ ks. AgreesWithTree InsertionPrunes (with_left family (inner ls ps) s (inner rs us)) (with_left family (inner ls qs) s (inner ks vs))) z.0 (inner_left ls rs s ps qs us vs y.1 z.1))
 
     right_agrees : (s : List ℕ) (p t l m : Part E M) → OpenPrunes p t → Prunes l m
-        → Agrees GrownPrunes (with_right family p s l) (with_right family t s m)
+        → AgreesWithTree InsertionPrunes (with_right family p s l) (with_right family t s m)
     right_agrees s (stub d) t l m z y = absurd z
     right_agrees s (leaf es) t (stub d) m z y = tt
     right_agrees s (inner rs us) t (stub d) m z y = tt
@@ -159,10 +159,10 @@ module _ {E M : Type 0} (family : Family E M) (EntryPrunes : E → E → Type 0)
     right_agrees s (inner rs us) (stub d) (inner ls ps) (inner ms qs) z y = absurd z
     right_agrees s (inner rs us) (leaf ns) (inner ls ps) (inner ms qs) z y = absurd z
     right_agrees s (inner rs us) (inner ns vs) (inner ls ps) (inner ms qs) z y =
-        subst (λ ks. Agrees GrownPrunes (with_right family (inner rs us) s (inner ls ps)) (with_right family (inner ks vs) s (inner ms qs))) z.0
-        (subst (λ ks. Agrees GrownPrunes (with_right family (inner rs us) s (inner ls ps)) (with_right family (inner rs vs) s (inner ks qs))) y.0 (inner_right rs ls s us vs ps qs z.1 y.1))
+        subst (λ ks. AgreesWithTree InsertionPrunes (with_right family (inner rs us) s (inner ls ps)) (with_right family (inner ks vs) s (inner ms qs))) z.0
+        (subst (λ ks. AgreesWithTree InsertionPrunes (with_right family (inner rs us) s (inner ls ps)) (with_right family (inner rs vs) s (inner ks qs))) y.0 (inner_right rs ls s us vs ps qs z.1 y.1))
 
-    module _ (same_mark : KeepsMarks family EntryPrunes) where
+    module _ (same_annotation : KeepsAnnotations family EntryPrunes) where
       -- Children of which one may be underfull.
 
       after_prunes : (m n : M) (p q : Part E M) (ss : List (List ℕ)) (c d : Children E M) → m ≡ n
@@ -171,43 +171,43 @@ module _ {E M : Type 0} (family : Family E M) (EntryPrunes : E → E → Type 0)
 
       first_rebalances : (ss : List (List ℕ)) (ps qs : Parts E M) (p t : Part E M) → Each ps qs
           → OpenPrunes p t
-          → Agrees ChildrenPrune (settle_first family ss ps p) (settle_first family ss qs t)
-      first_rebalances ss none none p t y z = put_grown_prunes family EntryPrunes same_mark ss none none tt (one p) (one t) z
+          → AgreesWithTree ChildrenPrune (settle_first family ss ps p) (settle_first family ss qs t)
+      first_rebalances ss none none p t y z = put_insertion_prunes family EntryPrunes same_annotation ss none none tt (one p) (one t) z
       first_rebalances ss none (more m q qs) p t y z = absurd y
       first_rebalances ss (more m q qs) none p t y z = absurd y
       first_rebalances ss (more m q qs) (more n r rs) p t y z =
-          subst (λ b. Agrees ChildrenPrune (settle_first family ss (more m q qs) p) (cond b (result_map (put_grown family (drop 1 ss) rs) (with_right family t (get_or ss 0 []) r)) (Ok (put_grown family ss (more n r rs) (one t)))))
+          subst (λ b. AgreesWithTree ChildrenPrune (settle_first family ss (more m q qs) p) (cond b (result_map (put_insertion family (drop 1 ss) rs) (with_right family t (get_or ss 0 []) r)) (Ok (put_insertion family ss (more n r rs) (one t)))))
           (as_underfull p t z)
-          (agrees_cond ChildrenPrune (is_small p) _ _ _ _
-          (agrees_map GrownPrunes ChildrenPrune (put_grown family (drop 1 ss) qs) (put_grown family (drop 1 ss) rs) _ _ (put_grown_prunes family EntryPrunes same_mark (drop 1 ss) qs rs y.2) (right_agrees (get_or ss 0 []) p t q r z y.1))
-          (put_grown_prunes family EntryPrunes same_mark ss (more m q qs) (more n r rs) y (one p) (one t) z))
+          (agrees_cond ChildrenPrune (is_underfull p) _ _ _ _
+          (agrees_map InsertionPrunes ChildrenPrune (put_insertion family (drop 1 ss) qs) (put_insertion family (drop 1 ss) rs) _ _ (put_insertion_prunes family EntryPrunes same_annotation (drop 1 ss) qs rs y.2) (right_agrees (get_or ss 0 []) p t q r z y.1))
+          (put_insertion_prunes family EntryPrunes same_annotation ss (more m q qs) (more n r rs) y (one p) (one t) z))
 
       next_rebalances : (m n : M) (l k : Part E M) (ss : List (List ℕ)) (ps qs : Parts E M) (p t : Part E M)
           → m ≡ n → Prunes l k → Each ps qs → OpenPrunes p t
-          → Agrees ChildrenPrune (settle_next family m l ss ps p) (settle_next family n k ss qs t)
+          → AgreesWithTree ChildrenPrune (settle_next family m l ss ps p) (settle_next family n k ss qs t)
       next_rebalances m n l k ss ps qs p t same x y z =
-          subst (λ b. Agrees ChildrenPrune (settle_next family m l ss ps p) (cond b (result_map (put_grown family (drop 1 ss) qs) (with_left family k (get_or ss 0 []) t)) (Ok (after_child n k ss (put_grown family (drop 1 ss) qs (one t))))))
+          subst (λ b. AgreesWithTree ChildrenPrune (settle_next family m l ss ps p) (cond b (result_map (put_insertion family (drop 1 ss) qs) (with_left family k (get_or ss 0 []) t)) (Ok (after_child n k ss (put_insertion family (drop 1 ss) qs (one t))))))
           (as_underfull p t z)
-          (agrees_cond ChildrenPrune (is_small p) _ _ _ _
-          (agrees_map GrownPrunes ChildrenPrune (put_grown family (drop 1 ss) ps) (put_grown family (drop 1 ss) qs) _ _ (put_grown_prunes family EntryPrunes same_mark (drop 1 ss) ps qs y) (left_agrees (get_or ss 0 []) l k p t x z))
-          (after_prunes m n l k ss (put_grown family (drop 1 ss) ps (one p)) (put_grown family (drop 1 ss) qs (one t)) same x (put_grown_prunes family EntryPrunes same_mark (drop 1 ss) ps qs y (one p) (one t) z)))
+          (agrees_cond ChildrenPrune (is_underfull p) _ _ _ _
+          (agrees_map InsertionPrunes ChildrenPrune (put_insertion family (drop 1 ss) ps) (put_insertion family (drop 1 ss) qs) _ _ (put_insertion_prunes family EntryPrunes same_annotation (drop 1 ss) ps qs y) (left_agrees (get_or ss 0 []) l k p t x z))
+          (after_prunes m n l k ss (put_insertion family (drop 1 ss) ps (one p)) (put_insertion family (drop 1 ss) qs (one t)) same x (put_insertion_prunes family EntryPrunes same_annotation (drop 1 ss) ps qs y (one p) (one t) z)))
 
       -- Nodes without the entry of the key.
 
       module _ (key : List ℕ) where
         leaf_agrees : (es fs : List E) → Zip es fs
-            → Agrees OpenPrunes (shrink family key (leaf es)) (shrink family key (leaf fs))
+            → AgreesWithTree OpenPrunes (shrink family key (leaf es)) (shrink family key (leaf fs))
         leaf_agrees es fs z =
-            subst (λ b. Agrees OpenPrunes (shrink family key (leaf es)) (cond b (Ok (leaf (without_entry family key fs))) (Err NoRow))) (zip_has family EntryPrunes same_key key es fs z) (step (has_key family key es))
+            subst (λ b. AgreesWithTree OpenPrunes (shrink family key (leaf es)) (cond b (Ok (leaf (without_entry family key fs))) (Err NoRow))) (zip_has family EntryPrunes same_key key es fs z) (step (has_key family key es))
           where
             step : (b : Bool)
-                → Agrees OpenPrunes (cond b (Ok (leaf (without_entry family key es))) (Err NoRow)) (cond b (Ok (leaf (without_entry family key fs))) (Err NoRow))
+                → AgreesWithTree OpenPrunes (cond b (Ok (leaf (without_entry family key es))) (Err NoRow)) (cond b (Ok (leaf (without_entry family key fs))) (Err NoRow))
             step true = without_zips key es fs z
             step false = refl
 
         mutual
           pub shrink_agrees : (p t : Part E M) → Prunes p t
-              → Agrees OpenPrunes (shrink family key p) (shrink family key t)
+              → AgreesWithTree OpenPrunes (shrink family key p) (shrink family key t)
           shrink_agrees (stub d) t z = tt
           shrink_agrees (leaf es) (stub d) z = absurd z
           shrink_agrees (leaf es) (leaf fs) z = leaf_agrees es fs z
@@ -216,10 +216,10 @@ module _ {E M : Type 0} (family : Family E M) (EntryPrunes : E → E → Type 0)
           shrink_agrees (inner ss ps) (leaf es) z = absurd z
           shrink_agrees (inner ss ps) (inner ts qs) z =
               agrees_map ChildrenPrune OpenPrunes (λ c. inner c.separators c.parts) (λ c. inner c.separators c.parts) _ _ (λ c d h. h)
-              (subst (λ us. Agrees ChildrenPrune (shrink_in family key ss ps) (shrink_in family key us qs)) z.0 (in_agrees ss ps qs z.1))
+              (subst (λ us. AgreesWithTree ChildrenPrune (shrink_in family key ss ps) (shrink_in family key us qs)) z.0 (in_agrees ss ps qs z.1))
 
           in_agrees : (ss : List (List ℕ)) (ps qs : Parts E M) → Each ps qs
-              → Agrees ChildrenPrune (shrink_in family key ss ps) (shrink_in family key ss qs)
+              → AgreesWithTree ChildrenPrune (shrink_in family key ss ps) (shrink_in family key ss qs)
           in_agrees ss none none z = tt
           in_agrees ss none (more m p ps) z = absurd z
           in_agrees ss (more m p ps) none z = absurd z
@@ -230,7 +230,7 @@ module _ {E M : Type 0} (family : Family E M) (EntryPrunes : E → E → Type 0)
 
           after_agrees : (m n : M) (l k : Part E M) (ss : List (List ℕ)) (ps qs : Parts E M) → m ≡ n
               → Prunes l k → Each ps qs
-              → Agrees ChildrenPrune (shrink_after family key m l ss ps) (shrink_after family key n k ss qs)
+              → AgreesWithTree ChildrenPrune (shrink_after family key m l ss ps) (shrink_after family key n k ss qs)
           after_agrees m n l k ss none none same y z = tt
           after_agrees m n l k ss none (more j p ps) same y z = absurd z
           after_agrees m n l k ss (more j p ps) none same y z = absurd z
@@ -240,5 +240,5 @@ module _ {E M : Type 0} (family : Family E M) (EntryPrunes : E → E → Type 0)
               (agrees_map ChildrenPrune ChildrenPrune (after_child m l ss) (after_child n k ss) _ _ (λ c d h. after_prunes m n l k ss c d same y h) (after_agrees j i p q (drop 1 ss) ps qs z.0 z.1 z.2))
 
         pub removed_agrees : (p t : Part E M) → Prunes p t
-            → Agrees Prunes (removed_by family key p) (removed_by family key t)
+            → AgreesWithTree Prunes (removed_by family key p) (removed_by family key t)
         removed_agrees p t z = agrees_map OpenPrunes Prunes settled_root settled_root _ _ root_settles (shrink_agrees p t z)

@@ -4,11 +4,11 @@ use Rattle.std.proofs.lemmas.List.{take-append-drop}
 use Rattle.std.specs.List.{AllByRecursion}
 use Rattle.vo_spec.specs.declared.trees.UpdateFault.TheVariants.{NoRow}
 use Rattle.vo_spec.specs.Parts.{Part, Parts, stub, leaf, inner, none, more, Family, count, entries, entries_in}
-use Rattle.vo_spec.specs.Inserts.{half, Grown, one, two, Children, has_key, first_key, take_parts, drop_parts, after_child, put_grown}
-use Rattle.vo_spec.specs.Removes.{joined_parts, is_small, settled_root, without_entry, with_left, with_right, settle_first, settle_next, shrink, shrink_in, shrink_after, removed_by}
+use Rattle.vo_spec.specs.Inserts.{min_fill, Insertion, one, two, Children, has_key, first_key, take_parts, drop_parts, after_child, put_insertion}
+use Rattle.vo_spec.specs.Removes.{joined_parts, is_underfull, settled_root, without_entry, with_left, with_right, settle_first, settle_next, shrink, shrink_in, shrink_after, removed_by}
 use Rattle.btree.specs.Placing.{node_of}
 use Rattle.btree.proofs.OkResults.{ok_same, map_ok, then_ok, cond_ok}
-use Rattle.btree.proofs.InsertedEntries.{Puts, entries_of, after_others, before_others, take_drop_parts, put_grown_entries, puts_count, all_fixed, fixed_all}
+use Rattle.btree.proofs.InsertedEntries.{Puts, entries_of, after_others, before_others, take_drop_parts, put_insertion_entries, puts_count, all_fixed, fixed_all}
 
 -- the second list is the first without one of its entries of this key
 pub record Takes {E : Type 0} (key_of : E → List ℕ) (key : List ℕ) (xs ys : List E) : Type 0 where
@@ -89,39 +89,39 @@ module _ {E M : Type 0} (family : Family E M) where
   leaf_right true n ls rs = append_assoc ls (take n rs) (drop n rs) ∙ ap (λ l. ls ++ l) (take-append-drop n rs)
   leaf_right false n ls rs = refl
 
-  left_entries : (t : Part E M) (s : List ℕ) (u : Part E M) (g : Grown E M)
+  left_entries : (t : Part E M) (s : List ℕ) (u : Part E M) (g : Insertion E M)
       → with_left family t s u ≡ Ok g → entries_of g ≡ entries t ++ entries u
   left_entries (stub d) s u g h = absurd (cc)
   left_entries (leaf ls) s (stub d) g h = absurd (cc)
-  left_entries (leaf ls) s (leaf rs) g h = ap entries_of (sym (ok_same _ g h)) ∙ leaf_left (nat_lt half (length ls)) (length ls - 1) ls rs
+  left_entries (leaf ls) s (leaf rs) g h = ap entries_of (sym (ok_same _ g h)) ∙ leaf_left (nat_lt min_fill (length ls)) (length ls - 1) ls rs
   left_entries (leaf ls) s (inner rs qs) g h = absurd (cc)
   left_entries (inner ls ps) s (stub d) g h = absurd (cc)
   left_entries (inner ls ps) s (leaf rs) g h = absurd (cc)
   left_entries (inner ls ps) s (inner rs qs) g h =
       ap entries_of (sym (ok_same _ g h))
-      ∙ inner_left (nat_lt half (count ps)) (count ps - 1) (get_or ls (length ls - 1) []) (take (length ls - 1) ls) (s ∷ rs) (ls ++ s ∷ rs) ps qs
+      ∙ inner_left (nat_lt min_fill (count ps)) (count ps - 1) (get_or ls (length ls - 1) []) (take (length ls - 1) ls) (s ∷ rs) (ls ++ s ∷ rs) ps qs
 
-  right_entries : (t : Part E M) (s : List ℕ) (u : Part E M) (g : Grown E M)
+  right_entries : (t : Part E M) (s : List ℕ) (u : Part E M) (g : Insertion E M)
       → with_right family t s u ≡ Ok g → entries_of g ≡ entries t ++ entries u
   right_entries (stub d) s u g h = absurd (cc)
   right_entries (leaf ls) s (stub d) g h = absurd (cc)
-  right_entries (leaf ls) s (leaf rs) g h = ap entries_of (sym (ok_same _ g h)) ∙ leaf_right (nat_lt half (length rs)) 1 ls rs
+  right_entries (leaf ls) s (leaf rs) g h = ap entries_of (sym (ok_same _ g h)) ∙ leaf_right (nat_lt min_fill (length rs)) 1 ls rs
   right_entries (leaf ls) s (inner rs qs) g h = absurd (cc)
   right_entries (inner ls ps) s (stub d) g h = absurd (cc)
   right_entries (inner ls ps) s (leaf rs) g h = absurd (cc)
   right_entries (inner ls ps) s (inner rs qs) g h =
       ap entries_of (sym (ok_same _ g h))
-      ∙ inner_right (nat_lt half (count qs)) 1 (get_or rs 0 []) (ls ++ s ∷ []) (drop 1 rs) (ls ++ s ∷ rs) ps qs
+      ∙ inner_right (nat_lt min_fill (count qs)) 1 (get_or rs 0 []) (ls ++ s ∷ []) (drop 1 rs) (ls ++ s ∷ rs) ps qs
 
   first_entries : (ss : List (List ℕ)) (ps : Parts E M) (t : Part E M) (c : Children E M)
       → settle_first family ss ps t ≡ Ok c
       → entries_in c.parts ≡ entries t ++ entries_in ps
   first_entries ss none t c h = ap (λ (x : Children E M). entries_in x.parts) (sym (ok_same _ c h))
   first_entries ss (more m u ps) t c h =
-      cond_ok (is_small t) _ _ c h
-      (λ underfull. let made = map_ok (put_grown family (drop 1 ss) ps) (with_right family t (get_or ss 0 []) u) c underfull in
+      cond_ok (is_underfull t) _ _ c h
+      (λ underfull. let made = map_ok (put_insertion family (drop 1 ss) ps) (with_right family t (get_or ss 0 []) u) c underfull in
       ap (λ (x : Children E M). entries_in x.parts) made.made
-      ∙ put_grown_entries family (drop 1 ss) ps made.value
+      ∙ put_insertion_entries family (drop 1 ss) ps made.value
       ∙ ap (λ l. l ++ entries_in ps) (right_entries t (get_or ss 0 []) u made.value made.ok)
       ∙ append_assoc (entries t) (entries u) (entries_in ps))
       (λ enough. ap (λ (x : Children E M). entries_in x.parts) (sym (ok_same _ c enough)))
@@ -130,10 +130,10 @@ module _ {E M : Type 0} (family : Family E M) where
       → settle_next family m left ss ps t ≡ Ok c
       → entries_in c.parts ≡ entries left ++ (entries t ++ entries_in ps)
   next_entries m left ss ps t c h =
-      cond_ok (is_small t) _ _ c h
-      (λ underfull. let made = map_ok (put_grown family (drop 1 ss) ps) (with_left family left (get_or ss 0 []) t) c underfull in
+      cond_ok (is_underfull t) _ _ c h
+      (λ underfull. let made = map_ok (put_insertion family (drop 1 ss) ps) (with_left family left (get_or ss 0 []) t) c underfull in
       ap (λ (x : Children E M). entries_in x.parts) made.made
-      ∙ put_grown_entries family (drop 1 ss) ps made.value
+      ∙ put_insertion_entries family (drop 1 ss) ps made.value
       ∙ ap (λ l. l ++ entries_in ps) (left_entries left (get_or ss 0 []) t made.value made.ok)
       ∙ append_assoc (entries left) (entries t) (entries_in ps))
       (λ enough. ap (λ (x : Children E M). entries_in x.parts) (sym (ok_same _ c enough)))

@@ -55,7 +55,7 @@ module _ {E M : Type 0} (family : Family E M) (FitsE : E → Type 0) where
       in_fits ss (more k p ps) qs fits h =
           let P : Parts E M → Type 0 = λ x. FitParts FitsE x (count ps + 1) in
           cond_ok _ _ _ qs h
-          (λ here. let m = map_ok (λ q. more (family.mark q) q ps) (edited_by family edit key p) qs here in
+          (λ here. let m = map_ok (λ q. more (family.annotation q) q ps) (edited_by family edit key p) qs here in
           subst P (sym m.made) (record { count = refl; each = (edited_fits p m.value fits.0 m.ok, fits.1) }))
           (λ on. let m = map_ok (more k p) (edited_in family edit key (drop 1 ss) ps) qs on in
           let others = in_fits (drop 1 ss) ps m.value fits.1 m.ok in

@@ -112,7 +112,7 @@ module _ {E M : Type 0} (family : Family E M) (edit : E → Result E UpdateFault
     children_edited ss none qs h = absurd (cc)
     children_edited ss (more m p ps) qs h =
         cond_ok _ _ _ qs h
-        (λ here. let made = map_ok (λ q. more (family.mark q) q ps) (edited_by family edit key p) qs here in
+        (λ here. let made = map_ok (λ q. more (family.annotation q) q ps) (edited_by family edit key p) qs here in
         edits_same family.key edit key (entries p ++ entries_in ps) (entries made.value ++ entries_in ps) (entries_in qs)
         (before_edited family.key edit key (entries_in ps) (entries p) (entries made.value) (edited_edits p made.value made.ok)) (ap entries_in made.made))
         (λ on. let made = map_ok (more m p) (edited_in family edit key (drop 1 ss) ps) qs on in

@@ -3,7 +3,7 @@ use Rattle.std.proofs.Common.{◌≡◌, ℕ, ◌+◌, ◌-◌, ◌<◌, ◌≤�
 use Rattle.std.proofs.lemmas.List.{length-take-le}
 use Rattle.std.proofs.lemmas.Bool.Decides.{nat_tests}
 use Rattle.vo_spec.specs.Parts.{Part, stub, leaf, inner, count, Family}
-use Rattle.vo_spec.specs.Inserts.{Grown, one, two, Children}
+use Rattle.vo_spec.specs.Inserts.{Insertion, one, two, Children}
 use Rattle.btree.specs.Nodes.{Kid, kids_of, keys_of}
 use Rattle.btree.specs.Placing.{splice, split, divide_at, CanDivide}
 use Rattle.btree.specs.Shapes.{size_of, IsLinked, IsWithin}
@@ -16,10 +16,10 @@ within : (n : ℕ) → n ≤ 16 → nat_le n 16 ≡ true
 within n h = grind (arith, nat_tests)
 
 module _ {E M : Type 0} (family : Family E M) where
-  pub split_small : (t : Part E M) → size_of t ≤ 16 → split family t ≡ one t
-  split_small (stub d) h = refl
-  split_small (leaf es) h = ap (λ b. cond b (one (leaf es)) (divide_at family 8 (leaf es))) (within (length es) h)
-  split_small (inner ss ps) h = ap (λ b. cond b (one (inner ss ps)) (divide_at family 8 (inner ss ps))) (within (count ps) h)
+  pub split_underfull : (t : Part E M) → size_of t ≤ 16 → split family t ≡ one t
+  split_underfull (stub d) h = refl
+  split_underfull (leaf es) h = ap (λ b. cond b (one (leaf es)) (divide_at family 8 (leaf es))) (within (length es) h)
+  split_underfull (inner ss ps) h = ap (λ b. cond b (one (inner ss ps)) (divide_at family 8 (inner ss ps))) (within (count ps) h)
 
   pub split_large : (t : Part E M) → 16 < size_of t → split family t ≡ divide_at family 8 t
   split_large (stub d) h = absurd (omega arith)
@@ -31,23 +31,23 @@ module _ {E M : Type 0} (family : Family E M) where
   large_divides (leaf es) h = let many : 16 < length es = h in omega arith
   large_divides (inner ss ps) h = let many : 16 < count ps = h in (omega arith, omega arith)
 
-pub small_within : {E M : Type 0} (least : ℕ) (t : Part E M) → IsLinked least t → size_of t ≤ 16 → IsWithin least t
-small_within least t linked h = record { linked = linked; most = h }
+pub underfull_within : {E M : Type 0} (least : ℕ) (t : Part E M) → IsLinked least t → size_of t ≤ 16 → IsWithin least t
+underfull_within least t linked h = record { linked = linked; most = h }
 
 -- How many nodes there are of what comes in a node's place.
 
 module _ {E M : Type 0} (family : Family E M) where
-  pub record Numbered (g : Grown E M) : Type 0 where
+  pub record Numbered (g : Insertion E M) : Type 0 where
     pub some : 1 ≤ length (kids_of family g)
     pub most : length (kids_of family g) ≤ 2
     pub between : length (keys_of g) + 1 ≡ length (kids_of family g)
 
-  pub numbered : (g : Grown E M) → Numbered g
+  pub numbered : (g : Insertion E M) → Numbered g
   numbered (one t) = record { some = omega arith; most = omega arith; between = refl }
   numbered (two left key right) = record { some = omega arith; most = omega arith; between = refl }
 
   -- of the children and separators of an inner node in which they have come
-  pub spliced_children : (i j : ℕ) (ss : List (List ℕ)) (ks : List (Kid E M)) (g : Grown E M) → i ≤ j → j < length ks
+  pub spliced_children : (i j : ℕ) (ss : List (List ℕ)) (ks : List (Kid E M)) (g : Insertion E M) → i ≤ j → j < length ks
       → count (splice family i j ss ks g).parts + (j + 1) ≡ length ks + i + length (kids_of family g)
   spliced_children i j ss ks g order at =
       omega (
@@ -59,7 +59,7 @@ module _ {E M : Type 0} (family : Family E M) where
         length-drop (j + 1) ks,
       )
 
-  pub spliced_separators : (i j : ℕ) (ss : List (List ℕ)) (ks : List (Kid E M)) (g : Grown E M) → i ≤ j → j ≤ length ss
+  pub spliced_separators : (i j : ℕ) (ss : List (List ℕ)) (ks : List (Kid E M)) (g : Insertion E M) → i ≤ j → j ≤ length ss
       → length (splice family i j ss ks g).separators + j ≡ length ss + i + length (keys_of g)
   spliced_separators i j ss ks g order at =
       omega (
@@ -71,13 +71,13 @@ module _ {E M : Type 0} (family : Family E M) where
       )
 
   -- a node with what has come in the place of some of its children
-  pub record Placed (i j n : ℕ) (g : Grown E M) (c : Children E M) : Type 0 where
+  pub record Placed (i j n : ℕ) (g : Insertion E M) (c : Children E M) : Type 0 where
     pub number : count c.parts + (j + 1) ≡ n + i + length (kids_of family g)
     pub between : length c.separators + 1 ≡ count c.parts
     pub least : n + i - j ≤ count c.parts
     pub most : count c.parts ≤ n + i - j + 1
 
-  pub placed : (i j : ℕ) (ss : List (List ℕ)) (ks : List (Kid E M)) (g : Grown E M) → i ≤ j → j < length ks → length ss + 1 ≡ length ks → Placed i j (length ks) g (splice family i j ss ks g)
+  pub placed : (i j : ℕ) (ss : List (List ℕ)) (ks : List (Kid E M)) (g : Insertion E M) → i ≤ j → j < length ks → length ss + 1 ≡ length ks → Placed i j (length ks) g (splice family i j ss ks g)
   placed i j ss ks g order at between =
       let n = numbered g in
       let children : count (splice family i j ss ks g).parts + (j + 1) ≡ length ks + i + length (kids_of family g) = spliced_children i j ss ks g order at in

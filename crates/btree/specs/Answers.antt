@@ -4,7 +4,8 @@ use Rattle.vo_spec.specs.declared.trees.UpdateFault.{UpdateFault}
 use Rattle.vo_spec.specs.declared.trees.UpdateFault.TheVariants.{DuplicateKey, NoRow, Missing, Memory}
 
 -- what stands in this relation to the value, or its fault; a want of memory may come in any case
-abbrev pub Answers : {A B : Type 0} → (A → B → Type 0) → Result A UpdateFault → Result B UpdateFault → Type 0
+abbrev pub Answers : {A B : Type 0} → (A → B → Type 0) → Result A UpdateFault
+    → Result B UpdateFault → Type 0
 Answers R (Ok a) (Ok b) = R a b
 Answers R (Ok a) (Err fault) = ⊥
 Answers R (Err DuplicateKey) right = right ≡ Err DuplicateKey

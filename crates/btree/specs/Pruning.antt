@@ -13,6 +13,6 @@ module _ {E M : Type 0} (family : Family E M) (EntryPrunes : E → E → Type 0)
   abbrev pub KeepsKeys : Type 0
   KeepsKeys = (e f : E) → EntryPrunes e f → family.key e ≡ family.key f
 
-  -- an open node gets the mark of that which it prunes; of a stub nothing is asked
-  abbrev pub KeepsMarks : Type 0
-  KeepsMarks = (p t : Part E M) → OpenPrunes p t → family.mark p ≡ family.mark t
+  -- an open node gets the annotation of that which it prunes; of a stub nothing is asked
+  abbrev pub KeepsAnnotations : Type 0
+  KeepsAnnotations = (p t : Part E M) → OpenPrunes p t → family.annotation p ≡ family.annotation t

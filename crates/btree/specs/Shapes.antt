@@ -1,15 +1,16 @@
 -- How many entries and children nodes have.
 use Rattle.std.specs.Prelude.{◌≡◌, ℕ, ◌+◌, ◌≤◌, length}
 use Rattle.vo_spec.specs.Parts.{Part, Parts, stub, leaf, inner, none, more, count}
-use Rattle.vo_spec.specs.Fits.{most_in_node}
+use Rattle.vo_spec.specs.Fits.{max_fill}
 
 module _ {E M : Type 0} where
   -- each node has no more entries or children than a node has, and a separator between two children
   abbrev mutual
     pub IsShaped : Part E M → Type 0
     IsShaped (stub d) = Unit {0}
-    IsShaped (leaf es) = length es ≤ most_in_node
-    IsShaped (inner ss ps) = (2 ≤ count ps) × (count ps ≤ most_in_node) × (length ss + 1 ≡ count ps) × AreShaped ps
+    IsShaped (leaf es) = length es ≤ max_fill
+    IsShaped (inner ss ps) = (2 ≤ count ps) × (count ps ≤ max_fill) × (length ss + 1 ≡ count ps)
+        × AreShaped ps
 
     pub AreShaped : Parts E M → Type 0
     AreShaped none = Unit {0}
@@ -30,4 +31,4 @@ module _ {E M : Type 0} where
 -- and there are no more entries or children than a node has
 pub record IsWithin {E M : Type 0} (least : ℕ) (t : Part E M) : Type 0 where
   pub linked : IsLinked least t
-  pub most : size_of t ≤ most_in_node
+  pub most : size_of t ≤ max_fill

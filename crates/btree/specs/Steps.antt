@@ -3,7 +3,7 @@ use Rattle.std.specs.Prelude.{ℕ, zero, suc, ◌-◌, Bool, false, nat_lt, if�
 use Rattle.vo_spec.specs.declared.trees.UpdateFault.{UpdateFault}
 use Rattle.vo_spec.specs.declared.trees.UpdateFault.TheVariants.{Missing}
 use Rattle.vo_spec.specs.Parts.{Part, leaf, inner, Family, count}
-use Rattle.vo_spec.specs.Inserts.{half, result_map}
+use Rattle.vo_spec.specs.Inserts.{min_fill, result_map}
 use Rattle.vo_spec.specs.Removes.{shrink}
 use Rattle.btree.specs.Shapes.{size_of}
 
@@ -16,7 +16,7 @@ sibling_of (suc i) = i
 -- the sibling has more than it needs. Where the two aren't of one kind, something is missing.
 abbrev pub count_of_merged : ℕ → Option ℕ → Result ℕ UpdateFault
 count_of_merged children None = Err Missing
-count_of_merged children (Some size) = Ok (if nat_lt half size then children else children - 1)
+count_of_merged children (Some size) = Ok (if nat_lt min_fill size then children else children - 1)
 
 module _ {E M : Type 0} where
   -- how many entries or children the second has, if both are of one kind
@@ -28,15 +28,17 @@ module _ {E M : Type 0} where
   -- of so many children, when this one is underfull: an only child has no sibling
   abbrev pub count_rebalanced : ℕ → Part E M → Option (Part E M) → Result ℕ UpdateFault
   count_rebalanced children child None = Ok children
-  count_rebalanced children child (Some sibling) = count_of_merged children (size_if_alike child sibling)
+  count_rebalanced children child (Some sibling) =
+      count_of_merged children (size_if_alike child sibling)
 
   -- of these children, when so many entries or children remain in the one of this number
   abbrev pub count_remaining : ℕ → List (Part E M) → Part E M → ℕ → Result ℕ UpdateFault
   count_remaining i ts child n =
-      if nat_lt n half then count_rebalanced (length ts) child (slice_get ts (sibling_of i)) else Ok (length ts)
+      if nat_lt n min_fill then count_rebalanced (length ts) child (slice_get ts (sibling_of i))
+      else Ok (length ts)
 
 abbrev pub is_underfull_count : Result ℕ UpdateFault → Bool
-is_underfull_count (Ok n) = nat_lt n half
+is_underfull_count (Ok n) = nat_lt n min_fill
 is_underfull_count (Err fault) = false
 
 module _ {E M : Type 0} (family : Family E M) where

@@ -1,8 +1,8 @@
 //! The contents of nodes: how many, a node's once more, and a node made of what has come in its children's
 //! places.
 ghost use Rattle.std.specs.Prelude.{◌≡◌, ◌≤◌, ◌<◌, length, map, IfOk};
-ghost use Rattle.vo_spec.specs.Inserts.{Grown};
-ghost use Rattle.btree.specs.Nodes.{contents_of, IsGrown};
+ghost use Rattle.vo_spec.specs.Inserts.{Insertion};
+ghost use Rattle.btree.specs.Nodes.{contents_of, IsInsertion};
 ghost use Rattle.btree.specs.Placing.{node_of, splice};
 ghost use Rattle.btree.specs.Shapes.{size_of};
 
@@ -34,11 +34,11 @@ pub fn put_siblings<N: TreeNode>(
     requires order { from ≤ to }
     requires keys { to ≤ length separators.now }
     requires children { to < length children.now }
-    ensures { IfOk result (λ contents. (grown : Grown N.Plain N.Mark)
-        → IsGrown N.family N.Key.key N.kid siblings grown
+    ensures { IfOk result (λ contents. (insertion : Insertion N.Plain N.Annotation)
+        → IsInsertion N.family N.Key.key N.kid siblings insertion
         → contents_of N.Key.key N.entry N.kid contents
         ≡ node_of (splice N.family from to (map N.Key.key separators.now)
-        (map N.kid children.now) grown)) }
+        (map N.kid children.now) insertion)) }
 {
     let separators = replace_range(alloc, separators, from, to, siblings.separators)?;
     let children = replace_range(alloc, children, from, to + 1, siblings.nodes)?;

@@ -1,10 +1,10 @@
 //! Insertion.
 ghost use Rattle.std.specs.Prelude.{◌≡◌, ◌≤◌, ◌+◌, [], ◌∷◌, length, map, IfOk};
 ghost use Rattle.vo_spec.specs.Parts.{leaf, inner};
-ghost use Rattle.vo_spec.specs.Fits.{most_in_node};
-ghost use Rattle.vo_spec.specs.Inserts.{Grown, grow, inserted_by, root_of as root_of_grown};
+ghost use Rattle.vo_spec.specs.Fits.{max_fill};
+ghost use Rattle.vo_spec.specs.Inserts.{Insertion, grow, inserted_by, root_of as root_of_insertion};
 ghost use Rattle.btree.specs.Answers.{Answers};
-ghost use Rattle.btree.specs.Nodes.{parts_from, IsGrown};
+ghost use Rattle.btree.specs.Nodes.{parts_from, IsInsertion};
 ghost use Rattle.btree.specs.Shapes.{IsShaped, AreShaped};
 
 use crate::contents::put_siblings;
@@ -36,7 +36,7 @@ fn insert_below<N: TreeNode>(
     entry: N::Entry,
 ) -> Result<Siblings<N::Key, N>, UpdateFault>
     requires { IsShaped (N.seen tree.now) }
-    ensures { Answers (IsGrown N.family N.Key.key N.kid) result
+    ensures { Answers (IsInsertion N.family N.Key.key N.kid) result
         (grow N.family (N.entry entry) (N.seen tree.now)) }
 {
     match N::open(tree) {
@@ -54,8 +54,8 @@ fn insert_in_leaf<N: TreeNode>(
     entries: &[N::Entry],
     entry: N::Entry,
 ) -> Result<Siblings<N::Key, N>, UpdateFault>
-    requires { length entries.now ≤ most_in_node }
-    ensures { Answers (IsGrown N.family N.Key.key N.kid) result
+    requires { length entries.now ≤ max_fill }
+    ensures { Answers (IsInsertion N.family N.Key.key N.kid) result
         (grow N.family (N.entry entry) (leaf (map N.entry entries.now))) }
 {
     if has_key(entries, entry.key_bytes()) {
@@ -74,10 +74,10 @@ fn insert_in_child<N: TreeNode>(
     entry: N::Entry,
 ) -> Result<Siblings<N::Key, N>, UpdateFault>
     requires least { 2 ≤ length children.now }
-    requires most { length children.now ≤ most_in_node }
+    requires most { length children.now ≤ max_fill }
     requires between { length separators.now + 1 ≡ length children.now }
     requires shaped { AreShaped (parts_from (map N.kid children.now)) }
-    ensures { Answers (IsGrown N.family N.Key.key N.kid) result
+    ensures { Answers (IsInsertion N.family N.Key.key N.kid) result
         (grow N.family (N.entry entry)
         (inner (map N.Key.key separators.now) (parts_from (map N.kid children.now)))) }
 {
@@ -96,9 +96,9 @@ fn root_of<N: TreeNode>(alloc: Global, siblings: Siblings<N::Key, N>) -> Result<
     requires some { 1 ≤ length siblings.nodes.items }
     requires most { length siblings.nodes.items ≤ 2 }
     requires between { length siblings.separators.items + 1 ≡ length siblings.nodes.items }
-    ensures { IfOk result (λ root. (grown : Grown N.Plain N.Mark)
-        → IsGrown N.family N.Key.key N.kid siblings grown
-        → (N.kid root).1 ≡ root_of_grown N.family grown) }
+    ensures { IfOk result (λ root. (insertion : Insertion N.Plain N.Annotation)
+        → IsInsertion N.family N.Key.key N.kid siblings insertion
+        → (N.kid root).1 ≡ root_of_insertion N.family insertion) }
 {
     if siblings.nodes.len() == 1 {
         return Ok(only(siblings.nodes));

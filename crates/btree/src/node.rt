@@ -44,15 +44,15 @@ pub trait TreeNode: TryClone + Sized + Drop {
 
     ghost Plain: { Type 0 };
 
-    ghost Mark: { Type 0 };
+    ghost Annotation: { Type 0 };
 
-    ghost family: { Family Plain Mark };
+    ghost family: { Family Plain Annotation };
 
     ghost entry: { Self.Entry → Plain };
 
-    ghost seen: { Self.Tree → Part Plain Mark };
+    ghost seen: { Self.Tree → Part Plain Annotation };
 
-    ghost kid: { Self → Kid Plain Mark };
+    ghost kid: { Self → Kid Plain Annotation };
 
     fn tree(&self) -> &Self::Tree
         ensures { seen result.now ≡ (kid self.now).1 };

@@ -1,10 +1,10 @@
 //! A child that may be underfull borrows from its sibling, or is merged with it.
 ghost use Rattle.std.specs.Prelude.{◌≡◌, ◌≤◌, ◌<◌, ◌+◌, zero, suc, length, map, IfOk, Ok};
-ghost use Rattle.vo_spec.specs.Fits.{most_in_node};
-ghost use Rattle.vo_spec.specs.Inserts.{half, result_map};
+ghost use Rattle.vo_spec.specs.Fits.{max_fill};
+ghost use Rattle.vo_spec.specs.Inserts.{min_fill, result_map};
 ghost use Rattle.vo_spec.specs.Removes.{with_left as even_with_left, with_right as even_with_right};
 ghost use Rattle.btree.specs.Answers.{Answers};
-ghost use Rattle.btree.specs.Nodes.{parts_from, contents_of, IsContents, IsGrown};
+ghost use Rattle.btree.specs.Nodes.{parts_from, contents_of, IsContents, IsInsertion};
 ghost use Rattle.btree.specs.Placing.{node_of, rebalance_at, rebalance_with_sibling, divide_merged, CanDivide};
 ghost use Rattle.btree.specs.Shapes.{size_of, IsShaped, AreShaped, IsLinked, IsWithin};
 
@@ -27,7 +27,7 @@ pub fn rebalance<N: TreeNode>(
 ) -> Result<Contents<N::Key, N::Entry, N>, UpdateFault>
     requires at { place < length children.now }
     requires least { 2 ≤ length children.now }
-    requires most { length children.now ≤ most_in_node }
+    requires most { length children.now ≤ max_fill }
     requires between { length separators.now + 1 ≡ length children.now }
     requires shaped { AreShaped (parts_from (map N.kid children.now)) }
     requires loose { IsWithin 1 (contents_of N.Key.key N.entry N.kid child) }
@@ -56,10 +56,10 @@ fn put_child<N: TreeNode>(
 ) -> Result<Contents<N::Key, N::Entry, N>, AllocError>
     requires at { place < length children.now }
     requires least { 2 ≤ length children.now }
-    requires most { length children.now ≤ most_in_node }
+    requires most { length children.now ≤ max_fill }
     requires between { length separators.now + 1 ≡ length children.now }
     requires loose { IsWithin 1 (contents_of N.Key.key N.entry N.kid child) }
-    requires enough { half ≤ size_of (contents_of N.Key.key N.entry N.kid child) }
+    requires enough { min_fill ≤ size_of (contents_of N.Key.key N.entry N.kid child) }
     ensures value { IfOk result (λ contents. Ok (contents_of N.Key.key N.entry N.kid contents)
         ≡ result_map node_of (rebalance_at N.family place (map N.Key.key separators.now)
         (map N.kid children.now) (contents_of N.Key.key N.entry N.kid child))) }
@@ -78,11 +78,11 @@ fn rebalance_first<N: TreeNode>(
     child: Contents<N::Key, N::Entry, N>,
 ) -> Result<Contents<N::Key, N::Entry, N>, UpdateFault>
     requires least { 2 ≤ length children.now }
-    requires most { length children.now ≤ most_in_node }
+    requires most { length children.now ≤ max_fill }
     requires between { length separators.now + 1 ≡ length children.now }
     requires shaped { AreShaped (parts_from (map N.kid children.now)) }
     requires loose { IsWithin 1 (contents_of N.Key.key N.entry N.kid child) }
-    requires underfull { size_of (contents_of N.Key.key N.entry N.kid child) < half }
+    requires underfull { size_of (contents_of N.Key.key N.entry N.kid child) < min_fill }
     ensures value { Answers (IsContents N.Key.key N.entry N.kid) result
         (result_map node_of (rebalance_with_sibling N.family zero (map N.Key.key separators.now)
         (map N.kid children.now) (contents_of N.Key.key N.entry N.kid child))) }
@@ -104,11 +104,11 @@ fn rebalance_next<N: TreeNode>(
     child: Contents<N::Key, N::Entry, N>,
 ) -> Result<Contents<N::Key, N::Entry, N>, UpdateFault>
     requires at { left + 1 < length children.now }
-    requires most { length children.now ≤ most_in_node }
+    requires most { length children.now ≤ max_fill }
     requires between { length separators.now + 1 ≡ length children.now }
     requires shaped { AreShaped (parts_from (map N.kid children.now)) }
     requires loose { IsWithin 1 (contents_of N.Key.key N.entry N.kid child) }
-    requires underfull { size_of (contents_of N.Key.key N.entry N.kid child) < half }
+    requires underfull { size_of (contents_of N.Key.key N.entry N.kid child) < min_fill }
     ensures value { Answers (IsContents N.Key.key N.entry N.kid) result
         (result_map node_of (rebalance_with_sibling N.family (suc left)
         (map N.Key.key separators.now) (map N.kid children.now)
@@ -131,8 +131,8 @@ fn rebalance_with_left<N: TreeNode>(
 ) -> Result<Siblings<N::Key, N>, UpdateFault>
     requires shaped { IsShaped (N.seen left.now) }
     requires loose { IsWithin 1 (contents_of N.Key.key N.entry N.kid node) }
-    requires underfull { size_of (contents_of N.Key.key N.entry N.kid node) < half }
-    ensures { Answers (IsGrown N.family N.Key.key N.kid) result
+    requires underfull { size_of (contents_of N.Key.key N.entry N.kid node) < min_fill }
+    ensures { Answers (IsInsertion N.family N.Key.key N.kid) result
         (even_with_left N.family (N.seen left.now) (N.Key.key separator.now)
         (contents_of N.Key.key N.entry N.kid node)) }
 {
@@ -151,8 +151,8 @@ fn rebalance_with_right<N: TreeNode>(
 ) -> Result<Siblings<N::Key, N>, UpdateFault>
     requires shaped { IsShaped (N.seen right.now) }
     requires loose { IsWithin 1 (contents_of N.Key.key N.entry N.kid node) }
-    requires underfull { size_of (contents_of N.Key.key N.entry N.kid node) < half }
-    ensures { Answers (IsGrown N.family N.Key.key N.kid) result
+    requires underfull { size_of (contents_of N.Key.key N.entry N.kid node) < min_fill }
+    ensures { Answers (IsInsertion N.family N.Key.key N.kid) result
         (even_with_right N.family (contents_of N.Key.key N.entry N.kid node)
         (N.Key.key separator.now) (N.seen right.now)) }
 {
@@ -171,13 +171,13 @@ fn divide_where_more<N: TreeNode>(
     at: usize,
 ) -> Result<Siblings<N::Key, N>, AllocError>
     requires linked { IsLinked 2 (contents_of N.Key.key N.entry N.kid all) }
-    requires whole { sibling ≤ half
-        → size_of (contents_of N.Key.key N.entry N.kid all) ≤ most_in_node }
-    requires two { half < sibling → CanDivide at (contents_of N.Key.key N.entry N.kid all) }
-    requires first { at ≤ most_in_node }
-    requires last { size_of (contents_of N.Key.key N.entry N.kid all) ≤ at + most_in_node }
+    requires whole { sibling ≤ min_fill
+        → size_of (contents_of N.Key.key N.entry N.kid all) ≤ max_fill }
+    requires two { min_fill < sibling → CanDivide at (contents_of N.Key.key N.entry N.kid all) }
+    requires first { at ≤ max_fill }
+    requires last { size_of (contents_of N.Key.key N.entry N.kid all) ≤ at + max_fill }
     ensures { IfOk result (λ siblings.
-        IsGrown N.family N.Key.key N.kid siblings
+        IsInsertion N.family N.Key.key N.kid siblings
         (divide_merged N.family sibling at (contents_of N.Key.key N.entry N.kid all))) }
 {
     if sibling <= MIN_FILL {

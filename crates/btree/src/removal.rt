@@ -1,7 +1,7 @@
 //! Removal.
 ghost use Rattle.std.specs.Prelude.{◌≡◌, ◌≤◌, ◌+◌, [], ◌∷◌, length, map, IfOk};
 ghost use Rattle.vo_spec.specs.Parts.{leaf, inner};
-ghost use Rattle.vo_spec.specs.Fits.{most_in_node};
+ghost use Rattle.vo_spec.specs.Fits.{max_fill};
 ghost use Rattle.vo_spec.specs.Removes.{shrink, removed_by, settled_root};
 ghost use Rattle.btree.specs.Answers.{Answers};
 ghost use Rattle.btree.specs.Nodes.{parts_from, contents_of, IsContents};
@@ -55,7 +55,7 @@ fn remove_in_leaf<N: TreeNode>(
     entries: &[N::Entry],
     key: &[u8],
 ) -> Result<Contents<N::Key, N::Entry, N>, UpdateFault>
-    requires { length entries.now ≤ most_in_node }
+    requires { length entries.now ≤ max_fill }
     ensures value { Answers (IsContents N.Key.key N.entry N.kid) result
         (shrink N.family key.now (leaf (map N.entry entries.now))) }
     ensures loose { IfOk result (λ contents.
@@ -77,7 +77,7 @@ fn remove_in_child<N: TreeNode>(
     key: &[u8],
 ) -> Result<Contents<N::Key, N::Entry, N>, UpdateFault>
     requires least { 2 ≤ length children.now }
-    requires most { length children.now ≤ most_in_node }
+    requires most { length children.now ≤ max_fill }
     requires between { length separators.now + 1 ≡ length children.now }
     requires shaped { AreShaped (parts_from (map N.kid children.now)) }
     ensures value { Answers (IsContents N.Key.key N.entry N.kid) result
@@ -117,7 +117,7 @@ fn root_of_inner<N: TreeNode>(
     children: Vec<N>,
 ) -> Result<N, AllocError>
     requires least { 1 ≤ length children.items }
-    requires most { length children.items ≤ most_in_node }
+    requires most { length children.items ≤ max_fill }
     requires between { length separators.items + 1 ≡ length children.items }
     ensures { IfOk result (λ root. (N.kid root).1
         ≡ settled_root (inner (map N.Key.key separators.items)

@@ -1,7 +1,7 @@
 //! Another entry in the place of one.
 ghost use Rattle.std.specs.Prelude.{◌≡◌, ◌≤◌, ◌+◌, Ok, length, map};
 ghost use Rattle.vo_spec.specs.Parts.{leaf, inner};
-ghost use Rattle.vo_spec.specs.Fits.{most_in_node};
+ghost use Rattle.vo_spec.specs.Fits.{max_fill};
 ghost use Rattle.vo_spec.specs.Removes.{edited_by};
 ghost use Rattle.btree.specs.Answers.{Answers};
 ghost use Rattle.btree.specs.Nodes.{parts_from, IsNewKid};
@@ -43,7 +43,7 @@ fn set_in_leaf<N: TreeNode>(
     key: &[u8],
     entry: N::Entry,
 ) -> Result<N, UpdateFault>
-    requires { length entries.now ≤ most_in_node }
+    requires { length entries.now ≤ max_fill }
     ensures { Answers (IsNewKid N.family N.kid) result
         (edited_by N.family (λ _. Ok (N.entry entry)) key.now (leaf (map N.entry entries.now))) }
 {
@@ -64,7 +64,7 @@ fn set_in_child<N: TreeNode>(
     entry: N::Entry,
 ) -> Result<N, UpdateFault>
     requires least { 2 ≤ length children.now }
-    requires most { length children.now ≤ most_in_node }
+    requires most { length children.now ≤ max_fill }
     requires between { length separators.now + 1 ≡ length children.now }
     requires shaped { AreShaped (parts_from (map N.kid children.now)) }
     ensures { Answers (IsNewKid N.family N.kid) result

@@ -1,7 +1,7 @@
 //! The entry of a key.
 ghost use Rattle.std.specs.Prelude.{◌≡◌, ◌≤◌, ◌+◌, length, map};
 ghost use Rattle.vo_spec.specs.Parts.{leaf, inner};
-ghost use Rattle.vo_spec.specs.Fits.{most_in_node};
+ghost use Rattle.vo_spec.specs.Fits.{max_fill};
 ghost use Rattle.btree.specs.Answers.{Answers};
 ghost use Rattle.btree.specs.Finding.{found};
 ghost use Rattle.btree.specs.Nodes.{parts_from};
@@ -51,7 +51,7 @@ fn find_in_child<'a, N: TreeNode + 'a>(
     children: &'a [N],
     key: &[u8],
 ) -> Result<&'a N::Entry, UpdateFault>
-    requires most { length children.now ≤ most_in_node }
+    requires most { length children.now ≤ max_fill }
     requires between { length separators.now + 1 ≡ length children.now }
     requires shaped { AreShaped (parts_from (map N.kid children.now)) }
     ensures { Answers (λ entry e. N.entry entry.now ≡ e) result

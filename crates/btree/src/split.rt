@@ -1,8 +1,8 @@
 //! A node of too many made two.
 ghost use Rattle.std.specs.Prelude.{◌≡◌, ◌≤◌, ◌<◌, ◌+◌, length, map, IfOk};
 ghost use Rattle.vo_spec.specs.Parts.{leaf, inner};
-ghost use Rattle.vo_spec.specs.Fits.{most_in_node};
-ghost use Rattle.btree.specs.Nodes.{contents_of, parts_from, new_kid, IsGrown};
+ghost use Rattle.vo_spec.specs.Fits.{max_fill};
+ghost use Rattle.btree.specs.Nodes.{contents_of, parts_from, new_kid, IsInsertion};
 ghost use Rattle.btree.specs.Placing.{split as split_of, divide_at, CanDivide, AreCut};
 ghost use Rattle.btree.specs.Shapes.{size_of, IsLinked};
 
@@ -18,9 +18,9 @@ pub fn split<N: TreeNode>(
     contents: Contents<N::Key, N::Entry, N>,
 ) -> Result<Siblings<N::Key, N>, AllocError>
     requires linked { IsLinked 2 (contents_of N.Key.key N.entry N.kid contents) }
-    requires most { size_of (contents_of N.Key.key N.entry N.kid contents) ≤ most_in_node + 1 }
+    requires most { size_of (contents_of N.Key.key N.entry N.kid contents) ≤ max_fill + 1 }
     ensures { IfOk result (λ siblings.
-        IsGrown N.family N.Key.key N.kid siblings
+        IsInsertion N.family N.Key.key N.kid siblings
         (split_of N.family (contents_of N.Key.key N.entry N.kid contents))) }
 {
     if fill_of::<N>(&contents) <= MAX_FILL {
@@ -37,10 +37,10 @@ pub fn divide<N: TreeNode>(
 ) -> Result<Siblings<N::Key, N>, AllocError>
     requires linked { IsLinked 2 (contents_of N.Key.key N.entry N.kid contents) }
     requires two { CanDivide at (contents_of N.Key.key N.entry N.kid contents) }
-    requires first { at ≤ most_in_node }
-    requires last { size_of (contents_of N.Key.key N.entry N.kid contents) ≤ at + most_in_node }
+    requires first { at ≤ max_fill }
+    requires last { size_of (contents_of N.Key.key N.entry N.kid contents) ≤ at + max_fill }
     ensures { IfOk result (λ siblings.
-        IsGrown N.family N.Key.key N.kid siblings
+        IsInsertion N.family N.Key.key N.kid siblings
         (divide_at N.family at (contents_of N.Key.key N.entry N.kid contents))) }
 {
     match contents {
@@ -58,10 +58,10 @@ fn divide_leaf<N: TreeNode>(
     at: usize,
 ) -> Result<Siblings<N::Key, N>, AllocError>
     requires within { at < length entries.items }
-    requires first { at ≤ most_in_node }
-    requires last { length entries.items ≤ at + most_in_node }
+    requires first { at ≤ max_fill }
+    requires last { length entries.items ≤ at + max_fill }
     ensures { IfOk result (λ siblings.
-        IsGrown N.family N.Key.key N.kid siblings
+        IsInsertion N.family N.Key.key N.kid siblings
         (divide_at N.family at (leaf (map N.entry entries.items)))) }
 {
     let mut left = entries;
@@ -80,10 +80,10 @@ fn divide_inner<N: TreeNode>(
 ) -> Result<Siblings<N::Key, N>, AllocError>
     requires least { 2 ≤ at }
     requires within { at + 2 ≤ length children.items }
-    requires first { at ≤ most_in_node }
-    requires last { length children.items ≤ at + most_in_node }
+    requires first { at ≤ max_fill }
+    requires last { length children.items ≤ at + max_fill }
     requires between { length separators.items + 1 ≡ length children.items }
-    ensures { IfOk result (λ siblings. IsGrown N.family N.Key.key N.kid siblings
+    ensures { IfOk result (λ siblings. IsInsertion N.family N.Key.key N.kid siblings
         (divide_at N.family at (inner (map N.Key.key separators.items)
         (parts_from (map N.kid children.items))))) }
 {
@@ -99,7 +99,7 @@ fn close_inner<N: TreeNode>(
     children: Vec<N>,
 ) -> Result<N, AllocError>
     requires least { 2 ≤ length children.items }
-    requires most { length children.items ≤ most_in_node }
+    requires most { length children.items ≤ max_fill }
     requires between { length separators.items + 1 ≡ length children.items }
     ensures { IfOk result (λ node. N.kid node
         ≡ new_kid N.family (inner (map N.Key.key separators.items)

@@ -6,7 +6,7 @@ use crate::line::PlanCall;
 use crate::runs;
 use line_pieces::{describe, word};
 use query_plan::{
-    Line, Plan, Query, bind, has_one_tree, is_narrow, meets_left, plan, right_need, same_table,
+    RowView, Plan, Query, bind, has_one_tree, is_narrow, meets_left, plan, right_need, same_table,
     tables_used,
 };
 use sql_text::parse_query;
@@ -62,7 +62,7 @@ fn answer_plan(
     query: &Query<'_>,
     more: &[u8],
 ) -> io::Result<String> {
-    if !is_narrow(&query.sides, 0) || !is_narrow(&query.sides, 1) {
+    if !is_narrow(&query.bound_sources, 0) || !is_narrow(&query.bound_sources, 1) {
         return word(alloc, "too wide");
     }
     let plan = plan(alloc, query)?;
@@ -76,9 +76,13 @@ fn answer_plan(
 
 /// Whether a table is joined with itself, whether one tree is read, and the tables whose trees are.
 fn trees(alloc: Global, query: &Query<'_>) -> io::Result<String> {
-    let sides = &query.sides;
-    let names = tables_used(alloc, sides)?;
-    Ok(format!(in alloc; "{} {} {names:?}", same_table(sides), has_one_tree(sides))?)
+    let bound_sources = &query.bound_sources;
+    let names = tables_used(alloc, bound_sources)?;
+    Ok(format!(in alloc;
+        "{} {} {names:?}",
+        same_table(bound_sources),
+        has_one_tree(bound_sources)
+    )?)
 }
 
 /// A row as the values of its columns, past the end FALSE.
@@ -87,7 +91,7 @@ struct Fields {
     values: Vec<Value>,
 }
 
-impl Line for Fields {
+impl RowView for Fields {
     ghost line = { λ fields. value_at fields.values.items };
 
     fn field(&self, column: usize) -> ValueRef<'_> {

@@ -1,11 +1,11 @@
 //! Calls of a plan and of part trees: what the trees show for it.
 ghost use Rattle.std.specs.Prelude.{◌≡◌, IsTrue, length};
 ghost use Rattle.vo_spec.specs.Needs.{tables_used};
-ghost use Rattle.query_binding.specs.Sided.{sides_seen};
+ghost use Rattle.query_binding.specs.Sided.{bound_sources_seen};
 
 use line_pieces::{describe, word};
 use plan_run::{right_needs, run_plan};
-use query_plan::{Plan, Sides, has_one_tree};
+use query_plan::{BoundSources, Plan, has_one_tree};
 use std::alloc::Global;
 use std::io;
 use vo_format::{Cursor, PartTree, ReadFault, take_tree};
@@ -19,7 +19,7 @@ pub fn run(alloc: Global, plan: &Plan<'_, '_>, bytes: &[u8]) -> io::Result<Strin
 }
 
 fn run_on(alloc: Global, plan: &Plan<'_, '_>, trees: &[PartTree<'_>]) -> io::Result<String> {
-    if !has_trees(&plan.query.sides, trees) {
+    if !has_trees(&plan.query.bound_sources, trees) {
         return word(alloc, "other trees");
     }
     describe(alloc, &run_plan(alloc, plan, trees))
@@ -34,10 +34,11 @@ pub fn right_needs_of(alloc: Global, plan: &Plan<'_, '_>, bytes: &[u8]) -> io::R
 }
 
 /// There is a tree for each table.
-fn has_trees(sides: &Sides<'_>, trees: &[PartTree<'_>]) -> bool
-    ensures { IsTrue result → length trees.now ≡ length (tables_used (sides_seen sides.now)) }
+fn has_trees(bound_sources: &BoundSources<'_>, trees: &[PartTree<'_>]) -> bool
+    ensures { IsTrue result → length trees.now
+        ≡ length (tables_used (bound_sources_seen bound_sources.now)) }
 {
-    trees.len() == if has_one_tree(sides) { 1 } else { 2 }
+    trees.len() == if has_one_tree(bound_sources) { 1 } else { 2 }
 }
 
 /// The trees that the bytes are.

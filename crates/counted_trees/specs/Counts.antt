@@ -38,10 +38,12 @@ counted_family = record {
   inner_tag = 1;
   key = λ e. e.0;
   entry_bytes = λ e. e.0 ++ u64_bytes e.1;
-  mark = count_of;
-  mark_bytes = u64_bytes;
+  annotation = count_of;
+  annotation_bytes = u64_bytes;
 }
 
 abbrev pub coded_subtree : Coded PlainSubtree
 coded_subtree =
-    code_by (ℕ × CountedTree) (coded× coded_ℕ (coded_part (coded× (coded_list coded_ℕ) coded_ℕ) coded_ℕ)) kid (λ p. record { count = p.0; tree = p.1 }) (λ _. refl)
+    code_by (ℕ × CountedTree) (coded× coded_ℕ
+    (coded_part (coded× (coded_list coded_ℕ) coded_ℕ) coded_ℕ)) kid
+    (λ p. record { count = p.0; tree = p.1 }) (λ _. refl)

@@ -10,7 +10,8 @@ use Rattle.counted_trees.specs.declared.subtree.Node.{Node}
 use Rattle.counted_trees.specs.declared.subtree.Node.TheVariants.{Stub, Leaf, Inner}
 use Rattle.counted_trees.specs.declared.subtree.Subtree.TheDeep.{deep-Node}
 
-most_le : (ks : List PlainSubtree) → most (λ k. levels k.tree + 1) ks ≤ levels_in (parts_from (map kid ks)) + 1
+most_le : (ks : List PlainSubtree)
+    → most (λ k. levels k.tree + 1) ks ≤ levels_in (parts_from (map kid ks)) + 1
 most_le [] = omega arith
 most_le (k ∷ ks) = omega (arith, most_le ks)
 

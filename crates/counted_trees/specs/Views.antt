@@ -18,7 +18,8 @@ entry_of e = (e.key.bytes, e.value)
 abbrev pub tree_of : Node → CountedTree
 tree_of (Stub d) = stub d
 tree_of (Leaf es) = leaf (map entry_of es.items)
-tree_of (Inner separators children) = inner (map key_of separators.items) (parts_from (map kid children.items))
+tree_of (Inner separators children) =
+    inner (map key_of separators.items) (parts_from (map kid children.items))
 
 -- what a node is to have
 abbrev pub counted_contents : Contents NumberKey Entry PlainSubtree → CountedTree

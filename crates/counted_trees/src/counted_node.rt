@@ -19,7 +19,7 @@ impl TreeNode for Subtree {
 
     ghost Plain = { PlainEntry };
 
-    ghost Mark = { ℕ };
+    ghost Annotation = { ℕ };
 
     ghost family = { counted_family };
 

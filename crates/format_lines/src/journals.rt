@@ -11,8 +11,8 @@ use crate::records::catalog_text;
 use batch_format::read_batch;
 use line_pieces::NoAnswer;
 use owner_state::{
-    Entry, OwnedJournal, TakenJournal, entry_bytes, journal_bytes, put_slot, read_entries,
-    read_owned, read_slots, read_taken, seal as sealed,
+    Entry, LoadableJournal, OwnedJournal, entry_bytes, journal_bytes, put_slot, read_entries,
+    read_loadable, read_owned, read_slots, seal as sealed,
 };
 use std::alloc::Global;
 use vo_spec::{Batch, List};
@@ -134,13 +134,13 @@ pub fn taken_journal(alloc: Global, strings: &[Vec<u8>]) -> Result<String, NoAns
     let [key, journal] = strings else {
         return Err(NoAnswer::NoSuchLine);
     };
-    match read_taken(alloc, &read_key(key)?, journal) {
+    match read_loadable(alloc, &read_key(key)?, journal) {
         Ok(taken) => taken_text(alloc, &taken),
         Err(fault) => Ok(format!(in alloc; "{fault:?}")?),
     }
 }
 
-fn taken_text(alloc: Global, taken: &TakenJournal) -> Result<String, NoAnswer> {
+fn taken_text(alloc: Global, taken: &LoadableJournal) -> Result<String, NoAnswer> {
     let catalog = catalog_text(alloc, &taken.tables.catalog(alloc)?)?;
     Ok(format!(in alloc; "{} {catalog}", taken.entries.len())?)
 }

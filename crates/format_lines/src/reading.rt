@@ -8,10 +8,7 @@ use crate::arguments::digest_in;
 use line_pieces::NoAnswer;
 use row_bytes::{Cursor, take_value};
 use std::alloc::Global;
-use vo_spec::{Cell, CellValue, Digest, List, RowPart, Value, ValueRef};
-
-/// A row without its key has at most so many values.
-const MOST_CELLS: usize = 31;
+use vo_spec::{Cell, CellValue, Digest, List, MAX_CELLS, RowPart, Value, ValueRef};
 
 fn next_value<'b>(cursor: &mut Cursor<'b>) -> Result<ValueRef<'b>, NoAnswer>
     ensures { IfOk result (λ value. FitsValue (value_of value)) }
@@ -41,7 +38,7 @@ pub fn read_values(alloc: Global, strings: &[Vec<u8>]) -> Result<List<Value>, No
 {
     let mut values = Vec::new(alloc);
     for string in strings {
-        if values.len() >= MOST_CELLS {
+        if values.len() >= MAX_CELLS {
             return Err(NoAnswer::NoSuchLine);
         }
         values.push(read_value(string)?.to_value(alloc)?)?;
@@ -66,7 +63,7 @@ pub fn read_row(alloc: Global, strings: &[Vec<u8>]) -> Result<RowPart<'_>, NoAns
 {
     let mut cells = Vec::new(alloc);
     for string in strings {
-        if cells.len() >= MOST_CELLS {
+        if cells.len() >= MAX_CELLS {
             return Err(NoAnswer::NoSuchLine);
         }
         cells.push(read_cell(string)?)?;

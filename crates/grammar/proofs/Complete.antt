@@ -7,7 +7,7 @@ use Rattle.grammar.specs.Rule.{Rule, Grammar, nothing, token, both, either, many
 use Rattle.grammar.specs.Text.{Nests, Within, Repeats, Spells, NestsIn}
 use Rattle.grammar.specs.Checks.{has, are_apart, are_among, is_nullable, first, goes_on, is_predictive}
 use Rattle.grammar.specs.Reading.{Found, Reader, begins, and_then, taken, is_full, one_less, rounds, read, reader}
-use Rattle.grammar.specs.declared.Stop.TheVariants.{Syntax, Nesting, TooMany}
+use Rattle.grammar.specs.declared.ParseFault.TheVariants.{Syntax, Nesting, TooMany}
 use Rattle.grammar.proofs.Truths.{and_left, and_right, not_true, not_both, tested}
 use Rattle.grammar.proofs.KindSets.{apart_not, among_has}
 use Rattle.grammar.proofs.Starts.{Starts, starts, starts_repeats, begins_not_left, begins_not_right, begins_not_when}

@@ -8,8 +8,8 @@ use Rattle.grammar.specs.Rule.{Rule, Grammar}
 use Rattle.grammar.specs.Text.{NestsIn, IsText, Begins, StopsAt, FaultsAt, Judges}
 use Rattle.grammar.specs.Checks.{is_plain, is_completable, is_predictive, is_good_rule, is_good}
 use Rattle.grammar.specs.Reading.{Found, read, reader, at_end, parse}
-use Rattle.grammar.specs.declared.Stop.{Stop}
-use Rattle.grammar.specs.declared.Stop.TheVariants.{Syntax, Nesting, TooMany}
+use Rattle.grammar.specs.declared.ParseFault.{ParseFault}
+use Rattle.grammar.specs.declared.ParseFault.TheVariants.{Syntax, Nesting, TooMany}
 use Rattle.grammar.proofs.Truths.{and_left, and_right}
 use Rattle.grammar.proofs.Completions.{plain}
 use Rattle.grammar.proofs.Complete.{Takes, text_takes}
@@ -26,7 +26,7 @@ module _ (l : Language) (w : IsLanguage l) (g : Grammar l) {A : Type 0} (p : Rul
   nonterminals : IsGrammar g
   nonterminals = grammar_of w g p good
 
-  abbrev TracedAt : List l.Token → Result A Stop → Option l.Token → Type 0
+  abbrev TracedAt : List l.Token → Result A ParseFault → Option l.Token → Type 0
   TracedAt x o next = Trace l w g (reader g m) (NestsIn g true m) (NestsIn g true (suc m)) (NestsIn g false (suc m)) p x o next
 
   -- what reading does with a text of any number of levels
@@ -36,7 +36,7 @@ module _ (l : Language) (w : IsLanguage l) (g : Grammar l) {A : Type 0} (p : Rul
       (text_takes l w g counted nonterminals.predictive nonterminals.closed p predictive n m ts v s)
 
   -- what reading does with any text that has the front and the next token that were seen
-  takes_front : (x : List l.Token) (t : l.Token) (o : Result A Stop) → ((r : List l.Token) → peek r ≡ Some t → read (reader g m) p (x ++ r) ≡ (o, r))
+  takes_front : (x : List l.Token) (t : l.Token) (o : Result A ParseFault) → ((r : List l.Token) → peek r ≡ Some t → read (reader g m) p (x ++ r) ≡ (o, r))
       → (counted : Bool) (n : ℕ) (more : List l.Token) (v : A) → IsText g counted n p (x ++ t ∷ [] ++ more) v → Takes (m < n) counted v [] (o, t ∷ more)
   takes_front x t o reads counted n more v s =
       subst (Takes (m < n) counted v []) (reads (t ∷ more) refl)
@@ -65,7 +65,7 @@ module _ (l : Language) (w : IsLanguage l) (g : Grammar l) {A : Type 0} (p : Rul
       other : (r : List l.Token) → peek r ≡ Some t → [] ≡ r → ⊥
       other r h e = let none : None ≡ Some t = ap peek e ∙ h in absurd (cc)
 
-  fault : (x rest : List l.Token) (s : Stop) → TracedAt x (Err s) (peek rest) → StopsAt g m p x s rest
+  fault : (x rest : List l.Token) (s : ParseFault) → TracedAt x (Err s) (peek rest) → StopsAt g m p x s rest
   fault x rest Syntax k = stops_syntax x rest (λ r h. ((Err Syntax, r), k.reads r h, λ counted n v e. e))
   fault x [] Nesting k = k.finds
   fault x (t ∷ ts) Nesting k = (k.finds, λ counted b. absurd (not_less (takes_front x t (Err Nesting) k.reads counted m b.0 b.1 b.2)))
@@ -75,14 +75,14 @@ module _ (l : Language) (w : IsLanguage l) (g : Grammar l) {A : Type 0} (p : Rul
   fault x [] TooMany k = k.finds
   fault x (t ∷ ts) TooMany k = (k.finds, λ n b. let e : true ≡ false = takes_front x t (Err TooMany) k.reads true n b.0 b.1 b.2 in absurd (cc))
 
-  viable : (x : List l.Token) (s : Stop) (next : Option l.Token) → TracedAt x (Err s) next → Begins g true m p x
+  viable : (x : List l.Token) (s : ParseFault) (next : Option l.Token) → TracedAt x (Err s) next → Begins g true m p x
   viable x s next k = go k.viable
     where
       go : (x ≡ []) ⊎ Begins g true m p x → Begins g true m p x
       go (inl e) = subst (Begins g true m p) (sym e) (plain l w (NestsIn g true m) true p (and_left (is_plain p) _ (and_left _ (is_predictive g p) (and_left (is_good_rule g p) _ good))))
       go (inr b) = b
 
-  judges : (ts x rest : List l.Token) (o : Result A Stop) → ts ≡ x ++ rest → TracedAt x o (peek rest)
+  judges : (ts x rest : List l.Token) (o : Result A ParseFault) → ts ≡ x ++ rest → TracedAt x o (peek rest)
       → Judges g m p ts (at_end (o, rest)).0 (at_end (o, rest)).1
   judges ts x [] (Ok v) e k = subst (λ z. IsText g true m p z v) (sym (e ∙ append-nil x)) k.finds
   judges ts x (t ∷ rest) (Ok v) e k = subst (λ z. FaultsAt g m p z Syntax (t ∷ rest)) (sym e) (more_behind x t rest v k)

@@ -7,8 +7,8 @@ use Rattle.grammar.specs.Rule.{Rule, Grammar, inside}
 use Rattle.grammar.specs.Text.{Spells, NestsIn}
 use Rattle.grammar.specs.Checks.{is_plain, is_completable, is_predictive, is_good_rule, is_good, goes_on, are_among}
 use Rattle.grammar.specs.Reading.{read, reader}
-use Rattle.grammar.specs.declared.Stop.{Stop}
-use Rattle.grammar.specs.declared.Stop.TheVariants.{Syntax, Nesting, TooMany}
+use Rattle.grammar.specs.declared.ParseFault.{ParseFault}
+use Rattle.grammar.specs.declared.ParseFault.TheVariants.{Syntax, Nesting, TooMany}
 use Rattle.grammar.proofs.Truths.{and_left, and_right, tested}
 use Rattle.grammar.proofs.Completions.{Begun, plain}
 use Rattle.grammar.proofs.Shorter.{solid_shorter}
@@ -37,7 +37,7 @@ module _ (l : Language) (w : IsLanguage l) (g : Grammar l) (good : IsGrammar g) 
   abbrev pub TracedIn : ℕ → {A : Type 0} → Rule l A → List l.Token → Type 0
   TracedIn m p ts = Traced l w g (reader g m) (NestsIn g true m) (NestsIn g true (suc m)) (NestsIn g false (suc m)) p ts
 
-  abbrev TraceIn : ℕ → {A : Type 0} → Rule l A → List l.Token → Result A Stop → Option l.Token → Type 0
+  abbrev TraceIn : ℕ → {A : Type 0} → Rule l A → List l.Token → Result A ParseFault → Option l.Token → Type 0
   TraceIn m p x o next = Trace l w g (reader g m) (NestsIn g true m) (NestsIn g true (suc m)) (NestsIn g false (suc m)) p x o next
 
   nested_end : (m : ℕ) (k : l.Kind) (n : l.Nonterminal) → TracedIn m (inside k n) []
@@ -81,7 +81,7 @@ module _ (l : Language) (w : IsLanguage l) (g : Grammar l) (good : IsGrammar g) 
   opens_inside c m k n t x None real e h = h
   opens_inside c m k n t x (Some u) real e h = begun_inside c m k n t (x ++ u ∷ []) real e h
 
-  nested_trace : (m : ℕ) (k : l.Kind) (n : l.Nonterminal) (t : l.Token) (x : List l.Token) (o : Result l.Tree Stop) (next : Option l.Token) → l.IsToken t
+  nested_trace : (m : ℕ) (k : l.Kind) (n : l.Nonterminal) (t : l.Token) (x : List l.Token) (o : Result l.Tree ParseFault) (next : Option l.Token) → l.IsToken t
       → l.same (l.kind t) k ≡ true → TraceIn m (g.rule n) x o next → TraceIn (suc m) (inside k n) (t ∷ x) o next
   nested_trace m k n t x o next real e i = record {
     reads = λ rest h. nested_reads m k n t (x ++ rest) e ∙ i.reads rest h;
@@ -92,7 +92,7 @@ module _ (l : Language) (w : IsLanguage l) (g : Grammar l) (good : IsGrammar g) 
       kind_is : l.kind t ≡ k
       kind_is = w.same_true (l.kind t) k e
 
-      finds : (o : Result l.Tree Stop) → Finds l w g (reader g m) (NestsIn g true m) (NestsIn g true (suc m)) (NestsIn g false (suc m)) (g.rule n) x o next
+      finds : (o : Result l.Tree ParseFault) → Finds l w g (reader g m) (NestsIn g true m) (NestsIn g true (suc m)) (NestsIn g false (suc m)) (g.rule n) x o next
           → Finds l w g (reader g (suc m)) (NestsIn g true (suc m)) (NestsIn g true (suc (suc m))) (NestsIn g false (suc (suc m))) (inside k n) (t ∷ x) o next
       finds (Ok v) s = (t, x, real, kind_is, refl, s)
       finds (Err Syntax) s = tt
@@ -102,7 +102,7 @@ module _ (l : Language) (w : IsLanguage l) (g : Grammar l) (good : IsGrammar g) 
       some : (ts : List l.Token) × (v : l.Tree) × Spells (NestsIn g true m) true (g.rule n) ts v
       some = plain l w (NestsIn g true m) true (g.rule n) (good.plain n)
 
-      viable : (o : Result l.Tree Stop) → IsViable l w g (reader g m) (NestsIn g true m) (NestsIn g true (suc m)) (NestsIn g false (suc m)) (g.rule n) x o
+      viable : (o : Result l.Tree ParseFault) → IsViable l w g (reader g m) (NestsIn g true m) (NestsIn g true (suc m)) (NestsIn g false (suc m)) (g.rule n) x o
           → IsViable l w g (reader g (suc m)) (NestsIn g true (suc m)) (NestsIn g true (suc (suc m))) (NestsIn g false (suc (suc m))) (inside k n) (t ∷ x) o
       viable (Ok v) h = tt
       viable (Err s) (inl h) = inr (subst (λ z. Begun {l = l} (NestsIn g true (suc m)) true (inside k n) (t ∷ z)) (sym h) (begun_inside true m k n t [] real kind_is some))

@@ -5,7 +5,7 @@ use Rattle.grammar.specs.Language.{Language}
 use Rattle.grammar.specs.Rule.{Rule, Grammar, nothing, token, both, either, many, means, inside}
 use Rattle.grammar.specs.Checks.{is_nullable, first}
 use Rattle.grammar.specs.Reading.{Found, Reader, begins, and_then, taken, is_full, one_less, rounds, read, reader}
-use Rattle.grammar.specs.declared.Stop.TheVariants.{Syntax, TooMany}
+use Rattle.grammar.specs.declared.ParseFault.TheVariants.{Syntax, TooMany}
 
 -- what was read took at least so many tokens
 abbrev pub Shortens : {T A : Type 0} → ℕ → List T → Found T A → Type 0

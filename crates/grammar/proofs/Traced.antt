@@ -8,8 +8,8 @@ use Rattle.grammar.specs.Rule.{Rule, Grammar, nothing, token, both, either, many
 use Rattle.grammar.specs.Text.{Nests, Within, Spells}
 use Rattle.grammar.specs.Checks.{has, are_apart, is_nullable, first, goes_on, is_predictive, is_plain, is_completable}
 use Rattle.grammar.specs.Reading.{Reader, begins, and_then, taken, is_full, one_less, read}
-use Rattle.grammar.specs.declared.Stop.{Stop}
-use Rattle.grammar.specs.declared.Stop.TheVariants.{Syntax, Nesting, TooMany}
+use Rattle.grammar.specs.declared.ParseFault.{ParseFault}
+use Rattle.grammar.specs.declared.ParseFault.TheVariants.{Syntax, Nesting, TooMany}
 use Rattle.grammar.proofs.Truths.{and_left, and_right, not_true, not_both, tested}
 use Rattle.grammar.proofs.Starts.{Starts, starts}
 use Rattle.grammar.proofs.Completions.{Begun, plain, opened, begun_first, begun_second, begun_part}
@@ -42,18 +42,18 @@ Opens N counted p x (Some t) = Begun N counted p (x ++ t ∷ [])
 
 -- N nests with the levels that there are, D with one more, and M with one more and without limits of parts
 module _ (l : Language) (w : IsLanguage l) (g : Grammar l) (R : Reader l) (N D M : Nests l) where
-  abbrev pub Finds : {A : Type 0} → Rule l A → List l.Token → Result A Stop → Option l.Token → Type 0
+  abbrev pub Finds : {A : Type 0} → Rule l A → List l.Token → Result A ParseFault → Option l.Token → Type 0
   Finds p x (Ok v) next = Spells N true p x v
   Finds p x (Err Syntax) next = Unit {0}
   Finds p x (Err Nesting) next = Opens D true p x next
   Finds p x (Err TooMany) next = Opens M false p x next
 
-  abbrev pub IsViable : {A : Type 0} → Rule l A → List l.Token → Result A Stop → Type 0
+  abbrev pub IsViable : {A : Type 0} → Rule l A → List l.Token → Result A ParseFault → Type 0
   IsViable p x (Ok v) = Unit {0}
   IsViable p x (Err s) = (x ≡ []) ⊎ Begun N true p x
 
   -- reading took x, found o there, and looked no further than at the next token
-  pub record Trace {A : Type 0} (p : Rule l A) (x : List l.Token) (o : Result A Stop) (next : Option l.Token) : Type 0 where
+  pub record Trace {A : Type 0} (p : Rule l A) (x : List l.Token) (o : Result A ParseFault) (next : Option l.Token) : Type 0 where
     pub reads : (rest : List l.Token) → peek rest ≡ next → read R p (x ++ rest) ≡ (o, rest)
     pub finds : Finds p x o next
     pub viable : IsViable p x o
@@ -61,7 +61,7 @@ module _ (l : Language) (w : IsLanguage l) (g : Grammar l) (R : Reader l) (N D M
   pub record Traced {A : Type 0} (p : Rule l A) (ts : List l.Token) : Type 0 where
     pub took : List l.Token
     pub rest : List l.Token
-    pub outcome : Result A Stop
+    pub outcome : Result A ParseFault
     pub split : ts ≡ took ++ rest
     pub trace : Trace p took outcome (peek rest)
 
@@ -89,7 +89,7 @@ module _ (l : Language) (w : IsLanguage l) (g : Grammar l) (R : Reader l) (N D M
   lift_opens K c p r x y None up h = h
   lift_opens K c p r x y (Some t) up h = up (t ∷ []) h
 
-  lift_finds : {A B : Type 0} (p : Rule l A) (r : Rule l B) (x y : List l.Token) (s : Stop) (next : Option l.Token)
+  lift_finds : {A B : Type 0} (p : Rule l A) (r : Rule l B) (x y : List l.Token) (s : ParseFault) (next : Option l.Token)
       → Lifts p r x y → Finds p x (Err s) next → Finds r y (Err s) next
   lift_finds p r x y Syntax next up h = tt
   lift_finds p r x y Nesting next up h = lift_opens D true p r x y next up.in_d h
@@ -102,7 +102,7 @@ module _ (l : Language) (w : IsLanguage l) (g : Grammar l) (R : Reader l) (N D M
   begun_start p x b = subst (Begun N true p) (sym (append-nil x)) b
 
   -- the whole of what the one took
-  lift_viable : {A B : Type 0} (p : Rule l A) (r : Rule l B) (x y : List l.Token) (s : Stop)
+  lift_viable : {A B : Type 0} (p : Rule l A) (r : Rule l B) (x y : List l.Token) (s : ParseFault)
       → Lifts p r x y → (x ≡ [] → (y ≡ []) ⊎ Begun N true r y) → IsViable p x (Err s) → IsViable r y (Err s)
   lift_viable p r x y s up none (inl e) = none e
   lift_viable p r x y s up none (inr b) = inr (begun_end r y (up.in_n [] (begun_start p x b)))
@@ -162,7 +162,7 @@ module _ (l : Language) (w : IsLanguage l) (g : Grammar l) (R : Reader l) (N D M
     to_m : {A : Type 0} (p : Rule l A) (x : List l.Token) (v : A) → Spells N true p x v → Spells M false p x v
     to_m p x v s = widen l N M true false in_m uncounted p x v s
 
-    first_fault : {A B : Type 0} (p : Rule l A) (q : Rule l B) (x rest : List l.Token) (s : Stop) → is_plain q ≡ true
+    first_fault : {A B : Type 0} (p : Rule l A) (q : Rule l B) (x rest : List l.Token) (s : ParseFault) → is_plain q ≡ true
         → Trace p x (Err s) (peek rest) → Trace (both p q) x (Err s) (peek rest)
     first_fault p q x rest s plain_q t = record {
       reads = λ r h. rw (t.reads r h) refl;
@@ -198,7 +198,7 @@ module _ (l : Language) (w : IsLanguage l) (g : Grammar l) (R : Reader l) (N D M
       viable = tt;
     }
 
-    second_fault : {A B : Type 0} (p : Rule l A) (q : Rule l B) (x y mid rest : List l.Token) (v : A) (s : Stop) → is_plain q ≡ true → mid ≡ y ++ rest
+    second_fault : {A B : Type 0} (p : Rule l A) (q : Rule l B) (x y mid rest : List l.Token) (v : A) (s : ParseFault) → is_plain q ≡ true → mid ≡ y ++ rest
         → Trace p x (Ok v) (peek mid) → Trace q y (Err s) (peek rest) → Trace (both p q) (x ++ y) (Err s) (peek rest)
     second_fault p q x y mid rest v s plain_q e t r = record {
       reads = λ z h. rw (first_again p x y mid rest v e t z h, r.reads z h) refl;
@@ -215,7 +215,7 @@ module _ (l : Language) (w : IsLanguage l) (g : Grammar l) (R : Reader l) (N D M
         none : y ≡ [] → (x ++ y ≡ []) ⊎ Begun N true (both p q) (x ++ y)
         none h = inr (subst (λ z. Begun N true (both p q) (x ++ z)) (sym h) (some.0, (v, some.1), (x, some.0, ap (λ z. z ++ some.0) (append-nil x), t.finds, some.2)))
 
-    both_traced : {A B : Type 0} (p : Rule l A) (q : Rule l B) (ts x rest : List l.Token) (o : Result A Stop) → is_plain q ≡ true → ts ≡ x ++ rest
+    both_traced : {A B : Type 0} (p : Rule l A) (q : Rule l B) (ts x rest : List l.Token) (o : Result A ParseFault) → is_plain q ≡ true → ts ≡ x ++ rest
         → Trace p x o (peek rest) → Traced q rest → Traced (both p q) ts
     both_traced p q ts x rest (Err s) plain_q e t r = record { took = x; rest = rest; outcome = Err s; split = e; trace = first_fault p q x rest s plain_q t }
     both_traced p q ts x mid (Ok v) plain_q e t r = then r.outcome r.trace
@@ -223,11 +223,11 @@ module _ (l : Language) (w : IsLanguage l) (g : Grammar l) (R : Reader l) (N D M
         whole : ts ≡ x ++ r.took ++ r.rest
         whole = e ∙ ap (λ z. x ++ z) r.split ∙ sym (append_assoc x r.took r.rest)
 
-        then : (o : Result _ Stop) → Trace q r.took o (peek r.rest) → Traced (both p q) ts
+        then : (o : Result _ ParseFault) → Trace q r.took o (peek r.rest) → Traced (both p q) ts
         then (Ok u) k = record { took = x ++ r.took; rest = r.rest; outcome = Ok (v, u); split = whole; trace = second_ok p q x r.took mid r.rest v u r.split t k }
         then (Err s) k = record { took = x ++ r.took; rest = r.rest; outcome = Err s; split = whole; trace = second_fault p q x r.took mid r.rest v s plain_q r.split t k }
 
-    left_trace : {A : Type 0} (p q : Rule l A) (x : List l.Token) (o : Result A Stop) (next : Option l.Token)
+    left_trace : {A : Type 0} (p q : Rule l A) (x : List l.Token) (o : Result A ParseFault) (next : Option l.Token)
         → ((r : List l.Token) → peek r ≡ next → begins l (first p) (x ++ r) ≡ true) → Trace p x o next → Trace (either p q) x o next
     left_trace p q x (Ok v) next chosen t = record { reads = λ r h. rw (chosen r h) (t.reads r h); finds = inl t.finds; viable = tt }
     left_trace p q x (Err s) next chosen t = record {
@@ -243,7 +243,7 @@ module _ (l : Language) (w : IsLanguage l) (g : Grammar l) (R : Reader l) (N D M
           in_m = λ more b. begun_left false M p q (x ++ more) b;
         }
 
-    right_trace : {A : Type 0} (p q : Rule l A) (x : List l.Token) (o : Result A Stop) (next : Option l.Token)
+    right_trace : {A : Type 0} (p q : Rule l A) (x : List l.Token) (o : Result A ParseFault) (next : Option l.Token)
         → ((r : List l.Token) → peek r ≡ next → begins l (first p) (x ++ r) ≡ false) → Trace q x o next → Trace (either p q) x o next
     right_trace p q x (Ok v) next chosen t = record { reads = λ r h. rw (chosen r h) (t.reads r h); finds = inr t.finds; viable = tt }
     right_trace p q x (Err s) next chosen t = record {
@@ -259,7 +259,7 @@ module _ (l : Language) (w : IsLanguage l) (g : Grammar l) (R : Reader l) (N D M
           in_m = λ more b. begun_right false M p q (x ++ more) b;
         }
 
-    means_trace : {A B : Type 0} (f : A → B) (p : Rule l A) (ts x rest : List l.Token) (o : Result A Stop) → ts ≡ x ++ rest → Trace p x o (peek rest) → Traced (means f p) ts
+    means_trace : {A B : Type 0} (f : A → B) (p : Rule l A) (ts x rest : List l.Token) (o : Result A ParseFault) → ts ≡ x ++ rest → Trace p x o (peek rest) → Traced (means f p) ts
     means_trace f p ts x rest (Ok v) e t = record {
       took = x;
       rest = rest;
@@ -327,7 +327,7 @@ module _ (l : Language) (w : IsLanguage l) (g : Grammar l) (R : Reader l) (N D M
       };
     }
 
-    round_fault : {A : Type 0} (limit : Option ℕ) (p : Rule l A) (ts x rest : List l.Token) (s : Stop) → is_nullable p ≡ false → is_full limit ≡ false → ts ≡ x ++ rest
+    round_fault : {A : Type 0} (limit : Option ℕ) (p : Rule l A) (ts x rest : List l.Token) (s : ParseFault) → is_nullable p ≡ false → is_full limit ≡ false → ts ≡ x ++ rest
         → begins l (first p) ts ≡ true → Trace p x (Err s) (peek rest) → Trace (many limit p) x (Err s) (peek rest)
     round_fault limit p ts x rest s solid room e go t = record {
       reads = λ r h. many_step l R p (short _ p solid) limit (x ++ r) ∙ rw (begins_same l (first p) ts x rest true e go r h, room, t.reads r h) refl;
@@ -360,7 +360,7 @@ module _ (l : Language) (w : IsLanguage l) (g : Grammar l) (R : Reader l) (N D M
       viable = tt;
     }
 
-    more_fault : {A : Type 0} (limit : Option ℕ) (p : Rule l A) (ts x y mid rest : List l.Token) (v : A) (s : Stop) → is_nullable p ≡ false → is_full limit ≡ false
+    more_fault : {A : Type 0} (limit : Option ℕ) (p : Rule l A) (ts x y mid rest : List l.Token) (v : A) (s : ParseFault) → is_nullable p ≡ false → is_full limit ≡ false
         → ts ≡ x ++ mid → mid ≡ y ++ rest → begins l (first p) ts ≡ true → Trace p x (Ok v) (peek mid) → Trace (many (one_less limit) p) y (Err s) (peek rest)
         → Trace (many limit p) (x ++ y) (Err s) (peek rest)
     more_fault limit p ts x y mid rest v s solid room e f go t k = record {
@@ -386,7 +386,7 @@ module _ (l : Language) (w : IsLanguage l) (g : Grammar l) (R : Reader l) (N D M
         whole : ts ≡ x ++ k.took ++ k.rest
         whole = e ∙ ap (λ z. x ++ z) k.split ∙ sym (append_assoc x k.took k.rest)
 
-        then : (o : Result (List _) Stop) → Trace (many (one_less limit) p) k.took o (peek k.rest) → Traced (many limit p) ts
+        then : (o : Result (List _) ParseFault) → Trace (many (one_less limit) p) k.took o (peek k.rest) → Traced (many limit p) ts
         then (Ok vs) u = record {
           took = x ++ k.took;
           rest = k.rest;
@@ -409,7 +409,7 @@ module _ (l : Language) (w : IsLanguage l) (g : Grammar l) (R : Reader l) (N D M
         took [] h = not_both (is_nullable p) h solid
         took (t ∷ x) h = omega arith
 
-    part_traced : {A : Type 0} (bound : ℕ) (limit : Option ℕ) (p : Rule l A) (ts x rest : List l.Token) (o : Result A Stop) → is_nullable p ≡ false → is_full limit ≡ false
+    part_traced : {A : Type 0} (bound : ℕ) (limit : Option ℕ) (p : Rule l A) (ts x rest : List l.Token) (o : Result A ParseFault) → is_nullable p ≡ false → is_full limit ≡ false
         → length ts ≤ suc bound → ts ≡ x ++ rest → begins l (first p) ts ≡ true → Trace p x o (peek rest)
         → (length rest ≤ bound → Traced (many (one_less limit) p) rest) → Traced (many limit p) ts
     part_traced bound limit p ts x rest (Err s) solid room fits e go t others =

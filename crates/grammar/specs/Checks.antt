@@ -48,9 +48,12 @@ goes_on g (inside k n) = g.after n
 abbrev pub is_predictive : {l : Language} {A : Type 0} → Grammar l → Rule l A → Bool
 is_predictive g (nothing a) = true
 is_predictive g (token k) = true
-is_predictive {l} g (both p q) = are_apart l (goes_on g p) (first q) && is_predictive g p && is_predictive g q
-is_predictive {l} g (either p q) = not (is_nullable p) && are_apart l (first p) (first q) && is_predictive g p && is_predictive g q
-is_predictive {l} g (many limit p) = not (is_nullable p) && are_apart l (goes_on g p) (first p) && is_predictive g p
+is_predictive {l} g (both p q) = are_apart l (goes_on g p) (first q) && is_predictive g p
+    && is_predictive g q
+is_predictive {l} g (either p q) = not (is_nullable p) && are_apart l (first p) (first q)
+    && is_predictive g p && is_predictive g q
+is_predictive {l} g (many limit p) = not (is_nullable p) && are_apart l (goes_on g p) (first p)
+    && is_predictive g p
 is_predictive g (means f p) = is_predictive g p
 is_predictive g (inside k n) = true
 
@@ -79,4 +82,5 @@ is_good_rule g p = is_plain p && is_completable p && is_predictive g p
 
 -- the rule and those of all nonterminals pass the tests
 abbrev pub is_good : {l : Language} {A : Type 0} → Grammar l → Rule l A → Bool
-is_good {l} g p = is_good_rule g p && l.every (λ n. is_good_rule g (g.rule n) && are_among l (goes_on g (g.rule n)) (g.after n))
+is_good {l} g p = is_good_rule g p
+    && l.every (λ n. is_good_rule g (g.rule n) && are_among l (goes_on g (g.rule n)) (g.after n))

@@ -19,4 +19,5 @@ pub record IsLanguage (l : Language) : Type 0 where
   pub same_true : (a b : l.Kind) → l.same a b ≡ true → a ≡ b
   pub same_self : (a : l.Kind) → l.same a a ≡ true
   pub some_token : (k : l.Kind) → (t : l.Token) × (l.kind t ≡ k) × l.IsToken t
-  pub each : (test : l.Nonterminal → Bool) → l.every test ≡ true → (n : l.Nonterminal) → test n ≡ true
+  pub each : (test : l.Nonterminal → Bool) → l.every test ≡ true → (n : l.Nonterminal)
+      → test n ≡ true

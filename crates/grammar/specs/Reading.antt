@@ -3,12 +3,12 @@ use Rattle.std.specs.Prelude.{ℕ, zero, suc, Bool, true, false, if◌then◌els
 use Rattle.grammar.specs.Language.{Language}
 use Rattle.grammar.specs.Rule.{Rule, Grammar, nothing, token, both, either, many, means, inside}
 use Rattle.grammar.specs.Checks.{has, first}
-use Rattle.grammar.specs.declared.Stop.{Stop}
-use Rattle.grammar.specs.declared.Stop.TheVariants.{Syntax, Nesting, TooMany}
+use Rattle.grammar.specs.declared.ParseFault.{ParseFault}
+use Rattle.grammar.specs.declared.ParseFault.TheVariants.{Syntax, Nesting, TooMany}
 
 -- a value or a fault, and the tokens that are left
 abbrev pub Found : Type 0 → Type 0 → Type 0
-Found T A = Result A Stop × List T
+Found T A = Result A ParseFault × List T
 
 -- how what nests is read, behind the token that opens it
 abbrev pub Reader : Language → Type 0
@@ -38,19 +38,22 @@ one_less (Some zero) = Some zero
 one_less (Some (suc n)) = Some n
 
 -- rounds of `next` while `go` holds, at most as many as `fuel`, which the number of tokens is enough for
-abbrev pub rounds : {T A : Type 0} → (List T → Bool) → (List T → Found T A) → Option ℕ → ℕ → List T → Found T (List A)
+abbrev pub rounds : {T A : Type 0} → (List T → Bool) → (List T → Found T A) → Option ℕ → ℕ → List T
+    → Found T (List A)
 rounds go next limit zero ts = (Ok [], ts)
 rounds go next limit (suc fuel) ts =
     if go ts
     then (if is_full limit
     then (Err TooMany, ts)
-    else and_then (next ts) (λ v rest. and_then (rounds go next (one_less limit) fuel rest) (λ vs end. (Ok (v ∷ vs), end))))
+    else and_then (next ts) (λ v rest. and_then (rounds go next (one_less limit) fuel rest)
+    (λ vs end. (Ok (v ∷ vs), end))))
     else (Ok [], ts)
 
 abbrev pub read : {l : Language} {A : Type 0} → Reader l → Rule l A → List l.Token → Found l.Token A
 read R (nothing a) ts = (Ok a, ts)
 read {l} R (token k) ts = taken l k ts
-read R (both p q) ts = and_then (read R p ts) (λ a rest. and_then (read R q rest) (λ b end. (Ok (a, b), end)))
+read R (both p q) ts = and_then (read R p ts)
+    (λ a rest. and_then (read R q rest) (λ b end. (Ok (a, b), end)))
 read {l} R (either p q) ts = if begins l (first p) ts then read R p ts else read R q ts
 read {l} R (many limit p) ts = rounds (begins l (first p)) (read R p) limit (length ts) ts
 read R (means f p) ts = and_then (read R p ts) (λ a rest. (Ok (f a), rest))
@@ -67,5 +70,6 @@ at_end (Ok v, t ∷ ts) = (Err Syntax, t ∷ ts)
 at_end (Err s, ts) = (Err s, ts)
 
 -- the whole list
-abbrev pub parse : {l : Language} {A : Type 0} → Grammar l → ℕ → Rule l A → List l.Token → Found l.Token A
+abbrev pub parse : {l : Language} {A : Type 0} → Grammar l → ℕ → Rule l A → List l.Token
+    → Found l.Token A
 parse g levels p ts = at_end (read (reader g levels) p ts)

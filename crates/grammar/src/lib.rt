@@ -15,7 +15,7 @@ ghost use Rattle.grammar.specs.Reading.{parse};
 
 /// Why reading stops at a token.
 #[derive(Clone, Copy, Debug, PartialEq, Eq, Drop)]
-pub enum Stop {
+pub enum ParseFault {
     /// No text has this token here.
     Syntax,
     /// The token opens one level too many.
@@ -42,9 +42,12 @@ pub trait Predictive {
 /// Reading is exact: of any tokens it gives the value that they spell, or the one fault, and it refuses nothing that is
 /// spelled.
 pub fn reads_exactly<G: Predictive>()
-    ensures judged { (levels : ℕ) (ts : List G.language.Token) → AllByRecursion G.language.IsToken ts
-        → Judges G.grammar levels G.start ts (parse G.grammar levels G.start ts).0 (parse G.grammar levels G.start ts).1 }
-    ensures complete { (levels : ℕ) (ts : List G.language.Token) (v : G.Value) → IsText G.grammar true levels G.start ts v
+    ensures judged { (levels : ℕ) (ts : List G.language.Token)
+        → AllByRecursion G.language.IsToken ts
+        → Judges G.grammar levels G.start ts (parse G.grammar levels G.start ts).0
+        (parse G.grammar levels G.start ts).1 }
+    ensures complete { (levels : ℕ) (ts : List G.language.Token) (v : G.Value)
+        → IsText G.grammar true levels G.start ts v
         → parse G.grammar levels G.start ts ≡ (Ok v, []) }
 {}
 

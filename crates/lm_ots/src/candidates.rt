@@ -44,7 +44,8 @@ pub fn candidate(
     signature: &[u8],
 ) -> Option<Digest>
     ensures form { is_some result ≡ is_ots_form ots signature.now }
-    ensures value { IfSome result (λ key. key ≡ ots_candidate id.now q ots message.now signature.now) }
+    ensures value { IfSome result (λ key. key
+        ≡ ots_candidate id.now q ots message.now signature.now) }
 {
     if !is_form(ots, signature) {
         return None;

@@ -2,7 +2,7 @@
 ghost use Rattle.std.specs.Prelude.{◌≡◌, ◌-◌, ◌≤◌, ◌<◌};
 ghost use Rattle.vo_spec.specs.OtsSets.{count_of};
 ghost use Rattle.vo_spec.specs.Ots.{step, advance, secret, public_text, public_end, ots_public};
-ghost use Rattle.tagged_hash.specs.Holding.{Holds};
+ghost use Rattle.tagged_hash.specs.Holding.{HoldsBytes};
 ghost use Rattle.std.specs.Prelude.{[]};
 
 use tagged_hash::Hasher;
@@ -59,7 +59,7 @@ fn public_end(id: &[u8; 16], q: u32, ots: OtsType, seed: &[u8; 32], i: u16) -> D
 /// A hasher that awaits the ends of a leaf's chains; its digest is then the leaf's public key.
 #[tactic(auto, unfolding(vo_spec::specs::Ots::public_text))]
 pub(crate) fn public_hasher(id: &[u8; 16], q: u32) -> Hasher
-    ensures { Holds result (public_text id.now q []) }
+    ensures { HoldsBytes result (public_text id.now q []) }
 {
     let mut hasher = Hasher::new();
     hasher.add(id);

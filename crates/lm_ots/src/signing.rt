@@ -36,7 +36,8 @@ pub fn signed_value(
 
 // The bytes with the typecode and the randomizer of a signature behind them.
 fn put_front(mut bytes: Vec<u8>, ots: OtsType, random: &Digest) -> Result<Vec<u8>, AllocError>
-    ensures { IfOk result (λ front. front.items ≡ bytes.items ++ u32_bytes (ots_code_of ots) ++ random.now) }
+    ensures { IfOk result (λ front. front.items ≡ bytes.items ++ u32_bytes (ots_code_of ots)
+        ++ random.now) }
 {
     bytes.extend_from_slice(&u32_bytes(ots.code()))?;
     bytes.extend_from_slice(random.as_bytes())?;
@@ -53,7 +54,8 @@ pub fn sign_onto(
     seed: &[u8; 32],
     message: &[u8],
 ) -> Result<Vec<u8>, AllocError>
-    ensures { IfOk result (λ signed. signed.items ≡ bytes.items ++ ots_signature id.now q ots seed.now message.now) }
+    ensures { IfOk result (λ signed. signed.items ≡ bytes.items
+        ++ ots_signature id.now q ots seed.now message.now) }
 {
     let random = secret(id, q, RANDOMIZER, seed);
     let digits = digits_of(id, q, ots, &random, message);
@@ -73,9 +75,11 @@ pub fn sign_ots(
     seed: &[u8; 32],
     message: &[u8],
 ) -> Result<Vec<u8>, AllocError>
-    ensures bytes { IfOk result (λ signature. signature.items ≡ ots_signature id.now q ots seed.now message.now) }
+    ensures bytes { IfOk result (λ signature. signature.items
+        ≡ ots_signature id.now q ots seed.now message.now) }
     ensures form { IfOk result (λ signature. IsTrue (is_ots_form ots signature.items)) }
-    ensures valid { IfOk result (λ signature. ots_candidate id.now q ots message.now signature.items ≡ ots_public id.now q ots seed.now) }
+    ensures valid { IfOk result (λ signature. ots_candidate id.now q ots message.now signature.items
+        ≡ ots_public id.now q ots seed.now) }
 {
     let room = Vec::with_capacity(alloc, ots.signature_len())?;
     sign_onto(room, id, q, ots, seed, message)

@@ -58,7 +58,12 @@ unfolding public_bytes
 key_lms-public_bytes lms ots id root =
     let first = u32_bytes (lms_code_of lms) in
     let second = u32_bytes (ots_code_of ots) in
-    rw (append_assoc (first ++ second) id root, append_assoc first second (id ++ root), u32_at-front (lms_code_of lms) (second ++ (id ++ root)) (lms_code_fits lms))
+    rw (
+      append_assoc (first ++ second) id root,
+      append_assoc first second (id ++ root),
+      u32_at-front
+          (lms_code_of lms) (second ++ (id ++ root)) (lms_code_fits lms),
+    )
     (lms_of-lms_code_of lms)
 
 pub key_ots-public_bytes : (lms : LmsType) (ots : OtsType) (id root : List ℕ)
@@ -76,20 +81,24 @@ key_ots-public_bytes lms ots id root =
     (ots_of-ots_code_of ots)
 
 -- the typecodes have 8 bytes
-length-codes : (lms : LmsType) (ots : OtsType) → length (u32_bytes (lms_code_of lms) ++ u32_bytes (ots_code_of ots)) ≡ 8
+length-codes : (lms : LmsType) (ots : OtsType)
+    → length (u32_bytes (lms_code_of lms) ++ u32_bytes (ots_code_of ots)) ≡ 8
 length-codes lms ots =
     rw (length-append, length-u32_bytes (lms_code_of lms), length-u32_bytes (ots_code_of ots)) refl
 
-id_at-middle : (front id back : List ℕ) (at : ℕ) → length id ≡ 16 → at ≡ length front → id_at (front ++ id ++ back) at ≡ id
+id_at-middle : (front id back : List ℕ) (at : ℕ) → length id ≡ 16 → at ≡ length front
+    → id_at (front ++ id ++ back) at ≡ id
 unfolding id_at
 id_at-middle front id back at full place =
-    rw (place, append_assoc front id back, drop-append_seam front (id ++ back), ← full) (take-append_seam id back)
+    rw (place, append_assoc front id back, drop-append_seam front (id ++ back), ← full)
+    (take-append_seam id back)
 
 pub key_id-public_bytes : (lms : LmsType) (ots : OtsType) (id root : List ℕ) → length id ≡ 16
     → key_id (public_bytes lms ots id root) ≡ id
 unfolding key_id public_bytes
 key_id-public_bytes lms ots id root full =
-    id_at-middle (u32_bytes (lms_code_of lms) ++ u32_bytes (ots_code_of ots)) id root 8 full (sym (length-codes lms ots))
+    id_at-middle (u32_bytes (lms_code_of lms) ++ u32_bytes (ots_code_of ots)) id root 8 full
+    (sym (length-codes lms ots))
 
 pub key_root-public_bytes : (lms : LmsType) (ots : OtsType) (id root : List ℕ) → HasLengths id root
     → key_root (public_bytes lms ots id root) ≡ root
@@ -113,7 +122,8 @@ pub record ReadBack (lms : LmsType) (ots : OtsType) (id root : List ℕ) : Type 
   pub id_is : key_id (public_bytes lms ots id root) ≡ id
   pub root_is : key_root (public_bytes lms ots id root) ≡ root
 
-pub parts_read_back : (lms : LmsType) (ots : OtsType) (id root : List ℕ) → HasLengths id root → ReadBack lms ots id root
+pub parts_read_back : (lms : LmsType) (ots : OtsType) (id root : List ℕ) → HasLengths id root
+    → ReadBack lms ots id root
 parts_read_back lms ots id root lengths = record {
   lms_is = rw (key_lms-public_bytes lms ots id root) refl;
   ots_is = rw (key_ots-public_bytes lms ots id root) refl;

@@ -40,10 +40,23 @@ impl Model for PublicKey {
 
     ghost invariant = { λ key. HasLengths key.id key.root };
 
-    ghost inverse = { λ bytes. record { lms = lms_in bytes; ots = ots_in bytes; id = key_id bytes; root = key_root bytes } };
+    ghost inverse = { λ bytes. record {
+      lms = lms_in bytes;
+      ots = ots_in bytes;
+      id =
+          key_id bytes;
+      root = key_root bytes;
+    } };
 
-    ghost inverse_ok = { λ key lengths. let read = parts_read_back key.lms key.ots key.id key.root lengths in
-        λ i. record { lms = read.lms_is i; ots = read.ots_is i; id = read.id_is i; root = read.root_is i } };
+    ghost inverse_ok = { λ key lengths. let read =
+        parts_read_back key.lms key.ots key.id key.root lengths in
+        λ i. record {
+          lms = read.lms_is i;
+          ots = read.ots_is i;
+          id = read.id_is i;
+          root =
+              read.root_is i;
+        } };
 }
 
 // The identifier that the 16 bytes from `at` on are.

@@ -7,7 +7,7 @@ use Rattle.vo_spec.specs.declared.values.Row.{Row}
 use Rattle.vo_spec.specs.declared.cells.PartEntry.{PartEntry}
 use Rattle.vo_spec.specs.Parts.{inner, more}
 use Rattle.vo_spec.specs.Trees.{RowTree, RowTrees, row_family, open_parts}
-use Rattle.vo_spec.specs.Fits.{most_in_node}
+use Rattle.vo_spec.specs.Fits.{max_fill}
 use Rattle.btree.specs.declared.node.Contents.{Contents}
 use Rattle.btree.specs.declared.node.Contents.TheVariants.{Inner as InnerContents}
 use Rattle.btree.specs.Nodes.{Kid, parts_from, new_kid}

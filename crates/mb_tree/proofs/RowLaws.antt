@@ -11,7 +11,7 @@ use Rattle.vo_spec.specs.Trees.{RowTree, open_parts}
 use Rattle.mb_tree.specs.declared.branches.Node.{Node}
 use Rattle.mb_tree.specs.declared.branches.Node.TheVariants.{Inner}
 use Rattle.mb_tree.specs.Whole.{whole_of}
-use Rattle.vo_spec.specs.Standing.{StandsFor, shown_values, row_in, rows_in}
+use Rattle.vo_spec.specs.Standing.{Represents, shown_values, row_in, rows_in}
 
 shown_whole : (vs : List Value) → shown_values (whole_cells vs) ≡ vs
 shown_whole [] = refl
@@ -42,5 +42,5 @@ branch_falls (u ∷ us) (suc i) t lt is =
     let h : levels t ≤ levels_in (open_parts us) = branch_falls us i t (omega arith) is in omega arith
 
 -- a leaf without entries is the tree of no rows
-pub nothing_stands : StandsFor (leaf []) []
+pub nothing_stands : Represents (leaf []) []
 nothing_stands = record { tree = record { height = 0; shape = (refl, omega arith, omega arith, tt); rising = tt }; rows_are = refl }

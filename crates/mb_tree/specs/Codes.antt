@@ -29,7 +29,8 @@ cell_back (Shown v) = refl
 cell_back (Hidden d) = refl
 
 abbrev pub coded_cell : Coded Cell
-coded_cell = code_by (Value ⊎ List ℕ) (coded⊎ value.the_row.coded coded_bytes) cell_parts cell_from cell_back
+coded_cell = code_by (Value ⊎ List ℕ) (coded⊎ value.the_row.coded coded_bytes) cell_parts
+    cell_from cell_back
 
 abbrev row_parts : RowPart → List ℕ ⊎ List Cell
 row_parts (Closed d) = inl d
@@ -44,10 +45,12 @@ row_back (Closed d) = refl
 row_back (Cells cs) = refl
 
 abbrev pub coded_row : Coded RowPart
-coded_row = code_by (List ℕ ⊎ List Cell) (coded⊎ coded_bytes (coded_list coded_cell)) row_parts row_from row_back
+coded_row = code_by (List ℕ ⊎ List Cell) (coded⊎ coded_bytes (coded_list coded_cell)) row_parts
+    row_from row_back
 
 abbrev pub coded_entry : Coded PartEntry
-coded_entry = code_by (List ℕ × RowPart) (coded× coded_bytes coded_row) (λ e. (e.key, e.row)) (λ p. record { key = p.0; row = p.1 }) (λ _. refl)
+coded_entry = code_by (List ℕ × RowPart) (coded× coded_bytes coded_row) (λ e. (e.key, e.row))
+    (λ p. record { key = p.0; row = p.1 }) (λ _. refl)
 
 abbrev pub coded_tree : Coded RowTree
 coded_tree = coded_part coded_entry coded_unit

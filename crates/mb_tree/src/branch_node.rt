@@ -56,7 +56,7 @@ impl TreeNode for Branch {
 
     ghost Plain = { PlainEntry };
 
-    ghost Mark = { Unit {0} };
+    ghost Annotation = { Unit {0} };
 
     ghost family = { row_family };
 

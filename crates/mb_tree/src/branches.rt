@@ -3,7 +3,7 @@ ghost use Rattle.std.specs.Prelude.{◌≡◌, ◌+◌, ◌≤◌, length, map, 
 ghost use Rattle.vo_spec.specs.Cells.{whole_entry};
 ghost use Rattle.vo_spec.specs.Parts.{leaf, inner};
 ghost use Rattle.vo_spec.specs.Trees.{digest, open_parts};
-ghost use Rattle.vo_spec.specs.Fits.{FitsPart, most_in_node};
+ghost use Rattle.vo_spec.specs.Fits.{FitsPart, max_fill};
 
 use crate::entries::TreeEntry;
 use crate::hashing::{inner_digest, leaf_digest};
@@ -62,7 +62,7 @@ impl Branch {
     /// A leaf of these entries.
     #[tactic(auto, using(crate::proofs::BranchLaws::rows_fit))]
     pub fn leaf(alloc: Global, entries: Vec<TreeEntry>) -> Result<Branch, AllocError>
-        requires { length entries.items ≤ most_in_node }
+        requires { length entries.items ≤ max_fill }
         ensures { IfOk result (λ branch. branch ≡ leaf (map whole_entry entries.items)) }
     {
         let digest = leaf_digest(&entries);
@@ -80,7 +80,7 @@ impl Branch {
         children: Vec<Branch>,
     ) -> Result<Branch, AllocError>
         requires least { 2 ≤ length children.items }
-        requires most { length children.items ≤ most_in_node }
+        requires most { length children.items ≤ max_fill }
         requires between { length separators.items + 1 ≡ length children.items }
         ensures { IfOk result (λ branch. branch
             ≡ inner separators.items (open_parts children.items)) }

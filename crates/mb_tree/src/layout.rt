@@ -1,7 +1,7 @@
 //! The preimages of nodes, laid out once for all trees and for all that they are written to.
 ghost use Rattle.std.specs.Prelude.{◌≡◌, ℕ, List, [], ◌∷◌, ◌≤◌, length, flat_map, All, OnOk};
 ghost use Rattle.vo_spec.specs.Bytes.{string};
-ghost use Rattle.vo_spec.specs.Fits.{FitsKey, most_in_node};
+ghost use Rattle.vo_spec.specs.Fits.{FitsKey, max_fill};
 ghost use Rattle.mb_tree.specs.Writing.{Writes, leaf_layout, head_layout, inner_layout};
 
 use crate::preimage_writer::PreimageWriter;
@@ -20,7 +20,7 @@ pub trait NodeItem {
 
     fn write_to<W: PreimageWriter>(&self, writer: &mut W) -> Result<(), W::Fault>
         requires { CanWrite self.now }
-        ensures value { OnOk result (Writes W.Holds writer.old writer.new (bytes self.now)) }
+        ensures value { OnOk result (Writes W.HoldsBytes writer.old writer.new (bytes self.now)) }
         ensures fits { OnOk result (Fits self.now) };
 }
 
@@ -29,10 +29,10 @@ pub fn write_leaf<W: PreimageWriter, E: NodeItem>(
     writer: &mut W,
     entries: &[E],
 ) -> Result<(), W::Fault>
-    requires count { length entries.now ≤ most_in_node }
+    requires count { length entries.now ≤ max_fill }
     requires can { All E.CanWrite entries.now }
     ensures value { OnOk result
-        (Writes W.Holds writer.old writer.new (leaf_layout E.bytes entries.now)) }
+        (Writes W.HoldsBytes writer.old writer.new (leaf_layout E.bytes entries.now)) }
     ensures fits { OnOk result (All E.Fits entries.now) }
 {
     write_start(writer, 3, entries.len())?;
@@ -46,10 +46,10 @@ pub fn write_inner<W: PreimageWriter, K: NodeItem, C: NodeItem>(
     separators: &[K],
     children: &[C],
 ) -> Result<(), W::Fault>
-    requires count { length children.now ≤ most_in_node }
+    requires count { length children.now ≤ max_fill }
     requires can_keys { All K.CanWrite separators.now }
     requires can { All C.CanWrite children.now }
-    ensures value { OnOk result (Writes W.Holds writer.old writer.new
+    ensures value { OnOk result (Writes W.HoldsBytes writer.old writer.new
         (inner_layout K.bytes C.bytes separators.now children.now)) }
     ensures keys { OnOk result (All K.Fits separators.now) }
     ensures fits { OnOk result (All C.Fits children.now) }
@@ -64,10 +64,10 @@ pub fn write_inner_head<W: PreimageWriter, K: NodeItem>(
     separators: &[K],
     children: usize,
 ) -> Result<(), W::Fault>
-    requires count { children ≤ most_in_node }
+    requires count { children ≤ max_fill }
     requires can { All K.CanWrite separators.now }
     ensures value { OnOk result
-        (Writes W.Holds writer.old writer.new (head_layout K.bytes separators.now children)) }
+        (Writes W.HoldsBytes writer.old writer.new (head_layout K.bytes separators.now children)) }
     ensures fits { OnOk result (All K.Fits separators.now) }
 {
     write_start(writer, 4, children)?;
@@ -75,8 +75,8 @@ pub fn write_inner_head<W: PreimageWriter, K: NodeItem>(
 }
 
 fn write_start<W: PreimageWriter>(writer: &mut W, tag: u8, count: usize) -> Result<(), W::Fault>
-    requires { count ≤ most_in_node }
-    ensures { OnOk result (Writes W.Holds writer.old writer.new (tag ∷ count ∷ [])) }
+    requires { count ≤ max_fill }
+    ensures { OnOk result (Writes W.HoldsBytes writer.old writer.new (tag ∷ count ∷ [])) }
 {
     writer.write(&[tag, count as u8])
 }
@@ -84,7 +84,7 @@ fn write_start<W: PreimageWriter>(writer: &mut W, tag: u8, count: usize) -> Resu
 fn write_items<W: PreimageWriter, I: NodeItem>(writer: &mut W, items: &[I]) -> Result<(), W::Fault>
     requires { All I.CanWrite items.now }
     ensures value { OnOk result
-        (Writes W.Holds writer.old writer.new (flat_map I.bytes items.now)) }
+        (Writes W.HoldsBytes writer.old writer.new (flat_map I.bytes items.now)) }
     ensures fits { OnOk result (All I.Fits items.now) }
 {
     for item in items {
@@ -96,7 +96,7 @@ fn write_items<W: PreimageWriter, I: NodeItem>(writer: &mut W, items: &[I]) -> R
 /// A key or separator stands behind its length.
 pub fn write_key<W: PreimageWriter>(writer: &mut W, key: &[u8]) -> Result<(), W::Fault>
     requires { FitsKey key.now }
-    ensures { OnOk result (Writes W.Holds writer.old writer.new (string key.now)) }
+    ensures { OnOk result (Writes W.HoldsBytes writer.old writer.new (string key.now)) }
 {
     writer.write(&u16_bytes(key.len() as u16))?;
     writer.write(key)

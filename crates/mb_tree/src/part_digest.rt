@@ -2,7 +2,7 @@
 ghost use Rattle.std.specs.Prelude.{◌≡◌, ◌≤◌, length, All};
 ghost use Rattle.vo_spec.specs.Parts.{inner};
 ghost use Rattle.vo_spec.specs.Trees.{digest};
-ghost use Rattle.vo_spec.specs.Fits.{FitsPart, FitsEach, FitsEntry, FitsKey, most_in_node};
+ghost use Rattle.vo_spec.specs.Fits.{FitsPart, FitsEach, FitsEntry, FitsKey, max_fill};
 ghost use Rattle.mb_tree.specs.View.{part_of, parts_of};
 
 use crate::hashing::leaf_digest;
@@ -35,7 +35,7 @@ impl PartTree<'_> {
 #[tactic(auto, using(crate::proofs::PartLaws::count_parts_of, crate::proofs::PartLaws::child_bytes_parts_of, crate::proofs::PartLaws::child_fits))]
 #[cycle(node_digest)]
 fn inner_digest(separators: &[KeyPart<'_>], children: &[PartTree<'_>]) -> Digest
-    requires count { length children.now ≤ most_in_node }
+    requires count { length children.now ≤ max_fill }
     requires keys { All FitsKey separators.now }
     requires fits { FitsEach FitsEntry (parts_of children.now) }
     ensures { result ≡ digest (inner separators.now (parts_of children.now)) }

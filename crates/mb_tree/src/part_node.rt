@@ -77,7 +77,7 @@ impl<'b> TreeNode for PartTree<'b> {
 
     ghost Plain = { PlainEntry };
 
-    ghost Mark = { Unit {0} };
+    ghost Annotation = { Unit {0} };
 
     ghost family = { row_family };
 

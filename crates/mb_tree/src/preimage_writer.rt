@@ -1,6 +1,6 @@
 //! What the preimages of nodes are written to: a hasher, which takes no memory, or a list of bytes.
 ghost use Rattle.std.specs.Prelude.{◌≡◌, ℕ, List, OnOk};
-ghost use Rattle.tagged_hash.specs.Holding.{Holds as HasherHolds};
+ghost use Rattle.tagged_hash.specs.Holding.{HoldsBytes as HasherHolds};
 ghost use Rattle.mb_tree.specs.Writing.{Writes};
 
 use std::alloc::AllocError;
@@ -10,16 +10,16 @@ use tagged_hash::Hasher;
 pub trait PreimageWriter {
     type Fault: Drop;
 
-    ghost Holds: { Self → List ℕ → Type 0 };
+    ghost HoldsBytes: { Self → List ℕ → Type 0 };
 
     fn write(&mut self, bytes: &[u8]) -> Result<(), Self::Fault>
-        ensures { OnOk result (Writes Holds self.old self.new bytes.now) };
+        ensures { OnOk result (Writes HoldsBytes self.old self.new bytes.now) };
 }
 
 impl PreimageWriter for Hasher {
     type Fault = Infallible;
 
-    ghost Holds = { HasherHolds };
+    ghost HoldsBytes = { HasherHolds };
 
     fn write(&mut self, bytes: &[u8]) -> Result<(), Infallible> {
         self.add(bytes);
@@ -30,7 +30,7 @@ impl PreimageWriter for Hasher {
 impl PreimageWriter for Vec<u8> {
     type Fault = AllocError;
 
-    ghost Holds = { λ out bytes. out.items ≡ bytes };
+    ghost HoldsBytes = { λ out bytes. out.items ≡ bytes };
 
     fn write(&mut self, bytes: &[u8]) -> Result<(), AllocError> {
         self.extend_from_slice(bytes)

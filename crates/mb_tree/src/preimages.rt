@@ -1,7 +1,7 @@
 //! The bytes whose digests are those of nodes.
 ghost use Rattle.std.specs.Prelude.{◌≡◌, ◌≤◌, length, All, IfOk};
 ghost use Rattle.vo_spec.specs.Trees.{preimage};
-ghost use Rattle.vo_spec.specs.Fits.{FitsPart, most_in_node};
+ghost use Rattle.vo_spec.specs.Fits.{FitsPart, max_fill};
 ghost use Rattle.mb_tree.specs.View.{part_of};
 ghost use Rattle.mb_tree.specs.Writing.{leaf_layout, inner_layout};
 
@@ -45,7 +45,7 @@ impl Branch {
 }
 
 fn leaf_preimage<E: NodeItem>(alloc: Global, entries: &[E]) -> Result<Vec<u8>, AllocError>
-    requires count { length entries.now ≤ most_in_node }
+    requires count { length entries.now ≤ max_fill }
     requires can { All E.CanWrite entries.now }
     ensures { IfOk result (λ bytes. bytes.items ≡ leaf_layout E.bytes entries.now) }
 {
@@ -59,7 +59,7 @@ fn inner_preimage<K: NodeItem, C: NodeItem>(
     separators: &[K],
     children: &[C],
 ) -> Result<Vec<u8>, AllocError>
-    requires count { length children.now ≤ most_in_node }
+    requires count { length children.now ≤ max_fill }
     requires can_keys { All K.CanWrite separators.now }
     requires can { All C.CanWrite children.now }
     ensures { IfOk result (λ bytes. bytes.items

@@ -3,7 +3,7 @@ ghost use Rattle.std.specs.Prelude.{◌≡◌, ◌++◌, [], length, IfOk, OnOk,
 ghost use Rattle.vo_spec.specs.Parts.{leaf, entries};
 ghost use Rattle.vo_spec.specs.Fits.{FitsPart};
 ghost use Rattle.vo_spec.specs.Trees.{digest};
-ghost use Rattle.vo_spec.specs.Standing.{IsShown, StandsFor, rows_in};
+ghost use Rattle.vo_spec.specs.Standing.{IsShown, Represents, rows_in};
 ghost use Rattle.mb_tree.specs.Standing.{IsWhole};
 
 use crate::branches::Branch;
@@ -38,7 +38,7 @@ impl Tree {
     #[tactic(auto, using(crate::proofs::RowLaws::nothing_stands))]
     pub fn new(alloc: Global) -> Result<Tree, AllocError>
         ensures value { IfOk result (λ tree. tree ≡ leaf []) }
-        ensures stands { IfOk result (λ tree. StandsFor tree []) }
+        ensures stands { IfOk result (λ tree. Represents tree []) }
     {
         let root = Branch::leaf(alloc, Vec::new(alloc))?;
         Ok(Tree { root, rows: 0 })

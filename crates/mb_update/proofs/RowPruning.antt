@@ -12,9 +12,9 @@ use Rattle.vo_spec.specs.Cells.{whole_cells, whole_entry, CellsPrune, RowPrunes,
 use Rattle.vo_spec.specs.Trees.{RowTree, row_family, Prunes}
 use Rattle.vo_spec.specs.Inserts.{inserted}
 use Rattle.vo_spec.specs.Removes.{set_cells, set_row, removed, replaced}
-use Rattle.btree.specs.Agreeing.{Agrees}
+use Rattle.btree.specs.Agreeing.{AgreesWithTree}
 use Rattle.mb_update.specs.Changing.{GoesOnPruning}
-use Rattle.btree.specs.Pruning.{KeepsKeys, KeepsMarks}
+use Rattle.btree.specs.Pruning.{KeepsKeys, KeepsAnnotations}
 use Rattle.btree.proofs.InsertPrunes as inserts
 use Rattle.btree.proofs.RemovePrunes as removes
 use Rattle.btree.proofs.ReplacePrunes as replaces
@@ -22,13 +22,13 @@ use Rattle.btree.proofs.ReplacePrunes as replaces
 same_key : KeepsKeys row_family EntryPrunes
 same_key e f z = z.key
 
-same_mark : KeepsMarks row_family EntryPrunes
-same_mark p t z = refl
+same_annotation : KeepsAnnotations row_family EntryPrunes
+same_annotation p t z = refl
 
 -- An insertion, and one of a row with every cell shown.
 
 pub inserted_agrees : (e f : PartEntry) (p t : RowTree) → EntryPrunes e f → Prunes p t → GoesOnPruning (inserted e p) (inserted f t)
-inserted_agrees e f p t new = inserts.inserted_agrees row_family EntryPrunes same_key e f new same_mark p t
+inserted_agrees e f p t new = inserts.inserted_agrees row_family EntryPrunes same_key e f new same_annotation p t
 
 cells_prune : (column : ℕ) (values : List Value) → CellsPrune column (whole_cells values) (whole_cells values)
 cells_prune column [] = tt
@@ -40,7 +40,7 @@ row_agrees row p t = inserted_agrees (whole_entry row) (whole_entry row) p t (re
 -- A removal.
 
 pub removed_agrees : (key : List ℕ) (p t : RowTree) → Prunes p t → GoesOnPruning (removed key p) (removed key t)
-removed_agrees = removes.removed_agrees row_family EntryPrunes same_key same_mark
+removed_agrees = removes.removed_agrees row_family EntryPrunes same_key same_annotation
 
 -- A replacement of some cells.
 
@@ -58,12 +58,12 @@ sets_prune (c ∷ changes) cs ds z =
 
 module _ (changes : List CellChange) where
   cells_agree : (j k : List ℕ) (r s : RowPart) → j ≡ k → RowPrunes r s
-      → Agrees EntryPrunes (set_row changes (record { key = j; row = r })) (set_row changes (record { key = k; row = s }))
+      → AgreesWithTree EntryPrunes (set_row changes (record { key = j; row = r })) (set_row changes (record { key = k; row = s }))
   cells_agree j k (Closed d) s same z = tt
   cells_agree j k (Cells cs) (Closed d) same z = absurd z
   cells_agree j k (Cells cs) (Cells ds) same z = record { key = same; row = sets_prune changes cs ds z }
 
   pub replaced_agrees : (key : List ℕ) (p t : RowTree) → Prunes p t → GoesOnPruning (replaced key changes p) (replaced key changes t)
   replaced_agrees key =
-      replaces.edited_agrees row_family EntryPrunes same_key same_mark (set_row changes) (set_row changes)
+      replaces.edited_agrees row_family EntryPrunes same_key same_annotation (set_row changes) (set_row changes)
       (λ e f z. cells_agree e.key f.key e.row f.row z.key z.row) key

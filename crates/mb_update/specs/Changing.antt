@@ -5,10 +5,11 @@ use Rattle.vo_spec.specs.declared.trees.UpdateFault.{UpdateFault}
 use Rattle.vo_spec.specs.declared.trees.UpdateFault.TheVariants.{DuplicateKey, NoRow, Missing, Memory}
 use Rattle.vo_spec.specs.Trees.{RowTree, row_family, Prunes}
 use Rattle.vo_spec.specs.Removes.{edited_by}
-use Rattle.btree.specs.Agreeing.{Agrees}
+use Rattle.btree.specs.Agreeing.{AgreesWithTree}
 
 -- the change as it is seen, or the fault; a want of memory may come in any case
-abbrev pub ChangesTo : {A B : Type 0} → (A → B) → Result A UpdateFault → Result B UpdateFault → Type 0
+abbrev pub ChangesTo : {A B : Type 0} → (A → B) → Result A UpdateFault
+    → Result B UpdateFault → Type 0
 ChangesTo seen (Ok change) right = right ≡ Ok (seen change)
 ChangesTo seen (Err DuplicateKey) right = right ≡ Err DuplicateKey
 ChangesTo seen (Err NoRow) right = right ≡ Err NoRow
@@ -17,7 +18,7 @@ ChangesTo seen (Err Memory) right = Unit {0}
 
 -- what the part becomes prunes what the tree becomes
 abbrev pub GoesOnPruning : Result RowTree UpdateFault → Result RowTree UpdateFault → Type 0
-GoesOnPruning = Agrees Prunes
+GoesOnPruning = AgreesWithTree Prunes
 
 -- the tree with this in the place of the entry of the key
 abbrev pub set_entry : List ℕ → PartEntry → RowTree → Result RowTree UpdateFault

@@ -13,7 +13,7 @@ use Rattle.vo_spec.specs.Checks.{CheckOf, answer_to}
 use Rattle.vo_spec.specs.Conditions.{FitsQuery, Query}
 use Rattle.vo_spec.specs.Honest.{sealed}
 use Rattle.vo_spec.specs.Journals.{journal_bytes}
-use Rattle.vo_spec.specs.Replies.{Reply, IsReply, reply_bytes, most_reply}
+use Rattle.vo_spec.specs.Replies.{Reply, IsReply, reply_bytes, max_reply}
 use Rattle.vo_spec.specs.Secret.{Secret, public_of_secret}
 use Rattle.round_trips.specs.Trips.{AreSealable, IsHonestReply, plain_answer}
 use Rattle.round_trips.proofs.Sealed.{owned}
@@ -22,7 +22,7 @@ use Rattle.round_trips.proofs.TripLaws.{answer_is, only_exact, read}
 use Rattle.one_reading.proofs.Readings.{never_bad, one_owned, one_reply}
 
 says : (key : List ℕ) (least : ℕ) (q : Query) (r : Reply) (plain : Answer) (answer : Result Answer CheckFault) → IsReply (reply_bytes r) r
-    → answer_to key least q r ≡ Ok plain → length (reply_bytes r) ≤ most_reply → CheckOf key least q (reply_bytes r) answer → answer ≡ Ok plain
+    → answer_to key least q r ≡ Ok plain → length (reply_bytes r) ≤ max_reply → CheckOf key least q (reply_bytes r) answer → answer ≡ Ok plain
 unfolding CheckOf
 says key least q r plain answer is told short (inl long) = absurd (omega (arith, long.0, short))
 says key least q r plain answer is told short (inr (inl none)) = absurd (none.1 r is)

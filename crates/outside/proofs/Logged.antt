@@ -8,7 +8,7 @@ use Rattle.std.proofs.lemmas.List.Sums.{fold-append}
 use Rattle.outside.specs.declared.mem_disk.done.Done.{Done}
 use Rattle.outside.specs.declared.mem_disk.done.Done.TheVariants.{Write, Sync}
 use Rattle.outside.specs.Done.{seen_next, call_of, seen_after, calls_after, is_within}
-use Rattle.outside.specs.Drive.{Wrote, overwritten}
+use Rattle.outside.specs.DiskModel.{Wrote, overwritten}
 
 below : (a b : ℕ) → IsTrue (nat_le a b) → a ≤ b
 below a b test = grind (arith, nat_tests)

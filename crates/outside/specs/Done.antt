@@ -1,6 +1,6 @@
 -- The calls that a disk in memory has kept, oldest first, the bytes of all writes in one log.
 use Rattle.std.specs.Prelude.{ℕ, ◌+◌, Bool, true, List, [], ◌∷◌, take, drop, fold, nat_le}
-use Rattle.outside.specs.Drive.{Call, Wrote, Synced, overwritten}
+use Rattle.outside.specs.DiskModel.{Call, Wrote, Synced, overwritten}
 use Rattle.outside.specs.declared.mem_disk.done.Done.{Done}
 use Rattle.outside.specs.declared.mem_disk.done.Done.TheVariants.{Write, Sync}
 

@@ -6,7 +6,7 @@ use Rattle.outside.specs.declared.room.Room.{Room}
 use Rattle.outside.specs.declared.mem_disk.done.Done.{Done}
 use Rattle.outside.specs.declared.mem_disk.done.Done.TheVariants.{Write, Sync}
 use Rattle.outside.specs.Done.{seen_next, call_of, seen_after, calls_after}
-use Rattle.outside.specs.Drive.{Call, Wrote, Down, down_after, IsImage, MayLeave, overwritten, has, is_written}
+use Rattle.outside.specs.DiskModel.{Call, Wrote, Down, down_after, IsImage, MayLeave, overwritten, has, is_written}
 use Rattle.outside.specs.OverwrittenLaws.{length-overwritten, get_or-overwritten}
 
 neither : (a b : Bool) → IsTrue (not (a || b)) → IsTrue (not a) × IsTrue (not b)
@@ -14,23 +14,28 @@ neither true b free = absurd (cc free)
 neither false b free = (refl, free)
 
 -- a place that no range has is in neither the newest nor an older one
-newest-misses : (k : ℕ) (range : ℕ × ℕ) (ranges : List (ℕ × ℕ)) → IsTrue (not (is_written k (range ∷ ranges)))
+newest-misses : (k : ℕ) (range : ℕ × ℕ) (ranges : List (ℕ × ℕ))
+    → IsTrue (not (is_written k (range ∷ ranges)))
     → IsTrue (not (has k range)) × IsTrue (not (is_written k ranges))
 newest-misses k range ranges free = neither (has k range) (is_written k ranges) free
 
-outside-range : (k place count : ℕ) → IsTrue (not (nat_le place k && nat_lt k (place + count))) → (k < place) ⊎ (place + count ≤ k)
+outside-range : (k place count : ℕ) → IsTrue (not (nat_le place k && nat_lt k (place + count)))
+    → (k < place) ⊎ (place + count ≤ k)
 outside-range k place count free = grind (arith, nat_tests)
 
-nearer : (k place few count : ℕ) → few ≤ count → (k < place) ⊎ (place + count ≤ k) → (k < place) ⊎ (place + few ≤ k)
+nearer : (k place few count : ℕ) → few ≤ count → (k < place) ⊎ (place + count ≤ k) → (k < place)
+    ⊎ (place + few ≤ k)
 nearer k place few count le (inl before) = inl before
 nearer k place few count le (inr after) = inr (omega arith)
 
 -- a range that is no longer ends no further
-end-of-front : (place few count : ℕ) → few ≤ count → cond (few == 0) 0 (place + few) ≤ cond (count == 0) 0 (place + count)
+end-of-front : (place few count : ℕ) → few ≤ count
+    → cond (few == 0) 0 (place + few) ≤ cond (count == 0) 0 (place + count)
 end-of-front place few count le = grind (arith, nat_tests)
 
 -- a write whose front was kept leaves an image
-pub after_write : (down : Down) (seen piece : List ℕ) (place count : ℕ) → length piece ≤ count → IsImage down seen
+pub after_write : (down : Down) (seen piece : List ℕ) (place count : ℕ) → length piece ≤ count
+    → IsImage down seen
     → IsImage (down_after down (Wrote place count)) (overwritten place piece seen)
 after_write down seen piece place count front image = record {
   no_shorter = let e = length-overwritten place piece seen in omega arith;
@@ -59,16 +64,28 @@ pub image-after : (log seen : List ℕ) (down : Down) (done : List Done) → IsI
     → IsImage (fold down_after down (calls_after log seen done)) (seen_after log seen done)
 image-after log seen down [] image = image
 image-after log seen down (one ∷ done) image =
-    image-after log (seen_next log seen one) (down_after down (call_of seen one)) done (image-next log seen down one image)
+    image-after log (seen_next log seen one) (down_after down (call_of seen one)) done
+    (image-next log seen down one image)
 
 -- what was put down is an image of itself
 whole : (first : List ℕ) → IsImage (record { contents = first; ranges = [] }) first
-whole first = record { no_shorter = omega arith; no_longer = omega arith; stays = λ k within free. refl }
+whole first = record {
+  no_shorter = omega arith;
+  no_longer = omega arith;
+  stays = λ k within free. refl;
+}
 
 -- what reads give after the calls that a disk in memory has kept, a crash may leave
-pub may_leave-seen : (first seen log : List ℕ) (done : List Done) (room : Room) → seen ≡ seen_after log first done
-    → MayLeave (record { seen = seen; first = first; calls = calls_after log first done; room = room }) seen
+pub may_leave-seen : (first seen log : List ℕ) (done : List Done) (room : Room)
+    → seen ≡ seen_after log first done
+    → MayLeave (record {
+      seen = seen;
+      first = first;
+      calls = calls_after log first done;
+      room = room;
+    }) seen
 may_leave-seen first seen log done room same =
     let calls : List Call = calls_after log first done in
     let all : take (length calls) calls ≡ calls = take_all (length calls) calls (omega arith) in
-    rw all (rw same (image-after log first (record { contents = first; ranges = [] }) done (whole first)))
+    rw all (rw same (image-after log first (record { contents = first; ranges = [] }) done
+    (whole first)))

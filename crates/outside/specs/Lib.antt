@@ -1,5 +1,5 @@
 pub mod Done
-pub mod Drive
+pub mod DiskModel
 pub mod FailAt
 pub mod Failure
 pub mod ImageLaws
@@ -9,7 +9,7 @@ pub mod MemShelf
 pub mod MemSink
 pub mod Miss
 pub mod OverwrittenLaws
-pub mod Rose
+pub mod FaultRose
 pub mod Shelf
 pub mod Sink
-pub mod Wire
+pub mod ConnectionModel

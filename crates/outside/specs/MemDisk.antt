@@ -1,9 +1,9 @@
 -- A disk that is kept in memory.
 use Rattle.outside.specs.Done.{calls_after}
-use Rattle.outside.specs.Drive.{Drive}
+use Rattle.outside.specs.DiskModel.{DiskModel}
 use Rattle.outside.specs.declared.mem_disk.MemDisk.{MemDisk}
 
-abbrev pub drive_of : {P : Type 0} → MemDisk P → Drive
+abbrev pub drive_of : {P : Type 0} → MemDisk P → DiskModel
 drive_of disk = record {
   seen = disk.seen.items;
   first = disk.first.items;

@@ -1,9 +1,9 @@
 -- Connections that are kept in memory.
 use Rattle.std.specs.Prelude.{ℕ, drop, map}
-use Rattle.outside.specs.Wire.{Wire}
+use Rattle.outside.specs.ConnectionModel.{ConnectionModel}
 use Rattle.outside.specs.declared.mem_net.MemNet.{MemNet}
 
-abbrev pub wire_of : {P : Type 0} → MemNet P → Wire
+abbrev pub wire_of : {P : Type 0} → MemNet P → ConnectionModel
 wire_of net = record {
   stands = net.stands;
   coming = drop net.taken net.coming.items;

@@ -1,7 +1,7 @@
 //! Which calls of a form in memory are to fail.
 ghost use Rattle.std.specs.Prelude.{◌≡◌, ℕ, ◌≤◌, Option, None, IsSome, IsNone};
 ghost use Rattle.outside.specs.Failure.{failure_at as listed};
-ghost use Rattle.outside.specs.Rose.{Rose};
+ghost use Rattle.outside.specs.FaultRose.{FaultRose};
 
 use std::cmp;
 
@@ -21,7 +21,7 @@ pub trait Failures: Drop {
         ensures due { result ≡ due self.old }
         ensures after { self.new ≡ after self.old }
         ensures counts { count self.old ≤ count self.new }
-        ensures cause { IsSome result → Rose (count self.old) (count self.new) }
+        ensures cause { IsSome result → FaultRose (count self.old) (count self.new) }
         ensures quiet { IsNone result → count self.new ≡ count self.old };
 }
 

@@ -3,8 +3,8 @@ ghost use Rattle.std.specs.Prelude.{◌≡◌, ℕ, ◌+◌, ◌≤◌, ◌↔�
 ghost use Rattle.std.specs.List.{list_all};
 ghost use Rattle.outside.specs.declared.room.Room.{Room};
 ghost use Rattle.outside.specs.Done.{seen_after, is_within};
-ghost use Rattle.outside.specs.Drive.{HasRoom, NoLess, fresh, now, overwritten, write_on, write_leaving, sync_now};
-ghost use Rattle.outside.specs.Rose.{Rose};
+ghost use Rattle.outside.specs.DiskModel.{HasRoom, NoLess, fresh, now, overwritten, write_on, write_leaving, sync_now};
+ghost use Rattle.outside.specs.FaultRose.{FaultRose};
 
 use crate::disk::Disk;
 use crate::failures::Failures;
@@ -75,9 +75,11 @@ impl<P: Failures> MemDisk<P> {
     /// Writes a front of a piece, the rest of which is lost.
     #[tactic(auto, using(crate::proofs::Logged::seen_write, crate::proofs::Logged::calls_write, crate::proofs::Logged::within_write))]
     fn write_front(&mut self, at: u64, front: &[u8], lost: usize)
-        requires { HasRoom (at + (length front.now + lost)) (length front.now + lost) 1 (drive_of self.old).room }
+        requires { HasRoom (at + (length front.now + lost)) (length front.now + lost) 1
+            (drive_of self.old).room }
         ensures drive { drive_of self.new
-            ≡ write_leaving at (length front.now + lost) (overwritten at front.now (drive_of self.old).seen) (drive_of self.old) }
+            ≡ write_leaving at (length front.now + lost)
+            (overwritten at front.now (drive_of self.old).seen) (drive_of self.old) }
         ensures plan { plan_of self.new ≡ plan_of self.old }
     {
         overwrite(&mut self.seen, at as usize, front);
@@ -103,13 +105,15 @@ impl<P: Failures> Disk for MemDisk<P> {
 
     ghost faults = { λ disk. P.count (plan_of disk) };
 
-    ghost sees = { λ disk. may_leave-seen disk.first.items disk.seen.items disk.log.items disk.done.items disk.room disk.kept };
+    ghost sees = { λ disk. may_leave-seen disk.first.items disk.seen.items disk.log.items
+        disk.done.items disk.room disk.kept };
 
     fn len(&mut self) -> Result<u64, Failed>
         ensures len { IfOk result (λ n. n ≡ length (drive_of self.old).seen) }
         ensures kept { drive_of self.new ≡ drive_of self.old }
         ensures counts { P.count (plan_of self.old) ≤ P.count (plan_of self.new) }
-        ensures cause { IsErr result → Rose (P.count (plan_of self.old)) (P.count (plan_of self.new)) }
+        ensures cause { IsErr result → FaultRose (P.count (plan_of self.old))
+            (P.count (plan_of self.new)) }
 
         ensures due { IsErr result ↔ IsSome (P.due (plan_of self.old)) }
         ensures plan { plan_of self.new ≡ P.after (plan_of self.old) }
@@ -122,10 +126,12 @@ impl<P: Failures> Disk for MemDisk<P> {
 
     fn read(&mut self, at: u64, into: &mut [u8]) -> Result<(), Failed>
         requires { at + length into.old ≤ length (drive_of self.old).seen }
-        ensures read { OnOk result (into.new ≡ take (length into.old) (drop at (drive_of self.old).seen)) }
+        ensures read { OnOk result (into.new
+            ≡ take (length into.old) (drop at (drive_of self.old).seen)) }
         ensures kept { drive_of self.new ≡ drive_of self.old }
         ensures counts { P.count (plan_of self.old) ≤ P.count (plan_of self.new) }
-        ensures cause { IsErr result → Rose (P.count (plan_of self.old)) (P.count (plan_of self.new)) }
+        ensures cause { IsErr result → FaultRose (P.count (plan_of self.old))
+            (P.count (plan_of self.new)) }
 
         ensures due { IsErr result ↔ IsSome (P.due (plan_of self.old)) }
         ensures plan { plan_of self.new ≡ P.after (plan_of self.old) }
@@ -141,9 +147,11 @@ impl<P: Failures> Disk for MemDisk<P> {
     fn write_at(&mut self, at: u64, piece: &[u8]) -> Result<(), Failed>
         requires { HasRoom (at + length piece.now) (length piece.now) 1 (drive_of self.old).room }
         ensures ok { OnOk result (drive_of self.new ≡ write_on at piece.now (drive_of self.old)) }
-        ensures err { OnErr result ((seen : List ℕ) × (drive_of self.new ≡ write_leaving at (length piece.now) seen (drive_of self.old))) }
+        ensures err { OnErr result ((seen : List ℕ)
+            × (drive_of self.new ≡ write_leaving at (length piece.now) seen (drive_of self.old))) }
         ensures counts { P.count (plan_of self.old) ≤ P.count (plan_of self.new) }
-        ensures cause { IsErr result → Rose (P.count (plan_of self.old)) (P.count (plan_of self.new)) }
+        ensures cause { IsErr result → FaultRose (P.count (plan_of self.old))
+            (P.count (plan_of self.new)) }
 
         ensures due { IsErr result ↔ IsSome (P.due (plan_of self.old)) }
         ensures plan { plan_of self.new ≡ P.after (plan_of self.old) }
@@ -167,7 +175,8 @@ impl<P: Failures> Disk for MemDisk<P> {
         ensures ok { OnOk result (drive_of self.new ≡ sync_now (drive_of self.old)) }
         ensures err { OnErr result (drive_of self.new ≡ drive_of self.old) }
         ensures counts { P.count (plan_of self.old) ≤ P.count (plan_of self.new) }
-        ensures cause { IsErr result → Rose (P.count (plan_of self.old)) (P.count (plan_of self.new)) }
+        ensures cause { IsErr result → FaultRose (P.count (plan_of self.old))
+            (P.count (plan_of self.new)) }
 
         ensures due { IsErr result ↔ IsSome (P.due (plan_of self.old)) }
         ensures plan { plan_of self.new ≡ P.after (plan_of self.old) }
@@ -182,7 +191,8 @@ impl<P: Failures> Disk for MemDisk<P> {
 
     fn reserve(&mut self, end: u64, bytes: u64, calls: u64) -> Result<(), AllocError>
         ensures ok { OnOk result (HasRoom end bytes calls (drive_of self.new).room) }
-        ensures only { drive_of self.new ≡ record (drive_of self.old) { room = (drive_of self.new).room } }
+        ensures only { drive_of self.new
+            ≡ record (drive_of self.old) { room = (drive_of self.new).room } }
         ensures no_less { NoLess (drive_of self.old).room (drive_of self.new).room }
         ensures plan { plan_of self.new ≡ plan_of self.old }
     {

@@ -2,8 +2,8 @@
 ghost use Rattle.std.specs.Prelude.{◌≡◌, ℕ, ◌+◌, ◌<◌, ◌≤◌, ◌↔◌, cond, Some, true, false, [], map, length, take, vec_len, vec_capacity, IsSome, IsTrue, IfOk, OnOk, OnErr, IsErr, IsErrOf};
 ghost use Rattle.std.specs.VecDeque.{deque_len};
 ghost use Rattle.outside.specs.Miss.{CountsMiss};
-ghost use Rattle.outside.specs.Rose.{Rose};
-ghost use Rattle.outside.specs.Wire.{Gets, take_from, send_on, shut, open_next, has_next};
+ghost use Rattle.outside.specs.FaultRose.{FaultRose};
+ghost use Rattle.outside.specs.ConnectionModel.{Gets, take_from, send_on, shut, open_next, has_next};
 
 use crate::failures::Failures;
 use crate::faults::{Failed, PutFault};
@@ -34,11 +34,12 @@ pub struct MemNet<P> {
 
 impl<P: Failures> MemNet<P> {
     ghost use Rattle.outside.specs.MemNet.{wire_of, misses_of, most_of, plan_of};
-    ghost use Rattle.outside.specs.Wire.{waiting};
+    ghost use Rattle.outside.specs.ConnectionModel.{waiting};
 
     /// Takes the room for all that the connections need but the bytes put on them.
     pub fn new(alloc: Global, connections: Vec<Vec<u8>>, failures: P) -> Result<Self, AllocError>
-        ensures wire { IfOk result (λ net. wire_of net ≡ waiting (map (λ bytes. bytes.items) connections.items)) }
+        ensures wire { IfOk result (λ net. wire_of net
+            ≡ waiting (map (λ bytes. bytes.items) connections.items)) }
         ensures misses { IfOk result (λ net. misses_of net ≡ 0) }
         ensures plan { IfOk result (λ net. plan_of net ≡ failures) }
     {
@@ -89,12 +90,16 @@ impl<P: Failures> MemNet<P> {
         ensures err { OnErr result (wire_of self.new ≡ wire_of self.old) }
         ensures none { (wire_of self.old).queue ≡ [] → IsErr result }
 
-        ensures counts { P.count (plan_of self.old) + misses_of self.old ≤ P.count (plan_of self.new) + misses_of self.new }
+        ensures counts { P.count (plan_of self.old) + misses_of self.old ≤ P.count
+            (plan_of self.new) + misses_of self.new }
         ensures cause { IsErr result
-            → Rose (P.count (plan_of self.old) + misses_of self.old) (P.count (plan_of self.new) + misses_of self.new) }
-        ensures misses { CountsMiss (has_next (wire_of self.old)) (misses_of self.old) (misses_of self.new) }
+            → FaultRose (P.count (plan_of self.old) + misses_of self.old)
+            (P.count (plan_of self.new) + misses_of self.new) }
+        ensures misses { CountsMiss (has_next (wire_of self.old)) (misses_of self.old)
+            (misses_of self.new) }
 
-        ensures due { IsTrue (has_next (wire_of self.old)) → (IsErr result ↔ IsSome (P.due (plan_of self.old))) }
+        ensures due { IsTrue (has_next (wire_of self.old))
+            → (IsErr result ↔ IsSome (P.due (plan_of self.old))) }
         ensures most { most_of self.new ≡ most_of self.old }
         ensures plan { plan_of self.new ≡ P.after (plan_of self.old) }
     {
@@ -133,12 +138,16 @@ impl<P: Failures> Link for MemNet<P> {
         ensures err { OnErr result (wire_of self.new ≡ wire_of self.old) }
         ensures down { (wire_of self.old).stands ≡ false → IsErr result }
 
-        ensures counts { P.count (plan_of self.old) + misses_of self.old ≤ P.count (plan_of self.new) + misses_of self.new }
+        ensures counts { P.count (plan_of self.old) + misses_of self.old ≤ P.count
+            (plan_of self.new) + misses_of self.new }
         ensures cause { IsErr result
-            → Rose (P.count (plan_of self.old) + misses_of self.old) (P.count (plan_of self.new) + misses_of self.new) }
-        ensures misses { CountsMiss (wire_of self.old).stands (misses_of self.old) (misses_of self.new) }
+            → FaultRose (P.count (plan_of self.old) + misses_of self.old)
+            (P.count (plan_of self.new) + misses_of self.new) }
+        ensures misses { CountsMiss (wire_of self.old).stands (misses_of self.old)
+            (misses_of self.new) }
 
-        ensures due { (wire_of self.old).stands ≡ true → (IsErr result ↔ IsSome (P.due (plan_of self.old))) }
+        ensures due { (wire_of self.old).stands ≡ true
+            → (IsErr result ↔ IsSome (P.due (plan_of self.old))) }
         ensures most { most_of self.new ≡ most_of self.old }
         ensures plan { plan_of self.new ≡ P.after (plan_of self.old) }
     {
@@ -165,10 +174,13 @@ impl<P: Failures> Link for MemNet<P> {
         ensures down { (wire_of self.old).stands ≡ false → IsErrOf result PutFault.Failed }
         ensures unheard { (wire_of self.old).stands ≡ false → wire_of self.new ≡ wire_of self.old }
 
-        ensures counts { P.count (plan_of self.old) + misses_of self.old ≤ P.count (plan_of self.new) + misses_of self.new }
+        ensures counts { P.count (plan_of self.old) + misses_of self.old ≤ P.count
+            (plan_of self.new) + misses_of self.new }
         ensures cause { IsErrOf result PutFault.Failed
-            → Rose (P.count (plan_of self.old) + misses_of self.old) (P.count (plan_of self.new) + misses_of self.new) }
-        ensures misses { CountsMiss (wire_of self.old).stands (misses_of self.old) (misses_of self.new) }
+            → FaultRose (P.count (plan_of self.old) + misses_of self.old)
+            (P.count (plan_of self.new) + misses_of self.new) }
+        ensures misses { CountsMiss (wire_of self.old).stands (misses_of self.old)
+            (misses_of self.new) }
 
         ensures due { (wire_of self.old).stands ≡ true
             → (IsErrOf result PutFault.Failed ↔ IsSome (P.due (plan_of self.old))) }
@@ -202,12 +214,16 @@ impl<P: Failures> Net for MemNet<P> {
         ensures err { OnErr result (wire_of self.new ≡ wire_of self.old) }
         ensures none { (wire_of self.old).queue ≡ [] → IsErr result }
 
-        ensures counts { P.count (plan_of self.old) + misses_of self.old ≤ P.count (plan_of self.new) + misses_of self.new }
+        ensures counts { P.count (plan_of self.old) + misses_of self.old ≤ P.count
+            (plan_of self.new) + misses_of self.new }
         ensures cause { IsErr result
-            → Rose (P.count (plan_of self.old) + misses_of self.old) (P.count (plan_of self.new) + misses_of self.new) }
-        ensures misses { CountsMiss (has_next (wire_of self.old)) (misses_of self.old) (misses_of self.new) }
+            → FaultRose (P.count (plan_of self.old) + misses_of self.old)
+            (P.count (plan_of self.new) + misses_of self.new) }
+        ensures misses { CountsMiss (has_next (wire_of self.old)) (misses_of self.old)
+            (misses_of self.new) }
 
-        ensures due { IsTrue (has_next (wire_of self.old)) → (IsErr result ↔ IsSome (P.due (plan_of self.old))) }
+        ensures due { IsTrue (has_next (wire_of self.old))
+            → (IsErr result ↔ IsSome (P.due (plan_of self.old))) }
         ensures most { most_of self.new ≡ most_of self.old }
         ensures plan { plan_of self.new ≡ P.after (plan_of self.old) }
     {
@@ -217,9 +233,11 @@ impl<P: Failures> Net for MemNet<P> {
     fn listen(&mut self, _addr: &str) -> Result<(), Failed>
         ensures kept { wire_of self.new ≡ wire_of self.old }
 
-        ensures counts { P.count (plan_of self.old) + misses_of self.old ≤ P.count (plan_of self.new) + misses_of self.new }
+        ensures counts { P.count (plan_of self.old) + misses_of self.old ≤ P.count
+            (plan_of self.new) + misses_of self.new }
         ensures cause { IsErr result
-            → Rose (P.count (plan_of self.old) + misses_of self.old) (P.count (plan_of self.new) + misses_of self.new) }
+            → FaultRose (P.count (plan_of self.old) + misses_of self.old)
+            (P.count (plan_of self.new) + misses_of self.new) }
         ensures misses { misses_of self.new ≡ misses_of self.old }
 
         ensures due { IsErr result ↔ IsSome (P.due (plan_of self.old)) }
@@ -237,12 +255,16 @@ impl<P: Failures> Net for MemNet<P> {
         ensures err { OnErr result (wire_of self.new ≡ wire_of self.old) }
         ensures none { (wire_of self.old).queue ≡ [] → IsErr result }
 
-        ensures counts { P.count (plan_of self.old) + misses_of self.old ≤ P.count (plan_of self.new) + misses_of self.new }
+        ensures counts { P.count (plan_of self.old) + misses_of self.old ≤ P.count
+            (plan_of self.new) + misses_of self.new }
         ensures cause { IsErr result
-            → Rose (P.count (plan_of self.old) + misses_of self.old) (P.count (plan_of self.new) + misses_of self.new) }
-        ensures misses { CountsMiss (has_next (wire_of self.old)) (misses_of self.old) (misses_of self.new) }
+            → FaultRose (P.count (plan_of self.old) + misses_of self.old)
+            (P.count (plan_of self.new) + misses_of self.new) }
+        ensures misses { CountsMiss (has_next (wire_of self.old)) (misses_of self.old)
+            (misses_of self.new) }
 
-        ensures due { IsTrue (has_next (wire_of self.old)) → (IsErr result ↔ IsSome (P.due (plan_of self.old))) }
+        ensures due { IsTrue (has_next (wire_of self.old))
+            → (IsErr result ↔ IsSome (P.due (plan_of self.old))) }
         ensures most { most_of self.new ≡ most_of self.old }
         ensures plan { plan_of self.new ≡ P.after (plan_of self.old) }
     {

@@ -1,7 +1,7 @@
 //! Files that are kept in memory.
 ghost use Rattle.std.specs.Prelude.{◌≡◌, ℕ, ◌+◌, ◌≤◌, ◌↔◌, Some, length, is_some, IsSome, IfOk, IsErrOf};
 ghost use Rattle.outside.specs.Miss.{CountsMiss};
-ghost use Rattle.outside.specs.Rose.{Rose};
+ghost use Rattle.outside.specs.FaultRose.{FaultRose};
 ghost use Rattle.outside.specs.Shelf.{Takes};
 
 use crate::failures::Failures;
@@ -54,14 +54,17 @@ impl<P: Failures> Shelf for MemShelf<P> {
     ghost misses = { misses_of };
 
     fn take(&mut self, alloc: Global, name: &str, limit: u64) -> Result<Vec<u8>, TakeFault>
-        ensures told { Takes (file_at (files_of self.old) name.now) limit result }
+        ensures known { Takes (file_at (files_of self.old) name.now) limit result }
         ensures fits { IfOk result (λ taken. length taken.items ≤ limit) }
         ensures kept { files_of self.new ≡ files_of self.old }
 
-        ensures counts { P.count (plan_of self.old) + misses_of self.old ≤ P.count (plan_of self.new) + misses_of self.new }
+        ensures counts { P.count (plan_of self.old) + misses_of self.old ≤ P.count
+            (plan_of self.new) + misses_of self.new }
         ensures cause { IsErrOf result TakeFault.Failed
-            → Rose (P.count (plan_of self.old) + misses_of self.old) (P.count (plan_of self.new) + misses_of self.new) }
-        ensures misses { CountsMiss (is_some (file_at (files_of self.old) name.now)) (misses_of self.old) (misses_of self.new) }
+            → FaultRose (P.count (plan_of self.old) + misses_of self.old)
+            (P.count (plan_of self.new) + misses_of self.new) }
+        ensures misses { CountsMiss (is_some (file_at (files_of self.old) name.now))
+            (misses_of self.old) (misses_of self.new) }
 
         ensures due { IsSome (file_at (files_of self.old) name.now)
             → (IsErrOf result TakeFault.Failed ↔ IsSome (P.due (plan_of self.old))) }

@@ -1,6 +1,6 @@
 //! Output that is kept in memory.
 ghost use Rattle.std.specs.Prelude.{◌≡◌, ℕ, ◌≤◌, ◌↔◌, Some, [], ◌++◌, take, IsSome, OnOk, IsErrOf};
-ghost use Rattle.outside.specs.Rose.{Rose};
+ghost use Rattle.outside.specs.FaultRose.{FaultRose};
 
 use crate::failures::Failures;
 use crate::faults::PutFault;
@@ -45,10 +45,12 @@ impl<P: Failures> Sink for MemSink<P> {
         ensures ok { OnOk result (written_of self.new ≡ written_of self.old ++ piece.now) }
         ensures failed { IsErrOf result PutFault.Failed
             → ((n : ℕ) × (written_of self.new ≡ written_of self.old ++ take n piece.now)) }
-        ensures memory { IsErrOf result PutFault.Memory → written_of self.new ≡ written_of self.old }
+        ensures memory { IsErrOf result PutFault.Memory
+            → written_of self.new ≡ written_of self.old }
 
         ensures counts { P.count (plan_of self.old) ≤ P.count (plan_of self.new) }
-        ensures cause { IsErrOf result PutFault.Failed → Rose (P.count (plan_of self.old)) (P.count (plan_of self.new)) }
+        ensures cause { IsErrOf result PutFault.Failed
+            → FaultRose (P.count (plan_of self.old)) (P.count (plan_of self.new)) }
 
         ensures due { IsErrOf result PutFault.Failed ↔ IsSome (P.due (plan_of self.old)) }
         ensures plan { plan_of self.new ≡ P.after (plan_of self.old) }

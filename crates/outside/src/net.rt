@@ -1,8 +1,8 @@
 //! Connections, at most one at a time.
 ghost use Rattle.std.specs.Prelude.{◌≡◌, ◌≤◌, [], IfSome, OnOk, OnErr, IsErr};
 ghost use Rattle.outside.specs.Miss.{CountsMiss};
-ghost use Rattle.outside.specs.Rose.{Rose};
-ghost use Rattle.outside.specs.Wire.{opened, closed, has_next};
+ghost use Rattle.outside.specs.FaultRose.{FaultRose};
+ghost use Rattle.outside.specs.ConnectionModel.{opened, closed, has_next};
 
 use crate::faults::Failed;
 use crate::link::Link;
@@ -16,7 +16,7 @@ pub trait Net: Link {
         ensures none { IfSome (Self.wire self.old) (λ wire. wire.queue ≡ [] → IsErr result) }
 
         ensures counts { Self.faults self.old ≤ Self.faults self.new }
-        ensures cause { IsErr result → Rose (Self.faults self.old) (Self.faults self.new) }
+        ensures cause { IsErr result → FaultRose (Self.faults self.old) (Self.faults self.new) }
         ensures misses { IfSome (Self.wire self.old)
             (λ wire. CountsMiss (has_next wire) (Self.misses self.old) (Self.misses self.new)) };
 
@@ -25,8 +25,9 @@ pub trait Net: Link {
         ensures kept { Self.wire self.new ≡ Self.wire self.old }
 
         ensures counts { Self.faults self.old ≤ Self.faults self.new }
-        ensures cause { IsErr result → Rose (Self.faults self.old) (Self.faults self.new) }
-        ensures misses { IfSome (Self.wire self.old) (λ _. Self.misses self.new ≡ Self.misses self.old) };
+        ensures cause { IsErr result → FaultRose (Self.faults self.old) (Self.faults self.new) }
+        ensures misses { IfSome (Self.wire self.old)
+            (λ _. Self.misses self.new ≡ Self.misses self.old) };
 
     /// Takes the next connection that a peer makes.
     fn next(&mut self) -> Result<(), Failed>
@@ -35,7 +36,7 @@ pub trait Net: Link {
         ensures none { IfSome (Self.wire self.old) (λ wire. wire.queue ≡ [] → IsErr result) }
 
         ensures counts { Self.faults self.old ≤ Self.faults self.new }
-        ensures cause { IsErr result → Rose (Self.faults self.old) (Self.faults self.new) }
+        ensures cause { IsErr result → FaultRose (Self.faults self.old) (Self.faults self.new) }
         ensures misses { IfSome (Self.wire self.old)
             (λ wire. CountsMiss (has_next wire) (Self.misses self.old) (Self.misses self.new)) };
 
@@ -43,5 +44,6 @@ pub trait Net: Link {
     fn close(&mut self)
         ensures closed { Self.wire self.new ≡ closed (Self.wire self.old) }
         ensures faults { Self.faults self.new ≡ Self.faults self.old }
-        ensures misses { IfSome (Self.wire self.old) (λ _. Self.misses self.new ≡ Self.misses self.old) };
+        ensures misses { IfSome (Self.wire self.old)
+            (λ _. Self.misses self.new ≡ Self.misses self.old) };
 }

@@ -1,7 +1,7 @@
 //! Files, each taken whole by its name.
 ghost use Rattle.std.specs.Prelude.{◌≡◌, ℕ, ◌≤◌, Option, is_some, length, IfSome, IfOk, IsErrOf};
 ghost use Rattle.outside.specs.Miss.{CountsMiss};
-ghost use Rattle.outside.specs.Rose.{Rose};
+ghost use Rattle.outside.specs.FaultRose.{FaultRose};
 ghost use Rattle.outside.specs.Shelf.{Files, Takes};
 
 use crate::faults::TakeFault;
@@ -20,12 +20,13 @@ pub trait Shelf {
 
     /// The bytes under this name, if there are at most `limit` of them.
     fn take(&mut self, alloc: Global, name: &str, limit: u64) -> Result<Vec<u8>, TakeFault>
-        ensures told { IfSome (contents self.old) (λ files. Takes (files name.now) limit result) }
+        ensures known { IfSome (contents self.old) (λ files. Takes (files name.now) limit result) }
         ensures fits { IfOk result (λ taken. length taken.items ≤ limit) }
         ensures kept { contents self.new ≡ contents self.old }
 
         ensures counts { faults self.old ≤ faults self.new }
-        ensures cause { IsErrOf result TakeFault.Failed → Rose (faults self.old) (faults self.new) }
+        ensures cause { IsErrOf result TakeFault.Failed
+            → FaultRose (faults self.old) (faults self.new) }
         ensures misses { IfSome (contents self.old)
             (λ files. CountsMiss (is_some (files name.now)) (misses self.old) (misses self.new)) };
 }

@@ -1,6 +1,6 @@
 //! Where output goes.
 ghost use Rattle.std.specs.Prelude.{◌≡◌, ℕ, ◌≤◌, Option, List, take, OnOk, IsErrOf};
-ghost use Rattle.outside.specs.Rose.{Rose};
+ghost use Rattle.outside.specs.FaultRose.{FaultRose};
 ghost use Rattle.outside.specs.Sink.{added};
 
 use crate::faults::PutFault;
@@ -20,5 +20,6 @@ pub trait Sink {
         ensures memory { IsErrOf result PutFault.Memory → written self.new ≡ written self.old }
 
         ensures counts { faults self.old ≤ faults self.new }
-        ensures cause { IsErrOf result PutFault.Failed → Rose (faults self.old) (faults self.new) };
+        ensures cause { IsErrOf result PutFault.Failed
+            → FaultRose (faults self.old) (faults self.new) };
 }

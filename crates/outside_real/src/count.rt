@@ -1,6 +1,6 @@
 //! A count of faults.
 ghost use Rattle.std.specs.Prelude.{◌≡◌, ◌+◌, ◌-◌, ◌^◌, ◌≤◌, min, IsErr, IsOk};
-ghost use Rattle.outside.specs.Rose.{Rose};
+ghost use Rattle.outside.specs.FaultRose.{FaultRose};
 
 use outside::Failed;
 use std::io;
@@ -9,7 +9,7 @@ use std::io;
 pub fn raise(faults: &mut u64) -> Failed
     ensures value { faults.new ≡ min (faults.old + 1) (2 ^ 64 - 1) }
     ensures counts { faults.old ≤ faults.new }
-    ensures rose { Rose faults.old faults.new }
+    ensures rose { FaultRose faults.old faults.new }
 {
     *faults = faults.saturating_add(1);
     Failed
@@ -18,7 +18,7 @@ pub fn raise(faults: &mut u64) -> Failed
 /// What the system answered, an error counted.
 pub fn counted<T>(faults: &mut u64, answer: io::Result<T>) -> Result<T, Failed>
     ensures counts { faults.old ≤ faults.new }
-    ensures cause { IsErr result → Rose faults.old faults.new }
+    ensures cause { IsErr result → FaultRose faults.old faults.new }
     ensures ok { IsOk answer → IsOk result }
     ensures quiet { IsOk result → faults.new ≡ faults.old }
 {

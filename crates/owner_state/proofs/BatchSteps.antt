@@ -13,14 +13,14 @@ use Rattle.vo_spec.specs.Trees.{RowTree}
 use Rattle.vo_spec.specs.Fits.{FitsTree}
 use Rattle.vo_spec.specs.TreeBytes.{tree_bytes}
 use Rattle.vo_spec.specs.Inserts.{result_map}
-use Rattle.vo_spec.specs.Honest.{Stored, stored_heading, changed_trees, work, command_proof, honest_proofs}
+use Rattle.vo_spec.specs.Honest.{Stored, stored_table_header, changed_trees, work, command_proof, honest_proofs}
 use Rattle.vo_laws.proofs.ListLaws.{each_left, each_right}
 use Rattle.stored_tables.specs.Working.{numbered_work, work_from}
 
--- a command that is accepted is refused by no heading
-pub accepted_allowed : (c : Command) (stored after : List Stored) → work c stored ≡ Ok after → refusal c (map stored_heading stored) ≡ None
+-- a command that is accepted is refused by no table header
+pub accepted_allowed : (c : Command) (stored after : List Stored) → work c stored ≡ Ok after → refusal c (map stored_table_header stored) ≡ None
 unfolding work
-accepted_allowed c stored after e = step (refusal c (map stored_heading stored)) e
+accepted_allowed c stored after e = step (refusal c (map stored_table_header stored)) e
   where
     step : (r : Option CommandFault) → and_then (changed_trees c) (unless r stored) ≡ Ok after → r ≡ None
     step None w = refl

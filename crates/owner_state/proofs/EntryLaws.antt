@@ -7,7 +7,7 @@ use Rattle.vo_spec.specs.declared.records.Entry.{Entry}
 use Rattle.vo_spec.specs.Bytes.{IsBytes, block, u32_bytes, u64_bytes}
 use Rattle.vo_spec.specs.Batches.{FitsBatch, batch_bytes}
 use Rattle.vo_spec.specs.Records.{FitsRecord, record_bytes, magic}
-use Rattle.vo_spec.specs.Journals.{FitsEntry, entry_bytes, slot, most_proofs, most_signature}
+use Rattle.vo_spec.specs.Journals.{FitsEntry, entry_bytes, slot, max_proofs, max_signature}
 use Rattle.row_bytes.proofs.Readers.{IsBytes-rest, chosen}
 use Rattle.row_bytes.proofs.ValueLaws.{u64_length}
 use Rattle.batch_format.specs.BatchReading.{batch_of, one, two, three, four}
@@ -34,11 +34,11 @@ batches_read : IsReader batch_at batch_block FitsBatch
 unfolding batch_at
 batches_read = within_read batch_of batch_bytes FitsBatch whole_batches
 
-proofs_read : IsReader (limited_at most_proofs) block (HasAtMost most_proofs)
-proofs_read = limited_read most_proofs (omega arith)
+proofs_read : IsReader (limited_at max_proofs) block (HasAtMost max_proofs)
+proofs_read = limited_read max_proofs (omega arith)
 
-signatures_read : IsReader (limited_at most_signature) block (HasAtMost most_signature)
-signatures_read = limited_read most_signature (omega arith)
+signatures_read : IsReader (limited_at max_signature) block (HasAtMost max_signature)
+signatures_read = limited_read max_signature (omega arith)
 
 -- Entries.
 
@@ -46,10 +46,10 @@ entry_found : (bytes : List ℕ) (x : Entry) (rest : List ℕ) → IsBytes bytes
 unfolding entry_at entry_bytes
 entry_found bytes x rest fits e =
     let y : Entry × List ℕ = (x, rest) in
-    let m = next_found (words_read (codes "VOE1")) (λ m. four entry_with batch_at (limited_at most_proofs) record_at (limited_at most_signature)) bytes y fits e in
-    let a = next_found batches_read (λ cs. three (entry_with cs) (limited_at most_proofs) record_at (limited_at most_signature)) m.1 y m.2.behind m.4 in
-    let b = next_found proofs_read (λ p. two (entry_with a.0 p) record_at (limited_at most_signature)) a.1 y a.2.behind a.4 in
-    let c = next_found records_read (λ r. one (entry_with a.0 b.0 r) (limited_at most_signature)) b.1 y b.2.behind b.4 in
+    let m = next_found (words_read (codes "VOE1")) (λ m. four entry_with batch_at (limited_at max_proofs) record_at (limited_at max_signature)) bytes y fits e in
+    let a = next_found batches_read (λ cs. three (entry_with cs) (limited_at max_proofs) record_at (limited_at max_signature)) m.1 y m.2.behind m.4 in
+    let b = next_found proofs_read (λ p. two (entry_with a.0 p) record_at (limited_at max_signature)) a.1 y a.2.behind a.4 in
+    let c = next_found records_read (λ r. one (entry_with a.0 b.0 r) (limited_at max_signature)) b.1 y b.2.behind b.4 in
     let d = one_found signatures_read (entry_with a.0 b.0 c.0) c.1 y c.2.behind c.4 in
     let first : Took bytes (codes "VOE1") m.1 = subst (λ (w : List ℕ). Took bytes w m.1) m.3 m.2 in
     let ma = took_then bytes (codes "VOE1") m.1 (batch_block a.0) a.1 first a.2 in
@@ -71,10 +71,10 @@ entry_again x rest fits =
     ∙ append_assoc (word ++ batch_block cs ++ block x.proofs) (record_bytes x.rec) last
     ∙ append_assoc (word ++ batch_block cs) (block x.proofs) later
     ∙ append_assoc word (batch_block cs) behind)
-    ∙ next_again (words_read (codes "VOE1")) (λ m. four entry_with batch_at (limited_at most_proofs) record_at (limited_at most_signature)) word (batch_block cs ++ behind) refl
-    ∙ next_again batches_read (λ cs. three (entry_with cs) (limited_at most_proofs) record_at (limited_at most_signature)) cs behind fits.batch
-    ∙ next_again proofs_read (λ p. two (entry_with cs p) record_at (limited_at most_signature)) x.proofs later fits.proofs
-    ∙ next_again records_read (λ r. one (entry_with cs x.proofs r) (limited_at most_signature)) x.rec last fits.rec
+    ∙ next_again (words_read (codes "VOE1")) (λ m. four entry_with batch_at (limited_at max_proofs) record_at (limited_at max_signature)) word (batch_block cs ++ behind) refl
+    ∙ next_again batches_read (λ cs. three (entry_with cs) (limited_at max_proofs) record_at (limited_at max_signature)) cs behind fits.batch
+    ∙ next_again proofs_read (λ p. two (entry_with cs p) record_at (limited_at max_signature)) x.proofs later fits.proofs
+    ∙ next_again records_read (λ r. one (entry_with cs x.proofs r) (limited_at max_signature)) x.rec last fits.rec
     ∙ next_again signatures_read (λ s rest. let made : Option (Entry × List ℕ) = Some (entry_with cs x.proofs x.rec s, rest) in made) x.signature rest fits.signature
 
 -- How long an entry is.

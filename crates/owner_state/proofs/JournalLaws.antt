@@ -14,7 +14,7 @@ use Rattle.owner_state.specs.Reading.{within, entry_of, slot_at}
 use Rattle.owner_state.specs.Endings.{StopsAt, EndsClosed, EndsAt, EndsSo, behind}
 use Rattle.owner_state.specs.declared.slot_reading.Ending.{Ending}
 use Rattle.owner_state.specs.declared.slot_reading.Ending.TheVariants.{Closed, Damaged}
-use Rattle.owner_state.proofs.BatchTaken.{some_or_none}
+use Rattle.owner_state.proofs.BatchLoadable.{some_or_none}
 use Rattle.owner_state.proofs.EntryLaws.{slot_found, slot_again, slot_long}
 
 -- One slot more.

@@ -1,4 +1,4 @@
-pub mod BatchTaken
+pub mod BatchLoadable
 pub mod BlockLaws
 pub mod EntryLaws
 pub mod JournalLaws

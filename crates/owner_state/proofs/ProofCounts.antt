@@ -10,11 +10,11 @@ use Rattle.vo_spec.specs.declared.tables.CommandFault.{CommandFault}
 use Rattle.vo_spec.specs.declared.tables.CommandFault.TheVariants.{NoTable}
 use Rattle.vo_spec.specs.Bytes.{u16_bytes}
 use Rattle.vo_spec.specs.Firsts.{first_of, and_then}
-use Rattle.vo_spec.specs.Tables.{Heading, Tests, heading_named, on_table, insert_tests, update_tests, delete_tests, refusal}
+use Rattle.vo_spec.specs.Tables.{TableHeader, Tests, table_header_named, on_table, insert_tests, update_tests, delete_tests, refusal}
 use Rattle.vo_spec.specs.Trees.{RowTree}
 use Rattle.vo_spec.specs.TreeBytes.{tree_bytes}
 use Rattle.vo_spec.specs.Replies.{proofs_bytes}
-use Rattle.vo_spec.specs.Honest.{Stored, stored_heading, work, proof_on, command_proof, honest_proofs}
+use Rattle.vo_spec.specs.Honest.{Stored, stored_table_header, work, proof_on, command_proof, honest_proofs}
 use Rattle.table_list.specs.Batched.{BatchGives}
 use Rattle.table_list.specs.declared.fault.BatchFault.{BatchFault}
 use Rattle.stored_tables.specs.Ready.{changes_rows}
@@ -22,25 +22,25 @@ use Rattle.stored_tables.specs.Working.{numbered_work, work_from}
 use Rattle.owner_state.specs.declared.batch_working.AfterBatch.{AfterBatch}
 use Rattle.owner_state.proofs.BatchSteps.{accepted_allowed, proofs_on}
 
-found_heading : (name : List ℕ) (stored : List Stored)
-    → heading_named name (map stored_heading stored) ≡ option_map stored_heading (find (λ (s : Stored). bytes_eq s.name name) stored)
-found_heading name [] = refl
-found_heading name (s ∷ stored) = step (bytes_eq s.name name) (found_heading name stored)
+found_table_header : (name : List ℕ) (stored : List Stored)
+    → table_header_named name (map stored_table_header stored) ≡ option_map stored_table_header (find (λ (s : Stored). bytes_eq s.name name) stored)
+found_table_header name [] = refl
+found_table_header name (s ∷ stored) = step (bytes_eq s.name name) (found_table_header name stored)
   where
-    step : (b : Bool) → heading_named name (map stored_heading stored) ≡ option_map stored_heading (find (λ (x : Stored). bytes_eq x.name name) stored)
-        → cond b (Some (stored_heading s)) (heading_named name (map stored_heading stored))
-        ≡ option_map stored_heading (cond b (Some s) (find (λ (x : Stored). bytes_eq x.name name) stored))
+    step : (b : Bool) → table_header_named name (map stored_table_header stored) ≡ option_map stored_table_header (find (λ (x : Stored). bytes_eq x.name name) stored)
+        → cond b (Some (stored_table_header s)) (table_header_named name (map stored_table_header stored))
+        ≡ option_map stored_table_header (cond b (Some s) (find (λ (x : Stored). bytes_eq x.name name) stored))
     step true rest = refl
     step false rest = rest
 
--- a command on a table that no heading refuses finds it
-one_there : (name : List ℕ) (tests : Heading → Tests) (proof : Stored → List RowTree) (stored : List Stored) → ((s : Stored) → length (proof s) ≡ 1)
-    → on_table name (map stored_heading stored) tests ≡ None → length (option_map_or proof (find (λ (s : Stored). bytes_eq s.name name) stored) []) ≡ 1
+-- a command on a table that no table header refuses finds it
+one_there : (name : List ℕ) (tests : TableHeader → Tests) (proof : Stored → List RowTree) (stored : List Stored) → ((s : Stored) → length (proof s) ≡ 1)
+    → on_table name (map stored_table_header stored) tests ≡ None → length (option_map_or proof (find (λ (s : Stored). bytes_eq s.name name) stored) []) ≡ 1
 one_there name tests proof stored one e =
     step (find (λ (s : Stored). bytes_eq s.name name) stored)
-    (ap (λ found. option_map_or (λ (h : Heading). first_of (tests h)) found (Some NoTable)) (sym (found_heading name stored)) ∙ e)
+    (ap (λ found. option_map_or (λ (h : TableHeader). first_of (tests h)) found (Some NoTable)) (sym (found_table_header name stored)) ∙ e)
   where
-    step : (found : Option Stored) → option_map_or (λ (h : Heading). first_of (tests h)) (option_map stored_heading found) (Some NoTable) ≡ None
+    step : (found : Option Stored) → option_map_or (λ (h : TableHeader). first_of (tests h)) (option_map stored_table_header found) (Some NoTable) ≡ None
         → length (option_map_or proof found []) ≡ 1
     step None w = absurd (cc)
     step (Some s) w = one s
@@ -49,7 +49,7 @@ none_there : (proof : Stored → List RowTree) (found : Option Stored) → ((s :
 none_there proof None none = refl
 none_there proof (Some s) none = none s
 
-one_counted : (c : Command) (stored : List Stored) → refusal c (map stored_heading stored) ≡ None → length (command_proof c stored) ≡ cond (changes_rows c) 1 0
+one_counted : (c : Command) (stored : List Stored) → refusal c (map stored_table_header stored) ≡ None → length (command_proof c stored) ≡ cond (changes_rows c) 1 0
 one_counted (Create name columns key) stored e = none_there (proof_on (Create name columns key)) (find (λ (s : Stored). bytes_eq s.name name) stored) (λ s. refl)
 one_counted (Drop name) stored e = none_there (proof_on (Drop name)) (find (λ (s : Stored). bytes_eq s.name name) stored) (λ s. refl)
 one_counted (Insert name values) stored e = one_there name (insert_tests values) (proof_on (Insert name values)) stored (λ s. refl) e

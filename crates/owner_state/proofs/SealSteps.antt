@@ -18,8 +18,8 @@ use Rattle.vo_spec.specs.Tables.{apply_batch, tables_after}
 use Rattle.vo_spec.specs.declared.records.Entry.{Entry}
 use Rattle.vo_spec.specs.Journals.{slot}
 use Rattle.vo_spec.specs.Replies.{FitsProofs, proofs_bytes}
-use Rattle.vo_spec.specs.Honest.{Stored, StandForTables, after_work, work_all, honest_proofs, honest_trees, sealed_entry, sealed}
-use Rattle.vo_laws.proofs.TreeFits.{each_taken}
+use Rattle.vo_spec.specs.Honest.{Stored, RepresentTables, after_work, work_all, honest_proofs, honest_trees, sealed_entry, sealed}
+use Rattle.vo_laws.proofs.TreeFits.{each_loadable}
 use Rattle.vo_laws.proofs.ListLaws.{each_map}
 use Rattle.vo_laws.proofs.StepLaws.{trees_follow, no_commands_fit, no_trees_before, both_take}
 use Rattle.vo_laws.proofs.StandingLaws.{stands}
@@ -91,7 +91,7 @@ long cs n batch i =
 proofs_for : (cs : List (List Command)) (n : ℕ) (batch : List Command) (stored : List Stored) → AllByRecursion FitsBatch cs → IsNext cs n batch → stored ≡ honest_trees (take n cs) → FitsProofs (honest_proofs batch stored)
 proofs_for cs n batch stored ok i e =
     subst (λ (ss : List Stored). FitsProofs (honest_proofs batch ss)) (sym e)
-    (honest_proofs_fit (take n cs) batch (each_taken FitsBatch n cs ok) (each_at FitsBatch cs n batch ok i.there i.is))
+    (honest_proofs_fit (take n cs) batch (each_loadable FitsBatch n cs ok) (each_at FitsBatch cs n batch ok i.there i.is))
 
 -- what seal_next asks of a batch
 pub record IsReady (batch : List Command) (stored : List Stored) : Type 0 where
@@ -110,7 +110,7 @@ abbrev Earlier : List (List Command) → ℕ → List (List Command)
 Earlier cs n = [] ∷ take n cs
 
 earlier_fit : (cs : List (List Command)) (n : ℕ) → AllByRecursion FitsBatch cs → AllByRecursion FitsBatch (Earlier cs n)
-earlier_fit cs n ok = (no_commands_fit, each_taken FitsBatch n cs ok)
+earlier_fit cs n ok = (no_commands_fit, each_loadable FitsBatch n cs ok)
 
 not_spent : (leaves version : ℕ) → version < leaves → leb leaves version ≡ false
 not_spent leaves version lt = elim (leb_tells leaves version) [ inl t ↦ absurd (omega (arith, t.1)) | inr t ↦ t.0 ]
@@ -186,7 +186,7 @@ not_sealed secret cs n batch before why ok s i told known =
         let r = ready cs n batch before.tables ok i s.trees in
         let z = stands (Earlier cs n) (earlier_fit cs n ok) in
         gives_plain (λ (ss : List Stored). ss) batch before.tables (tables_after (Earlier cs n)) (Err (batch_fault.Command index fault)) r.fits.each e
-        (subst (λ (ss : List Stored). StandForTables ss (tables_after (Earlier cs n))) (sym trees_before) z.0) z.1
+        (subst (λ (ss : List Stored). RepresentTables ss (tables_after (Earlier cs n))) (sym trees_before) z.0) z.1
 
     by_fault : (f : SealFault) → Seals secret (n + 1) before batch (Err f) → f ≢ Memory → seal_fault (leaves_of secret.lms) (Earlier cs n) (batch ∷ drop (n + 1) cs) ≡ Some f
     by_fault KeySpent t k = spent_here (leaves_of secret.lms) (Earlier cs n) batch (drop (n + 1) cs) (subst (λ (v : ℕ). leaves_of secret.lms ≤ v) (sym (long cs n batch i)) t)

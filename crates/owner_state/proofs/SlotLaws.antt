@@ -6,7 +6,7 @@ use Rattle.std.proofs.lemmas.Grind.{flat_map-append}
 use Rattle.vo_spec.specs.declared.records.Entry.{Entry}
 use Rattle.vo_spec.specs.Journals.{FitsEntry, slot, Begins, IsClosed, IsJournal}
 use Rattle.vo_spec.specs.Owners.{IsJournalOf, FailsAt}
-use Rattle.vo_laws.proofs.TreeFits.{each_taken}
+use Rattle.vo_laws.proofs.TreeFits.{each_loadable}
 use Rattle.owner_state.specs.declared.slot_reading.Ending.{Ending}
 use Rattle.owner_state.specs.declared.slot_reading.Ending.TheVariants.{Closed, Damaged}
 use Rattle.owner_state.specs.Endings.{EndsSo}
@@ -25,7 +25,7 @@ front bytes es n b =
     ∙ append_assoc (flat_map slot (take n es)) (flat_map slot (drop n es)) b.1
 
 pub begins_front : (bytes : List ℕ) (es : List Entry) (n : ℕ) → Begins bytes es → Begins bytes (take n es)
-begins_front bytes es n b = (each_taken FitsEntry n es b.0, flat_map slot (drop n es) ++ b.1, front bytes es n b)
+begins_front bytes es n b = (each_loadable FitsEntry n es b.0, flat_map slot (drop n es) ++ b.1, front bytes es n b)
 
 -- behind fewer entries the next gate is open
 still_open : (es : List Entry) (n : ℕ) (rest : List ℕ) → n < length es → IsClosed (flat_map slot (drop n es) ++ rest) → ⊥

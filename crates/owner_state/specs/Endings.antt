@@ -11,7 +11,8 @@ use Rattle.owner_state.specs.Reading.{slot_at}
 
 -- Slots of these entries, and then these bytes, which begin with no slot.
 abbrev pub StopsAt : List ℕ → List Entry → List ℕ → Type 0
-StopsAt bytes es rest = AllByRecursion FitsEntry es × (bytes ≡ flat_map slot es ++ rest) × (slot_at rest ≡ None)
+StopsAt bytes es rest = AllByRecursion FitsEntry es × (bytes ≡ flat_map slot es ++ rest)
+    × (slot_at rest ≡ None)
 
 -- a journal is too short for a slot, or its next gate is closed
 abbrev pub EndsClosed : List ℕ → List ℕ → Type 0
@@ -33,7 +34,8 @@ EndsSo bytes es (Damaged at) = IsDamaged bytes es × (at ≡ behind es)
 
 -- The fault says where the bytes are damaged: behind how many entries, and at which place.
 abbrev pub IsFaultOf : List ℕ → EntriesFault → Type 0
-IsFaultOf bytes (fault.Damaged index at) = (es : List Entry) × IsDamaged bytes es × (index ≡ length es) × (at ≡ behind es)
+IsFaultOf bytes (fault.Damaged index at) = (es : List Entry) × IsDamaged bytes es
+    × (index ≡ length es) × (at ≡ behind es)
 IsFaultOf bytes fault.Memory = Unit {0}
 
 -- a call answers these entries, unless memory ran out

@@ -3,7 +3,7 @@ use Rattle.std.specs.Prelude.{◌≡◌, ℕ, ◌==◌, nat_le, List, [], ◌∷
 use Rattle.vo_spec.specs.declared.tables.Command.{Command}
 use Rattle.vo_spec.specs.declared.records.Record.{Record}
 use Rattle.vo_spec.specs.declared.records.Entry.{Entry}
-use Rattle.vo_spec.specs.Journals.{most_proofs, most_signature}
+use Rattle.vo_spec.specs.Journals.{max_proofs, max_signature}
 use Rattle.row_bytes.specs.declared.read_fault.ReadFault.{ReadFault}
 use Rattle.row_bytes.specs.declared.read_fault.ReadFault.TheVariants.{BadForm, Memory}
 use Rattle.row_bytes.specs.Fields.{◌>>=◌, where_true, word_at, block_at, whole}
@@ -23,11 +23,17 @@ unfoldable pub batch_at : Reader (List Command)
 batch_at bytes = within batch_of bytes
 
 abbrev pub entry_with : List Command → List ℕ → Record → List ℕ → Entry
-entry_with commands proofs rec signature = record { batch = record { commands = commands }; proofs = proofs; rec = rec; signature = signature }
+entry_with commands proofs rec signature =
+    record {
+      batch = record { commands = commands };
+      proofs = proofs;
+      rec = rec;
+      signature = signature;
+    }
 
 unfoldable pub entry_at : Reader Entry
 entry_at bytes = word_at (codes "VOE1") bytes >>= λ magic.
-    four entry_with batch_at (limited_at most_proofs) record_at (limited_at most_signature) magic.1
+    four entry_with batch_at (limited_at max_proofs) record_at (limited_at max_signature) magic.1
 
 -- the entry that all the bytes are
 unfoldable pub entry_of : List ℕ → Option Entry

@@ -17,5 +17,6 @@ Seals secret version before batch (Ok after) =
     (version < leaves_of secret.lms) × (work_all batch before.tables ≡ Ok after.tables)
     × (after.slots.items ≡ before.slots.items ++ slot (entry_on secret version before.tables batch))
 Seals secret version before batch (Err KeySpent) = leaves_of secret.lms ≤ version
-Seals secret version before batch (Err (Refused index why)) = (version < leaves_of secret.lms) × (work_from 0 batch before.tables ≡ Err (index, why))
+Seals secret version before batch (Err (Refused index why)) = (version < leaves_of secret.lms)
+    × (work_from 0 batch before.tables ≡ Err (index, why))
 Seals secret version before batch (Err Memory) = Unit {0}

@@ -27,4 +27,5 @@ unfoldable pub seal_fault : ℕ → List (List Command) → List (List Command) 
 seal_fault leaves earlier [] = None
 seal_fault leaves earlier (batch ∷ batches) =
     if nat_le leaves (length earlier) then Some KeySpent
-    else or_later (apply_batch batch (tables_after earlier)) (seal_fault leaves (earlier ++ batch ∷ []) batches)
+    else or_later (apply_batch batch (tables_after earlier))
+    (seal_fault leaves (earlier ++ batch ∷ []) batches)

@@ -14,7 +14,8 @@ pub record IsRecorded (key : List ℕ) (version : ℕ) (stored : List Stored) (e
   pub signed : IsSigned key e.rec e.signature
 
 -- a store takes the entry as this version, behind these trees
-pub record IsTakenOn (key : List ℕ) (version : ℕ) (stored : List Stored) (e : Entry) : Type 0 where
+pub record IsLoadableOn (key : List ℕ) (version : ℕ) (stored : List Stored)
+    (e : Entry) : Type 0 where
   pub accepted : IsOk (work_all e.batch.commands stored)
   pub recorded : IsRecorded key version (after_work stored e.batch.commands) e
 
@@ -25,7 +26,7 @@ pub record IsProvedOn (stored : List Stored) (e : Entry) : Type 0 where
 
 -- an owner has written the entry as this version, behind these trees
 pub record IsHonestOn (key : List ℕ) (version : ℕ) (stored : List Stored) (e : Entry) : Type 0 where
-  pub taken : IsTakenOn key version stored e
+  pub taken : IsLoadableOn key version stored e
   pub proofs_are : e.proofs ≡ proofs_bytes (honest_proofs e.batch.commands stored)
 
 -- the entry of a batch with these proofs as this version, the trees being those behind it
@@ -41,4 +42,6 @@ signed_entry secret version after batch proofs =
 
 -- the entry that an owner writes of the batch as this version, behind these trees
 unfoldable pub entry_on : Secret → ℕ → List Stored → List Command → Entry
-entry_on secret version stored batch = signed_entry secret version (after_work stored batch) batch (proofs_bytes (honest_proofs batch stored))
+entry_on secret version stored batch =
+    signed_entry secret version (after_work stored batch) batch
+    (proofs_bytes (honest_proofs batch stored))

@@ -6,9 +6,9 @@ use Rattle.owner_state.specs.declared.slot_reading.Ending.{Ending}
 use Rattle.owner_state.specs.declared.slot_reading.Ending.TheVariants.{Closed, Damaged}
 
 -- the trees come out where this holds, and else nothing does
-abbrev pub GoesOn : Type 0 → List Stored → Option (List Stored) → Type 0
-GoesOn Holds stored None = Holds → ⊥
-GoesOn Holds stored (Some found) = Holds × (found ≡ stored)
+abbrev pub GivesTreesIf : Type 0 → List Stored → Option (List Stored) → Type 0
+GivesTreesIf Holds stored None = Holds → ⊥
+GivesTreesIf Holds stored (Some found) = Holds × (found ≡ stored)
 
 -- the entries are of this sort up to this one, which isn't
 pub record StopsAt (Are : List Entry → Type 0) (es : List Entry) (index : ℕ) : Type 0 where

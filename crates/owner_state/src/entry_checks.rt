@@ -3,8 +3,8 @@ ghost use Rattle.std.specs.Prelude.{◌≡◌, [], IfOk, IsOk};
 ghost use Rattle.vo_spec.specs.Batches.{FitsBatch};
 ghost use Rattle.vo_spec.specs.Replies.{FitsProofs};
 ghost use Rattle.vo_spec.specs.Honest.{after_work, honest_proofs, work_all};
-ghost use Rattle.owner_state.specs.Standing.{IsHonestOn, IsProvedOn, IsRecorded, IsTakenOn};
-ghost use Rattle.owner_state.specs.Walking.{GoesOn};
+ghost use Rattle.owner_state.specs.Standing.{IsHonestOn, IsProvedOn, IsRecorded, IsLoadableOn};
+ghost use Rattle.owner_state.specs.Walking.{GivesTreesIf};
 
 use crate::batch_working::{AfterBatch, worked};
 use crate::recording::is_recorded;
@@ -22,7 +22,7 @@ pub(crate) fn recorded(
     entry: &Entry,
 ) -> Result<Option<StoredTables>, AllocError>
     ensures { IfOk result (λ after.
-        GoesOn (IsRecorded key.now version tables entry.now) tables after) }
+        GivesTreesIf (IsRecorded key.now version tables entry.now) tables after) }
 {
     if is_recorded(alloc, key, version, &tables, entry)? {
         Ok(Some(tables))
@@ -41,7 +41,7 @@ pub(crate) fn taken_on(
 ) -> Result<Option<StoredTables>, AllocError>
     requires { FitsBatch entry.now.batch.commands }
     ensures { IfOk result (λ after.
-        GoesOn (IsTakenOn key.now version tables entry.now)
+        GivesTreesIf (IsLoadableOn key.now version tables entry.now)
         (after_work tables entry.now.batch.commands) after) }
 {
     match after_batch(alloc, tables, &entry.batch)? {
@@ -58,7 +58,7 @@ fn after_batch(
 ) -> Result<Option<StoredTables>, AllocError>
     requires { FitsBatch batch.now.commands }
     ensures { IfOk result (λ after.
-        GoesOn (IsOk (work_all batch.now.commands tables))
+        GivesTreesIf (IsOk (work_all batch.now.commands tables))
         (after_work tables batch.now.commands) after) }
 {
     match tables.apply_batch(alloc, batch) {
@@ -79,7 +79,7 @@ pub(crate) fn honest_on(
     requires fits { FitsBatch entry.now.batch.commands }
     requires proofs { FitsProofs (honest_proofs entry.now.batch.commands tables) }
     ensures { IfOk result (λ after.
-        GoesOn (IsHonestOn key.now version tables entry.now)
+        GivesTreesIf (IsHonestOn key.now version tables entry.now)
         (after_work tables entry.now.batch.commands) after) }
 {
     match proved_on(alloc, tables, entry)? {
@@ -98,7 +98,7 @@ pub(crate) fn honest_first(
     requires fits { FitsBatch entry.now.batch.commands }
     requires proofs { FitsProofs (honest_proofs entry.now.batch.commands tables) }
     ensures { IfOk result (λ after.
-        GoesOn ((entry.now.batch.commands ≡ []) × IsHonestOn key.now 0 tables entry.now)
+        GivesTreesIf ((entry.now.batch.commands ≡ []) × IsHonestOn key.now 0 tables entry.now)
         (after_work tables entry.now.batch.commands) after) }
 {
     if !entry.batch.commands.is_empty() {
@@ -116,7 +116,8 @@ fn proved_on(
     requires fits { FitsBatch entry.now.batch.commands }
     requires proofs { FitsProofs (honest_proofs entry.now.batch.commands tables) }
     ensures { IfOk result (λ after.
-        GoesOn (IsProvedOn tables entry.now) (after_work tables entry.now.batch.commands) after) }
+        GivesTreesIf (IsProvedOn tables entry.now)
+        (after_work tables entry.now.batch.commands) after) }
 {
     match worked(alloc, tables, entry.batch.commands.as_slice()) {
         Ok(AfterBatch { tables, proofs }) => {

@@ -8,11 +8,7 @@ use batch_format::read_batch;
 use row_bytes::{Cursor, ReadFault};
 use std::alloc::Global;
 use version_record::take_record;
-use vo_spec::{Batch, Entry, List};
-
-const MOST_PROOFS: usize = 134_217_728;
-
-const MOST_SIGNATURE: usize = 65_536;
+use vo_spec::{Batch, Entry, List, MAX_PROOFS, MAX_SIGNATURE};
 
 /// The entry of the slot that comes next, if that slot is open and its entry whole.
 #[tactic(auto, unfolding(crate::specs::Reading::slot_at, row_bytes::specs::Reading::byte_at))]
@@ -47,9 +43,9 @@ fn take_entry(alloc: Global, cursor: &mut Cursor<'_>) -> Result<Entry, ReadFault
 {
     cursor.take_word(b"VOE1").ok_or(ReadFault::BadForm)?;
     let batch = take_batch(alloc, cursor)?;
-    let proofs = take_limited(alloc, cursor, MOST_PROOFS)?;
+    let proofs = take_limited(alloc, cursor, MAX_PROOFS)?;
     let rec = take_record(cursor).ok_or(ReadFault::BadForm)?;
-    let signature = take_limited(alloc, cursor, MOST_SIGNATURE)?;
+    let signature = take_limited(alloc, cursor, MAX_SIGNATURE)?;
     Ok(Entry {
         batch,
         proofs,

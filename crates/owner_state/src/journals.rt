@@ -2,7 +2,7 @@
 ghost use Rattle.std.specs.Prelude.{◌≡◌, ◌↔◌, ◌<◌, ℕ, List, Err, IfOk, IfSome, IsSome, IsTrue, drop, length, take};
 ghost use Rattle.vo_spec.specs.Journals.{batches_of};
 ghost use Rattle.vo_spec.specs.Honest.{honest_trees};
-ghost use Rattle.vo_spec.specs.Owners.{IsBadAt, IsLoaded, IsOwned, IsUnloadedAt};
+ghost use Rattle.vo_spec.specs.Owners.{IsBadAt, IsLoadable, IsOwned, IsUnloadableAt};
 ghost use Rattle.owner_state.specs.Walking.{IsWhole};
 
 use crate::slot_reading::{Ending, Slots, read_slots};
@@ -44,7 +44,7 @@ pub struct OwnedJournal {
 
 /// A journal that a store takes, and its tables after the last entry.
 #[derive(Drop)]
-pub struct TakenJournal {
+pub struct LoadableJournal {
     pub entries: List<Entry>,
     pub tables: StoredTables,
 }
@@ -79,16 +79,16 @@ pub fn read_owned(
 }
 
 /// Reads a journal that a store of the key takes.
-pub fn read_taken(
+pub fn read_loadable(
     alloc: Global,
     key: &PublicKey,
     journal: &[u8],
-) -> Result<TakenJournal, JournalFault>
-    ensures taken { IfOk result (λ read. IsLoaded key.now journal.now read.entries) }
+) -> Result<LoadableJournal, JournalFault>
+    ensures taken { IfOk result (λ read. IsLoadable key.now journal.now read.entries) }
     ensures tables { IfOk result (λ read. read.tables
         ≡ honest_trees (batches_of (drop 1 read.entries))) }
     ensures bad { (index : ℕ) → result ≡ Err (JournalFault.BadAt index)
-        → IsUnloadedAt key.now journal.now index }
+        → IsUnloadableAt key.now journal.now index }
 {
     let slots = read_slots(alloc, journal)?;
     match walk_taken(alloc, key, slots.entries.as_slice()) {
@@ -97,7 +97,7 @@ pub fn read_taken(
                 return Err(end_fault(&slots));
             }
             let entries = slots.entries;
-            Ok(TakenJournal { entries, tables })
+            Ok(LoadableJournal { entries, tables })
         }
         Err(fault) => Err(fault),
     }

@@ -17,7 +17,7 @@ mod walks;
 pub use entry_writing::entry_bytes;
 pub use journal_reading::{EntriesFault, read_entries};
 pub use journal_writing::{journal_bytes, put_slot};
-pub use journals::{JournalFault, OwnedJournal, TakenJournal, read_owned, read_taken};
+pub use journals::{JournalFault, LoadableJournal, OwnedJournal, read_loadable, read_owned};
 pub use sealing::{SealFault, seal};
 pub use slot_reading::{Ending, Slots, read_slots};
 pub use vo_spec::Entry;

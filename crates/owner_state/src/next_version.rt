@@ -5,7 +5,7 @@ ghost use Rattle.vo_spec.specs.LmsSets.{leaves_of};
 ghost use Rattle.vo_spec.specs.Secret.{public_of_secret};
 ghost use Rattle.vo_spec.specs.Records.{FitsRecord};
 ghost use Rattle.vo_spec.specs.Replies.{FitsProofs};
-ghost use Rattle.vo_spec.specs.Journals.{most_signature};
+ghost use Rattle.vo_spec.specs.Journals.{max_signature};
 ghost use Rattle.vo_spec.specs.Honest.{honest_proofs};
 ghost use Rattle.owner_state.specs.Standing.{signed_entry};
 ghost use Rattle.owner_state.specs.Sealed.{Seals};
@@ -71,7 +71,7 @@ fn signed(
     ensures value { IfOk result (λ entry. entry
         ≡ signed_entry key.now version tables.now batch.commands proofs.items) }
     ensures rec { IfOk result (λ entry. FitsRecord entry.rec) }
-    ensures signature { IfOk result (λ entry. length entry.signature ≤ most_signature) }
+    ensures signature { IfOk result (λ entry. length entry.signature ≤ max_signature) }
 {
     let rec = record_of(alloc, public, version, tables)?;
     match key.sign(alloc, version, &record_bytes(&rec)) {

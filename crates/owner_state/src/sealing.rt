@@ -4,7 +4,7 @@ ghost use Rattle.vo_spec.specs.LmsSets.{leaves_of};
 ghost use Rattle.vo_spec.specs.Secret.{public_of_secret};
 ghost use Rattle.vo_spec.specs.Journals.{journal_bytes, slot};
 ghost use Rattle.vo_spec.specs.Honest.{sealed};
-ghost use Rattle.vo_spec.specs.Owners.{IsLoaded, IsOwned};
+ghost use Rattle.vo_spec.specs.Owners.{IsLoadable, IsOwned};
 ghost use Rattle.owner_state.specs.Standing.{entry_on};
 ghost use Rattle.owner_state.specs.Sealing.{commands_of, seal_fault, FitEach};
 
@@ -48,7 +48,8 @@ pub fn seal(alloc: Global, key: &SecretKey, batches: List<Batch>) -> Result<Vec<
     ensures owned { IfOk result (λ journal.
         IsOwned (public_of_secret key.now) journal.items (sealed key.now (commands_of batches))) }
     ensures loaded { IfOk result (λ journal.
-        IsLoaded (public_of_secret key.now) journal.items (sealed key.now (commands_of batches))) }
+        IsLoadable (public_of_secret key.now) journal.items
+        (sealed key.now (commands_of batches))) }
     ensures sealed { IfOk result (λ _.
         seal_fault (leaves_of key.now.lms) ([] ∷ []) (commands_of batches) ≡ None) }
     ensures fault { IfErr result (λ fault. fault ≢ SealFault.Memory

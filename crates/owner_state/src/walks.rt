@@ -3,8 +3,8 @@ ghost use Rattle.std.specs.Prelude.{◌≡◌, ◌++◌, ◌∷◌, ◌<◌, ℕ
 ghost use Rattle.std.specs.List.{AllByRecursion};
 ghost use Rattle.vo_spec.specs.Journals.{FitsEntry, batches_of};
 ghost use Rattle.vo_spec.specs.Honest.{honest_trees};
-ghost use Rattle.vo_spec.specs.Owners.{AreOwned, AreTaken};
-ghost use Rattle.owner_state.specs.Walking.{GoesOn, StopsAt};
+ghost use Rattle.vo_spec.specs.Owners.{AreOwned, AreLoadable};
+ghost use Rattle.owner_state.specs.Walking.{GivesTreesIf, StopsAt};
 
 use crate::entry_checks::{honest_first, honest_on, recorded, taken_on};
 use crate::journals::JournalFault;
@@ -20,11 +20,11 @@ pub(crate) fn walk_taken(
     entries: &[Entry],
 ) -> Result<StoredTables, JournalFault>
     requires { AllByRecursion FitsEntry entries.now }
-    ensures taken { IfOk result (λ _. AreTaken key.now entries.now) }
+    ensures taken { IfOk result (λ _. AreLoadable key.now entries.now) }
     ensures tables { IfOk result (λ tables. tables
         ≡ honest_trees (batches_of (drop 1 entries.now))) }
     ensures bad { (index : ℕ) → result ≡ Err (JournalFault.BadAt index)
-        → StopsAt (AreTaken key.now) entries.now index }
+        → StopsAt (AreLoadable key.now) entries.now index }
 {
     let mut tables = StoredTables::new(alloc);
     for (index, entry) in entries.iter().enumerate() {
@@ -49,10 +49,10 @@ fn taken_behind(
 ) -> Result<Option<StoredTables>, AllocError>
     requires earlier_fit { AllByRecursion FitsEntry earlier.now }
     requires fits { FitsEntry entry.now }
-    requires taken { AreTaken key.now earlier.now }
+    requires taken { AreLoadable key.now earlier.now }
     requires tables { tables ≡ honest_trees (batches_of (drop 1 earlier.now)) }
     ensures { IfOk result (λ after.
-        GoesOn (AreTaken key.now (earlier.now ++ entry.now ∷ []))
+        GivesTreesIf (AreLoadable key.now (earlier.now ++ entry.now ∷ []))
         (honest_trees (batches_of (drop 1 (earlier.now ++ entry.now ∷ [])))) after) }
 {
     if earlier.is_empty() {
@@ -109,7 +109,7 @@ fn owned_behind(
     requires owned { AreOwned key.now earlier.now }
     requires tables { tables ≡ honest_trees (batches_of earlier.now) }
     ensures { IfOk result (λ after.
-        GoesOn (AreOwned key.now (earlier.now ++ entry.now ∷ []))
+        GivesTreesIf (AreOwned key.now (earlier.now ++ entry.now ∷ []))
         (honest_trees (batches_of (earlier.now ++ entry.now ∷ []))) after) }
 {
     if earlier.is_empty() {

@@ -1,1 +1,1 @@
-pub mod RowLines
+pub mod RowViews

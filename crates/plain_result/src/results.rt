@@ -3,18 +3,18 @@ ghost use Rattle.std.specs.Prelude.{◌≡◌, [], map, filter, flat_map, option
 ghost use Rattle.std.specs.Option.{option_map_or};
 ghost use Rattle.vo_spec.specs.declared.queries.Outcome.TheVariants.{Rows};
 ghost use Rattle.vo_spec.specs.Conditions.{query_of};
-ghost use Rattle.vo_spec.specs.Tables.{heading_of};
-ghost use Rattle.vo_spec.specs.Results.{sides as sides_of, header as header_of, place_value};
+ghost use Rattle.vo_spec.specs.Tables.{table_header_of};
+ghost use Rattle.vo_spec.specs.Results.{bound_sources as bound_sources_of, header as header_of, place_value};
 ghost use Rattle.vo_spec.specs.Results.{result as result_of};
-ghost use Rattle.query_binding.specs.Sided.{sides_seen};
+ghost use Rattle.query_binding.specs.Sided.{bound_sources_seen};
 ghost use Rattle.query_plan.specs.BoundConditions.{all_hold};
 ghost use Rattle.query_plan.specs.BoundViews.{conjunct_seen, join_seen, query_seen};
 ghost use Rattle.query_plan.specs.Plans.{plan_of};
 ghost use Rattle.query_plan.specs.Answers.{left_answers, plain_rows};
-ghost use Rattle.plain_result.specs.RowLines.{row_line, meets, right_lines};
+ghost use Rattle.plain_result.specs.RowViews.{view_of_row, meets, right_row_views};
 
 use crate::table_rows::TableRow;
-use crate::tables::{TableSlice, lines_of};
+use crate::tables::{TableSlice, row_views_of};
 use query_plan::{
     BindFault, Conjunct, LeftRow, Query, all_hold, bind, conjuncts_of, header, push_answers,
 };
@@ -33,8 +33,8 @@ fn rows_of(
 ) -> Result<List<List<Value>>, AllocError>
     ensures { IfOk result (λ rows. rows
         ≡ flat_map (left_answers (query_seen query.now) (map conjunct_seen late.now)
-        (option_map join_seen query.now.join) (map row_line rights.now))
-        (filter (meets (map conjunct_seen left.now)) (map row_line lefts.now))) }
+        (option_map join_seen query.now.join) (map view_of_row rights.now))
+        (filter (meets (map conjunct_seen left.now)) (map view_of_row lefts.now))) }
 {
     let mut rows = Vec::new(alloc);
     for row in lefts {
@@ -46,16 +46,16 @@ fn rows_of(
 }
 
 /// The rows of the right source, if there is a join.
-fn right_lines<'t>(
+fn right_row_views<'t>(
     alloc: Global,
     tables: &'t [Table],
     query: &Query<'t>,
 ) -> Result<Vec<TableRow<'t>>, AllocError>
-    ensures { IfOk result (λ lines. map row_line lines.items
-        ≡ right_lines (query_seen query.now) tables.now) }
+    ensures { IfOk result (λ row_views. map view_of_row row_views.items
+        ≡ right_row_views (query_seen query.now) tables.now) }
 {
-    match (query.join, query.sides.right) {
-        (Some(_), Some(right)) => lines_of(alloc, tables, right),
+    match (query.join, query.bound_sources.right) {
+        (Some(_), Some(right)) => row_views_of(alloc, tables, right),
         (None, _) => Ok(Vec::new(alloc)),
         (Some(_), None) => unreachable!(),
     }
@@ -71,8 +71,8 @@ fn answer_rows<'t>(
 {
     let left = conjuncts_of(alloc, &query.condition, true)?;
     let late = conjuncts_of(alloc, &query.condition, false)?;
-    let lefts = lines_of(alloc, tables, query.sides.left)?;
-    let rights = right_lines(alloc, tables, query)?;
+    let lefts = row_views_of(alloc, tables, query.bound_sources.left)?;
+    let rights = right_row_views(alloc, tables, query)?;
     rows_of(alloc, query, &left, &late, &lefts, &rights)
 }
 
@@ -83,10 +83,10 @@ fn answer_of<'t>(
     query: &Query<'t>,
 ) -> Result<Outcome, AllocError>
     ensures { IfOk result (λ outcome. outcome
-        ≡ Rows (header_of (sides_seen query.now.sides) query.now.items.now)
+        ≡ Rows (header_of (bound_sources_seen query.now.bound_sources) query.now.items.now)
         (plain_rows (plan_of (query_seen query.now)) tables.now)) }
 {
-    let header = header(alloc, &query.sides, query.items)?;
+    let header = header(alloc, &query.bound_sources, query.items)?;
     let rows = answer_rows(alloc, tables, query)?;
     Ok(Outcome::Rows { header, rows })
 }

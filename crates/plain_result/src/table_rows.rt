@@ -1,8 +1,8 @@
 //! Rows of plain tables, as the value of each column.
 ghost use Rattle.std.specs.Prelude.{◌≡◌};
-ghost use Rattle.vo_spec.specs.Results.{line_of};
+ghost use Rattle.vo_spec.specs.Results.{row_view_of};
 
-use query_plan::{Line, value_at, value_of_key};
+use query_plan::{RowView, value_at, value_of_key};
 use table_list::{cell_number, kind_at};
 use vo_spec::{Row, Schema, ValueRef};
 
@@ -13,8 +13,8 @@ pub(crate) struct TableRow<'t> {
     pub(crate) row: &'t Row,
 }
 
-impl Line for TableRow<'_> {
-    ghost line = { λ r. line_of r.schema.now r.row.now };
+impl RowView for TableRow<'_> {
+    ghost row_view = { λ r. row_view_of r.schema.now r.row.now };
 
     fn field(&self, column: usize) -> ValueRef<'_> {
         let key = self.schema.key as usize;

@@ -1,12 +1,12 @@
 //! Plain tables, as a query reads them.
 ghost use Rattle.std.specs.Prelude.{◌≡◌, map, IfOk};
-ghost use Rattle.vo_spec.specs.Tables.{heading_of, rows_named};
-ghost use Rattle.vo_spec.specs.Results.{line_of};
-ghost use Rattle.query_binding.specs.Sided.{side_seen};
-ghost use Rattle.plain_result.specs.RowLines.{row_line};
+ghost use Rattle.vo_spec.specs.Tables.{table_header_of, rows_named};
+ghost use Rattle.vo_spec.specs.Results.{row_view_of};
+ghost use Rattle.query_binding.specs.Sided.{bound_source_seen};
+ghost use Rattle.plain_result.specs.RowViews.{view_of_row};
 
 use crate::table_rows::TableRow;
-use query_plan::{Schemas, Side};
+use query_plan::{BoundSource, Schemas};
 use std::alloc::{AllocError, Global};
 use table_list::table_named;
 use vo_spec::{Row, Schema, Table};
@@ -18,7 +18,7 @@ pub(crate) struct TableSlice<'t> {
 }
 
 impl Schemas for TableSlice<'_> {
-    ghost headings = { λ t. map heading_of t.tables.now };
+    ghost table_headers = { λ t. map table_header_of t.tables.now };
 
     fn schema(&self, name: &[u8]) -> Option<&Schema> {
         match table_named(self.tables, name) {
@@ -28,32 +28,33 @@ impl Schemas for TableSlice<'_> {
     }
 }
 
-fn row_lines<'t>(
+fn row_row_views<'t>(
     alloc: Global,
     schema: &'t Schema,
     rows: &'t [Row],
 ) -> Result<Vec<TableRow<'t>>, AllocError>
-    ensures { IfOk result (λ lines. map row_line lines.items ≡ map (line_of schema.now) rows.now) }
+    ensures { IfOk result (λ row_views. map view_of_row row_views.items
+        ≡ map (row_view_of schema.now) rows.now) }
 {
-    let mut lines = Vec::with_capacity(alloc, rows.len())?;
+    let mut row_views = Vec::with_capacity(alloc, rows.len())?;
     for row in rows {
-        lines.push(TableRow { schema, row })?;
+        row_views.push(TableRow { schema, row })?;
     }
-    Ok(lines)
+    Ok(row_views)
 }
 
 /// The rows of the source's table, by the source's schema.
-pub(crate) fn lines_of<'t>(
+pub(crate) fn row_views_of<'t>(
     alloc: Global,
     tables: &'t [Table],
-    side: Side<'t>,
+    bound_source: BoundSource<'t>,
 ) -> Result<Vec<TableRow<'t>>, AllocError>
-    ensures { IfOk result (λ lines. map row_line lines.items
-        ≡ map (line_of (side_seen side.entry).schema)
-        (rows_named (side_seen side.entry).table tables.now)) }
+    ensures { IfOk result (λ row_views. map view_of_row row_views.items
+        ≡ map (row_view_of (bound_source_seen bound_source.entry).schema)
+        (rows_named (bound_source_seen bound_source.entry).table tables.now)) }
 {
-    match table_named(tables, side.table.as_bytes()) {
-        Some(table) => row_lines(alloc, side.schema, table.rows.as_slice()),
+    match table_named(tables, bound_source.table.as_bytes()) {
+        Some(table) => row_row_views(alloc, bound_source.schema, table.rows.as_slice()),
         None => Ok(Vec::new(alloc)),
     }
 }

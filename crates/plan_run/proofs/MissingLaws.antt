@@ -4,7 +4,7 @@ use Rattle.std.specs.Prelude.{◌==◌, ◌||◌, ◌⊎◌, zip, flat_map, is_n
 use Rattle.std.specs.List.{list_any}
 use Rattle.std.proofs.lemmas.Bool.{both_ways, or_left, or_right}
 use Rattle.vo_spec.specs.declared.needs.Need.{Need}
-use Rattle.vo_spec.specs.Results.{Place, side_at}
+use Rattle.vo_spec.specs.Results.{ColumnPlace, bound_source_at}
 use Rattle.vo_spec.specs.Trees.{RowTree}
 use Rattle.vo_spec.specs.Scans.{seen}
 use Rattle.vo_spec.specs.Pruned.{is_missing}
@@ -22,8 +22,8 @@ any_from : {A : Type 0} (test : A → Bool) (xs : List A) → ((x : A) → IsIn 
 any_from test [] f = refl
 any_from test (x ∷ xs) f = rw (f x (inl refl)) (any_from test xs (λ y i. f y (inr i)))
 
-pub unseen_misses : (ns : List Need) (p : RowTree) → list_any (is_unseen p) ns ≡ true → is_missing ns p ≡ true
-unseen_misses ns p u = step (is_missing ns p) refl
+pub unseen_missing : (ns : List Need) (p : RowTree) → list_any (is_unseen p) ns ≡ true → is_missing ns p ≡ true
+unseen_missing ns p u = step (is_missing ns p) refl
   where
     step : (b : Bool) → is_missing ns p ≡ b → b ≡ true
     step true e = refl
@@ -44,34 +44,34 @@ module _ (first second : List ℕ) (left : Need) (rights : List Need) where
   left_by : (b : Bool) (ts : List RowTree) → length ts ≡ length (names_by b) → is_unseen (tree_at ts 0) left ≡ true → any_missing b ts ≡ true
   left_by true [] e u = absurd (omega arith)
   left_by false [] e u = absurd (omega arith)
-  left_by true (t ∷ ts) e u = or_left _ _ (unseen_misses (left ∷ rights) t (or_left (is_unseen t left) (list_any (is_unseen t) rights) u))
-  left_by false (t ∷ ts) e u = or_left _ _ (unseen_misses (left ∷ []) t (or_left (is_unseen t left) false u))
+  left_by true (t ∷ ts) e u = or_left _ _ (unseen_missing (left ∷ rights) t (or_left (is_unseen t left) (list_any (is_unseen t) rights) u))
+  left_by false (t ∷ ts) e u = or_left _ _ (unseen_missing (left ∷ []) t (or_left (is_unseen t left) false u))
 
   right_by : (b : Bool) (ts : List RowTree) → length ts ≡ length (names_by b) → list_any (is_unseen (cond b (tree_at ts 0) (tree_at ts 1))) rights ≡ true → any_missing b ts ≡ true
   right_by true [] e u = absurd (omega arith)
   right_by false [] e u = absurd (omega arith)
   right_by false (t ∷ []) e u = absurd (omega arith)
-  right_by true (t ∷ ts) e u = or_left _ _ (unseen_misses (left ∷ rights) t (or_right (is_unseen t left) (list_any (is_unseen t) rights) u))
-  right_by false (t ∷ r ∷ ts) e u = or_right _ _ (or_left _ _ (unseen_misses rights r u))
+  right_by true (t ∷ ts) e u = or_left _ _ (unseen_missing (left ∷ rights) t (or_right (is_unseen t left) (list_any (is_unseen t) rights) u))
+  right_by false (t ∷ r ∷ ts) e u = or_right _ _ (or_left _ _ (unseen_missing rights r u))
 
 either : (a b : Bool) → (a || b) ≡ true → (a ≡ true) ⊎ (b ≡ true)
 either true b e = inl refl
 either false b e = inr e
 
 -- where a scan stops, some tree misses something
-pub stopped_misses : (p : QueryPlan) (ts : List RowTree) → length ts ≡ length (tables_used p.query.sides)
-    → ((on : Place × Place) → p.query.join ≡ Some on → (length p.query.sides == 1) ≡ false) → stops p ts ≡ true → is_any_missing p ts ≡ true
-stopped_misses p ts e paired u =
-    elim (either (is_unseen (tree_at ts 0) p.left_need) (list_any (is_unseen (right_tree p.query.sides ts)) (needs_of p (lefts_seen p (tree_at ts 0)))) u) [
-      | inl l ↦ left_by (side_at p.query.sides 0).table (side_at p.query.sides 1).table p.left_need (needs_of p (lefts_seen p (tree_at ts 0))) (length p.query.sides == 1 || same_table p.query.sides) ts e l
+pub stopped_missing : (p : QueryPlan) (ts : List RowTree) → length ts ≡ length (tables_used p.query.bound_sources)
+    → ((on : ColumnPlace × ColumnPlace) → p.query.join ≡ Some on → (length p.query.bound_sources == 1) ≡ false) → stops p ts ≡ true → is_any_missing p ts ≡ true
+stopped_missing p ts e paired u =
+    elim (either (is_unseen (tree_at ts 0) p.left_need) (list_any (is_unseen (right_tree p.query.bound_sources ts)) (needs_of p (lefts_seen p (tree_at ts 0)))) u) [
+      | inl l ↦ left_by (bound_source_at p.query.bound_sources 0).table (bound_source_at p.query.bound_sources 1).table p.left_need (needs_of p (lefts_seen p (tree_at ts 0))) (length p.query.bound_sources == 1 || same_table p.query.bound_sources) ts e l
       | inr r ↦ step p.query.join refl r
     ]
   where
-    joined : (on : Place × Place) → p.query.join ≡ Some on → list_any (is_unseen (right_tree p.query.sides ts)) (needs_of p (lefts_seen p (tree_at ts 0))) ≡ true → is_any_missing p ts ≡ true
+    joined : (on : ColumnPlace × ColumnPlace) → p.query.join ≡ Some on → list_any (is_unseen (right_tree p.query.bound_sources ts)) (needs_of p (lefts_seen p (tree_at ts 0))) ≡ true → is_any_missing p ts ≡ true
     joined on is r =
-        right_by (side_at p.query.sides 0).table (side_at p.query.sides 1).table p.left_need (needs_of p (lefts_seen p (tree_at ts 0))) (length p.query.sides == 1 || same_table p.query.sides) ts e
-        (subst (λ b. list_any (is_unseen (cond (b || same_table p.query.sides) (tree_at ts 0) (tree_at ts 1))) (needs_of p (lefts_seen p (tree_at ts 0))) ≡ true) (sym (paired on is)) r)
+        right_by (bound_source_at p.query.bound_sources 0).table (bound_source_at p.query.bound_sources 1).table p.left_need (needs_of p (lefts_seen p (tree_at ts 0))) (length p.query.bound_sources == 1 || same_table p.query.bound_sources) ts e
+        (subst (λ b. list_any (is_unseen (cond (b || same_table p.query.bound_sources) (tree_at ts 0) (tree_at ts 1))) (needs_of p (lefts_seen p (tree_at ts 0))) ≡ true) (sym (paired on is)) r)
 
-    step : (o : Option (Place × Place)) → p.query.join ≡ o → list_any (is_unseen (right_tree p.query.sides ts)) (flat_map (λ on. map (right_need_of p on) (lefts_seen p (tree_at ts 0))) (option_to_list o)) ≡ true → is_any_missing p ts ≡ true
+    step : (o : Option (ColumnPlace × ColumnPlace)) → p.query.join ≡ o → list_any (is_unseen (right_tree p.query.bound_sources ts)) (flat_map (λ on. map (right_need_of p on) (lefts_seen p (tree_at ts 0))) (option_to_list o)) ≡ true → is_any_missing p ts ≡ true
     step None is r = absurd (cc)
-    step (Some on) is r = joined on is (ap (λ o. list_any (is_unseen (right_tree p.query.sides ts)) (flat_map (λ on. map (right_need_of p on) (lefts_seen p (tree_at ts 0))) (option_to_list o))) is ∙ r)
+    step (Some on) is r = joined on is (ap (λ o. list_any (is_unseen (right_tree p.query.bound_sources ts)) (flat_map (λ on. map (right_need_of p on) (lefts_seen p (tree_at ts 0))) (option_to_list o))) is ∙ r)

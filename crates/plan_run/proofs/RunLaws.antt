@@ -8,13 +8,13 @@ use Rattle.vo_spec.specs.declared.trees.ScanFault.{ScanFault}
 use Rattle.vo_spec.specs.declared.trees.ScanFault.TheVariants.{Missing, Memory}
 use Rattle.vo_spec.specs.declared.needs.Need.{Need}
 use Rattle.vo_spec.specs.declared.needs.SeenRow.{SeenRow}
-use Rattle.vo_spec.specs.Results.{Side, Place, Line, side_at, schema_at, place_value}
+use Rattle.vo_spec.specs.Results.{BoundSource, ColumnPlace, RowView, bound_source_at, schema_at, place_value}
 use Rattle.vo_spec.specs.Trees.{RowTree}
 use Rattle.vo_spec.specs.Scans.{seen}
-use Rattle.vo_spec.specs.Needs.{seen_line, same_table, tables_used, tree_at, right_tree}
+use Rattle.vo_spec.specs.Needs.{seen_row_view, same_table, tables_used, tree_at, right_tree}
 use Rattle.mb_tree.specs.declared.parts.PartTree.{PartTree}
 use Rattle.mb_tree.specs.View.{part_of}
-use Rattle.range_proof.specs.Finding.{Finds}
+use Rattle.range_proof.specs.Finding.{FindsOrMissing}
 use Rattle.query_plan.specs.Plans.{QueryPlan, right_need_of, meets_left}
 use Rattle.plan_run.specs.declared.ran.Ran.{Ran}
 use Rattle.plan_run.specs.declared.shown.Shown.{Shown}
@@ -23,15 +23,15 @@ use Rattle.plan_run.specs.Running.{Runs, RanOf, Shows, ShowsPairs, group_needs, 
 use Rattle.query_plan.proofs.AnswerLaws.{flat_same}
 use Rattle.plan_run.proofs.AnswerSteps.{any_map}
 
-module _ (p : QueryPlan) (lefts : List Line) (tree : RowTree) where
+module _ (p : QueryPlan) (lefts : List RowView) (tree : RowTree) where
   -- by whether there is a join
-  abbrev rows_by : Option (Place × Place) → List (List Value)
+  abbrev rows_by : Option (ColumnPlace × ColumnPlace) → List (List Value)
   rows_by o = flat_map (λ left. left_answers p.query p.late o (flat_map (λ on. rights_by p on tree left) (option_to_list o)) left) lefts
 
-  abbrev needs_by : Option (Place × Place) → List Need
+  abbrev needs_by : Option (ColumnPlace × ColumnPlace) → List Need
   needs_by o = flat_map (λ on. map (right_need_of p on) lefts) (option_to_list o)
 
-  module _ (on : Place × Place) (is : p.query.join ≡ Some on) where
+  module _ (on : ColumnPlace × ColumnPlace) (is : p.query.join ≡ Some on) where
     needs_are : needs_of p lefts ≡ map (right_need_of p on) lefts
     needs_are = ap needs_by is ∙ append-nil (map (right_need_of p on) lefts)
 
@@ -54,10 +54,10 @@ module _ (p : QueryPlan) (lefts : List Line) (tree : RowTree) where
   alone_shown is rows are = (ap (λ o. list_any (is_unseen tree) (needs_by o)) is, are ∙ ap rows_by (sym is), ap needs_by (sym is))
 
 -- a query uses a table
-pub used_some : (ss : List Side) → 0 < length (tables_used ss)
+pub used_some : (ss : List BoundSource) → 0 < length (tables_used ss)
 used_some ss = step (length ss == 1 || same_table ss)
   where
-    step : (b : Bool) → 0 < length (cond b ((side_at ss 0).table ∷ []) ((side_at ss 0).table ∷ (side_at ss 1).table ∷ []))
+    step : (b : Bool) → 0 < length (cond b ((bound_source_at ss 0).table ∷ []) ((bound_source_at ss 0).table ∷ (bound_source_at ss 1).table ∷ []))
     step true = omega arith
     step false = omega arith
 
@@ -66,33 +66,33 @@ first_tree [] t lt is = absurd (omega arith)
 first_tree (x ∷ trees) t lt is = ap part_of is
 
 module _ (p : QueryPlan) (ts : List RowTree) (tree : RowTree) (tree_is : tree ≡ tree_at ts 0) where
-  pub left_fault : (fault : ScanFault) → Finds {A = List SeenRow} (Err fault) (seen p.left_need tree) → Runs (Err fault) p ts
+  pub left_fault : (fault : ScanFault) → FindsOrMissing {A = List SeenRow} (Err fault) (seen p.left_need tree) → Runs (Err fault) p ts
   left_fault Missing h = or_left (is_unseen (tree_at ts 0) p.left_need) _ (ap (λ t. is_none (seen p.left_need t)) (sym tree_is) ∙ ap is_none h)
   left_fault Memory h = tt
 
   module _ (rows : List SeenRow) (found : seen p.left_need tree ≡ Some rows) where
-    abbrev lefts : List Line
-    lefts = filter (meets_left p) (map (seen_line (schema_at p.query.sides 0) p.left_need.columns) rows)
+    abbrev lefts : List RowView
+    lefts = filter (meets_left p) (map (seen_row_view (schema_at p.query.bound_sources 0) p.left_need.columns) rows)
 
     lefts_are : lefts ≡ lefts_seen p (tree_at ts 0)
     lefts_are =
-        ap (λ (o : Option (List SeenRow)). filter (meets_left p) (map (seen_line (schema_at p.query.sides 0) p.left_need.columns) (unwrap_or o []))) (sym found)
+        ap (λ (o : Option (List SeenRow)). filter (meets_left p) (map (seen_row_view (schema_at p.query.bound_sources 0) p.left_need.columns) (unwrap_or o []))) (sym found)
         ∙ ap (lefts_seen p) tree_is
 
     left_seen : is_unseen (tree_at ts 0) p.left_need ≡ false
     left_seen = ap (λ t. is_none (seen p.left_need t)) (sym tree_is) ∙ ap is_none found
 
-    pub run_done : (r : Result Ran ScanFault) (shown : Shown) → Shows (Ok shown) p lefts (right_tree p.query.sides ts) → RanOf r p shown → Runs r p ts
+    pub run_done : (r : Result Ran ScanFault) (shown : Shown) → Shows (Ok shown) p lefts (right_tree p.query.bound_sources ts) → RanOf r p shown → Runs r p ts
     run_done (Ok ran) shown s h = (
-      or_from (is_unseen (tree_at ts 0) p.left_need) (list_any (is_unseen (right_tree p.query.sides ts)) (needs_of p (lefts_seen p (tree_at ts 0)))) left_seen
-          (ap (λ ls. list_any (is_unseen (right_tree p.query.sides ts)) (needs_of p ls)) (sym lefts_are) ∙ s.0),
-      h.0 ∙ s.1 ∙ ap (λ ls. plan_rows p ls (rights_seen p (right_tree p.query.sides ts))) lefts_are,
-      h.1 ∙ ap (group_needs p.query.sides p.left_need) (s.2 ∙ ap (needs_of p) lefts_are),
+      or_from (is_unseen (tree_at ts 0) p.left_need) (list_any (is_unseen (right_tree p.query.bound_sources ts)) (needs_of p (lefts_seen p (tree_at ts 0)))) left_seen
+          (ap (λ ls. list_any (is_unseen (right_tree p.query.bound_sources ts)) (needs_of p ls)) (sym lefts_are) ∙ s.0),
+      h.0 ∙ s.1 ∙ ap (λ ls. plan_rows p ls (rights_seen p (right_tree p.query.bound_sources ts))) lefts_are,
+      h.1 ∙ ap (group_needs p.query.bound_sources p.left_need) (s.2 ∙ ap (needs_of p) lefts_are),
     )
     run_done (Err Missing) shown s h = absurd h
     run_done (Err Memory) shown s h = tt
 
-    pub right_fault : (fault : ScanFault) → Shows (Err fault) p lefts (right_tree p.query.sides ts) → Runs (Err fault) p ts
+    pub right_fault : (fault : ScanFault) → Shows (Err fault) p lefts (right_tree p.query.bound_sources ts) → Runs (Err fault) p ts
     right_fault Missing u =
-        or_right (is_unseen (tree_at ts 0) p.left_need) _ (ap (λ ls. list_any (is_unseen (right_tree p.query.sides ts)) (needs_of p ls)) (sym lefts_are) ∙ u)
+        or_right (is_unseen (tree_at ts 0) p.left_need) _ (ap (λ ls. list_any (is_unseen (right_tree p.query.bound_sources ts)) (needs_of p ls)) (sym lefts_are) ∙ u)
     right_fault Memory u = tt

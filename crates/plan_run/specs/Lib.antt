@@ -1,2 +1,2 @@
-pub mod Lines
+pub mod RowViews
 pub mod Running

@@ -6,11 +6,11 @@ use Rattle.vo_spec.specs.declared.trees.ScanFault.{ScanFault}
 use Rattle.vo_spec.specs.declared.trees.ScanFault.TheVariants.{Missing, Memory}
 use Rattle.vo_spec.specs.declared.values.Value.{Value}
 use Rattle.vo_spec.specs.declared.needs.Need.{Need}
-use Rattle.vo_spec.specs.Results.{Side, Place, Line, schema_at}
+use Rattle.vo_spec.specs.Results.{BoundSource, ColumnPlace, RowView, schema_at}
 use Rattle.vo_spec.specs.Trees.{RowTree}
 use Rattle.vo_spec.specs.Scans.{seen}
 use Rattle.vo_spec.specs.Pruned.{is_missing}
-use Rattle.vo_spec.specs.Needs.{seen_lines, tables_used, tree_at, right_tree}
+use Rattle.vo_spec.specs.Needs.{seen_row_views, tables_used, tree_at, right_tree}
 use Rattle.query_plan.specs.Plans.{QueryPlan, right_need_of, meets_left}
 use Rattle.query_plan.specs.Answers.{pair_answers, plan_rows}
 use Rattle.plan_run.specs.declared.ran.Ran.{Ran}
@@ -21,71 +21,86 @@ abbrev pub is_unseen : RowTree → Need → Bool
 is_unseen tree need = is_none (seen need tree)
 
 -- the left rows that the left tree shows and that meet the left condition
-abbrev pub lefts_seen : QueryPlan → RowTree → List Line
-lefts_seen p tree = filter (meets_left p) (seen_lines (schema_at p.query.sides 0) p.left_need tree)
+abbrev pub lefts_seen : QueryPlan → RowTree → List RowView
+lefts_seen p tree = filter (meets_left p)
+    (seen_row_views (schema_at p.query.bound_sources 0) p.left_need tree)
 
 -- the right rows that a tree shows for a left row
-abbrev pub rights_by : QueryPlan → Place × Place → RowTree → Line → List Line
-rights_by p on tree left = seen_lines (schema_at p.query.sides 1) (right_need_of p on left) tree
+abbrev pub rights_by : QueryPlan → ColumnPlace × ColumnPlace → RowTree → RowView → List RowView
+rights_by p on tree left = seen_row_views (schema_at p.query.bound_sources 1)
+    (right_need_of p on left) tree
 
-abbrev pub rights_seen : QueryPlan → RowTree → Line → List Line
+abbrev pub rights_seen : QueryPlan → RowTree → RowView → List RowView
 rights_seen p tree left = flat_map (λ on. rights_by p on tree left) (option_to_list p.query.join)
 
 -- what left rows need of the right tree
-abbrev pub needs_of : QueryPlan → List Line → List Need
+abbrev pub needs_of : QueryPlan → List RowView → List Need
 needs_of p lefts = flat_map (λ on. map (right_need_of p on) lefts) (option_to_list p.query.join)
 
 -- the needs of each tree, by those of the right rows
-abbrev pub group_needs : List Side → Need → List Need → List (List Need)
-group_needs ss left rights = if length (tables_used ss) == 1 then (left ∷ rights) ∷ [] else (left ∷ []) ∷ rights ∷ []
+abbrev pub group_needs : List BoundSource → Need → List Need → List (List Need)
+group_needs ss left rights = if length (tables_used ss) == 1 then (left ∷ rights) ∷ []
+    else (left ∷ []) ∷ rights ∷ []
 
 -- of the trees of a plan: the rows that they show, the needs of each, and whether a scan of them stops
 
 abbrev pub run_rows : QueryPlan → List RowTree → List (List Value)
-run_rows p trees = plan_rows p (lefts_seen p (tree_at trees 0)) (rights_seen p (right_tree p.query.sides trees))
+run_rows p trees = plan_rows p (lefts_seen p (tree_at trees 0))
+    (rights_seen p (right_tree p.query.bound_sources trees))
 
 abbrev pub run_needs : QueryPlan → List RowTree → List (List Need)
-run_needs p trees = group_needs p.query.sides p.left_need (needs_of p (lefts_seen p (tree_at trees 0)))
+run_needs p trees = group_needs p.query.bound_sources p.left_need
+    (needs_of p (lefts_seen p (tree_at trees 0)))
 
 abbrev pub stops : QueryPlan → List RowTree → Bool
 stops p trees =
     is_unseen (tree_at trees 0) p.left_need
-    || list_any (is_unseen (right_tree p.query.sides trees)) (needs_of p (lefts_seen p (tree_at trees 0)))
+    || list_any (is_unseen (right_tree p.query.bound_sources trees))
+    (needs_of p (lefts_seen p (tree_at trees 0)))
 
 -- Where no scan stops, the rows that the trees show and the needs of each; Missing where one does. A want of
 -- memory may come in any case.
 abbrev pub Runs : Result Ran ScanFault → QueryPlan → List RowTree → Type 0
-Runs (Ok ran) p trees = (stops p trees ≡ false) × (ran.rows ≡ run_rows p trees) × (ran.needs ≡ run_needs p trees)
+Runs (Ok ran) p trees = (stops p trees ≡ false) × (ran.rows ≡ run_rows p trees)
+    × (ran.needs ≡ run_needs p trees)
 Runs (Err Missing) p trees = stops p trees ≡ true
 Runs (Err Memory) p trees = Unit {0}
 
 -- the same of left rows that are given
-abbrev pub Shows : Result Shown ScanFault → QueryPlan → List Line → RowTree → Type 0
+abbrev pub Shows : Result Shown ScanFault → QueryPlan → List RowView → RowTree → Type 0
 Shows (Ok shown) p lefts tree =
-    (list_any (is_unseen tree) (needs_of p lefts) ≡ false) × (shown.rows.items ≡ plan_rows p lefts (rights_seen p tree)) × (shown.needs.items ≡ needs_of p lefts)
+    (list_any (is_unseen tree) (needs_of p lefts) ≡ false)
+    × (shown.rows.items ≡ plan_rows p lefts (rights_seen p tree))
+    × (shown.needs.items ≡ needs_of p lefts)
 Shows (Err Missing) p lefts tree = list_any (is_unseen tree) (needs_of p lefts) ≡ true
 Shows (Err Memory) p lefts tree = Unit {0}
 
 -- and of those of a join
-abbrev pub ShowsPairs : Result Shown ScanFault → QueryPlan → Place × Place → List Line → RowTree → Type 0
+abbrev pub ShowsPairs : Result Shown ScanFault → QueryPlan → ColumnPlace × ColumnPlace
+    → List RowView → RowTree → Type 0
 ShowsPairs (Ok shown) p on lefts tree =
     (list_any (λ left. is_unseen tree (right_need_of p on left)) lefts ≡ false)
-    × (shown.rows.items ≡ flat_map (λ left. pair_answers p.query p.late (rights_by p on tree left) left) lefts)
+    × (shown.rows.items ≡ flat_map
+    (λ left. pair_answers p.query p.late (rights_by p on tree left) left) lefts)
     × (shown.needs.items ≡ map (right_need_of p on) lefts)
-ShowsPairs (Err Missing) p on lefts tree = list_any (λ left. is_unseen tree (right_need_of p on left)) lefts ≡ true
+ShowsPairs (Err Missing) p on lefts tree =
+    list_any (λ left. is_unseen tree (right_need_of p on left)) lefts ≡ true
 ShowsPairs (Err Memory) p on lefts tree = Unit {0}
 
 -- one left row more
-abbrev pub AddsPairs : Result (Unit {0}) ScanFault → Shown → Shown → QueryPlan → Place × Place → Line → RowTree → Type 0
+abbrev pub AddsPairs : Result (Unit {0}) ScanFault → Shown → Shown → QueryPlan → ColumnPlace
+    × ColumnPlace → RowView → RowTree → Type 0
 AddsPairs (Ok done) old new p on left tree =
     (is_unseen tree (right_need_of p on left) ≡ false)
-    × (new.rows.items ≡ old.rows.items ++ pair_answers p.query p.late (rights_by p on tree left) left)
+    × (new.rows.items ≡ old.rows.items
+    ++ pair_answers p.query p.late (rights_by p on tree left) left)
     × (new.needs.items ≡ old.needs.items ++ right_need_of p on left ∷ [])
 AddsPairs (Err Missing) old new p on left tree = is_unseen tree (right_need_of p on left) ≡ true
 AddsPairs (Err Memory) old new p on left tree = Unit {0}
 
 abbrev pub RanOf : Result Ran ScanFault → QueryPlan → Shown → Type 0
-RanOf (Ok ran) p shown = (ran.rows ≡ shown.rows.items) × (ran.needs ≡ group_needs p.query.sides p.left_need shown.needs.items)
+RanOf (Ok ran) p shown = (ran.rows ≡ shown.rows.items)
+    × (ran.needs ≡ group_needs p.query.bound_sources p.left_need shown.needs.items)
 RanOf (Err Missing) p shown = ⊥
 RanOf (Err Memory) p shown = Unit {0}
 
@@ -93,10 +108,13 @@ RanOf (Err Memory) p shown = Unit {0}
 -- query without a join scans nothing.
 abbrev pub FindsNeeds : Result (Vec Need) ScanFault → QueryPlan → RowTree → Type 0
 FindsNeeds (Ok found) p left =
-    (IsTrue (is_some p.query.join) → is_unseen left p.left_need ≡ false) × (found.items ≡ needs_of p (lefts_seen p left))
-FindsNeeds (Err Missing) p left = IsTrue (is_some p.query.join) × (is_unseen left p.left_need ≡ true)
+    (IsTrue (is_some p.query.join) → is_unseen left p.left_need ≡ false)
+    × (found.items ≡ needs_of p (lefts_seen p left))
+FindsNeeds (Err Missing) p left = IsTrue (is_some p.query.join)
+    × (is_unseen left p.left_need ≡ true)
 FindsNeeds (Err Memory) p left = Unit {0}
 
 -- some tree lacks something that the plan needs of it
 abbrev pub is_any_missing : QueryPlan → List RowTree → Bool
-is_any_missing p trees = list_any (λ (t : List Need × RowTree). is_missing t.0 t.1) (zip (run_needs p trees) trees)
+is_any_missing p trees = list_any (λ (t : List Need × RowTree). is_missing t.0 t.1)
+    (zip (run_needs p trees) trees)

@@ -1,14 +1,14 @@
 //! What a query needs of the right tree, by the left one alone.
 ghost use Rattle.std.specs.Prelude.{◌≡◌, map, filter, IfOk};
-ghost use Rattle.vo_spec.specs.Needs.{seen_line};
+ghost use Rattle.vo_spec.specs.Needs.{seen_row_view};
 ghost use Rattle.mb_tree.specs.View.{part_of};
 ghost use Rattle.query_plan.specs.BoundViews.{join_seen};
 ghost use Rattle.query_plan.specs.Plans.{right_need_of, meets_left};
 ghost use Rattle.query_plan.specs.PlanViews.{plan_seen};
-ghost use Rattle.plan_run.specs.Lines.{line_seen};
+ghost use Rattle.plan_run.specs.RowViews.{row_view_seen};
 ghost use Rattle.plan_run.specs.Running.{FindsNeeds};
 
-use crate::lines::SeenLine;
+use crate::row_views::SeenRowView;
 use crate::seeing::lefts_of;
 use mb_tree::PartTree;
 use query_plan::{BoundJoin, Plan, right_need};
@@ -21,10 +21,10 @@ fn needs_of_lefts(
     alloc: Global,
     plan: &Plan<'_, '_>,
     join: BoundJoin,
-    lefts: &[SeenLine<'_>],
+    lefts: &[SeenRowView<'_>],
 ) -> Result<Vec<Need>, AllocError>
     ensures { IfOk result (λ needs. needs.items
-        ≡ map (right_need_of (plan_seen plan.now) (join_seen join)) (map line_seen lefts.now)) }
+        ≡ map (right_need_of (plan_seen plan.now) (join_seen join)) (map row_view_seen lefts.now)) }
 {
     let mut needs = Vec::with_capacity(alloc, lefts.len())?;
     for left in lefts {
@@ -43,7 +43,8 @@ fn needs_of_seen(
     ensures { IfOk result (λ needs. needs.items
         ≡ map (right_need_of (plan_seen plan.now) (join_seen join))
         (filter (meets_left (plan_seen plan.now))
-        (map (seen_line plan.now.query.now.sides.left.schema.now plan.now.left_need.columns)
+        (map (seen_row_view plan.now.query.now.bound_sources.left.schema.now
+        plan.now.left_need.columns)
         seen.now))) }
 {
     let lefts = lefts_of(alloc, plan, seen)?;

@@ -2,13 +2,13 @@
 ghost use Rattle.std.specs.Prelude.{◌≡◌, ◌++◌, [], ◌∷◌, map, OnOk};
 ghost use Rattle.vo_spec.specs.Results.{schema_at};
 ghost use Rattle.mb_tree.specs.View.{part_of};
-ghost use Rattle.query_binding.specs.Sided.{sides_seen};
+ghost use Rattle.query_binding.specs.Sided.{bound_sources_seen};
 ghost use Rattle.query_plan.specs.BoundViews.{join_seen};
 ghost use Rattle.query_plan.specs.PlanViews.{plan_seen};
-ghost use Rattle.plan_run.specs.Lines.{line_seen};
+ghost use Rattle.plan_run.specs.RowViews.{row_view_seen};
 ghost use Rattle.plan_run.specs.Running.{ShowsPairs, AddsPairs};
 
-use crate::lines::{SeenLine, lines_of};
+use crate::row_views::{SeenRowView, row_views_of};
 use crate::shown::Shown;
 use mb_tree::PartTree;
 use query_plan::{BoundJoin, Plan, push_pairs, right_need};
@@ -30,17 +30,17 @@ fn push_left(
     join: BoundJoin,
     schema: &Schema,
     tree: &PartTree<'_>,
-    left: &SeenLine<'_>,
+    left: &SeenRowView<'_>,
     shown: &mut Shown,
 ) -> Result<(), ScanFault>
-    requires { schema.now ≡ schema_at (sides_seen plan.now.query.now.sides) 1 }
+    requires { schema.now ≡ schema_at (bound_sources_seen plan.now.query.now.bound_sources) 1 }
     ensures { AddsPairs result shown.old shown.new (plan_seen plan.now) (join_seen join)
-        (line_seen left.now) (part_of tree.now) }
+        (row_view_seen left.now) (part_of tree.now) }
 {
     let need = right_need(alloc, plan, join, left)?;
     match scan(alloc, tree, &need) {
         Ok(seen) => {
-            let rights = lines_of(alloc, schema, plan.right_cells.as_slice(), seen.as_slice())?;
+            let rights = row_views_of(alloc, schema, plan.right_cells.as_slice(), seen.as_slice())?;
             push_pairs(
                 alloc,
                 plan.query,
@@ -63,10 +63,10 @@ pub(crate) fn show_pairs(
     join: BoundJoin,
     schema: &Schema,
     tree: &PartTree<'_>,
-    lefts: &[SeenLine<'_>],
+    lefts: &[SeenRowView<'_>],
 ) -> Result<Shown, ScanFault>
-    requires { schema.now ≡ schema_at (sides_seen plan.now.query.now.sides) 1 }
-    ensures { ShowsPairs result (plan_seen plan.now) (join_seen join) (map line_seen lefts.now)
+    requires { schema.now ≡ schema_at (bound_sources_seen plan.now.query.now.bound_sources) 1 }
+    ensures { ShowsPairs result (plan_seen plan.now) (join_seen join) (map row_view_seen lefts.now)
         (part_of tree.now) }
 {
     let mut shown = Shown {

@@ -1,11 +1,11 @@
 //! What a run gives: the answer's rows, and the needs of each tree.
 ghost use Rattle.std.specs.Prelude.{◌≡◌, IfOk};
-ghost use Rattle.query_binding.specs.Sided.{sides_seen};
+ghost use Rattle.query_binding.specs.Sided.{bound_sources_seen};
 ghost use Rattle.query_plan.specs.PlanViews.{plan_seen};
 ghost use Rattle.plan_run.specs.Running.{RanOf, group_needs};
 
 use crate::shown::Shown;
-use query_plan::{Plan, Sides, copy_need, has_one_tree};
+use query_plan::{BoundSources, Plan, copy_need, has_one_tree};
 use std::alloc::{AllocError, Global};
 use vo_spec::{List, Need, ScanFault, Value};
 
@@ -21,16 +21,17 @@ pub struct Ran {
 /// The needs of each tree: of a table joined with itself, both in one.
 fn group_needs(
     alloc: Global,
-    sides: &Sides<'_>,
+    bound_sources: &BoundSources<'_>,
     left: Need,
     mut rights: Vec<Need>,
 ) -> Result<List<List<Need>>, AllocError>
-    ensures { IfOk result (λ needs. needs ≡ group_needs (sides_seen sides.now) left rights.items) }
+    ensures { IfOk result (λ needs. needs
+        ≡ group_needs (bound_sources_seen bound_sources.now) left rights.items) }
 {
     let mut groups = Vec::new(alloc);
     let mut first = Vec::new(alloc);
     first.push(left)?;
-    if has_one_tree(sides) {
+    if has_one_tree(bound_sources) {
         first.append(&mut rights)?;
         groups.push(List::from_vec(first))?;
     } else {
@@ -48,6 +49,6 @@ pub(crate) fn ran_of(alloc: Global, plan: &Plan<'_, '_>, shown: Shown) -> Result
     let left = copy_need(alloc, &plan.left_need)?;
     Ok(Ran {
         rows: List::from_vec(rows),
-        needs: group_needs(alloc, &plan.query.sides, left, needs)?,
+        needs: group_needs(alloc, &plan.query.bound_sources, left, needs)?,
     })
 }

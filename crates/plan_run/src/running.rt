@@ -1,8 +1,8 @@
 //! A plan run over the trees of a reply.
 ghost use Rattle.std.specs.Prelude.{◌≡◌, length, map, filter};
-ghost use Rattle.vo_spec.specs.Needs.{tables_used, seen_line, right_tree};
+ghost use Rattle.vo_spec.specs.Needs.{tables_used, seen_row_view, right_tree};
 ghost use Rattle.mb_tree.specs.View.{part_of};
-ghost use Rattle.query_binding.specs.Sided.{sides_seen};
+ghost use Rattle.query_binding.specs.Sided.{bound_sources_seen};
 ghost use Rattle.query_plan.specs.Plans.{meets_left};
 ghost use Rattle.query_plan.specs.PlanViews.{plan_seen};
 ghost use Rattle.plan_run.specs.Running.{Shows, Runs};
@@ -24,12 +24,14 @@ fn show_seen(
     trees: &[PartTree<'_>],
     seen: &[SeenRow],
 ) -> Result<Shown, ScanFault>
-    requires { length trees.now ≡ length (tables_used (sides_seen plan.now.query.now.sides)) }
+    requires { length trees.now ≡ length
+        (tables_used (bound_sources_seen plan.now.query.now.bound_sources)) }
     ensures { Shows result (plan_seen plan.now)
         (filter (meets_left (plan_seen plan.now))
-        (map (seen_line plan.now.query.now.sides.left.schema.now plan.now.left_need.columns)
+        (map (seen_row_view plan.now.query.now.bound_sources.left.schema.now
+        plan.now.left_need.columns)
         seen.now))
-        (right_tree (sides_seen plan.now.query.now.sides) (map part_of trees.now)) }
+        (right_tree (bound_sources_seen plan.now.query.now.bound_sources) (map part_of trees.now)) }
 {
     let lefts = lefts_of(alloc, plan, seen)?;
     show(alloc, plan, trees, &lefts)
@@ -42,7 +44,8 @@ pub fn run_plan(
     plan: &Plan<'_, '_>,
     trees: &[PartTree<'_>],
 ) -> Result<Ran, ScanFault>
-    requires { length trees.now ≡ length (tables_used (sides_seen plan.now.query.now.sides)) }
+    requires { length trees.now ≡ length
+        (tables_used (bound_sources_seen plan.now.query.now.bound_sources)) }
     ensures { Runs result (plan_seen plan.now) (map part_of trees.now) }
 {
     let seen = match scan(alloc, &trees[0], &plan.left_need) {

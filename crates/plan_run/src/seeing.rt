@@ -1,11 +1,11 @@
 //! The left rows that meet the left condition.
 ghost use Rattle.std.specs.Prelude.{◌≡◌, filter, map, IfOk};
-ghost use Rattle.vo_spec.specs.Needs.{seen_line};
+ghost use Rattle.vo_spec.specs.Needs.{seen_row_view};
 ghost use Rattle.query_plan.specs.Plans.{meets_left};
 ghost use Rattle.query_plan.specs.PlanViews.{plan_seen};
-ghost use Rattle.plan_run.specs.Lines.{line_seen};
+ghost use Rattle.plan_run.specs.RowViews.{row_view_seen};
 
-use crate::lines::SeenLine;
+use crate::row_views::SeenRowView;
 use query_plan::{Plan, meets_left};
 use std::alloc::{AllocError, Global};
 use vo_spec::SeenRow;
@@ -15,18 +15,19 @@ pub fn lefts_of<'r>(
     alloc: Global,
     plan: &'r Plan<'_, '_>,
     seen: &'r [SeenRow],
-) -> Result<Vec<SeenLine<'r>>, AllocError>
-    ensures { IfOk result (λ lefts. map line_seen lefts.items
+) -> Result<Vec<SeenRowView<'r>>, AllocError>
+    ensures { IfOk result (λ lefts. map row_view_seen lefts.items
         ≡ filter (meets_left (plan_seen plan.now))
-        (map (seen_line plan.now.query.now.sides.left.schema.now plan.now.left_need.columns)
+        (map (seen_row_view plan.now.query.now.bound_sources.left.schema.now
+        plan.now.left_need.columns)
         seen.now)) }
 {
     let query = plan.query;
-    let schema = query.sides.left.schema;
+    let schema = query.bound_sources.left.schema;
     let cells = plan.left_need.columns.as_slice();
     let mut lefts = Vec::new(alloc);
     for row in seen {
-        let left = SeenLine { schema, cells, row };
+        let left = SeenRowView { schema, cells, row };
         if meets_left(plan, &left) {
             lefts.push(left)?;
         }

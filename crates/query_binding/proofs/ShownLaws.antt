@@ -10,11 +10,11 @@ numbers_more first (suc n) =
     let e : (first + 1) + n ≡ first + suc n = omega arith in
     ap (λ (ms : List ℕ). first ∷ ms) (numbers_more (first + 1) n ∙ ap (λ (m : ℕ). numbers_from (first + 1) n ++ m ∷ []) e)
 
-pub places_more : (side n : ℕ) → places_until side (n + 1) ≡ places_until side n ++ column_of side n ∷ []
-places_more side n =
+pub places_more : (bound_source n : ℕ) → places_until bound_source (n + 1) ≡ places_until bound_source n ++ column_of bound_source n ∷ []
+places_more bound_source n =
     let e : n + 1 ≡ suc n = omega arith in
     let z : 0 + n ≡ n = omega arith in
-    ap (places_until side) e
-    ∙ ap (map (column_of side)) (numbers_more 0 n)
-    ∙ map-append (column_of side) (numbers_from 0 n) ((0 + n) ∷ [])
-    ∙ ap (λ (m : ℕ). places_until side n ++ column_of side m ∷ []) z
+    ap (places_until bound_source) e
+    ∙ ap (map (column_of bound_source)) (numbers_more 0 n)
+    ∙ map-append (column_of bound_source) (numbers_from 0 n) ((0 + n) ∷ [])
+    ∙ ap (λ (m : ℕ). places_until bound_source n ++ column_of bound_source m ∷ []) z

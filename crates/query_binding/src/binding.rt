@@ -2,30 +2,30 @@
 ghost use Rattle.std.specs.Prelude.{◌≡◌, [], ◌∷◌, map, IfOk};
 ghost use Rattle.vo_spec.specs.Firsts.{first_some};
 ghost use Rattle.vo_spec.specs.Conditions.{query_of};
-ghost use Rattle.vo_spec.specs.Results.{sources, side_of, sides, missing_table, same_alias, ref_fault, query_refs, binding_fault};
-ghost use Rattle.query_binding.specs.Sided.{side_seen, sides_seen};
-ghost use Rattle.query_binding.specs.Binding.{Passes, shown_refs, kind_tests, name_tests};
+ghost use Rattle.vo_spec.specs.Results.{sources, bound_source_of, bound_sources, missing_table, same_alias, ref_fault, query_refs, binding_fault};
+ghost use Rattle.query_binding.specs.Sided.{bound_source_seen, bound_sources_seen};
+ghost use Rattle.query_binding.specs.Binding.{PassesBinding, shown_refs, kind_tests, name_tests};
 
 use crate::bind_fault::BindFault;
+use crate::bound_sources::{BoundSource, BoundSources};
 use crate::comparisons::test_comparisons;
 use crate::joins::test_join;
 use crate::references::{test_condition_refs, test_items, test_join_refs};
 use crate::schemas::Schemas;
-use crate::sides::{Side, Sides};
 use std::alloc::Global;
 use vo_spec::{QueryFault, QueryText, Ref, Source};
 
-fn find_side<'q, S: Schemas>(
+fn find_bound_source<'q, S: Schemas>(
     alloc: Global,
     schemas: &'q S,
     source: &'q Source,
-) -> Result<Side<'q>, BindFault>
-    ensures value { IfOk result (λ side. side_seen side
-        ≡ side_of (S.headings schemas.now) source.now) }
-    ensures fault { Passes result (missing_table (S.headings schemas.now) source.now) }
+) -> Result<BoundSource<'q>, BindFault>
+    ensures value { IfOk result (λ bound_source. bound_source_seen bound_source
+        ≡ bound_source_of (S.table_headers schemas.now) source.now) }
+    ensures fault { PassesBinding result (missing_table (S.table_headers schemas.now) source.now) }
 {
     match schemas.schema(source.table.as_bytes()) {
-        Some(schema) => Ok(Side {
+        Some(schema) => Ok(BoundSource {
             alias: &source.alias,
             table: &source.table,
             schema,
@@ -37,24 +37,24 @@ fn find_side<'q, S: Schemas>(
     }
 }
 
-fn find_sides<'q, S: Schemas>(
+fn find_bound_sources<'q, S: Schemas>(
     alloc: Global,
     schemas: &'q S,
     query: &'q QueryText,
-) -> Result<Sides<'q>, BindFault>
-    ensures value { IfOk result (λ found. sides_seen found
-        ≡ sides (S.headings schemas.now) (query_of query.now)) }
-    ensures fault { Passes result (first_some
-        (map (missing_table (S.headings schemas.now)) (sources (query_of query.now)))) }
+) -> Result<BoundSources<'q>, BindFault>
+    ensures value { IfOk result (λ found. bound_sources_seen found
+        ≡ bound_sources (S.table_headers schemas.now) (query_of query.now)) }
+    ensures fault { PassesBinding result (first_some
+        (map (missing_table (S.table_headers schemas.now)) (sources (query_of query.now)))) }
 {
-    let left = match find_side(alloc, schemas, &query.left) {
-        Ok(side) => side,
+    let left = match find_bound_source(alloc, schemas, &query.left) {
+        Ok(bound_source) => bound_source,
         Err(fault) => return Err(fault),
     };
     match &query.join {
-        None => Ok(Sides { left, right: None }),
-        Some(join) => match find_side(alloc, schemas, &join.right) {
-            Ok(right) => Ok(Sides {
+        None => Ok(BoundSources { left, right: None }),
+        Some(join) => match find_bound_source(alloc, schemas, &join.right) {
+            Ok(right) => Ok(BoundSources {
                 left,
                 right: Some(right),
             }),
@@ -64,7 +64,7 @@ fn find_sides<'q, S: Schemas>(
 }
 
 fn test_alias(alloc: Global, query: &QueryText) -> Result<(), BindFault>
-    ensures { Passes result (same_alias (sources (query_of query.now))) }
+    ensures { PassesBinding result (same_alias (sources (query_of query.now))) }
 {
     match &query.join {
         Some(join) if query.left.alias.as_bytes() == join.right.alias.as_bytes() => {
@@ -79,51 +79,71 @@ fn test_alias(alloc: Global, query: &QueryText) -> Result<(), BindFault>
 }
 
 /// Tests the references of the items and of ON.
-fn test_shown_refs(alloc: Global, sides: &Sides<'_>, query: &QueryText) -> Result<(), BindFault>
-    ensures { Passes result (first_some
-        (map (ref_fault (sides_seen sides.now)) (shown_refs (query_of query.now)))) }
+fn test_shown_refs(
+    alloc: Global,
+    bound_sources: &BoundSources<'_>,
+    query: &QueryText,
+) -> Result<(), BindFault>
+    ensures { PassesBinding result (first_some
+        (map (ref_fault (bound_sources_seen bound_sources.now))
+        (shown_refs (query_of query.now)))) }
 {
-    match test_items(alloc, sides, &query.items) {
-        Ok(()) => test_join_refs(alloc, sides, &query.join),
+    match test_items(alloc, bound_sources, &query.items) {
+        Ok(()) => test_join_refs(alloc, bound_sources, &query.join),
         Err(fault) => Err(fault),
     }
 }
 
-fn test_references(alloc: Global, sides: &Sides<'_>, query: &QueryText) -> Result<(), BindFault>
-    ensures { Passes result (first_some
-        (map (ref_fault (sides_seen sides.now)) (query_refs (query_of query.now)))) }
+fn test_references(
+    alloc: Global,
+    bound_sources: &BoundSources<'_>,
+    query: &QueryText,
+) -> Result<(), BindFault>
+    ensures { PassesBinding result (first_some
+        (map (ref_fault (bound_sources_seen bound_sources.now))
+        (query_refs (query_of query.now)))) }
 {
-    match test_shown_refs(alloc, sides, query) {
-        Ok(()) => test_condition_refs(alloc, sides, &query.cond),
+    match test_shown_refs(alloc, bound_sources, query) {
+        Ok(()) => test_condition_refs(alloc, bound_sources, &query.cond),
         Err(fault) => Err(fault),
     }
 }
 
-fn test_kinds(sides: &Sides<'_>, query: &QueryText) -> Result<(), BindFault>
-    ensures { Passes result (first_some (kind_tests (sides_seen sides.now) (query_of query.now))) }
+fn test_kinds(bound_sources: &BoundSources<'_>, query: &QueryText) -> Result<(), BindFault>
+    ensures { PassesBinding result
+        (first_some (kind_tests (bound_sources_seen bound_sources.now) (query_of query.now))) }
 {
-    match test_join(sides, &query.join) {
-        Ok(()) => test_comparisons(sides, &query.cond),
+    match test_join(bound_sources, &query.join) {
+        Ok(()) => test_comparisons(bound_sources, &query.cond),
         Err(fault) => Err(fault),
     }
 }
 
-fn test_names(alloc: Global, sides: &Sides<'_>, query: &QueryText) -> Result<(), BindFault>
-    ensures { Passes result (first_some (name_tests (sides_seen sides.now) (query_of query.now))) }
+fn test_names(
+    alloc: Global,
+    bound_sources: &BoundSources<'_>,
+    query: &QueryText,
+) -> Result<(), BindFault>
+    ensures { PassesBinding result
+        (first_some (name_tests (bound_sources_seen bound_sources.now) (query_of query.now))) }
 {
-    match test_references(alloc, sides, query) {
-        Ok(()) => test_kinds(sides, query),
+    match test_references(alloc, bound_sources, query) {
+        Ok(()) => test_kinds(bound_sources, query),
         Err(fault) => Err(fault),
     }
 }
 
-fn test_sides(alloc: Global, sides: &Sides<'_>, query: &QueryText) -> Result<(), BindFault>
-    ensures { Passes result (first_some
+fn test_bound_sources(
+    alloc: Global,
+    bound_sources: &BoundSources<'_>,
+    query: &QueryText,
+) -> Result<(), BindFault>
+    ensures { PassesBinding result (first_some
         (same_alias (sources (query_of query.now))
-        ∷ name_tests (sides_seen sides.now) (query_of query.now))) }
+        ∷ name_tests (bound_sources_seen bound_sources.now) (query_of query.now))) }
 {
     match test_alias(alloc, query) {
-        Ok(()) => test_names(alloc, sides, query),
+        Ok(()) => test_names(alloc, bound_sources, query),
         Err(fault) => Err(fault),
     }
 }
@@ -133,20 +153,21 @@ pub fn bind_sources<'q, S: Schemas>(
     alloc: Global,
     schemas: &'q S,
     query: &'q QueryText,
-) -> Result<Sides<'q>, BindFault>
+) -> Result<BoundSources<'q>, BindFault>
     // The sources are those of the query.
-    ensures value { IfOk result (λ found. sides_seen found
-        ≡ sides (S.headings schemas.now) (query_of query.now)) }
+    ensures value { IfOk result (λ found. bound_sources_seen found
+        ≡ bound_sources (S.table_headers schemas.now) (query_of query.now)) }
 
     // No test finds a fault, or the fault is the first that they find.
-    ensures fault { Passes result (binding_fault (S.headings schemas.now) (query_of query.now)) }
+    ensures fault { PassesBinding result
+        (binding_fault (S.table_headers schemas.now) (query_of query.now)) }
 {
-    let sides = match find_sides(alloc, schemas, query) {
-        Ok(sides) => sides,
+    let bound_sources = match find_bound_sources(alloc, schemas, query) {
+        Ok(bound_sources) => bound_sources,
         Err(fault) => return Err(fault),
     };
-    match test_sides(alloc, &sides, query) {
-        Ok(()) => Ok(sides),
+    match test_bound_sources(alloc, &bound_sources, query) {
+        Ok(()) => Ok(bound_sources),
         Err(fault) => Err(fault),
     }
 }

@@ -4,33 +4,41 @@ ghost use Rattle.std.specs.Option.{option_map_or};
 ghost use Rattle.vo_spec.specs.Firsts.{first_some};
 ghost use Rattle.vo_spec.specs.Conditions.{condition_of, conditions, comparisons, comparisons_in};
 ghost use Rattle.vo_spec.specs.Results.{ref_kind, operand_kind, kind_fault};
-ghost use Rattle.query_binding.specs.Sided.{sides_seen};
-ghost use Rattle.query_binding.specs.Binding.{Passes};
+ghost use Rattle.query_binding.specs.Sided.{bound_sources_seen};
+ghost use Rattle.query_binding.specs.Binding.{PassesBinding};
 
 use crate::bind_fault::BindFault;
-use crate::sides::Sides;
+use crate::bound_sources::BoundSources;
 use table_list::{kind_of, same_kind};
 use vo_spec::{Cond, Kind, Operand, QueryFault, Ref};
 
-pub(crate) fn ref_kind(sides: &Sides<'_>, reference: &Ref) -> Kind
-    ensures { result ≡ ref_kind (sides_seen sides.now) reference.now }
+pub(crate) fn ref_kind(bound_sources: &BoundSources<'_>, reference: &Ref) -> Kind
+    ensures { result ≡ ref_kind (bound_sources_seen bound_sources.now) reference.now }
 {
-    sides.kind_at(sides.place_of(reference))
+    bound_sources.kind_at(bound_sources.place_of(reference))
 }
 
-fn operand_kind(sides: &Sides<'_>, operand: &Operand) -> Kind
-    ensures { result ≡ operand_kind (sides_seen sides.now) operand.now }
+fn operand_kind(bound_sources: &BoundSources<'_>, operand: &Operand) -> Kind
+    ensures { result ≡ operand_kind (bound_sources_seen bound_sources.now) operand.now }
 {
     match operand {
-        Operand::Ref(reference) => ref_kind(sides, reference),
+        Operand::Ref(reference) => ref_kind(bound_sources, reference),
         Operand::Literal(value) => kind_of(value),
     }
 }
 
-fn test_kinds(sides: &Sides<'_>, left: &Ref, right: &Operand) -> Result<(), BindFault>
-    ensures { Passes result (kind_fault (sides_seen sides.now) (left.now, right.now)) }
+fn test_kinds(
+    bound_sources: &BoundSources<'_>,
+    left: &Ref,
+    right: &Operand,
+) -> Result<(), BindFault>
+    ensures { PassesBinding result
+        (kind_fault (bound_sources_seen bound_sources.now) (left.now, right.now)) }
 {
-    if same_kind(ref_kind(sides, left), operand_kind(sides, right)) {
+    if same_kind(
+        ref_kind(bound_sources, left),
+        operand_kind(bound_sources, right),
+    ) {
         Ok(())
     } else {
         Err(BindFault::Wrong(QueryFault::TypeMismatch))
@@ -39,26 +47,27 @@ fn test_kinds(sides: &Sides<'_>, left: &Ref, right: &Operand) -> Result<(), Bind
 
 /// Tests the comparisons of a condition in the order of its text.
 #[cycle(condition_kinds)]
-fn test_condition(sides: &Sides<'_>, cond: &Cond) -> Result<(), BindFault>
-    ensures { Passes result (first_some
-        (map (kind_fault (sides_seen sides.now)) (comparisons (condition_of cond.now)))) }
+fn test_condition(bound_sources: &BoundSources<'_>, cond: &Cond) -> Result<(), BindFault>
+    ensures { PassesBinding result (first_some
+        (map (kind_fault (bound_sources_seen bound_sources.now))
+        (comparisons (condition_of cond.now)))) }
 {
     match cond {
-        Cond::All(parts) => test_parts(sides, parts.as_slice()),
-        Cond::Any(parts) => test_parts(sides, parts.as_slice()),
-        Cond::Not(part) => test_condition(sides, part),
-        Cond::Test { left, right, .. } => test_kinds(sides, left, right),
+        Cond::All(parts) => test_parts(bound_sources, parts.as_slice()),
+        Cond::Any(parts) => test_parts(bound_sources, parts.as_slice()),
+        Cond::Not(part) => test_condition(bound_sources, part),
+        Cond::Test { left, right, .. } => test_kinds(bound_sources, left, right),
     }
 }
 
 #[cycle(condition_kinds)]
-fn test_parts(sides: &Sides<'_>, parts: &[Cond]) -> Result<(), BindFault>
-    ensures { Passes result (first_some
-        (map (kind_fault (sides_seen sides.now))
+fn test_parts(bound_sources: &BoundSources<'_>, parts: &[Cond]) -> Result<(), BindFault>
+    ensures { PassesBinding result (first_some
+        (map (kind_fault (bound_sources_seen bound_sources.now))
         (comparisons_in (conditions (map condition_of parts.now))))) }
 {
     for part in parts {
-        match test_condition(sides, part) {
+        match test_condition(bound_sources, part) {
             Ok(()) => {}
             Err(fault) => return Err(fault),
         }
@@ -66,13 +75,16 @@ fn test_parts(sides: &Sides<'_>, parts: &[Cond]) -> Result<(), BindFault>
     Ok(())
 }
 
-pub(crate) fn test_comparisons(sides: &Sides<'_>, cond: &Option<Cond>) -> Result<(), BindFault>
-    ensures { Passes result (first_some
-        (map (kind_fault (sides_seen sides.now))
+pub(crate) fn test_comparisons(
+    bound_sources: &BoundSources<'_>,
+    cond: &Option<Cond>,
+) -> Result<(), BindFault>
+    ensures { PassesBinding result (first_some
+        (map (kind_fault (bound_sources_seen bound_sources.now))
         (option_map_or comparisons (option_map condition_of cond.now) []))) }
 {
     match cond {
         None => Ok(()),
-        Some(cond) => test_condition(sides, cond),
+        Some(cond) => test_condition(bound_sources, cond),
     }
 }

@@ -1,11 +1,11 @@
 //! The titles of the columns that a query shows.
 ghost use Rattle.std.specs.Prelude.{◌≡◌, map, length, IfOk};
 ghost use Rattle.vo_spec.specs.Tables.{column_at};
-ghost use Rattle.vo_spec.specs.Results.{header, dotted, ref_title, place_title, schema_at, side_at};
-ghost use Rattle.query_binding.specs.Sided.{sides_seen, place_seen};
+ghost use Rattle.vo_spec.specs.Results.{header, dotted, ref_title, place_title, schema_at, bound_source_at};
+ghost use Rattle.query_binding.specs.Sided.{bound_sources_seen, place_seen};
 
+use crate::bound_sources::{BoundSources, ColumnPlace};
 use crate::shown::shown_places;
-use crate::sides::{Place, Sides};
 use std::alloc::{AllocError, Global};
 use table_list::name_at as column_name;
 use vo_spec::{Items, List, Ref, Text};
@@ -37,46 +37,53 @@ fn ref_title(alloc: Global, reference: &Ref) -> Result<Text, AllocError>
 }
 
 /// The name of the column at the place, past all columns nothing.
-fn name_at<'q>(sides: &Sides<'q>, place: Place) -> &'q [u8]
+fn name_at<'q>(bound_sources: &BoundSources<'q>, place: ColumnPlace) -> &'q [u8]
     ensures { result.now ≡ (column_at
-        (schema_at (sides_seen sides.now) place.side).columns place.column).name }
+        (schema_at (bound_sources_seen bound_sources.now) place.bound_source).columns
+        place.column).name }
 {
-    match sides.schema_at(place.side) {
+    match bound_sources.schema_at(place.bound_source) {
         Some(schema) => column_name(schema.columns.as_slice(), place.column),
         None => &[],
     }
 }
 
-fn alias_at<'q>(sides: &Sides<'q>, side: usize) -> &'q [u8]
-    ensures { result.now ≡ (side_at (sides_seen sides.now) side).alias }
+fn alias_at<'q>(bound_sources: &BoundSources<'q>, bound_source: usize) -> &'q [u8]
+    ensures { result.now ≡ (bound_source_at (bound_sources_seen bound_sources.now)
+        bound_source).alias }
 {
-    match sides.side_at(side) {
+    match bound_sources.bound_source_at(bound_source) {
         Some(found) => found.alias.as_bytes(),
         None => &[],
     }
 }
 
-fn place_title(alloc: Global, sides: &Sides<'_>, place: Place) -> Result<Text, AllocError>
-    ensures { IfOk result (λ title. title ≡ place_title (sides_seen sides.now) (place_seen place)) }
+fn place_title(
+    alloc: Global,
+    bound_sources: &BoundSources<'_>,
+    place: ColumnPlace,
+) -> Result<Text, AllocError>
+    ensures { IfOk result (λ title. title
+        ≡ place_title (bound_sources_seen bound_sources.now) (place_seen place)) }
 {
-    let name = name_at(sides, place);
-    match sides.right {
+    let name = name_at(bound_sources, place);
+    match bound_sources.right {
         None => text_of(alloc, name),
-        Some(_) => dotted(alloc, alias_at(sides, place.side), name),
+        Some(_) => dotted(alloc, alias_at(bound_sources, place.bound_source), name),
     }
 }
 
 fn place_titles(
     alloc: Global,
-    sides: &Sides<'_>,
-    places: &[Place],
+    bound_sources: &BoundSources<'_>,
+    places: &[ColumnPlace],
 ) -> Result<List<Text>, AllocError>
     ensures { IfOk result (λ titles. titles
-        ≡ map (place_title (sides_seen sides.now)) (map place_seen places.now)) }
+        ≡ map (place_title (bound_sources_seen bound_sources.now)) (map place_seen places.now)) }
 {
     let mut titles = Vec::with_capacity(alloc, places.len())?;
     for place in places {
-        titles.push(place_title(alloc, sides, *place)?)?;
+        titles.push(place_title(alloc, bound_sources, *place)?)?;
     }
     Ok(List::from_vec(titles))
 }
@@ -92,13 +99,18 @@ fn ref_titles(alloc: Global, references: &[Ref]) -> Result<List<Text>, AllocErro
 }
 
 /// The titles of the columns that the query shows.
-pub fn header(alloc: Global, sides: &Sides<'_>, items: &Items) -> Result<List<Text>, AllocError>
-    ensures { IfOk result (λ titles. titles ≡ header (sides_seen sides.now) items.now) }
+pub fn header(
+    alloc: Global,
+    bound_sources: &BoundSources<'_>,
+    items: &Items,
+) -> Result<List<Text>, AllocError>
+    ensures { IfOk result (λ titles. titles
+        ≡ header (bound_sources_seen bound_sources.now) items.now) }
 {
     match items {
         Items::All => {
-            let places = shown_places(alloc, sides, items)?;
-            place_titles(alloc, sides, places.as_slice())
+            let places = shown_places(alloc, bound_sources, items)?;
+            place_titles(alloc, bound_sources, places.as_slice())
         }
         Items::Refs(references) => ref_titles(alloc, references.as_slice()),
     }

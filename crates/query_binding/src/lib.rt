@@ -3,6 +3,7 @@
 
 mod bind_fault;
 mod binding;
+mod bound_sources;
 mod catalogs;
 mod comparisons;
 mod headers;
@@ -10,11 +11,10 @@ mod joins;
 mod references;
 mod schemas;
 mod shown;
-mod sides;
 
 pub use bind_fault::BindFault;
 pub use binding::bind_sources;
+pub use bound_sources::{BoundSource, BoundSources, ColumnPlace};
 pub use headers::header;
 pub use schemas::Schemas;
 pub use shown::shown_places;
-pub use sides::{Place, Side, Sides};

@@ -4,11 +4,11 @@ ghost use Rattle.std.specs.Option.{option_map_or};
 ghost use Rattle.vo_spec.specs.Firsts.{first_some};
 ghost use Rattle.vo_spec.specs.Conditions.{condition_of, conditions, condition_refs, conditions_refs, operand_refs};
 ghost use Rattle.vo_spec.specs.Results.{ref_fault, qualifier_of, item_refs, join_refs};
-ghost use Rattle.query_binding.specs.Sided.{sides_seen};
-ghost use Rattle.query_binding.specs.Binding.{Passes};
+ghost use Rattle.query_binding.specs.Sided.{bound_sources_seen};
+ghost use Rattle.query_binding.specs.Binding.{PassesBinding};
 
 use crate::bind_fault::BindFault;
-use crate::sides::Sides;
+use crate::bound_sources::BoundSources;
 use std::alloc::{AllocError, Global};
 use vo_spec::{Cond, Items, Join, Name, Operand, QueryFault, Ref};
 
@@ -34,29 +34,39 @@ fn qualifier_of(alloc: Global, reference: &Ref) -> Result<Name, AllocError>
     }
 }
 
-pub(crate) fn test_ref(alloc: Global, sides: &Sides<'_>, reference: &Ref) -> Result<(), BindFault>
-    ensures { Passes result (ref_fault (sides_seen sides.now) reference.now) }
+pub(crate) fn test_ref(
+    alloc: Global,
+    bound_sources: &BoundSources<'_>,
+    reference: &Ref,
+) -> Result<(), BindFault>
+    ensures { PassesBinding result
+        (ref_fault (bound_sources_seen bound_sources.now) reference.now) }
 {
-    if !sides.speak_of(reference) {
+    if !bound_sources.qualify(reference) {
         let fault = QueryFault::NoTable(qualifier_of(alloc, reference)?);
         return Err(BindFault::Wrong(fault));
     }
-    if !sides.mean_column_of(reference) {
+    if !bound_sources.mean_column_of(reference) {
         let fault = QueryFault::NoColumn(copy_ref(alloc, reference)?);
         return Err(BindFault::Wrong(fault));
     }
-    if sides.are_ambiguous(reference) {
+    if bound_sources.are_ambiguous(reference) {
         let fault = QueryFault::Ambiguous(copy_ref(alloc, reference)?);
         return Err(BindFault::Wrong(fault));
     }
     Ok(())
 }
 
-fn test_refs(alloc: Global, sides: &Sides<'_>, references: &[Ref]) -> Result<(), BindFault>
-    ensures { Passes result (first_some (map (ref_fault (sides_seen sides.now)) references.now)) }
+fn test_refs(
+    alloc: Global,
+    bound_sources: &BoundSources<'_>,
+    references: &[Ref],
+) -> Result<(), BindFault>
+    ensures { PassesBinding result
+        (first_some (map (ref_fault (bound_sources_seen bound_sources.now)) references.now)) }
 {
     for reference in references {
-        match test_ref(alloc, sides, reference) {
+        match test_ref(alloc, bound_sources, reference) {
             Ok(()) => {}
             Err(fault) => return Err(fault),
         }
@@ -64,81 +74,99 @@ fn test_refs(alloc: Global, sides: &Sides<'_>, references: &[Ref]) -> Result<(),
     Ok(())
 }
 
-pub(crate) fn test_items(alloc: Global, sides: &Sides<'_>, items: &Items) -> Result<(), BindFault>
-    ensures { Passes result (first_some
-        (map (ref_fault (sides_seen sides.now)) (item_refs items.now))) }
+pub(crate) fn test_items(
+    alloc: Global,
+    bound_sources: &BoundSources<'_>,
+    items: &Items,
+) -> Result<(), BindFault>
+    ensures { PassesBinding result (first_some
+        (map (ref_fault (bound_sources_seen bound_sources.now)) (item_refs items.now))) }
 {
     match items {
         Items::All => Ok(()),
-        Items::Refs(references) => test_refs(alloc, sides, references.as_slice()),
+        Items::Refs(references) => test_refs(alloc, bound_sources, references.as_slice()),
     }
 }
 
 pub(crate) fn test_join_refs(
     alloc: Global,
-    sides: &Sides<'_>,
+    bound_sources: &BoundSources<'_>,
     join: &Option<Join>,
 ) -> Result<(), BindFault>
-    ensures { Passes result (first_some
-        (map (ref_fault (sides_seen sides.now)) (option_map_or join_refs join.now []))) }
+    ensures { PassesBinding result (first_some
+        (map (ref_fault (bound_sources_seen bound_sources.now))
+        (option_map_or join_refs join.now []))) }
 {
     match join {
         None => Ok(()),
-        Some(join) => match test_ref(alloc, sides, &join.left_ref) {
-            Ok(()) => test_ref(alloc, sides, &join.right_ref),
+        Some(join) => match test_ref(alloc, bound_sources, &join.left_ref) {
+            Ok(()) => test_ref(alloc, bound_sources, &join.right_ref),
             Err(fault) => Err(fault),
         },
     }
 }
 
-fn test_operand(alloc: Global, sides: &Sides<'_>, operand: &Operand) -> Result<(), BindFault>
-    ensures { Passes result (first_some
-        (map (ref_fault (sides_seen sides.now)) (operand_refs operand.now))) }
+fn test_operand(
+    alloc: Global,
+    bound_sources: &BoundSources<'_>,
+    operand: &Operand,
+) -> Result<(), BindFault>
+    ensures { PassesBinding result (first_some
+        (map (ref_fault (bound_sources_seen bound_sources.now)) (operand_refs operand.now))) }
 {
     match operand {
-        Operand::Ref(reference) => test_ref(alloc, sides, reference),
+        Operand::Ref(reference) => test_ref(alloc, bound_sources, reference),
         Operand::Literal(_) => Ok(()),
     }
 }
 
 fn test_compared(
     alloc: Global,
-    sides: &Sides<'_>,
+    bound_sources: &BoundSources<'_>,
     left: &Ref,
     right: &Operand,
 ) -> Result<(), BindFault>
-    ensures { Passes result (first_some
-        (ref_fault (sides_seen sides.now) left.now
-        ∷ map (ref_fault (sides_seen sides.now)) (operand_refs right.now))) }
+    ensures { PassesBinding result (first_some
+        (ref_fault (bound_sources_seen bound_sources.now) left.now
+        ∷ map (ref_fault (bound_sources_seen bound_sources.now)) (operand_refs right.now))) }
 {
-    match test_ref(alloc, sides, left) {
-        Ok(()) => test_operand(alloc, sides, right),
+    match test_ref(alloc, bound_sources, left) {
+        Ok(()) => test_operand(alloc, bound_sources, right),
         Err(fault) => Err(fault),
     }
 }
 
 /// Tests the references of a condition in the order of its text.
 #[cycle(condition_references)]
-fn test_condition(alloc: Global, sides: &Sides<'_>, cond: &Cond) -> Result<(), BindFault>
-    ensures { Passes result (first_some
-        (map (ref_fault (sides_seen sides.now)) (condition_refs (condition_of cond.now)))) }
+fn test_condition(
+    alloc: Global,
+    bound_sources: &BoundSources<'_>,
+    cond: &Cond,
+) -> Result<(), BindFault>
+    ensures { PassesBinding result (first_some
+        (map (ref_fault (bound_sources_seen bound_sources.now))
+        (condition_refs (condition_of cond.now)))) }
 {
     match cond {
-        Cond::All(parts) => test_parts(alloc, sides, parts.as_slice()),
-        Cond::Any(parts) => test_parts(alloc, sides, parts.as_slice()),
-        Cond::Not(part) => test_condition(alloc, sides, part),
-        Cond::Test { left, right, .. } => test_compared(alloc, sides, left, right),
+        Cond::All(parts) => test_parts(alloc, bound_sources, parts.as_slice()),
+        Cond::Any(parts) => test_parts(alloc, bound_sources, parts.as_slice()),
+        Cond::Not(part) => test_condition(alloc, bound_sources, part),
+        Cond::Test { left, right, .. } => test_compared(alloc, bound_sources, left, right),
     }
 }
 
 #[cycle(condition_references)]
-fn test_parts(alloc: Global, sides: &Sides<'_>, parts: &[Cond]) -> Result<(), BindFault>
-    ensures { Passes result (first_some
-        (map (ref_fault (sides_seen sides.now))
+fn test_parts(
+    alloc: Global,
+    bound_sources: &BoundSources<'_>,
+    parts: &[Cond],
+) -> Result<(), BindFault>
+    ensures { PassesBinding result (first_some
+        (map (ref_fault (bound_sources_seen bound_sources.now))
         (conditions_refs (conditions (map condition_of parts.now))))) }
 {
     for part in parts {
-        match test_condition(alloc, sides, part) {
+        match test_condition(alloc, bound_sources, part) {
             Ok(()) => {}
             Err(fault) => return Err(fault),
         }
@@ -148,15 +176,15 @@ fn test_parts(alloc: Global, sides: &Sides<'_>, parts: &[Cond]) -> Result<(), Bi
 
 pub(crate) fn test_condition_refs(
     alloc: Global,
-    sides: &Sides<'_>,
+    bound_sources: &BoundSources<'_>,
     cond: &Option<Cond>,
 ) -> Result<(), BindFault>
-    ensures { Passes result (first_some
-        (map (ref_fault (sides_seen sides.now))
+    ensures { PassesBinding result (first_some
+        (map (ref_fault (bound_sources_seen bound_sources.now))
         (option_map_or condition_refs (option_map condition_of cond.now) []))) }
 {
     match cond {
         None => Ok(()),
-        Some(cond) => test_condition(alloc, sides, cond),
+        Some(cond) => test_condition(alloc, bound_sources, cond),
     }
 }

@@ -9,7 +9,7 @@ use Rattle.vo_spec.specs.declared.queries.Ref.{Ref}
 use Rattle.vo_spec.specs.declared.queries.Join.{Join}
 use Rattle.vo_spec.specs.declared.tables.Table.{Table}
 use Rattle.vo_spec.specs.Conditions.{Condition, condition_refs, is_met, Query}
-use Rattle.vo_spec.specs.Results.{Side, place_of, shown_places, Line, no_line, place_value, ref_value, is_joined, answer_rows, lines_at}
+use Rattle.vo_spec.specs.Results.{BoundSource, place_of, shown_places, RowView, no_row_view, place_value, ref_value, is_joined, answer_rows, row_views_at}
 use Rattle.vo_spec.specs.Needs.{left_truth, meets_left as meets_by_names}
 use Rattle.vo_laws.proofs.ListLaws.{each_from, flat_map_kept}
 use Rattle.vo_laws.proofs.ConditionLaws.{SameLeft, same_left}
@@ -25,14 +25,14 @@ flat_same f g e [] = refl
 flat_same f g e (x ∷ xs) = rw (e x, flat_same f g e xs) refl
 
 -- a row further among those that meet a test
-pub filter_at : {A : Type 0} (test : Line → Bool) (g : A → Line) (xs : List A) (i : ℕ) (x : A) → i < length xs → x ≡ get_or xs i x
+pub filter_at : {A : Type 0} (test : RowView → Bool) (g : A → RowView) (xs : List A) (i : ℕ) (x : A) → i < length xs → x ≡ get_or xs i x
     → filter test (map g (drop i xs)) ≡ cond (test (g x)) (g x ∷ filter test (map g (drop (i + 1) xs))) (filter test (map g (drop (i + 1) xs)))
 filter_at test g xs i x lt is =
     let first : drop i xs ≡ x ∷ drop (i + 1) xs = drop_more xs i x lt ∙ ap (λ l. l ∷ drop (i + 1) xs) (sym is) in
     ap (λ ls. filter test (map g ls)) first
 
 -- only the right rows of the left rows that are kept matter
-kept_same : {B : Type 0} (test : Line → Bool) (f g : Line → List B) → ((x : Line) → test x ≡ true → f x ≡ g x) → (xs : List Line)
+kept_same : {B : Type 0} (test : RowView → Bool) (f g : RowView → List B) → ((x : RowView) → test x ≡ true → f x ≡ g x) → (xs : List RowView)
     → flat_map f (filter test xs) ≡ flat_map g (filter test xs)
 kept_same test f g e [] = refl
 kept_same {B} test f g e (x ∷ xs) = step (test x) refl (kept_same test f g e xs)
@@ -42,20 +42,20 @@ kept_same {B} test f g e (x ∷ xs) = step (test x) refl (kept_same test f g e x
     step true is rest = ap (λ (ys : List B). ys ++ flat_map f (filter test xs)) (e x is) ∙ ap (λ (ys : List B). g x ++ ys) rest
     step false is rest = rest
 
-module _ (ss : List Side) (q : Query) where
+module _ (ss : List BoundSource) (q : Query) where
   abbrev p : QueryPlan
   p = plan_of (bound_query ss q)
 
   -- left columns have their values in the left row
-  left_alone : (left : Line) (rest : List Line) (rs : List Ref) → AllByRecursion (SameLeft ss (ref_value ss (left ∷ rest)) (ref_value ss (left ∷ []))) rs
+  left_alone : (left : RowView) (rest : List RowView) (rs : List Ref) → AllByRecursion (SameLeft ss (ref_value ss (left ∷ rest)) (ref_value ss (left ∷ []))) rs
   left_alone left rest [] = tt
-  left_alone left rest (r ∷ rs) = ((λ e. at (place_of ss r).side (place_of ss r).column (eqb-true (place_of ss r).side 0 e)), left_alone left rest rs)
+  left_alone left rest (r ∷ rs) = ((λ e. at (place_of ss r).bound_source (place_of ss r).column (eqb-true (place_of ss r).bound_source 0 e)), left_alone left rest rs)
     where
-      at : (side column : ℕ) → side ≡ 0 → slice_index_or (left ∷ rest) side no_line column ≡ slice_index_or (left ∷ []) side no_line column
-      at side column e = rw e refl
+      at : (bound_source column : ℕ) → bound_source ≡ 0 → slice_index_or (left ∷ rest) bound_source no_row_view column ≡ slice_index_or (left ∷ []) bound_source no_row_view column
+      at bound_source column e = rw e refl
 
   -- beside a left row that meets the left condition, the late condition is the whole one
-  late_same : (o : Option Condition) (left : Line) (rest : List Line) → option_map_or (left_truth ss (ref_value ss (left ∷ []))) o true ≡ true
+  late_same : (o : Option Condition) (left : RowView) (rest : List RowView) → option_map_or (left_truth ss (ref_value ss (left ∷ []))) o true ≡ true
       → all_hold (place_value (left ∷ rest)) (option_map_or (conjuncts_where false) (option_map (bound_condition ss) o) []) ≡ is_met (ref_value ss (left ∷ rest)) o
   late_same None left rest met = refl
   late_same (Some c) left rest met =
@@ -65,17 +65,17 @@ module _ (ss : List Side) (q : Query) where
       ap (λ b. b && all_hold (place_value (left ∷ rest)) (conjuncts_where false (bound_condition ss c))) (sym lefts)
       ∙ conjuncts_hold (place_value (left ∷ rest)) (bound_condition ss c) ∙ truth_same ss (place_value (left ∷ rest)) c
 
-  joined_same : (rows : List Line) (j : Option Join) → are_joined (place_value rows) (option_map (bound_join ss) j) ≡ is_joined ss rows j
+  joined_same : (rows : List RowView) (j : Option Join) → are_joined (place_value rows) (option_map (bound_join ss) j) ≡ is_joined ss rows j
   joined_same rows None = refl
   joined_same rows (Some j) = refl
 
-  answer_same : (left : Line) (rest : List Line) → meets_by_names ss q left ≡ true → answer_at p.query p.late (place_value (left ∷ rest)) ≡ answer_of ss q (left ∷ rest)
+  answer_same : (left : RowView) (rest : List RowView) → meets_by_names ss q left ≡ true → answer_at p.query p.late (place_value (left ∷ rest)) ≡ answer_of ss q (left ∷ rest)
   answer_same left rest met =
       ap (λ b. cond b (map (place_value (left ∷ rest)) (shown_places ss q.items) ∷ []) [])
       (ap (λ b. b && all_hold (place_value (left ∷ rest)) p.late) (joined_same (left ∷ rest) q.join)
       ∙ ap (λ b. is_joined ss (left ∷ rest) q.join && b) (late_same q.condition left rest met))
 
-  answers_by : (j : Option Join) (rights others : Line → List Line) (left : Line) → rights left ≡ others left → meets_by_names ss q left ≡ true
+  answers_by : (j : Option Join) (rights others : RowView → List RowView) (left : RowView) → rights left ≡ others left → meets_by_names ss q left ≡ true
       → left_answers p.query p.late (option_map (bound_join ss) j) (rights left) left ≡ answers_of ss q j others left
   answers_by None rights others left same met = answer_same left [] met
   answers_by (Some j) rights others left same met =
@@ -83,19 +83,19 @@ module _ (ss : List Side) (q : Query) where
       ∙ flat_same (λ right. answer_at p.query p.late (place_value (left ∷ right ∷ []))) (λ right. answer_of ss q (left ∷ right ∷ [])) (λ right. answer_same left (right ∷ []) met) (others left)
 
   -- the rows of left rows that meet the left condition
-  pub rows_kept : (lines : List Line) (rights others : Line → List Line) → ((left : Line) → rights left ≡ others left)
-      → plan_rows p (filter (meets_by_names ss q) lines) rights ≡ flat_map (answers_of ss q q.join others) (filter (meets_by_names ss q) lines)
-  rows_kept lines rights others same =
+  pub rows_kept : (row_views : List RowView) (rights others : RowView → List RowView) → ((left : RowView) → rights left ≡ others left)
+      → plan_rows p (filter (meets_by_names ss q) row_views) rights ≡ flat_map (answers_of ss q q.join others) (filter (meets_by_names ss q) row_views)
+  rows_kept row_views rights others same =
       kept_same (meets_by_names ss q) (λ left. left_answers p.query p.late p.query.join (rights left) left) (answers_of ss q q.join others)
-      (λ left met. answers_by q.join rights others left (same left) met) lines
+      (λ left met. answers_by q.join rights others left (same left) met) row_views
 
   -- A plan keeps its query's result: run over the lines of plain tables, it gives the query's rows.
   pub plain_same : (tables : List Table)
-      → plan_rows p (filter (meets_left p) (lines_at tables ss 0)) (λ left. lines_at tables ss 1) ≡ answer_rows ss q (lines_at tables ss 0) (λ left. lines_at tables ss 1)
+      → plan_rows p (filter (meets_left p) (row_views_at tables ss 0)) (λ left. row_views_at tables ss 1) ≡ answer_rows ss q (row_views_at tables ss 0) (λ left. row_views_at tables ss 1)
   plain_same tables =
-      ap (λ ls. plan_rows p ls (λ left. lines_at tables ss 1)) (same_filter (meets_left p) (meets_by_names ss q) (meets_same ss q) (lines_at tables ss 0))
-      ∙ rows_kept (lines_at tables ss 0) (λ left. lines_at tables ss 1) (λ left. lines_at tables ss 1) (λ left. refl)
-      ∙ flat_map_kept (answers_of ss q q.join (λ left. lines_at tables ss 1)) (meets_by_names ss q) (lines_at tables ss 0)
-      (each_from (λ x. meets_by_names ss q x ≡ false → answers_of ss q q.join (λ left. lines_at tables ss 1) x ≡ []) (lines_at tables ss 0)
-      (λ x i e. failing_gives_none ss q x e q.join (λ left. lines_at tables ss 1)))
-      ∙ sym (answer_rows_are ss q (lines_at tables ss 0) (λ left. lines_at tables ss 1))
+      ap (λ ls. plan_rows p ls (λ left. row_views_at tables ss 1)) (same_filter (meets_left p) (meets_by_names ss q) (meets_same ss q) (row_views_at tables ss 0))
+      ∙ rows_kept (row_views_at tables ss 0) (λ left. row_views_at tables ss 1) (λ left. row_views_at tables ss 1) (λ left. refl)
+      ∙ flat_map_kept (answers_of ss q q.join (λ left. row_views_at tables ss 1)) (meets_by_names ss q) (row_views_at tables ss 0)
+      (each_from (λ x. meets_by_names ss q x ≡ false → answers_of ss q q.join (λ left. row_views_at tables ss 1) x ≡ []) (row_views_at tables ss 0)
+      (λ x i e. failing_gives_none ss q x e q.join (λ left. row_views_at tables ss 1)))
+      ∙ sym (answer_rows_are ss q (row_views_at tables ss 0) (λ left. row_views_at tables ss 1))

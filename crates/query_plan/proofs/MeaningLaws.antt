@@ -18,9 +18,9 @@ use Rattle.vo_spec.specs.declared.queries.Join.{Join}
 use Rattle.vo_spec.specs.Values.{value_cmp, key_of}
 use Rattle.vo_spec.specs.Tables.{cell_number}
 use Rattle.vo_spec.specs.Conditions.{Condition, Conditions, every, some, negated, test, none, more, operand_refs, condition_refs, conditions_refs, operand_value, compares, truth, all_true, any_true, Query, is_met}
-use Rattle.vo_spec.specs.Results.{Side, Place, schema_at, place_of, join_places, item_refs, join_refs, numbers_from, shown_places, Line, place_value, ref_value}
-use Rattle.vo_spec.specs.Needs.{all_keys, keys_that, shared, join_value, test_interval, interval_of, interval_of_all, is_left, left_truth, left_truths, is_place, shows_all, is_named_column, named_cells, left_need, right_need, meets_left as meets_by_names}
-use Rattle.query_plan.specs.BoundConditions.{BoundCondition, BoundConditions, conjunction, disjunction, negation, comparison, no_parts, part_and, term_value, bound_truth, every_true, some_true, all_hold, term_places, condition_places, parts_places, comparison_interval, bound_interval, shared_interval, is_left_place, is_on_left, one_where, conjuncts_where, all_where}
+use Rattle.vo_spec.specs.Results.{BoundSource, ColumnPlace, schema_at, place_of, join_places, item_refs, join_refs, numbers_from, shown_places, RowView, place_value, ref_value}
+use Rattle.vo_spec.specs.Needs.{all_keys, keys_that, intersection, join_value, test_interval, interval_of, interval_of_all, is_left, left_truth, left_truths, is_place, shows_all, is_named_column, named_cells, left_need, right_need, meets_left as meets_by_names}
+use Rattle.query_plan.specs.BoundConditions.{BoundCondition, BoundConditions, conjunction, disjunction, negation, comparison, no_parts, part_and, term_value, bound_truth, every_true, some_true, all_hold, term_places, condition_places, parts_places, comparison_interval, bound_interval, intersection_of_all, is_left_place, is_on_left, one_where, conjuncts_where, all_where}
 use Rattle.query_plan.specs.BoundQueries.{bound_term, bound_condition, bound_conditions, bound_join, bound_query, join_columns}
 use Rattle.query_plan.specs.Named.{is_at, names, is_named_cell, bound_cells}
 use Rattle.query_plan.specs.Plans.{plan_of, left_column, right_need_of, meets_left}
@@ -41,7 +41,7 @@ same_filter p q e (x ∷ xs) = ap (λ b. cond b (x ∷ filter p xs) (filter p xs
 
 -- The columns that a condition speaks of are those that its references mean.
 
-module _ (ss : List Side) where
+module _ (ss : List BoundSource) where
   term_columns : (o : Operand) → term_places (bound_term ss o) ≡ map (place_of ss) (operand_refs o)
   term_columns (Column r) = refl
   term_columns (Literal v) = refl
@@ -65,7 +65,7 @@ module _ (ss : List Side) where
 
 -- Truth.
 
-module _ (ss : List Side) (row : Place → Value) where
+module _ (ss : List BoundSource) (row : ColumnPlace → Value) where
   abbrev by_name : Ref → Value
   by_name r = row (place_of ss r)
 
@@ -94,7 +94,7 @@ module _ (ss : List Side) (row : Place → Value) where
 
 -- The left interval.
 
-module _ (ss : List Side) where
+module _ (ss : List BoundSource) where
   abbrev key : ℕ
   key = (schema_at ss 0).key
 
@@ -109,10 +109,10 @@ module _ (ss : List Side) where
     interval_same (negated c) = refl
     interval_same (test left op right) = comparison_same left op right
 
-    intervals_same : (cs : Conditions) → shared_interval key (bound_conditions ss cs) ≡ interval_of_all ss cs
+    intervals_same : (cs : Conditions) → intersection_of_all key (bound_conditions ss cs) ≡ interval_of_all ss cs
     intervals_same none = refl
     intervals_same (more c cs) =
-        ap (λ i. shared i (shared_interval key (bound_conditions ss cs))) (interval_same c) ∙ ap (shared (interval_of ss c)) (intervals_same cs)
+        ap (λ i. intersection i (intersection_of_all key (bound_conditions ss cs))) (interval_same c) ∙ ap (intersection (interval_of ss c)) (intervals_same cs)
 
   left_interval : (o : Option Condition) → option_map_or (bound_interval key) (option_map (bound_condition ss) o) all_keys ≡ option_map_or (interval_of ss) o all_keys
   left_interval None = refl
@@ -120,7 +120,7 @@ module _ (ss : List Side) where
 
 -- The left condition, and both.
 
-hold_append : (row : Place → Value) (xs ys : List BoundCondition) → all_hold row (xs ++ ys) ≡ (all_hold row xs && all_hold row ys)
+hold_append : (row : ColumnPlace → Value) (xs ys : List BoundCondition) → all_hold row (xs ++ ys) ≡ (all_hold row xs && all_hold row ys)
 hold_append row [] ys = refl
 hold_append row (x ∷ xs) ys = ap (λ b. bound_truth row x && b) (hold_append row xs ys) ∙ and_assoc (bound_truth row x) (all_hold row xs) (all_hold row ys)
   where
@@ -132,7 +132,7 @@ and_true : (b : Bool) → (b && true) ≡ b
 and_true true = refl
 and_true false = refl
 
-module _ (row : Place → Value) where
+module _ (row : ColumnPlace → Value) where
   one_left : (c : BoundCondition) → all_hold row (one_where true c) ≡ cond (is_on_left c) (bound_truth row c) true
   one_left c = step (is_on_left c)
     where
@@ -170,7 +170,7 @@ module _ (row : Place → Value) where
         ∙ ap (λ b. b && (all_hold row (all_where true cs) && all_hold row (all_where false cs))) (conjuncts_hold c)
         ∙ ap (λ b. bound_truth row c && b) (parts_hold cs)
 
-module _ (ss : List Side) (row : Place → Value) where
+module _ (ss : List BoundSource) (row : ColumnPlace → Value) where
   abbrev named : Ref → Value
   named r = row (place_of ss r)
 
@@ -196,7 +196,7 @@ module _ (ss : List Side) (row : Place → Value) where
 
 -- The cells that a query names.
 
-module _ (ss : List Side) (q : Query) where
+module _ (ss : List BoundSource) (q : Query) where
   join_places_same : (j : Option Join) → option_map_or join_columns (option_map (bound_join ss) j) [] ≡ map (place_of ss) (option_map_or join_refs j [])
   join_places_same None = refl
   join_places_same (Some j) = refl
@@ -220,21 +220,21 @@ module _ (ss : List Side) (q : Query) where
       ∙ ap (λ ps. ps ++ map (place_of ss) where_refs) (sym (map-append (place_of ss) rs on_refs))
       ∙ sym (map-append (place_of ss) (rs ++ on_refs) where_refs)
 
-  names_by : (items : Items) (at : Place)
+  names_by : (items : Items) (at : ColumnPlace)
       → (shows_all items || list_any (is_at at) ((shown_places ss items ++ option_map_or join_columns (option_map (bound_join ss) q.join) []) ++ option_map_or condition_places (option_map (bound_condition ss) q.condition) []))
       ≡ (shows_all items || list_any (λ r. is_place (place_of ss r) at) ((item_refs items ++ on_refs) ++ where_refs))
   names_by All at = refl
   names_by (Refs rs) at = ap (list_any (is_at at)) (places_by rs) ∙ any_mapped (is_at at) (place_of ss) ((rs ++ on_refs) ++ where_refs)
 
-  names_same : (side column : ℕ) → names (bound_query ss q) (record { side = side; column = column }) ≡ is_named_column ss q side column
-  names_same side column = names_by q.items (record { side = side; column = column })
+  names_same : (bound_source column : ℕ) → names (bound_query ss q) (record { bound_source = bound_source; column = column }) ≡ is_named_column ss q bound_source column
+  names_same bound_source column = names_by q.items (record { bound_source = bound_source; column = column })
 
-  pub cells_same : (side : ℕ) → bound_cells (bound_query ss q) side ≡ named_cells ss q side
-  cells_same side =
-      ap (map (cell_number (schema_at ss side).key))
-      (same_filter (is_named_cell (bound_query ss q) side (schema_at ss side).key) (λ column. not (column == (schema_at ss side).key) && is_named_column ss q side column)
-      (λ column. ap (λ b. not (column == (schema_at ss side).key) && b) (names_same side column))
-      (numbers_from 0 (length (schema_at ss side).columns)))
+  pub cells_same : (bound_source : ℕ) → bound_cells (bound_query ss q) bound_source ≡ named_cells ss q bound_source
+  cells_same bound_source =
+      ap (map (cell_number (schema_at ss bound_source).key))
+      (same_filter (is_named_cell (bound_query ss q) bound_source (schema_at ss bound_source).key) (λ column. not (column == (schema_at ss bound_source).key) && is_named_column ss q bound_source column)
+      (λ column. ap (λ b. not (column == (schema_at ss bound_source).key) && b) (names_same bound_source column))
+      (numbers_from 0 (length (schema_at ss bound_source).columns)))
 
   -- The parts of a plan.
 
@@ -243,22 +243,22 @@ module _ (ss : List Side) (q : Query) where
       ap (λ (i : Interval). let n : Need = record { interval = i; columns = bound_cells (bound_query ss q) 0 } in n) (left_interval ss q.condition)
       ∙ ap (λ (cs : List ℕ). let n : Need = record { interval = option_map_or (interval_of ss) q.condition all_keys; columns = cs } in n) (cells_same 0)
 
-  choice : (b : Bool) (x y : Place) → cond b y x ≡ (let p : Place × Place = cond b (y, x) (x, y) in p.0)
+  choice : (b : Bool) (x y : ColumnPlace) → cond b y x ≡ (let p : ColumnPlace × ColumnPlace = cond b (y, x) (x, y) in p.0)
   choice true x y = refl
   choice false x y = refl
 
   column_same : (j : Join) → left_column (bound_join ss j) ≡ (join_places ss j).0
-  column_same j = choice ((place_of ss j.left_ref).side == 1) (place_of ss j.left_ref) (place_of ss j.right_ref)
+  column_same j = choice ((place_of ss j.left_ref).bound_source == 1) (place_of ss j.left_ref) (place_of ss j.right_ref)
 
-  pub right_need_same : (j : Join) (left : Line) → right_need_of (plan_of (bound_query ss q)) (bound_join ss j) left ≡ right_need ss q j left
+  pub right_need_same : (j : Join) (left : RowView) → right_need_of (plan_of (bound_query ss q)) (bound_join ss j) left ≡ right_need ss q j left
   right_need_same j left =
-      ap (λ (p : Place). let n : Need = record { interval = keys_that cmp.Eq (key_of (place_value (left ∷ []) p)); columns = bound_cells (bound_query ss q) 1 } in n) (column_same j)
+      ap (λ (p : ColumnPlace). let n : Need = record { interval = keys_that cmp.Eq (key_of (place_value (left ∷ []) p)); columns = bound_cells (bound_query ss q) 1 } in n) (column_same j)
       ∙ ap (λ (cs : List ℕ). let n : Need = record { interval = keys_that cmp.Eq (key_of (join_value ss j left)); columns = cs } in n) (cells_same 1)
 
-  meets_by : (o : Option Condition) (left : Line) → all_hold (place_value (left ∷ [])) (option_map_or (conjuncts_where true) (option_map (bound_condition ss) o) [])
+  meets_by : (o : Option Condition) (left : RowView) → all_hold (place_value (left ∷ [])) (option_map_or (conjuncts_where true) (option_map (bound_condition ss) o) [])
       ≡ option_map_or (left_truth ss (ref_value ss (left ∷ []))) o true
   meets_by None left = refl
   meets_by (Some c) left = left_same ss (place_value (left ∷ [])) c
 
-  pub meets_same : (left : Line) → meets_left (plan_of (bound_query ss q)) left ≡ meets_by_names ss q left
+  pub meets_same : (left : RowView) → meets_left (plan_of (bound_query ss q)) left ≡ meets_by_names ss q left
   meets_same left = meets_by q.condition left

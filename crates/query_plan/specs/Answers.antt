@@ -4,34 +4,40 @@ use Rattle.std.specs.Ordering.{is_eq}
 use Rattle.vo_spec.specs.declared.values.Value.{Value}
 use Rattle.vo_spec.specs.declared.tables.Table.{Table}
 use Rattle.vo_spec.specs.Values.{value_cmp}
-use Rattle.vo_spec.specs.Results.{Place, Line, place_value, lines_at}
+use Rattle.vo_spec.specs.Results.{ColumnPlace, RowView, place_value, row_views_at}
 use Rattle.query_plan.specs.BoundConditions.{BoundCondition, all_hold}
 use Rattle.query_plan.specs.BoundQueries.{BoundQuery}
 use Rattle.query_plan.specs.Plans.{QueryPlan, meets_left}
 
 -- whether ON's columns are equal
-abbrev pub are_joined : (Place → Value) → Option (Place × Place) → Bool
+abbrev pub are_joined : (ColumnPlace → Value) → Option (ColumnPlace × ColumnPlace) → Bool
 are_joined row None = true
 are_joined row (Some on) = is_eq (value_cmp (row on.0) (row on.1))
 
 -- what is shown of rows, as values by place, where they are joined and meet the conjuncts
-abbrev pub answer_at : BoundQuery → List BoundCondition → (Place → Value) → List (List Value)
-answer_at b late row = if are_joined row b.join && all_hold row late then map row b.output ∷ [] else []
+abbrev pub answer_at : BoundQuery → List BoundCondition → (ColumnPlace → Value) → List (List Value)
+answer_at b late row = if are_joined row b.join && all_hold row late
+    then map row b.output ∷ [] else []
 
 -- of a left row beside each of its right rows
-abbrev pub pair_answers : BoundQuery → List BoundCondition → List Line → Line → List (List Value)
-pair_answers b late rights left = flat_map (λ right. answer_at b late (place_value (left ∷ right ∷ []))) rights
+abbrev pub pair_answers : BoundQuery → List BoundCondition → List RowView → RowView
+    → List (List Value)
+pair_answers b late rights left =
+    flat_map (λ right. answer_at b late (place_value (left ∷ right ∷ []))) rights
 
 -- of a left row: alone, or in a join beside its right rows
-abbrev pub left_answers : BoundQuery → List BoundCondition → Option (Place × Place) → List Line → Line → List (List Value)
+abbrev pub left_answers : BoundQuery → List BoundCondition → Option (ColumnPlace × ColumnPlace)
+    → List RowView → RowView → List (List Value)
 left_answers b late None rights left = answer_at b late (place_value (left ∷ []))
 left_answers b late (Some on) rights left = pair_answers b late rights left
 
 -- of the left rows of a plan, each with its right rows: the left condition is met, so the late one is asked
-abbrev pub plan_rows : QueryPlan → List Line → (Line → List Line) → List (List Value)
-plan_rows p lefts rights = flat_map (λ left. left_answers p.query p.late p.query.join (rights left) left) lefts
+abbrev pub plan_rows : QueryPlan → List RowView → (RowView → List RowView) → List (List Value)
+plan_rows p lefts rights = flat_map
+    (λ left. left_answers p.query p.late p.query.join (rights left) left) lefts
 
 -- what a plan shows of plain tables
 abbrev pub plain_rows : QueryPlan → List Table → List (List Value)
 plain_rows p tables =
-    plan_rows p (filter (meets_left p) (lines_at tables p.query.sides 0)) (λ left. lines_at tables p.query.sides 1)
+    plan_rows p (filter (meets_left p) (row_views_at tables p.query.bound_sources 0))
+    (λ left. row_views_at tables p.query.bound_sources 1)

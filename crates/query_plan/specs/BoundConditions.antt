@@ -6,12 +6,12 @@ use Rattle.vo_spec.specs.declared.keys.Interval.{Interval}
 use Rattle.vo_spec.specs.declared.queries.Cmp.{Cmp}
 use Rattle.vo_spec.specs.Values.{key_of, value_cmp}
 use Rattle.vo_spec.specs.Conditions.{compares}
-use Rattle.vo_spec.specs.Results.{Place}
-use Rattle.vo_spec.specs.Needs.{all_keys, keys_that, shared}
+use Rattle.vo_spec.specs.Results.{ColumnPlace}
+use Rattle.vo_spec.specs.Needs.{all_keys, keys_that, intersection}
 
 -- the right side of a comparison
 pub data BoundTerm : Type 0 where
-  column : Place → BoundTerm
+  column : ColumnPlace → BoundTerm
   literal : Value → BoundTerm
 
 -- every part holds, some part holds, the part doesn't hold, or a comparison
@@ -20,7 +20,7 @@ mutual
     conjunction : BoundConditions → BoundCondition
     disjunction : BoundConditions → BoundCondition
     negation : BoundCondition → BoundCondition
-    comparison : Place → Cmp → BoundTerm → BoundCondition
+    comparison : ColumnPlace → Cmp → BoundTerm → BoundCondition
 
   pub data BoundConditions : Type 0 where
     no_parts : BoundConditions
@@ -28,71 +28,74 @@ mutual
 
 -- Truth: rows are what they have at each place.
 
-abbrev pub term_value : (Place → Value) → BoundTerm → Value
+abbrev pub term_value : (ColumnPlace → Value) → BoundTerm → Value
 term_value row (column p) = row p
 term_value row (literal v) = v
 
 abbrev mutual
-  pub bound_truth : (Place → Value) → BoundCondition → Bool
+  pub bound_truth : (ColumnPlace → Value) → BoundCondition → Bool
   bound_truth row (conjunction cs) = every_true row cs
   bound_truth row (disjunction cs) = some_true row cs
   bound_truth row (negation c) = not (bound_truth row c)
-  bound_truth row (comparison left op right) = compares op (value_cmp (row left) (term_value row right))
+  bound_truth row (comparison left op right) =
+      compares op (value_cmp (row left) (term_value row right))
 
-  pub every_true : (Place → Value) → BoundConditions → Bool
+  pub every_true : (ColumnPlace → Value) → BoundConditions → Bool
   every_true row no_parts = true
   every_true row (part_and c cs) = bound_truth row c && every_true row cs
 
-  pub some_true : (Place → Value) → BoundConditions → Bool
+  pub some_true : (ColumnPlace → Value) → BoundConditions → Bool
   some_true row no_parts = false
   some_true row (part_and c cs) = bound_truth row c || some_true row cs
 
 -- whether rows meet all of these conditions
-abbrev pub all_hold : (Place → Value) → List BoundCondition → Bool
+abbrev pub all_hold : (ColumnPlace → Value) → List BoundCondition → Bool
 all_hold row cs = list_all (bound_truth row) cs
 
 -- The columns that a condition speaks of.
 
-abbrev pub term_places : BoundTerm → List Place
+abbrev pub term_places : BoundTerm → List ColumnPlace
 term_places (column p) = p ∷ []
 term_places (literal v) = []
 
 abbrev mutual
-  pub condition_places : BoundCondition → List Place
+  pub condition_places : BoundCondition → List ColumnPlace
   condition_places (conjunction cs) = parts_places cs
   condition_places (disjunction cs) = parts_places cs
   condition_places (negation c) = condition_places c
   condition_places (comparison left op right) = left ∷ term_places right
 
-  pub parts_places : BoundConditions → List Place
+  pub parts_places : BoundConditions → List ColumnPlace
   parts_places no_parts = []
   parts_places (part_and c cs) = condition_places c ++ parts_places cs
 
 -- The left interval: what the conjuncts of the form `key op literal` share. The key is the left source's
 -- column of this number.
 
-abbrev pub is_left_key : ℕ → Place → Bool
-is_left_key key p = p.side == 0 && p.column == key
+abbrev pub is_left_key : ℕ → ColumnPlace → Bool
+is_left_key key p = p.bound_source == 0 && p.column == key
 
-abbrev pub comparison_interval : ℕ → Place → Cmp → BoundTerm → Interval
+abbrev pub comparison_interval : ℕ → ColumnPlace → Cmp → BoundTerm → Interval
 comparison_interval key left op (column p) = all_keys
-comparison_interval key left op (literal v) = if is_left_key key left then keys_that op (key_of v) else all_keys
+comparison_interval key left op (literal v) = if is_left_key key left then keys_that op (key_of v)
+    else all_keys
 
 abbrev mutual
   pub bound_interval : ℕ → BoundCondition → Interval
-  bound_interval key (conjunction cs) = shared_interval key cs
+  bound_interval key (conjunction cs) = intersection_of_all key cs
   bound_interval key (disjunction cs) = all_keys
   bound_interval key (negation c) = all_keys
   bound_interval key (comparison left op right) = comparison_interval key left op right
 
-  pub shared_interval : ℕ → BoundConditions → Interval
-  shared_interval key no_parts = all_keys
-  shared_interval key (part_and c cs) = shared (bound_interval key c) (shared_interval key cs)
+  pub intersection_of_all : ℕ → BoundConditions → Interval
+  intersection_of_all key no_parts = all_keys
+  intersection_of_all key (part_and c cs) =
+      intersection (bound_interval key c) (intersection_of_all key cs)
 
 -- The conjuncts: those on left columns alone are the left condition, the others the late condition.
 
-abbrev pub is_left_place : Place → Bool
-is_left_place p = p.side == 0
+abbrev pub is_left_place : ColumnPlace → Bool
+is_left_place p = p.bound_source == 0
 
 abbrev pub is_on_left : BoundCondition → Bool
 is_on_left c = list_all is_left_place (condition_places c)

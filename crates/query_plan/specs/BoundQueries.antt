@@ -6,39 +6,39 @@ use Rattle.vo_spec.specs.declared.queries.Operand.TheVariants.{Ref as Column, Li
 use Rattle.vo_spec.specs.declared.queries.Items.{Items}
 use Rattle.vo_spec.specs.declared.queries.Join.{Join}
 use Rattle.vo_spec.specs.Conditions.{Condition, Conditions, every, some, negated, test, none, more, Query}
-use Rattle.vo_spec.specs.Results.{Side, Place, place_of, shown_places}
+use Rattle.vo_spec.specs.Results.{BoundSource, ColumnPlace, place_of, shown_places}
 use Rattle.query_plan.specs.BoundConditions.{BoundTerm, column, literal, BoundCondition, BoundConditions, conjunction, disjunction, negation, comparison, no_parts, part_and, condition_places}
 
 -- The sources with their tables' schemas, the items as the text has them (for the titles), the columns that
 -- are shown, the two of ON in the order of the text, and the condition.
 pub record BoundQuery : Type 0 where
-  pub sides : List Side
+  pub bound_sources : List BoundSource
   pub items : Items
-  pub output : List Place
-  pub join : Option (Place × Place)
+  pub output : List ColumnPlace
+  pub join : Option (ColumnPlace × ColumnPlace)
   pub condition : Option BoundCondition
 
-abbrev pub bound_term : List Side → Operand → BoundTerm
+abbrev pub bound_term : List BoundSource → Operand → BoundTerm
 bound_term ss (Column r) = column (place_of ss r)
 bound_term ss (Literal v) = literal v
 
 abbrev mutual
-  pub bound_condition : List Side → Condition → BoundCondition
+  pub bound_condition : List BoundSource → Condition → BoundCondition
   bound_condition ss (every cs) = conjunction (bound_conditions ss cs)
   bound_condition ss (some cs) = disjunction (bound_conditions ss cs)
   bound_condition ss (negated c) = negation (bound_condition ss c)
   bound_condition ss (test left op right) = comparison (place_of ss left) op (bound_term ss right)
 
-  pub bound_conditions : List Side → Conditions → BoundConditions
+  pub bound_conditions : List BoundSource → Conditions → BoundConditions
   bound_conditions ss none = no_parts
   bound_conditions ss (more c cs) = part_and (bound_condition ss c) (bound_conditions ss cs)
 
-abbrev pub bound_join : List Side → Join → Place × Place
+abbrev pub bound_join : List BoundSource → Join → ColumnPlace × ColumnPlace
 bound_join ss j = (place_of ss j.left_ref, place_of ss j.right_ref)
 
-abbrev pub bound_query : List Side → Query → BoundQuery
+abbrev pub bound_query : List BoundSource → Query → BoundQuery
 bound_query ss q = record {
-  sides = ss;
+  bound_sources = ss;
   items = q.items;
   output = shown_places ss q.items;
   join = option_map (bound_join ss) q.join;
@@ -46,8 +46,9 @@ bound_query ss q = record {
 }
 
 -- the columns that a query speaks of, but for those of `*`
-abbrev pub join_columns : Place × Place → List Place
+abbrev pub join_columns : ColumnPlace × ColumnPlace → List ColumnPlace
 join_columns on = on.0 ∷ on.1 ∷ []
 
-abbrev pub query_places : BoundQuery → List Place
-query_places b = b.output ++ option_map_or join_columns b.join [] ++ option_map_or condition_places b.condition []
+abbrev pub query_places : BoundQuery → List ColumnPlace
+query_places b = b.output ++ option_map_or join_columns b.join []
+    ++ option_map_or condition_places b.condition []

@@ -1,7 +1,7 @@
 -- Bound conditions and queries as the program holds them.
 use Rattle.std.specs.Prelude.{List, [], ◌∷◌, map, option_map}
-use Rattle.vo_spec.specs.Results.{Place}
-use Rattle.query_binding.specs.Sided.{sides_seen, place_seen}
+use Rattle.vo_spec.specs.Results.{ColumnPlace}
+use Rattle.query_binding.specs.Sided.{bound_sources_seen, place_seen}
 use Rattle.query_plan.specs.declared.bound_cond.BoundOperand.{BoundOperand}
 use Rattle.query_plan.specs.declared.bound_cond.BoundOperand.TheVariants.{Column, Literal}
 use Rattle.query_plan.specs.declared.bound_cond.BoundCond.{BoundCond, fold-BoundCond}
@@ -33,12 +33,12 @@ condition_seen = fold-BoundCond BoundCondition layer_seen
 abbrev pub conjunct_seen : Conjunct → BoundCondition
 conjunct_seen c = condition_seen c.cond.now
 
-abbrev pub join_seen : BoundJoin → Place × Place
+abbrev pub join_seen : BoundJoin → ColumnPlace × ColumnPlace
 join_seen on = (place_seen on.first, place_seen on.second)
 
 abbrev pub query_seen : HeldQuery → BoundQuery
 query_seen h = record {
-  sides = sides_seen h.sides;
+  bound_sources = bound_sources_seen h.bound_sources;
   items = h.items.now;
   output = map place_seen h.output.items;
   join = option_map join_seen h.join;

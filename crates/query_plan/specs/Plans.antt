@@ -4,7 +4,7 @@ use Rattle.std.specs.Option.{option_map_or}
 use Rattle.vo_spec.specs.declared.needs.Need.{Need}
 use Rattle.vo_spec.specs.declared.queries.Cmp.TheVariants as cmp
 use Rattle.vo_spec.specs.Values.{key_of}
-use Rattle.vo_spec.specs.Results.{Place, schema_at, Line, place_value}
+use Rattle.vo_spec.specs.Results.{ColumnPlace, schema_at, RowView, place_value}
 use Rattle.vo_spec.specs.Needs.{all_keys, keys_that}
 use Rattle.query_plan.specs.BoundConditions.{BoundCondition, all_hold, bound_interval, conjuncts_where}
 use Rattle.query_plan.specs.BoundQueries.{BoundQuery}
@@ -21,7 +21,7 @@ pub record QueryPlan : Type 0 where
 
 abbrev pub bound_left_need : BoundQuery → Need
 bound_left_need b = record {
-  interval = option_map_or (bound_interval (schema_at b.sides 0).key) b.condition all_keys;
+  interval = option_map_or (bound_interval (schema_at b.bound_sources 0).key) b.condition all_keys;
   columns = bound_cells b 0;
 }
 
@@ -35,16 +35,16 @@ plan_of b = record {
 }
 
 -- ON's column of the left source
-abbrev pub left_column : Place × Place → Place
-left_column on = if on.0.side == 1 then on.1 else on.0
+abbrev pub left_column : ColumnPlace × ColumnPlace → ColumnPlace
+left_column on = if on.0.bound_source == 1 then on.1 else on.0
 
 -- what a left row needs of the right tree: the row whose key is ON's value
-abbrev pub right_need_of : QueryPlan → Place × Place → Line → Need
+abbrev pub right_need_of : QueryPlan → ColumnPlace × ColumnPlace → RowView → Need
 right_need_of p on left = record {
   interval = keys_that cmp.Eq (key_of (place_value (left ∷ []) (left_column on)));
   columns = p.right_cells;
 }
 
 -- whether a left row meets the left condition
-abbrev pub meets_left : QueryPlan → Line → Bool
+abbrev pub meets_left : QueryPlan → RowView → Bool
 meets_left p left = all_hold (place_value (left ∷ [])) p.left

@@ -7,11 +7,11 @@ ghost use Rattle.query_plan.specs.Answers.{are_joined, answer_at, pair_answers, 
 
 use crate::bound_cond::Conjunct;
 use crate::bound_query::{BoundJoin, Query};
-use crate::lines::Line;
+use crate::row_views::RowView;
 use crate::rows::{LeftRow, PlaceValues, RowPair};
 use crate::truths::all_hold;
 use crate::value_order::compare_values;
-use query_binding::Place;
+use query_binding::ColumnPlace;
 use std::alloc::{AllocError, Global};
 use vo_spec::{List, Value};
 
@@ -28,7 +28,7 @@ fn are_joined<V: PlaceValues>(rows: &V, join: &Option<BoundJoin>) -> bool
 fn project<V: PlaceValues>(
     alloc: Global,
     rows: &V,
-    places: &[Place],
+    places: &[ColumnPlace],
 ) -> Result<List<Value>, AllocError>
     ensures { IfOk result (λ values. values ≡ map (V.values rows.now) (map place_seen places.now)) }
 {
@@ -58,7 +58,7 @@ fn push_answer<V: PlaceValues>(
 }
 
 /// Puts what the query shows of a left row alone at the end of the answer.
-pub fn push_alone<L: Line>(
+pub fn push_alone<L: RowView>(
     alloc: Global,
     query: &Query<'_>,
     late: &[Conjunct<'_, '_>],
@@ -67,12 +67,12 @@ pub fn push_alone<L: Line>(
 ) -> Result<(), AllocError>
     ensures { OnOk result (out.new.items ≡ out.old.items
         ++ answer_at (query_seen query.now) (map conjunct_seen late.now)
-        (place_value (L.line left.now ∷ []))) }
+        (place_value (L.row_view left.now ∷ []))) }
 {
     push_answer(alloc, query, late, &LeftRow { left }, out)
 }
 
-fn push_pair<'r, L: Line, R: Line>(
+fn push_pair<'r, L: RowView, R: RowView>(
     alloc: Global,
     query: &Query<'_>,
     late: &[Conjunct<'_, '_>],
@@ -82,13 +82,13 @@ fn push_pair<'r, L: Line, R: Line>(
 ) -> Result<(), AllocError>
     ensures { OnOk result (out.new.items ≡ out.old.items
         ++ answer_at (query_seen query.now) (map conjunct_seen late.now)
-        (place_value (L.line left.now ∷ R.line right.now ∷ []))) }
+        (place_value (L.row_view left.now ∷ R.row_view right.now ∷ []))) }
 {
     push_answer(alloc, query, late, &RowPair { left, right }, out)
 }
 
 /// Puts what the query shows of a left row beside each of its right rows at the end of the answer.
-pub fn push_pairs<L: Line, R: Line>(
+pub fn push_pairs<L: RowView, R: RowView>(
     alloc: Global,
     query: &Query<'_>,
     late: &[Conjunct<'_, '_>],
@@ -97,8 +97,9 @@ pub fn push_pairs<L: Line, R: Line>(
     out: &mut Vec<List<Value>>,
 ) -> Result<(), AllocError>
     ensures { OnOk result (out.new.items ≡ out.old.items
-        ++ pair_answers (query_seen query.now) (map conjunct_seen late.now) (map R.line rights.now)
-        (L.line left.now)) }
+        ++ pair_answers (query_seen query.now) (map conjunct_seen late.now)
+        (map R.row_view rights.now)
+        (L.row_view left.now)) }
 {
     for right in rights {
         push_pair(alloc, query, late, &*left, right, out)?;
@@ -108,7 +109,7 @@ pub fn push_pairs<L: Line, R: Line>(
 
 /// Puts what the query shows of a left row at the end of the answer: alone, or in a join beside its right
 /// rows.
-pub fn push_answers<L: Line, R: Line>(
+pub fn push_answers<L: RowView, R: RowView>(
     alloc: Global,
     query: &Query<'_>,
     late: &[Conjunct<'_, '_>],
@@ -118,7 +119,7 @@ pub fn push_answers<L: Line, R: Line>(
 ) -> Result<(), AllocError>
     ensures { OnOk result (out.new.items ≡ out.old.items
         ++ left_answers (query_seen query.now) (map conjunct_seen late.now)
-        (option_map join_seen query.now.join) (map R.line rights.now) (L.line left.now)) }
+        (option_map join_seen query.now.join) (map R.row_view rights.now) (L.row_view left.now)) }
 {
     match query.join {
         None => push_alone(alloc, query, late, left, out),

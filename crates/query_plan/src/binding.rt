@@ -1,23 +1,23 @@
 //! Queries bound to the tables that they are asked of.
 ghost use Rattle.std.specs.Prelude.{◌≡◌, map, option_map, IfOk};
 ghost use Rattle.vo_spec.specs.Conditions.{conditions, condition_of, query_of};
-ghost use Rattle.vo_spec.specs.Results.{sides as sides_of, binding_fault};
-ghost use Rattle.query_binding.specs.Sided.{sides_seen};
-ghost use Rattle.query_binding.specs.Binding.{Passes};
+ghost use Rattle.vo_spec.specs.Results.{bound_sources as bound_sources_of, binding_fault};
+ghost use Rattle.query_binding.specs.Sided.{bound_sources_seen};
+ghost use Rattle.query_binding.specs.Binding.{PassesBinding};
 ghost use Rattle.query_plan.specs.BoundQueries.{bound_term, bound_condition, bound_conditions, bound_join, bound_query};
 ghost use Rattle.query_plan.specs.BoundViews.{term_seen, parts_seen, condition_seen, join_seen, query_seen};
 
 use crate::bound_cond::{BoundCond, BoundOperand};
 use crate::bound_query::{BoundJoin, Query};
-use query_binding::{BindFault, Schemas, Sides, bind_sources, shown_places};
+use query_binding::{BindFault, BoundSources, Schemas, bind_sources, shown_places};
 use std::alloc::{AllocError, Global};
 use vo_spec::{Cond, Join, List, Operand, QueryText};
 
-fn bind_operand<'q>(sides: &Sides<'_>, operand: &'q Operand) -> BoundOperand<'q>
-    ensures { term_seen result ≡ bound_term (sides_seen sides.now) operand.now }
+fn bind_operand<'q>(bound_sources: &BoundSources<'_>, operand: &'q Operand) -> BoundOperand<'q>
+    ensures { term_seen result ≡ bound_term (bound_sources_seen bound_sources.now) operand.now }
 {
     match operand {
-        Operand::Ref(reference) => BoundOperand::Column(sides.place_of(reference)),
+        Operand::Ref(reference) => BoundOperand::Column(bound_sources.place_of(reference)),
         Operand::Literal(value) => BoundOperand::Literal(value),
     }
 }
@@ -25,29 +25,29 @@ fn bind_operand<'q>(sides: &Sides<'_>, operand: &'q Operand) -> BoundOperand<'q>
 #[cycle(bind_condition)]
 fn bind_condition<'q>(
     alloc: Global,
-    sides: &Sides<'_>,
+    bound_sources: &BoundSources<'_>,
     cond: &'q Cond,
 ) -> Result<BoundCond<'q>, AllocError>
     ensures { IfOk result (λ bound. condition_seen bound
-        ≡ bound_condition (sides_seen sides.now) (condition_of cond.now)) }
+        ≡ bound_condition (bound_sources_seen bound_sources.now) (condition_of cond.now)) }
 {
     match cond {
         Cond::All(parts) => {
-            let parts = bind_parts(alloc, sides, parts.as_slice())?;
+            let parts = bind_parts(alloc, bound_sources, parts.as_slice())?;
             Ok(BoundCond::All(parts))
         },
         Cond::Any(parts) => {
-            let parts = bind_parts(alloc, sides, parts.as_slice())?;
+            let parts = bind_parts(alloc, bound_sources, parts.as_slice())?;
             Ok(BoundCond::Any(parts))
         },
         Cond::Not(part) => {
-            let part = bind_condition(alloc, sides, part)?;
+            let part = bind_condition(alloc, bound_sources, part)?;
             Ok(BoundCond::Not(Box::new(alloc, part)?))
         },
         Cond::Test { left, op, right } => Ok(BoundCond::Test {
-            left: sides.place_of(left),
+            left: bound_sources.place_of(left),
             op: *op,
-            right: bind_operand(sides, right),
+            right: bind_operand(bound_sources, right),
         }),
     }
 }
@@ -55,41 +55,43 @@ fn bind_condition<'q>(
 #[cycle(bind_condition)]
 fn bind_parts<'q>(
     alloc: Global,
-    sides: &Sides<'_>,
+    bound_sources: &BoundSources<'_>,
     parts: &'q [Cond],
 ) -> Result<List<BoundCond<'q>>, AllocError>
     ensures { IfOk result (λ bound. parts_seen (map condition_seen bound)
-        ≡ bound_conditions (sides_seen sides.now) (conditions (map condition_of parts.now))) }
+        ≡ bound_conditions (bound_sources_seen bound_sources.now)
+        (conditions (map condition_of parts.now))) }
 {
     let mut bound = Vec::with_capacity(alloc, parts.len())?;
     for part in parts {
-        bound.push(bind_condition(alloc, sides, part)?)?;
+        bound.push(bind_condition(alloc, bound_sources, part)?)?;
     }
     Ok(List::from_vec(bound))
 }
 
 fn bind_where<'q>(
     alloc: Global,
-    sides: &Sides<'_>,
+    bound_sources: &BoundSources<'_>,
     cond: &'q Option<Cond>,
 ) -> Result<Option<BoundCond<'q>>, AllocError>
     ensures { IfOk result (λ bound. option_map condition_seen bound
-        ≡ option_map (bound_condition (sides_seen sides.now)) (option_map condition_of cond.now)) }
+        ≡ option_map (bound_condition (bound_sources_seen bound_sources.now))
+        (option_map condition_of cond.now)) }
 {
     match cond {
-        Some(cond) => Ok(Some(bind_condition(alloc, sides, cond)?)),
+        Some(cond) => Ok(Some(bind_condition(alloc, bound_sources, cond)?)),
         None => Ok(None),
     }
 }
 
-fn bind_join(sides: &Sides<'_>, join: &Option<Join>) -> Option<BoundJoin>
+fn bind_join(bound_sources: &BoundSources<'_>, join: &Option<Join>) -> Option<BoundJoin>
     ensures { option_map join_seen result
-        ≡ option_map (bound_join (sides_seen sides.now)) join.now }
+        ≡ option_map (bound_join (bound_sources_seen bound_sources.now)) join.now }
 {
     match join {
         Some(join) => Some(BoundJoin {
-            first: sides.place_of(&join.left_ref),
-            second: sides.place_of(&join.right_ref),
+            first: bound_sources.place_of(&join.left_ref),
+            second: bound_sources.place_of(&join.right_ref),
         }),
         None => None,
     }
@@ -99,19 +101,20 @@ fn bind_join(sides: &Sides<'_>, join: &Option<Join>) -> Option<BoundJoin>
 #[tactic(auto, using(crate::proofs::SourceLaws::sources_joined))]
 fn bind_query<'q, S: Schemas>(
     alloc: Global,
-    sides: Sides<'q>,
+    bound_sources: BoundSources<'q>,
     schemas: &S,
     text: &'q QueryText,
 ) -> Result<Query<'q>, AllocError>
-    requires { sides_seen sides ≡ sides_of (S.headings schemas.now) (query_of text.now) }
+    requires { bound_sources_seen bound_sources
+        ≡ bound_sources_of (S.table_headers schemas.now) (query_of text.now) }
     ensures { IfOk result (λ query. query_seen query
-        ≡ bound_query (sides_seen sides.entry) (query_of text.now)) }
+        ≡ bound_query (bound_sources_seen bound_sources.entry) (query_of text.now)) }
 {
-    let output = shown_places(alloc, &sides, &text.items)?;
-    let join = bind_join(&sides, &text.join);
-    let condition = bind_where(alloc, &sides, &text.cond)?;
+    let output = shown_places(alloc, &bound_sources, &text.items)?;
+    let join = bind_join(&bound_sources, &text.join);
+    let condition = bind_where(alloc, &bound_sources, &text.cond)?;
     Ok(Query {
-        sides,
+        bound_sources,
         items: &text.items,
         output,
         join,
@@ -128,13 +131,15 @@ pub fn bind<'q, S: Schemas>(
 ) -> Result<Query<'q>, BindFault>
     // Each reference is the column that it names.
     ensures value { IfOk result (λ query. query_seen query
-        ≡ bound_query (sides_of (S.headings schemas.now) (query_of text.now)) (query_of text.now)) }
+        ≡ bound_query (bound_sources_of (S.table_headers schemas.now) (query_of text.now))
+        (query_of text.now)) }
 
     // No test finds a fault, or the fault is the first that they find.
-    ensures fault { Passes result (binding_fault (S.headings schemas.now) (query_of text.now)) }
+    ensures fault { PassesBinding result
+        (binding_fault (S.table_headers schemas.now) (query_of text.now)) }
 {
     match bind_sources(alloc, schemas, text) {
-        Ok(sides) => Ok(bind_query(alloc, sides, schemas, text)?),
+        Ok(bound_sources) => Ok(bind_query(alloc, bound_sources, schemas, text)?),
         Err(fault) => Err(fault),
     }
 }

@@ -1,11 +1,11 @@
 //! Conditions whose references are columns by their numbers.
-use query_binding::Place;
+use query_binding::ColumnPlace;
 use vo_spec::{Cmp, List, Value};
 
 /// The right side of a comparison.
 #[derive(Clone, Copy)]
 pub enum BoundOperand<'q> {
-    Column(Place),
+    Column(ColumnPlace),
     Literal(&'q Value),
 }
 
@@ -16,7 +16,7 @@ pub enum BoundCond<'q> {
     Any(List<BoundCond<'q>>),
     Not(Box<BoundCond<'q>>),
     Test {
-        left: Place,
+        left: ColumnPlace,
         op: Cmp,
         right: BoundOperand<'q>,
     },

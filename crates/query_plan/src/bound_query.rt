@@ -2,27 +2,27 @@
 ghost use Rattle.std.specs.Prelude.{◌≡◌, is_some};
 
 use crate::bound_cond::BoundCond;
-use query_binding::{Place, Sides};
+use query_binding::{BoundSources, ColumnPlace};
 use vo_spec::Items;
 
 /// The two columns of ON in the order of the text.
 #[derive(Clone, Copy)]
 pub struct BoundJoin {
-    pub first: Place,
-    pub second: Place,
+    pub first: ColumnPlace,
+    pub second: ColumnPlace,
 }
 
 /// A query that is bound to the tables that it is asked of.
 #[derive(Drop)]
 pub struct Query<'q> {
     /// The sources with their tables' names and schemas.
-    pub sides: Sides<'q>,
+    pub bound_sources: BoundSources<'q>,
     /// The items as the text has them, for the titles.
     pub items: &'q Items,
     /// The columns that are shown.
-    pub output: Vec<Place>,
+    pub output: Vec<ColumnPlace>,
     pub join: Option<BoundJoin>,
     pub condition: Option<BoundCond<'q>>,
     // There is a right source where there is a join.
-    ghost joined: { is_some join ≡ is_some sides.right },
+    ghost joined: { is_some join ≡ is_some bound_sources.right },
 }

@@ -16,7 +16,7 @@ fn is_on_left(cond: &BoundCond<'_>) -> bool
     match cond {
         BoundCond::All(parts) | BoundCond::Any(parts) => are_on_left(parts.as_slice()),
         BoundCond::Not(part) => is_on_left(part),
-        BoundCond::Test { left, right, .. } => left.side == 0 && is_operand_on_left(right),
+        BoundCond::Test { left, right, .. } => left.bound_source == 0 && is_operand_on_left(right),
     }
 }
 
@@ -37,7 +37,7 @@ fn is_operand_on_left(operand: &BoundOperand<'_>) -> bool
     ensures { result ≡ list_all is_left_place (term_places (term_seen operand.now)) }
 {
     match operand {
-        BoundOperand::Column(place) => place.side == 0,
+        BoundOperand::Column(place) => place.bound_source == 0,
         BoundOperand::Literal(_) => true,
     }
 }

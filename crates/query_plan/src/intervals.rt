@@ -1,7 +1,7 @@
 //! Intervals of keys: those that a comparison lets through, and what two of them share.
 ghost use Rattle.std.specs.Prelude.{◌≡◌, IfOk};
 ghost use Rattle.vo_spec.specs.Values.{key_lt as is_less, key_of as key_bytes};
-ghost use Rattle.vo_spec.specs.Needs.{all_keys, keys_that, higher, lower, shared};
+ghost use Rattle.vo_spec.specs.Needs.{all_keys, keys_that, higher, lower, intersection};
 
 use row_bytes::key_of;
 use std::alloc::{AllocError, Global};
@@ -98,8 +98,8 @@ fn lower(a: Bound, b: Bound) -> Bound
 }
 
 /// The keys that are in both intervals. Of equal bounds the exclusive one counts.
-pub(crate) fn shared(a: Interval, b: Interval) -> Interval
-    ensures { result ≡ shared a b }
+pub(crate) fn intersection(a: Interval, b: Interval) -> Interval
+    ensures { result ≡ intersection a b }
 {
     Interval {
         low: higher(a.low, b.low),

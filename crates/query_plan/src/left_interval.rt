@@ -1,25 +1,25 @@
 //! The interval of keys that a condition leaves of the left table.
 ghost use Rattle.std.specs.Prelude.{◌≡◌, map, drop, IfOk};
 ghost use Rattle.query_binding.specs.Sided.{place_seen};
-ghost use Rattle.query_plan.specs.BoundConditions.{is_left_key, comparison_interval, bound_interval, shared_interval};
+ghost use Rattle.query_plan.specs.BoundConditions.{is_left_key, comparison_interval, bound_interval, intersection_of_all};
 ghost use Rattle.query_plan.specs.BoundViews.{term_seen, parts_seen, condition_seen};
 
 use crate::bound_cond::{BoundCond, BoundOperand};
-use crate::intervals::{all_keys, keys_that, shared};
-use query_binding::Place;
+use crate::intervals::{all_keys, intersection, keys_that};
+use query_binding::ColumnPlace;
 use std::alloc::{AllocError, Global};
 use vo_spec::{Cmp, Interval};
 
-fn is_left_key(key: usize, place: Place) -> bool
+fn is_left_key(key: usize, place: ColumnPlace) -> bool
     ensures { result ≡ is_left_key key (place_seen place) }
 {
-    place.side == 0 && place.column == key
+    place.bound_source == 0 && place.column == key
 }
 
 fn comparison_interval(
     alloc: Global,
     key: usize,
-    left: Place,
+    left: ColumnPlace,
     op: Cmp,
     right: &BoundOperand<'_>,
 ) -> Result<Interval, AllocError>
@@ -55,13 +55,13 @@ fn interval_of_all(
     parts: &[BoundCond<'_>],
 ) -> Result<Interval, AllocError>
     ensures { IfOk result (λ interval. interval
-        ≡ shared_interval key (parts_seen (map condition_seen parts.now))) }
+        ≡ intersection_of_all key (parts_seen (map condition_seen parts.now))) }
 {
     let mut interval = all_keys();
     let mut place = parts.len();
     while place > 0 {
         place -= 1;
-        interval = shared(interval_of(alloc, key, &parts[place])?, interval);
+        interval = intersection(interval_of(alloc, key, &parts[place])?, interval);
     }
     Ok(interval)
 }

@@ -2,9 +2,9 @@
 ghost use Rattle.std.specs.Prelude.{◌≡◌, ◌≤◌, [], map, length, option_map, IfOk};
 ghost use Rattle.std.specs.Option.{option_map_or};
 ghost use Rattle.std.specs.List.{list_any};
-ghost use Rattle.vo_spec.specs.Batches.{most_columns};
+ghost use Rattle.vo_spec.specs.Batches.{max_columns};
 ghost use Rattle.vo_spec.specs.Results.{schema_at};
-ghost use Rattle.query_binding.specs.Sided.{sides_seen, place_seen};
+ghost use Rattle.query_binding.specs.Sided.{bound_sources_seen, place_seen};
 ghost use Rattle.query_plan.specs.BoundConditions.{term_places, condition_places, parts_places};
 ghost use Rattle.query_plan.specs.BoundQueries.{join_columns};
 ghost use Rattle.query_plan.specs.BoundViews.{term_seen, parts_seen, condition_seen, join_seen, query_seen};
@@ -12,18 +12,18 @@ ghost use Rattle.query_plan.specs.Named.{is_at, names, is_named_cell, cells_of, 
 
 use crate::bound_cond::{BoundCond, BoundOperand};
 use crate::bound_query::{BoundJoin, Query};
-use query_binding::Place;
+use query_binding::ColumnPlace;
 use std::alloc::{AllocError, Global};
 use table_list::cell_number;
 use vo_spec::{Items, List, Schema};
 
-fn is_at(at: Place, place: Place) -> bool
+fn is_at(at: ColumnPlace, place: ColumnPlace) -> bool
     ensures { result ≡ is_at (place_seen at) (place_seen place) }
 {
-    place.side == at.side && place.column == at.column
+    place.bound_source == at.bound_source && place.column == at.column
 }
 
-fn is_among(at: Place, places: &[Place]) -> bool
+fn is_among(at: ColumnPlace, places: &[ColumnPlace]) -> bool
     ensures { result ≡ list_any (is_at (place_seen at)) (map place_seen places.now) }
 {
     for place in places {
@@ -36,7 +36,7 @@ fn is_among(at: Place, places: &[Place]) -> bool
 
 /// Whether the condition names the column at the place.
 #[cycle(names)]
-fn condition_names(at: Place, cond: &BoundCond<'_>) -> bool
+fn condition_names(at: ColumnPlace, cond: &BoundCond<'_>) -> bool
     ensures { result ≡ list_any (is_at (place_seen at))
         (condition_places (condition_seen cond.now)) }
 {
@@ -48,7 +48,7 @@ fn condition_names(at: Place, cond: &BoundCond<'_>) -> bool
 }
 
 #[cycle(names)]
-fn parts_name(at: Place, parts: &[BoundCond<'_>]) -> bool
+fn parts_name(at: ColumnPlace, parts: &[BoundCond<'_>]) -> bool
     ensures { result ≡ list_any (is_at (place_seen at))
         (parts_places (parts_seen (map condition_seen parts.now))) }
 {
@@ -60,7 +60,7 @@ fn parts_name(at: Place, parts: &[BoundCond<'_>]) -> bool
     false
 }
 
-fn operand_names(at: Place, operand: &BoundOperand<'_>) -> bool
+fn operand_names(at: ColumnPlace, operand: &BoundOperand<'_>) -> bool
     ensures { result ≡ list_any (is_at (place_seen at)) (term_places (term_seen operand.now)) }
 {
     match operand {
@@ -69,7 +69,7 @@ fn operand_names(at: Place, operand: &BoundOperand<'_>) -> bool
     }
 }
 
-fn join_names(at: Place, join: &Option<BoundJoin>) -> bool
+fn join_names(at: ColumnPlace, join: &Option<BoundJoin>) -> bool
     ensures { result ≡ list_any (is_at (place_seen at))
         (option_map_or join_columns (option_map join_seen join.now) []) }
 {
@@ -79,7 +79,7 @@ fn join_names(at: Place, join: &Option<BoundJoin>) -> bool
     }
 }
 
-fn where_names(at: Place, cond: &Option<BoundCond<'_>>) -> bool
+fn where_names(at: ColumnPlace, cond: &Option<BoundCond<'_>>) -> bool
     ensures { result ≡ list_any (is_at (place_seen at))
         (option_map_or condition_places (option_map condition_seen cond.now) []) }
 {
@@ -89,7 +89,7 @@ fn where_names(at: Place, cond: &Option<BoundCond<'_>>) -> bool
     }
 }
 
-fn is_named(query: &Query<'_>, at: Place) -> bool
+fn is_named(query: &Query<'_>, at: ColumnPlace) -> bool
     ensures { result ≡ names (query_seen query.now) (place_seen at) }
 {
     matches!(query.items, Items::All)
@@ -99,8 +99,8 @@ fn is_named(query: &Query<'_>, at: Place) -> bool
 }
 
 /// Whether the column at the place is a cell that the query names.
-fn is_named_cell(query: &Query<'_>, at: Place, key: usize) -> bool
-    ensures { result ≡ is_named_cell (query_seen query.now) at.side key at.column }
+fn is_named_cell(query: &Query<'_>, at: ColumnPlace, key: usize) -> bool
+    ensures { result ≡ is_named_cell (query_seen query.now) at.bound_source key at.column }
 {
     at.column != key && is_named(query, at)
 }
@@ -109,13 +109,14 @@ fn is_named_cell(query: &Query<'_>, at: Place, key: usize) -> bool
 pub(crate) fn named_cells(
     alloc: Global,
     query: &Query<'_>,
-    side: usize,
+    bound_source: usize,
 ) -> Result<List<u8>, AllocError>
-    requires { length (schema_at (sides_seen query.now.sides) side).columns ≤ most_columns }
-    ensures { IfOk result (λ cells. cells ≡ bound_cells (query_seen query.now) side) }
+    requires { length (schema_at (bound_sources_seen query.now.bound_sources) bound_source).columns
+        ≤ max_columns }
+    ensures { IfOk result (λ cells. cells ≡ bound_cells (query_seen query.now) bound_source) }
 {
-    match query.sides.schema_at(side) {
-        Some(schema) => cells_of(alloc, query, side, schema),
+    match query.bound_sources.schema_at(bound_source) {
+        Some(schema) => cells_of(alloc, query, bound_source, schema),
         None => Ok(List::new(alloc)),
     }
 }
@@ -123,16 +124,24 @@ pub(crate) fn named_cells(
 fn cells_of(
     alloc: Global,
     query: &Query<'_>,
-    side: usize,
+    bound_source: usize,
     schema: &Schema,
 ) -> Result<List<u8>, AllocError>
-    requires { length schema.now.columns ≤ most_columns }
-    ensures { IfOk result (λ cells. cells ≡ cells_of (query_seen query.now) side schema.now) }
+    requires { length schema.now.columns ≤ max_columns }
+    ensures { IfOk result (λ cells. cells
+        ≡ cells_of (query_seen query.now) bound_source schema.now) }
 {
     let key = schema.key as usize;
     let mut cells = Vec::new(alloc);
     for column in 0..schema.columns.len() {
-        if is_named_cell(query, Place { side, column }, key) {
+        if is_named_cell(
+            query,
+            ColumnPlace {
+                bound_source,
+                column,
+            },
+            key,
+        ) {
             cells.push(cell_number(key, column) as u8)?;
         }
     }

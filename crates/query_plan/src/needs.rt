@@ -1,8 +1,8 @@
 //! What a left row needs of the right tree, and whether it needs anything.
 ghost use Rattle.std.specs.Prelude.{◌≡◌, ◌≤◌, ◌↔◌, [], ◌∷◌, length, IfOk, IsTrue};
-ghost use Rattle.vo_spec.specs.Batches.{most_columns};
+ghost use Rattle.vo_spec.specs.Batches.{max_columns};
 ghost use Rattle.vo_spec.specs.Results.{schema_at, place_value};
-ghost use Rattle.query_binding.specs.Sided.{sides_seen, place_seen};
+ghost use Rattle.query_binding.specs.Sided.{bound_sources_seen, place_seen};
 ghost use Rattle.query_plan.specs.BoundConditions.{all_hold};
 ghost use Rattle.query_plan.specs.BoundViews.{join_seen};
 ghost use Rattle.query_plan.specs.Plans.{left_column, right_need_of, meets_left};
@@ -11,38 +11,39 @@ ghost use Rattle.query_plan.specs.PlanViews.{plan_seen};
 use crate::bound_query::BoundJoin;
 use crate::copies::copy_cells;
 use crate::intervals::keys_that;
-use crate::lines::Line;
 use crate::plans::Plan;
+use crate::row_views::RowView;
 use crate::rows::{LeftRow, PlaceValues};
 use crate::truths::all_hold;
-use query_binding::{Place, Sides};
+use query_binding::{BoundSources, ColumnPlace};
 use row_bytes::own_value;
 use std::alloc::{AllocError, Global};
 use vo_spec::{Cmp, Need, Value};
 
 /// Whether the source of this number has no more columns than a table may have.
-pub fn is_narrow(sides: &Sides<'_>, side: usize) -> bool
-    ensures { IsTrue result ↔ (length (schema_at (sides_seen sides.now) side).columns
-        ≤ most_columns) }
+pub fn is_narrow(bound_sources: &BoundSources<'_>, bound_source: usize) -> bool
+    ensures { IsTrue result ↔ (length
+        (schema_at (bound_sources_seen bound_sources.now) bound_source).columns
+        ≤ max_columns) }
 {
-    match sides.schema_at(side) {
+    match bound_sources.schema_at(bound_source) {
         Some(schema) => schema.columns.len() <= 32,
         None => true,
     }
 }
 
 /// Whether the left row meets the left condition. Other rows need no right row.
-pub fn meets_left<L: Line>(plan: &Plan<'_, '_>, left: &L) -> bool
-    ensures { result ≡ meets_left (plan_seen plan.now) (L.line left.now) }
+pub fn meets_left<L: RowView>(plan: &Plan<'_, '_>, left: &L) -> bool
+    ensures { result ≡ meets_left (plan_seen plan.now) (L.row_view left.now) }
 {
     all_hold(&plan.left, &LeftRow { left })
 }
 
 /// ON's column of the left source.
-fn left_column(join: BoundJoin) -> Place
+fn left_column(join: BoundJoin) -> ColumnPlace
     ensures { place_seen result ≡ left_column (join_seen join) }
 {
-    if join.first.side == 1 {
+    if join.first.bound_source == 1 {
         join.second
     } else {
         join.first
@@ -50,23 +51,23 @@ fn left_column(join: BoundJoin) -> Place
 }
 
 /// The value by which a left row finds its right row.
-fn join_value<L: Line>(alloc: Global, join: BoundJoin, left: &L) -> Result<Value, AllocError>
+fn join_value<L: RowView>(alloc: Global, join: BoundJoin, left: &L) -> Result<Value, AllocError>
     ensures { IfOk result (λ value. value
-        ≡ place_value (L.line left.now ∷ []) (left_column (join_seen join))) }
+        ≡ place_value (L.row_view left.now ∷ []) (left_column (join_seen join))) }
 {
     let rows = LeftRow { left };
     own_value(alloc, rows.value(left_column(join)))
 }
 
 /// What the query needs of the right tree for this left row: the row whose key is ON's value.
-pub fn right_need<L: Line>(
+pub fn right_need<L: RowView>(
     alloc: Global,
     plan: &Plan<'_, '_>,
     join: BoundJoin,
     left: &L,
 ) -> Result<Need, AllocError>
     ensures { IfOk result (λ need. need
-        ≡ right_need_of (plan_seen plan.now) (join_seen join) (L.line left.now)) }
+        ≡ right_need_of (plan_seen plan.now) (join_seen join) (L.row_view left.now)) }
 {
     let value = join_value(alloc, join, left)?;
     let interval = keys_that(alloc, Cmp::Eq, &value)?;

@@ -1,10 +1,10 @@
 //! The plan of a query, worked out before any row is seen.
 ghost use Rattle.std.specs.Prelude.{◌≡◌, ◌≤◌, length, option_map, IfOk};
 ghost use Rattle.std.specs.Option.{option_map_or};
-ghost use Rattle.vo_spec.specs.Batches.{most_columns};
+ghost use Rattle.vo_spec.specs.Batches.{max_columns};
 ghost use Rattle.vo_spec.specs.Results.{schema_at};
 ghost use Rattle.vo_spec.specs.Needs.{all_keys};
-ghost use Rattle.query_binding.specs.Sided.{sides_seen};
+ghost use Rattle.query_binding.specs.Sided.{bound_sources_seen};
 ghost use Rattle.query_plan.specs.BoundConditions.{bound_interval};
 ghost use Rattle.query_plan.specs.BoundViews.{condition_seen, query_seen};
 ghost use Rattle.query_plan.specs.Plans.{bound_left_need, plan_of};
@@ -36,10 +36,11 @@ fn left_interval(
 
 /// What the query needs of the left tree.
 fn left_need(alloc: Global, query: &Query<'_>) -> Result<Need, AllocError>
-    requires { length (schema_at (sides_seen query.now.sides) 0).columns ≤ most_columns }
+    requires { length (schema_at (bound_sources_seen query.now.bound_sources) 0).columns ≤
+        max_columns }
     ensures { IfOk result (λ need. need ≡ bound_left_need (query_seen query.now)) }
 {
-    let key = query.sides.left.schema.key as usize;
+    let key = query.bound_sources.left.schema.key as usize;
     let interval = left_interval(alloc, key, &query.condition)?;
     let columns = named_cells(alloc, query, 0)?;
     Ok(Need { interval, columns })
@@ -47,8 +48,10 @@ fn left_need(alloc: Global, query: &Query<'_>) -> Result<Need, AllocError>
 
 /// The plan of a query over tables that have no more columns than a table may have.
 pub fn plan<'p, 'q>(alloc: Global, query: &'p Query<'q>) -> Result<Plan<'p, 'q>, AllocError>
-    requires few_left { length (schema_at (sides_seen query.now.sides) 0).columns ≤ most_columns }
-    requires few_right { length (schema_at (sides_seen query.now.sides) 1).columns ≤ most_columns }
+    requires few_left { length (schema_at (bound_sources_seen query.now.bound_sources) 0).columns ≤
+        max_columns }
+    requires few_right { length (schema_at (bound_sources_seen query.now.bound_sources) 1).columns ≤
+        max_columns }
     ensures { IfOk result (λ plan. plan_seen plan ≡ plan_of (query_seen query.now)) }
 {
     let left_need = left_need(alloc, query)?;

@@ -2,19 +2,19 @@
 ghost use Rattle.std.specs.Prelude.{◌≡◌, [], ◌∷◌};
 ghost use Rattle.vo_spec.specs.declared.values.Value.{Value as Plain};
 ghost use Rattle.vo_spec.specs.Lent.{value_of};
-ghost use Rattle.vo_spec.specs.Results.{Place as PlainPlace, place_value};
+ghost use Rattle.vo_spec.specs.Results.{ColumnPlace as PlainColumnPlace, place_value};
 ghost use Rattle.query_binding.specs.Sided.{place_seen};
 
-use crate::lines::Line;
-use query_binding::Place;
+use crate::row_views::RowView;
+use query_binding::ColumnPlace;
 use vo_spec::ValueRef;
 
 /// Rows, one of each source, as what they have at each column's place.
 pub trait PlaceValues {
-    ghost values: { Self → PlainPlace → Plain };
+    ghost values: { Self → PlainColumnPlace → Plain };
 
     /// The value of the column at the place.
-    fn value(&self, place: Place) -> ValueRef<'_>
+    fn value(&self, place: ColumnPlace) -> ValueRef<'_>
         ensures { value_of result ≡ values self.now (place_seen place) };
 }
 
@@ -31,22 +31,23 @@ pub struct RowPair<'r, L, R> {
     pub right: &'r R,
 }
 
-impl<L: Line> PlaceValues for LeftRow<'_, L> {
-    ghost values = { λ rows. place_value (L.line rows.left.now ∷ []) };
+impl<L: RowView> PlaceValues for LeftRow<'_, L> {
+    ghost values = { λ rows. place_value (L.row_view rows.left.now ∷ []) };
 
-    fn value(&self, place: Place) -> ValueRef<'_> {
-        match place.side {
+    fn value(&self, place: ColumnPlace) -> ValueRef<'_> {
+        match place.bound_source {
             0 => self.left.field(place.column),
             _ => ValueRef::Bool(false),
         }
     }
 }
 
-impl<L: Line, R: Line> PlaceValues for RowPair<'_, L, R> {
-    ghost values = { λ rows. place_value (L.line rows.left.now ∷ R.line rows.right.now ∷ []) };
+impl<L: RowView, R: RowView> PlaceValues for RowPair<'_, L, R> {
+    ghost values = { λ rows. place_value
+        (L.row_view rows.left.now ∷ R.row_view rows.right.now ∷ []) };
 
-    fn value(&self, place: Place) -> ValueRef<'_> {
-        match place.side {
+    fn value(&self, place: ColumnPlace) -> ValueRef<'_> {
+        match place.bound_source {
             0 => self.left.field(place.column),
             1 => self.right.field(place.column),
             _ => ValueRef::Bool(false),

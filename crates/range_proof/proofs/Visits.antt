@@ -7,7 +7,7 @@ use Rattle.vo_spec.specs.declared.keys.Bound.TheVariants.{Absent, Inclusive, Exc
 use Rattle.vo_spec.specs.declared.needs.Need.{Need}
 use Rattle.vo_spec.specs.Values.{key_lt}
 use Rattle.vo_spec.specs.Scans.{is_above, is_below, in_interval, is_empty_interval, ends_above, begins_below, visits}
-use Rattle.vo_spec.specs.Pruned.{going_in, going_on, named, is_any}
+use Rattle.vo_spec.specs.Pruned.{at_root, descend, needed_columns, is_any}
 use Rattle.vo_spec.specs.Standing.{is_from, is_before}
 use Rattle.vo_laws.proofs.KeyOrder.{key_lt_back, key_le_le, key_lt_le, key_lt_lt}
 use Rattle.vo_laws.proofs.SeenLaws.{empty_has_none}
@@ -15,22 +15,22 @@ use Rattle.range_proof.specs.Visiting.{Suffice, later, sooner}
 
 -- needs that don't have the key name nothing of it
 named_kept : (stays : Need → Bool) (key : List ℕ) → ((need : Need) → stays need ≡ false → in_interval need.interval key ≡ false)
-    → (needs : List Need) → named (filter stays needs) key ≡ named needs key
+    → (needs : List Need) → needed_columns (filter stays needs) key ≡ needed_columns needs key
 named_kept stays key f [] = refl
 named_kept stays key f (n ∷ ns) = step (stays n) refl (named_kept stays key f ns)
   where
-    first : (b : Bool) (xs ys : List Need) → named xs key ≡ named ys key
+    first : (b : Bool) (xs ys : List Need) → needed_columns xs key ≡ needed_columns ys key
         → flat_map (λ (need : Need). need.columns) (cond b (n ∷ filter (λ need. in_interval need.interval key) xs) (filter (λ need. in_interval need.interval key) xs))
         ≡ flat_map (λ (need : Need). need.columns) (cond b (n ∷ filter (λ need. in_interval need.interval key) ys) (filter (λ need. in_interval need.interval key) ys))
     first true xs ys e = ap (λ columns. n.columns ++ columns) e
     first false xs ys e = e
 
-    step : (b : Bool) → stays n ≡ b → named (filter stays ns) key ≡ named ns key → named (cond b (n ∷ filter stays ns) (filter stays ns)) key ≡ named (n ∷ ns) key
+    step : (b : Bool) → stays n ≡ b → needed_columns (filter stays ns) key ≡ needed_columns ns key → needed_columns (cond b (n ∷ filter stays ns) (filter stays ns)) key ≡ needed_columns (n ∷ ns) key
     step true e rest = first (in_interval n.interval key) (filter stays ns) ns rest
     step false e rest = rw (f n e) rest
 
 -- at the root, where needs without keys are left out
-pub suffice_in : (needs : List Need) → Suffice needs (going_in needs) None None
+pub suffice_in : (needs : List Need) → Suffice needs (at_root needs) None None
 suffice_in needs some key e =
     named_kept (λ need. not (is_empty_interval need.interval)) key
     (λ need left_out. empty_has_none need.interval key (not-false (is_empty_interval need.interval) left_out)) needs
@@ -88,7 +88,7 @@ any_before stays (x ∷ xs) e = refl
 
 -- at a child, where those are left out that don't go on to it
 pub suffice_on : (all going : List Need) (from to lower upper : Option (List ℕ)) → Suffice all going from to
-    → Suffice all (going_on going lower upper) (later from lower) (sooner to upper)
+    → Suffice all (descend going lower upper) (later from lower) (sooner to upper)
 suffice_on all going from to lower upper s some key e =
     let ends = and_parts (is_from (later from lower) key) (is_before (sooner to upper) key) e in
     let above = later_parts from lower key ends.0 in
@@ -97,8 +97,8 @@ suffice_on all going from to lower upper s some key e =
     ∙ s (any_before (λ need. visits need.interval lower upper) going some) key (and_from (is_from from key) (is_before to key) above.0 below.0)
 
 -- of a need alone
-pub goes_alone : (need : Need) (lower upper : Option (List ℕ)) → visits need.interval lower upper ≡ true → going_on (need ∷ []) lower upper ≡ need ∷ []
+pub goes_alone : (need : Need) (lower upper : Option (List ℕ)) → visits need.interval lower upper ≡ true → descend (need ∷ []) lower upper ≡ need ∷ []
 goes_alone need lower upper e = ap (λ b. cond b (need ∷ []) []) e
 
-pub passes_by : (need : Need) (lower upper : Option (List ℕ)) → visits need.interval lower upper ≡ false → going_on (need ∷ []) lower upper ≡ []
+pub passes_by : (need : Need) (lower upper : Option (List ℕ)) → visits need.interval lower upper ≡ false → descend (need ∷ []) lower upper ≡ []
 passes_by need lower upper e = ap (λ b. cond b (need ∷ []) []) e

@@ -10,10 +10,10 @@ use Rattle.vo_spec.specs.declared.trees.ScanFault.TheVariants.{Missing, Memory}
 use Rattle.vo_spec.specs.declared.needs.Need.{Need}
 use Rattle.vo_spec.specs.Parts.{stub, leaf, inner, none, more}
 use Rattle.vo_spec.specs.Trees.{RowTree, RowTrees, digest, row_family, open_parts}
-use Rattle.vo_spec.specs.Pruned.{Walk, walk_for, is_any, misses, misses_in, goes_beyond, goes_beyond_in, pruned_by, pruned_in}
+use Rattle.vo_spec.specs.Pruned.{Walk, walk_for, is_any, is_missing_by, is_missing_in, has_surplus_by, has_surplus_in, pruned_by, pruned_in}
 use Rattle.mb_tree.specs.declared.parts.PartTree.{PartTree}
 use Rattle.mb_tree.specs.View.{part_of, parts_of}
-use Rattle.range_proof.specs.Judging.{Judges}
+use Rattle.range_proof.specs.Judging.{JudgesOrMissing}
 use Rattle.range_proof.specs.Lending.{lent_need}
 use Rattle.range_proof.proofs.Steps.{part_at, first_at, rest_at}
 
@@ -54,37 +54,37 @@ module _ {S : Type 0} (walk : Walk PartEntry S) (s : S) (lower : Option (List �
 
   module _ (ps : List PartTree) where
     abbrev missed : Bool
-    missed = misses_in walk (walk.past s lower upper) upper (drop (i + 1) ss) (parts_of (drop (i + 1) ps))
+    missed = is_missing_in walk (walk.past s lower upper) upper (drop (i + 1) ss) (parts_of (drop (i + 1) ps))
 
     abbrev beyond : Bool
-    beyond = goes_beyond_in walk (walk.past s lower upper) upper (drop (i + 1) ss) (parts_of (drop (i + 1) ps))
+    beyond = has_surplus_in walk (walk.past s lower upper) upper (drop (i + 1) ss) (parts_of (drop (i + 1) ps))
 
-    misses_at : (p : PartTree) → i < length ps → p ≡ get_or ps i p
-        → misses_in walk s lower (drop i ss) (parts_of (drop i ps)) ≡ misses walk (walk.onward s lower upper) (part_of p) || missed
-    misses_at p lt is = rw (part_at ps i p lt is, first_at ss i, rest_at ss i) refl
+    missing_at : (p : PartTree) → i < length ps → p ≡ get_or ps i p
+        → is_missing_in walk s lower (drop i ss) (parts_of (drop i ps)) ≡ is_missing_by walk (walk.onward s lower upper) (part_of p) || missed
+    missing_at p lt is = rw (part_at ps i p lt is, first_at ss i, rest_at ss i) refl
 
-    beyond_at : (p : PartTree) → i < length ps → p ≡ get_or ps i p
-        → goes_beyond_in walk s lower (drop i ss) (parts_of (drop i ps)) ≡ goes_beyond walk (walk.onward s lower upper) (part_of p) || beyond
-    beyond_at p lt is = rw (part_at ps i p lt is, first_at ss i, rest_at ss i) refl
+    surplus_at : (p : PartTree) → i < length ps → p ≡ get_or ps i p
+        → has_surplus_in walk s lower (drop i ss) (parts_of (drop i ps)) ≡ has_surplus_by walk (walk.onward s lower upper) (part_of p) || beyond
+    surplus_at p lt is = rw (part_at ps i p lt is, first_at ss i, rest_at ss i) refl
 
     -- a child that misses nothing
-    pub misses_step : (p : PartTree) (all : Bool) → i < length ps → p ≡ get_or ps i p → misses walk (walk.onward s lower (slice_get ss i)) (part_of p) ≡ false
-        → misses_in walk s lower (drop i ss) (parts_of (drop i ps)) ≡ all
-        → misses_in walk (walk.past s lower (slice_get ss i)) (slice_get ss i) (drop (i + 1) ss) (parts_of (drop (i + 1) ps)) ≡ all
-    misses_step p all lt is none_here e = ap (λ b. b || missed) (sym none_here) ∙ sym (misses_at p lt is) ∙ e
+    pub missing_step : (p : PartTree) (all : Bool) → i < length ps → p ≡ get_or ps i p → is_missing_by walk (walk.onward s lower (slice_get ss i)) (part_of p) ≡ false
+        → is_missing_in walk s lower (drop i ss) (parts_of (drop i ps)) ≡ all
+        → is_missing_in walk (walk.past s lower (slice_get ss i)) (slice_get ss i) (drop (i + 1) ss) (parts_of (drop (i + 1) ps)) ≡ all
+    missing_step p all lt is none_here e = ap (λ b. b || missed) (sym none_here) ∙ sym (missing_at p lt is) ∙ e
 
-    pub beyond_step : (p : PartTree) (told more_told : Bool) (all : Bool) → i < length ps → p ≡ get_or ps i p → more_told ≡ goes_beyond walk (walk.onward s lower (slice_get ss i)) (part_of p)
-        → told || goes_beyond_in walk s lower (drop i ss) (parts_of (drop i ps)) ≡ all
-        → (told || more_told) || goes_beyond_in walk (walk.past s lower (slice_get ss i)) (slice_get ss i) (drop (i + 1) ss) (parts_of (drop (i + 1) ps)) ≡ all
-    beyond_step p true m all lt is f e = e
-    beyond_step p false m all lt is f e = ap (λ b. b || beyond) f ∙ sym (beyond_at p lt is) ∙ e
+    pub surplus_step : (p : PartTree) (told more_told : Bool) (all : Bool) → i < length ps → p ≡ get_or ps i p → more_told ≡ has_surplus_by walk (walk.onward s lower (slice_get ss i)) (part_of p)
+        → told || has_surplus_in walk s lower (drop i ss) (parts_of (drop i ps)) ≡ all
+        → (told || more_told) || has_surplus_in walk (walk.past s lower (slice_get ss i)) (slice_get ss i) (drop (i + 1) ss) (parts_of (drop (i + 1) ps)) ≡ all
+    surplus_step p true m all lt is f e = e
+    surplus_step p false m all lt is f e = ap (λ b. b || beyond) f ∙ sym (surplus_at p lt is) ∙ e
 
     -- a child that misses something, and a fault that is handed on
-    pub misses_here : (p : PartTree) (all : Bool) → i < length ps → p ≡ get_or ps i p → misses walk (walk.onward s lower (slice_get ss i)) (part_of p) ≡ true
-        → misses_in walk s lower (drop i ss) (parts_of (drop i ps)) ≡ all → all ≡ true
-    misses_here p all lt is here e = sym e ∙ misses_at p lt is ∙ ap (λ b. b || missed) here
+    pub missing_here : (p : PartTree) (all : Bool) → i < length ps → p ≡ get_or ps i p → is_missing_by walk (walk.onward s lower (slice_get ss i)) (part_of p) ≡ true
+        → is_missing_in walk s lower (drop i ss) (parts_of (drop i ps)) ≡ all → all ≡ true
+    missing_here p all lt is here e = sym e ∙ missing_at p lt is ∙ ap (λ b. b || missed) here
 
-pub judge_on : (fault : ScanFault) (a b c d : Bool) → Judges (Err fault) a b → (a ≡ true → c ≡ true) → Judges (Err fault) c d
+pub judge_on : (fault : ScanFault) (a b c d : Bool) → JudgesOrMissing (Err fault) a b → (a ≡ true → c ≡ true) → JudgesOrMissing (Err fault) c d
 judge_on Missing a b c d h f = f h
 judge_on Memory a b c d h f = tt
 

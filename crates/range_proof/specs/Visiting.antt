@@ -2,7 +2,7 @@
 use Rattle.std.specs.Prelude.{◌≡◌, ℕ, true, if◌then◌else◌, List, Option, Some, None}
 use Rattle.vo_spec.specs.declared.needs.Need.{Need}
 use Rattle.vo_spec.specs.Values.{key_lt}
-use Rattle.vo_spec.specs.Pruned.{named, is_any}
+use Rattle.vo_spec.specs.Pruned.{needed_columns, is_any}
 use Rattle.vo_spec.specs.Standing.{is_between}
 
 pub record Visit : Type 0 where
@@ -11,7 +11,8 @@ pub record Visit : Type 0 where
 
 -- of the keys between these separators, some of the needs, where there are any, name what all name
 abbrev pub Suffice : List Need → List Need → Option (List ℕ) → Option (List ℕ) → Type 0
-Suffice all going lower upper = is_any going ≡ true → (key : List ℕ) → is_between lower upper key ≡ true → named going key ≡ named all key
+Suffice all going lower upper = is_any going ≡ true → (key : List ℕ)
+    → is_between lower upper key ≡ true → needed_columns going key ≡ needed_columns all key
 
 -- the narrower of two lower separators, and of two upper ones; one that is missing bounds nothing
 

@@ -1,7 +1,7 @@
 //! The needs whose scans visit a node.
 ghost use Rattle.std.specs.Prelude.{◌≡◌, [], map, IfOk, OnOk};
 ghost use Rattle.std.specs.Option.{option_copied};
-ghost use Rattle.vo_spec.specs.Pruned.{going_in as first_going, going_on as next_going};
+ghost use Rattle.vo_spec.specs.Pruned.{at_root as first_going, descend as next_going};
 ghost use Rattle.range_proof.specs.Lending.{lent_need};
 
 use crate::intervals::{is_empty_interval, visits};
@@ -20,7 +20,7 @@ pub fn lend_needs<'n>(alloc: Global, needs: &'n [Need]) -> Result<Vec<&'n Need>,
 }
 
 /// Those whose scans visit the root.
-pub fn going_in<'n>(alloc: Global, needs: &[&'n Need]) -> Result<Vec<&'n Need>, AllocError>
+pub fn at_root<'n>(alloc: Global, needs: &[&'n Need]) -> Result<Vec<&'n Need>, AllocError>
     ensures { IfOk result (λ going. map lent_need going.items
         ≡ first_going (map lent_need needs.now)) }
 {

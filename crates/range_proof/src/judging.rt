@@ -1,12 +1,12 @@
 //! Whether a part of a tree is the proof for some needs.
 ghost use Rattle.std.specs.Prelude.{◌≡◌, not};
 ghost use Rattle.std.specs.List.{list_any};
-ghost use Rattle.vo_spec.specs.Pruned.{is_missing, has_surplus, misses, misses_in, goes_beyond, goes_beyond_in, walk_for};
+ghost use Rattle.vo_spec.specs.Pruned.{is_missing, has_surplus, is_missing_by, is_missing_in, has_surplus_by, has_surplus_in, walk_for};
 ghost use Rattle.mb_tree.specs.View.{part_of, parts_of};
-ghost use Rattle.range_proof.specs.Judging.{Judges};
+ghost use Rattle.range_proof.specs.Judging.{JudgesOrMissing};
 
 use crate::going::lend_needs;
-use crate::naming::{hides_any, row_beyond};
+use crate::naming::{hides_any, row_has_surplus};
 use crate::scanning::separator_at;
 use crate::visitors::Visitors;
 use mb_tree::PartTree;
@@ -16,7 +16,7 @@ use vo_spec::{KeyPart, Need, PartEntry, ScanFault};
 /// Whether the part is the proof for these needs, as far as it alone can tell: with nothing missing, true
 /// exactly where nothing is there beyond what is needed.
 pub fn is_canonical(alloc: Global, tree: &PartTree<'_>, needs: &[Need]) -> Result<bool, ScanFault>
-    ensures { Judges result (is_missing needs.now (part_of tree.now))
+    ensures { JudgesOrMissing result (is_missing needs.now (part_of tree.now))
         (not (has_surplus needs.now (part_of tree.now))) }
 {
     let all = lend_needs(alloc, needs)?;
@@ -34,7 +34,8 @@ fn judge_node<'k>(
     visitors: &Visitors<'_, 'k>,
 ) -> Result<bool, ScanFault>
     ensures { let walk = walk_for visitors.now.all in let s = visitors.now.going in
-        Judges result (misses walk s (part_of tree.now)) (goes_beyond walk s (part_of tree.now)) }
+        JudgesOrMissing result (is_missing_by walk s (part_of tree.now))
+        (has_surplus_by walk s (part_of tree.now)) }
 {
     match tree {
         PartTree::Stub(_) => {
@@ -66,8 +67,8 @@ fn judge_children<'k>(
     visitors: &Visitors<'_, 'k>,
 ) -> Result<bool, ScanFault>
     ensures { let walk = walk_for visitors.now.all in let s = visitors.now.going in
-        Judges result (misses_in walk s None separators.now (parts_of children.now))
-        (goes_beyond_in walk s None separators.now (parts_of children.now)) }
+        JudgesOrMissing result (is_missing_in walk s None separators.now (parts_of children.now))
+        (has_surplus_in walk s None separators.now (parts_of children.now)) }
 {
     let mut surplus = false;
     let mut lower = None;
@@ -88,16 +89,16 @@ fn judge_entries(
     entries: &[PartEntry<'_>],
     visitors: &Visitors<'_, '_>,
 ) -> Result<bool, ScanFault>
-    ensures { let walk = walk_for visitors.now.all in Judges result
+    ensures { let walk = walk_for visitors.now.all in JudgesOrMissing result
         (list_any walk.lacks entries.now) (list_any walk.exceeds entries.now) }
 {
     let mut surplus = false;
     for entry in entries {
-        let columns = visitors.named(alloc, entry.key.as_bytes())?;
+        let columns = visitors.needed_columns(alloc, entry.key.as_bytes())?;
         if hides_any(&columns, &entry.row) {
             return Err(ScanFault::Missing);
         }
-        surplus = surplus || row_beyond(&columns, &entry.row);
+        surplus = surplus || row_has_surplus(&columns, &entry.row);
     }
     Ok(surplus)
 }

@@ -1,11 +1,11 @@
 //! Which columns of a row the needs name, and whether a part of the row has these and no others.
 ghost use Rattle.std.specs.Prelude.{◌≡◌, map, IfOk};
 ghost use Rattle.vo_spec.specs.Pruned.{
-  named as named_by,
+  needed_columns as named_by,
   has_column as is_among,
   hides_any as does_hide,
-  row_beyond as goes_beyond,
-  shows_beyond as does_show,
+  row_has_surplus as has_surplus_by,
+  shows_surplus as does_show,
 };
 ghost use Rattle.range_proof.specs.Lending.{lent_need};
 
@@ -15,7 +15,7 @@ use std::alloc::{AllocError, Global};
 use vo_spec::{Cell, Need, RowPart};
 
 /// The columns that the needs name whose intervals have the key.
-pub fn named(alloc: Global, needs: &[&Need], key: &[u8]) -> Result<Vec<u8>, AllocError>
+pub fn needed_columns(alloc: Global, needs: &[&Need], key: &[u8]) -> Result<Vec<u8>, AllocError>
     ensures { IfOk result (λ columns. columns.items ≡ named_by (map lent_need needs.now) key.now) }
 {
     let mut columns = Vec::new(alloc);
@@ -40,16 +40,16 @@ pub fn hides_any(columns: &[u8], row: &RowPart<'_>) -> bool
 }
 
 /// Whether the row shows a cell of none of these columns, or stands as cells though there are none.
-pub fn row_beyond(columns: &[u8], row: &RowPart<'_>) -> bool
-    ensures { result ≡ goes_beyond columns.now row.now }
+pub fn row_has_surplus(columns: &[u8], row: &RowPart<'_>) -> bool
+    ensures { result ≡ has_surplus_by columns.now row.now }
 {
     match row {
         RowPart::Digest(_) => false,
-        RowPart::Cells(cells) => columns.is_empty() || shows_beyond(columns, cells.as_slice()),
+        RowPart::Cells(cells) => columns.is_empty() || shows_surplus(columns, cells.as_slice()),
     }
 }
 
-fn shows_beyond(columns: &[u8], cells: &[Cell<'_>]) -> bool
+fn shows_surplus(columns: &[u8], cells: &[Cell<'_>]) -> bool
     ensures { result ≡ does_show columns.now 0 cells.now }
 {
     for (column, cell) in cells.iter().enumerate() {

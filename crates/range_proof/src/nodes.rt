@@ -62,7 +62,7 @@ fn prune_entry<'b>(
 {
     let key = KeyPart::lent(entry.key().as_bytes());
     let cells = entry.cells();
-    let columns = visitors.named(alloc, entry.key().as_bytes())?;
+    let columns = visitors.needed_columns(alloc, entry.key().as_bytes())?;
     if columns.is_empty() {
         let row = RowPart::Digest(cells.digest());
         return Ok(PartEntry { key, row });

@@ -5,7 +5,7 @@ ghost use Rattle.std.specs.Option.{option_copied};
 ghost use Rattle.vo_spec.specs.Cells.{value_in as value_at, shown_value as shown};
 ghost use Rattle.vo_spec.specs.Scans.{seen, seen_in, seen_in_each, seen_entries, values_in as values_at};
 ghost use Rattle.mb_tree.specs.View.{part_of, parts_of};
-ghost use Rattle.range_proof.specs.Finding.{Finds, Appends, value_seen};
+ghost use Rattle.range_proof.specs.Finding.{FindsOrMissing, Appends, value_seen};
 
 use crate::intervals::{in_interval, is_empty_interval, visits};
 use mb_tree::PartTree;
@@ -16,7 +16,7 @@ use vo_spec::{
 
 /// The rows of the need's interval, with the values of its columns.
 pub fn scan(alloc: Global, tree: &PartTree<'_>, need: &Need) -> Result<List<SeenRow>, ScanFault>
-    ensures { Finds result (seen need.now (part_of tree.now)) }
+    ensures { FindsOrMissing result (seen need.now (part_of tree.now)) }
 {
     let mut rows = Vec::new(alloc);
     if !is_empty_interval(&need.interval) {
@@ -128,7 +128,7 @@ fn push_value(alloc: Global, values: &mut Vec<Value>, value: ValueRef<'_>) -> Re
 }
 
 fn values_in(alloc: Global, row: &RowPart<'_>, columns: &[u8]) -> Result<List<Value>, ScanFault>
-    ensures { Finds result (values_at row.now columns.now) }
+    ensures { FindsOrMissing result (values_at row.now columns.now) }
 {
     let mut values = Vec::with_capacity(alloc, columns.len())?;
     for column in columns {

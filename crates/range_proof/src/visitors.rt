@@ -1,12 +1,12 @@
 //! The needs as they come to a node of a tree.
 ghost use Rattle.std.specs.Prelude.{◌≡◌, ◌≢◌, [], ◌∷◌, length, map, not, IfOk, IfSome, IsNone, OnOk};
 ghost use Rattle.std.specs.Option.{option_copied};
-ghost use Rattle.vo_spec.specs.Pruned.{going_in as first_going, going_on as next_going, is_any, named as named_by};
+ghost use Rattle.vo_spec.specs.Pruned.{at_root as first_going, descend as next_going, is_any, needed_columns as named_by};
 ghost use Rattle.range_proof.specs.Lending.{lent_need};
 
-use crate::going::{going_in, put_going_on};
+use crate::going::{at_root, put_going_on};
 use crate::intervals::{is_between, later, sooner};
-use crate::naming::named;
+use crate::naming::needed_columns;
 use std::alloc::{AllocError, Global};
 use std::marker::Model;
 use vo_spec::Need;
@@ -30,9 +30,14 @@ impl<'n, 'k> Model for Visitors<'n, 'k> {
 
     ghost Value = { Visit };
 
-    ghost view = { λ v. record { all = map lent_need v.all.now; going = map lent_need v.going.items } };
+    ghost view = { λ v. record {
+      all = map lent_need v.all.now;
+      going =
+          map lent_need v.going.items;
+    } };
 
-    ghost invariant = { λ v. Suffice (map lent_need v.all.now) (map lent_need v.going.items) (option_copied v.lower) (option_copied v.upper) };
+    ghost invariant = { λ v. Suffice (map lent_need v.all.now) (map lent_need v.going.items)
+        (option_copied v.lower) (option_copied v.upper) };
 }
 
 impl<'n, 'k> Visitors<'n, 'k> {
@@ -43,7 +48,7 @@ impl<'n, 'k> Visitors<'n, 'k> {
     {
         Ok(Visitors {
             all,
-            going: going_in(alloc, all)?,
+            going: at_root(alloc, all)?,
             lower: None,
             upper: None,
         })
@@ -130,14 +135,14 @@ impl<'n, 'k> Visitors<'n, 'k> {
 
     /// The columns that all needs name whose intervals have the key. At a key in the node's place of the tree only
     /// the visitors are asked, since no other need has it.
-    pub fn named(&self, alloc: Global, key: &[u8]) -> Result<Vec<u8>, AllocError>
+    pub fn needed_columns(&self, alloc: Global, key: &[u8]) -> Result<Vec<u8>, AllocError>
         ensures { IfOk result (λ columns. columns.items ≡ named_by self.now.all key.now) }
     {
         let fewer = !self.going.is_empty() && self.going.len() < self.all.len();
         if fewer && is_between(self.lower, self.upper, key) {
-            named(alloc, &self.going, key)
+            needed_columns(alloc, &self.going, key)
         } else {
-            named(alloc, self.all, key)
+            needed_columns(alloc, self.all, key)
         }
     }
 }

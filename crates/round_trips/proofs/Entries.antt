@@ -13,13 +13,13 @@ use Rattle.vo_spec.specs.Journals.{FitsEntry, Holds, batches_of, tables_at}
 use Rattle.vo_spec.specs.Tables.{tables_after}
 use Rattle.vo_spec.specs.Replies.{Reply, FitsReply}
 use Rattle.vo_spec.specs.Honest.{honest_record, honest_reply, honest_trees, reply_of, sealed}
-use Rattle.vo_spec.specs.Owners.{IsSigned, AreTaken}
+use Rattle.vo_spec.specs.Owners.{IsSigned, AreLoadable}
 use Rattle.vo_laws.specs.Sealing.{AreAcceptedAfter}
 use Rattle.vo_laws.proofs.EntryLaws.{entry_held}
 use Rattle.vo_laws.proofs.ReplyFits.{reply_fits}
 use Rattle.vo_laws.proofs.SealedLaws.{batches_sealed}
 use Rattle.round_trips.specs.Trips.{AreSealable}
-use Rattle.round_trips.proofs.Sealed.{are_taken, entries_fit, length-sealed}
+use Rattle.round_trips.proofs.Sealed.{are_loadable, entries_fit, length-sealed}
 
 -- Lists.
 
@@ -71,7 +71,7 @@ pub record IsEntryAt (secret : Secret) (batches : List (List Command)) (version 
   pub record_is : e.rec ≡ honest_record (public_of_secret secret) version (honest_trees (take version batches))
   pub signed : IsSigned (public_of_secret secret) e.rec e.signature
 
-pub entry_at : (secret : Secret) (batches : List (List Command)) (version : ℕ) (e : Entry) → AreTaken (public_of_secret secret) (sealed secret batches)
+pub entry_at : (secret : Secret) (batches : List (List Command)) (version : ℕ) (e : Entry) → AreLoadable (public_of_secret secret) (sealed secret batches)
     → slice_get (sealed secret batches) version ≡ Some e → IsEntryAt secret batches version e
 entry_at secret batches version e taken found =
     let key = public_of_secret secret in
@@ -103,7 +103,7 @@ reply_after secret batches q r all e =
     let long : length es ≡ n + 1 = length-sealed secret batches in
     let last : length es - 1 ≡ n = omega arith in
     let found = there es n (omega arith) in
-    let held = entry_at secret batches n found.0 (are_taken secret batches all) found.1 in
+    let held = entry_at secret batches n found.0 (are_loadable secret batches all) found.1 in
     let at_last : slice_get es (length es - 1) ≡ Some found.0 = ap (λ (v : ℕ). slice_get es v) last ∙ found.1 in
     record {
       entry = found.0;
@@ -142,7 +142,7 @@ holds secret batches later q r after sealable =
     let key = public_of_secret secret in
     let v = version_is secret batches q r after in
     let found = there es n (omega (arith, length-sealed secret all, length-append batches later)) in
-    let held = entry_at secret all n found.0 (are_taken secret all sealable) found.1 in
+    let held = entry_at secret all n found.0 (are_loadable secret all sealable) found.1 in
     let same : found.0.rec ≡ r.rec =
     held.record_is ∙ ap (λ (bs : List (List Command)). honest_record key n (honest_trees bs)) (take_at batches later n refl) ∙ sym v.1 in
     ap (λ (w : ℕ). option_map (λ (e : Entry). e.rec) (slice_get es w)) v.0 ∙ ap (option_map (λ (e : Entry). e.rec)) found.1 ∙ ap (λ (rec : Record). Some rec) same

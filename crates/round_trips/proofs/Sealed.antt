@@ -9,11 +9,11 @@ use Rattle.vo_spec.specs.declared.records.Entry.{Entry}
 use Rattle.vo_spec.specs.LmsSets.{leaves_of}
 use Rattle.vo_spec.specs.Secret.{Secret, public_of_secret, lms_signature}
 use Rattle.vo_spec.specs.Records.{record_bytes}
-use Rattle.vo_spec.specs.Journals.{most_signature, FitsEntry, IsJournal, batches_of, journal_bytes}
+use Rattle.vo_spec.specs.Journals.{max_signature, FitsEntry, IsJournal, batches_of, journal_bytes}
 use Rattle.vo_spec.specs.Honest.{honest_record, honest_trees, sealed, sealed_after, sealed_entry}
-use Rattle.vo_spec.specs.Owners.{AreOwned, AreTaken, IsOwned, IsLoaded}
+use Rattle.vo_spec.specs.Owners.{AreOwned, AreLoadable, IsOwned, IsLoadable}
 use Rattle.vo_laws.specs.Sealing.{SignsValidly}
-use Rattle.vo_laws.proofs.EntryLaws.{owned_are_taken}
+use Rattle.vo_laws.proofs.EntryLaws.{owned_are_loadable}
 use Rattle.vo_laws.proofs.SealedLaws.{batches_sealed, sealed_are_owned, sealed_are_signed, sealed_fit, signatures_short}
 use Rattle.lms_sign.proofs.Keys.{leaves_few}
 use Rattle.lms_sign.proofs.Signed.{id_of_valid, signed_len}
@@ -31,17 +31,17 @@ some_leaf H25 = lit< tt
 sixteen : (secret : Secret) → SignsValidly secret → length secret.id ≡ 16
 sixteen secret valid = id_of_valid secret [] (lms_signature secret 0 []) (valid 0 [] (some_leaf secret.lms)).0
 
-short : (secret : Secret) (earlier : List (List Command)) (batch : List Command) → length (sealed_entry secret earlier batch).signature ≤ most_signature
+short : (secret : Secret) (earlier : List (List Command)) (batch : List Command) → length (sealed_entry secret earlier batch).signature ≤ max_signature
 unfolding sealed_entry
 short secret earlier batch =
     let message = record_bytes (honest_record (public_of_secret secret) (length earlier) (honest_trees (earlier ++ batch ∷ []))) in
     omega (arith, signed_len secret (length earlier) message, signatures_short (public_of_secret secret))
 
-short_after : (secret : Secret) (earlier batches : List (List Command)) → AllByRecursion (λ (e : Entry). length e.signature ≤ most_signature) (sealed_after secret earlier batches)
+short_after : (secret : Secret) (earlier batches : List (List Command)) → AllByRecursion (λ (e : Entry). length e.signature ≤ max_signature) (sealed_after secret earlier batches)
 short_after secret earlier [] = tt
 short_after secret earlier (batch ∷ batches) = (short secret earlier batch, short_after secret (earlier ++ batch ∷ []) batches)
 
-all_short : (secret : Secret) (batches : List (List Command)) → AllByRecursion (λ (e : Entry). length e.signature ≤ most_signature) (sealed secret batches)
+all_short : (secret : Secret) (batches : List (List Command)) → AllByRecursion (λ (e : Entry). length e.signature ≤ max_signature) (sealed secret batches)
 unfolding sealed
 all_short secret batches = short_after secret [] ([] ∷ batches)
 
@@ -66,8 +66,8 @@ entries_fit secret batches all =
 are_owned : (secret : Secret) (batches : List (List Command)) → AreSealable secret batches → AreOwned (public_of_secret secret) (sealed secret batches)
 are_owned secret batches all = sealed_are_owned secret batches all.accepted (sealed_are_signed secret batches all.signs all.few)
 
-pub are_taken : (secret : Secret) (batches : List (List Command)) → AreSealable secret batches → AreTaken (public_of_secret secret) (sealed secret batches)
-are_taken secret batches all = owned_are_taken (public_of_secret secret) (sealed secret batches) (are_owned secret batches all)
+pub are_loadable : (secret : Secret) (batches : List (List Command)) → AreSealable secret batches → AreLoadable (public_of_secret secret) (sealed secret batches)
+are_loadable secret batches all = owned_are_loadable (public_of_secret secret) (sealed secret batches) (are_owned secret batches all)
 
 journal : (secret : Secret) (batches : List (List Command)) → AreSealable secret batches → IsJournal (journal_bytes (sealed secret batches)) (sealed secret batches)
 journal secret batches all =
@@ -79,6 +79,6 @@ unfolding IsOwned
 owned secret batches all = (journal secret batches all, are_owned secret batches all, omega (arith, length-sealed secret batches))
 
 pub loaded : (secret : Secret) (batches : List (List Command)) → AreSealable secret batches
-    → IsLoaded (public_of_secret secret) (journal_bytes (sealed secret batches)) (sealed secret batches)
-unfolding IsLoaded
-loaded secret batches all = (journal secret batches all, are_taken secret batches all, omega (arith, length-sealed secret batches))
+    → IsLoadable (public_of_secret secret) (journal_bytes (sealed secret batches)) (sealed secret batches)
+unfolding IsLoadable
+loaded secret batches all = (journal secret batches all, are_loadable secret batches all, omega (arith, length-sealed secret batches))

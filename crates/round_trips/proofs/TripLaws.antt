@@ -16,7 +16,7 @@ use Rattle.vo_spec.specs.Results.{result}
 use Rattle.vo_spec.specs.Tables.{tables_after}
 use Rattle.vo_spec.specs.Honest.{honest_record, sealed}
 use Rattle.vo_spec.specs.Journals.{Holds, journal_bytes, tables_at}
-use Rattle.vo_spec.specs.Replies.{Reply, IsReply, reply_bytes, most_reply}
+use Rattle.vo_spec.specs.Replies.{Reply, IsReply, reply_bytes, max_reply}
 use Rattle.vo_spec.specs.Secret.{Secret, public_of_secret}
 use Rattle.vo_laws.proofs.Complete.{honest_answer}
 use Rattle.round_trips.specs.Trips.{AreSealable, IsHonestReply, plain_answer}
@@ -41,7 +41,7 @@ answer_is secret batches least q r all numbers honest recent =
     ∙ ap (λ (v : ℕ). with_version v (result q (tables_after batches))) version
 
 said : (key : List ℕ) (least : ℕ) (q : Query) (r : Reply) (plain : Answer) → IsReply (reply_bytes r) r → answer_to key least q r ≡ Ok plain
-    → length (reply_bytes r) ≤ most_reply → CheckOf key least q (reply_bytes r) (Ok plain)
+    → length (reply_bytes r) ≤ max_reply → CheckOf key least q (reply_bytes r) (Ok plain)
 unfolding CheckOf
 said key least q r plain is told short = inr (inr (short, r, is, sym told))
 

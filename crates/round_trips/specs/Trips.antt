@@ -9,7 +9,7 @@ use Rattle.vo_spec.specs.Conditions.{Query}
 use Rattle.vo_spec.specs.Results.{result}
 use Rattle.vo_spec.specs.LmsSets.{leaves_of}
 use Rattle.vo_spec.specs.Secret.{Secret}
-use Rattle.vo_spec.specs.Replies.{Reply, reply_bytes, most_reply}
+use Rattle.vo_spec.specs.Replies.{Reply, reply_bytes, max_reply}
 use Rattle.vo_spec.specs.Honest.{reply_of, sealed}
 use Rattle.vo_laws.specs.Sealing.{AreAcceptedAfter, SignsValidly}
 
@@ -23,8 +23,12 @@ pub record AreSealable (secret : Secret) (batches : List (List Command)) : Type 
 
 -- a store that has loaded the journal of these batches gives this reply, which isn't over the limit
 abbrev pub IsHonestReply : Secret → List (List Command) → Query → Reply → Type 0
-IsHonestReply secret batches q r = (reply_of q (sealed secret batches) ≡ Some r) × (length (reply_bytes r) ≤ most_reply)
+IsHonestReply secret batches q r = (reply_of q (sealed secret batches) ≡ Some r)
+    × (length (reply_bytes r) ≤ max_reply)
 
 -- the query's result on the plain tables after these batches, as the version that they make
 abbrev pub plain_answer : List (List Command) → Query → Answer
-plain_answer batches q = record { version = length batches; outcome = result q (tables_after batches) }
+plain_answer batches q = record {
+  version = length batches;
+  outcome = result q (tables_after batches);
+}

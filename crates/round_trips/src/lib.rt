@@ -11,17 +11,17 @@ ghost use Rattle.vo_spec.specs.Conditions.{FitsQuery, Query};
 ghost use Rattle.vo_spec.specs.Honest.{reply_of, sealed};
 ghost use Rattle.vo_spec.specs.Journals.{journal_bytes};
 ghost use Rattle.vo_spec.specs.Replies.{IsReply, Reply, reply_bytes};
-ghost use Rattle.vo_spec.specs.Owners.{IsLoaded, IsOwned};
+ghost use Rattle.vo_spec.specs.Owners.{IsLoadable, IsOwned};
 ghost use Rattle.vo_spec.specs.Secret.{Secret, public_of_secret};
 ghost use Rattle.round_trips.specs.Trips.{AreSealable, IsHonestReply, plain_answer};
 
 /// What is sealed is a journal of the key's owner, and one that a store of the key takes.
-pub fn sealed_journals_are_taken()
+pub fn sealed_journals_are_loadable()
     ensures owned { (secret : Secret) (batches : List (List Command)) → AreSealable secret batches
         → let es = sealed secret batches in IsOwned (public_of_secret secret)
         (journal_bytes es) es }
     ensures loaded { (secret : Secret) (batches : List (List Command)) → AreSealable secret batches
-        → let es = sealed secret batches in IsLoaded (public_of_secret secret)
+        → let es = sealed secret batches in IsLoadable (public_of_secret secret)
         (journal_bytes es) es }
 {}
 

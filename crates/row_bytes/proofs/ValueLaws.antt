@@ -23,7 +23,7 @@ use Rattle.row_bytes.specs.Reading.{int_at, text_at, bool_at, value_at, text_fau
 use Rattle.row_bytes.proofs.Readers.{IsBytes-take, IsBytes-drop, IsBytes-rest, guard_ok, chosen}
 
 -- what a reader of values took: the bytes are its spelling and the rest, and it fits
-pub record Spells (bytes : List ℕ) (v : Value) (rest : List ℕ) : Type 0 where
+pub record Encodes (bytes : List ℕ) (v : Value) (rest : List ℕ) : Type 0 where
   pub parts : bytes ≡ value_bytes v ++ rest
   pub fits : FitsValue v
 
@@ -72,17 +72,17 @@ fits_signed n lt = record { sfits = grind (arith, ints) }
 below_unsigned : (z : ℤ) → FitsSigned w64 z → cast_unsigned w64 z < 2 ^ 64
 below_unsigned z fits = omega (arith, ints)
 
-int_spells : (bytes : List ℕ) (v : Value) (rest : List ℕ) → IsBytes bytes → int_at bytes ≡ Ok (v, rest) → Spells (1 ∷ bytes) v rest
+int_encodes : (bytes : List ℕ) (v : Value) (rest : List ℕ) → IsBytes bytes → int_at bytes ≡ Ok (v, rest) → Encodes (1 ∷ bytes) v rest
 unfolding int_at
-int_spells bytes v rest fits e =
+int_encodes bytes v rest fits e =
     let g = guard_ok (ltb (length bytes) 8) Short (Ok (Int (cast_signed w64 (u64_of (take 8 bytes))), drop 8 bytes)) (v, rest) e in
     let long : 8 ≤ length bytes = ltb-false _ _ g.0 in
     let front = IsBytes-take 8 bytes fits in
     let below = u64_below (take 8 bytes) front in
     let len : length (take 8 bytes) ≡ 8 = omega (arith, length-take 8 bytes) in
-    let spelled : u64_bytes (cast_unsigned w64 (cast_signed w64 (u64_of (take 8 bytes)))) ≡ take 8 bytes = ap u64_bytes (of_z-to_z w64 (u64_of (take 8 bytes)) below) ∙ u64_same (take 8 bytes) len front in
+    let encoded : u64_bytes (cast_unsigned w64 (cast_signed w64 (u64_of (take 8 bytes)))) ≡ take 8 bytes = ap u64_bytes (of_z-to_z w64 (u64_of (take 8 bytes)) below) ∙ u64_same (take 8 bytes) len front in
     let is : (Int (cast_signed w64 (u64_of (take 8 bytes))), drop 8 bytes) ≡ (v, rest) = cc in
-    subst (λ (x : Value × List ℕ). Spells (1 ∷ bytes) x.0 x.1) is (record { parts = ap (λ (t : List ℕ). 1 ∷ t) (sym (take-append-drop 8 bytes) ∙ ap (λ (t : List ℕ). t ++ drop 8 bytes) (sym spelled)); fits = fits_signed (u64_of (take 8 bytes)) below })
+    subst (λ (x : Value × List ℕ). Encodes (1 ∷ bytes) x.0 x.1) is (record { parts = ap (λ (t : List ℕ). 1 ∷ t) (sym (take-append-drop 8 bytes) ∙ ap (λ (t : List ℕ). t ++ drop 8 bytes) (sym encoded)); fits = fits_signed (u64_of (take 8 bytes)) below })
 
 int_read : (z : ℤ) (rest : List ℕ) → FitsSigned w64 z → int_at (u64_bytes (cast_unsigned w64 z) ++ rest) ≡ Ok (Int z, rest)
 unfolding int_at
@@ -131,9 +131,9 @@ unless_ok : {F A : Type 0} (fault : Option F) (x y : A) → unless fault x ≡ O
 unless_ok None x y e = (refl, cc)
 unless_ok (Some f) x y e = absurd cc
 
-text_spells : (bytes : List ℕ) (v : Value) (rest : List ℕ) → IsBytes bytes → text_at bytes ≡ Ok (v, rest) → Spells (2 ∷ bytes) v rest
+text_encodes : (bytes : List ℕ) (v : Value) (rest : List ℕ) → IsBytes bytes → text_at bytes ≡ Ok (v, rest) → Encodes (2 ∷ bytes) v rest
 unfolding text_at
-text_spells bytes v rest fits e =
+text_encodes bytes v rest fits e =
     let count = u16_of (take 2 bytes) in
     let behind = drop 2 bytes in
     let g = guard_ok (ltb (length bytes) 2) Short _ (v, rest) e in
@@ -146,7 +146,7 @@ text_spells bytes v rest fits e =
     let front : u16_bytes (length (take count behind)) ≡ take 2 bytes = ap u16_bytes len ∙ u16_same (take 2 bytes) len_two (IsBytes-take 2 bytes fits) in
     let parts : bytes ≡ u16_bytes (length (take count behind)) ++ take count behind ++ drop count behind =
     sym (take-append-drop 2 bytes) ∙ ap (λ (t : List ℕ). take 2 bytes ++ t) (sym (take-append-drop count behind)) ∙ sym (append_assoc (take 2 bytes) (take count behind) (drop count behind)) ∙ ap (λ (t : List ℕ). t ++ take count behind ++ drop count behind) (sym front) in
-    subst (λ (x : Value × List ℕ). Spells (2 ∷ bytes) x.0 x.1) u.1 (record { parts = ap (λ (t : List ℕ). 2 ∷ t) parts; fits = is_text_from (take count behind) (text_plain 1024 (take count behind) u.0) })
+    subst (λ (x : Value × List ℕ). Encodes (2 ∷ bytes) x.0 x.1) u.1 (record { parts = ap (λ (t : List ℕ). 2 ∷ t) parts; fits = is_text_from (take count behind) (text_plain 1024 (take count behind) u.0) })
 
 text_read : (s rest : List ℕ) → IsTrue (is_text s) → text_at (u16_bytes (length s) ++ s ++ rest) ≡ Ok (Text s, rest)
 unfolding text_at
@@ -160,12 +160,12 @@ text_read s rest fits =
 
 -- Truth values.
 
-bool_spells : (bytes : List ℕ) (v : Value) (rest : List ℕ) → bool_at bytes ≡ Ok (v, rest) → Spells (3 ∷ bytes) v rest
+bool_encodes : (bytes : List ℕ) (v : Value) (rest : List ℕ) → bool_at bytes ≡ Ok (v, rest) → Encodes (3 ∷ bytes) v rest
 unfolding bool_at
-bool_spells [] v rest e = absurd cc
-bool_spells (zero ∷ bytes) v rest e = subst (λ (x : Value × List ℕ). Spells (3 ∷ 0 ∷ bytes) x.0 x.1) (ok_is (Truth false, bytes) (v, rest) e) (record { parts = refl; fits = tt })
-bool_spells (suc zero ∷ bytes) v rest e = subst (λ (x : Value × List ℕ). Spells (3 ∷ 1 ∷ bytes) x.0 x.1) (ok_is (Truth true, bytes) (v, rest) e) (record { parts = refl; fits = tt })
-bool_spells (suc (suc b) ∷ bytes) v rest e =
+bool_encodes [] v rest e = absurd cc
+bool_encodes (zero ∷ bytes) v rest e = subst (λ (x : Value × List ℕ). Encodes (3 ∷ 0 ∷ bytes) x.0 x.1) (ok_is (Truth false, bytes) (v, rest) e) (record { parts = refl; fits = tt })
+bool_encodes (suc zero ∷ bytes) v rest e = subst (λ (x : Value × List ℕ). Encodes (3 ∷ 1 ∷ bytes) x.0 x.1) (ok_is (Truth true, bytes) (v, rest) e) (record { parts = refl; fits = tt })
+bool_encodes (suc (suc b) ∷ bytes) v rest e =
     let no : ltb (suc (suc b)) 2 ≡ false = le-ltb _ _ (omega arith) in
     absurd (not_ok Tag (v, rest) (rw no at e))
 
@@ -176,16 +176,16 @@ bool_read false rest = refl
 
 -- Values.
 
-pub value_spells : (bytes : List ℕ) (v : Value) (rest : List ℕ) → IsBytes bytes → value_at bytes ≡ Ok (v, rest) → Spells bytes v rest
+pub value_encodes : (bytes : List ℕ) (v : Value) (rest : List ℕ) → IsBytes bytes → value_at bytes ≡ Ok (v, rest) → Encodes bytes v rest
 unfolding value_at
-value_spells [] v rest fits e = absurd cc
-value_spells (kind ∷ bytes) v rest fits e =
+value_encodes [] v rest fits e = absurd cc
+value_encodes (kind ∷ bytes) v rest fits e =
     elim (chosen (eqb kind 1) (int_at bytes) _ (Ok (v, rest)) e) [
-      | inl a ↦ subst (λ (k : ℕ). Spells (k ∷ bytes) v rest) (sym (eqb-true kind 1 a.0)) (int_spells bytes v rest (IsBytes-rest kind bytes fits) a.1)
+      | inl a ↦ subst (λ (k : ℕ). Encodes (k ∷ bytes) v rest) (sym (eqb-true kind 1 a.0)) (int_encodes bytes v rest (IsBytes-rest kind bytes fits) a.1)
       | inr a ↦ elim (chosen (eqb kind 2) (text_at bytes) _ (Ok (v, rest)) a.1) [
-        | inl b ↦ subst (λ (k : ℕ). Spells (k ∷ bytes) v rest) (sym (eqb-true kind 2 b.0)) (text_spells bytes v rest (IsBytes-rest kind bytes fits) b.1)
+        | inl b ↦ subst (λ (k : ℕ). Encodes (k ∷ bytes) v rest) (sym (eqb-true kind 2 b.0)) (text_encodes bytes v rest (IsBytes-rest kind bytes fits) b.1)
         | inr b ↦ elim (chosen (eqb kind 3) (bool_at bytes) _ (Ok (v, rest)) b.1) [
-          | inl c ↦ subst (λ (k : ℕ). Spells (k ∷ bytes) v rest) (sym (eqb-true kind 3 c.0)) (bool_spells bytes v rest c.1)
+          | inl c ↦ subst (λ (k : ℕ). Encodes (k ∷ bytes) v rest) (sym (eqb-true kind 3 c.0)) (bool_encodes bytes v rest c.1)
           | inr c ↦ absurd (not_ok Tag (v, rest) c.1)
         ]
       ]
@@ -201,7 +201,7 @@ value_read (Truth false) rest fits = bool_read false rest
 -- Answers of the calls.
 
 pub is_found : (bytes : List ℕ) (r : Result (ValueRef × Bor (List ℕ)) FormFault) → IsBytes bytes → Read r (value_at bytes) → IfOk r (λ x. FitsValue (value_of x.0) × (bytes ≡ value_bytes (value_of x.0) ++ x.1.now))
-is_found bytes (Ok x) fits read = let s = value_spells bytes (value_of x.0) x.1.now fits read in (s.fits, s.parts)
+is_found bytes (Ok x) fits read = let s = value_encodes bytes (value_of x.0) x.1.now fits read in (s.fits, s.parts)
 is_found bytes (Err fault) fits read = tt
 
 pub is_taken : (bytes : List ℕ) (r : Result (ValueRef × Bor (List ℕ)) FormFault) (v : Value) (rest : List ℕ) → Read r (value_at bytes) → FitsValue v → bytes ≡ value_bytes v ++ rest → IsOkAnd r (λ x. (value_of x.0 ≡ v) × (x.1.now ≡ rest))

@@ -5,7 +5,7 @@ use Rattle.vo_spec.specs.declared.values.Kind.{Kind}
 use Rattle.vo_spec.specs.declared.values.Kind.TheVariants as kind
 use Rattle.vo_spec.specs.declared.tables.Column.{Column}
 use Rattle.vo_spec.specs.Names.{is_name}
-use Rattle.vo_spec.specs.Batches.{most_columns}
+use Rattle.vo_spec.specs.Batches.{max_columns}
 use Rattle.row_bytes.specs.declared.read_fault.ReadFault.{ReadFault}
 use Rattle.row_bytes.specs.declared.read_fault.ReadFault.TheVariants.{BadForm, Memory}
 use Rattle.row_bytes.specs.Reading.{byte_at, bytes_at, u16_at, u32_at}
@@ -26,7 +26,8 @@ Found view None new read = read ≡ None
 Found view (Some x) new read = read ≡ Some (view x, new)
 
 -- the same of a call that takes memory
-abbrev pub FoundOr : {X A : Type 0} → (X → A) → Result X ReadFault → List ℕ → Option (A × List ℕ) → Type 0
+abbrev pub FoundOr : {X A : Type 0} → (X → A) → Result X ReadFault → List ℕ
+    → Option (A × List ℕ) → Type 0
 FoundOr view (Ok x) new read = read ≡ Some (view x, new)
 FoundOr view (Err BadForm) new read = read ≡ None
 FoundOr view (Err Memory) new read = Unit {0}
@@ -52,12 +53,16 @@ name_at bytes = short_string_at bytes >>= λ name. where_true (is_name name.0) n
 
 -- these very bytes
 unfoldable pub word_at : List ℕ → List ℕ → Option (List ℕ × List ℕ)
-word_at word bytes = bytes_at (length word) bytes >>= λ found. where_true (bytes_eq found.0 word) found
+word_at word bytes = bytes_at (length word) bytes >>= λ found. where_true
+    (bytes_eq found.0 word) found
 
 -- so many in a row, each as this reads it
-abbrev pub times : {A : Type 0} → (List ℕ → Option (A × List ℕ)) → ℕ → List ℕ → Option (List A × List ℕ)
+abbrev pub times : {A : Type 0} → (List ℕ → Option (A × List ℕ)) → ℕ → List ℕ
+    → Option (List A × List ℕ)
 times read zero bytes = Some ([], bytes)
-times read (suc count) bytes = read bytes >>= λ first. times read count first.1 >>= λ others. Some (first.0 ∷ others.0, others.1)
+times read (suc count) bytes =
+    read bytes >>= λ first. times read count first.1 >>= λ others. Some
+    (first.0 ∷ others.0, others.1)
 
 -- what is read of all the bytes, with none left
 abbrev pub whole : {A : Type 0} → Option (A × List ℕ) → Option A
@@ -79,11 +84,13 @@ kind_at bytes = byte_at bytes >>= λ byte. kind_of_byte byte.0 >>= λ k. Some (k
 
 -- a name, and the byte of a kind
 unfoldable pub column_at : List ℕ → Option (Column × List ℕ)
-column_at bytes = name_at bytes >>= λ name. kind_at name.1 >>= λ k. Some (record { name = name.0; kind = k.0 }, k.1)
+column_at bytes = name_at bytes >>= λ name. kind_at name.1 >>= λ k. Some
+    (record { name = name.0; kind = k.0 }, k.1)
 
 -- a byte that says how many there are, 1 to 32
 unfoldable pub count_at : List ℕ → Option (ℕ × List ℕ)
-count_at bytes = byte_at bytes >>= λ count. where_true (nat_le 1 count.0 && nat_le count.0 most_columns) count
+count_at bytes = byte_at bytes >>= λ count. where_true
+    (nat_le 1 count.0 && nat_le count.0 max_columns) count
 
 unfoldable pub columns_at : List ℕ → Option (List Column × List ℕ)
 columns_at bytes = count_at bytes >>= λ count. times column_at count.0 count.1

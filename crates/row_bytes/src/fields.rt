@@ -5,6 +5,7 @@ ghost use Rattle.vo_spec.specs.Names.{is_name, is_name_byte, is_digit};
 ghost use Rattle.row_bytes.specs.Fields.{Found, short_string_at, string_at, block_at, name_at, word_at};
 
 use crate::cursor::Cursor;
+use vo_spec::MAX_NAME;
 
 impl<'b> Cursor<'b> {
     /// Bytes behind their length of one byte.
@@ -59,7 +60,7 @@ pub fn is_name(bytes: &[u8]) -> bool
 {
     match bytes.split_first() {
         None => false,
-        Some((first, _)) => bytes.len() <= 63 && !is_digit(*first) && are_name_bytes(bytes),
+        Some((first, _)) => bytes.len() <= MAX_NAME && !is_digit(*first) && are_name_bytes(bytes),
     }
 }
 

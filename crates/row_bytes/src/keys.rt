@@ -12,7 +12,7 @@ ghost use Rattle.vo_spec.specs.Bytes.{IsBytes};
 use crate::fault::FormFault;
 use crate::text::text_fault;
 use std::alloc::{AllocError, Global};
-use vo_spec::{Key, Kind, Value, ValueRef, u64_bytes};
+use vo_spec::{Key, Kind, MAX_KEY, Value, ValueRef, u64_bytes};
 
 /// How far a BIGINT is above the least one.
 fn above_least(number: i64) -> u64
@@ -64,7 +64,7 @@ fn int_of_key(key: &[u8]) -> Result<ValueRef<'_>, FormFault>
 fn text_of_key(key: &[u8]) -> Result<ValueRef<'_>, FormFault>
     ensures { Lends result (unless (key_fault Kind.Text key.now) (value_of_key Kind.Text key.now)) }
 {
-    match text_fault(255, key) {
+    match text_fault(MAX_KEY, key) {
         None => Ok(ValueRef::Text(key)),
         Some(fault) => Err(fault),
     }

@@ -9,7 +9,7 @@ ghost use Rattle.row_bytes.specs.Taking.{Read, TakenOr};
 use crate::cursor::Cursor;
 use crate::fault::FormFault;
 use crate::text::text_fault;
-use vo_spec::ValueRef;
+use vo_spec::{MAX_TEXT, ValueRef};
 
 #[tactic(auto, unfolding(crate::specs::Reading::int_at, vo_spec::specs::Bytes::u64_of))]
 fn int_at(bytes: &[u8]) -> Result<(ValueRef<'_>, &[u8]), FormFault>
@@ -27,7 +27,7 @@ fn text_at(bytes: &[u8]) -> Result<(ValueRef<'_>, &[u8]), FormFault>
     let (front, rest) = bytes.split_first_chunk::<2>().ok_or(FormFault::Short)?;
     let count = u16::from_be_bytes(*front) as usize;
     let (text, rest) = rest.split_at_checked(count).ok_or(FormFault::Short)?;
-    match text_fault(1024, text) {
+    match text_fault(MAX_TEXT, text) {
         None => Ok((ValueRef::Text(text), rest)),
         Some(fault) => Err(fault),
     }
@@ -87,7 +87,7 @@ pub fn take_value<'b>(cursor: &mut Cursor<'b>) -> Result<ValueRef<'b>, FormFault
 }
 
 /// No value's spelling begins another's.
-pub fn one_spelling()
+pub fn one_encoding()
     ensures { (v w : Plain) (a b : List ℕ) → FitsValue v → FitsValue w
         → value_bytes v ++ a ≡ value_bytes w ++ b → (v ≡ w) × (a ≡ b) }
 {}

@@ -5,22 +5,22 @@ use Rattle.grammar.specs.Rule.{Rule}
 use Rattle.grammar.specs.Text.{IsText, FaultsAt, Judges}
 use Rattle.grammar.specs.Checks.{is_good}
 use Rattle.grammar.specs.Reading.{Found, read, reader, at_end}
-use Rattle.grammar.specs.declared.Stop.{Stop}
-use Rattle.grammar.specs.declared.Stop.TheVariants as stop
+use Rattle.grammar.specs.declared.ParseFault.{ParseFault}
+use Rattle.grammar.specs.declared.ParseFault.TheVariants as stop
 use Rattle.grammar.proofs.Judged.{judged, parsed}
-use Rattle.sql_tokens.specs.declared.lexemes.Lapse.TheVariants as lapse
+use Rattle.sql_tokens.specs.declared.lexemes.TokenFault.TheVariants as lapse
 use Rattle.sql_tokens.specs.declared.lexemes.LexFault.{LexFault}
 use Rattle.sql_tokens.specs.declared.lexemes.LexFault.TheVariants as lex
 use Rattle.sql_tokens.proofs.Alone.{tokens_real}
 use Rattle.sql_tokens.specs.declared.lexemes.Lexeme.{Lexeme}
 use Rattle.sql_tokens.specs.Lex.{Token, Placed, tokens_of, token_of, placed_of, Scans}
 use Rattle.sql_text.specs.declared.faults.SqlFault.{SqlFault}
-use Rattle.sql_text.specs.declared.halt.Halt.{Halt}
-use Rattle.sql_text.specs.declared.halt.Halt.TheVariants.{Memory, Fault}
+use Rattle.sql_text.specs.declared.halt.ParseError.{ParseError}
+use Rattle.sql_text.specs.declared.halt.ParseError.TheVariants.{Memory, Fault}
 use Rattle.sql_text.specs.declared.parser.Parser.{Parser}
 use Rattle.sql_text.specs.Faults.{of_tokens}
 use Rattle.sql_text.specs.Tokens.{sql, IsToken}
-use Rattle.sql_text.specs.Parsing.{Finds, Reads, left_of}
+use Rattle.sql_text.specs.Parsing.{ReadsAndLeaves, Reads, left_of}
 use Rattle.sql_text.specs.Queries.{conditions_of}
 use Rattle.sql_text.specs.Texts.{unplaced, IsTextOf, place_of, Breaks, HasFault, Answers, Accepts, ended}
 use Rattle.sql_text.proofs.Good.{is_sql}
@@ -33,7 +33,7 @@ unplaced_is (x ∷ list) = ap (λ z. token_of x ∷ z) (unplaced_is list)
 pub same_ok : {A E : Type 0} (x y : A) (r : Result A E) → r ≡ Ok x → r ≡ Ok y → x ≡ y
 same_ok x y r e f = cc
 
-ok_is_no_err : {T A : Type 0} (v : A) (s : Stop) (left : List T) (r : Found T A) → r ≡ (Err s, left) → r ≡ (Ok v, []) → ⊥
+ok_is_no_err : {T A : Type 0} (v : A) (s : ParseFault) (left : List T) (r : Found T A) → r ≡ (Err s, left) → r ≡ (Ok v, []) → ⊥
 ok_is_no_err v s left r e f = let h : Err s ≡ Ok v = ap (λ z. z.0) (sym e ∙ f) in cc
 
 same_value : {T A : Type 0} (u v : A) (r : Found T A) → r ≡ (Ok u, []) → r ≡ (Ok v, []) → u ≡ v
@@ -45,7 +45,7 @@ module _ {A B : Type 0} (view : B → A) (start : Rule sql A) (good : is_good co
   answer_judged r e =
       subst (λ z. Judges conditions_of 32 start (unplaced ps) (at_end z).0 (at_end z).1) e (judged sql is_sql conditions_of start good 32 (unplaced ps) real)
 
-  breaks : (s : Stop) → FaultsAt conditions_of 32 start (unplaced ps) s (unplaced (drop n ps)) → Breaks start text s (place_of (drop n ps) (length text))
+  breaks : (s : ParseFault) → FaultsAt conditions_of 32 start (unplaced ps) s (unplaced (drop n ps)) → Breaks start text s (place_of (drop n ps) (length text))
   breaks s j = (ps, scanned, n, refl, j)
 
   -- with tokens left behind a value the first of them is the fault
@@ -57,13 +57,13 @@ module _ {A B : Type 0} (view : B → A) (start : Rule sql A) (good : is_good co
         (breaks stop.Syntax (subst (λ z. FaultsAt conditions_of 32 start (unplaced ps) stop.Syntax (unplaced z)) (sym e) (answer_judged _ h))),
   )
 
-  ended_fault : (s : Stop) (left : List Placed) → drop n ps ≡ left → read (reader conditions_of 32) start (unplaced ps) ≡ (Err s, unplaced left)
+  ended_fault : (s : ParseFault) (left : List Placed) → drop n ps ≡ left → read (reader conditions_of 32) start (unplaced ps) ≡ (Err s, unplaced left)
       → Answers view most start text (ended {B = B} (Err (Fault s)) left (length text))
   ended_fault stop.Syntax left e h = (fits, subst (λ z. Breaks start text stop.Syntax (place_of z (length text))) e (breaks stop.Syntax (subst (λ z. FaultsAt conditions_of 32 start (unplaced ps) stop.Syntax (unplaced z)) (sym e) (answer_judged _ h))))
   ended_fault stop.Nesting left e h = (fits, _, breaks stop.Nesting (subst (λ z. FaultsAt conditions_of 32 start (unplaced ps) stop.Nesting (unplaced z)) (sym e) (answer_judged _ h)))
   ended_fault stop.TooMany left e h = (fits, _, breaks stop.TooMany (subst (λ z. FaultsAt conditions_of 32 start (unplaced ps) stop.TooMany (unplaced z)) (sym e) (answer_judged _ h)))
 
-  pub answers : (found : Result B Halt) (left : List Placed) → drop n ps ≡ left → Finds view (read (reader conditions_of 32) start (unplaced ps)) found (unplaced left)
+  pub answers : (found : Result B ParseError) (left : List Placed) → drop n ps ≡ left → ReadsAndLeaves view (read (reader conditions_of 32) start (unplaced ps)) found (unplaced left)
       → Answers view most start text (ended found left (length text))
   answers (Ok x) left e h = ended_ok x left e h
   answers (Err Memory) left e h = tt
@@ -77,10 +77,10 @@ module _ {A B : Type 0} (view : B → A) (start : Rule sql A) (good : is_good co
   accepts_ok x [] v e = same_value (view x) v _ refl e
   accepts_ok x (p ∷ left) v e = ok_is_no_err v stop.Syntax (unplaced (p ∷ left)) _ refl e
 
-  accepts_fault : (s : Stop) (left : List Placed) (v : A) → at_end {A = A} (Err s, unplaced left) ≡ (Ok v, []) → Accepts view (ended {B = B} (Err (Fault s)) left (length text)) v
+  accepts_fault : (s : ParseFault) (left : List Placed) (v : A) → at_end {A = A} (Err s, unplaced left) ≡ (Ok v, []) → Accepts view (ended {B = B} (Err (Fault s)) left (length text)) v
   accepts_fault s left v e = absurd (ok_is_no_err v s (unplaced left) _ refl e)
 
-  pub accepts : (found : Result B Halt) (left : List Placed) → Finds view (read (reader conditions_of 32) start (unplaced ps)) found (unplaced left)
+  pub accepts : (found : Result B ParseError) (left : List Placed) → ReadsAndLeaves view (read (reader conditions_of 32) start (unplaced ps)) found (unplaced left)
       → (v : A) → IsTextOf most start text v → Accepts view (ended found left (length text)) v
   accepts (Ok x) left h v t = accepts_ok x left v (ap at_end (sym h) ∙ parses v t)
   accepts (Err Memory) left h v t = tt
@@ -106,7 +106,7 @@ lapsed start most text (lex.At lapse.Name at) fits scan = (fits, at, scan)
 
 -- the parser from its start to what it left
 pub whole : {A B : Type 0} (view : B → A) (start : Rule sql A) → is_good conditions_of start ≡ true → (most : ℕ) (text bytes : List ℕ) (list left : List Lexeme) (old new : Parser)
-    (found : Result B Halt) (r : Result B SqlFault) → bytes ≡ text → length bytes ≤ most → tokens_of bytes ≡ Ok (map placed_of list)
+    (found : Result B ParseError) (r : Result B SqlFault) → bytes ≡ text → length bytes ≤ most → tokens_of bytes ≡ Ok (map placed_of list)
     → old.list.now ≡ list → old.place ≡ 0 → old.levels ≡ 32 → Reads view start old found new → new.list.now ≡ old.list.now → left ≡ drop new.place new.list.now
     → r ≡ ended found (map placed_of left) (length bytes)
     → Answers view most start text r × ((v : A) → IsTextOf most start text v → Accepts view r v)
@@ -136,11 +136,11 @@ whole {A} {B} view start good most text bytes list left old new found r same fit
     at_end : left_of new ≡ unplaced (drop new.place ps)
     at_end = ap (λ z. map token_of (drop new.place z)) here ∙ sym (unplaced_is (drop new.place list)) ∙ ap unplaced (sym (drop_placed new.place list))
 
-    finds : Finds view (read (reader conditions_of 32) start (unplaced ps)) found (unplaced (drop new.place ps))
+    finds : ReadsAndLeaves view (read (reader conditions_of 32) start (unplaced ps)) found (unplaced (drop new.place ps))
     finds =
-        subst (λ z. Finds view (read (reader conditions_of 32) start (unplaced ps)) found z) at_end
-        (subst (λ z. Finds view (read (reader conditions_of 32) start z) found (left_of new)) at_start
-        (subst (λ z. Finds view (read (reader conditions_of z) start (left_of old)) found (left_of new)) levels reads))
+        subst (λ z. ReadsAndLeaves view (read (reader conditions_of 32) start (unplaced ps)) found z) at_end
+        (subst (λ z. ReadsAndLeaves view (read (reader conditions_of 32) start z) found (left_of new)) at_start
+        (subst (λ z. ReadsAndLeaves view (read (reader conditions_of z) start (left_of old)) found (left_of new)) levels reads))
 
     is_ended : r ≡ ended found (drop new.place ps) (length text)
     is_ended =

@@ -5,7 +5,7 @@ use Rattle.std.specs.List.{AllByRecursion}
 use Rattle.std.proofs.lemmas.Bool.Decides.{nat_tests}
 use Rattle.grammar.specs.Text.{Nests, NestsIn, Repeats, Spells}
 use Rattle.sql_tokens.specs.declared.kinds.TokenKind.TheVariants as k
-use Rattle.sql_tokens.specs.declared.lexemes.Lapse.{Lapse}
+use Rattle.sql_tokens.specs.declared.lexemes.TokenFault.{TokenFault}
 use Rattle.sql_tokens.specs.Kinds.{same_kind}
 use Rattle.sql_tokens.specs.Lex.{Token, Placed, is_blank, token_at, followed, placed, tokens_from, tokens_of}
 use Rattle.vo_spec.specs.declared.tables.Batch.{Batch}
@@ -25,7 +25,7 @@ abbrev pub InOrder : ℕ → ℕ → List Placed → Type 0
 InOrder from end [] = from ≤ end
 InOrder from end (p ∷ ps) = (from ≤ p.at) × InOrder (p.at + length p.token.text) end ps
 
-abbrev AreInOrder : ℕ → ℕ → Result (List Placed) (Lapse × ℕ) → Type 0
+abbrev AreInOrder : ℕ → ℕ → Result (List Placed) (TokenFault × ℕ) → Type 0
 AreInOrder from end (Ok ps) = InOrder from end ps
 AreInOrder from end (Err e) = Unit {0}
 
@@ -33,15 +33,15 @@ earlier : (from before end : ℕ) (ps : List Placed) → before ≤ from → InO
 earlier from before end [] h i = omega (arith, h, i)
 earlier from before end (p ∷ ps) h i = (omega (arith, h, i.0), i.1)
 
-are_earlier : (from before end : ℕ) (r : Result (List Placed) (Lapse × ℕ)) → before ≤ from → AreInOrder from end r → AreInOrder before end r
+are_earlier : (from before end : ℕ) (r : Result (List Placed) (TokenFault × ℕ)) → before ≤ from → AreInOrder from end r → AreInOrder before end r
 are_earlier from before end (Ok ps) h i = earlier from before end ps h i
 are_earlier from before end (Err e) h i = tt
 
-followed_order : (at end : ℕ) (t : Token) (r : Result (List Placed) (Lapse × ℕ)) → AreInOrder (at + length t.text) end r → AreInOrder at end (followed (record { token = t; at = at }) r)
+followed_order : (at end : ℕ) (t : Token) (r : Result (List Placed) (TokenFault × ℕ)) → AreInOrder (at + length t.text) end r → AreInOrder at end (followed (record { token = t; at = at }) r)
 followed_order at end t (Ok ps) i = (omega arith, i)
 followed_order at end t (Err e) i = tt
 
-placed_order : (at end : ℕ) (r : Result Token Lapse) (rest : ℕ → Result (List Placed) (Lapse × ℕ)) → ((t : Token) → r ≡ Ok t → AreInOrder (at + length t.text) end (rest (length t.text - 1)))
+placed_order : (at end : ℕ) (r : Result Token TokenFault) (rest : ℕ → Result (List Placed) (TokenFault × ℕ)) → ((t : Token) → r ≡ Ok t → AreInOrder (at + length t.text) end (rest (length t.text - 1)))
     → AreInOrder at end (placed at r rest)
 placed_order at end (Ok t) rest h = followed_order at end t (rest (length t.text - 1)) (h t refl)
 placed_order at end (Err lapse) rest h = tt

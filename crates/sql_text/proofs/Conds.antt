@@ -1,8 +1,8 @@
 -- Reading a condition's parts, in the words of what each step found.
 use Rattle.std.proofs.Common.{◌≡◌, ℕ, ◌+◌, Bool, true, false, List, [], ◌∷◌, None, Result, Ok, Err, refl, sym, ap, ◌∙◌, subst, add-one}
 use Rattle.grammar.specs.Reading.{Found, begins, taken, and_then, read, reader}
-use Rattle.grammar.specs.declared.Stop.{Stop}
-use Rattle.grammar.specs.declared.Stop.TheVariants.{Nesting}
+use Rattle.grammar.specs.declared.ParseFault.{ParseFault}
+use Rattle.grammar.specs.declared.ParseFault.TheVariants.{Nesting}
 use Rattle.sql_tokens.specs.declared.kinds.TokenKind.{TokenKind}
 use Rattle.sql_tokens.specs.declared.kinds.TokenKind.TheVariants as k
 use Rattle.sql_tokens.specs.Kinds.{same_kind}
@@ -14,9 +14,9 @@ use Rattle.std.specs.Global.{Global}
 use Rattle.vo_spec.specs.declared.queries.Cond
 use Rattle.vo_spec.specs.declared.queries.Cond.{Cond, fold-roll-Cond}
 use Rattle.vo_spec.specs.Conditions.{Condition, negated, condition_of}
-use Rattle.sql_text.specs.declared.halt.Halt.{Halt}
-use Rattle.sql_text.specs.declared.halt.Halt.TheVariants.{Memory, Fault}
-use Rattle.sql_text.specs.Parsing.{first_of, Finds}
+use Rattle.sql_text.specs.declared.halt.ParseError.{ParseError}
+use Rattle.sql_text.specs.declared.halt.ParseError.TheVariants.{Memory, Fault}
+use Rattle.sql_text.specs.Parsing.{first_of, ReadsAndLeaves}
 use Rattle.sql_text.specs.Tokens.{sql, Nested, whole, primary}
 use Rattle.sql_text.specs.Rules.{closed, listed}
 use Rattle.sql_text.specs.Queries.{comparison, prim, conj, disj, all_of, any_of, conditions_of}
@@ -40,8 +40,8 @@ opened : (kind : TokenKind) (n : Nested) (left : List Token) (levels m : ℕ) (t
 opened kind n left levels m t mid e f = subst (λ z. and_then (taken sql kind left) (reader conditions_of z n) ≡ read (reader conditions_of m) (conditions_of.rule n) mid) (sym (add-one m) ∙ e) (rw f refl)
 
 -- a fault that comes of another, or the end of memory
-pub passed_on : {A B C D : Type 0} (view : B → A) (other : D → C) (found : Found Token A) (next : Found Token C) (halt : Halt) (left : List Token)
-    → ((s : Stop) → found ≡ (Err s, left) → next ≡ (Err s, left)) → Finds view found (Err halt) left → Finds other next (Err halt) left
+pub passed_on : {A B C D : Type 0} (view : B → A) (other : D → C) (found : Found Token A) (next : Found Token C) (halt : ParseError) (left : List Token)
+    → ((s : ParseFault) → found ≡ (Err s, left) → next ≡ (Err s, left)) → ReadsAndLeaves view found (Err halt) left → ReadsAndLeaves other next (Err halt) left
 passed_on view other found next Memory left f h = tt
 passed_on view other found next (Fault s) left f h = f s h
 
@@ -56,13 +56,13 @@ module _ (levels : ℕ) (left : List Token) where
     unfolding prim conditions_of
     not_done v rest b f h = rw (b, opened k.Not primary left levels m t mid fewer f, h) refl
 
-    not_fault : (s : Stop) (rest : List Token) → begins sql (k.Not ∷ []) left ≡ true
+    not_fault : (s : ParseFault) (rest : List Token) → begins sql (k.Not ∷ []) left ≡ true
         → taken sql k.Not left ≡ (Ok t, mid) → read (reader conditions_of m) prim mid ≡ (Err s, rest) → read (reader conditions_of levels) prim left ≡ (Err s, rest)
     unfolding prim conditions_of
     not_fault s rest b f h = rw (b, opened k.Not primary left levels m t mid fewer f, h) refl
 
-    pub not_fails : (halt : Halt) (rest : List Token) → begins sql (k.Not ∷ []) left ≡ true → taken sql k.Not left ≡ (Ok t, mid)
-        → Finds {B = Cond} condition_of (read (reader conditions_of m) prim mid) (Err halt) rest → Finds {B = Cond} condition_of (read (reader conditions_of levels) prim left) (Err halt) rest
+    pub not_fails : (halt : ParseError) (rest : List Token) → begins sql (k.Not ∷ []) left ≡ true → taken sql k.Not left ≡ (Ok t, mid)
+        → ReadsAndLeaves {B = Cond} condition_of (read (reader conditions_of m) prim mid) (Err halt) rest → ReadsAndLeaves {B = Cond} condition_of (read (reader conditions_of levels) prim left) (Err halt) rest
     not_fails halt rest b f h = passed_on condition_of condition_of (read (reader conditions_of m) prim mid) _ halt rest (λ s e. not_fault s rest b f e) h
 
     paren_done : (v : Condition) (rest : List Token) (u : Token) (end : List Token) → begins sql (k.Not ∷ []) left ≡ false → begins sql (k.LeftParen ∷ []) left ≡ true
@@ -71,27 +71,27 @@ module _ (levels : ℕ) (left : List Token) where
     unfolding prim conditions_of closed
     paren_done v rest u end a b f h i = rw (a, b, opened k.LeftParen whole left levels m t mid fewer f, h, i) refl
 
-    paren_left_open : (v : Condition) (rest : List Token) (s : Stop) (end : List Token) → begins sql (k.Not ∷ []) left ≡ false → begins sql (k.LeftParen ∷ []) left ≡ true
+    paren_left_open : (v : Condition) (rest : List Token) (s : ParseFault) (end : List Token) → begins sql (k.Not ∷ []) left ≡ false → begins sql (k.LeftParen ∷ []) left ≡ true
         → taken sql k.LeftParen left ≡ (Ok t, mid) → read (reader conditions_of m) disj mid ≡ (Ok v, rest) → taken sql k.RightParen rest ≡ (Err s, end)
         → read (reader conditions_of levels) prim left ≡ (Err s, end)
     unfolding prim conditions_of closed
     paren_left_open v rest s end a b f h i = rw (a, b, opened k.LeftParen whole left levels m t mid fewer f, h, i) refl
 
-    pub paren_closed : (inner : Cond) (rest : List Token) (found : Result Cond Halt) (end : List Token) → begins sql (k.Not ∷ []) left ≡ false → begins sql (k.LeftParen ∷ []) left ≡ true
+    pub paren_closed : (inner : Cond) (rest : List Token) (found : Result Cond ParseError) (end : List Token) → begins sql (k.Not ∷ []) left ≡ false → begins sql (k.LeftParen ∷ []) left ≡ true
         → taken sql k.LeftParen left ≡ (Ok t, mid) → read (reader conditions_of m) disj mid ≡ (Ok (condition_of inner), rest)
-        → Finds {B = Cond} (λ x. first_of rest) (taken sql k.RightParen rest) found end → IfOk found (λ x. x ≡ inner)
-        → Finds {B = Cond} condition_of (read (reader conditions_of levels) prim left) found end
+        → ReadsAndLeaves {B = Cond} (λ x. first_of rest) (taken sql k.RightParen rest) found end → IfOk found (λ x. x ≡ inner)
+        → ReadsAndLeaves {B = Cond} condition_of (read (reader conditions_of levels) prim left) found end
     paren_closed inner rest (Ok x) end a b f h i same = paren_done (condition_of inner) rest (first_of rest) end a b f h i ∙ ap (λ z. (Ok (condition_of z), end)) (sym same)
     paren_closed inner rest (Err Memory) end a b f h i same = tt
     paren_closed inner rest (Err (Fault s)) end a b f h i same = paren_left_open (condition_of inner) rest s end a b f h i
 
-    paren_fault : (s : Stop) (rest : List Token) → begins sql (k.Not ∷ []) left ≡ false → begins sql (k.LeftParen ∷ []) left ≡ true
+    paren_fault : (s : ParseFault) (rest : List Token) → begins sql (k.Not ∷ []) left ≡ false → begins sql (k.LeftParen ∷ []) left ≡ true
         → taken sql k.LeftParen left ≡ (Ok t, mid) → read (reader conditions_of m) disj mid ≡ (Err s, rest) → read (reader conditions_of levels) prim left ≡ (Err s, rest)
     unfolding prim conditions_of closed
     paren_fault s rest a b f h = rw (a, b, opened k.LeftParen whole left levels m t mid fewer f, h) refl
 
-    pub paren_fails : (halt : Halt) (rest : List Token) → begins sql (k.Not ∷ []) left ≡ false → begins sql (k.LeftParen ∷ []) left ≡ true → taken sql k.LeftParen left ≡ (Ok t, mid)
-        → Finds {B = Cond} condition_of (read (reader conditions_of m) disj mid) (Err halt) rest → Finds {B = Cond} condition_of (read (reader conditions_of levels) prim left) (Err halt) rest
+    pub paren_fails : (halt : ParseError) (rest : List Token) → begins sql (k.Not ∷ []) left ≡ false → begins sql (k.LeftParen ∷ []) left ≡ true → taken sql k.LeftParen left ≡ (Ok t, mid)
+        → ReadsAndLeaves {B = Cond} condition_of (read (reader conditions_of m) disj mid) (Err halt) rest → ReadsAndLeaves {B = Cond} condition_of (read (reader conditions_of levels) prim left) (Err halt) rest
     paren_fails halt rest a b f h = passed_on condition_of condition_of (read (reader conditions_of m) disj mid) _ halt rest (λ s e. paren_fault s rest a b f e) h
 
   pub paren_deep : begins sql (k.Not ∷ []) left ≡ false → begins sql (k.LeftParen ∷ []) left ≡ true → levels ≡ 0 → read (reader conditions_of levels) prim left ≡ (Err Nesting, left)

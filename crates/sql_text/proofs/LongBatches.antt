@@ -7,11 +7,11 @@ use Rattle.std.proofs.lemmas.List.{append-nil, map-append, take-append-drop, tak
 use Rattle.grammar.specs.Rule.{many}
 use Rattle.grammar.specs.Text.{IsText, Begins, StopsAt, FaultsAt, Judges}
 use Rattle.grammar.specs.Reading.{Found, read, reader, at_end}
-use Rattle.grammar.specs.declared.Stop.{Stop}
-use Rattle.grammar.specs.declared.Stop.TheVariants as stop
+use Rattle.grammar.specs.declared.ParseFault.{ParseFault}
+use Rattle.grammar.specs.declared.ParseFault.TheVariants as stop
 use Rattle.grammar.proofs.Judged.{judged}
 use Rattle.sql_tokens.specs.declared.kinds.TokenKind.TheVariants as k
-use Rattle.sql_tokens.specs.declared.lexemes.Lapse.TheVariants as lapse
+use Rattle.sql_tokens.specs.declared.lexemes.TokenFault.TheVariants as lapse
 use Rattle.sql_tokens.specs.declared.lexemes.LexFault.{LexFault}
 use Rattle.sql_tokens.specs.declared.lexemes.LexFault.TheVariants as lex
 use Rattle.sql_tokens.specs.declared.lexemes.Lexeme.{Lexeme}
@@ -20,12 +20,12 @@ use Rattle.sql_tokens.proofs.Alone.{tokens_real}
 use Rattle.vo_spec.specs.declared.tables.Batch.{Batch}
 use Rattle.sql_text.specs.declared.faults.SqlFault.{SqlFault}
 use Rattle.sql_text.specs.declared.faults.SqlFault.TheVariants as fault
-use Rattle.sql_text.specs.declared.halt.Halt.{Halt}
-use Rattle.sql_text.specs.declared.halt.Halt.TheVariants.{Memory, Fault}
+use Rattle.sql_text.specs.declared.halt.ParseError.{ParseError}
+use Rattle.sql_text.specs.declared.halt.ParseError.TheVariants.{Memory, Fault}
 use Rattle.sql_text.specs.declared.parser.Parser.{Parser}
 use Rattle.sql_text.specs.Faults.{of_tokens}
 use Rattle.sql_text.specs.Tokens.{sql, IsToken}
-use Rattle.sql_text.specs.Parsing.{Finds, Reads, left_of}
+use Rattle.sql_text.specs.Parsing.{ReadsAndLeaves, Reads, left_of}
 use Rattle.sql_text.specs.Queries.{conditions_of}
 use Rattle.sql_text.specs.Rules.{closed}
 use Rattle.sql_text.specs.Commands.{batch, script}
@@ -148,7 +148,7 @@ in_range (suc n) [] y ys e = absurd (cc)
 in_range (suc n) (x ∷ xs) y ys e = let h = in_range n xs y ys e in omega arith
 
 -- only the first token of what is left counts at a fault
-moved : (s : Stop) (front : List Token) (t : Token) (ts us : List Token) → StopsAt conditions_of 32 script front s (t ∷ ts) → StopsAt conditions_of 32 script front s (t ∷ us)
+moved : (s : ParseFault) (front : List Token) (t : Token) (ts us : List Token) → StopsAt conditions_of 32 script front s (t ∷ ts) → StopsAt conditions_of 32 script front s (t ∷ us)
 moved stop.Syntax front t ts us h = h
 moved stop.Nesting front t ts us h = h
 moved stop.TooMany front t ts us h = h
@@ -184,7 +184,7 @@ module _ {B : Type 0} (view : B → List Batch) (text : List ℕ) (ps : List Pla
   any_short : behind ≡ [] → (i : ℕ) → AreShort (take i ps)
   any_short e i = subst (λ z. has_long 0 false (take i z) ≡ false) (same_cut e) (prefix_short 0 false i ps)
 
-  whole_fault : behind ≡ [] → (s : Stop) (at : ℕ) → Breaks script text s at → BreaksScript text s at
+  whole_fault : behind ≡ [] → (s : ParseFault) (at : ℕ) → Breaks script text s at → BreaksScript text s at
   whole_fault e s at (others, f, i, place, j) =
       (others, f, i, place, j, subst (λ z. AreShort (take i z)) (same_ok ps others (tokens_of text) scanned f) (any_short e i))
 
@@ -220,7 +220,7 @@ module _ {B : Type 0} (view : B → List Batch) (text : List ℕ) (ps : List Pla
         ∙ ap (λ z. front ++ z) (sym (map-append (λ (q : Placed). q.token) (p ∷ left) behind))
         ∙ ap (λ z. front ++ unplaced z) (sym here_all)
 
-    cut_fault : (s : Stop) → FaultsAt conditions_of 32 script (unplaced cut) s (unplaced (p ∷ left)) → BreaksScript text s p.at
+    cut_fault : (s : ParseFault) → FaultsAt conditions_of 32 script (unplaced cut) s (unplaced (p ∷ left)) → BreaksScript text s p.at
     cut_fault s (front, e, begins, stops) = (
       ps,
       scanned,
@@ -237,7 +237,7 @@ module _ {B : Type 0} (view : B → List Batch) (text : List ℕ) (ps : List Pla
 
   -- the first batch that is too long
 
-  begins_found : (r : Result (List Batch) Stop) → read (reader conditions_of 32) script (unplaced cut) ≡ (r, []) → Begins conditions_of true 32 script (unplaced cut)
+  begins_found : (r : Result (List Batch) ParseFault) → read (reader conditions_of 32) script (unplaced cut) ≡ (r, []) → Begins conditions_of true 32 script (unplaced cut)
   begins_found (Ok v) e = ([], v, subst (λ z. IsText conditions_of true 32 script z v) (sym (append-nil (unplaced cut))) (judged_cut (Ok v, []) e))
   begins_found (Err s) e = of_fault (judged_cut (Err s, []) e)
     where
@@ -247,8 +247,8 @@ module _ {B : Type 0} (view : B → List Batch) (text : List ℕ) (ps : List Pla
   long_fault : (q : Placed) (rest : List Placed) → behind ≡ q ∷ rest → Begins conditions_of true 32 script (unplaced cut) → HasLongBatch text
   long_fault q rest e begins = (ps, scanned, cut, rest, q, sym cut_and ∙ ap (λ z. cut ++ z) e, begins, cut_short, next_long 0 false ps q rest e)
 
-  cut_answers : (q : Placed) (rest : List Placed) → behind ≡ q ∷ rest → (found : Result B Halt) (left : List Placed) → drop n cut ≡ left
-      → Finds view (read (reader conditions_of 32) script (unplaced cut)) found (unplaced left) → AnswersScript view text (ended_script false found left (length text))
+  cut_answers : (q : Placed) (rest : List Placed) → behind ≡ q ∷ rest → (found : Result B ParseError) (left : List Placed) → drop n cut ≡ left
+      → ReadsAndLeaves view (read (reader conditions_of 32) script (unplaced cut)) found (unplaced left) → AnswersScript view text (ended_script false found left (length text))
   cut_answers q rest e (Err Memory) left h f = tt
   cut_answers q rest e (Ok x) [] h f = inr (fits, long_fault q rest e (begins_found (Ok (view x)) f))
   cut_answers q rest e (Ok x) (p ∷ left) h f = (fits, cut_fault p left h stop.Syntax (judged_cut _ f))
@@ -259,22 +259,22 @@ module _ {B : Type 0} (view : B → List Batch) (text : List ℕ) (ps : List Pla
 
   -- all together
 
-  ended_whole : (found : Result B Halt) (left : List Placed) (end : ℕ) → ended_script true found left end ≡ ended found left end
+  ended_whole : (found : Result B ParseError) (left : List Placed) (end : ℕ) → ended_script true found left end ≡ ended found left end
   ended_whole (Ok x) left end = refl
   ended_whole (Err Memory) left end = refl
   ended_whole (Err (Fault s)) left end = refl
 
-  pub script_answers : (found : Result B Halt) (left : List Placed) (tail : List Placed) → behind ≡ tail → drop n cut ≡ left
-      → Finds view (read (reader conditions_of 32) script (unplaced cut)) found (unplaced left)
+  pub script_answers : (found : Result B ParseError) (left : List Placed) (tail : List Placed) → behind ≡ tail → drop n cut ≡ left
+      → ReadsAndLeaves view (read (reader conditions_of 32) script (unplaced cut)) found (unplaced left)
       → AnswersScript view text (ended_script (is_none tail) found left (length text))
   script_answers found left [] e h f =
       subst (AnswersScript view text) (sym (ended_whole found left (length text)))
       (whole_answers e _ (answers view script script_good 16777216 text ps n fits scanned real found left
-      (subst (λ z. drop n z ≡ left) (same_cut e) h) (subst (λ z. Finds view (read (reader conditions_of 32) script (unplaced z)) found (unplaced left)) (same_cut e) f)))
+      (subst (λ z. drop n z ≡ left) (same_cut e) h) (subst (λ z. ReadsAndLeaves view (read (reader conditions_of 32) script (unplaced z)) found (unplaced left)) (same_cut e) f)))
   script_answers found left (q ∷ rest) e h f = cut_answers q rest e found left h f
 
-  pub script_accepts : (found : Result B Halt) (left : List Placed) (tail : List Placed) → behind ≡ tail
-      → Finds view (read (reader conditions_of 32) script (unplaced cut)) found (unplaced left)
+  pub script_accepts : (found : Result B ParseError) (left : List Placed) (tail : List Placed) → behind ≡ tail
+      → ReadsAndLeaves view (read (reader conditions_of 32) script (unplaced cut)) found (unplaced left)
       → (batches : List Batch) → IsScript text batches → Accepts view (ended_script (is_none tail) found left (length text)) batches
   script_accepts found left tail e f batches (g, others, h, t, short) =
       let same : others ≡ ps = same_ok others ps (tokens_of text) h scanned in
@@ -282,7 +282,7 @@ module _ {B : Type 0} (view : B → List Batch) (text : List ℕ) (ps : List Pla
       subst (λ z. Accepts view (ended_script (is_none z) found left (length text)) batches) (sym none ∙ e)
       (subst (λ z. Accepts view z batches) (sym (ended_whole found left (length text)))
       (accepts view script script_good 16777216 text ps n fits scanned real found left
-      (subst (λ z. Finds view (read (reader conditions_of 32) script (unplaced z)) found (unplaced left)) (same_cut none) f) batches (g, others, h, t)))
+      (subst (λ z. ReadsAndLeaves view (read (reader conditions_of 32) script (unplaced z)) found (unplaced left)) (same_cut none) f) batches (g, others, h, t)))
 
 -- the steps of the loop that looks for the first batch that is too long
 
@@ -316,7 +316,7 @@ script_lapsed text (lex.At lapse.Name at) fits scan = (fits, at, scan)
 
 -- the parser from its start to what it left
 pub whole_script : {B : Type 0} (view : B → List Batch) (text bytes : List ℕ) (list short long left : List Lexeme) (m : ℕ) (is_whole : Bool) (old new : Parser)
-    (found : Result B Halt) (r : Result B SqlFault) → bytes ≡ text → length bytes ≤ 16777216 → tokens_of bytes ≡ Ok (map placed_of list)
+    (found : Result B ParseError) (r : Result B SqlFault) → bytes ≡ text → length bytes ≤ 16777216 → tokens_of bytes ≡ Ok (map placed_of list)
     → m ≡ short_len 0 false (map placed_of list) → short ≡ take m list → long ≡ drop m list → is_whole ≡ (length long == 0)
     → old.list.now ≡ short → old.place ≡ 0 → old.levels ≡ 32 → Reads view script old found new → new.list.now ≡ old.list.now → left ≡ drop new.place new.list.now
     → r ≡ ended_script is_whole found (map placed_of left) (length bytes)
@@ -356,11 +356,11 @@ whole_script {B} view text bytes list short long left m is_whole old new found r
     at_stop : left_of new ≡ unplaced (drop new.place cut_ps)
     at_stop = sym (unplaced_is (drop new.place new.list.now)) ∙ ap unplaced left_placed
 
-    finds : Finds view (read (reader conditions_of 32) script (unplaced cut_ps)) found (unplaced (drop new.place cut_ps))
+    finds : ReadsAndLeaves view (read (reader conditions_of 32) script (unplaced cut_ps)) found (unplaced (drop new.place cut_ps))
     finds =
-        subst (λ z. Finds view (read (reader conditions_of 32) script (unplaced cut_ps)) found z) at_stop
-        (subst (λ z. Finds view (read (reader conditions_of 32) script z) found (left_of new)) at_start
-        (subst (λ z. Finds view (read (reader conditions_of z) script (left_of old)) found (left_of new)) levels reads))
+        subst (λ z. ReadsAndLeaves view (read (reader conditions_of 32) script (unplaced cut_ps)) found z) at_stop
+        (subst (λ z. ReadsAndLeaves view (read (reader conditions_of 32) script z) found (left_of new)) at_start
+        (subst (λ z. ReadsAndLeaves view (read (reader conditions_of z) script (left_of old)) found (left_of new)) levels reads))
 
     is_ended : r ≡ ended_script (is_none (map placed_of long)) found (drop new.place cut_ps) (length text)
     is_ended =

@@ -1,18 +1,18 @@
 -- The places of tokens lie inside the text.
 use Rattle.std.proofs.Common.{◌≡◌, ℕ, zero, suc, ◌+◌, ◌-◌, ◌≤◌, ◌<◌, Bool, true, false, cond, List, [], ◌∷◌, length, Result, Ok, Err, subst, arith}
 use Rattle.std.specs.List.{AllByRecursion}
-use Rattle.sql_tokens.specs.declared.lexemes.Lapse.{Lapse}
+use Rattle.sql_tokens.specs.declared.lexemes.TokenFault.{TokenFault}
 use Rattle.sql_tokens.specs.Lex.{Token, Placed, is_blank, token_at, followed, placed, tokens_from, tokens_of}
 
-abbrev AreWithin : ℕ → Result (List Placed) (Lapse × ℕ) → Type 0
+abbrev AreWithin : ℕ → Result (List Placed) (TokenFault × ℕ) → Type 0
 AreWithin end (Ok ps) = AllByRecursion (λ p. p.at < end) ps
 AreWithin end (Err e) = Unit {0}
 
-followed_within : (end : ℕ) (p : Placed) (r : Result (List Placed) (Lapse × ℕ)) → p.at < end → AreWithin end r → AreWithin end (followed p r)
+followed_within : (end : ℕ) (p : Placed) (r : Result (List Placed) (TokenFault × ℕ)) → p.at < end → AreWithin end r → AreWithin end (followed p r)
 followed_within end p (Ok ps) h k = (h, k)
 followed_within end p (Err e) h k = tt
 
-placed_within : (end at : ℕ) (r : Result Token Lapse) (others : ℕ → Result (List Placed) (Lapse × ℕ)) → at < end → ((n : ℕ) → AreWithin end (others n)) → AreWithin end (placed at r others)
+placed_within : (end at : ℕ) (r : Result Token TokenFault) (others : ℕ → Result (List Placed) (TokenFault × ℕ)) → at < end → ((n : ℕ) → AreWithin end (others n)) → AreWithin end (placed at r others)
 placed_within end at (Ok t) others h k = followed_within end (record { token = t; at = at }) (others (length t.text - 1)) h (k (length t.text - 1))
 placed_within end at (Err lapse) others h k = tt
 

@@ -12,7 +12,7 @@ use Rattle.std.proofs.lemmas.List.{length-append}
 use Rattle.std.proofs.lemmas.Fmt.{digits_decimal, digits_value-decimal, decimal_nonempty}
 use Rattle.std.proofs.lemmas.Str.Parse.{IsNumeralModel, numerals_by_value, tells_all_ascii_digits}
 use Rattle.sql_tokens.specs.declared.kinds.TokenKind.TheVariants as k
-use Rattle.sql_tokens.specs.declared.lexemes.Lapse.TheVariants as lapse
+use Rattle.sql_tokens.specs.declared.lexemes.TokenFault.TheVariants as lapse
 use Rattle.sql_tokens.specs.Kinds.{keyword}
 use Rattle.sql_tokens.specs.Lex.{is_letter, is_word_byte, named, integer_value, integer, closing, single_quotes, unquoted, fits_text, quoted, token_at}
 use Rattle.sql_tokens.proofs.Alone.{letter_at, digit_at, minus_at, quote_at}

@@ -4,13 +4,13 @@ use Rattle.std.proofs.lemmas.List.{append-nil, map-append, length-append}
 use Rattle.grammar.specs.Rule.{Rule, both, many, means}
 use Rattle.grammar.specs.Checks.{is_nullable, first}
 use Rattle.grammar.specs.Reading.{Found, begins, and_then, is_full, one_less, read, reader}
-use Rattle.grammar.specs.declared.Stop.{Stop}
-use Rattle.grammar.specs.declared.Stop.TheVariants.{TooMany}
+use Rattle.grammar.specs.declared.ParseFault.{ParseFault}
+use Rattle.grammar.specs.declared.ParseFault.TheVariants.{TooMany}
 use Rattle.grammar.proofs.Shorter.{Shortens, round, many_step, solid_shorter}
 use Rattle.sql_tokens.specs.Lex.{Token}
-use Rattle.sql_text.specs.declared.halt.Halt.{Halt}
-use Rattle.sql_text.specs.declared.halt.Halt.TheVariants.{Memory, Fault}
-use Rattle.sql_text.specs.Parsing.{Finds, Appends}
+use Rattle.sql_text.specs.declared.halt.ParseError.{ParseError}
+use Rattle.sql_text.specs.declared.halt.ParseError.TheVariants.{Memory, Fault}
+use Rattle.sql_text.specs.Parsing.{ReadsAndLeaves, Appends}
 use Rattle.std.specs.Prelude.{Vec}
 use Rattle.std.specs.Global.{Global}
 use Rattle.sql_text.specs.Tokens.{sql}
@@ -42,7 +42,7 @@ module _ {A B : Type 0} (view : B → A) (q : Rule sql A) (solid : is_nullable q
   unfolding many_of
   full_step most levels left b e = step most levels left ∙ rw (b, e) refl
 
-  fail_step : (most : Option ℕ) (levels : ℕ) (s : Stop) (left rest : List Token) → is_full most ≡ false → begins sql (first q) left ≡ true
+  fail_step : (most : Option ℕ) (levels : ℕ) (s : ParseFault) (left rest : List Token) → is_full most ≡ false → begins sql (first q) left ≡ true
       → read (reader conditions_of levels) q left ≡ (Err s, rest) → many_of most q levels left ≡ (Err s, rest)
   unfolding many_of
   fail_step most levels s left rest room b h = step most levels left ∙ rw (b, room, h) refl
@@ -77,10 +77,10 @@ module _ {A B : Type 0} (view : B → A) (q : Rule sql A) (solid : is_nullable q
       ∙ sym (turn_at most levels front x left rest room b (subst (λ z. read (reader conditions_of z) q left ≡ (Ok (view x), rest)) e h))
 
   -- a turn whose part fails
-  pub turn_fails : {C D : Type 0} (other : D → C) (most : Option ℕ) (levels m : ℕ) (front : List B) (left rest : List Token) (halt : Halt) (whole : Found Token C)
-      (of_parts : Found Token (List A) → Found Token C) → ((s : Stop) → of_parts (Err s, rest) ≡ (Err s, rest)) → m ≡ levels → is_full most ≡ false → begins sql (first q) left ≡ true
+  pub turn_fails : {C D : Type 0} (other : D → C) (most : Option ℕ) (levels m : ℕ) (front : List B) (left rest : List Token) (halt : ParseError) (whole : Found Token C)
+      (of_parts : Found Token (List A) → Found Token C) → ((s : ParseFault) → of_parts (Err s, rest) ≡ (Err s, rest)) → m ≡ levels → is_full most ≡ false → begins sql (first q) left ≡ true
       → whole ≡ of_parts (with_front (map view front) (many_of most q levels left))
-      → Finds view (read (reader conditions_of m) q left) (Err halt) rest → Finds other whole (Err halt) rest
+      → ReadsAndLeaves view (read (reader conditions_of m) q left) (Err halt) rest → ReadsAndLeaves other whole (Err halt) rest
   turn_fails other most levels m front left rest Memory whole of_parts keeps e room b k h = tt
   turn_fails other most levels m front left rest (Fault s) whole of_parts keeps e room b k h =
       k ∙ ap (λ z. of_parts (with_front (map view front) z)) (fail_step most levels s left rest room b (subst (λ z. read (reader conditions_of z) q left ≡ (Err s, rest)) e h)) ∙ keeps s
@@ -104,9 +104,9 @@ module _ {A B : Type 0} (view : B → A) (most : Option ℕ) (p q : Rule sql A) 
       ∙ ap (λ z. with_front (view x ∷ []) (read (reader conditions_of z) (many most q) rest)) (sym e)
       ∙ ap (λ z. with_front (map view z) (read (reader conditions_of n) (many most q) rest)) (sym (k ∙ ap (λ z. z ++ x ∷ []) i))
 
-  pub begun_fails : {C D : Type 0} (other : D → C) (levels : ℕ) (left rest : List Token) (halt : Halt) (whole : Found Token C) (of_parts : Found Token (List A) → Found Token C)
-      → ((s : Stop) → of_parts (Err s, rest) ≡ (Err s, rest)) → whole ≡ of_parts (read (reader conditions_of levels) (first_and most p q) left)
-      → Finds view (read (reader conditions_of levels) p left) (Err halt) rest → Finds other whole (Err halt) rest
+  pub begun_fails : {C D : Type 0} (other : D → C) (levels : ℕ) (left rest : List Token) (halt : ParseError) (whole : Found Token C) (of_parts : Found Token (List A) → Found Token C)
+      → ((s : ParseFault) → of_parts (Err s, rest) ≡ (Err s, rest)) → whole ≡ of_parts (read (reader conditions_of levels) (first_and most p q) left)
+      → ReadsAndLeaves view (read (reader conditions_of levels) p left) (Err halt) rest → ReadsAndLeaves other whole (Err halt) rest
   begun_fails other levels left rest Memory whole of_parts keeps k h = tt
   begun_fails other levels left rest (Fault s) whole of_parts keeps k h = k ∙ ap of_parts (rw h refl) ∙ keeps s
 
@@ -134,43 +134,43 @@ no_room most n h = let e : most - n ≡ 0 = omega arith in rw e refl
 
 -- the same where a part is put behind the others as it was read
 
-pub appended_len : {B : Type 0} (front : List B) (part : Result B Halt) (list : Vec B Global) → Appends front part (Ok list) → length list.items ≡ length front + 1
-appended_len front (Ok x) list k = ap length k ∙ length-append front (x ∷ [])
-appended_len front (Err halt) list k = absurd k
+pub push_parsed_len : {B : Type 0} (front : List B) (part : Result B ParseError) (list : Vec B Global) → Appends front part (Ok list) → length list.items ≡ length front + 1
+push_parsed_len front (Ok x) list k = ap length k ∙ length-append front (x ∷ [])
+push_parsed_len front (Err halt) list k = absurd k
 
 module _ {A B : Type 0} (view : B → A) (q : Rule sql A) (solid : is_nullable q ≡ false) where
-  pub turn_in : (most levels m n : ℕ) (front : List B) (part : Result B Halt) (list : Vec B Global) (left rest : List Token) → m ≡ levels → n ≡ m → length front < most
-      → begins sql (first q) left ≡ true → Finds view (read (reader conditions_of m) q left) part rest → Appends front part (Ok list)
+  pub turn_in : (most levels m n : ℕ) (front : List B) (part : Result B ParseError) (list : Vec B Global) (left rest : List Token) → m ≡ levels → n ≡ m → length front < most
+      → begins sql (first q) left ≡ true → ReadsAndLeaves view (read (reader conditions_of m) q left) part rest → Appends front part (Ok list)
       → with_front (map view list.items) (many_of (Some (most - length list.items)) q n rest) ≡ with_front (map view front) (many_of (Some (most - length front)) q levels left)
   turn_in most levels m n front (Ok x) list left rest e f room b h k =
       turn view q solid (Some (most - length front)) (Some (most - length list.items)) levels m n front list.items x left rest e f
       (has_room most (length front) room) (one_fewer most front list.items x k room) b h k
   turn_in most levels m n front (Err halt) list left rest e f room b h k = absurd k
 
-  pub turn_stops : {C D : Type 0} (other : D → C) (most levels m : ℕ) (front : List B) (part : Result B Halt) (left rest : List Token) (halt : Halt) (whole : Found Token C)
-      (of_parts : Found Token (List A) → Found Token C) → ((s : Stop) → of_parts (Err s, rest) ≡ (Err s, rest)) → m ≡ levels → length front < most → begins sql (first q) left ≡ true
+  pub turn_stops : {C D : Type 0} (other : D → C) (most levels m : ℕ) (front : List B) (part : Result B ParseError) (left rest : List Token) (halt : ParseError) (whole : Found Token C)
+      (of_parts : Found Token (List A) → Found Token C) → ((s : ParseFault) → of_parts (Err s, rest) ≡ (Err s, rest)) → m ≡ levels → length front < most → begins sql (first q) left ≡ true
       → whole ≡ of_parts (with_front (map view front) (many_of (Some (most - length front)) q levels left))
-      → Finds view (read (reader conditions_of m) q left) part rest → Appends front part (Err halt) → Finds other whole (Err halt) rest
-  turn_stops other most levels m front (Ok x) left rest halt whole of_parts keeps e room b w h k = subst (λ z. Finds other whole (Err z) rest) (sym k) tt
+      → ReadsAndLeaves view (read (reader conditions_of m) q left) part rest → Appends front part (Err halt) → ReadsAndLeaves other whole (Err halt) rest
+  turn_stops other most levels m front (Ok x) left rest halt whole of_parts keeps e room b w h k = subst (λ z. ReadsAndLeaves other whole (Err z) rest) (sym k) tt
   turn_stops other most levels m front (Err why) left rest halt whole of_parts keeps e room b w h k =
-      subst (λ z. Finds other whole (Err z) rest) (sym k)
+      subst (λ z. ReadsAndLeaves other whole (Err z) rest) (sym k)
       (turn_fails view q solid other (Some (most - length front)) levels m front left rest why whole of_parts keeps e (has_room most (length front) room) b w h)
 
-  pub fewer_in : (m : ℕ) (front : List B) (part : Result B Halt) (list : Vec B Global) (left rest : List Token) → Finds view (read (reader conditions_of m) q left) part rest
+  pub fewer_in : (m : ℕ) (front : List B) (part : Result B ParseError) (list : Vec B Global) (left rest : List Token) → ReadsAndLeaves view (read (reader conditions_of m) q left) part rest
       → Appends front part (Ok list) → length rest < length left
   fewer_in m front (Ok x) list left rest h k = fewer view q solid m left x rest h
   fewer_in m front (Err halt) list left rest h k = absurd k
 
 module _ {A B : Type 0} (view : B → A) (most : Option ℕ) (p q : Rule sql A) where
-  pub begun_in : (levels n : ℕ) (left rest : List Token) (none : List B) (part : Result B Halt) (list : Vec B Global) → n ≡ levels
-      → Finds view (read (reader conditions_of levels) p left) part rest → none ≡ [] → Appends none part (Ok list)
+  pub begun_in : (levels n : ℕ) (left rest : List Token) (none : List B) (part : Result B ParseError) (list : Vec B Global) → n ≡ levels
+      → ReadsAndLeaves view (read (reader conditions_of levels) p left) part rest → none ≡ [] → Appends none part (Ok list)
       → read (reader conditions_of levels) (first_and most p q) left ≡ with_front (map view list.items) (many_of most q n rest)
   begun_in levels n left rest none (Ok x) list e h i k = begun view most p q levels n left rest x none list.items e h i k
   begun_in levels n left rest none (Err halt) list e h i k = absurd k
 
-  pub begun_stops : {C D : Type 0} (other : D → C) (levels : ℕ) (left rest : List Token) (none : List B) (part : Result B Halt) (halt : Halt) (whole : Found Token C)
-      (of_parts : Found Token (List A) → Found Token C) → ((s : Stop) → of_parts (Err s, rest) ≡ (Err s, rest)) → whole ≡ of_parts (read (reader conditions_of levels) (first_and most p q) left)
-      → Finds view (read (reader conditions_of levels) p left) part rest → Appends none part (Err halt) → Finds other whole (Err halt) rest
-  begun_stops other levels left rest none (Ok x) halt whole of_parts keeps w h k = subst (λ z. Finds other whole (Err z) rest) (sym k) tt
+  pub begun_stops : {C D : Type 0} (other : D → C) (levels : ℕ) (left rest : List Token) (none : List B) (part : Result B ParseError) (halt : ParseError) (whole : Found Token C)
+      (of_parts : Found Token (List A) → Found Token C) → ((s : ParseFault) → of_parts (Err s, rest) ≡ (Err s, rest)) → whole ≡ of_parts (read (reader conditions_of levels) (first_and most p q) left)
+      → ReadsAndLeaves view (read (reader conditions_of levels) p left) part rest → Appends none part (Err halt) → ReadsAndLeaves other whole (Err halt) rest
+  begun_stops other levels left rest none (Ok x) halt whole of_parts keeps w h k = subst (λ z. ReadsAndLeaves other whole (Err z) rest) (sym k) tt
   begun_stops other levels left rest none (Err why) halt whole of_parts keeps w h k =
-      subst (λ z. Finds other whole (Err z) rest) (sym k) (begun_fails view most p q other levels left rest why whole of_parts keeps w h)
+      subst (λ z. ReadsAndLeaves other whole (Err z) rest) (sym k) (begun_fails view most p q other levels left rest why whole of_parts keeps w h)

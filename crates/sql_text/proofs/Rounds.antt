@@ -3,16 +3,16 @@ use Rattle.std.proofs.Common.{Result, ◌≡◌, ℕ, ◌+◌, ◌≤◌, ◌<�
 use Rattle.grammar.specs.Rule.{Rule, many}
 use Rattle.grammar.specs.Checks.{is_nullable, first}
 use Rattle.grammar.specs.Reading.{Found, begins, taken, and_then, is_full, one_less, read, reader}
-use Rattle.grammar.specs.declared.Stop.{Stop}
-use Rattle.grammar.specs.declared.Stop.TheVariants.{TooMany}
+use Rattle.grammar.specs.declared.ParseFault.{ParseFault}
+use Rattle.grammar.specs.declared.ParseFault.TheVariants.{TooMany}
 use Rattle.grammar.proofs.Shorter.{Shortens, round, many_step, solid_shorter, shortens_taken, shorter, nested_shorter, least}
 use Rattle.sql_tokens.specs.declared.kinds.TokenKind.{TokenKind}
 use Rattle.sql_tokens.specs.Lex.{Token}
 use Rattle.std.specs.Prelude.{map}
 use Rattle.std.proofs.lemmas.List.{append-nil, map-append, length-append}
-use Rattle.sql_text.specs.declared.halt.Halt.{Halt}
-use Rattle.sql_text.specs.declared.halt.Halt.TheVariants.{Memory, Fault}
-use Rattle.sql_text.specs.Parsing.{Finds, Appends}
+use Rattle.sql_text.specs.declared.halt.ParseError.{ParseError}
+use Rattle.sql_text.specs.declared.halt.ParseError.TheVariants.{Memory, Fault}
+use Rattle.sql_text.specs.Parsing.{ReadsAndLeaves, Appends}
 use Rattle.std.specs.Prelude.{Vec, OnOk}
 use Rattle.std.specs.Global.{Global}
 use Rattle.sql_text.specs.Tokens.{sql}
@@ -56,7 +56,7 @@ module _ {A : Type 0} (most : Option ℕ) (kind : TokenKind) (p : Rule sql A) (l
   unfolding more_of before
   more_go t mid v rest e f g h front = ap (with_front front) (step ∙ rw (e, f, g, h) refl) ∙ front_one front v (read (reader conditions_of levels) (many (one_less most) (before kind p)) rest)
 
-  pub more_fail : (t : Token) (mid : List Token) (s : Stop) (rest : List Token) → begins sql (kind ∷ []) left ≡ true → is_full most ≡ false
+  pub more_fail : (t : Token) (mid : List Token) (s : ParseFault) (rest : List Token) → begins sql (kind ∷ []) left ≡ true → is_full most ≡ false
       → taken sql kind left ≡ (Ok t, mid) → read (reader conditions_of levels) p mid ≡ (Err s, rest) → more_of most kind p levels left ≡ (Err s, rest)
   unfolding more_of before
   more_fail t mid s rest e f g h = step ∙ rw (e, f, g, h) refl
@@ -72,7 +72,7 @@ listed_is {A} most kind p levels left v rest e = rw e (go (read (reader conditio
     go (Ok vs, end) = refl
     go (Err s, end) = refl
 
-pub listed_fails : {A : Type 0} (most : Option ℕ) (kind : TokenKind) (p : Rule sql A) (levels : ℕ) (left : List Token) (s : Stop) (rest : List Token)
+pub listed_fails : {A : Type 0} (most : Option ℕ) (kind : TokenKind) (p : Rule sql A) (levels : ℕ) (left : List Token) (s : ParseFault) (rest : List Token)
     → read (reader conditions_of levels) p left ≡ (Err s, rest) → read (reader conditions_of levels) (listed most kind p) left ≡ (Err s, rest)
 unfolding listed
 listed_fails most kind p levels left s rest e = rw e refl
@@ -94,10 +94,10 @@ module _ {A B : Type 0} (view : B → A) (most : Option ℕ) (kind : TokenKind) 
       ∙ sym (more_go most kind p levels left t mid (view x) rest b room g (subst (λ z. read (reader conditions_of z) p mid ≡ (Ok (view x), rest)) e h) (map view front))
 
   -- a turn whose part fails
-  pub turn_fails : {C D : Type 0} (other : D → C) (levels m : ℕ) (front : List B) (left : List Token) (t : Token) (mid rest : List Token) (halt : Halt) (whole : Found Token C)
-      (of_parts : Found Token (List A) → Found Token C) → ((s : Stop) → of_parts (Err s, rest) ≡ (Err s, rest)) → m ≡ levels → is_full most ≡ false
+  pub turn_fails : {C D : Type 0} (other : D → C) (levels m : ℕ) (front : List B) (left : List Token) (t : Token) (mid rest : List Token) (halt : ParseError) (whole : Found Token C)
+      (of_parts : Found Token (List A) → Found Token C) → ((s : ParseFault) → of_parts (Err s, rest) ≡ (Err s, rest)) → m ≡ levels → is_full most ≡ false
       → begins sql (kind ∷ []) left ≡ true → taken sql kind left ≡ (Ok t, mid) → whole ≡ of_parts (with_front (map view front) (more_of most kind p levels left))
-      → Finds view (read (reader conditions_of m) p mid) (Err halt) rest → Finds other whole (Err halt) rest
+      → ReadsAndLeaves view (read (reader conditions_of m) p mid) (Err halt) rest → ReadsAndLeaves other whole (Err halt) rest
   turn_fails other levels m front left t mid rest Memory whole of_parts keeps e room b g k h = tt
   turn_fails other levels m front left t mid rest (Fault s) whole of_parts keeps e room b g k h =
       k ∙ ap (λ z. of_parts (with_front (map view front) z)) (more_fail most kind p levels left t mid s rest b room g (subst (λ z. read (reader conditions_of z) p mid ≡ (Err s, rest)) e h)) ∙ keeps s
@@ -110,49 +110,49 @@ module _ {A B : Type 0} (view : B → A) (most : Option ℕ) (kind : TokenKind) 
       ∙ ap (λ z. with_front (view x ∷ []) (more_of most kind p z rest)) (sym e)
       ∙ ap (λ z. with_front (map view z) (more_of most kind p n rest)) (sym (k ∙ ap (λ z. z ++ x ∷ []) i))
 
-  pub begun_fails : {C D : Type 0} (other : D → C) (levels : ℕ) (left rest : List Token) (halt : Halt) (whole : Found Token C) (of_parts : Found Token (List A) → Found Token C)
-      → ((s : Stop) → of_parts (Err s, rest) ≡ (Err s, rest)) → whole ≡ of_parts (read (reader conditions_of levels) (listed most kind p) left)
-      → Finds view (read (reader conditions_of levels) p left) (Err halt) rest → Finds other whole (Err halt) rest
+  pub begun_fails : {C D : Type 0} (other : D → C) (levels : ℕ) (left rest : List Token) (halt : ParseError) (whole : Found Token C) (of_parts : Found Token (List A) → Found Token C)
+      → ((s : ParseFault) → of_parts (Err s, rest) ≡ (Err s, rest)) → whole ≡ of_parts (read (reader conditions_of levels) (listed most kind p) left)
+      → ReadsAndLeaves view (read (reader conditions_of levels) p left) (Err halt) rest → ReadsAndLeaves other whole (Err halt) rest
   begun_fails other levels left rest Memory whole of_parts keeps k h = tt
   begun_fails other levels left rest (Fault s) whole of_parts keeps k h = k ∙ ap of_parts (listed_fails most kind p levels left s rest h) ∙ keeps s
 
 -- the same where a part is put behind the others as it was read
 
 -- what stays where the part was read
-pub kept : {B : Type 0} {P : Type 0} (front : List B) (part : Result B Halt) (list : Vec B Global) → Appends front part (Ok list) → OnOk part P → P
+pub kept : {B : Type 0} {P : Type 0} (front : List B) (part : Result B ParseError) (list : Vec B Global) → Appends front part (Ok list) → OnOk part P → P
 kept front (Ok x) list k h = h
 kept front (Err halt) list k h = absurd k
 
-pub some_in : {B : Type 0} (front : List B) (part : Result B Halt) (list : Vec B Global) → Appends front part (Ok list) → 0 < length list.items
+pub some_in : {B : Type 0} (front : List B) (part : Result B ParseError) (list : Vec B Global) → Appends front part (Ok list) → 0 < length list.items
 some_in front (Ok x) list k = let e = ap length k ∙ length-append front (x ∷ []) in omega arith
 some_in front (Err halt) list k = absurd k
 
 module _ {A B : Type 0} (view : B → A) (most : Option ℕ) (kind : TokenKind) (p : Rule sql A) where
-  pub turn_in : (levels m n : ℕ) (front : List B) (part : Result B Halt) (list : Vec B Global) (left : List Token) (t : Token) (mid rest : List Token) → m ≡ levels → OnOk part (n ≡ m) → is_full most ≡ false
-      → begins sql (kind ∷ []) left ≡ true → taken sql kind left ≡ (Ok t, mid) → Finds view (read (reader conditions_of m) p mid) part rest → Appends front part (Ok list)
+  pub turn_in : (levels m n : ℕ) (front : List B) (part : Result B ParseError) (list : Vec B Global) (left : List Token) (t : Token) (mid rest : List Token) → m ≡ levels → OnOk part (n ≡ m) → is_full most ≡ false
+      → begins sql (kind ∷ []) left ≡ true → taken sql kind left ≡ (Ok t, mid) → ReadsAndLeaves view (read (reader conditions_of m) p mid) part rest → Appends front part (Ok list)
       → with_front (map view list.items) (more_of (one_less most) kind p n rest) ≡ with_front (map view front) (more_of most kind p levels left)
   turn_in levels m n front (Ok x) list left t mid rest e f room b g h k = turn view most kind p levels m n front list.items x left t mid rest e f room b g h k
   turn_in levels m n front (Err halt) list left t mid rest e f room b g h k = absurd k
 
-  pub turn_stops : {C D : Type 0} (other : D → C) (levels m : ℕ) (front : List B) (part : Result B Halt) (left : List Token) (t : Token) (mid rest : List Token) (halt : Halt) (whole : Found Token C)
-      (of_parts : Found Token (List A) → Found Token C) → ((s : Stop) → of_parts (Err s, rest) ≡ (Err s, rest)) → m ≡ levels → is_full most ≡ false
+  pub turn_stops : {C D : Type 0} (other : D → C) (levels m : ℕ) (front : List B) (part : Result B ParseError) (left : List Token) (t : Token) (mid rest : List Token) (halt : ParseError) (whole : Found Token C)
+      (of_parts : Found Token (List A) → Found Token C) → ((s : ParseFault) → of_parts (Err s, rest) ≡ (Err s, rest)) → m ≡ levels → is_full most ≡ false
       → begins sql (kind ∷ []) left ≡ true → taken sql kind left ≡ (Ok t, mid) → whole ≡ of_parts (with_front (map view front) (more_of most kind p levels left))
-      → Finds view (read (reader conditions_of m) p mid) part rest → Appends front part (Err halt) → Finds other whole (Err halt) rest
-  turn_stops other levels m front (Ok x) left t mid rest halt whole of_parts keeps e room b g w h k = subst (λ z. Finds other whole (Err z) rest) (sym k) tt
+      → ReadsAndLeaves view (read (reader conditions_of m) p mid) part rest → Appends front part (Err halt) → ReadsAndLeaves other whole (Err halt) rest
+  turn_stops other levels m front (Ok x) left t mid rest halt whole of_parts keeps e room b g w h k = subst (λ z. ReadsAndLeaves other whole (Err z) rest) (sym k) tt
   turn_stops other levels m front (Err why) left t mid rest halt whole of_parts keeps e room b g w h k =
-      subst (λ z. Finds other whole (Err z) rest) (sym k) (turn_fails view most kind p other levels m front left t mid rest why whole of_parts keeps e room b g w h)
+      subst (λ z. ReadsAndLeaves other whole (Err z) rest) (sym k) (turn_fails view most kind p other levels m front left t mid rest why whole of_parts keeps e room b g w h)
 
-  pub begun_in : (levels n : ℕ) (left rest : List Token) (none : List B) (part : Result B Halt) (list : Vec B Global) → OnOk part (n ≡ levels) → Finds view (read (reader conditions_of levels) p left) part rest
+  pub begun_in : (levels n : ℕ) (left rest : List Token) (none : List B) (part : Result B ParseError) (list : Vec B Global) → OnOk part (n ≡ levels) → ReadsAndLeaves view (read (reader conditions_of levels) p left) part rest
       → none ≡ [] → Appends none part (Ok list) → read (reader conditions_of levels) (listed most kind p) left ≡ with_front (map view list.items) (more_of most kind p n rest)
   begun_in levels n left rest none (Ok x) list e h i k = begun view most kind p levels n left rest x none list.items e h i k
   begun_in levels n left rest none (Err halt) list e h i k = absurd k
 
-  pub begun_stops : {C D : Type 0} (other : D → C) (levels : ℕ) (left rest : List Token) (none : List B) (part : Result B Halt) (halt : Halt) (whole : Found Token C)
-      (of_parts : Found Token (List A) → Found Token C) → ((s : Stop) → of_parts (Err s, rest) ≡ (Err s, rest)) → whole ≡ of_parts (read (reader conditions_of levels) (listed most kind p) left)
-      → Finds view (read (reader conditions_of levels) p left) part rest → Appends none part (Err halt) → Finds other whole (Err halt) rest
-  begun_stops other levels left rest none (Ok x) halt whole of_parts keeps w h k = subst (λ z. Finds other whole (Err z) rest) (sym k) tt
+  pub begun_stops : {C D : Type 0} (other : D → C) (levels : ℕ) (left rest : List Token) (none : List B) (part : Result B ParseError) (halt : ParseError) (whole : Found Token C)
+      (of_parts : Found Token (List A) → Found Token C) → ((s : ParseFault) → of_parts (Err s, rest) ≡ (Err s, rest)) → whole ≡ of_parts (read (reader conditions_of levels) (listed most kind p) left)
+      → ReadsAndLeaves view (read (reader conditions_of levels) p left) part rest → Appends none part (Err halt) → ReadsAndLeaves other whole (Err halt) rest
+  begun_stops other levels left rest none (Ok x) halt whole of_parts keeps w h k = subst (λ z. ReadsAndLeaves other whole (Err z) rest) (sym k) tt
   begun_stops other levels left rest none (Err why) halt whole of_parts keeps w h k =
-      subst (λ z. Finds other whole (Err z) rest) (sym k) (begun_fails view most kind p other levels left rest why whole of_parts keeps w h)
+      subst (λ z. ReadsAndLeaves other whole (Err z) rest) (sym k) (begun_fails view most kind p other levels left rest why whole of_parts keeps w h)
 
 -- no further part
 pub stopped : {A B : Type 0} (view : B → A) (most : Option ℕ) (kind : TokenKind) (p : Rule sql A) (levels : ℕ) (front : List B) (left : List Token)
@@ -172,7 +172,7 @@ fewer p kind m left t mid v rest e h =
     let part : length rest + least (is_nullable p) ≤ length mid = subst (Shortens (least (is_nullable p)) mid) h (shorter sql (reader conditions_of m) (nested_shorter sql conditions_of m) p mid) in
     omega arith
 
-pub fewer_in : {A B : Type 0} (view : B → A) (p : Rule sql A) (kind : TokenKind) (m : ℕ) (front : List B) (part : Result B Halt) (list : Vec B Global) (left : List Token) (t : Token) (mid rest : List Token)
-    → taken sql kind left ≡ (Ok t, mid) → Finds view (read (reader conditions_of m) p mid) part rest → Appends front part (Ok list) → length rest < length left
+pub fewer_in : {A B : Type 0} (view : B → A) (p : Rule sql A) (kind : TokenKind) (m : ℕ) (front : List B) (part : Result B ParseError) (list : Vec B Global) (left : List Token) (t : Token) (mid rest : List Token)
+    → taken sql kind left ≡ (Ok t, mid) → ReadsAndLeaves view (read (reader conditions_of m) p mid) part rest → Appends front part (Ok list) → length rest < length left
 fewer_in view p kind m front (Ok x) list left t mid rest e h k = fewer p kind m left t mid (view x) rest e h
 fewer_in view p kind m front (Err halt) list left t mid rest e h k = absurd k

@@ -10,8 +10,8 @@ use Rattle.std.proofs.lemmas.Str.{IsUtf8-take, IsUtf8-drop, IsCharBoundary-after
 use Rattle.std.proofs.lemmas.List.{length-take}
 use Rattle.sql_tokens.specs.declared.kinds.TokenKind.{TokenKind}
 use Rattle.sql_tokens.specs.declared.kinds.TokenKind.TheVariants as k
-use Rattle.sql_tokens.specs.declared.lexemes.Lapse.{Lapse}
-use Rattle.sql_tokens.specs.declared.lexemes.Lapse.TheVariants as lapse
+use Rattle.sql_tokens.specs.declared.lexemes.TokenFault.{TokenFault}
+use Rattle.sql_tokens.specs.declared.lexemes.TokenFault.TheVariants as lapse
 use Rattle.sql_tokens.specs.Kinds.{keyword, spelling}
 use Rattle.sql_tokens.specs.Lex.{Token, Placed, is_blank, is_letter, is_word_byte, closing, named, integer, integer_value, quoted, symbol, symbolic, fits_text, token_at, followed, placed, tokens_from}
 use Rattle.sql_text.specs.Texts.{unplaced}
@@ -200,15 +200,15 @@ split_utf8 b z text (m, e, inside, small) u =
     let size : length text - 1 ≡ m = omega (arith, ap length e, length-take (suc m) (b ∷ z)) in
     (subst IsUtf8 (sym e) (IsUtf8-take (b ∷ z) (suc m) u cut), subst (λ n. IsUtf8 (drop n z)) (sym size) (IsUtf8-drop (b ∷ z) (suc m) u cut))
 
-abbrev AreGood : Result (List Placed) (Lapse × ℕ) → Type 0
+abbrev AreGood : Result (List Placed) (TokenFault × ℕ) → Type 0
 AreGood (Ok ps) = AllByRecursion (λ t. IsUtf8 t.text) (unplaced ps)
 AreGood (Err e) = Unit {0}
 
-followed_good : (p : Placed) (r : Result (List Placed) (Lapse × ℕ)) → IsUtf8 p.token.text → AreGood r → AreGood (followed p r)
+followed_good : (p : Placed) (r : Result (List Placed) (TokenFault × ℕ)) → IsUtf8 p.token.text → AreGood r → AreGood (followed p r)
 followed_good p (Ok ps) h g = (h, g)
 followed_good p (Err e) h g = tt
 
-placed_good : (at : ℕ) (r : Result Token Lapse) (others : ℕ → Result (List Placed) (Lapse × ℕ)) → ((t : Token) → r ≡ Ok t → IsUtf8 t.text × AreGood (others (length t.text - 1)))
+placed_good : (at : ℕ) (r : Result Token TokenFault) (others : ℕ → Result (List Placed) (TokenFault × ℕ)) → ((t : Token) → r ≡ Ok t → IsUtf8 t.text × AreGood (others (length t.text - 1)))
     → AreGood (placed at r others)
 placed_good at (Ok t) others h = let one = h t refl in followed_good (record { token = t; at = at }) (others (length t.text - 1)) one.0 one.1
 placed_good at (Err lapse) others h = tt

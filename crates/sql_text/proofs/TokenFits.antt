@@ -7,8 +7,8 @@ use Rattle.std.specs.Str.Parse.{digits_value}
 use Rattle.std.proofs.lemmas.Bool.Decides.{nat_tests}
 use Rattle.sql_tokens.specs.declared.kinds.TokenKind.{TokenKind}
 use Rattle.sql_tokens.specs.declared.kinds.TokenKind.TheVariants as k
-use Rattle.sql_tokens.specs.declared.lexemes.Lapse.{Lapse}
-use Rattle.sql_tokens.specs.declared.lexemes.Lapse.TheVariants as lapse
+use Rattle.sql_tokens.specs.declared.lexemes.TokenFault.{TokenFault}
+use Rattle.sql_tokens.specs.declared.lexemes.TokenFault.TheVariants as lapse
 use Rattle.sql_tokens.specs.Kinds.{keyword}
 use Rattle.sql_tokens.specs.Lex.{Token, is_letter, is_word_byte, closing, symbol, digits, integer_value, named, integer, quoted, symbolic, token_at}
 
@@ -28,22 +28,22 @@ ReadAs z t =
     ⊎ (symbolic (symbol (slice_index z 0) (slice_index z 1)) z ≡ Ok t)
 
 module _ (z : List ℕ) (t : Token) where
-  abbrev pub symbol_text : Result Token Lapse
+  abbrev pub symbol_text : Result Token TokenFault
   symbol_text = symbolic (symbol (slice_index z 0) (slice_index z 1)) z
 
-  abbrev pub quote_text : Result Token Lapse
+  abbrev pub quote_text : Result Token TokenFault
   quote_text = cond (slice_index z 0 == 39) (quoted (closing false (drop 1 z)) z) symbol_text
 
   abbrev pub minus_text : List ℕ
   minus_text = take (1 + prefix_len is_ascii_digit (drop 1 z)) z
 
-  abbrev pub minus_or : Result Token Lapse
+  abbrev pub minus_or : Result Token TokenFault
   minus_or = cond (slice_index z 0 == 45 && is_ascii_digit (slice_index z 1)) (integer (integer_value minus_text) minus_text) quote_text
 
   abbrev pub digit_text : List ℕ
   digit_text = take (prefix_len is_ascii_digit z) z
 
-  abbrev pub digit_or : Result Token Lapse
+  abbrev pub digit_or : Result Token TokenFault
   digit_or = cond (is_ascii_digit (slice_index z 0)) (integer (integer_value digit_text) digit_text) minus_or
 
   pub cases : token_at z ≡ Ok t → cond (is_letter (slice_index z 0)) (named (keyword (word_of z)) (word_of z)) digit_or ≡ Ok t
@@ -98,11 +98,11 @@ in_range text n e = by_minus (pick (slice_index text 0 == 45) _ _ (Some n) e)
     by_minus (inl h) = by_size (pick (nat_le many (2 ^ 63)) _ _ (Some n) h.1)
     by_minus (inr h) = by_below (pick (nat_lt many (2 ^ 63)) _ _ (Some n) h.1)
 
-abbrev number_of : Result Token Lapse → ℤ
+abbrev number_of : Result Token TokenFault → ℤ
 number_of (Ok t) = t.number
 number_of (Err e) = pos 0
 
-abbrev kind_of : Result Token Lapse → TokenKind
+abbrev kind_of : Result Token TokenFault → TokenKind
 kind_of (Ok t) = t.kind
 kind_of (Err e) = k.Name
 
@@ -111,7 +111,7 @@ integer_fits text t (Some n) e h = subst (FitsSigned w64) (ap number_of h) (in_r
 integer_fits text t None e h = absurd (cc)
 
 -- other tokens have 0
-other_number : (z : List ℕ) (t : Token) → (r : Result Token Lapse) → number_of r ≡ pos 0 → r ≡ Ok t → FitsSigned w64 t.number
+other_number : (z : List ℕ) (t : Token) → (r : Result Token TokenFault) → number_of r ≡ pos 0 → r ≡ Ok t → FitsSigned w64 t.number
 other_number z t r e h = let same : pos 0 ≡ t.number = sym e ∙ ap number_of h in subst (FitsSigned w64) same (size 0 (omega arith))
 
 named_zero : (o : Option TokenKind) (w : List ℕ) → number_of (named o w) ≡ pos 0

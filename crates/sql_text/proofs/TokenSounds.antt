@@ -12,8 +12,8 @@ use Rattle.std.proofs.lemmas.Str.Ascii.{IsAscii-nil, IsAscii-cons}
 use Rattle.std.proofs.Math.Utf8.{encode, encodes, scalars}
 use Rattle.sql_tokens.specs.declared.kinds.TokenKind.{TokenKind}
 use Rattle.sql_tokens.specs.declared.kinds.TokenKind.TheVariants as k
-use Rattle.sql_tokens.specs.declared.lexemes.Lapse.{Lapse}
-use Rattle.sql_tokens.specs.declared.lexemes.Lapse.TheVariants as lapse
+use Rattle.sql_tokens.specs.declared.lexemes.TokenFault.{TokenFault}
+use Rattle.sql_tokens.specs.declared.lexemes.TokenFault.TheVariants as lapse
 use Rattle.sql_tokens.specs.Kinds.{keyword, keywords, spelling}
 use Rattle.sql_tokens.specs.Lex.{Token, Placed, closing, single_quotes, unquoted, tokens_of, is_letter, is_word_byte, named, integer, quoted, symbolic, fits_text, token_at}
 use Rattle.vo_spec.specs.declared.values.Value.TheVariants as value
@@ -125,17 +125,17 @@ all_words = refl
 keyword_spelled : (w : List ℕ) (kind : TokenKind) → keyword w ≡ Some kind → is_word kind ≡ true
 keyword_spelled w kind e = found_holds is_word (λ kind. str_eq_ignore_ascii_case (spelling kind) w) keywords kind all_words e
 
-abbrev pub read_ok : Token → Result Token Lapse
+abbrev pub read_ok : Token → Result Token TokenFault
 read_ok t = Ok t
 
-abbrev pub read_err : Lapse → Result Token Lapse
+abbrev pub read_err : TokenFault → Result Token TokenFault
 read_err e = Err e
 
-abbrev kind_in : Result Token Lapse → TokenKind
+abbrev kind_in : Result Token TokenFault → TokenKind
 kind_in (Ok t) = t.kind
 kind_in (Err e) = k.Select
 
-abbrev pub text_in : Result Token Lapse → List ℕ
+abbrev pub text_in : Result Token TokenFault → List ℕ
 text_in (Ok t) = t.text
 text_in (Err e) = []
 

@@ -17,11 +17,13 @@ use Rattle.sql_text.specs.Queries.{name, literal}
 unfoldable pub column_kind : Rule sql Kind
 column_kind =
     either (means (λ t. kind_of.Int) (token k.Bigint))
-    (either (means (λ t. kind_of.Text) (token k.Text)) (means (λ t. kind_of.Bool) (token k.Boolean)))
+    (either (means (λ t. kind_of.Text) (token k.Text))
+    (means (λ t. kind_of.Bool) (token k.Boolean)))
 
 -- name kind [ NOT NULL ]; the mark changes nothing
 unfoldable pub column : Rule sql Column
-column = means (λ x. record { name = x.0; kind = x.1.0 }) (both name (both column_kind (optional (both (token k.Not) (token k.Null)))))
+column = means (λ x. record { name = x.0; kind = x.1.0 })
+    (both name (both column_kind (optional (both (token k.Not) (token k.Null)))))
 
 -- PRIMARY KEY ( name )
 unfoldable pub key_clause : Rule sql (List ℕ)
@@ -31,7 +33,8 @@ key_clause = before k.Primary (before k.Key (in_parens name))
 unfoldable pub create : Rule sql Command
 create =
     means (λ x. command_of.Create x.0 x.1.0 x.1.1)
-    (before k.Create (before k.Table (both name (in_parens (both (ended (Some 31) column k.Comma) key_clause)))))
+    (before k.Create (before k.Table
+    (both name (in_parens (both (ended (Some 31) column k.Comma) key_clause)))))
 
 -- DROP TABLE name
 unfoldable pub drop_table : Rule sql Command
@@ -41,7 +44,8 @@ drop_table = means command_of.Drop (before k.Drop (before k.Table name))
 unfoldable pub insert : Rule sql Command
 insert =
     means (λ x. command_of.Insert x.0 x.1)
-    (before k.Insert (before k.Into (both name (before k.Values (in_parens (listed (Some 31) k.Comma literal))))))
+    (before k.Insert (before k.Into
+    (both name (before k.Values (in_parens (listed (Some 31) k.Comma literal))))))
 
 -- name = literal
 unfoldable pub set_part : Rule sql SetPart
@@ -51,7 +55,8 @@ set_part = means (λ x. record { column = x.0; value = x.1 }) (both name (before
 unfoldable pub update : Rule sql Command
 update =
     means (λ x. command_of.Update x.0 x.1.0 x.1.1.column x.1.1.value)
-    (before k.Update (both name (both (before k.Set (listed (Some 31) k.Comma set_part)) (before k.Where set_part))))
+    (before k.Update (both name (both (before k.Set (listed (Some 31) k.Comma set_part))
+    (before k.Where set_part))))
 
 -- DELETE FROM name WHERE name = literal
 unfoldable pub delete : Rule sql Command

@@ -1,7 +1,7 @@
 -- The fault of a text by that of its tokens.
 use Rattle.sql_tokens.specs.declared.lexemes.LexFault.{LexFault}
 use Rattle.sql_tokens.specs.declared.lexemes.LexFault.TheVariants.{Memory, At}
-use Rattle.sql_tokens.specs.declared.lexemes.Lapse.TheVariants as lapse
+use Rattle.sql_tokens.specs.declared.lexemes.TokenFault.TheVariants as lapse
 use Rattle.sql_text.specs.declared.faults.SqlFault.{SqlFault}
 use Rattle.sql_text.specs.declared.faults.SqlFault.TheVariants as fault
 

@@ -6,8 +6,8 @@ use Rattle.grammar.specs.Reading.{Found, read, reader}
 use Rattle.sql_tokens.specs.declared.kinds.TokenKind.TheVariants as k
 use Rattle.sql_tokens.specs.Lex.{Token, token_of}
 use Rattle.sql_text.specs.declared.parser.Parser.{Parser}
-use Rattle.sql_text.specs.declared.halt.Halt.{Halt}
-use Rattle.sql_text.specs.declared.halt.Halt.TheVariants.{Memory, Fault}
+use Rattle.sql_text.specs.declared.halt.ParseError.{ParseError}
+use Rattle.sql_text.specs.declared.halt.ParseError.TheVariants.{Memory, Fault}
 use Rattle.sql_text.specs.Tokens.{sql}
 use Rattle.sql_text.specs.Queries.{conditions_of}
 
@@ -21,17 +21,22 @@ first_of [] = record { kind = k.Name; text = []; number = pos 0 }
 first_of (t ∷ left) = t
 
 -- the value or the fault is what was found, and what is left is left; memory may end
-abbrev pub Finds : {A B : Type 0} → (B → A) → Found Token A → Result B Halt → List Token → Type 0
-Finds view found (Ok x) left = found ≡ (Ok (view x), left)
-Finds view found (Err Memory) left = Unit {0}
-Finds view found (Err (Fault stop)) left = found ≡ (Err stop, left)
+abbrev pub ReadsAndLeaves : {A B : Type 0} → (B → A) → Found Token A → Result B ParseError
+    → List Token → Type 0
+ReadsAndLeaves view found (Ok x) left = found ≡ (Ok (view x), left)
+ReadsAndLeaves view found (Err Memory) left = Unit {0}
+ReadsAndLeaves view found (Err (Fault stop)) left = found ≡ (Err stop, left)
 
 -- the method reads this rule with the levels that are left
-abbrev pub Reads : {A B : Type 0} → (B → A) → Rule sql A → Parser → Result B Halt → Parser → Type 0
-Reads view rule old result new = Finds view (read (reader conditions_of old.levels) rule (left_of old)) result (left_of new)
+abbrev pub Reads : {A B : Type 0} → (B → A) → Rule sql A → Parser → Result B ParseError
+    → Parser → Type 0
+Reads view rule old result new =
+    ReadsAndLeaves view (read (reader conditions_of old.levels) rule (left_of old)) result
+    (left_of new)
 
 -- the list with the part that was read at its end, or the halt
-abbrev pub Appends : {T : Type 0} → List T → Result T Halt → Result (Vec T Global) Halt → Type 0
+abbrev pub Appends : {T : Type 0} → List T → Result T ParseError
+    → Result (Vec T Global) ParseError → Type 0
 Appends front (Ok x) (Ok list) = list.items ≡ front ++ x ∷ []
 Appends front (Ok x) (Err halt) = halt ≡ Memory
 Appends front (Err why) (Ok list) = ⊥

@@ -42,7 +42,12 @@ abbrev pub quoted_byte : ℕ → List ℕ
 quoted_byte byte = if byte == 39 then 39 ∷ 39 ∷ [] else byte ∷ []
 
 abbrev pub quoted_token : List ℕ → Token
-quoted_token text = record { kind = k.Quoted; text = 39 ∷ flat_map quoted_byte text ++ 39 ∷ []; number = pos 0 }
+quoted_token text = record {
+  kind = k.Quoted;
+  text = 39 ∷ flat_map quoted_byte text
+      ++ 39 ∷ [];
+  number = pos 0;
+}
 
 -- Parts that queries and commands share.
 
@@ -67,7 +72,8 @@ parens tokens = word k.LeftParen ∷ tokens ++ word k.RightParen ∷ []
 -- Queries.
 
 abbrev pub reference_tokens : Ref → List Token
-reference_tokens r = option_map_or (λ q. name_token q ∷ word k.Dot ∷ []) r.qualifier [] ++ name_token r.column ∷ []
+reference_tokens r = option_map_or (λ q. name_token q ∷ word k.Dot ∷ []) r.qualifier []
+    ++ name_token r.column ∷ []
 
 abbrev pub source_tokens : Source → List Token
 source_tokens s = name_token s.table ∷ word k.As ∷ name_token s.alias ∷ []
@@ -100,19 +106,22 @@ abbrev mutual
   condition_tokens (every cs) = drop 1 (parts_tokens k.And cs)
   condition_tokens (some cs) = drop 1 (parts_tokens k.Or cs)
   condition_tokens (negated c) = word k.Not ∷ enclosed (is_enclosed k.Not c) (condition_tokens c)
-  condition_tokens (test left op right) = reference_tokens left ++ word (operator op) ∷ operand_tokens right
+  condition_tokens (test left op right) = reference_tokens left
+      ++ word (operator op) ∷ operand_tokens right
 
   -- each part behind this word
   pub parts_tokens : TokenKind → Conditions → List Token
   parts_tokens before none = []
-  parts_tokens before (more c cs) = word before ∷ enclosed (is_enclosed before c) (condition_tokens c) ++ parts_tokens before cs
+  parts_tokens before (more c cs) =
+      word before ∷ enclosed (is_enclosed before c) (condition_tokens c) ++ parts_tokens before cs
 
 abbrev pub items_tokens : Items → List Token
 items_tokens items_of.All = word k.Star ∷ []
 items_tokens (items_of.Refs refs) = separated k.Comma reference_tokens refs
 
 abbrev pub join_tokens : Join → List Token
-join_tokens j = word k.Join ∷ source_tokens j.right ++ word k.On ∷ reference_tokens j.left_ref ++ word k.Equal ∷ reference_tokens j.right_ref
+join_tokens j = word k.Join ∷ source_tokens j.right ++ word k.On ∷ reference_tokens j.left_ref
+    ++ word k.Equal ∷ reference_tokens j.right_ref
 
 abbrev pub where_tokens : Condition → List Token
 where_tokens c = word k.Where ∷ condition_tokens c
@@ -146,12 +155,14 @@ command_tokens (command_of.Create name columns key) =
     word k.Create ∷ word k.Table ∷ name_token name ∷ parens (columns_tokens columns key)
 command_tokens (command_of.Drop name) = word k.Drop ∷ word k.Table ∷ name_token name ∷ []
 command_tokens (command_of.Insert name values) =
-    word k.Insert ∷ word k.Into ∷ name_token name ∷ word k.Values ∷ parens (separated k.Comma (λ v. literal_token v ∷ []) values)
+    word k.Insert ∷ word k.Into ∷ name_token name ∷ word k.Values
+    ∷ parens (separated k.Comma (λ v. literal_token v ∷ []) values)
 command_tokens (command_of.Update name sets column value) =
     word k.Update ∷ name_token name ∷ word k.Set ∷ separated k.Comma set_tokens sets
     ++ word k.Where ∷ set_tokens (record { column = column; value = value })
 command_tokens (command_of.Delete name column value) =
-    word k.Delete ∷ word k.From ∷ name_token name ∷ word k.Where ∷ set_tokens (record { column = column; value = value })
+    word k.Delete ∷ word k.From ∷ name_token name ∷ word k.Where
+    ∷ set_tokens (record { column = column; value = value })
 
 abbrev pub batch_tokens : List Command → List Token
 batch_tokens commands = terminated k.Semicolon command_tokens commands

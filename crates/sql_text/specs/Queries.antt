@@ -30,7 +30,8 @@ unfoldable pub literal : Rule sql Value
 literal =
     either (means (λ t. value.Int t.number) (token k.Integer))
     (either (means (λ t. value.Text (unquoted t.text)) (token k.Quoted))
-    (either (means (λ t. value.Bool true) (token k.True)) (means (λ t. value.Bool false) (token k.False))))
+    (either (means (λ t. value.Bool true) (token k.True))
+    (means (λ t. value.Bool false) (token k.False))))
 
 -- the column of a name alone, or of a qualifier and a name
 abbrev pub ref_of : List ℕ → Option (List ℕ) → Ref
@@ -69,7 +70,8 @@ comparison = means (λ x. Conditions.test x.0 x.1.0 x.1.1) (both reference (both
 
 -- NOT prim | ( cond ) | comparison
 unfoldable pub prim : Rule sql Condition
-prim = either (means negated (inside k.Not primary)) (either (closed (inside k.LeftParen whole) k.RightParen) comparison)
+prim = either (means negated (inside k.Not primary))
+    (either (closed (inside k.LeftParen whole) k.RightParen) comparison)
 
 -- one part is itself
 abbrev pub all_of : List Condition → Condition
@@ -102,7 +104,8 @@ conditions_of = record { rule = rule; after = after }
 
 -- * | ref { , ref }, at most 64
 unfoldable pub items : Rule sql Items
-items = either (means (λ t. items_of.All) (token k.Star)) (means items_of.Refs (listed (Some 63) k.Comma reference))
+items = either (means (λ t. items_of.All) (token k.Star))
+    (means items_of.Refs (listed (Some 63) k.Comma reference))
 
 -- ON ref = ref
 unfoldable pub on_clause : Rule sql (Ref × Ref)

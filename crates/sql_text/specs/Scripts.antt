@@ -1,24 +1,24 @@
 -- Whole scripts: what they are, and which fault comes first.
 use Rattle.std.specs.Prelude.{◌≡◌, ℕ, ◌+◌, ◌-◌, ◌≤◌, ◌<◌, suc, Bool, true, false, ◌&&◌, ◌||◌, nat_lt, if◌then◌else◌, List, [], ◌∷◌, ◌++◌, length, take, drop, Result, Ok, Err, ◌⊎◌}
 use Rattle.grammar.specs.Text.{IsText, Begins, FaultsAt}
-use Rattle.grammar.specs.declared.Stop.{Stop}
-use Rattle.grammar.specs.declared.Stop.TheVariants as stop
+use Rattle.grammar.specs.declared.ParseFault.{ParseFault}
+use Rattle.grammar.specs.declared.ParseFault.TheVariants as stop
 use Rattle.sql_tokens.specs.declared.kinds.TokenKind.TheVariants as k
-use Rattle.sql_tokens.specs.declared.lexemes.Lapse.TheVariants as lapse
+use Rattle.sql_tokens.specs.declared.lexemes.TokenFault.TheVariants as lapse
 use Rattle.sql_tokens.specs.Kinds.{same_kind}
 use Rattle.sql_tokens.specs.Lex.{Placed, tokens_of}
 use Rattle.vo_spec.specs.declared.tables.Batch.{Batch}
 use Rattle.sql_text.specs.declared.faults.SqlFault.{SqlFault}
 use Rattle.sql_text.specs.declared.faults.SqlFault.TheVariants as fault
-use Rattle.sql_text.specs.declared.halt.Halt.{Halt}
-use Rattle.sql_text.specs.declared.halt.Halt.TheVariants as halt
+use Rattle.sql_text.specs.declared.halt.ParseError.{ParseError}
+use Rattle.sql_text.specs.declared.halt.ParseError.TheVariants as halt
 use Rattle.sql_text.specs.Queries.{conditions_of}
 use Rattle.sql_text.specs.Commands.{script}
-use Rattle.sql_text.specs.Texts.{most_levels, most_bytes, unplaced, place_of, ended}
+use Rattle.sql_text.specs.Texts.{max_levels, max_bytes, unplaced, place_of, ended}
 
 -- the text of a script has at most so many bytes
-abbrev pub most_script_bytes : ℕ
-most_script_bytes = 16777216
+abbrev pub max_script_bytes : ℕ
+max_script_bytes = 16777216
 
 -- this token is the `;` of a COMMIT, which stands before it if `committed`
 abbrev pub closes : Bool → Placed → Bool
@@ -32,7 +32,7 @@ abbrev pub has_long : ℕ → Bool → List Placed → Bool
 has_long start committed [] = false
 has_long start committed (p ∷ ps) =
     if closes committed p
-    then nat_lt most_bytes (p.at - start) || has_long (p.at + 1) false ps
+    then nat_lt max_bytes (p.at - start) || has_long (p.at + 1) false ps
     else has_long start (commits p) ps
 
 -- no batch that is closed in these tokens of a script is too long
@@ -42,31 +42,42 @@ AreShort ps = has_long 0 false ps ≡ false
 -- the text is a script of these batches
 abbrev pub IsScript : List ℕ → List Batch → Type 0
 IsScript text batches =
-    (length text ≤ most_script_bytes) × (ps : List Placed) × (tokens_of text ≡ Ok ps)
-    × IsText conditions_of true most_levels script (unplaced ps) batches × AreShort ps
+    (length text ≤ max_script_bytes) × (ps : List Placed) × (tokens_of text ≡ Ok ps)
+    × IsText conditions_of true max_levels script (unplaced ps) batches × AreShort ps
 
 -- the text's tokens have this fault, at this place, and no batch is too long before it
-abbrev pub BreaksScript : List ℕ → Stop → ℕ → Type 0
+abbrev pub BreaksScript : List ℕ → ParseFault → ℕ → Type 0
 BreaksScript text s at =
     (ps : List Placed) × (tokens_of text ≡ Ok ps)
-    × (n : ℕ) × (at ≡ place_of (drop n ps) (length text)) × FaultsAt conditions_of most_levels script (unplaced ps) s (unplaced (drop n ps)) × AreShort (take n ps)
+    × (n : ℕ) × (at ≡ place_of (drop n ps) (length text))
+    × FaultsAt conditions_of max_levels script (unplaced ps) s (unplaced (drop n ps))
+    × AreShort (take n ps)
 
 -- the tokens before some `;` begin a script, and that one closes the first batch that is too long
 abbrev pub HasLongBatch : List ℕ → Type 0
 HasLongBatch text =
-    (ps : List Placed) × (tokens_of text ≡ Ok ps) × (front rest : List Placed) × (p : Placed) × (ps ≡ front ++ p ∷ rest)
-    × Begins conditions_of true most_levels script (unplaced front) × AreShort front × (has_long 0 false (front ++ p ∷ []) ≡ true)
+    (ps : List Placed) × (tokens_of text ≡ Ok ps) × (front rest : List Placed) × (p : Placed)
+    × (ps ≡ front ++ p ∷ rest)
+    × Begins conditions_of true max_levels script (unplaced front) × AreShort front
+    × (has_long 0 false (front ++ p ∷ []) ≡ true)
 
 -- when each fault comes: the length first, then the first token that is none, then what comes first of a token that no script
 -- goes on with and the end of a batch that is too long
 abbrev pub HasScriptFault : List ℕ → SqlFault → Type 0
-HasScriptFault text fault.TooLong = (most_script_bytes < length text) ⊎ ((length text ≤ most_script_bytes) × HasLongBatch text)
-HasScriptFault text (fault.Token at) = (length text ≤ most_script_bytes) × (tokens_of text ≡ Err (lapse.Token, at))
-HasScriptFault text (fault.Literal at) = (length text ≤ most_script_bytes) × (tokens_of text ≡ Err (lapse.Literal, at))
-HasScriptFault text fault.Name = (length text ≤ most_script_bytes) × (at : ℕ) × (tokens_of text ≡ Err (lapse.Name, at))
-HasScriptFault text (fault.Syntax at) = (length text ≤ most_script_bytes) × BreaksScript text stop.Syntax at
-HasScriptFault text fault.Nesting = (length text ≤ most_script_bytes) × (at : ℕ) × BreaksScript text stop.Nesting at
-HasScriptFault text fault.TooMany = (length text ≤ most_script_bytes) × (at : ℕ) × BreaksScript text stop.TooMany at
+HasScriptFault text fault.TooLong = (max_script_bytes < length text)
+    ⊎ ((length text ≤ max_script_bytes) × HasLongBatch text)
+HasScriptFault text (fault.Token at) = (length text ≤ max_script_bytes)
+    × (tokens_of text ≡ Err (lapse.Token, at))
+HasScriptFault text (fault.Literal at) = (length text ≤ max_script_bytes)
+    × (tokens_of text ≡ Err (lapse.Literal, at))
+HasScriptFault text fault.Name = (length text ≤ max_script_bytes) × (at : ℕ)
+    × (tokens_of text ≡ Err (lapse.Name, at))
+HasScriptFault text (fault.Syntax at) = (length text ≤ max_script_bytes)
+    × BreaksScript text stop.Syntax at
+HasScriptFault text fault.Nesting = (length text ≤ max_script_bytes) × (at : ℕ)
+    × BreaksScript text stop.Nesting at
+HasScriptFault text fault.TooMany = (length text ≤ max_script_bytes) × (at : ℕ)
+    × BreaksScript text stop.TooMany at
 HasScriptFault text fault.Memory = Unit {0}
 
 -- the script's batches or its first fault
@@ -79,11 +90,12 @@ abbrev pub short_len : ℕ → Bool → List Placed → ℕ
 short_len start committed [] = 0
 short_len start committed (p ∷ ps) =
     if closes committed p
-    then (if nat_lt most_bytes (p.at - start) then 0 else suc (short_len (p.at + 1) false ps))
+    then (if nat_lt max_bytes (p.at - start) then 0 else suc (short_len (p.at + 1) false ps))
     else suc (short_len start (commits p) ps)
 
 -- the answer by what was found in the tokens before the first `;` that closes a batch of too many bytes, which are all tokens if `is_whole`
-abbrev pub ended_script : {B : Type 0} → Bool → Result B Halt → List Placed → ℕ → Result B SqlFault
+abbrev pub ended_script : {B : Type 0} → Bool → Result B ParseError → List Placed → ℕ
+    → Result B SqlFault
 ended_script is_whole (Err halt.Memory) left end = Err fault.Memory
 ended_script false found [] end = Err fault.TooLong
 ended_script false found (p ∷ left) end = ended found (p ∷ left) end

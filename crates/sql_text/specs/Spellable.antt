@@ -17,9 +17,9 @@ use Rattle.vo_spec.specs.declared.tables.Command.{Command}
 use Rattle.vo_spec.specs.declared.tables.Command.TheVariants as command_of
 use Rattle.vo_spec.specs.Names.{FitsName}
 use Rattle.vo_spec.specs.Values.{FitsValue}
-use Rattle.vo_spec.specs.Batches.{FitCounted, most_commands}
+use Rattle.vo_spec.specs.Batches.{FitCounted, max_commands}
 use Rattle.vo_spec.specs.Conditions.{Condition, Conditions, every, some, negated, test, none, more, Query}
-use Rattle.sql_text.specs.Texts.{most_bytes, most_levels}
+use Rattle.sql_text.specs.Texts.{max_bytes, max_levels}
 use Rattle.sql_text.specs.Printing.{is_enclosed, query_text, batch_text}
 
 -- a name that is no reserved word
@@ -69,12 +69,14 @@ abbrev mutual
 
   pub levels_in : TokenKind → Conditions → ℕ
   levels_in in_word none = zero
-  levels_in in_word (more c cs) = max (deeper (is_enclosed in_word c) (levels_of c)) (levels_in in_word cs)
+  levels_in in_word (more c cs) =
+      max (deeper (is_enclosed in_word c) (levels_of c)) (levels_in in_word cs)
 
 -- at most 64
 abbrev pub SpellableItems : Items → Type 0
 SpellableItems items_of.All = Unit {0}
-SpellableItems (items_of.Refs refs) = (1 ≤ length refs) × (length refs ≤ 64) × AllByRecursion SpellableRef refs
+SpellableItems (items_of.Refs refs) = (1 ≤ length refs) × (length refs ≤ 64)
+    × AllByRecursion SpellableRef refs
 
 abbrev pub SpellableJoin : Join → Type 0
 SpellableJoin j = SpellableSource j.right × SpellableRef j.left_ref × SpellableRef j.right_ref
@@ -83,8 +85,8 @@ pub record SpellableQuery (q : Query) : Type 0 where
   pub items : SpellableItems q.items
   pub left : SpellableSource q.left
   pub join : IfSome q.join SpellableJoin
-  pub condition : IfSome q.condition (λ c. SpellableCondition c × (levels_of c ≤ most_levels))
-  pub size : length (query_text q) ≤ most_bytes
+  pub condition : IfSome q.condition (λ c. SpellableCondition c × (levels_of c ≤ max_levels))
+  pub size : length (query_text q) ≤ max_bytes
 
 -- Commands.
 
@@ -95,14 +97,17 @@ abbrev pub SpellableSet : SetPart → Type 0
 SpellableSet s = FreeName s.column × FitsValue s.value
 
 abbrev pub SpellableCommand : Command → Type 0
-SpellableCommand (command_of.Create name columns key) = FreeName name × FitCounted SpellableColumn columns × FreeName key
+SpellableCommand (command_of.Create name columns key) = FreeName name
+    × FitCounted SpellableColumn columns × FreeName key
 SpellableCommand (command_of.Drop name) = FreeName name
 SpellableCommand (command_of.Insert name values) = FreeName name × FitCounted FitsValue values
-SpellableCommand (command_of.Update name sets column value) = FreeName name × FitCounted SpellableSet sets × FreeName column × FitsValue value
-SpellableCommand (command_of.Delete name column value) = FreeName name × FreeName column × FitsValue value
+SpellableCommand (command_of.Update name sets column value) = FreeName name
+    × FitCounted SpellableSet sets × FreeName column × FitsValue value
+SpellableCommand (command_of.Delete name column value) = FreeName name × FreeName column
+    × FitsValue value
 
 pub record SpellableBatch (commands : List Command) : Type 0 where
   pub filled : 1 ≤ length commands
-  pub count : length commands ≤ most_commands
+  pub count : length commands ≤ max_commands
   pub each : AllByRecursion SpellableCommand commands
-  pub size : length (batch_text commands) ≤ most_bytes
+  pub size : length (batch_text commands) ≤ max_bytes

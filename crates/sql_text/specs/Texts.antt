@@ -2,24 +2,24 @@
 use Rattle.std.specs.Prelude.{◌≡◌, ℕ, ◌≤◌, ◌<◌, true, List, [], ◌∷◌, length, drop, map, Result, Ok, Err}
 use Rattle.grammar.specs.Rule.{Rule}
 use Rattle.grammar.specs.Text.{IsText, FaultsAt}
-use Rattle.grammar.specs.declared.Stop.{Stop}
-use Rattle.grammar.specs.declared.Stop.TheVariants as stop
-use Rattle.sql_tokens.specs.declared.lexemes.Lapse.TheVariants as lapse
+use Rattle.grammar.specs.declared.ParseFault.{ParseFault}
+use Rattle.grammar.specs.declared.ParseFault.TheVariants as stop
+use Rattle.sql_tokens.specs.declared.lexemes.TokenFault.TheVariants as lapse
 use Rattle.sql_tokens.specs.Lex.{Token, Placed, tokens_of}
 use Rattle.sql_text.specs.declared.faults.SqlFault.{SqlFault}
 use Rattle.sql_text.specs.declared.faults.SqlFault.TheVariants as fault
-use Rattle.sql_text.specs.declared.halt.Halt.{Halt}
-use Rattle.sql_text.specs.declared.halt.Halt.TheVariants.{Memory, Fault}
+use Rattle.sql_text.specs.declared.halt.ParseError.{ParseError}
+use Rattle.sql_text.specs.declared.halt.ParseError.TheVariants.{Memory, Fault}
 use Rattle.sql_text.specs.Tokens.{sql}
 use Rattle.sql_text.specs.Queries.{conditions_of}
 
 -- conditions nest in at most so many levels
-abbrev pub most_levels : ℕ
-most_levels = 32
+abbrev pub max_levels : ℕ
+max_levels = 32
 
 -- the text of a query or a batch has at most so many bytes
-abbrev pub most_bytes : ℕ
-most_bytes = 65536
+abbrev pub max_bytes : ℕ
+max_bytes = 65536
 
 abbrev pub unplaced : List Placed → List Token
 unplaced ps = map (λ p. p.token) ps
@@ -27,7 +27,8 @@ unplaced ps = map (λ p. p.token) ps
 -- a text of at most so many bytes that the rule derives, and its value
 abbrev pub IsTextOf : {A : Type 0} → ℕ → Rule sql A → List ℕ → A → Type 0
 IsTextOf most start text v =
-    (length text ≤ most) × (ps : List Placed) × (tokens_of text ≡ Ok ps) × IsText conditions_of true most_levels start (unplaced ps) v
+    (length text ≤ most) × (ps : List Placed) × (tokens_of text ≡ Ok ps)
+    × IsText conditions_of true max_levels start (unplaced ps) v
 
 -- the place of the first of these tokens, or the text's end
 abbrev pub place_of : List Placed → ℕ → ℕ
@@ -35,20 +36,26 @@ place_of [] end = end
 place_of (p ∷ _) end = p.at
 
 -- the text's tokens have this fault, at this place
-abbrev pub Breaks : {A : Type 0} → Rule sql A → List ℕ → Stop → ℕ → Type 0
+abbrev pub Breaks : {A : Type 0} → Rule sql A → List ℕ → ParseFault → ℕ → Type 0
 Breaks start text s at =
     (ps : List Placed) × (tokens_of text ≡ Ok ps)
-    × (n : ℕ) × (at ≡ place_of (drop n ps) (length text)) × FaultsAt conditions_of most_levels start (unplaced ps) s (unplaced (drop n ps))
+    × (n : ℕ) × (at ≡ place_of (drop n ps) (length text))
+    × FaultsAt conditions_of max_levels start (unplaced ps) s (unplaced (drop n ps))
 
 -- when each fault comes: the length first, then the first token that is none, then the first token that the rule can't go on with
 abbrev pub HasFault : {A : Type 0} → ℕ → Rule sql A → List ℕ → SqlFault → Type 0
 HasFault most start text fault.TooLong = most < length text
-HasFault most start text (fault.Token at) = (length text ≤ most) × (tokens_of text ≡ Err (lapse.Token, at))
-HasFault most start text (fault.Literal at) = (length text ≤ most) × (tokens_of text ≡ Err (lapse.Literal, at))
-HasFault most start text fault.Name = (length text ≤ most) × (at : ℕ) × (tokens_of text ≡ Err (lapse.Name, at))
+HasFault most start text (fault.Token at) = (length text ≤ most)
+    × (tokens_of text ≡ Err (lapse.Token, at))
+HasFault most start text (fault.Literal at) = (length text ≤ most)
+    × (tokens_of text ≡ Err (lapse.Literal, at))
+HasFault most start text fault.Name = (length text ≤ most) × (at : ℕ)
+    × (tokens_of text ≡ Err (lapse.Name, at))
 HasFault most start text (fault.Syntax at) = (length text ≤ most) × Breaks start text stop.Syntax at
-HasFault most start text fault.Nesting = (length text ≤ most) × (at : ℕ) × Breaks start text stop.Nesting at
-HasFault most start text fault.TooMany = (length text ≤ most) × (at : ℕ) × Breaks start text stop.TooMany at
+HasFault most start text fault.Nesting = (length text ≤ most) × (at : ℕ)
+    × Breaks start text stop.Nesting at
+HasFault most start text fault.TooMany = (length text ≤ most) × (at : ℕ)
+    × Breaks start text stop.TooMany at
 HasFault most start text fault.Memory = Unit {0}
 
 -- the text's value or its first fault
@@ -63,7 +70,7 @@ Accepts view (Err fault.Memory) v = Unit {0}
 Accepts view (Err _) v = ⊥
 
 -- the answer by what the parser found, and the tokens that it left
-abbrev pub ended : {B : Type 0} → Result B Halt → List Placed → ℕ → Result B SqlFault
+abbrev pub ended : {B : Type 0} → Result B ParseError → List Placed → ℕ → Result B SqlFault
 ended (Ok x) [] end = Ok x
 ended (Ok x) (p ∷ _) end = Err (fault.Syntax p.at)
 ended (Err Memory) left end = Err fault.Memory

@@ -17,22 +17,18 @@ ghost use Rattle.sql_text.specs.Rules.{before, closed, in_parens, optional, list
 ghost use Rattle.sql_text.specs.Queries.{name, literal};
 ghost use Rattle.sql_text.specs.Commands.{column_kind, column, key_clause, create, drop_table, insert, set_part, update, delete, command, batch, script};
 
-use crate::halt::Halt;
-use crate::parser::{Parser, appended};
-use grammar::Stop;
+use crate::halt::ParseError;
+use crate::parser::{Parser, push_parsed};
+use grammar::ParseFault;
 use sql_tokens::{Lexeme, TokenKind};
 use std::alloc::Global;
-use vo_spec::{Batch, Column, Command, Kind, List, Name, SetPart, Value};
-
-/// The most columns of a table, values of a row, and parts of a SET.
-const COLUMNS_MAX: usize = 32;
-
-/// The most commands of a batch.
-const COMMANDS_MAX: usize = 1000;
+use vo_spec::{
+    Batch, Column, Command, Kind, List, MAX_COLUMNS, MAX_COMMANDS, Name, SetPart, Value,
+};
 
 impl<'a> Parser<'a> {
     #[tactic(auto, unfolding(crate::specs::Commands::column_kind))]
-    fn column_kind(&mut self) -> Result<Kind, Halt>
+    fn column_kind(&mut self) -> Result<Kind, ParseError>
         ensures value { Reads (λ x. x) column_kind self.old result self.new }
         ensures levels { self.new.levels ≡ self.old.levels }
         ensures list { self.new.list.now ≡ self.old.list.now }
@@ -51,7 +47,7 @@ impl<'a> Parser<'a> {
 
     /// The mark NOT NULL, if it is there.
     #[tactic(auto, unfolding(crate::specs::Rules::optional))]
-    fn not_null(&mut self) -> Result<Option<(Lexeme<'a>, Lexeme<'a>)>, Halt>
+    fn not_null(&mut self) -> Result<Option<(Lexeme<'a>, Lexeme<'a>)>, ParseError>
         ensures value { Reads (option_map (λ x. (token_of x.0, token_of x.1)))
             (optional (both (token k.Not) (token k.Null))) self.old result self.new }
         ensures levels { self.new.levels ≡ self.old.levels }
@@ -67,7 +63,7 @@ impl<'a> Parser<'a> {
     }
 
     /// A column's kind and its mark.
-    fn marked_kind(&mut self) -> Result<(Kind, Option<(Lexeme<'a>, Lexeme<'a>)>), Halt>
+    fn marked_kind(&mut self) -> Result<(Kind, Option<(Lexeme<'a>, Lexeme<'a>)>), ParseError>
         ensures value { Reads (λ x. (x.0, option_map (λ y. (token_of y.0, token_of y.1)) x.1))
             (both column_kind (optional (both (token k.Not) (token k.Null)))) self.old result
             self.new }
@@ -81,48 +77,48 @@ impl<'a> Parser<'a> {
 
     /// A column and the comma behind it.
     #[tactic(auto, unfolding(crate::specs::Commands::column, crate::specs::Rules::closed))]
-    fn column(&mut self, alloc: Global) -> Result<Column, Halt>
+    fn column(&mut self, alloc: Global) -> Result<Column, ParseError>
         ensures value { Reads (λ x. x) (closed column k.Comma) self.old result self.new }
         ensures levels { self.new.levels ≡ self.old.levels }
         ensures list { self.new.list.now ≡ self.old.list.now }
     {
         let name = self.name(alloc)?;
         let (kind, _) = self.marked_kind()?;
-        self.closed_by(Column { name, kind }, TokenKind::Comma)
+        self.then_expect(Column { name, kind }, TokenKind::Comma)
     }
 
     /// Columns with a comma behind each, at most 32.
-    fn columns(&mut self, alloc: Global) -> Result<Vec<Column>, Halt>
+    fn columns(&mut self, alloc: Global) -> Result<Vec<Column>, ParseError>
         ensures value { Reads (λ (v : Vec Column Global). v.items)
             (ended (Some 31) column k.Comma) self.old result self.new }
         ensures levels { self.new.levels ≡ self.old.levels }
         ensures list { self.new.list.now ≡ self.old.list.now }
     {
-        let mut list = appended(Vec::new(alloc), self.column(alloc))?;
+        let mut list = push_parsed(Vec::new(alloc), self.column(alloc))?;
         'parts: while self.sees(TokenKind::Name) {
-            if list.len() == COLUMNS_MAX {
-                return Err(Halt::Fault(Stop::TooMany));
+            if list.len() == MAX_COLUMNS {
+                return Err(ParseError::Fault(ParseFault::TooMany));
             }
-            list = appended(list, self.column(alloc))?;
+            list = push_parsed(list, self.column(alloc))?;
         }
         Ok(list)
     }
 
     /// ( name )
     #[tactic(auto, unfolding(crate::specs::Rules::before, crate::specs::Rules::in_parens, crate::specs::Rules::closed))]
-    fn name_in_parens(&mut self, alloc: Global) -> Result<Name, Halt>
+    fn name_in_parens(&mut self, alloc: Global) -> Result<Name, ParseError>
         ensures value { Reads (λ x. x) (in_parens name) self.old result self.new }
         ensures levels { self.new.levels ≡ self.old.levels }
         ensures list { self.new.list.now ≡ self.old.list.now }
     {
         self.want(TokenKind::LeftParen)?;
         let name = self.name(alloc)?;
-        self.closed_by(name, TokenKind::RightParen)
+        self.then_expect(name, TokenKind::RightParen)
     }
 
     /// PRIMARY KEY ( name )
     #[tactic(auto, unfolding(crate::specs::Commands::key_clause, crate::specs::Rules::before))]
-    fn key_clause(&mut self, alloc: Global) -> Result<Name, Halt>
+    fn key_clause(&mut self, alloc: Global) -> Result<Name, ParseError>
         ensures value { Reads (λ x. x) key_clause self.old result self.new }
         ensures levels { self.new.levels ≡ self.old.levels }
         ensures list { self.new.list.now ≡ self.old.list.now }
@@ -134,7 +130,7 @@ impl<'a> Parser<'a> {
 
     /// ( columns and the key )
     #[tactic(auto, unfolding(crate::specs::Rules::before, crate::specs::Rules::in_parens, crate::specs::Rules::closed))]
-    fn table_body(&mut self, alloc: Global) -> Result<(List<Column>, Name), Halt>
+    fn table_body(&mut self, alloc: Global) -> Result<(List<Column>, Name), ParseError>
         ensures value { Reads (λ x. x)
             (in_parens (both (ended (Some 31) column k.Comma) key_clause)) self.old result
             self.new }
@@ -144,11 +140,11 @@ impl<'a> Parser<'a> {
         self.want(TokenKind::LeftParen)?;
         let columns = List::from_vec(self.columns(alloc)?);
         let key = self.key_clause(alloc)?;
-        self.closed_by((columns, key), TokenKind::RightParen)
+        self.then_expect((columns, key), TokenKind::RightParen)
     }
 
     #[tactic(auto, unfolding(crate::specs::Commands::create, crate::specs::Rules::before))]
-    fn create(&mut self, alloc: Global) -> Result<Command, Halt>
+    fn create(&mut self, alloc: Global) -> Result<Command, ParseError>
         ensures value { Reads (λ x. x) create self.old result self.new }
         ensures levels { self.new.levels ≡ self.old.levels }
         ensures list { self.new.list.now ≡ self.old.list.now }
@@ -161,7 +157,7 @@ impl<'a> Parser<'a> {
     }
 
     #[tactic(auto, unfolding(crate::specs::Commands::drop_table, crate::specs::Rules::before))]
-    fn drop_table(&mut self, alloc: Global) -> Result<Command, Halt>
+    fn drop_table(&mut self, alloc: Global) -> Result<Command, ParseError>
         ensures value { Reads (λ x. x) drop_table self.old result self.new }
         ensures levels { self.new.levels ≡ self.old.levels }
         ensures list { self.new.list.now ≡ self.old.list.now }
@@ -174,7 +170,7 @@ impl<'a> Parser<'a> {
 
     /// A comma, and a literal.
     #[tactic(auto, unfolding(crate::specs::Rules::before))]
-    fn next_literal(&mut self, alloc: Global) -> Result<Value, Halt>
+    fn next_literal(&mut self, alloc: Global) -> Result<Value, ParseError>
         ensures value { Reads (λ x. x) (before k.Comma literal) self.old result self.new }
         ensures levels { self.new.levels ≡ self.old.levels }
         ensures list { self.new.list.now ≡ self.old.list.now }
@@ -184,25 +180,25 @@ impl<'a> Parser<'a> {
     }
 
     /// Literals, at most 32.
-    fn literals(&mut self, alloc: Global) -> Result<Vec<Value>, Halt>
+    fn literals(&mut self, alloc: Global) -> Result<Vec<Value>, ParseError>
         ensures value { Reads (λ (v : Vec Value Global). v.items)
             (listed (Some 31) k.Comma literal) self.old result self.new }
         ensures levels { self.new.levels ≡ self.old.levels }
         ensures list { self.new.list.now ≡ self.old.list.now }
     {
-        let mut list = appended(Vec::new(alloc), self.literal(alloc))?;
+        let mut list = push_parsed(Vec::new(alloc), self.literal(alloc))?;
         'parts: while self.sees(TokenKind::Comma) {
-            if list.len() == COLUMNS_MAX {
-                return Err(Halt::Fault(Stop::TooMany));
+            if list.len() == MAX_COLUMNS {
+                return Err(ParseError::Fault(ParseFault::TooMany));
             }
-            list = appended(list, self.next_literal(alloc))?;
+            list = push_parsed(list, self.next_literal(alloc))?;
         }
         Ok(list)
     }
 
     /// ( literals )
     #[tactic(auto, unfolding(crate::specs::Rules::before, crate::specs::Rules::in_parens, crate::specs::Rules::closed))]
-    fn row(&mut self, alloc: Global) -> Result<List<Value>, Halt>
+    fn row(&mut self, alloc: Global) -> Result<List<Value>, ParseError>
         ensures value { Reads (λ x. x)
             (in_parens (listed (Some 31) k.Comma literal)) self.old result self.new }
         ensures levels { self.new.levels ≡ self.old.levels }
@@ -210,11 +206,11 @@ impl<'a> Parser<'a> {
     {
         self.want(TokenKind::LeftParen)?;
         let values = List::from_vec(self.literals(alloc)?);
-        self.closed_by(values, TokenKind::RightParen)
+        self.then_expect(values, TokenKind::RightParen)
     }
 
     #[tactic(auto, unfolding(crate::specs::Commands::insert, crate::specs::Rules::before))]
-    fn insert(&mut self, alloc: Global) -> Result<Command, Halt>
+    fn insert(&mut self, alloc: Global) -> Result<Command, ParseError>
         ensures value { Reads (λ x. x) insert self.old result self.new }
         ensures levels { self.new.levels ≡ self.old.levels }
         ensures list { self.new.list.now ≡ self.old.list.now }
@@ -229,7 +225,7 @@ impl<'a> Parser<'a> {
 
     /// = literal
     #[tactic(auto, unfolding(crate::specs::Rules::before))]
-    fn equal_literal(&mut self, alloc: Global) -> Result<Value, Halt>
+    fn equal_literal(&mut self, alloc: Global) -> Result<Value, ParseError>
         ensures value { Reads (λ x. x) (before k.Equal literal) self.old result self.new }
         ensures levels { self.new.levels ≡ self.old.levels }
         ensures list { self.new.list.now ≡ self.old.list.now }
@@ -240,7 +236,7 @@ impl<'a> Parser<'a> {
 
     /// name = literal
     #[tactic(auto, unfolding(crate::specs::Commands::set_part))]
-    fn set_part(&mut self, alloc: Global) -> Result<SetPart, Halt>
+    fn set_part(&mut self, alloc: Global) -> Result<SetPart, ParseError>
         ensures value { Reads (λ x. x) set_part self.old result self.new }
         ensures levels { self.new.levels ≡ self.old.levels }
         ensures list { self.new.list.now ≡ self.old.list.now }
@@ -252,7 +248,7 @@ impl<'a> Parser<'a> {
 
     /// A comma, and a part of a SET.
     #[tactic(auto, unfolding(crate::specs::Rules::before))]
-    fn next_set_part(&mut self, alloc: Global) -> Result<SetPart, Halt>
+    fn next_set_part(&mut self, alloc: Global) -> Result<SetPart, ParseError>
         ensures value { Reads (λ x. x) (before k.Comma set_part) self.old result self.new }
         ensures levels { self.new.levels ≡ self.old.levels }
         ensures list { self.new.list.now ≡ self.old.list.now }
@@ -262,25 +258,25 @@ impl<'a> Parser<'a> {
     }
 
     /// The parts of a SET, at most 32.
-    fn set_parts(&mut self, alloc: Global) -> Result<Vec<SetPart>, Halt>
+    fn set_parts(&mut self, alloc: Global) -> Result<Vec<SetPart>, ParseError>
         ensures value { Reads (λ (v : Vec SetPart Global). v.items)
             (listed (Some 31) k.Comma set_part) self.old result self.new }
         ensures levels { self.new.levels ≡ self.old.levels }
         ensures list { self.new.list.now ≡ self.old.list.now }
     {
-        let mut list = appended(Vec::new(alloc), self.set_part(alloc))?;
+        let mut list = push_parsed(Vec::new(alloc), self.set_part(alloc))?;
         'parts: while self.sees(TokenKind::Comma) {
-            if list.len() == COLUMNS_MAX {
-                return Err(Halt::Fault(Stop::TooMany));
+            if list.len() == MAX_COLUMNS {
+                return Err(ParseError::Fault(ParseFault::TooMany));
             }
-            list = appended(list, self.next_set_part(alloc))?;
+            list = push_parsed(list, self.next_set_part(alloc))?;
         }
         Ok(list)
     }
 
     /// SET and its parts.
     #[tactic(auto, unfolding(crate::specs::Rules::before))]
-    fn set_clause(&mut self, alloc: Global) -> Result<List<SetPart>, Halt>
+    fn set_clause(&mut self, alloc: Global) -> Result<List<SetPart>, ParseError>
         ensures value { Reads (λ x. x)
             (before k.Set (listed (Some 31) k.Comma set_part)) self.old result self.new }
         ensures levels { self.new.levels ≡ self.old.levels }
@@ -292,7 +288,7 @@ impl<'a> Parser<'a> {
 
     /// WHERE name = literal
     #[tactic(auto, unfolding(crate::specs::Rules::before))]
-    fn row_clause(&mut self, alloc: Global) -> Result<SetPart, Halt>
+    fn row_clause(&mut self, alloc: Global) -> Result<SetPart, ParseError>
         ensures value { Reads (λ x. x) (before k.Where set_part) self.old result self.new }
         ensures levels { self.new.levels ≡ self.old.levels }
         ensures list { self.new.list.now ≡ self.old.list.now }
@@ -302,7 +298,7 @@ impl<'a> Parser<'a> {
     }
 
     #[tactic(auto, unfolding(crate::specs::Commands::update, crate::specs::Rules::before))]
-    fn update(&mut self, alloc: Global) -> Result<Command, Halt>
+    fn update(&mut self, alloc: Global) -> Result<Command, ParseError>
         ensures value { Reads (λ x. x) update self.old result self.new }
         ensures levels { self.new.levels ≡ self.old.levels }
         ensures list { self.new.list.now ≡ self.old.list.now }
@@ -320,7 +316,7 @@ impl<'a> Parser<'a> {
     }
 
     #[tactic(auto, unfolding(crate::specs::Commands::delete, crate::specs::Rules::before))]
-    fn delete(&mut self, alloc: Global) -> Result<Command, Halt>
+    fn delete(&mut self, alloc: Global) -> Result<Command, ParseError>
         ensures value { Reads (λ x. x) delete self.old result self.new }
         ensures levels { self.new.levels ≡ self.old.levels }
         ensures list { self.new.list.now ≡ self.old.list.now }
@@ -338,7 +334,7 @@ impl<'a> Parser<'a> {
     }
 
     #[tactic(auto, unfolding(crate::specs::Commands::command), using(crate::proofs::Firsts::first_commands))]
-    fn command(&mut self, alloc: Global) -> Result<Command, Halt>
+    fn command(&mut self, alloc: Global) -> Result<Command, ParseError>
         ensures value { Reads (λ x. x) command self.old result self.new }
         ensures levels { self.new.levels ≡ self.old.levels }
         ensures list { self.new.list.now ≡ self.old.list.now }
@@ -358,13 +354,13 @@ impl<'a> Parser<'a> {
 
     /// A command and the semicolon behind it.
     #[tactic(auto, unfolding(crate::specs::Rules::closed))]
-    fn closed_command(&mut self, alloc: Global) -> Result<Command, Halt>
+    fn closed_command(&mut self, alloc: Global) -> Result<Command, ParseError>
         ensures value { Reads (λ x. x) (closed command k.Semicolon) self.old result self.new }
         ensures levels { self.new.levels ≡ self.old.levels }
         ensures list { self.new.list.now ≡ self.old.list.now }
     {
         let command = self.command(alloc)?;
-        self.closed_by(command, TokenKind::Semicolon)
+        self.then_expect(command, TokenKind::Semicolon)
     }
 
     /// Whether a command begins here.
@@ -380,24 +376,24 @@ impl<'a> Parser<'a> {
     }
 
     /// Commands with a semicolon behind each, at most 1,000.
-    fn commands(&mut self, alloc: Global) -> Result<Vec<Command>, Halt>
+    fn commands(&mut self, alloc: Global) -> Result<Vec<Command>, ParseError>
         ensures value { Reads (λ (v : Vec Command Global). v.items)
             (ended (Some 999) command k.Semicolon) self.old result self.new }
         ensures levels { self.new.levels ≡ self.old.levels }
         ensures list { self.new.list.now ≡ self.old.list.now }
     {
-        let mut list = appended(Vec::new(alloc), self.closed_command(alloc))?;
+        let mut list = push_parsed(Vec::new(alloc), self.closed_command(alloc))?;
         'parts: while self.sees_command() {
-            if list.len() == COMMANDS_MAX {
-                return Err(Halt::Fault(Stop::TooMany));
+            if list.len() == MAX_COMMANDS {
+                return Err(ParseError::Fault(ParseFault::TooMany));
             }
-            list = appended(list, self.closed_command(alloc))?;
+            list = push_parsed(list, self.closed_command(alloc))?;
         }
         Ok(list)
     }
 
     #[tactic(auto, unfolding(crate::specs::Commands::batch))]
-    pub fn batch(&mut self, alloc: Global) -> Result<Batch, Halt>
+    pub fn batch(&mut self, alloc: Global) -> Result<Batch, ParseError>
         ensures value { Reads (λ x. x) batch self.old result self.new }
         ensures levels { self.new.levels ≡ self.old.levels }
         ensures list { self.new.list.now ≡ self.old.list.now }
@@ -408,29 +404,29 @@ impl<'a> Parser<'a> {
 
     /// A batch and its COMMIT.
     #[tactic(auto, unfolding(crate::specs::Rules::closed))]
-    fn ended_batch(&mut self, alloc: Global) -> Result<Batch, Halt>
+    fn ended_batch(&mut self, alloc: Global) -> Result<Batch, ParseError>
         ensures value { Reads (λ x. x) (closed batch k.Commit) self.old result self.new }
         ensures levels { self.new.levels ≡ self.old.levels }
         ensures list { self.new.list.now ≡ self.old.list.now }
     {
         let batch = self.batch(alloc)?;
-        self.closed_by(batch, TokenKind::Commit)
+        self.then_expect(batch, TokenKind::Commit)
     }
 
     /// A batch, its COMMIT and the semicolon behind that.
     #[tactic(auto, unfolding(crate::specs::Rules::closed))]
-    fn committed_batch(&mut self, alloc: Global) -> Result<Batch, Halt>
+    fn committed_batch(&mut self, alloc: Global) -> Result<Batch, ParseError>
         ensures value { Reads (λ x. x)
             (closed (closed batch k.Commit) k.Semicolon) self.old result self.new }
         ensures levels { self.new.levels ≡ self.old.levels }
         ensures list { self.new.list.now ≡ self.old.list.now }
     {
         let batch = self.ended_batch(alloc)?;
-        self.closed_by(batch, TokenKind::Semicolon)
+        self.then_expect(batch, TokenKind::Semicolon)
     }
 
     /// Any number of batches.
-    pub fn script(&mut self, alloc: Global) -> Result<Vec<Batch>, Halt>
+    pub fn script(&mut self, alloc: Global) -> Result<Vec<Batch>, ParseError>
         ensures value { Reads (λ (v : Vec Batch Global). v.items) script self.old result self.new }
         ensures levels { self.new.levels ≡ self.old.levels }
         ensures list { self.new.list.now ≡ self.old.list.now }

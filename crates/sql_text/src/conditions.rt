@@ -8,9 +8,9 @@ ghost use Rattle.sql_text.specs.Tokens.{sql};
 ghost use Rattle.sql_text.specs.Parsing.{left_of, Reads};
 ghost use Rattle.sql_text.specs.Queries.{comparison, prim, conj, disj, all_of, any_of};
 
-use crate::halt::Halt;
-use crate::parser::{Parser, appended};
-use grammar::Stop;
+use crate::halt::ParseError;
+use crate::parser::{Parser, push_parsed};
+use grammar::ParseFault;
 use sql_tokens::{Lexeme, TokenKind};
 use std::alloc::Global;
 use vo_spec::{Cond, List};
@@ -43,7 +43,7 @@ fn any_of(mut parts: Vec<Cond>) -> Cond
 
 impl<'a> Parser<'a> {
     #[tactic(auto, unfolding(crate::specs::Queries::comparison))]
-    fn comparison(&mut self, alloc: Global) -> Result<Cond, Halt>
+    fn comparison(&mut self, alloc: Global) -> Result<Cond, ParseError>
         ensures value { Reads condition_of comparison self.old result self.new }
         ensures levels { self.new.levels ≡ self.old.levels }
         ensures list { self.new.list.now ≡ self.old.list.now }
@@ -55,18 +55,18 @@ impl<'a> Parser<'a> {
     }
 
     /// The token that opens a level, which is next.
-    fn open(&mut self, kind: TokenKind) -> Result<Lexeme<'a>, Halt>
+    fn open(&mut self, kind: TokenKind) -> Result<Lexeme<'a>, ParseError>
         requires { begins sql (kind ∷ []) (left_of self.old) ≡ true }
         ensures opened { IfOk result
             (λ x. taken sql kind (left_of self.old) ≡ (Ok (token_of x), left_of self.new)) }
         ensures levels { OnOk result (self.new.levels + 1 ≡ self.old.levels) }
         ensures deep { OnErr result
-            ((result ≡ Err (Halt.Fault Stop.Nesting)) × (self.old.levels ≡ 0)
+            ((result ≡ Err (ParseError.Fault ParseFault.Nesting)) × (self.old.levels ≡ 0)
             × (left_of self.new ≡ left_of self.old)) }
         ensures list { self.new.list.now ≡ self.old.list.now }
     {
         if self.levels == 0 {
-            return Err(Halt::Fault(Stop::Nesting));
+            return Err(ParseError::Fault(ParseFault::Nesting));
         }
         self.levels -= 1;
         Ok(self.take(kind))
@@ -75,7 +75,7 @@ impl<'a> Parser<'a> {
     /// NOT, which is next, and its part.
     #[cycle(cond)]
     #[tactic(auto, using(crate::proofs::Conds::prims))]
-    fn negation(&mut self, alloc: Global) -> Result<Cond, Halt>
+    fn negation(&mut self, alloc: Global) -> Result<Cond, ParseError>
         requires { begins sql (k.Not ∷ []) (left_of self.old) ≡ true }
         ensures value { Reads condition_of prim self.old result self.new }
         ensures levels { OnOk result (self.new.levels ≡ self.old.levels) }
@@ -91,7 +91,7 @@ impl<'a> Parser<'a> {
     /// A condition in parentheses, the first of which is next.
     #[cycle(cond)]
     #[tactic(auto, using(crate::proofs::Conds::prims))]
-    fn enclosed(&mut self, alloc: Global) -> Result<Cond, Halt>
+    fn enclosed(&mut self, alloc: Global) -> Result<Cond, ParseError>
         requires other { begins sql (k.Not ∷ []) (left_of self.old) ≡ false }
         requires next { begins sql (k.LeftParen ∷ []) (left_of self.old) ≡ true }
         ensures value { Reads condition_of prim self.old result self.new }
@@ -102,12 +102,12 @@ impl<'a> Parser<'a> {
         self.open(TokenKind::LeftParen)?;
         let whole = self.disj(alloc)?;
         self.levels = levels;
-        self.closed_by(whole, TokenKind::RightParen)
+        self.then_expect(whole, TokenKind::RightParen)
     }
 
     #[cycle(cond)]
     #[tactic(auto, using(crate::proofs::Conds::prims))]
-    fn prim(&mut self, alloc: Global) -> Result<Cond, Halt>
+    fn prim(&mut self, alloc: Global) -> Result<Cond, ParseError>
         ensures value { Reads condition_of prim self.old result self.new }
         ensures levels { OnOk result (self.new.levels ≡ self.old.levels) }
         ensures list { self.new.list.now ≡ self.old.list.now }
@@ -122,29 +122,29 @@ impl<'a> Parser<'a> {
     }
 
     #[cycle(cond)]
-    fn conj(&mut self, alloc: Global) -> Result<Cond, Halt>
+    fn conj(&mut self, alloc: Global) -> Result<Cond, ParseError>
         ensures value { Reads condition_of conj self.old result self.new }
         ensures levels { OnOk result (self.new.levels ≡ self.old.levels) }
         ensures list { self.new.list.now ≡ self.old.list.now }
     {
-        let mut parts = appended(Vec::new(alloc), self.prim(alloc))?;
+        let mut parts = push_parsed(Vec::new(alloc), self.prim(alloc))?;
         while self.sees(TokenKind::And) {
             self.take(TokenKind::And);
-            parts = appended(parts, self.prim(alloc))?;
+            parts = push_parsed(parts, self.prim(alloc))?;
         }
         Ok(all_of(parts))
     }
 
     #[cycle(cond)]
-    pub fn disj(&mut self, alloc: Global) -> Result<Cond, Halt>
+    pub fn disj(&mut self, alloc: Global) -> Result<Cond, ParseError>
         ensures value { Reads condition_of disj self.old result self.new }
         ensures levels { OnOk result (self.new.levels ≡ self.old.levels) }
         ensures list { self.new.list.now ≡ self.old.list.now }
     {
-        let mut parts = appended(Vec::new(alloc), self.conj(alloc))?;
+        let mut parts = push_parsed(Vec::new(alloc), self.conj(alloc))?;
         while self.sees(TokenKind::Or) {
             self.take(TokenKind::Or);
-            parts = appended(parts, self.conj(alloc))?;
+            parts = push_parsed(parts, self.conj(alloc))?;
         }
         Ok(any_of(parts))
     }

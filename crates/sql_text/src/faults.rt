@@ -2,7 +2,7 @@
 ghost use Rattle.std.specs.Prelude.{◌≡◌};
 ghost use Rattle.sql_text.specs.Faults.{of_tokens};
 
-use sql_tokens::{Lapse, LexFault};
+use sql_tokens::{LexFault, TokenFault};
 use thiserror::Error;
 
 /// Why a text has no value. Places are in bytes, from 0.
@@ -33,9 +33,9 @@ pub fn of_tokens(fault: LexFault) -> SqlFault
     match fault {
         LexFault::Memory => SqlFault::Memory,
         LexFault::At { lapse, at } => match lapse {
-            Lapse::Token => SqlFault::Token { at },
-            Lapse::Literal => SqlFault::Literal { at },
-            Lapse::Name => SqlFault::Name,
+            TokenFault::Token => SqlFault::Token { at },
+            TokenFault::Literal => SqlFault::Literal { at },
+            TokenFault::Name => SqlFault::Name,
         },
     }
 }

@@ -10,9 +10,9 @@ ghost use Rattle.vo_spec.specs.declared.queries.Ref.{Ref};
 ghost use Rattle.sql_text.specs.Rules.{before, optional, listed};
 ghost use Rattle.sql_text.specs.Queries.{name, literal, reference, source, operator, operand, ref_of, source_of};
 
-use crate::halt::Halt;
-use crate::parser::{Parser, appended};
-use grammar::Stop;
+use crate::halt::ParseError;
+use crate::parser::{Parser, push_parsed};
+use grammar::ParseFault;
 use sql_tokens::TokenKind;
 use std::alloc::{AllocError, Global};
 use vo_spec::{Cmp, Name, Operand, Ref, Source, Text, Value};
@@ -58,7 +58,7 @@ fn unquoted(alloc: Global, text: &[u8]) -> Result<Text, AllocError>
 
 impl<'a> Parser<'a> {
     #[tactic(auto, unfolding(crate::specs::Queries::name))]
-    pub fn name(&mut self, alloc: Global) -> Result<Name, Halt>
+    pub fn name(&mut self, alloc: Global) -> Result<Name, ParseError>
         ensures value { Reads (λ x. x) name self.old result self.new }
         ensures levels { self.new.levels ≡ self.old.levels }
         ensures list { self.new.list.now ≡ self.old.list.now }
@@ -68,7 +68,7 @@ impl<'a> Parser<'a> {
     }
 
     #[tactic(auto, unfolding(crate::specs::Queries::literal))]
-    pub fn literal(&mut self, alloc: Global) -> Result<Value, Halt>
+    pub fn literal(&mut self, alloc: Global) -> Result<Value, ParseError>
         ensures value { Reads (λ x. x) literal self.old result self.new }
         ensures levels { self.new.levels ≡ self.old.levels }
         ensures list { self.new.list.now ≡ self.old.list.now }
@@ -88,7 +88,7 @@ impl<'a> Parser<'a> {
     }
 
     #[tactic(auto, unfolding(crate::specs::Queries::reference, crate::specs::Rules::optional, crate::specs::Rules::before))]
-    pub fn reference(&mut self, alloc: Global) -> Result<Ref, Halt>
+    pub fn reference(&mut self, alloc: Global) -> Result<Ref, ParseError>
         ensures value { Reads (λ x. x) reference self.old result self.new }
         ensures levels { self.new.levels ≡ self.old.levels }
         ensures list { self.new.list.now ≡ self.old.list.now }
@@ -109,7 +109,7 @@ impl<'a> Parser<'a> {
     }
 
     #[tactic(auto, unfolding(crate::specs::Queries::operator))]
-    pub fn operator(&mut self) -> Result<Cmp, Halt>
+    pub fn operator(&mut self) -> Result<Cmp, ParseError>
         ensures value { Reads (λ x. x) operator self.old result self.new }
         ensures levels { self.new.levels ≡ self.old.levels }
         ensures list { self.new.list.now ≡ self.old.list.now }
@@ -136,7 +136,7 @@ impl<'a> Parser<'a> {
     }
 
     #[tactic(auto, unfolding(crate::specs::Queries::operand), using(crate::proofs::Firsts::first_reference))]
-    pub fn operand(&mut self, alloc: Global) -> Result<Operand, Halt>
+    pub fn operand(&mut self, alloc: Global) -> Result<Operand, ParseError>
         ensures value { Reads (λ x. x) operand self.old result self.new }
         ensures levels { self.new.levels ≡ self.old.levels }
         ensures list { self.new.list.now ≡ self.old.list.now }
@@ -150,7 +150,7 @@ impl<'a> Parser<'a> {
 
     /// The alias behind a table's name, if it is there.
     #[tactic(auto, unfolding(crate::specs::Rules::optional, crate::specs::Rules::before), using(crate::proofs::Firsts::first_name, crate::proofs::Firsts::first_alias))]
-    fn alias_if_any(&mut self, alloc: Global) -> Result<Option<Name>, Halt>
+    fn alias_if_any(&mut self, alloc: Global) -> Result<Option<Name>, ParseError>
         ensures value { Reads (λ x. x)
             (optional (either (before k.As name) name)) self.old result self.new }
         ensures levels { self.new.levels ≡ self.old.levels }
@@ -167,7 +167,7 @@ impl<'a> Parser<'a> {
     }
 
     #[tactic(auto, unfolding(crate::specs::Queries::source))]
-    pub fn source(&mut self, alloc: Global) -> Result<Source, Halt>
+    pub fn source(&mut self, alloc: Global) -> Result<Source, ParseError>
         ensures value { Reads (λ x. x) source self.old result self.new }
         ensures levels { self.new.levels ≡ self.old.levels }
         ensures list { self.new.list.now ≡ self.old.list.now }
@@ -182,7 +182,7 @@ impl<'a> Parser<'a> {
 
     /// A comma, and a reference.
     #[tactic(auto, unfolding(crate::specs::Rules::before))]
-    fn next_reference(&mut self, alloc: Global) -> Result<Ref, Halt>
+    fn next_reference(&mut self, alloc: Global) -> Result<Ref, ParseError>
         ensures value { Reads (λ x. x) (before k.Comma reference) self.old result self.new }
         ensures levels { self.new.levels ≡ self.old.levels }
         ensures list { self.new.list.now ≡ self.old.list.now }
@@ -192,18 +192,18 @@ impl<'a> Parser<'a> {
     }
 
     /// References, at most 64.
-    pub fn references(&mut self, alloc: Global) -> Result<Vec<Ref>, Halt>
+    pub fn references(&mut self, alloc: Global) -> Result<Vec<Ref>, ParseError>
         ensures value { Reads (λ (v : Vec Ref Global). v.items)
             (listed (Some 63) k.Comma reference) self.old result self.new }
         ensures levels { self.new.levels ≡ self.old.levels }
         ensures list { self.new.list.now ≡ self.old.list.now }
     {
-        let mut list = appended(Vec::new(alloc), self.reference(alloc))?;
+        let mut list = push_parsed(Vec::new(alloc), self.reference(alloc))?;
         'parts: while self.sees(TokenKind::Comma) {
             if list.len() == ITEMS_MAX {
-                return Err(Halt::Fault(Stop::TooMany));
+                return Err(ParseError::Fault(ParseFault::TooMany));
             }
-            list = appended(list, self.next_reference(alloc))?;
+            list = push_parsed(list, self.next_reference(alloc))?;
         }
         Ok(list)
     }

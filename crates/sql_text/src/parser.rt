@@ -2,8 +2,8 @@
 ghost use Rattle.std.specs.Prelude.{◌≡◌, ◌+◌, ◌<◌, [], ◌∷◌, true, Ok, Err, IfOk, OnOk};
 ghost use Rattle.sql_text.specs.Parsing.{Appends};
 
-use crate::halt::Halt;
-use grammar::Stop;
+use crate::halt::ParseError;
+use grammar::ParseFault;
 use sql_tokens::{Lexeme, TokenKind};
 
 /// The tokens, the place of the next one, and how many levels of conditions may still be opened.
@@ -15,7 +15,10 @@ pub struct Parser<'a> {
 }
 
 /// The list with the part that was read at its end.
-pub fn appended<T: Drop>(mut list: Vec<T>, part: Result<T, Halt>) -> Result<Vec<T>, Halt>
+pub fn push_parsed<T: Drop>(
+    mut list: Vec<T>,
+    part: Result<T, ParseError>,
+) -> Result<Vec<T>, ParseError>
     ensures { Appends list.items part result }
 {
     list.push(part?)?;
@@ -53,7 +56,7 @@ impl<'a> Parser<'a> {
     }
 
     /// The next token, if it is of this kind.
-    pub fn want(&mut self, kind: TokenKind) -> Result<Lexeme<'a>, Halt>
+    pub fn want(&mut self, kind: TokenKind) -> Result<Lexeme<'a>, ParseError>
         ensures value { Reads token_of (token kind) self.old result self.new }
         ensures levels { self.new.levels ≡ self.old.levels }
         ensures list { self.new.list.now ≡ self.old.list.now }
@@ -61,13 +64,13 @@ impl<'a> Parser<'a> {
         if self.sees(kind) {
             Ok(self.take(kind))
         } else {
-            Err(Halt::Fault(Stop::Syntax))
+            Err(ParseError::Fault(ParseFault::Syntax))
         }
     }
 
     /// The value that was read, with a token of this kind behind it.
     #[tactic(auto, using(crate::proofs::Closing::taken_first))]
-    pub fn closed_by<T: Drop>(&mut self, found: T, kind: TokenKind) -> Result<T, Halt>
+    pub fn then_expect<T: Drop>(&mut self, found: T, kind: TokenKind) -> Result<T, ParseError>
         ensures value { Reads {B = T} (λ x. first_of (left_of self.old))
             (token kind) self.old result self.new }
         ensures same { IfOk result (λ x. x ≡ found) }

@@ -3,7 +3,7 @@ ghost use Rattle.std.specs.Prelude.{◌≡◌, [], ◌∷◌, ◌++◌, string_b
 ghost use Rattle.vo_spec.specs.Batches.{FitsBatch};
 ghost use Rattle.sql_tokens.specs.declared.kinds.TokenKind.TheVariants as k;
 ghost use Rattle.sql_text.specs.Commands.{batch as batch_rule};
-ghost use Rattle.sql_text.specs.Texts.{most_bytes, IsTextOf};
+ghost use Rattle.sql_text.specs.Texts.{max_bytes, IsTextOf};
 ghost use Rattle.sql_text.specs.Spellable.{SpellableBatch};
 ghost use Rattle.sql_text.specs.Printing.{word, kind_word, column_tokens, set_tokens, key_tokens, columns_tokens, command_tokens, batch_text, written};
 
@@ -203,7 +203,7 @@ pub fn print_batch(alloc: Global, batch: &Batch) -> Result<String, AllocError>
     requires { FitsBatch batch.now.commands }
     ensures printed { IfOk result (λ text. string_bytes text ≡ batch_text batch.now.commands) }
     ensures reads { SpellableBatch batch.now.commands
-        → IfOk result (λ text. IsTextOf most_bytes batch_rule (string_bytes text) batch.now) }
+        → IfOk result (λ text. IsTextOf max_bytes batch_rule (string_bytes text) batch.now) }
 {
     let mut out = Vec::new(alloc);
     print_terminated(

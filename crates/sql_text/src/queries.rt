@@ -10,7 +10,7 @@ ghost use Rattle.sql_text.specs.Parsing.{left_of, Reads};
 ghost use Rattle.sql_text.specs.Rules.{before, optional};
 ghost use Rattle.sql_text.specs.Queries.{reference, source, items, on_clause, join, disj, query, conditions_of};
 
-use crate::halt::Halt;
+use crate::halt::ParseError;
 use crate::parser::Parser;
 use sql_tokens::{Lexeme, TokenKind};
 use std::alloc::Global;
@@ -33,7 +33,7 @@ impl<'a> Parser<'a> {
     }
 
     #[tactic(auto, unfolding(crate::specs::Queries::items))]
-    fn items(&mut self, alloc: Global) -> Result<Items, Halt>
+    fn items(&mut self, alloc: Global) -> Result<Items, ParseError>
         ensures value { Reads (λ x. x) items self.old result self.new }
         ensures levels { self.new.levels ≡ self.old.levels }
         ensures list { self.new.list.now ≡ self.old.list.now }
@@ -48,7 +48,7 @@ impl<'a> Parser<'a> {
 
     /// = reference
     #[tactic(auto, unfolding(crate::specs::Rules::before))]
-    fn equal_reference(&mut self, alloc: Global) -> Result<Ref, Halt>
+    fn equal_reference(&mut self, alloc: Global) -> Result<Ref, ParseError>
         ensures value { Reads (λ x. x) (before k.Equal reference) self.old result self.new }
         ensures levels { self.new.levels ≡ self.old.levels }
         ensures list { self.new.list.now ≡ self.old.list.now }
@@ -59,7 +59,7 @@ impl<'a> Parser<'a> {
 
     /// ON reference = reference
     #[tactic(auto, unfolding(crate::specs::Queries::on_clause, crate::specs::Rules::before))]
-    fn on_clause(&mut self, alloc: Global) -> Result<(Ref, Ref), Halt>
+    fn on_clause(&mut self, alloc: Global) -> Result<(Ref, Ref), ParseError>
         ensures value { Reads (λ x. x) on_clause self.old result self.new }
         ensures levels { self.new.levels ≡ self.old.levels }
         ensures list { self.new.list.now ≡ self.old.list.now }
@@ -71,7 +71,7 @@ impl<'a> Parser<'a> {
     }
 
     #[tactic(auto, unfolding(crate::specs::Queries::join, crate::specs::Rules::before))]
-    fn join(&mut self, alloc: Global) -> Result<Join, Halt>
+    fn join(&mut self, alloc: Global) -> Result<Join, ParseError>
         ensures value { Reads (λ x. x) join self.old result self.new }
         ensures levels { self.new.levels ≡ self.old.levels }
         ensures list { self.new.list.now ≡ self.old.list.now }
@@ -88,7 +88,7 @@ impl<'a> Parser<'a> {
     }
 
     #[tactic(auto, unfolding(crate::specs::Rules::optional), using(crate::proofs::Firsts::first_join))]
-    fn join_if_any(&mut self, alloc: Global) -> Result<Option<Join>, Halt>
+    fn join_if_any(&mut self, alloc: Global) -> Result<Option<Join>, ParseError>
         ensures value { Reads (λ x. x) (optional join) self.old result self.new }
         ensures levels { self.new.levels ≡ self.old.levels }
         ensures list { self.new.list.now ≡ self.old.list.now }
@@ -101,7 +101,7 @@ impl<'a> Parser<'a> {
     }
 
     #[tactic(auto, unfolding(crate::specs::Rules::optional, crate::specs::Rules::before))]
-    fn condition_if_any(&mut self, alloc: Global) -> Result<Option<Cond>, Halt>
+    fn condition_if_any(&mut self, alloc: Global) -> Result<Option<Cond>, ParseError>
         ensures value { Reads (option_map condition_of)
             (optional (before k.Where disj)) self.old result self.new }
         ensures levels { OnOk result (self.new.levels ≡ self.old.levels) }
@@ -117,7 +117,7 @@ impl<'a> Parser<'a> {
 
     /// SELECT items
     #[tactic(auto, unfolding(crate::specs::Rules::before))]
-    fn select_clause(&mut self, alloc: Global) -> Result<Items, Halt>
+    fn select_clause(&mut self, alloc: Global) -> Result<Items, ParseError>
         ensures value { Reads (λ x. x) (before k.Select items) self.old result self.new }
         ensures levels { self.new.levels ≡ self.old.levels }
         ensures list { self.new.list.now ≡ self.old.list.now }
@@ -128,7 +128,7 @@ impl<'a> Parser<'a> {
 
     /// FROM source
     #[tactic(auto, unfolding(crate::specs::Rules::before))]
-    fn from_clause(&mut self, alloc: Global) -> Result<Source, Halt>
+    fn from_clause(&mut self, alloc: Global) -> Result<Source, ParseError>
         ensures value { Reads (λ x. x) (before k.From source) self.old result self.new }
         ensures levels { self.new.levels ≡ self.old.levels }
         ensures list { self.new.list.now ≡ self.old.list.now }
@@ -141,7 +141,7 @@ impl<'a> Parser<'a> {
     fn clauses_if_any(
         &mut self,
         alloc: Global,
-    ) -> Result<(Option<Join>, Option<Cond>, Option<Lexeme<'a>>), Halt>
+    ) -> Result<(Option<Join>, Option<Cond>, Option<Lexeme<'a>>), ParseError>
         ensures value { Reads (λ x. (x.0, (option_map condition_of x.1, option_map token_of x.2)))
             (both (optional join) (both (optional (before k.Where disj))
             (optional (token k.Semicolon)))) self.old result self.new }
@@ -154,7 +154,7 @@ impl<'a> Parser<'a> {
     }
 
     #[tactic(auto, unfolding(crate::specs::Queries::query))]
-    pub fn query(&mut self, alloc: Global) -> Result<QueryText, Halt>
+    pub fn query(&mut self, alloc: Global) -> Result<QueryText, ParseError>
         ensures value { Reads query_of query self.old result self.new }
         ensures list { self.new.list.now ≡ self.old.list.now }
     {

@@ -9,7 +9,7 @@ ghost use Rattle.sql_text.specs.Scripts.{IsScript, AnswersScript, short_len, end
 ghost use Rattle.sql_text.specs.Fits.{AllFit};
 
 use crate::faults::{SqlFault, of_tokens};
-use crate::halt::Halt;
+use crate::halt::ParseError;
 use crate::parser::Parser;
 use crate::texts::{TEXT_MAX, ended};
 use sql_tokens::{Lexeme, TokenKind, tokens};
@@ -47,14 +47,14 @@ fn short_len(list: &[Lexeme<'_>]) -> usize
 /// The answer for a script by what was found in the tokens before a batch of too many bytes closes, if one does.
 fn ended_script<T: Drop>(
     is_whole: bool,
-    found: Result<T, Halt>,
+    found: Result<T, ParseError>,
     left: &[Lexeme<'_>],
     end: usize,
 ) -> Result<T, SqlFault>
     ensures { result ≡ ended_script is_whole found (map placed_of left.now) end }
 {
     match found {
-        Err(Halt::Memory) => Err(SqlFault::Memory),
+        Err(ParseError::Memory) => Err(SqlFault::Memory),
         _ if !is_whole && left.is_empty() => Err(SqlFault::TooLong),
         found => ended(found, left, end),
     }

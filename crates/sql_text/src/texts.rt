@@ -5,14 +5,14 @@ ghost use Rattle.vo_spec.specs.Conditions.{Query, query_of, FitsQuery};
 ghost use Rattle.vo_spec.specs.declared.tables.Batch.{Batch};
 ghost use Rattle.sql_text.specs.Queries.{query};
 ghost use Rattle.sql_text.specs.Commands.{batch};
-ghost use Rattle.sql_text.specs.Texts.{most_bytes, ended, IsTextOf, Answers, Accepts};
+ghost use Rattle.sql_text.specs.Texts.{max_bytes, ended, IsTextOf, Answers, Accepts};
 ghost use Rattle.sql_text.specs.Fits.{FitCommands};
 ghost use Rattle.sql_text.specs.Printable.{PrintableQuery};
 
 use crate::faults::{SqlFault, of_tokens};
-use crate::halt::Halt;
+use crate::halt::ParseError;
 use crate::parser::Parser;
-use grammar::Stop;
+use grammar::ParseFault;
 use sql_tokens::{Lexeme, tokens};
 use std::alloc::Global;
 use vo_spec::{Batch, QueryText};
@@ -49,7 +49,7 @@ impl<'a> Parser<'a> {
 
 /// The answer by what the parser found: a text has no tokens behind its value.
 pub fn ended<T: Drop>(
-    found: Result<T, Halt>,
+    found: Result<T, ParseError>,
     left: &[Lexeme<'_>],
     end: usize,
 ) -> Result<T, SqlFault>
@@ -62,17 +62,17 @@ pub fn ended<T: Drop>(
     match found {
         Ok(value) if left.is_empty() => Ok(value),
         Ok(_) => Err(SqlFault::Syntax { at: place }),
-        Err(Halt::Memory) => Err(SqlFault::Memory),
-        Err(Halt::Fault(Stop::Syntax)) => Err(SqlFault::Syntax { at: place }),
-        Err(Halt::Fault(Stop::Nesting)) => Err(SqlFault::Nesting),
-        Err(Halt::Fault(Stop::TooMany)) => Err(SqlFault::TooMany),
+        Err(ParseError::Memory) => Err(SqlFault::Memory),
+        Err(ParseError::Fault(ParseFault::Syntax)) => Err(SqlFault::Syntax { at: place }),
+        Err(ParseError::Fault(ParseFault::Nesting)) => Err(SqlFault::Nesting),
+        Err(ParseError::Fault(ParseFault::TooMany)) => Err(SqlFault::TooMany),
     }
 }
 
 /// The query that a text is, or the text's first fault.
 pub fn parse_query(alloc: Global, text: &str) -> Result<QueryText, SqlFault>
-    ensures found { Answers query_of most_bytes query text.now result }
-    ensures only { (q : Query) → IsTextOf most_bytes query text.now q → Accepts query_of result q }
+    ensures found { Answers query_of max_bytes query text.now result }
+    ensures only { (q : Query) → IsTextOf max_bytes query text.now q → Accepts query_of result q }
     ensures fits { IfOk result (λ q. FitsQuery (query_of q)) }
     ensures printable { IfOk result (λ q. PrintableQuery (query_of q)) }
 {
@@ -91,8 +91,8 @@ pub fn parse_query(alloc: Global, text: &str) -> Result<QueryText, SqlFault>
 
 /// The batch that a text is, or the text's first fault.
 pub fn parse_batch(alloc: Global, text: &str) -> Result<Batch, SqlFault>
-    ensures found { Answers (λ x. x) most_bytes batch text.now result }
-    ensures only { (b : Batch) → IsTextOf most_bytes batch text.now b → Accepts (λ x. x) result b }
+    ensures found { Answers (λ x. x) max_bytes batch text.now result }
+    ensures only { (b : Batch) → IsTextOf max_bytes batch text.now b → Accepts (λ x. x) result b }
     ensures fits { IfOk result (λ b. FitCommands b.commands) }
 {
     let bytes = text.as_bytes();

@@ -7,8 +7,8 @@ use Rattle.std.proofs.Math.Numerals.{one-add}
 use Rattle.std.proofs.lemmas.Bool.{eqb-true}
 use Rattle.sql_tokens.specs.declared.kinds.TokenKind.{TokenKind}
 use Rattle.sql_tokens.specs.declared.kinds.TokenKind.TheVariants as k
-use Rattle.sql_tokens.specs.declared.lexemes.Lapse.{Lapse}
-use Rattle.sql_tokens.specs.declared.lexemes.Lapse.TheVariants as lapse
+use Rattle.sql_tokens.specs.declared.lexemes.TokenFault.{TokenFault}
+use Rattle.sql_tokens.specs.declared.lexemes.TokenFault.TheVariants as lapse
 use Rattle.sql_tokens.specs.Kinds.{spelling, keyword}
 use Rattle.sql_tokens.specs.Lex.{Token, Placed, is_blank, is_letter, is_word_byte, named, integer_value, integer, closing, fits_text, quoted, symbol, symbolic, token_at, followed, placed, tokens_from, tokens_of}
 
@@ -98,7 +98,7 @@ stands b c kind h =
     (stands_unequal b c kind (b == 33 && c == 61) refl)
     (b == 62) refl) (b == 60) refl) (b == 61) refl) (b == 42) refl) (b == 46) refl) (b == 59) refl) (b == 44) refl) (b == 41) refl) (b == 40) refl h
 
-pub text_of : Result Token Lapse → List ℕ
+pub text_of : Result Token TokenFault → List ℕ
 text_of (Ok t) = t.text
 text_of (Err lapse) = []
 
@@ -155,7 +155,7 @@ unfolding token_at
 symbol_at b z e f h i = rw (e, f, h, i) refl
 
 -- a word or an integer is a run; v is the token's bytes
-run_token : (p : ℕ → Bool) (of : List ℕ → Result Token Lapse) (b : ℕ) (z : List ℕ) (t : Token) → p b ≡ true
+run_token : (p : ℕ → Bool) (of : List ℕ → Result Token TokenFault) (b : ℕ) (z : List ℕ) (t : Token) → p b ≡ true
     → ((w : List ℕ) → of w ≡ Ok t → t.text ≡ w)
     → ((y : List ℕ) → token_at (b ∷ y) ≡ of (take (prefix_len p (b ∷ y)) (b ∷ y))) → token_at (b ∷ z) ≡ Ok t → token_at t.text ≡ Ok t
 run_token p of b z t e text at h =
@@ -286,15 +286,15 @@ alone (b ∷ z) t h = by_letter (is_letter b) refl
     by_letter false e = by_digit e (is_ascii_digit b) refl
 
 -- all tokens of a text
-abbrev AreAlone : Result (List Placed) (Lapse × ℕ) → Type 0
+abbrev AreAlone : Result (List Placed) (TokenFault × ℕ) → Type 0
 AreAlone (Ok ps) = AllByRecursion (λ t. token_at t.text ≡ Ok t) (map (λ p. p.token) ps)
 AreAlone (Err e) = Unit {0}
 
-followed_alone : (p : Placed) (r : Result (List Placed) (Lapse × ℕ)) → token_at p.token.text ≡ Ok p.token → AreAlone r → AreAlone (followed p r)
+followed_alone : (p : Placed) (r : Result (List Placed) (TokenFault × ℕ)) → token_at p.token.text ≡ Ok p.token → AreAlone r → AreAlone (followed p r)
 followed_alone p (Ok ps) h k = (h, k)
 followed_alone p (Err e) h k = tt
 
-placed_alone : (at : ℕ) (z : List ℕ) (r : Result Token Lapse) (others : ℕ → Result (List Placed) (Lapse × ℕ)) → token_at z ≡ r → ((n : ℕ) → AreAlone (others n))
+placed_alone : (at : ℕ) (z : List ℕ) (r : Result Token TokenFault) (others : ℕ → Result (List Placed) (TokenFault × ℕ)) → token_at z ≡ r → ((n : ℕ) → AreAlone (others n))
     → AreAlone (placed at r others)
 placed_alone at z (Ok t) others e k = followed_alone (record { token = t; at = at }) (others (length t.text - 1)) (alone z t e) (k (length t.text - 1))
 placed_alone at z (Err lapse) others e k = tt

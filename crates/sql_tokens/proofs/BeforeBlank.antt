@@ -7,8 +7,8 @@ use Rattle.std.proofs.Math.Numerals.{one-add}
 use Rattle.std.proofs.lemmas.Bool.{eqb-true}
 use Rattle.sql_tokens.specs.declared.kinds.TokenKind.{TokenKind}
 use Rattle.sql_tokens.specs.declared.kinds.TokenKind.TheVariants as k
-use Rattle.sql_tokens.specs.declared.lexemes.Lapse.{Lapse}
-use Rattle.sql_tokens.specs.declared.lexemes.Lapse.TheVariants as lapse
+use Rattle.sql_tokens.specs.declared.lexemes.TokenFault.{TokenFault}
+use Rattle.sql_tokens.specs.declared.lexemes.TokenFault.TheVariants as lapse
 use Rattle.sql_tokens.specs.Kinds.{spelling, keyword}
 use Rattle.sql_tokens.specs.Lex.{Token, is_blank, is_letter, is_word_byte, named, integer_value, integer, closing, fits_text, quoted, symbol, symbolic, token_at}
 use Rattle.sql_tokens.proofs.Alone.{Stands, stands, named_text, integer_text, symbolic_text, quoted_text, letter_at, digit_at, minus_at, quote_at, symbol_at, word_letter, both_true, one_more, some_more, none_at_end}
@@ -36,7 +36,7 @@ run_ends p (b ∷ w) z e h = by_first (p b) refl (run_ends p w z e)
         ∙ one_byte (prefix_len p (w ++ 32 ∷ z)) b (w ++ 32 ∷ z) ∙ ap (λ y. b ∷ y) (again parts.1)
 
 -- words and integers without a minus
-run_before : (p : ℕ → Bool) (of : List ℕ → Result Token Lapse) (b : ℕ) (w z : List ℕ) (t : Token) → p 32 ≡ false → t.text ≡ b ∷ w
+run_before : (p : ℕ → Bool) (of : List ℕ → Result Token TokenFault) (b : ℕ) (w z : List ℕ) (t : Token) → p 32 ≡ false → t.text ≡ b ∷ w
     → ((u : List ℕ) → of u ≡ Ok t → t.text ≡ u) → ((y : List ℕ) → token_at (b ∷ y) ≡ of (take (prefix_len p (b ∷ y)) (b ∷ y)))
     → token_at (b ∷ w) ≡ Ok t → token_at (b ∷ w ++ 32 ∷ z) ≡ Ok t
 run_before p of b w z t blank is text at h =

@@ -2,20 +2,20 @@
 use Rattle.std.proofs.Common.{◌≡◌, ℕ, zero, suc, ◌+◌, ◌-◌, ◌<◌, ◌≤◌, Bool, true, false, cond, List, [], ◌∷◌, ◌++◌, length, take, drop, get_or, map, Result, Ok, Err, refl, sym, ap, ◌∙◌, subst, arith, append_assoc, add-one, add-zero, sub-one}
 use Rattle.std.proofs.Math.Seq.{drop-cons}
 use Rattle.std.proofs.lemmas.List.{append-nil, drop-drop, map-append}
-use Rattle.sql_tokens.specs.declared.lexemes.Lapse.{Lapse}
+use Rattle.sql_tokens.specs.declared.lexemes.TokenFault.{TokenFault}
 use Rattle.sql_tokens.specs.declared.lexemes.Lexeme.{Lexeme}
 use Rattle.sql_tokens.specs.Lex.{Token, Placed, is_blank, token_at, followed, placed, tokens_from, token_of, placed_of}
 
 -- tokens that were read, in front of what is read from there on
-abbrev pub puts : List Placed → Result (List Placed) (Lapse × ℕ) → Result (List Placed) (Lapse × ℕ)
+abbrev pub puts : List Placed → Result (List Placed) (TokenFault × ℕ) → Result (List Placed) (TokenFault × ℕ)
 puts front (Ok ps) = Ok (front ++ ps)
 puts front (Err e) = Err e
 
-pub puts_none : (r : Result (List Placed) (Lapse × ℕ)) → puts [] r ≡ r
+pub puts_none : (r : Result (List Placed) (TokenFault × ℕ)) → puts [] r ≡ r
 puts_none (Ok ps) = refl
 puts_none (Err e) = refl
 
-puts_one : (front : List Placed) (p : Placed) (r : Result (List Placed) (Lapse × ℕ)) → puts front (followed p r) ≡ puts (front ++ p ∷ []) r
+puts_one : (front : List Placed) (p : Placed) (r : Result (List Placed) (TokenFault × ℕ)) → puts front (followed p r) ≡ puts (front ++ p ∷ []) r
 puts_one front p (Ok ps) = ap Ok (sym (append_assoc front (p ∷ []) ps))
 puts_one front p (Err e) = refl
 
@@ -29,7 +29,7 @@ pub blank : (at b : ℕ) (z : List ℕ) → is_blank b ≡ true → tokens_from 
 unfolding tokens_from
 blank at b z e = rw e refl
 
-fails : (at b : ℕ) (z : List ℕ) (lapse : Lapse) → is_blank b ≡ false → token_at (b ∷ z) ≡ Err lapse → tokens_from at 0 (b ∷ z) ≡ Err (lapse, at)
+fails : (at b : ℕ) (z : List ℕ) (lapse : TokenFault) → is_blank b ≡ false → token_at (b ∷ z) ≡ Err lapse → tokens_from at 0 (b ∷ z) ≡ Err (lapse, at)
 unfolding tokens_from
 fails at b z lapse e f = rw (e, f) refl
 
@@ -50,7 +50,7 @@ module _ (text : List ℕ) (at : ℕ) (inside : at < length text) where
   pub blank_goes : is_blank (get_or text at 0) ≡ true → tokens_from at 0 (drop at text) ≡ tokens_from (at + 1) 0 (drop (at + 1) text)
   blank_goes e = ap (tokens_from at 0) here ∙ blank at (get_or text at 0) (drop (suc at) text) e ∙ ap (λ k. tokens_from (at + 1) 0 (drop k text)) (sym (add-one at))
 
-  pub token_fails : (lapse : Lapse) → is_blank (get_or text at 0) ≡ false → token_at (drop at text) ≡ Err lapse → tokens_from at 0 (drop at text) ≡ Err (lapse, at)
+  pub token_fails : (lapse : TokenFault) → is_blank (get_or text at 0) ≡ false → token_at (drop at text) ≡ Err lapse → tokens_from at 0 (drop at text) ≡ Err (lapse, at)
   token_fails lapse e f = ap (tokens_from at 0) here ∙ fails at (get_or text at 0) (drop (suc at) text) lapse e (ap token_at (sym here) ∙ f)
 
   pub token_goes : (x : Lexeme) (list : List Lexeme) → is_blank (get_or text at 0) ≡ false → token_at (drop at text) ≡ Ok (token_of x) → x.at ≡ at → 1 ≤ length x.text.now

@@ -6,8 +6,8 @@ use Rattle.std.specs.Char.{is_ascii_alphabetic, is_ascii_digit}
 use Rattle.std.specs.Str.Parse.{digits_value}
 use Rattle.sql_tokens.specs.declared.kinds.TokenKind.{TokenKind}
 use Rattle.sql_tokens.specs.declared.kinds.TokenKind.TheVariants as k
-use Rattle.sql_tokens.specs.declared.lexemes.Lapse.{Lapse}
-use Rattle.sql_tokens.specs.declared.lexemes.Lapse.TheVariants as lapse
+use Rattle.sql_tokens.specs.declared.lexemes.TokenFault.{TokenFault}
+use Rattle.sql_tokens.specs.declared.lexemes.TokenFault.TheVariants as lapse
 use Rattle.sql_tokens.specs.declared.lexemes.Lexeme.{Lexeme}
 use Rattle.sql_tokens.specs.declared.lexemes.LexFault.{LexFault}
 use Rattle.sql_tokens.specs.declared.lexemes.LexFault.TheVariants.{Memory, At}
@@ -35,9 +35,10 @@ abbrev pub is_word_byte : ℕ → Bool
 is_word_byte b = is_letter b || is_ascii_digit b
 
 -- a reserved word, or a name of at most 63 bytes
-abbrev pub named : Option TokenKind → List ℕ → Result Token Lapse
+abbrev pub named : Option TokenKind → List ℕ → Result Token TokenFault
 named (Some kind) word = Ok (record { kind = kind; text = word; number = pos 0 })
-named None word = if nat_le (length word) 63 then Ok (record { kind = k.Name; text = word; number = pos 0 }) else Err lapse.Name
+named None word = if nat_le (length word) 63
+    then Ok (record { kind = k.Name; text = word; number = pos 0 }) else Err lapse.Name
 
 -- the digits behind a minus, if there is one
 abbrev pub digits : List ℕ → List ℕ
@@ -51,7 +52,7 @@ integer_value text =
     then (if nat_le size (2 ^ 63) then Some (neg_ℤ (pos size)) else None)
     else (if nat_lt size (2 ^ 63) then Some (pos size) else None)
 
-abbrev pub integer : Option ℤ → List ℕ → Result Token Lapse
+abbrev pub integer : Option ℤ → List ℕ → Result Token TokenFault
 integer None text = Err lapse.Literal
 integer (Some number) text = Ok (record { kind = k.Integer; text = text; number = number })
 
@@ -59,12 +60,14 @@ integer (Some number) text = Ok (record { kind = k.Integer; text = text; number 
 -- two quotes stand for one
 abbrev pub closing : Bool → List ℕ → Option ℕ
 closing second [] = if second then Some 0 else None
-closing second (b ∷ bytes) = if second && not (b == 39) then Some 0 else option_map suc (closing (not second && b == 39) bytes)
+closing second (b ∷ bytes) = if second && not (b == 39) then Some 0
+    else option_map suc (closing (not second && b == 39) bytes)
 
 -- the bytes that stand between the quotes, one for two quotes
 abbrev pub single_quotes : Bool → List ℕ → List ℕ
 single_quotes second [] = []
-single_quotes second (b ∷ bytes) = if second && b == 39 then single_quotes false bytes else b ∷ single_quotes (b == 39) bytes
+single_quotes second (b ∷ bytes) = if second && b == 39 then single_quotes false bytes
+    else b ∷ single_quotes (b == 39) bytes
 
 -- what a quoted text stands for
 abbrev pub unquoted : List ℕ → List ℕ
@@ -74,51 +77,66 @@ unquoted text = single_quotes false (take (length text - 2) (drop 1 text))
 abbrev pub fits_text : List ℕ → Bool
 fits_text text = nat_le (length (unquoted text)) 1024 && list_all (λ b. nat_le 32 b) text
 
-abbrev pub quoted : Option ℕ → List ℕ → Result Token Lapse
+abbrev pub quoted : Option ℕ → List ℕ → Result Token TokenFault
 quoted None bytes = Err lapse.Token
 quoted (Some len) bytes =
     let text = take (suc len) bytes in
-    if fits_text text then Ok (record { kind = k.Quoted; text = text; number = pos 0 }) else Err lapse.Literal
+    if fits_text text then Ok (record { kind = k.Quoted; text = text; number = pos 0 })
+    else Err lapse.Literal
 
 -- the symbol that these two bytes begin with
 abbrev pub symbol : ℕ → ℕ → Option TokenKind
 symbol a b =
-    if a == 40 then Some k.LeftParen else (if a == 41 then Some k.RightParen else (if a == 44 then Some k.Comma else (if a == 59 then Some k.Semicolon
-    else (if a == 46 then Some k.Dot else (if a == 42 then Some k.Star else (if a == 61 then Some k.Equal
-    else (if a == 60 then Some (if b == 62 then k.NotEqual else (if b == 61 then k.LessEqual else k.Less))
+    if a == 40 then Some k.LeftParen
+    else (if a == 41 then Some k.RightParen
+    else (if a == 44 then Some k.Comma else (if a == 59 then Some k.Semicolon
+    else (if a == 46 then Some k.Dot
+    else (if a == 42 then Some k.Star else (if a == 61 then Some k.Equal
+    else (if a == 60 then Some (if b == 62 then k.NotEqual
+    else (if b == 61 then k.LessEqual else k.Less))
     else (if a == 62 then Some (if b == 61 then k.GreaterEqual else k.Greater)
     else (if a == 33 && b == 61 then Some k.NotEqual else None)))))))))
 
-abbrev pub symbolic : Option TokenKind → List ℕ → Result Token Lapse
+abbrev pub symbolic : Option TokenKind → List ℕ → Result Token TokenFault
 symbolic None bytes = Err lapse.Token
-symbolic (Some kind) bytes = Ok (record { kind = kind; text = take (length (spelling kind)) bytes; number = pos 0 })
+symbolic (Some kind) bytes = Ok
+    (record { kind = kind; text = take (length (spelling kind)) bytes; number = pos 0 })
 
 -- the token that a text begins with, which is not empty and begins with no blank
-unfoldable pub token_at : List ℕ → Result Token Lapse
+unfoldable pub token_at : List ℕ → Result Token TokenFault
 token_at bytes =
     let first = slice_index bytes 0 in
     let second = slice_index bytes 1 in
-    if is_letter first then (let word = take (prefix_len is_word_byte bytes) bytes in named (keyword word) word)
-    else (if is_ascii_digit first then (let text = take (prefix_len is_ascii_digit bytes) bytes in integer (integer_value text) text)
-    else (if first == 45 && is_ascii_digit second then (let text = take (1 + prefix_len is_ascii_digit (drop 1 bytes)) bytes in integer (integer_value text) text)
-    else (if first == 39 then quoted (closing false (drop 1 bytes)) bytes else symbolic (symbol first second) bytes)))
+    if is_letter first then (let word = take (prefix_len is_word_byte bytes) bytes in
+    named (keyword word) word)
+    else (if is_ascii_digit first then (let text = take (prefix_len is_ascii_digit bytes) bytes in
+    integer (integer_value text) text)
+    else (if first == 45 && is_ascii_digit second then
+    (let text = take (1 + prefix_len is_ascii_digit (drop 1 bytes)) bytes in
+    integer (integer_value text) text)
+    else (if first == 39 then quoted (closing false (drop 1 bytes)) bytes
+    else symbolic (symbol first second) bytes)))
 
-abbrev pub followed : Placed → Result (List Placed) (Lapse × ℕ) → Result (List Placed) (Lapse × ℕ)
+abbrev pub followed : Placed → Result (List Placed) (TokenFault × ℕ)
+    → Result (List Placed) (TokenFault × ℕ)
 followed p (Ok ps) = Ok (p ∷ ps)
 followed p (Err e) = Err e
 
-abbrev pub placed : ℕ → Result Token Lapse → (ℕ → Result (List Placed) (Lapse × ℕ)) → Result (List Placed) (Lapse × ℕ)
-placed at (Ok token) others = followed (record { token = token; at = at }) (others (length token.text - 1))
+abbrev pub placed : ℕ → Result Token TokenFault → (ℕ → Result (List Placed) (TokenFault × ℕ))
+    → Result (List Placed) (TokenFault × ℕ)
+placed at (Ok token) others = followed (record { token = token; at = at })
+    (others (length token.text - 1))
 placed at (Err lapse) others = Err (lapse, at)
 
 -- the tokens of what stands from place `at` on, or the first lapse with its place; the first `within` bytes are still of the token before
-unfoldable pub tokens_from : ℕ → ℕ → List ℕ → Result (List Placed) (Lapse × ℕ)
+unfoldable pub tokens_from : ℕ → ℕ → List ℕ → Result (List Placed) (TokenFault × ℕ)
 tokens_from at within [] = Ok []
 tokens_from at (suc within) (b ∷ bytes) = tokens_from (at + 1) within bytes
-tokens_from at zero (b ∷ bytes) = if is_blank b then tokens_from (at + 1) 0 bytes else placed at (token_at (b ∷ bytes)) (λ within. tokens_from (at + 1) within bytes)
+tokens_from at zero (b ∷ bytes) = if is_blank b then tokens_from (at + 1) 0 bytes
+    else placed at (token_at (b ∷ bytes)) (λ within. tokens_from (at + 1) within bytes)
 
 -- the tokens of a text, or its first lapse with its place
-abbrev pub tokens_of : List ℕ → Result (List Placed) (Lapse × ℕ)
+abbrev pub tokens_of : List ℕ → Result (List Placed) (TokenFault × ℕ)
 tokens_of text = tokens_from 0 0 text
 
 -- what a program's lexeme is
@@ -130,12 +148,13 @@ abbrev pub placed_of : Lexeme → Placed
 placed_of x = record { token = token_of x; at = x.at }
 
 -- the lexeme that was read is this token
-abbrev pub Gives : Result Lexeme Lapse → Result Token Lapse → Type 0
-Gives (Ok x) token = token ≡ Ok (token_of x)
-Gives (Err lapse) token = token ≡ Err lapse
+abbrev pub ReadsToken : Result Lexeme TokenFault → Result Token TokenFault → Type 0
+ReadsToken (Ok x) token = token ≡ Ok (token_of x)
+ReadsToken (Err lapse) token = token ≡ Err lapse
 
 -- the list has these tokens, or the fault is theirs; memory may end
-abbrev pub Scans : Result (List Placed) (Lapse × ℕ) → Result (Vec Lexeme Global) LexFault → Type 0
+abbrev pub Scans : Result (List Placed) (TokenFault × ℕ)
+    → Result (Vec Lexeme Global) LexFault → Type 0
 Scans tokens (Ok list) = tokens ≡ Ok (map placed_of list.items)
 Scans tokens (Err Memory) = Unit {0}
 Scans tokens (Err (At lapse at)) = tokens ≡ Err (lapse, at)

@@ -5,7 +5,7 @@ use thiserror::Error;
 
 /// Why a text has no token at a place.
 #[derive(Clone, Copy, Debug, PartialEq, Eq, Error)]
-pub enum Lapse {
+pub enum TokenFault {
     #[error("no token begins here, or a quoted text has no end")]
     Token,
     #[error("an integer of more than 64 bits, or a text too long or with a control character")]
@@ -32,7 +32,7 @@ pub enum LexFault {
     #[error("out of memory")]
     Memory,
     #[error("{lapse}, at byte {at}")]
-    At { lapse: Lapse, at: usize },
+    At { lapse: TokenFault, at: usize },
 }
 
 impl From<AllocError> for LexFault {

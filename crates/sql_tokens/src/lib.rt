@@ -8,5 +8,5 @@ mod token;
 mod words;
 
 pub use kinds::{KEYWORDS, TokenKind};
-pub use lexemes::{Lapse, LexFault, Lexeme};
+pub use lexemes::{LexFault, Lexeme, TokenFault};
 pub use scan::tokens;

@@ -4,28 +4,30 @@ ghost use Rattle.std.specs.Str.{all_ascii_digits};
 ghost use Rattle.std.specs.List.{prefix_len};
 ghost use Rattle.std.specs.Char.{is_ascii_digit};
 ghost use Rattle.sql_tokens.specs.Kinds.{keyword, spelling};
-ghost use Rattle.sql_tokens.specs.Lex.{is_letter, is_word_byte, closing, symbol, digits, integer_value, named, integer, quoted, symbolic, Gives, token_at};
+ghost use Rattle.sql_tokens.specs.Lex.{is_letter, is_word_byte, closing, symbol, digits, integer_value, named, integer, quoted, symbolic, ReadsToken, token_at};
 
 use crate::kinds::TokenKind;
-use crate::lexemes::{Lapse, Lexeme};
+use crate::lexemes::{Lexeme, TokenFault};
 use crate::words;
 
 /// The longest name, in bytes.
 const NAME_MAX: usize = 63;
 
 /// A keyword or a name.
-fn word<'a>(text: &'a [u8], at: usize) -> Result<Lexeme<'a>, Lapse>
+fn word<'a>(text: &'a [u8], at: usize) -> Result<Lexeme<'a>, TokenFault>
     requires some { 0 < length text.now }
     requires begins { is_letter (slice_index text.now 0) ≡ true }
-    ensures value { let word = take (prefix_len is_word_byte text.now) text.now in Gives result (named (keyword word) word) }
+    ensures value { let word = take (prefix_len is_word_byte text.now) text.now in
+        ReadsToken result (named (keyword word) word) }
     ensures place { IfOk result (λ x. x.at ≡ at) }
-    ensures within { IfOk result (λ x. (1 ≤ length x.text.now) × (length x.text.now ≤ length text.now)) }
+    ensures within { IfOk result (λ x. (1 ≤ length x.text.now)
+        × (length x.text.now ≤ length text.now)) }
 {
     let (word, _) = text.split_at(words::word_len(text));
     let kind = match words::keyword(word) {
         Some(kind) => kind,
         None if word.len() <= NAME_MAX => TokenKind::Name,
-        None => return Err(Lapse::Name),
+        None => return Err(TokenFault::Name),
     };
     Ok(Lexeme {
         kind,
@@ -36,16 +38,17 @@ fn word<'a>(text: &'a [u8], at: usize) -> Result<Lexeme<'a>, Lapse>
 }
 
 /// An integer whose sign and digits are the first `len` bytes.
-fn number<'a>(text: &'a [u8], len: usize, at: usize) -> Result<Lexeme<'a>, Lapse>
+fn number<'a>(text: &'a [u8], len: usize, at: usize) -> Result<Lexeme<'a>, TokenFault>
     requires within { len ≤ length text.now }
     requires digits { all_ascii_digits (digits (take len text.now)) ≡ true }
     requires some { 0 < length (digits (take len text.now)) }
-    ensures value { let number = take len text.now in Gives result (integer (integer_value number) number) }
+    ensures value { let number = take len text.now in
+        ReadsToken result (integer (integer_value number) number) }
     ensures place { IfOk result (λ x. x.at ≡ at) }
     ensures within { IfOk result (λ x. length x.text.now ≡ len) }
 {
     let (text, _) = text.split_at(len);
-    let number = words::integer_value(text).ok_or(Lapse::Literal)?;
+    let number = words::integer_value(text).ok_or(TokenFault::Literal)?;
     Ok(Lexeme {
         kind: TokenKind::Integer,
         text,
@@ -55,17 +58,18 @@ fn number<'a>(text: &'a [u8], len: usize, at: usize) -> Result<Lexeme<'a>, Lapse
 }
 
 /// A text in quotes, of which the first stands first.
-fn quoted<'a>(text: &'a [u8], at: usize) -> Result<Lexeme<'a>, Lapse>
+fn quoted<'a>(text: &'a [u8], at: usize) -> Result<Lexeme<'a>, TokenFault>
     requires { 0 < length text.now }
-    ensures value { Gives result (quoted (closing false (drop 1 text.now)) text.now) }
+    ensures value { ReadsToken result (quoted (closing false (drop 1 text.now)) text.now) }
     ensures place { IfOk result (λ x. x.at ≡ at) }
-    ensures within { IfOk result (λ x. (1 ≤ length x.text.now) × (length x.text.now ≤ length text.now)) }
+    ensures within { IfOk result (λ x. (1 ≤ length x.text.now)
+        × (length x.text.now ≤ length text.now)) }
 {
     let (_, behind) = text.split_at(1);
-    let len = words::closing_len(behind).ok_or(Lapse::Token)?;
+    let len = words::closing_len(behind).ok_or(TokenFault::Token)?;
     let (text, _) = text.split_at(len + 1);
     if !words::fits_text(text) {
-        return Err(Lapse::Literal);
+        return Err(TokenFault::Literal);
     }
     Ok(Lexeme {
         kind: TokenKind::Quoted,
@@ -83,13 +87,15 @@ fn second_byte(text: &[u8]) -> u8
     text.get(1).copied().unwrap_or(0)
 }
 
-fn symbolic<'a>(text: &'a [u8], at: usize) -> Result<Lexeme<'a>, Lapse>
+fn symbolic<'a>(text: &'a [u8], at: usize) -> Result<Lexeme<'a>, TokenFault>
     requires { 0 < length text.now }
-    ensures value { Gives result (symbolic (symbol (slice_index text.now 0) (slice_index text.now 1)) text.now) }
+    ensures value { ReadsToken result
+        (symbolic (symbol (slice_index text.now 0) (slice_index text.now 1)) text.now) }
     ensures place { IfOk result (λ x. x.at ≡ at) }
-    ensures within { IfOk result (λ x. (1 ≤ length x.text.now) × (length x.text.now ≤ length text.now)) }
+    ensures within { IfOk result (λ x. (1 ≤ length x.text.now)
+        × (length x.text.now ≤ length text.now)) }
 {
-    let kind = words::symbol(text[0], second_byte(text)).ok_or(Lapse::Token)?;
+    let kind = words::symbol(text[0], second_byte(text)).ok_or(TokenFault::Token)?;
     let (text, _) = text.split_at(kind.spelling().len());
     Ok(Lexeme {
         kind,
@@ -101,11 +107,12 @@ fn symbolic<'a>(text: &'a [u8], at: usize) -> Result<Lexeme<'a>, Lapse>
 
 /// The token that a text begins with, where it begins with no blank.
 #[tactic(auto, unfolding(crate::specs::Lex::token_at), using(crate::proofs::Integers::run_digits, crate::proofs::Integers::minus_digits))]
-pub fn token<'a>(text: &'a [u8], at: usize) -> Result<Lexeme<'a>, Lapse>
+pub fn token<'a>(text: &'a [u8], at: usize) -> Result<Lexeme<'a>, TokenFault>
     requires { 0 < length text.now }
-    ensures value { Gives result (token_at text.now) }
+    ensures value { ReadsToken result (token_at text.now) }
     ensures place { IfOk result (λ x. x.at ≡ at) }
-    ensures within { IfOk result (λ x. (1 ≤ length x.text.now) × (length x.text.now ≤ length text.now)) }
+    ensures within { IfOk result (λ x. (1 ≤ length x.text.now)
+        × (length x.text.now ≤ length text.now)) }
 {
     let first = text[0];
     if words::is_letter(first) {

@@ -46,7 +46,8 @@ pub fn word_len(text: &[u8]) -> usize
 pub fn digits_len(text: &[u8]) -> usize
     ensures value { result ≡ prefix_len is_ascii_digit text.now }
     ensures within { result ≤ length text.now }
-    ensures some { is_ascii_digit (slice_index text.now 0) ≡ true → 0 < length text.now → 0 < result }
+    ensures some { is_ascii_digit (slice_index text.now 0) ≡ true → 0 < length text.now
+        → 0 < result }
 {
     let mut len = 0;
     while len < text.len() && text[len].is_ascii_digit() {
@@ -89,7 +90,8 @@ pub fn closing_len(text: &[u8]) -> Option<usize>
 /// The symbol that two bytes begin with.
 pub fn symbol(first: u8, second: u8) -> Option<TokenKind>
     ensures value { result ≡ symbol first second }
-    ensures len { IfSome result (λ kind. (1 ≤ length (spelling kind)) × (length (spelling kind) ≤ (if second == 0 then 1 else 2))) }
+    ensures len { IfSome result (λ kind. (1 ≤ length (spelling kind))
+        × (length (spelling kind) ≤ (if second == 0 then 1 else 2))) }
 {
     match first {
         b'(' => Some(TokenKind::LeftParen),

@@ -1,5 +1,5 @@
 pub mod ListLaws
-pub mod PlaceLaws
+pub mod PositionLaws
 pub mod StandingLaws
 pub mod ReadyLaws
 pub mod SetLaws

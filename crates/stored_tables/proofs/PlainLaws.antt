@@ -2,24 +2,24 @@
 use Rattle.std.proofs.Common.{◌≡◌, List, [], ◌∷◌, map, refl, sym, subst}
 use Rattle.vo_spec.specs.declared.tables.Table.{Table}
 use Rattle.vo_spec.specs.Records.{FitsCatalog}
-use Rattle.vo_spec.specs.Honest.{Stored, StandForTables, StandsForTable, catalog_of}
+use Rattle.vo_spec.specs.Honest.{Stored, RepresentTables, RepresentsTable, catalog_of}
 use Rattle.vo_laws.proofs.CommandLaws.{FitTables}
 use Rattle.vo_laws.proofs.StoredFits.{catalog_fits}
 use Rattle.mb_tree.proofs.RowLaws.{rows_in_leaf}
 use Rattle.stored_tables.specs.Standing.{IsStanding}
 use Rattle.stored_tables.specs.Plain.{plain_table}
 
-one_plain : (s : Stored) (t : Table) → StandsForTable s t → plain_table s ≡ t
+one_plain : (s : Stored) (t : Table) → RepresentsTable s t → plain_table s ≡ t
 one_plain s t z = rw (z.name, z.schema, z.stands.rows_are, rows_in_leaf t.rows) refl
 
-all_plain : (stored : List Stored) (tables : List Table) → StandForTables stored tables → map plain_table stored ≡ tables
+all_plain : (stored : List Stored) (tables : List Table) → RepresentTables stored tables → map plain_table stored ≡ tables
 all_plain [] [] zs = refl
 all_plain [] (t ∷ tables) zs = absurd zs
 all_plain (s ∷ stored) [] zs = absurd zs
 all_plain (s ∷ stored) (t ∷ tables) zs = rw (one_plain s t zs.0, all_plain stored tables zs.1) refl
 
-pub plain_stand : (stored : List Stored) → IsStanding stored → StandForTables stored (map plain_table stored)
-plain_stand stored s = subst (StandForTables stored) (sym (all_plain stored s.tables s.stand)) s.stand
+pub plain_stand : (stored : List Stored) → IsStanding stored → RepresentTables stored (map plain_table stored)
+plain_stand stored s = subst (RepresentTables stored) (sym (all_plain stored s.tables s.stand)) s.stand
 
 pub plain_fit : (stored : List Stored) → IsStanding stored → FitTables (map plain_table stored)
 plain_fit stored s = subst FitTables (sym (all_plain stored s.tables s.stand)) s.fit

@@ -1,4 +1,4 @@
--- A command on rows that no heading refuses finds its table, and the table's tree can take the change.
+-- A command on rows that no table header refuses finds its table, and the table's tree can take the change.
 use Rattle.std.proofs.Common.{◌≡◌, ℕ, ◌-◌, ◌^◌, ◌<◌, ◌≤◌, true, List, Some, None, length, map, sym, ap, ◌∙◌, subst, arith}
 use Rattle.std.specs.Option.{option_map_or}
 use Rattle.std.specs.List.{AllByRecursion}
@@ -13,25 +13,25 @@ use Rattle.vo_spec.specs.Cells.{whole_entry}
 use Rattle.vo_spec.specs.Parts.{entries}
 use Rattle.vo_spec.specs.Fits.{FitsRow}
 use Rattle.vo_spec.specs.Batches.{FitsCommand}
-use Rattle.vo_spec.specs.Tables.{Heading, Tests, heading_of, on_table, insert_tests, update_tests, delete_tests, refusal, row_of}
-use Rattle.vo_spec.specs.Honest.{Stored, stored_heading}
+use Rattle.vo_spec.specs.Tables.{TableHeader, Tests, table_header_of, on_table, insert_tests, update_tests, delete_tests, refusal, row_of}
+use Rattle.vo_spec.specs.Honest.{Stored, stored_table_header}
 use Rattle.vo_laws.proofs.CommandLaws.{insertable, row_fits}
-use Rattle.vo_laws.proofs.StandingLaws.{stored_headings}
-use Rattle.table_list.specs.Headings.{command_name}
+use Rattle.vo_laws.proofs.StandingLaws.{stored_table_headers}
+use Rattle.table_list.specs.TableHeaders.{command_name}
 use Rattle.stored_tables.specs.Standing.{IsStanding}
 use Rattle.stored_tables.specs.Placing.{IsUnlike, IsAt}
 use Rattle.stored_tables.specs.Ready.{changes_rows, IsReady}
-use Rattle.stored_tables.proofs.PlaceLaws.{heading_nowhere}
+use Rattle.stored_tables.proofs.PositionLaws.{table_header_nowhere}
 use Rattle.stored_tables.proofs.StandingLaws.{plain_at}
 
-tests_nowhere : (name : List ℕ) (tests : Heading → Tests) (stored : List Stored) → AllByRecursion (IsUnlike name) stored
-    → on_table name (map stored_heading stored) tests ≡ None → ⊥
+tests_nowhere : (name : List ℕ) (tests : TableHeader → Tests) (stored : List Stored) → AllByRecursion (IsUnlike name) stored
+    → on_table name (map stored_table_header stored) tests ≡ None → ⊥
 tests_nowhere name tests stored unlike e =
-    let f : Some NoTable ≡ None = ap (λ found. option_map_or (λ h. first_of (tests h)) found (Some NoTable)) (sym (heading_nowhere name stored unlike)) ∙ e in
+    let f : Some NoTable ≡ None = ap (λ found. option_map_or (λ h. first_of (tests h)) found (Some NoTable)) (sym (table_header_nowhere name stored unlike)) ∙ e in
     absurd (cc)
 
 pub rows_nowhere : (c : Command) (stored : List Stored) → changes_rows c ≡ true → AllByRecursion (IsUnlike (command_name c)) stored
-    → refusal c (map stored_heading stored) ≡ None → ⊥
+    → refusal c (map stored_table_header stored) ≡ None → ⊥
 rows_nowhere (Create name columns key) stored rows unlike e = absurd (cc)
 rows_nowhere (Drop name) stored rows unlike e = absurd (cc)
 rows_nowhere (Insert name values) stored rows unlike e = tests_nowhere name (insert_tests values) stored unlike e
@@ -39,12 +39,12 @@ rows_nowhere (Update name sets column value) stored rows unlike e = tests_nowher
 rows_nowhere (Delete name column value) stored rows unlike e = tests_nowhere name (delete_tests column value) stored unlike e
 
 insert_ready : (name : List ℕ) (values : List Value) (stored : List Stored) (at : ℕ) (s : Stored) → IsStanding stored → FitsCommand (Insert name values)
-    → refusal (Insert name values) (map stored_heading stored) ≡ None → IsAt name stored at s → IsReady (Insert name values) s
+    → refusal (Insert name values) (map stored_table_header stored) ≡ None → IsAt name stored at s → IsReady (Insert name values) s
 unfolding FitsCommand
 insert_ready name values stored at s standing fits e is =
     let plain = plain_at name stored at s standing is in
-    let allowed : refusal (Insert name values) (map heading_of standing.tables) ≡ None =
-    ap (refusal (Insert name values)) (sym (stored_headings stored standing.tables standing.stand)) ∙ e in
+    let allowed : refusal (Insert name values) (map table_header_of standing.tables) ≡ None =
+    ap (refusal (Insert name values)) (sym (stored_table_headers stored standing.tables standing.stand)) ∙ e in
     let insertion = insertable name values standing.tables allowed plain.table plain.found in
     let row : FitsRow (row_of plain.table.schema values) = row_fits plain.table values plain.fits.schema fits.1 insertion in
     let same : length (entries s.tree) ≡ length plain.table.rows = ap length plain.stands.stands.rows_are ∙ length-map plain.table.rows whole_entry in
@@ -57,7 +57,7 @@ few_columns name stored at s standing is =
     subst (λ (z : Schema). length z.columns ≤ 32) (sym plain.stands.schema) plain.fits.schema.columns.1
 
 pub ready : (c : Command) (stored : List Stored) (at : ℕ) (s : Stored) → changes_rows c ≡ true → IsStanding stored → FitsCommand c
-    → refusal c (map stored_heading stored) ≡ None → IsAt (command_name c) stored at s → IsReady c s
+    → refusal c (map stored_table_header stored) ≡ None → IsAt (command_name c) stored at s → IsReady c s
 unfolding FitsCommand
 ready (Create name columns key) stored at s rows standing fits e is = absurd (cc)
 ready (Drop name) stored at s rows standing fits e is = absurd (cc)

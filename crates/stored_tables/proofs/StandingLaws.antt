@@ -7,11 +7,11 @@ use Rattle.vo_spec.specs.declared.tables.Command.{Command}
 use Rattle.vo_spec.specs.declared.tables.CommandFault.{CommandFault}
 use Rattle.vo_spec.specs.Batches.{FitsCommand}
 use Rattle.vo_spec.specs.Tables.{table_named, apply}
-use Rattle.vo_spec.specs.Honest.{Stored, StandsForTable, StandForTables, work}
+use Rattle.vo_spec.specs.Honest.{Stored, RepresentsTable, RepresentTables, work}
 use Rattle.vo_laws.proofs.CommandLaws.{FitsTable}
 use Rattle.vo_laws.proofs.StandingLaws.{InStep, FitAfter, command_in_step}
 use Rattle.vo_laws.proofs.StoredFits.{SeparatedAfter, work_separated}
-use Rattle.table_list.specs.Changes.{Gives}
+use Rattle.table_list.specs.Changes.{Returns}
 use Rattle.table_list.specs.declared.fault.ApplyFault.{ApplyFault}
 use Rattle.stored_tables.specs.Standing.{IsStanding}
 use Rattle.stored_tables.specs.Placing.{is_named, IsUnlike, IsAt}
@@ -35,11 +35,11 @@ kept_standing c stored new fits s e =
 pub record StandsAt (name : List ℕ) (s : Stored) (tables : List Table) : Type 0 where
   pub table : Table
   pub found : table_named name tables ≡ Some table
-  pub stands : StandsForTable s table
+  pub stands : RepresentsTable s table
   pub fits : FitsTable table
 
 standing_among : (name : List ℕ) (before : List Stored) (s : Stored) (after : List Stored) (tables : List Table) → AllByRecursion (IsUnlike name) before → is_named name s ≡ true
-    → StandForTables (before ++ s ∷ after) tables → AllByRecursion FitsTable tables → StandsAt name s tables
+    → RepresentTables (before ++ s ∷ after) tables → AllByRecursion FitsTable tables → StandsAt name s tables
 standing_among name [] s after [] unlike named zs fits = absurd zs
 standing_among name [] s after (t ∷ tables) unlike named zs fits = record {
   table = t;
@@ -60,10 +60,10 @@ standing_among name (b ∷ before) s after (t ∷ tables) unlike named zs fits =
 pub plain_at : (name : List ℕ) (stored : List Stored) (at : ℕ) (s : Stored) (standing : IsStanding stored) → IsAt name stored at s → StandsAt name s standing.tables
 plain_at name stored at s standing is =
     standing_among name (take at stored) s (drop (at + 1) stored) standing.tables is.before is.named
-    (subst (λ ss. StandForTables ss standing.tables) (parted_at stored at s is.there) standing.stand) standing.fit.each
+    (subst (λ ss. RepresentTables ss standing.tables) (parted_at stored at s is.there) standing.stand) standing.fit.each
 
 -- what a call gives of a command goes on to stand
 pub gives_standing : {X : Type 0} (view : X → List Stored) (c : Command) (stored : List Stored) (r : Result X ApplyFault) → FitsCommand c
-    → IsStanding stored → Gives view r (work c stored) → IfOk r (λ x. IsStanding (view x))
+    → IsStanding stored → Returns view r (work c stored) → IfOk r (λ x. IsStanding (view x))
 gives_standing view c stored (Ok x) fits s gives = kept_standing c stored (view x) fits s gives
 gives_standing view c stored (Err fault) fits s gives = tt

@@ -8,7 +8,7 @@ use Rattle.vo_spec.specs.declared.tables.CommandFault.{CommandFault}
 use Rattle.vo_spec.specs.Firsts.{and_then, unless}
 use Rattle.vo_spec.specs.Batches.{FitsCommand}
 use Rattle.vo_spec.specs.Tables.{refusal, apply, apply_from, numbered}
-use Rattle.vo_spec.specs.Honest.{Stored, StandForTables, stored_heading, changed_trees, work, work_all}
+use Rattle.vo_spec.specs.Honest.{Stored, RepresentTables, stored_table_header, changed_trees, work, work_all}
 use Rattle.vo_laws.proofs.CommandLaws.{FitTables}
 use Rattle.vo_laws.proofs.StandingLaws.{InStep, FitAfter, command_in_step}
 use Rattle.table_list.specs.Batched.{BatchGives}
@@ -19,11 +19,11 @@ use Rattle.stored_tables.specs.Plain.{GivesPlain}
 
 -- One command.
 
-pub work_allowed : (c : Command) (stored : List Stored) → refusal c (map stored_heading stored) ≡ None → work c stored ≡ changed_trees c stored
+pub work_allowed : (c : Command) (stored : List Stored) → refusal c (map stored_table_header stored) ≡ None → work c stored ≡ changed_trees c stored
 unfolding work
 work_allowed c stored e = ap (λ r. and_then (changed_trees c) (unless r stored)) e
 
-pub work_refused : (c : Command) (stored : List Stored) (why : CommandFault) → refusal c (map stored_heading stored) ≡ Some why → work c stored ≡ Err why
+pub work_refused : (c : Command) (stored : List Stored) (why : CommandFault) → refusal c (map stored_table_header stored) ≡ Some why → work c stored ≡ Err why
 unfolding work
 work_refused c stored why e = ap (λ r. and_then (changed_trees c) (unless r stored)) e
 
@@ -40,13 +40,13 @@ all_from index (c ∷ cs) stored new e = from_step index cs (work c stored) new 
 
 -- Both go on in step, or both refuse the same command for one reason.
 abbrev InStepAt : Result (List Stored) (ℕ × CommandFault) → Result (List Table) (ℕ × CommandFault) → Type 0
-InStepAt (Ok stored) (Ok tables) = StandForTables stored tables × FitTables tables
+InStepAt (Ok stored) (Ok tables) = RepresentTables stored tables × FitTables tables
 InStepAt (Ok stored) (Err fault) = ⊥
 InStepAt (Err fault) (Ok tables) = ⊥
 InStepAt (Err fault) (Err other) = other ≡ fault
 
 next_at : (index : ℕ) (cs : List Command) (r : Result (List Stored) CommandFault) (s : Result (List Table) CommandFault) → InStep r s → FitAfter s
-    → ((stored : List Stored) (tables : List Table) → StandForTables stored tables → FitTables tables → InStepAt (work_from (index + 1) cs stored) (apply_from (index + 1) cs tables))
+    → ((stored : List Stored) (tables : List Table) → RepresentTables stored tables → FitTables tables → InStepAt (work_from (index + 1) cs stored) (apply_from (index + 1) cs tables))
     → InStepAt (and_then (work_from (index + 1) cs) (numbered_work index r)) (and_then (apply_from (index + 1) cs) (numbered index s))
 next_at index cs (Ok stored) (Ok tables) i good next = next stored tables i good
 next_at index cs (Ok stored) (Err fault) i good next = absurd i
@@ -54,7 +54,7 @@ next_at index cs (Err fault) (Ok tables) i good next = absurd i
 next_at index cs (Err fault) (Err other) i good next = ap (λ f. (index, f)) (sym i)
 
 in_step_from : (index : ℕ) (cs : List Command) (stored : List Stored) (tables : List Table) → AllByRecursion FitsCommand cs
-    → StandForTables stored tables → FitTables tables → InStepAt (work_from index cs stored) (apply_from index cs tables)
+    → RepresentTables stored tables → FitTables tables → InStepAt (work_from index cs stored) (apply_from index cs tables)
 in_step_from index [] stored tables fits zs good = (zs, good)
 in_step_from index (c ∷ cs) stored tables fits zs good =
     let i = command_in_step c stored tables fits.0 zs good in
@@ -63,7 +63,7 @@ in_step_from index (c ∷ cs) stored tables fits zs good =
 -- what a call gives on trees says what is so of the plain tables
 gives_both : {X : Type 0} (view : X → List Stored) (r : Result X BatchFault) (w : Result (List Stored) (ℕ × CommandFault)) (a : Result (List Table) (ℕ × CommandFault))
     → BatchGives view r w → InStepAt w a → GivesPlain view r a
-gives_both view (Ok x) (Ok after) (Ok others) g i = let same : after ≡ view x = cc in subst (λ ss. StandForTables ss others × FitTables others) same i
+gives_both view (Ok x) (Ok after) (Ok others) g i = let same : after ≡ view x = cc in subst (λ ss. RepresentTables ss others × FitTables others) same i
 gives_both view (Ok x) (Ok after) (Err other) g i = absurd i
 gives_both view (Ok x) (Err told) a g i = absurd (cc)
 gives_both view (Err fault.Memory) w a g i = tt
@@ -72,7 +72,7 @@ gives_both view (Err (fault.Command index why)) (Err told) (Ok others) g i = abs
 gives_both view (Err (fault.Command index why)) (Err told) (Err other) g i = let same : told ≡ (index, why) = cc in ap Err (i ∙ same)
 
 pub gives_plain : {X : Type 0} (view : X → List Stored) (cs : List Command) (stored : List Stored) (tables : List Table) (r : Result X BatchFault)
-    → AllByRecursion FitsCommand cs → BatchGives view r (work_from 0 cs stored) → StandForTables stored tables → FitTables tables → GivesPlain view r (apply_from 0 cs tables)
+    → AllByRecursion FitsCommand cs → BatchGives view r (work_from 0 cs stored) → RepresentTables stored tables → FitTables tables → GivesPlain view r (apply_from 0 cs tables)
 gives_plain view cs stored tables r fits gives zs good = gives_both view r (work_from 0 cs stored) (apply_from 0 cs tables) gives (in_step_from 0 cs stored tables fits zs good)
 
 pub gives_all : {X : Type 0} (view : X → List Stored) (cs : List Command) (stored : List Stored) (r : Result X BatchFault)

@@ -9,8 +9,10 @@ use Rattle.mb_tree.specs.Codes.{coded_tree}
 
 abbrev pub coded_stored : Coded Stored
 coded_stored =
-    code_by (List ℕ × (Schema × RowTree)) (coded× (coded_list coded_ℕ) (coded× schema.the_row.coded coded_tree))
-    (λ s. (s.name, (s.schema, s.tree))) (λ p. record { name = p.0; schema = p.1.0; tree = p.1.1 }) (λ _. refl)
+    code_by (List ℕ × (Schema × RowTree))
+    (coded× (coded_list coded_ℕ) (coded× schema.the_row.coded coded_tree))
+    (λ s. (s.name, (s.schema, s.tree))) (λ p. record { name = p.0; schema = p.1.0; tree = p.1.1 })
+    (λ _. refl)
 
 abbrev pub coded_tables : Coded (List Stored)
 coded_tables = coded_list coded_stored

@@ -2,7 +2,7 @@
 use Rattle.std.specs.Prelude.{◌≡◌, ℕ, ◌+◌, Bool, true, false, List, [], ◌∷◌, ◌++◌, take, drop, Option, Some, None, bytes_eq}
 use Rattle.std.specs.List.{AllByRecursion}
 use Rattle.vo_spec.specs.Honest.{Stored}
-use Rattle.stored_tables.specs.declared.placing.Place.{Place}
+use Rattle.stored_tables.specs.declared.placing.Position.{Position}
 use Rattle.stored_tables.specs.View.{lent_stored}
 
 abbrev pub is_named : List ℕ → Stored → Bool
@@ -22,6 +22,6 @@ pub record IsAt (name : List ℕ) (stored : List Stored) (at : ℕ) (s : Stored)
   pub before : AllByRecursion (IsUnlike name) (take at stored)
   pub named : is_named name s ≡ true
 
-abbrev pub IsFound : List ℕ → List Stored → Option Place → Type 0
+abbrev pub IsFound : List ℕ → List Stored → Option Position → Type 0
 IsFound name stored None = AllByRecursion (IsUnlike name) stored
 IsFound name stored (Some place) = IsAt name stored place.at (lent_stored place.table)

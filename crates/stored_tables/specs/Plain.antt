@@ -6,25 +6,31 @@ use Rattle.vo_spec.specs.declared.records.CatalogTable.{CatalogTable}
 use Rattle.vo_spec.specs.Parts.{entries}
 use Rattle.vo_spec.specs.Trees.{digest}
 use Rattle.vo_spec.specs.Standing.{rows_in}
-use Rattle.vo_spec.specs.Honest.{Stored, StandForTables}
+use Rattle.vo_spec.specs.Honest.{Stored, RepresentTables}
 use Rattle.vo_laws.proofs.CommandLaws.{FitTables}
 use Rattle.table_list.specs.declared.fault.BatchFault.{BatchFault}
 use Rattle.table_list.specs.declared.fault.BatchFault.TheVariants.{Command, Memory}
 
 -- the trees stand for what the commands make of the tables
-abbrev pub StandAfter : List Stored → Result (List Table) (ℕ × CommandFault) → Type 0
-StandAfter stored (Ok tables) = StandForTables stored tables × FitTables tables
-StandAfter stored (Err fault) = ⊥
+abbrev pub RepresentAfter : List Stored → Result (List Table) (ℕ × CommandFault) → Type 0
+RepresentAfter stored (Ok tables) = RepresentTables stored tables × FitTables tables
+RepresentAfter stored (Err fault) = ⊥
 
 -- and both are refused for one reason, unless memory ran out
-abbrev pub GivesPlain : {X : Type 0} → (X → List Stored) → Result X BatchFault → Result (List Table) (ℕ × CommandFault) → Type 0
-GivesPlain view (Ok x) answer = StandAfter (view x) answer
+abbrev pub GivesPlain : {X : Type 0} → (X → List Stored) → Result X BatchFault
+    → Result (List Table) (ℕ × CommandFault) → Type 0
+GivesPlain view (Ok x) answer = RepresentAfter (view x) answer
 GivesPlain view (Err Memory) answer = Unit {0}
 GivesPlain view (Err (Command index fault)) answer = answer ≡ Err (index, fault)
 
 -- a table as a catalog has it, and with the rows that its tree shows
 abbrev pub catalog_table : Stored → CatalogTable
-catalog_table s = record { name = s.name; schema = s.schema; rows = length (entries s.tree); root = digest s.tree }
+catalog_table s = record {
+  name = s.name;
+  schema = s.schema;
+  rows = length (entries s.tree);
+  root = digest s.tree;
+}
 
 abbrev pub plain_table : Stored → Table
 plain_table s = record { name = s.name; schema = s.schema; rows = rows_in s.tree }

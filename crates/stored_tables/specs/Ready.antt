@@ -18,7 +18,9 @@ changes_rows (Delete name column value) = true
 
 -- the row of an INSERT fits and has room, the values of an UPDATE fit, and its columns have numbers of a byte
 abbrev pub IsReady : Command → Stored → Type 0
-IsReady (Insert name values) s = FitsRow (row_of s.schema values) × (length (entries s.tree) < 2 ^ 32 - 1)
-IsReady (Update name sets column value) s = AllByRecursion FitsSet sets × (length s.schema.columns ≤ 32)
+IsReady (Insert name values) s = FitsRow (row_of s.schema values)
+    × (length (entries s.tree) < 2 ^ 32 - 1)
+IsReady (Update name sets column value) s = AllByRecursion FitsSet sets
+    × (length s.schema.columns ≤ 32)
 IsReady (Delete name column value) s = Unit {0}
 IsReady _ s = ⊥

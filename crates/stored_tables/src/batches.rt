@@ -3,7 +3,7 @@ ghost use Rattle.std.specs.Prelude.{◌≡◌, ◌≤◌, List, Ok, length, IfOk
 ghost use Rattle.std.specs.List.{AllByRecursion};
 ghost use Rattle.vo_spec.specs.Batches.{FitsCommand};
 ghost use Rattle.vo_spec.specs.declared.tables.Table.{Table as PlainTable};
-ghost use Rattle.vo_spec.specs.Honest.{StandForTables, work_all};
+ghost use Rattle.vo_spec.specs.Honest.{RepresentTables, work_all};
 ghost use Rattle.table_list.specs.Batched.{BatchGives};
 ghost use Rattle.stored_tables.specs.View.{stored_in};
 ghost use Rattle.stored_tables.specs.Standing.{IsStanding};
@@ -73,7 +73,7 @@ pub(crate) fn worked_batch(
     ensures standing { IfOk result (λ new. IsStanding (stored_in new.items)) }
     ensures done { IfOk result (λ new. work_all commands.now (stored_in tables.now)
         ≡ Ok (stored_in new.items)) }
-    ensures plain { (plain : List PlainTable) → StandForTables (stored_in tables.now) plain
+    ensures plain { (plain : List PlainTable) → RepresentTables (stored_in tables.now) plain
         → FitTables plain
         → GivesPlain (λ new. stored_in new.items) result (apply_plain commands.now plain) }
 {

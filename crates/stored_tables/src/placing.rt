@@ -12,7 +12,7 @@ use std::rc::Rc;
 
 /// A table and how many stand before it.
 #[derive(Clone, Copy)]
-pub(crate) struct Place<'t> {
+pub(crate) struct Position<'t> {
     pub(crate) at: usize,
     pub(crate) table: &'t StoredTable,
 }
@@ -31,13 +31,13 @@ fn has_name(table: &StoredTable, name: &[u8]) -> bool
 }
 
 /// Where the table of this name is.
-pub(crate) fn place_of<'t>(tables: &'t [Rc<StoredTable>], name: &[u8]) -> Option<Place<'t>>
+pub(crate) fn place_of<'t>(tables: &'t [Rc<StoredTable>], name: &[u8]) -> Option<Position<'t>>
     ensures { IsFound name.now (stored_in tables.now) result }
 {
     for at in 0..tables.len() {
         let table = table_at(tables, at);
         if has_name(table, name) {
-            return Some(Place { at, table });
+            return Some(Position { at, table });
         }
     }
     None

@@ -13,7 +13,7 @@ ghost use Rattle.vo_spec.specs.Parts.{entries};
 ghost use Rattle.vo_spec.specs.Honest.{row_refusal};
 ghost use Rattle.mb_update.specs.Changing.{ChangesTo};
 ghost use Rattle.mb_update.specs.Sets.{change_of};
-ghost use Rattle.table_list.specs.Changes.{Gives};
+ghost use Rattle.table_list.specs.Changes.{Returns};
 ghost use Rattle.stored_tables.specs.View.{stored_of};
 ghost use Rattle.stored_tables.specs.Working.{table_after, with_new_tree};
 ghost use Rattle.stored_tables.specs.Ready.{IsReady};
@@ -40,7 +40,7 @@ fn with_tree(
     change: Result<Tree, UpdateFault>,
 ) -> Result<StoredTable, ApplyFault>
     ensures { (after : Result RowTree TreeFault) → ChangesTo (λ tree. tree) change after
-        → Gives stored_of result (result_map_both
+        → Returns stored_of result (result_map_both
         (with_new_tree (stored_of table.now)) row_refusal after) }
 {
     match change {
@@ -60,7 +60,7 @@ fn with_tree(
 fn with_row(alloc: Global, table: &StoredTable, values: &[Value]) -> Result<StoredTable, ApplyFault>
     requires fits { FitsRow (row_from table.now.schema values.now) }
     requires room { length (entries table.now.tree) < 2 ^ 32 - 1 }
-    ensures { Gives stored_of result (table_after (Insert [] values.now) (stored_of table.now)) }
+    ensures { Returns stored_of result (table_after (Insert [] values.now) (stored_of table.now)) }
 {
     let row = row_of(alloc, &table.schema, values)?;
     let change = insert_row(alloc, &table.tree, row);
@@ -91,7 +91,7 @@ fn with_cells(
 ) -> Result<StoredTable, ApplyFault>
     requires fits { AllByRecursion FitsSet sets.now }
     requires columns { length table.now.schema.columns ≤ 32 }
-    ensures { Gives stored_of result
+    ensures { Returns stored_of result
         (table_after (Update [] sets.now [] value.now) (stored_of table.now)) }
 {
     let cells = set_cells(alloc, &table.schema, sets)?;
@@ -101,7 +101,8 @@ fn with_cells(
 }
 
 fn without_row(alloc: Global, table: &StoredTable, value: &Value) -> Result<StoredTable, ApplyFault>
-    ensures { Gives stored_of result (table_after (Delete [] [] value.now) (stored_of table.now)) }
+    ensures { Returns stored_of result
+        (table_after (Delete [] [] value.now) (stored_of table.now)) }
 {
     let key = key_of(alloc, value)?;
     let change = table.tree.remove(alloc, &key);
@@ -115,7 +116,7 @@ pub(crate) fn changed_table(
     command: &Command,
 ) -> Result<StoredTable, ApplyFault>
     requires { IsReady command.now (stored_of table.now) }
-    ensures { Gives stored_of result (table_after command.now (stored_of table.now)) }
+    ensures { Returns stored_of result (table_after command.now (stored_of table.now)) }
 {
     match command {
         Command::Create { .. } | Command::Drop { .. } => unreachable!(),

@@ -1,11 +1,11 @@
 //! A table as its tree.
 ghost use Rattle.std.specs.Prelude.{◌≡◌};
-ghost use Rattle.vo_spec.specs.Honest.{stored_heading};
-ghost use Rattle.table_list.specs.Headings.{heading_seen};
+ghost use Rattle.vo_spec.specs.Honest.{stored_table_header};
+ghost use Rattle.table_list.specs.TableHeaders.{table_header_seen};
 ghost use Rattle.stored_tables.specs.View.{stored_of};
 
 use mb_tree::Tree;
-use table_list::HeadingRef;
+use table_list::TableHeaderRef;
 use vo_spec::{Name, Schema};
 
 /// A table of rows, which its tree has.
@@ -17,10 +17,10 @@ pub struct StoredTable {
 }
 
 impl StoredTable {
-    pub(crate) fn heading(&self) -> HeadingRef<'_>
-        ensures { heading_seen result ≡ stored_heading (stored_of self.now) }
+    pub(crate) fn table_header(&self) -> TableHeaderRef<'_>
+        ensures { table_header_seen result ≡ stored_table_header (stored_of self.now) }
     {
-        HeadingRef {
+        TableHeaderRef {
             name: self.name.as_bytes(),
             schema: &self.schema,
             count: self.tree.row_count(),

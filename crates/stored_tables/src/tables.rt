@@ -5,9 +5,9 @@ ghost use Rattle.vo_spec.specs.Tables.{apply_batch as apply_plain, refusal};
 ghost use Rattle.vo_spec.specs.Batches.{FitsBatch, FitsCommand};
 ghost use Rattle.vo_spec.specs.Fits.{FitsTree};
 ghost use Rattle.vo_spec.specs.Records.{FitsCatalog};
-ghost use Rattle.vo_spec.specs.Honest.{StandForTables, stored_heading, work, work_all, command_proof, catalog_of};
+ghost use Rattle.vo_spec.specs.Honest.{RepresentTables, stored_table_header, work, work_all, command_proof, catalog_of};
 ghost use Rattle.vo_laws.proofs.CommandLaws.{FitTables};
-ghost use Rattle.table_list.specs.Changes.{Gives};
+ghost use Rattle.table_list.specs.Changes.{Returns};
 ghost use Rattle.table_list.specs.Batched.{BatchGives};
 ghost use Rattle.stored_tables.specs.View.{lent_stored, proof_list, stored_in};
 ghost use Rattle.stored_tables.specs.Standing.{IsStanding};
@@ -82,7 +82,7 @@ impl StoredTables {
 
     /// Why a command is refused without a look at the rows.
     pub fn refusal(&self, command: &Command) -> Option<CommandFault>
-        ensures { result ≡ refusal command.now (map stored_heading self.now) }
+        ensures { result ≡ refusal command.now (map stored_table_header self.now) }
     {
         fault_of(self.tables.as_slice(), command)
     }
@@ -103,7 +103,7 @@ impl StoredTables {
     /// The tables after a command.
     pub fn apply(&self, alloc: Global, command: &Command) -> Result<StoredTables, ApplyFault>
         requires fits { FitsCommand command.now }
-        ensures { Gives (λ new. new) result (work command.now self.now) }
+        ensures { Returns (λ new. new) result (work command.now self.now) }
     {
         let tables = worked(alloc, self.tables.as_slice(), command)?;
         Ok(StoredTables { tables })
@@ -117,7 +117,7 @@ impl StoredTables {
             (work_from 0 batch.now.commands self.old) }
         ensures done { OnOk result (work_all batch.now.commands self.old ≡ Ok self.new) }
         ensures left { OnErr result (self.new ≡ self.old) }
-        ensures plain { (tables : List Table) → StandForTables self.old tables → FitTables tables
+        ensures plain { (tables : List Table) → RepresentTables self.old tables → FitTables tables
             → GivesPlain (λ _. self.new) result (apply_plain batch.now.commands tables) }
     {
         match worked_batch(alloc, self.tables.as_slice(), batch.commands.as_slice()) {
@@ -141,7 +141,7 @@ impl StoredTables {
 
     /// The plain tables for which the trees stand.
     pub fn tables(&self, alloc: Global) -> Result<List<Table>, AllocError>
-        ensures stand { IfOk result (λ tables. StandForTables self.now tables) }
+        ensures stand { IfOk result (λ tables. RepresentTables self.now tables) }
         ensures fit { IfOk result (λ tables. FitTables tables) }
     {
         Ok(List::from_vec(plain_tables(alloc, self.tables.as_slice())?))

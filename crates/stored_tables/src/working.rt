@@ -3,8 +3,8 @@ ghost use Rattle.std.specs.Prelude.{◌≡◌, ◌≤◌, IsTrue, None, length, 
 ghost use Rattle.vo_spec.specs.declared.tables.Command.TheVariants.{Create};
 ghost use Rattle.vo_spec.specs.Tables.{refusal};
 ghost use Rattle.vo_spec.specs.Batches.{FitsCommand};
-ghost use Rattle.vo_spec.specs.Honest.{changed_trees, stored_heading, work};
-ghost use Rattle.table_list.specs.Changes.{Gives};
+ghost use Rattle.vo_spec.specs.Honest.{changed_trees, stored_table_header, work};
+ghost use Rattle.table_list.specs.Changes.{Returns};
 ghost use Rattle.stored_tables.specs.View.{stored_in};
 ghost use Rattle.stored_tables.specs.Standing.{IsStanding};
 ghost use Rattle.stored_tables.specs.Ready.{changes_rows};
@@ -27,7 +27,7 @@ fn created(
     key: &Name,
 ) -> Result<Vec<Rc<StoredTable>>, ApplyFault>
     requires { length columns.now ≤ 32 }
-    ensures { Gives (λ new. stored_in new.items) result
+    ensures { Returns (λ new. stored_in new.items) result
         (changed_trees (Create name.now columns.now key.now) (stored_in tables.now)) }
 {
     let table = new_table(alloc, name, columns, key)?;
@@ -43,8 +43,8 @@ fn changed_rows(
     requires standing { IsStanding (stored_in tables.now) }
     requires fits { FitsCommand command.now }
     requires rows { IsTrue (changes_rows command.now) }
-    requires allowed { refusal command.now (map stored_heading (stored_in tables.now)) ≡ None }
-    ensures { Gives (λ new. stored_in new.items) result
+    requires allowed { refusal command.now (map stored_table_header (stored_in tables.now)) ≡ None }
+    ensures { Returns (λ new. stored_in new.items) result
         (changed_trees command.now (stored_in tables.now)) }
 {
     match place_of(tables, command_name(command)) {
@@ -65,8 +65,8 @@ fn changed(
 ) -> Result<Vec<Rc<StoredTable>>, ApplyFault>
     requires standing { IsStanding (stored_in tables.now) }
     requires fits { FitsCommand command.now }
-    requires allowed { refusal command.now (map stored_heading (stored_in tables.now)) ≡ None }
-    ensures { Gives (λ new. stored_in new.items) result
+    requires allowed { refusal command.now (map stored_table_header (stored_in tables.now)) ≡ None }
+    ensures { Returns (λ new. stored_in new.items) result
         (changed_trees command.now (stored_in tables.now)) }
 {
     match command {
@@ -89,7 +89,7 @@ pub(crate) fn worked(
 ) -> Result<Vec<Rc<StoredTable>>, ApplyFault>
     requires standing { IsStanding (stored_in tables.now) }
     requires fits { FitsCommand command.now }
-    ensures answer { Gives (λ new. stored_in new.items) result
+    ensures answer { Returns (λ new. stored_in new.items) result
         (work command.now (stored_in tables.now)) }
     ensures standing { IfOk result (λ new. IsStanding (stored_in new.items)) }
 {

@@ -8,23 +8,23 @@ use Rattle.vo_spec.specs.declared.tables.CommandFault.{CommandFault}
 use Rattle.vo_spec.specs.declared.tables.CommandFault.TheVariants.{NoTable, DuplicateKey, NoRow}
 use Rattle.vo_spec.specs.Firsts.{first_of, unless, and_then}
 use Rattle.vo_spec.specs.Values.{key_of}
-use Rattle.vo_spec.specs.Tables.{Tests, Heading, heading_of, heading_named, table_named, on_table, insert_tests, update_tests, delete_tests, refusal, changed, apply, row_of, has_row}
-use Rattle.table_list.specs.Headings.{command_name}
+use Rattle.vo_spec.specs.Tables.{Tests, TableHeader, table_header_of, table_header_named, table_named, on_table, insert_tests, update_tests, delete_tests, refusal, changed, apply, row_of, has_row}
+use Rattle.table_list.specs.TableHeaders.{command_name}
 use Rattle.table_list.specs.Changes.{row_fault, fault_by_rows, changed_tables}
-use Rattle.table_list.proofs.PlainLaws.{heading_by_name}
+use Rattle.table_list.proofs.PlainLaws.{table_header_by_name}
 
-pub refused : (command : Command) (tables : List Table) (fault : CommandFault) → refusal command (map heading_of tables) ≡ Some fault → apply command tables ≡ Err fault
+pub refused : (command : Command) (tables : List Table) (fault : CommandFault) → refusal command (map table_header_of tables) ≡ Some fault → apply command tables ≡ Err fault
 unfolding apply
 refused command tables fault e = ap (λ o. and_then (changed command) (unless o tables)) e
 
-goes_on : (command : Command) (tables : List Table) → refusal command (map heading_of tables) ≡ None → apply command tables ≡ changed command tables
+goes_on : (command : Command) (tables : List Table) → refusal command (map table_header_of tables) ≡ None → apply command tables ≡ changed command tables
 unfolding apply
 goes_on command tables e = ap (λ o. and_then (changed command) (unless o tables)) e
 
 -- no table of the name is there only where that refuses the command
-absent : (name : List ℕ) (tests : Heading → Tests) (tables : List Table) → table_named name tables ≡ None → on_table name (map heading_of tables) tests ≡ None → ⊥
+absent : (name : List ℕ) (tests : TableHeader → Tests) (tables : List Table) → table_named name tables ≡ None → on_table name (map table_header_of tables) tests ≡ None → ⊥
 absent name tests tables none e =
-    let o : heading_named name (map heading_of tables) ≡ None = rw (heading_by_name name tables) (rw none refl) in
+    let o : table_header_named name (map table_header_of tables) ≡ None = rw (table_header_by_name name tables) (rw none refl) in
     absurd (no_table (sym e ∙ ap (λ h. option_map_or (λ h. first_of (tests h)) h (Some NoTable)) o))
   where
     no_table : None ≡ Some NoTable → ⊥
@@ -52,7 +52,7 @@ no_row_test command tables done none = by (table_named (command_name command) ta
     by None = done
     by (Some t) = done ∙ ap (λ o. unless o (changed_tables command tables)) (sym (none t))
 
-change_is : (command : Command) (tables : List Table) → refusal command (map heading_of tables) ≡ None → changed command tables ≡ unless (fault_by_rows command tables) (changed_tables command tables)
+change_is : (command : Command) (tables : List Table) → refusal command (map table_header_of tables) ≡ None → changed command tables ≡ unless (fault_by_rows command tables) (changed_tables command tables)
 change_is (Create name columns key) tables passed = no_row_test (Create name columns key) tables refl (λ t. refl)
 change_is (Drop name) tables passed = no_row_test (Drop name) tables refl (λ t. refl)
 change_is (Insert name values) tables passed = step (table_named name tables) refl
@@ -86,10 +86,10 @@ change_is (Delete name column value) tables passed = step (table_named name tabl
     step None e = absurd (absent name (delete_tests column value) tables e passed)
     step (Some t) e = on_false (has_row (key_of value) t.rows) NoRow _ new refl
 
-pub refused_by_rows : (command : Command) (tables : List Table) (fault : CommandFault) → refusal command (map heading_of tables) ≡ None → fault_by_rows command tables ≡ Some fault → apply command tables ≡ Err fault
+pub refused_by_rows : (command : Command) (tables : List Table) (fault : CommandFault) → refusal command (map table_header_of tables) ≡ None → fault_by_rows command tables ≡ Some fault → apply command tables ≡ Err fault
 refused_by_rows command tables fault passed e = goes_on command tables passed ∙ change_is command tables passed ∙ ap (λ o. unless o (changed_tables command tables)) e
 
-pub accepted : (command : Command) (tables : List Table) → refusal command (map heading_of tables) ≡ None → fault_by_rows command tables ≡ None → apply command tables ≡ Ok (changed_tables command tables)
+pub accepted : (command : Command) (tables : List Table) → refusal command (map table_header_of tables) ≡ None → fault_by_rows command tables ≡ None → apply command tables ≡ Ok (changed_tables command tables)
 accepted command tables passed e = goes_on command tables passed ∙ change_is command tables passed ∙ ap (λ o. unless o (changed_tables command tables)) e
 
 -- What an answer that is tables came by.
@@ -103,11 +103,11 @@ ok_is a b answer e f = cc
 not_ok : (fault : CommandFault) (new : List Table) (answer : Answer) → answer ≡ Err fault → answer ≡ Ok new → ⊥
 not_ok fault new answer e f = absurd cc
 
-pub came_by : (command : Command) (tables new : List Table) → apply command tables ≡ Ok new → (refusal command (map heading_of tables) ≡ None) × (changed_tables command tables ≡ new)
-came_by command tables new e = by (refusal command (map heading_of tables)) refl (fault_by_rows command tables) refl
+pub came_by : (command : Command) (tables new : List Table) → apply command tables ≡ Ok new → (refusal command (map table_header_of tables) ≡ None) × (changed_tables command tables ≡ new)
+came_by command tables new e = by (refusal command (map table_header_of tables)) refl (fault_by_rows command tables) refl
   where
-    by : (o : Option CommandFault) → refusal command (map heading_of tables) ≡ o → (p : Option CommandFault) → fault_by_rows command tables ≡ p
-        → (refusal command (map heading_of tables) ≡ None) × (changed_tables command tables ≡ new)
+    by : (o : Option CommandFault) → refusal command (map table_header_of tables) ≡ o → (p : Option CommandFault) → fault_by_rows command tables ≡ p
+        → (refusal command (map table_header_of tables) ≡ None) × (changed_tables command tables ≡ new)
     by (Some fault) first p rows = absurd (not_ok fault new (apply command tables) (refused command tables fault first) e)
     by None passed (Some fault) rows = absurd (not_ok fault new (apply command tables) (refused_by_rows command tables fault passed rows) e)
     by None passed None rows = (passed, ok_is _ _ (apply command tables) (accepted command tables passed rows) e)

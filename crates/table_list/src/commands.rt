@@ -3,14 +3,14 @@ ghost use Rattle.std.specs.Prelude.{◌≡◌, ◌≤◌, map, not, filter, byte
 ghost use Rattle.std.specs.List.{position_or_len};
 ghost use Rattle.vo_spec.specs.Values.{key_lt};
 ghost use Rattle.vo_spec.specs.Batches.{FitsCommand};
-ghost use Rattle.vo_spec.specs.Tables.{apply, heading_of, refusal, put_table};
-ghost use Rattle.table_list.specs.Changes.{Gives, new_table, rows_after, table_after, changed_tables, row_fault, fault_by_rows};
-ghost use Rattle.table_list.specs.Headings.{command_name};
+ghost use Rattle.vo_spec.specs.Tables.{apply, table_header_of, refusal, put_table};
+ghost use Rattle.table_list.specs.Changes.{Returns, new_table, rows_after, table_after, changed_tables, row_fault, fault_by_rows};
+ghost use Rattle.table_list.specs.TableHeaders.{command_name};
 
 use crate::columns::{column_number, copy_columns};
 use crate::copies::{copy_rows, copy_schema, copy_table, copy_tables};
 use crate::fault::ApplyFault;
-use crate::named::{command_name, heading_of, table_named};
+use crate::named::{command_name, table_header_of, table_named};
 use crate::new_rows::{key_at, row_of};
 use crate::refusal::first_refusal;
 use crate::rows::{has_row, put_row, update_row, without_row};
@@ -20,10 +20,10 @@ use vo_spec::{Column, Command, CommandFault, List, Name, Row, Schema, Table};
 
 /// The refusal by the tables without their rows.
 fn refusal(tables: &[Table], command: &Command) -> Option<CommandFault>
-    ensures { result ≡ refusal command.now (map heading_of tables.now) }
+    ensures { result ≡ refusal command.now (map table_header_of tables.now) }
 {
     match table_named(tables, command_name(command)) {
-        Some(table) => first_refusal(command, Some(heading_of(table)), tables.len()),
+        Some(table) => first_refusal(command, Some(table_header_of(table)), tables.len()),
         None => first_refusal(command, None, tables.len()),
     }
 }
@@ -200,7 +200,7 @@ pub(crate) fn apply_command(
     command: &Command,
 ) -> Result<Vec<Table>, ApplyFault>
     requires { FitsCommand command.now }
-    ensures { Gives (λ new. new.items) result (apply command.now tables.now) }
+    ensures { Returns (λ new. new.items) result (apply command.now tables.now) }
 {
     if let Some(fault) = refusal(tables, command) {
         return Err(ApplyFault::Refused(fault));

@@ -21,5 +21,5 @@ pub use copies::copy_schema;
 pub use fault::{ApplyFault, BatchFault};
 pub use named::{command_name, table_named};
 pub use new_rows::{key_at, row_of};
-pub use refusal::{HeadingRef, first_refusal};
+pub use refusal::{TableHeaderRef, first_refusal};
 pub use tables::{Tables, apply, apply_batch};

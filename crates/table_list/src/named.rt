@@ -1,9 +1,9 @@
 //! Tables by their names.
 ghost use Rattle.std.specs.Prelude.{◌≡◌, option_map};
-ghost use Rattle.vo_spec.specs.Tables.{heading_of, table_named};
-ghost use Rattle.table_list.specs.Headings.{command_name, heading_seen};
+ghost use Rattle.vo_spec.specs.Tables.{table_header_of, table_named};
+ghost use Rattle.table_list.specs.TableHeaders.{command_name, table_header_seen};
 
-use crate::refusal::HeadingRef;
+use crate::refusal::TableHeaderRef;
 use vo_spec::{Command, Table};
 
 /// The first table of this name.
@@ -18,10 +18,10 @@ pub fn table_named<'t>(tables: &'t [Table], name: &[u8]) -> Option<&'t Table>
     None
 }
 
-pub(crate) fn heading_of(table: &Table) -> HeadingRef<'_>
-    ensures { heading_seen result ≡ heading_of table.now }
+pub(crate) fn table_header_of(table: &Table) -> TableHeaderRef<'_>
+    ensures { table_header_seen result ≡ table_header_of table.now }
 {
-    HeadingRef {
+    TableHeaderRef {
         name: table.name.as_bytes(),
         schema: &table.schema,
         count: table.rows.len() as u64,

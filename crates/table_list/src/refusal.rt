@@ -2,25 +2,18 @@
 ghost use Rattle.std.specs.Prelude.{◌≡◌, List, ℕ, length, option_map, is_some};
 ghost use Rattle.vo_spec.specs.Firsts.{first_of};
 ghost use Rattle.vo_spec.specs.Values.{key_of};
-ghost use Rattle.vo_spec.specs.Tables.{Heading, heading_named, create_tests, insert_tests, update_tests, delete_tests, refusal, value_at};
-ghost use Rattle.table_list.specs.Headings.{command_name, heading_seen};
+ghost use Rattle.vo_spec.specs.Tables.{TableHeader, table_header_named, create_tests, insert_tests, update_tests, delete_tests, refusal, value_at};
+ghost use Rattle.table_list.specs.TableHeaders.{command_name, table_header_seen};
 
 use crate::columns::{are_of_kinds, has_column, is_bad_schema, is_key, suits};
 use crate::sets::{all_suit, have_columns, sets_key, sets_twice};
-use vo_spec::{Column, Command, CommandFault, Name, Schema, SetPart, Value};
-
-/// How many tables there may be.
-const MOST_TABLES: usize = 64;
-
-/// How many rows a table may have.
-const MOST_ROWS: u64 = 4_294_967_295;
-
-/// How many bytes a stored key may have.
-const MOST_KEY: usize = 255;
+use vo_spec::{
+    Column, Command, CommandFault, MAX_KEY, MAX_ROWS, MAX_TABLES, Name, Schema, SetPart, Value,
+};
 
 /// A table without its rows, of which it has `count`.
 #[derive(Clone, Copy, Debug)]
-pub struct HeadingRef<'t> {
+pub struct TableHeaderRef<'t> {
     pub name: &'t [u8],
     pub schema: &'t Schema,
     pub count: u64,
@@ -32,14 +25,14 @@ pub(crate) fn create_fault(
     columns: &[Column],
     key: &[u8],
 ) -> Option<CommandFault>
-    ensures { (name : List ℕ) (headings : List Heading)
-        → is_some (heading_named name headings) ≡ exists → length headings ≡ tables
-        → result ≡ first_of (create_tests name columns.now key.now headings) }
+    ensures { (name : List ℕ) (table_headers : List TableHeader)
+        → is_some (table_header_named name table_headers) ≡ exists → length table_headers ≡ tables
+        → result ≡ first_of (create_tests name columns.now key.now table_headers) }
 {
     if exists {
         return Some(CommandFault::TableExists);
     }
-    if tables >= MOST_TABLES {
+    if tables >= MAX_TABLES {
         return Some(CommandFault::TooManyTables);
     }
     if is_bad_schema(columns, key) {
@@ -61,42 +54,45 @@ fn key_length(values: &[Value], number: usize) -> usize
     }
 }
 
-pub(crate) fn insert_fault(heading: HeadingRef<'_>, values: &[Value]) -> Option<CommandFault>
-    ensures { result ≡ first_of (insert_tests values.now (heading_seen heading.entry)) }
+pub(crate) fn insert_fault(
+    table_header: TableHeaderRef<'_>,
+    values: &[Value],
+) -> Option<CommandFault>
+    ensures { result ≡ first_of (insert_tests values.now (table_header_seen table_header.entry)) }
 {
-    let columns = heading.schema.columns.as_slice();
+    let columns = table_header.schema.columns.as_slice();
     if values.len() != columns.len() {
         return Some(CommandFault::Arity);
     }
     if !are_of_kinds(columns, values) {
         return Some(CommandFault::TypeMismatch);
     }
-    if key_length(values, heading.schema.key as usize) > MOST_KEY {
+    if key_length(values, table_header.schema.key as usize) > MAX_KEY {
         return Some(CommandFault::KeyTooLong);
     }
-    if heading.count >= MOST_ROWS {
+    if table_header.count >= MAX_ROWS {
         return Some(CommandFault::TableFull);
     }
     None
 }
 
 pub(crate) fn update_fault(
-    heading: HeadingRef<'_>,
+    table_header: TableHeaderRef<'_>,
     sets: &[SetPart],
     column: &[u8],
     value: &Value,
 ) -> Option<CommandFault>
     ensures { result ≡ first_of (update_tests sets.now column.now value.now
-        (heading_seen heading.entry)) }
+        (table_header_seen table_header.entry)) }
 {
-    let columns = heading.schema.columns.as_slice();
+    let columns = table_header.schema.columns.as_slice();
     if !(have_columns(columns, sets) && has_column(columns, column)) {
         return Some(CommandFault::NoColumn);
     }
-    if !is_key(heading.schema, column) {
+    if !is_key(table_header.schema, column) {
         return Some(CommandFault::NotKey);
     }
-    if sets_key(heading.schema, sets) || sets_twice(sets) {
+    if sets_key(table_header.schema, sets) || sets_twice(sets) {
         return Some(CommandFault::BadSet);
     }
     if !(all_suit(columns, sets) && suits(columns, column, value)) {
@@ -106,17 +102,18 @@ pub(crate) fn update_fault(
 }
 
 pub(crate) fn delete_fault(
-    heading: HeadingRef<'_>,
+    table_header: TableHeaderRef<'_>,
     column: &[u8],
     value: &Value,
 ) -> Option<CommandFault>
-    ensures { result ≡ first_of (delete_tests column.now value.now (heading_seen heading.entry)) }
+    ensures { result ≡ first_of (delete_tests column.now value.now
+        (table_header_seen table_header.entry)) }
 {
-    let columns = heading.schema.columns.as_slice();
+    let columns = table_header.schema.columns.as_slice();
     if !has_column(columns, column) {
         return Some(CommandFault::NoColumn);
     }
-    if !is_key(heading.schema, column) {
+    if !is_key(table_header.schema, column) {
         return Some(CommandFault::NotKey);
     }
     if !suits(columns, column, value) {
@@ -129,12 +126,13 @@ pub(crate) fn delete_fault(
 /// the command names, where it is there, and `tables` how many tables there are.
 pub fn first_refusal(
     command: &Command,
-    found: Option<HeadingRef<'_>>,
+    found: Option<TableHeaderRef<'_>>,
     tables: usize,
 ) -> Option<CommandFault>
-    ensures { (headings : List Heading)
-        → heading_named (command_name command.now) headings ≡ option_map heading_seen found.entry
-        → length headings ≡ tables → result ≡ refusal command.now headings }
+    ensures { (table_headers : List TableHeader)
+        → table_header_named (command_name command.now) table_headers
+        ≡ option_map table_header_seen found.entry
+        → length table_headers ≡ tables → result ≡ refusal command.now table_headers }
 {
     match (command, found) {
         (Command::Create { columns, key, .. }, found) => {
@@ -142,8 +140,8 @@ pub fn first_refusal(
         }
         (_, None) => Some(CommandFault::NoTable),
         (Command::Drop { .. }, Some(_)) => None,
-        (Command::Insert { values, .. }, Some(heading)) => {
-            insert_fault(heading, values.as_slice())
+        (Command::Insert { values, .. }, Some(table_header)) => {
+            insert_fault(table_header, values.as_slice())
         }
         (
             Command::Update {
@@ -152,10 +150,10 @@ pub fn first_refusal(
                 value,
                 ..
             },
-            Some(heading),
-        ) => update_fault(heading, sets.as_slice(), column.as_bytes(), value),
-        (Command::Delete { column, value, .. }, Some(heading)) => {
-            delete_fault(heading, column.as_bytes(), value)
+            Some(table_header),
+        ) => update_fault(table_header, sets.as_slice(), column.as_bytes(), value),
+        (Command::Delete { column, value, .. }, Some(table_header)) => {
+            delete_fault(table_header, column.as_bytes(), value)
         }
     }
 }

@@ -4,7 +4,7 @@ ghost use Rattle.std.specs.List.{AllByRecursion};
 ghost use Rattle.vo_spec.specs.Tables.{apply, apply_batch};
 ghost use Rattle.vo_spec.specs.Batches.{FitsCommand, FitsBatch};
 ghost use Rattle.table_list.specs.Batched.{BatchGives};
-ghost use Rattle.table_list.specs.Changes.{Gives};
+ghost use Rattle.table_list.specs.Changes.{Returns};
 
 use crate::commands::apply_command;
 use crate::copies::copy_tables;
@@ -49,7 +49,7 @@ impl Tables {
 /// Applies a command. A refused one leaves the tables, and so does want of memory.
 pub fn apply(alloc: Global, tables: &mut Tables, command: &Command) -> Result<(), ApplyFault>
     requires { FitsCommand command.now }
-    ensures answer { Gives (λ _. tables.new) result (apply command.now tables.old) }
+    ensures answer { Returns (λ _. tables.new) result (apply command.now tables.old) }
     ensures err { OnErr result (tables.new ≡ tables.old) }
 {
     let new = apply_command(alloc, tables.tables.as_slice(), command)?;

@@ -4,5 +4,5 @@ use Rattle.sha2.specs.Hashers.{Holds256}
 use Rattle.tagged_hash.specs.declared.hasher.Hasher.{Hasher}
 
 -- the pieces that were added are these bytes, joined
-unfoldable pub Holds : Hasher → List ℕ → Type 0
-Holds hasher bytes = Holds256 hasher.inner bytes
+unfoldable pub HoldsBytes : Hasher → List ℕ → Type 0
+HoldsBytes hasher bytes = Holds256 hasher.inner bytes

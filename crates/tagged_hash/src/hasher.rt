@@ -1,7 +1,7 @@
 //! A digest of pieces that come one after another.
 ghost use Rattle.std.specs.Prelude.{◌≡◌, ℕ, List, [], ◌++◌};
 ghost use Rattle.vo_spec.specs.Sha256.{sha256};
-ghost use Rattle.tagged_hash.specs.Holding.{Holds};
+ghost use Rattle.tagged_hash.specs.Holding.{HoldsBytes};
 
 use sha2::{Digest as _, Sha256};
 use vo_spec::Digest;
@@ -12,11 +12,11 @@ pub struct Hasher {
     inner: Sha256,
 }
 
-#[tactic(auto, unfolding(crate::specs::Holding::Holds))]
+#[tactic(auto, unfolding(crate::specs::Holding::HoldsBytes))]
 impl Hasher {
     /// A hasher of no bytes.
     pub fn new() -> Hasher
-        ensures { Holds result [] }
+        ensures { HoldsBytes result [] }
     {
         Hasher {
             inner: Sha256::new(),
@@ -25,14 +25,15 @@ impl Hasher {
 
     /// Adds a piece.
     pub fn add(&mut self, piece: &[u8])
-        ensures { (bytes : List ℕ) → Holds self.old bytes → Holds self.new (bytes ++ piece.now) }
+        ensures { (bytes : List ℕ) → HoldsBytes self.old bytes
+            → HoldsBytes self.new (bytes ++ piece.now) }
     {
         self.inner.update(piece);
     }
 
     /// The digest of all pieces.
     pub fn end(self) -> Digest
-        ensures { (bytes : List ℕ) → Holds self bytes → result ≡ sha256 bytes }
+        ensures { (bytes : List ℕ) → HoldsBytes self bytes → result ≡ sha256 bytes }
     {
         Digest::new(self.inner.finalize())
     }

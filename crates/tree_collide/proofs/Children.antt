@@ -11,7 +11,7 @@ use Rattle.vo_spec.specs.Cells.{whole_entry, EntryPrunes}
 use Rattle.mb_tree.specs.declared.branches.Node.{Node}
 use Rattle.mb_tree.specs.declared.branches.Node.TheVariants as node
 use Rattle.mb_tree.specs.Whole.{whole_of}
-use Rattle.tree_collide.specs.Agreeing.{Agrees, SameEntries, SameNodes, is_open}
+use Rattle.tree_collide.specs.Agreeing.{HoldsOrCollides, SameEntries, SameNodes, is_open}
 use Rattle.tree_collide.specs.Preimages.{OfStrings, ArePreimages, NodesIn}
 
 pub entry_count : (es : List PartEntry) (rows : List Row) → SameEntries es (map whole_entry rows) → length es ≡ length rows
@@ -65,11 +65,11 @@ module _ (i : ℕ) (ps : List PartTree) (ts : List RowTree) (p : PartTree) (t : 
 
   -- what is found of a child is found of all
   pub child_found : i < length ps → p ≡ get_or ps i p → i < length ts → t ≡ get_or ts i t → NodesLeft (parts_of (drop i ps)) (open_parts (drop i ts)) all Are → (found : Option (List ℕ × List ℕ))
-      → is_some found ≡ true → Agrees found (Prunes (part_of p) t) (ArePreimages (part_of p) t) → Agrees found all Are
+      → is_some found ≡ true → HoldsOrCollides found (Prunes (part_of p) t) (ArePreimages (part_of p) t) → HoldsOrCollides found all Are
   child_found lp p_is lt t_is l None some h = absurd (cc)
   child_found lp p_is lt t_is l (Some x) some h = (child_differs lp p_is lt t_is l h.0, h.1, child_strings lp p_is lt t_is l x.0 x.1 h.2)
 
   pub child_passed : i < length ps → p ≡ get_or ps i p → i < length ts → t ≡ get_or ts i t → NodesLeft (parts_of (drop i ps)) (open_parts (drop i ts)) all Are → (found : Option (List ℕ × List ℕ))
-      → is_some found ≡ false → Agrees found (Prunes (part_of p) t) (ArePreimages (part_of p) t) → NodesLeft (parts_of (drop (i + 1) ps)) (open_parts (drop (i + 1) ts)) all Are
+      → is_some found ≡ false → HoldsOrCollides found (Prunes (part_of p) t) (ArePreimages (part_of p) t) → NodesLeft (parts_of (drop (i + 1) ps)) (open_parts (drop (i + 1) ts)) all Are
   child_passed lp p_is lt t_is l None none h = child_agrees lp p_is lt t_is l h
   child_passed lp p_is lt t_is l (Some x) none h = absurd (cc)

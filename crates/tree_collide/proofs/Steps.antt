@@ -10,7 +10,7 @@ use Rattle.vo_spec.specs.declared.cells.Cell.TheVariants.{Shown}
 use Rattle.vo_spec.specs.Values.{FitsValue}
 use Rattle.vo_spec.specs.Cells.{cell_digest, row_digest, whole_cells, whole_row, whole_entry, CellPrunes, CellsPrune, RowPrunes, EntryPrunes}
 use Rattle.vo_spec.specs.Fits.{FitsCell, FitsCells}
-use Rattle.tree_collide.specs.Agreeing.{SameCells, SameEntries, Agrees}
+use Rattle.tree_collide.specs.Agreeing.{SameCells, SameEntries, HoldsOrCollides}
 use Rattle.tree_collide.specs.Preimages.{OfStrings, AttributesOf, AttributesIn, RowsOf, RowsIn}
 
 pub whole_fit : (vs : List Value) → FitsCells vs → All FitsCell (whole_cells vs)
@@ -67,7 +67,7 @@ module _ (i : ℕ) (cs : List Cell) (vs : List Value) (c : Cell) (v : Value) (al
 
 -- what agrees on a fact agrees on one that means the same
 pub agrees_by : (found : Option (List ℕ × List ℕ)) (fact other : Type 0) (Are Be : OfStrings) → (fact → other) → (other → fact) → ((x y : List ℕ) → Are x y → Be x y)
-    → Agrees found fact Are → Agrees found other Be
+    → HoldsOrCollides found fact Are → HoldsOrCollides found other Be
 agrees_by None fact other Are Be f g s h = f h
 agrees_by (Some x) fact other Are Be f g s h = (λ o. h.0 (g o), h.1, s x.0 x.1 h.2)
 

@@ -11,13 +11,13 @@ use Rattle.vo_spec.specs.Trees.{RowTree, RowTrees, digest}
 
 -- the fact holds exactly where nothing is found; what is found are two different byte strings of one digest,
 -- which are as said
-abbrev pub Agrees : Option (List ℕ × List ℕ) → Type 0 → (List ℕ → List ℕ → Type 0) → Type 0
-Agrees None fact Are = fact
-Agrees (Some found) fact Are = (fact → ⊥) × Collides found.0 found.1 × Are found.0 found.1
+abbrev pub HoldsOrCollides : Option (List ℕ × List ℕ) → Type 0 → (List ℕ → List ℕ → Type 0) → Type 0
+HoldsOrCollides None fact Are = fact
+HoldsOrCollides (Some found) fact Are = (fact → ⊥) × Collides found.0 found.1 × Are found.0 found.1
 
-abbrev pub AgreesAs : Agreement → Type 0 → Type 0
-AgreesAs Does_prune fact = fact
-AgreesAs (Found found) fact = (fact → ⊥) × Collides found.0 found.1
+abbrev pub HoldsOrFound : Agreement → Type 0 → Type 0
+HoldsOrFound Does_prune fact = fact
+HoldsOrFound (Found found) fact = (fact → ⊥) × Collides found.0 found.1
 
 -- the strings that were found are as said
 abbrev pub FoundAre : Agreement → (List ℕ → List ℕ → Type 0) → Type 0
@@ -28,13 +28,15 @@ abbrev pub SameCells : ℕ → List Cell → List Cell → Type 0
 SameCells column [] [] = Unit {0}
 SameCells column [] (d ∷ ds) = ⊥
 SameCells column (c ∷ cs) [] = ⊥
-SameCells column (c ∷ cs) (d ∷ ds) = (cell_digest column c ≡ cell_digest column d) × SameCells (column + 1) cs ds
+SameCells column (c ∷ cs) (d ∷ ds) = (cell_digest column c ≡ cell_digest column d)
+    × SameCells (column + 1) cs ds
 
 abbrev pub SameEntries : List PartEntry → List PartEntry → Type 0
 SameEntries [] [] = Unit {0}
 SameEntries [] (f ∷ fs) = ⊥
 SameEntries (e ∷ es) [] = ⊥
-SameEntries (e ∷ es) (f ∷ fs) = (e.key ≡ f.key) × (row_digest e.row ≡ row_digest f.row) × SameEntries es fs
+SameEntries (e ∷ es) (f ∷ fs) = (e.key ≡ f.key) × (row_digest e.row ≡ row_digest f.row)
+    × SameEntries es fs
 
 abbrev pub SameNodes : RowTrees → RowTrees → Type 0
 SameNodes none none = Unit {0}

@@ -16,17 +16,20 @@ OfStrings = List ℕ → List ℕ → Type 0
 
 -- of a column
 abbrev pub AttributesOf : ℕ → Cell → Cell → OfStrings
-AttributesOf column (Shown v) (Shown w) x y = (x ≡ attribute_bytes column v) × (y ≡ attribute_bytes column w)
+AttributesOf column (Shown v) (Shown w) x y = (x ≡ attribute_bytes column v)
+    × (y ≡ attribute_bytes column w)
 AttributesOf column _ _ x y = ⊥
 
 -- of some column from this on
 abbrev pub AttributesIn : ℕ → List Cell → List Cell → OfStrings
-AttributesIn column (c ∷ cs) (d ∷ ds) x y = AttributesOf column c d x y ⊎ AttributesIn (column + 1) cs ds x y
+AttributesIn column (c ∷ cs) (d ∷ ds) x y = AttributesOf column c d x y
+    ⊎ AttributesIn (column + 1) cs ds x y
 AttributesIn column _ _ x y = ⊥
 
 -- of the rows, or of a column of theirs
 abbrev pub RowsOf : RowPart → RowPart → OfStrings
-RowsOf (Cells cs) (Cells ds) x y = ((x ≡ row_bytes cs) × (y ≡ row_bytes ds)) ⊎ AttributesIn 0 cs ds x y
+RowsOf (Cells cs) (Cells ds) x y = ((x ≡ row_bytes cs) × (y ≡ row_bytes ds))
+    ⊎ AttributesIn 0 cs ds x y
 RowsOf _ _ x y = ⊥
 
 abbrev pub RowsIn : List PartEntry → List PartEntry → OfStrings
@@ -44,7 +47,8 @@ abbrev mutual
   BelowNodes _ _ x y = ⊥
 
   pub NodesIn : RowTrees → RowTrees → OfStrings
-  NodesIn (more m p ps) (more n q qs) x y = (NodesOf p q x y ⊎ BelowNodes p q x y) ⊎ NodesIn ps qs x y
+  NodesIn (more m p ps) (more n q qs) x y = (NodesOf p q x y ⊎ BelowNodes p q x y)
+      ⊎ NodesIn ps qs x y
   NodesIn _ _ x y = ⊥
 
 -- Two nodes that stand at one place of the trees hash these strings, or two rows or attributes there do.

@@ -5,8 +5,8 @@ ghost use Rattle.vo_spec.specs.Sha256.{sha256};
 ghost use Rattle.vo_spec.specs.Lent.{value_of};
 ghost use Rattle.vo_spec.specs.Values.{FitsValue};
 ghost use Rattle.vo_spec.specs.Cells.{attribute_bytes, cell_digest, whole_cells, CellPrunes, CellsPrune};
-ghost use Rattle.vo_spec.specs.Fits.{FitsCell, most_cells};
-ghost use Rattle.tree_collide.specs.Agreeing.{Agrees, SameCells};
+ghost use Rattle.vo_spec.specs.Fits.{FitsCell, max_cells};
+ghost use Rattle.tree_collide.specs.Agreeing.{HoldsOrCollides, SameCells};
 ghost use Rattle.tree_collide.specs.Preimages.{AttributesOf, AttributesIn};
 
 use crate::comparing::compare;
@@ -20,12 +20,13 @@ pub fn agree_cells(
     cells: &[Cell<'_>],
     values: &[Value],
 ) -> Result<Option<Collision>, AllocError>
-    requires most { length values.now ≤ most_cells }
+    requires most { length values.now ≤ max_cells }
     requires count { length cells.now ≡ length values.now }
     requires fit { All FitsCell cells.now }
     requires values_fit { All FitsValue values.now }
     requires same { SameCells 0 cells.now (whole_cells values.now) }
-    ensures { IfOk result (λ found. Agrees found (CellsPrune 0 cells.now (whole_cells values.now))
+    ensures { IfOk result (λ found. HoldsOrCollides found
+        (CellsPrune 0 cells.now (whole_cells values.now))
         (AttributesIn 0 cells.now (whole_cells values.now))) }
 {
     for (column, cell) in cells.iter().enumerate() {
@@ -46,7 +47,8 @@ fn agree_cell(
     requires fits { FitsCell cell.now }
     requires value_fits { FitsValue value.now }
     requires same { cell_digest column cell.now ≡ cell_digest column (Shown value.now) }
-    ensures { IfOk result (λ found. Agrees found (CellPrunes column cell.now (Shown value.now))
+    ensures { IfOk result (λ found. HoldsOrCollides found
+        (CellPrunes column cell.now (Shown value.now))
         (AttributesOf column cell.now (Shown value.now))) }
 {
     match cell {
@@ -65,7 +67,7 @@ fn agree_value(
     requires value_fits { FitsValue value.now }
     requires same { sha256 (attribute_bytes column (value_of shown))
         ≡ sha256 (attribute_bytes column value.now) }
-    ensures { IfOk result (λ found. Agrees found (value_of shown.entry ≡ value.now)
+    ensures { IfOk result (λ found. HoldsOrCollides found (value_of shown.entry ≡ value.now)
         (AttributesOf column (Shown (value_of shown.entry)) (Shown value.now))) }
 {
     let own = shown.to_value(alloc)?;
@@ -83,7 +85,7 @@ fn agree_values(
     requires value_fits { FitsValue value.now }
     requires same { sha256 (attribute_bytes column shown.now)
         ≡ sha256 (attribute_bytes column value.now) }
-    ensures { IfOk result (λ found. Agrees found (shown.now ≡ value.now)
+    ensures { IfOk result (λ found. HoldsOrCollides found (shown.now ≡ value.now)
         (AttributesOf column (Shown shown.now) (Shown value.now))) }
 {
     let first = attribute_preimage(alloc, column, shown)?;

@@ -3,7 +3,7 @@ ghost use Rattle.std.specs.Prelude.{◌≡◌, length, map, IfOk, All};
 ghost use Rattle.std.specs.List.{AllZip};
 ghost use Rattle.vo_spec.specs.Cells.{whole_entry, EntryPrunes};
 ghost use Rattle.vo_spec.specs.Fits.{FitsEntry};
-ghost use Rattle.tree_collide.specs.Agreeing.{Agrees, SameEntries};
+ghost use Rattle.tree_collide.specs.Agreeing.{HoldsOrCollides, SameEntries};
 ghost use Rattle.tree_collide.specs.Preimages.{RowsIn};
 
 use crate::rows::agree_row;
@@ -21,7 +21,7 @@ pub fn agree_entries(
     requires fit { All FitsEntry parts.now }
     requires same { SameEntries parts.now (map whole_entry entries.now) }
     ensures { IfOk result (λ found.
-        Agrees found (AllZip EntryPrunes parts.now (map whole_entry entries.now))
+        HoldsOrCollides found (AllZip EntryPrunes parts.now (map whole_entry entries.now))
         (RowsIn parts.now (map whole_entry entries.now))) }
 {
     for (place, part) in parts.iter().enumerate() {

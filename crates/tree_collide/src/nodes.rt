@@ -6,7 +6,7 @@ ghost use Rattle.vo_spec.specs.Trees.{digest, Prunes, row_family, open_parts};
 ghost use Rattle.vo_spec.specs.Fits.{FitsPart, FitsEach, FitsEntry};
 ghost use Rattle.mb_tree.specs.View.{part_of, parts_of};
 ghost use Rattle.mb_tree.specs.Whole.{whole_of};
-ghost use Rattle.tree_collide.specs.Agreeing.{Agrees, AgreesAs, FoundAre, IsLike, SameNodes, is_open};
+ghost use Rattle.tree_collide.specs.Agreeing.{HoldsOrCollides, HoldsOrFound, FoundAre, IsLike, SameNodes, is_open};
 ghost use Rattle.tree_collide.specs.Preimages.{ArePreimages, BelowNodes, NodesIn};
 
 use crate::comparing::compare;
@@ -21,7 +21,7 @@ pub fn agree(alloc: Global, part: &PartTree<'_>, tree: &Tree) -> Result<Agreemen
     requires fits { FitsPart (part_of part.now) }
     requires same { digest (part_of part.now) ≡ digest tree.now }
     ensures prunes { IfOk result (λ agreement.
-        AgreesAs agreement (Prunes (part_of part.now) tree.now)) }
+        HoldsOrFound agreement (Prunes (part_of part.now) tree.now)) }
     ensures strings { IfOk result (λ agreement.
         FoundAre agreement (ArePreimages (part_of part.now) tree.now)) }
 {
@@ -39,7 +39,7 @@ fn agree_branch(
 ) -> Result<Option<Collision>, AllocError>
     requires fits { FitsPart (part_of part.now) }
     requires same { digest (part_of part.now) ≡ digest branch.now }
-    ensures { IfOk result (λ found. Agrees found (Prunes (part_of part.now) branch.now)
+    ensures { IfOk result (λ found. HoldsOrCollides found (Prunes (part_of part.now) branch.now)
         (ArePreimages (part_of part.now) branch.now)) }
 {
     match part {
@@ -59,7 +59,7 @@ fn agree_node(
     requires open { is_open (part_of part.now) ≡ true }
     requires fits { FitsPart (part_of part.now) }
     requires same { digest (part_of part.now) ≡ digest branch.now }
-    ensures { IfOk result (λ found. Agrees found (Prunes (part_of part.now) branch.now)
+    ensures { IfOk result (λ found. HoldsOrCollides found (Prunes (part_of part.now) branch.now)
         (ArePreimages (part_of part.now) branch.now)) }
 {
     let node = branch.node();
@@ -80,7 +80,8 @@ fn agree_open(
 ) -> Result<Option<Collision>, AllocError>
     requires fits { FitsPart (part_of part.now) }
     requires same { IsLike (part_of part.now) (whole_of node.now) }
-    ensures { IfOk result (λ found. Agrees found (Prunes (part_of part.now) (whole_of node.now))
+    ensures { IfOk result (λ found. HoldsOrCollides found
+        (Prunes (part_of part.now) (whole_of node.now))
         (BelowNodes (part_of part.now) (whole_of node.now))) }
 {
     match (part, node) {
@@ -109,7 +110,7 @@ fn agree_children(
     requires same { SameNodes (parts_of parts.now) (open_parts branches.now) }
     ensures { IfOk result (λ found.
         let ps = parts_of parts.now in let ts = open_parts branches.now in
-        Agrees found (PrunesEach row_family EntryPrunes ps ts) (NodesIn ps ts)) }
+        HoldsOrCollides found (PrunesEach row_family EntryPrunes ps ts) (NodesIn ps ts)) }
 {
     for (place, part) in parts.iter().enumerate() {
         let found = agree_branch(alloc, part, &branches[place])?;

@@ -3,8 +3,8 @@ ghost use Rattle.std.specs.Prelude.{◌≡◌, ◌∷◌, ◌++◌, ◌≤◌, l
 ghost use Rattle.vo_spec.specs.declared.cells.RowPart.TheVariants.{Cells};
 ghost use Rattle.vo_spec.specs.Sha256.{sha256};
 ghost use Rattle.vo_spec.specs.Cells.{row_bytes as row_bytes_of, row_digest, whole_cells, whole_row, CellsPrune, RowPrunes};
-ghost use Rattle.vo_spec.specs.Fits.{FitsCell, FitsCells, FitsRowPart, most_cells};
-ghost use Rattle.tree_collide.specs.Agreeing.{Agrees};
+ghost use Rattle.vo_spec.specs.Fits.{FitsCell, FitsCells, FitsRowPart, max_cells};
+ghost use Rattle.tree_collide.specs.Agreeing.{HoldsOrCollides};
 ghost use Rattle.tree_collide.specs.Preimages.{RowsOf};
 
 use crate::cells::agree_cells;
@@ -22,7 +22,7 @@ pub fn agree_row(
 ) -> Result<Option<Collision>, AllocError>
     requires fits { FitsRowPart part.now }
     requires same { row_digest part.now ≡ row_digest (whole_row cells.now) }
-    ensures { IfOk result (λ found. Agrees found (RowPrunes part.now (whole_row cells.now))
+    ensures { IfOk result (λ found. HoldsOrCollides found (RowPrunes part.now (whole_row cells.now))
         (RowsOf part.now (whole_row cells.now))) }
 {
     match part {
@@ -37,12 +37,13 @@ fn agree_open(
     parts: &[Cell<'_>],
     values: &[Value],
 ) -> Result<Option<Collision>, AllocError>
-    requires count { length parts.now ≤ most_cells }
+    requires count { length parts.now ≤ max_cells }
     requires fit { All FitsCell parts.now }
     requires values_fit { FitsCells values.now }
     requires same { sha256 (row_bytes_of parts.now)
         ≡ sha256 (row_bytes_of (whole_cells values.now)) }
-    ensures { IfOk result (λ found. Agrees found (CellsPrune 0 parts.now (whole_cells values.now))
+    ensures { IfOk result (λ found. HoldsOrCollides found
+        (CellsPrune 0 parts.now (whole_cells values.now))
         (RowsOf (Cells parts.now) (whole_row values.now))) }
 {
     let first = parts_preimage(alloc, parts)?;
@@ -55,7 +56,7 @@ fn agree_open(
 
 #[tactic(auto, using(attr_digest::proofs::Digests::cell_digests_more))]
 fn parts_preimage(alloc: Global, cells: &[Cell<'_>]) -> Result<Vec<u8>, AllocError>
-    requires count { length cells.now ≤ most_cells }
+    requires count { length cells.now ≤ max_cells }
     requires fit { All FitsCell cells.now }
     ensures { IfOk result (λ bytes. bytes.items ≡ row_bytes_of cells.now) }
 {

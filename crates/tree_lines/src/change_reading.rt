@@ -9,7 +9,7 @@ ghost use Rattle.tree_lines.specs.Fitting.{FitsOp};
 use mb_update::{Op, SetCell};
 use row_bytes::{Cursor, ReadFault, own_value, take_value};
 use std::alloc::Global;
-use vo_spec::{Key, List, Row, Value};
+use vo_spec::{Key, List, MAX_KEY, Row, Value};
 
 /// The change that all the bytes are.
 pub fn read_change(alloc: Global, bytes: &[u8]) -> Result<Op, ReadFault>
@@ -64,7 +64,7 @@ fn take_key(alloc: Global, cursor: &mut Cursor<'_>) -> Result<Key, ReadFault>
     ensures { IfOk result (λ key. FitsKey key) }
 {
     let key = cursor.take_string().ok_or(ReadFault::BadForm)?;
-    if key.len() > 255 {
+    if key.len() > MAX_KEY {
         return Err(ReadFault::BadForm);
     }
     Ok(Key::from_vec(Vec::from_slice(alloc, key)?))

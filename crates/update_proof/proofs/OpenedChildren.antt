@@ -8,7 +8,7 @@ use Rattle.vo_spec.specs.Parts.{stub, leaf, inner, none, more}
 use Rattle.vo_spec.specs.Trees.{RowTree, row_family, open_parts}
 use Rattle.vo_spec.specs.Pruned.{pruned_by, pruned_in}
 use Rattle.vo_spec.specs.Inserts.{walk_to}
-use Rattle.vo_spec.specs.Removes.{shrink, is_small, becomes_small, closed_parts, path_to, path_in, opened_row, look_at_if, neighbour_first, remove_proof, remove_proof_in, remove_proof_after}
+use Rattle.vo_spec.specs.Removes.{shrink, is_underfull, becomes_underfull, closed_parts, path_to, path_in, opened_row, opened_sibling_if, sibling_first, remove_proof, remove_proof_in, remove_proof_after}
 use Rattle.btree.specs.Steps.{opens_sibling_by}
 use Rattle.btree.proofs.RemainingSizes.{shrunk_alike}
 use Rattle.update_proof.specs.declared.change.Change.{Change}
@@ -22,12 +22,12 @@ all_closed (t ∷ ts) = ap (λ ps. more tt (closed_tree t) ps) (all_closed ts)
 
 -- whether a child is left underfull
 
-small_step : (key : List ℕ) (t : RowTree) (r : Result RowTree UpdateFault) → shrink row_family key t ≡ r → becomes_small key t ≡ opens_sibling_by row_family key t
-small_step key t (Ok q) h = rw h (shrunk_alike row_family key t q h).small
-small_step key t (Err fault) h = rw h refl
+underfull_step : (key : List ℕ) (t : RowTree) (r : Result RowTree UpdateFault) → shrink row_family key t ≡ r → becomes_underfull key t ≡ opens_sibling_by row_family key t
+underfull_step key t (Ok q) h = rw h (shrunk_alike row_family key t q h).small
+underfull_step key t (Err fault) h = rw h refl
 
-pub same_small : (key : List ℕ) (t : RowTree) → becomes_small key t ≡ opens_sibling_by row_family key t
-same_small key t = small_step key t (shrink row_family key t) refl
+pub same_underfull : (key : List ℕ) (t : RowTree) → becomes_underfull key t ≡ opens_sibling_by row_family key t
+same_underfull key t = underfull_step key t (shrink row_family key t) refl
 
 module _ (key : List ℕ) where
   -- An insertion.
@@ -91,35 +91,35 @@ module _ (key : List ℕ) where
   -- A removal.
 
   abbrev seen_along : ℕ → RowTree → List RowTree → List RowTree
-  seen_along i c ts = opened_along i (becomes_small key c) (remove_proof key c) ts
+  seen_along i c ts = opened_along i (becomes_underfull key c) (remove_proof key c) ts
 
-  next_opened : (b : Bool) (p t u : RowTree) (us : List RowTree) → more tt (look_at_if b t) (more tt p (closed_parts (open_parts us))) ≡ open_parts (opened_along 1 b p (t ∷ u ∷ us))
-  next_opened true p t u us = ap (λ ps. more tt (look_at_if true t) (more tt p ps)) (all_closed us)
-  next_opened false p t u us = ap (λ ps. more tt (look_at_if false t) (more tt p ps)) (all_closed us)
+  next_opened : (b : Bool) (p t u : RowTree) (us : List RowTree) → more tt (opened_sibling_if b t) (more tt p (closed_parts (open_parts us))) ≡ open_parts (opened_along 1 b p (t ∷ u ∷ us))
+  next_opened true p t u us = ap (λ ps. more tt (opened_sibling_if true t) (more tt p ps)) (all_closed us)
+  next_opened false p t u us = ap (λ ps. more tt (opened_sibling_if false t) (more tt p ps)) (all_closed us)
 
   later_opened : (b : Bool) (i : ℕ) (p t : RowTree) (ts : List RowTree) → more tt (closed_tree t) (open_parts (opened_along (suc i) b p ts)) ≡ open_parts (opened_along (suc (suc i)) b p (t ∷ ts))
   later_opened true i p t ts = refl
   later_opened false i p t ts = refl
 
-  first_opened : (b : Bool) (p t : RowTree) (ts : List RowTree) → more tt p (neighbour_first b (open_parts ts)) ≡ open_parts (opened_along 0 b p (t ∷ ts))
+  first_opened : (b : Bool) (p t : RowTree) (ts : List RowTree) → more tt p (sibling_first b (open_parts ts)) ≡ open_parts (opened_along 0 b p (t ∷ ts))
   first_opened true p t [] = refl
   first_opened false p t [] = refl
-  first_opened true p t (u ∷ us) = ap (λ ps. more tt p (more tt (look_at_if true u) ps)) (all_closed us)
-  first_opened false p t (u ∷ us) = ap (λ ps. more tt p (more tt (look_at_if false u) ps)) (all_closed us)
+  first_opened true p t (u ∷ us) = ap (λ ps. more tt p (more tt (opened_sibling_if true u) ps)) (all_closed us)
+  first_opened false p t (u ∷ us) = ap (λ ps. more tt p (more tt (opened_sibling_if false u) ps)) (all_closed us)
 
   after_here : (t u : RowTree) (us : List RowTree) (c : RowTree) → c ≡ u
-      → more tt (look_at_if (becomes_small key u) t) (more tt (remove_proof key u) (closed_parts (open_parts us))) ≡ open_parts (seen_along 1 c (t ∷ u ∷ us))
-  after_here t u us c is = next_opened (becomes_small key u) (remove_proof key u) t u us ∙ ap (λ v. open_parts (seen_along 1 v (t ∷ u ∷ us))) (sym is)
+      → more tt (opened_sibling_if (becomes_underfull key u) t) (more tt (remove_proof key u) (closed_parts (open_parts us))) ≡ open_parts (seen_along 1 c (t ∷ u ∷ us))
+  after_here t u us c is = next_opened (becomes_underfull key u) (remove_proof key u) t u us ∙ ap (λ v. open_parts (seen_along 1 v (t ∷ u ∷ us))) (sym is)
 
   after_step : (b : Bool) (i j : ℕ) (ss : List (List ℕ)) (t u : RowTree) (us : List RowTree) (c : RowTree)
       → j ≡ suc i → cond (not b) j 0 < suc (length us) → c ≡ get_or (u ∷ us) (cond (not b) j 0) c
       → (i < length us → c ≡ get_or us i c → remove_proof_after key tt u ss (open_parts us) ≡ open_parts (seen_along (suc i) c (u ∷ us)))
-      → cond b (more tt (look_at_if (becomes_small key u) t) (more tt (remove_proof key u) (closed_parts (open_parts us)))) (more tt (closed_tree t) (remove_proof_after key tt u ss (open_parts us)))
+      → cond b (more tt (opened_sibling_if (becomes_underfull key u) t) (more tt (remove_proof key u) (closed_parts (open_parts us)))) (more tt (closed_tree t) (remove_proof_after key tt u ss (open_parts us)))
       ≡ open_parts (seen_along (suc (cond (not b) j 0)) c (t ∷ u ∷ us))
   after_step true i j ss t u us c next lt is on = after_here t u us c is
   after_step false i j ss t u us c next lt is on =
       ap (λ ps. more tt (closed_tree t) ps) (on (omega arith) (is ∙ ap (λ n. get_or (u ∷ us) n c) next))
-      ∙ later_opened (becomes_small key c) i (remove_proof key c) t (u ∷ us)
+      ∙ later_opened (becomes_underfull key c) i (remove_proof key c) t (u ∷ us)
       ∙ ap (λ n. open_parts (seen_along (suc n) c (t ∷ u ∷ us))) (sym next)
 
   after_opens : (s : List ℕ) (ss : List (List ℕ)) (t : RowTree) (ts : List RowTree) (c : RowTree) → position_or_len (key_lt key) ss < length ts → c ≡ get_or ts (position_or_len (key_lt key) ss) c
@@ -130,13 +130,13 @@ module _ (key : List ℕ) where
       let i = position_or_len (key_lt key) rs in
       after_step (key_lt key r) i (1 + i) (r ∷ rs) t u us c (omega arith) lt is (λ within here. after_opens r rs u us c within here)
 
-  first_here : (t : RowTree) (ts : List RowTree) (c : RowTree) → c ≡ t → more tt (remove_proof key t) (neighbour_first (becomes_small key t) (open_parts ts)) ≡ open_parts (seen_along 0 c (t ∷ ts))
-  first_here t ts c is = first_opened (becomes_small key t) (remove_proof key t) t ts ∙ ap (λ v. open_parts (seen_along 0 v (t ∷ ts))) (sym is)
+  first_here : (t : RowTree) (ts : List RowTree) (c : RowTree) → c ≡ t → more tt (remove_proof key t) (sibling_first (becomes_underfull key t) (open_parts ts)) ≡ open_parts (seen_along 0 c (t ∷ ts))
+  first_here t ts c is = first_opened (becomes_underfull key t) (remove_proof key t) t ts ∙ ap (λ v. open_parts (seen_along 0 v (t ∷ ts))) (sym is)
 
   first_step : (b : Bool) (i j : ℕ) (ss : List (List ℕ)) (t : RowTree) (ts : List RowTree) (c : RowTree)
       → j ≡ suc i → cond (not b) j 0 < suc (length ts) → c ≡ get_or (t ∷ ts) (cond (not b) j 0) c
       → (i < length ts → c ≡ get_or ts i c → remove_proof_after key tt t ss (open_parts ts) ≡ open_parts (seen_along (suc i) c (t ∷ ts)))
-      → cond b (more tt (remove_proof key t) (neighbour_first (becomes_small key t) (open_parts ts))) (remove_proof_after key tt t ss (open_parts ts))
+      → cond b (more tt (remove_proof key t) (sibling_first (becomes_underfull key t) (open_parts ts))) (remove_proof_after key tt t ss (open_parts ts))
       ≡ open_parts (seen_along (cond (not b) j 0) c (t ∷ ts))
   first_step true i j ss t ts c next lt is on = first_here t ts c is
   first_step false i j ss t ts c next lt is on =
@@ -164,6 +164,6 @@ module _ (key : List ℕ) where
     opens_along Replacement = ap (inner ss) (ap (λ n. open_parts (set (map closed_tree ts) n (change_proof Replacement key c))) at ∙ sym (path_opens (opened_row key) ss ts c within here))
     opens_along Removal =
         ap (inner ss)
-        (ap (λ b. open_parts (opened_along place b (remove_proof key c) ts)) (sym (same_small key c))
+        (ap (λ b. open_parts (opened_along place b (remove_proof key c) ts)) (sym (same_underfull key c))
         ∙ ap (λ n. open_parts (seen_along n c ts)) at
         ∙ sym (remove_opens ss ts c within here))

@@ -5,7 +5,7 @@ use Rattle.std.specs.declared.alloc.Global.{Global}
 use Rattle.vo_spec.specs.Parts.{inner, count, levels, levels_in}
 use Rattle.vo_spec.specs.Trees.{RowTree, open_parts}
 use Rattle.vo_spec.specs.Fits.{FitsPart}
-use Rattle.vo_spec.specs.Removes.{looked_at}
+use Rattle.vo_spec.specs.Removes.{opened_sibling}
 use Rattle.mb_tree.specs.declared.branches.Node.{Node}
 use Rattle.mb_tree.specs.declared.branches.Node.TheVariants.{Inner}
 use Rattle.mb_tree.specs.Whole.{whole_of}
@@ -41,6 +41,6 @@ node_limits n t ss ts ks xs whole is keys children fits =
 
 -- a node alone
 pub node_alone : (n : Node) (t : RowTree) (ss : Vec (List ℕ) Global) (ts : Vec RowTree Global) (ks : List (List ℕ)) (xs : List RowTree)
-    → whole_of n ≡ t → n ≡ Inner ss ts → ks ≡ ss.items → xs ≡ ts.items → inner ks (open_parts (map closed_tree xs)) ≡ looked_at t
+    → whole_of n ≡ t → n ≡ Inner ss ts → ks ≡ ss.items → xs ≡ ts.items → inner ks (open_parts (map closed_tree xs)) ≡ opened_sibling t
 node_alone n t ss ts ks xs whole is keys children =
-    ap (inner ks) (sym (all_closed xs)) ∙ ap looked_at (sym (node_is n t ss ts ks xs whole is keys children))
+    ap (inner ks) (sym (all_closed xs)) ∙ ap opened_sibling (sym (node_is n t ss ts ks xs whole is keys children))

@@ -1,11 +1,11 @@
--- What of a small node's neighbour and of the other children is open, by the list of the children.
+-- What of a small node's sibling and of the other children is open, by the list of the children.
 use Rattle.std.proofs.Common.{◌≡◌, ℕ, zero, suc, ◌+◌, ◌-◌, ◌<◌, ◌≤◌, Bool, true, false, cond, not, ◌||◌, List, [], ◌∷◌, length, take, drop, get_or, refl, sym, ap, ◌∙◌, arith, add-one}
 use Rattle.std.specs.List.{list_any, position_or_len}
 use Rattle.vo_spec.specs.Values.{key_lt}
 use Rattle.vo_spec.specs.Trees.{RowTree, open_parts}
-use Rattle.vo_spec.specs.Removes.{becomes_small}
+use Rattle.vo_spec.specs.Removes.{becomes_underfull}
 use Rattle.update_proof.specs.Closing.{is_open, any_open, beside}
-use Rattle.update_proof.specs.Proving.{looked_beyond, neighbour_beyond, first_beyond, remove_goes_beyond, remove_beyond_in, remove_beyond_after}
+use Rattle.update_proof.specs.Proving.{opened_sibling_surplus, sibling_surplus, first_surplus, remove_has_surplus, remove_has_surplus_in, remove_has_surplus_after}
 use Rattle.update_proof.specs.Changes.{child_at, surplus_along}
 use Rattle.update_proof.proofs.InsertionPaths.{or_false, swapped}
 use Rattle.update_proof.proofs.ReplacementPaths.{any_open_list}
@@ -29,56 +29,56 @@ one_less i = omega arith
 -- this child and those after it but for that of this number, which looks at the one before it or not
 abbrev after : Bool → ℕ → RowTree → List RowTree → Bool
 after looks i left [] = is_open left
-after looks zero left (t ∷ ts) = neighbour_beyond looks left || list_any is_open ts
+after looks zero left (t ∷ ts) = sibling_surplus looks left || list_any is_open ts
 after looks (suc i) left (t ∷ ts) = is_open left || after looks i t ts
 
 -- these children but for that of this number
 abbrev pub around : Bool → ℕ → List RowTree → Bool
 around looks i [] = false
-around looks zero (t ∷ ts) = first_beyond looks (open_parts ts)
+around looks zero (t ∷ ts) = first_surplus looks (open_parts ts)
 around looks (suc i) (t ∷ ts) = after looks i t ts
 
 module _ (key : List ℕ) where
   after_step : (b : Bool) (i j : ℕ) (ss : List (List ℕ)) (left t : RowTree) (ts : List RowTree) (c : RowTree) → j ≡ suc i → cond (not b) j 0 < suc (length ts) → c ≡ get_or (t ∷ ts) (cond (not b) j 0) c
-      → (i < length ts → c ≡ get_or ts i c → remove_beyond_after key t ss (open_parts ts) ≡ remove_goes_beyond key c || after (becomes_small key c) i t ts)
-      → cond b (neighbour_beyond (becomes_small key t) left || (remove_goes_beyond key t || any_open (open_parts ts))) (is_open left || remove_beyond_after key t ss (open_parts ts))
-      ≡ remove_goes_beyond key c || after (becomes_small key c) (cond (not b) j 0) left (t ∷ ts)
+      → (i < length ts → c ≡ get_or ts i c → remove_has_surplus_after key t ss (open_parts ts) ≡ remove_has_surplus key c || after (becomes_underfull key c) i t ts)
+      → cond b (sibling_surplus (becomes_underfull key t) left || (remove_has_surplus key t || any_open (open_parts ts))) (is_open left || remove_has_surplus_after key t ss (open_parts ts))
+      ≡ remove_has_surplus key c || after (becomes_underfull key c) (cond (not b) j 0) left (t ∷ ts)
   after_step true i j ss left t ts c next lt is on =
-      exchanged (neighbour_beyond (becomes_small key t) left) (remove_goes_beyond key t) (any_open (open_parts ts))
-      ∙ ap (λ x. remove_goes_beyond key t || (neighbour_beyond (becomes_small key t) left || x)) (any_open_list ts)
-      ∙ ap (λ u. remove_goes_beyond key u || (neighbour_beyond (becomes_small key u) left || list_any is_open ts)) (sym is)
+      exchanged (sibling_surplus (becomes_underfull key t) left) (remove_has_surplus key t) (any_open (open_parts ts))
+      ∙ ap (λ x. remove_has_surplus key t || (sibling_surplus (becomes_underfull key t) left || x)) (any_open_list ts)
+      ∙ ap (λ u. remove_has_surplus key u || (sibling_surplus (becomes_underfull key u) left || list_any is_open ts)) (sym is)
   after_step false i j ss left t ts c next lt is on =
       ap (λ x. is_open left || x) (on (omega arith) (is ∙ ap (λ n. get_or (t ∷ ts) n c) next))
-      ∙ exchanged (is_open left) (remove_goes_beyond key c) (after (becomes_small key c) i t ts)
+      ∙ exchanged (is_open left) (remove_has_surplus key c) (after (becomes_underfull key c) i t ts)
       ∙ rw next refl
 
   after_at : (s : List ℕ) (ss : List (List ℕ)) (left : RowTree) (ts : List RowTree) (c : RowTree) → position_or_len (key_lt key) ss < length ts → c ≡ get_or ts (position_or_len (key_lt key) ss) c
-      → remove_beyond_after key left (s ∷ ss) (open_parts ts) ≡ remove_goes_beyond key c || after (becomes_small key c) (position_or_len (key_lt key) ss) left ts
+      → remove_has_surplus_after key left (s ∷ ss) (open_parts ts) ≡ remove_has_surplus key c || after (becomes_underfull key c) (position_or_len (key_lt key) ss) left ts
   after_at s ss left [] c lt is = absurd (omega arith)
   after_at s [] left (t ∷ ts) c lt is =
-      exchanged (neighbour_beyond (becomes_small key t) left) (remove_goes_beyond key t) (any_open (open_parts ts))
-      ∙ ap (λ x. remove_goes_beyond key t || (neighbour_beyond (becomes_small key t) left || x)) (any_open_list ts)
-      ∙ ap (λ u. remove_goes_beyond key u || (neighbour_beyond (becomes_small key u) left || list_any is_open ts)) (sym is)
+      exchanged (sibling_surplus (becomes_underfull key t) left) (remove_has_surplus key t) (any_open (open_parts ts))
+      ∙ ap (λ x. remove_has_surplus key t || (sibling_surplus (becomes_underfull key t) left || x)) (any_open_list ts)
+      ∙ ap (λ u. remove_has_surplus key u || (sibling_surplus (becomes_underfull key u) left || list_any is_open ts)) (sym is)
   after_at s (r ∷ ss) left (t ∷ ts) c lt is =
       let i = position_or_len (key_lt key) ss in
       after_step (key_lt key r) i (1 + i) (r ∷ ss) left t ts c (omega arith) lt is (λ within here. after_at r ss t ts c within here)
 
   first_step : (b : Bool) (i j : ℕ) (ss : List (List ℕ)) (t : RowTree) (ts : List RowTree) (c : RowTree) → j ≡ suc i → cond (not b) j 0 < suc (length ts) → c ≡ get_or (t ∷ ts) (cond (not b) j 0) c
-      → (i < length ts → c ≡ get_or ts i c → remove_beyond_after key t ss (open_parts ts) ≡ remove_goes_beyond key c || after (becomes_small key c) i t ts)
-      → cond b (remove_goes_beyond key t || first_beyond (becomes_small key t) (open_parts ts)) (remove_beyond_after key t ss (open_parts ts))
-      ≡ remove_goes_beyond key c || around (becomes_small key c) (cond (not b) j 0) (t ∷ ts)
-  first_step true i j ss t ts c next lt is on = ap (λ u. remove_goes_beyond key u || first_beyond (becomes_small key u) (open_parts ts)) (sym is)
+      → (i < length ts → c ≡ get_or ts i c → remove_has_surplus_after key t ss (open_parts ts) ≡ remove_has_surplus key c || after (becomes_underfull key c) i t ts)
+      → cond b (remove_has_surplus key t || first_surplus (becomes_underfull key t) (open_parts ts)) (remove_has_surplus_after key t ss (open_parts ts))
+      ≡ remove_has_surplus key c || around (becomes_underfull key c) (cond (not b) j 0) (t ∷ ts)
+  first_step true i j ss t ts c next lt is on = ap (λ u. remove_has_surplus key u || first_surplus (becomes_underfull key u) (open_parts ts)) (sym is)
   first_step false i j ss t ts c next lt is on = on (omega arith) (is ∙ ap (λ n. get_or (t ∷ ts) n c) next) ∙ rw next refl
 
-  pub beyond_at : (ss : List (List ℕ)) (ts : List RowTree) (c : RowTree) → position_or_len (key_lt key) ss < length ts → c ≡ get_or ts (position_or_len (key_lt key) ss) c
-      → remove_beyond_in key ss (open_parts ts) ≡ remove_goes_beyond key c || around (becomes_small key c) (position_or_len (key_lt key) ss) ts
-  beyond_at ss [] c lt is = absurd (omega arith)
-  beyond_at [] (t ∷ ts) c lt is = ap (λ u. remove_goes_beyond key u || first_beyond (becomes_small key u) (open_parts ts)) (sym is)
-  beyond_at (s ∷ ss) (t ∷ ts) c lt is =
+  pub surplus_at : (ss : List (List ℕ)) (ts : List RowTree) (c : RowTree) → position_or_len (key_lt key) ss < length ts → c ≡ get_or ts (position_or_len (key_lt key) ss) c
+      → remove_has_surplus_in key ss (open_parts ts) ≡ remove_has_surplus key c || around (becomes_underfull key c) (position_or_len (key_lt key) ss) ts
+  surplus_at ss [] c lt is = absurd (omega arith)
+  surplus_at [] (t ∷ ts) c lt is = ap (λ u. remove_has_surplus key u || first_surplus (becomes_underfull key u) (open_parts ts)) (sym is)
+  surplus_at (s ∷ ss) (t ∷ ts) c lt is =
       let i = position_or_len (key_lt key) ss in
       first_step (key_lt key s) i (1 + i) (s ∷ ss) t ts c (omega arith) lt is (λ within here. after_at s ss t ts c within here)
 
--- where the child doesn't look at a neighbour
+-- where the child doesn't look at a sibling
 
 after_quiet : (i : ℕ) (left : RowTree) (ts : List RowTree) → i < length ts → after false i left ts ≡ (is_open left || list_any is_open (take i ts)) || list_any is_open (drop (i + 1) ts)
 after_quiet i left [] lt = absurd (omega arith)
@@ -103,20 +103,20 @@ only_beside looks (t ∷ []) (suc i) single lt = absurd (omega arith)
 
 -- where it does
 
-after_small : (i : ℕ) (left : RowTree) (ts : List RowTree) → i < length ts
-    → after true i left ts ≡ looked_beyond (child_at i (left ∷ ts)) || (list_any is_open (take i (left ∷ ts)) || list_any is_open (drop (i + 2) (left ∷ ts)))
-after_small i left [] lt = absurd (omega arith)
-after_small zero left (t ∷ ts) lt = refl
-after_small (suc i) left (t ∷ ts) lt =
-    ap (λ x. is_open left || x) (after_small i t ts (omega arith))
-    ∙ swapped (is_open left) (looked_beyond (child_at i (t ∷ ts))) (list_any is_open (take i (t ∷ ts))) (list_any is_open (drop (i + 2) (t ∷ ts)))
+after_underfull : (i : ℕ) (left : RowTree) (ts : List RowTree) → i < length ts
+    → after true i left ts ≡ opened_sibling_surplus (child_at i (left ∷ ts)) || (list_any is_open (take i (left ∷ ts)) || list_any is_open (drop (i + 2) (left ∷ ts)))
+after_underfull i left [] lt = absurd (omega arith)
+after_underfull zero left (t ∷ ts) lt = refl
+after_underfull (suc i) left (t ∷ ts) lt =
+    ap (λ x. is_open left || x) (after_underfull i t ts (omega arith))
+    ∙ swapped (is_open left) (opened_sibling_surplus (child_at i (t ∷ ts))) (list_any is_open (take i (t ∷ ts))) (list_any is_open (drop (i + 2) (t ∷ ts)))
     ∙ rw (two_more i, two_more (suc i)) refl
 
-pub small_beside : (i : ℕ) (ts : List RowTree) → 2 ≤ length ts → i < length ts → around true i ts ≡ surplus_along i true ts
-small_beside i [] least lt = absurd (omega arith)
-small_beside zero (t ∷ []) least lt = absurd (omega arith)
-small_beside zero (t ∷ q ∷ qs) least lt = ap (λ x. looked_beyond q || x) (any_open_list qs)
-small_beside (suc i) (t ∷ ts) least lt = after_small i t ts (omega arith) ∙ rw (one_less i) refl
+pub underfull_with_sibling : (i : ℕ) (ts : List RowTree) → 2 ≤ length ts → i < length ts → around true i ts ≡ surplus_along i true ts
+underfull_with_sibling i [] least lt = absurd (omega arith)
+underfull_with_sibling zero (t ∷ []) least lt = absurd (omega arith)
+underfull_with_sibling zero (t ∷ q ∷ qs) least lt = ap (λ x. opened_sibling_surplus q || x) (any_open_list qs)
+underfull_with_sibling (suc i) (t ∷ ts) least lt = after_underfull i t ts (omega arith) ∙ rw (one_less i) refl
 
 -- where the separators lead past the children
 
@@ -125,20 +125,20 @@ module _ (key : List ℕ) where
   past_step true n i j left here rest all next past on = absurd (omega arith)
   past_step false n i j left here rest all next past on = ap (λ x. is_open left || x) (on (omega arith))
 
-  after_past : (s : List ℕ) (ss : List (List ℕ)) (left : RowTree) (ts : List RowTree) → length ts ≤ position_or_len (key_lt key) ss → remove_beyond_after key left (s ∷ ss) (open_parts ts) ≡ list_any is_open (left ∷ ts)
+  after_past : (s : List ℕ) (ss : List (List ℕ)) (left : RowTree) (ts : List RowTree) → length ts ≤ position_or_len (key_lt key) ss → remove_has_surplus_after key left (s ∷ ss) (open_parts ts) ≡ list_any is_open (left ∷ ts)
   after_past s ss left [] past = sym (or_false (is_open left))
   after_past s [] left (t ∷ ts) past = absurd (omega arith)
   after_past s (r ∷ ss) left (t ∷ ts) past =
       let i = position_or_len (key_lt key) ss in
-      past_step (key_lt key r) (length ts) i (1 + i) left (neighbour_beyond (becomes_small key t) left || (remove_goes_beyond key t || any_open (open_parts ts))) (remove_beyond_after key t (r ∷ ss) (open_parts ts)) (list_any is_open (t ∷ ts)) (omega arith) past (λ rest. after_past r ss t ts rest)
+      past_step (key_lt key r) (length ts) i (1 + i) left (sibling_surplus (becomes_underfull key t) left || (remove_has_surplus key t || any_open (open_parts ts))) (remove_has_surplus_after key t (r ∷ ss) (open_parts ts)) (list_any is_open (t ∷ ts)) (omega arith) past (λ rest. after_past r ss t ts rest)
 
   first_past : (b : Bool) (n i j : ℕ) (here rest all : Bool) → j ≡ suc i → suc n ≤ cond (not b) j 0 → (n ≤ i → rest ≡ all) → cond b here rest ≡ all
   first_past true n i j here rest all next past on = absurd (omega arith)
   first_past false n i j here rest all next past on = on (omega arith)
 
-  pub past_beyond : (ss : List (List ℕ)) (ts : List RowTree) → length ts ≤ position_or_len (key_lt key) ss → remove_beyond_in key ss (open_parts ts) ≡ list_any is_open ts
+  pub past_beyond : (ss : List (List ℕ)) (ts : List RowTree) → length ts ≤ position_or_len (key_lt key) ss → remove_has_surplus_in key ss (open_parts ts) ≡ list_any is_open ts
   past_beyond ss [] past = refl
   past_beyond [] (t ∷ ts) past = absurd (omega arith)
   past_beyond (s ∷ ss) (t ∷ ts) past =
       let i = position_or_len (key_lt key) ss in
-      first_past (key_lt key s) (length ts) i (1 + i) (remove_goes_beyond key t || first_beyond (becomes_small key t) (open_parts ts)) (remove_beyond_after key t (s ∷ ss) (open_parts ts)) (list_any is_open (t ∷ ts)) (omega arith) past (λ rest. after_past s ss t ts rest)
+      first_past (key_lt key s) (length ts) i (1 + i) (remove_has_surplus key t || first_surplus (becomes_underfull key t) (open_parts ts)) (remove_has_surplus_after key t (s ∷ ss) (open_parts ts)) (list_any is_open (t ∷ ts)) (omega arith) past (λ rest. after_past s ss t ts rest)

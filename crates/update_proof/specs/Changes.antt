@@ -4,15 +4,15 @@ use Rattle.std.specs.List.{list_any}
 use Rattle.vo_spec.specs.declared.cells.PartEntry.{PartEntry}
 use Rattle.vo_spec.specs.Parts.{Part, Family, stub}
 use Rattle.vo_spec.specs.Trees.{RowTree}
-use Rattle.vo_spec.specs.Inserts.{closed_entry, insert_misses, insert_goes_beyond, insert_proof}
-use Rattle.vo_spec.specs.Removes.{opened_row, looked_at, replace_proof, remove_proof}
+use Rattle.vo_spec.specs.Inserts.{closed_entry, insert_is_missing, insert_has_surplus, insert_proof}
+use Rattle.vo_spec.specs.Removes.{opened_row, opened_sibling, replace_proof, remove_proof}
 use Rattle.btree.specs.Steps.{sibling_of, opens_sibling_by}
 use Rattle.mb_update.specs.declared.ops.Op.{Op}
 use Rattle.mb_update.specs.declared.ops.Op.TheVariants.{Insert, Replace, Remove}
 use Rattle.update_proof.specs.declared.change.Change.{Change}
 use Rattle.update_proof.specs.declared.change.Change.TheVariants.{Insertion, Replacement, Removal}
 use Rattle.update_proof.specs.Closing.{closed_tree, outside, shows_cells}
-use Rattle.update_proof.specs.Proving.{looked_beyond, replace_misses, remove_misses, rows_beyond, replace_goes_beyond, remove_goes_beyond}
+use Rattle.update_proof.specs.Proving.{opened_sibling_surplus, replace_is_missing, remove_is_missing, rows_surplus, replace_has_surplus, remove_has_surplus}
 
 abbrev pub change_in : Op → Change
 change_in (Insert row) = Insertion
@@ -49,34 +49,36 @@ change_proof Removal = remove_proof
 -- the children closed, but for the one of this number, in whose place this stands, and for the node of its sibling if that is opened
 abbrev pub opened_along : ℕ → Bool → RowTree → List RowTree → List RowTree
 opened_along i opens p ts =
-    if opens then slice_set (slice_set (map closed_tree ts) i p) (sibling_of i) (looked_at (child_at (sibling_of i) ts))
+    if opens then slice_set (slice_set (map closed_tree ts) i p) (sibling_of i)
+    (opened_sibling (child_at (sibling_of i) ts))
     else slice_set (map closed_tree ts) i p
 
 -- What a part lacks.
 
-abbrev pub change_misses : Change → List ℕ → RowTree → Bool
-change_misses Insertion = insert_misses
-change_misses Replacement = replace_misses
-change_misses Removal = remove_misses
+abbrev pub change_is_missing : Change → List ℕ → RowTree → Bool
+change_is_missing Insertion = insert_is_missing
+change_is_missing Replacement = replace_is_missing
+change_is_missing Removal = remove_is_missing
 
 -- the path to a key, or also the key's row
 abbrev pub path_misses : Bool → List ℕ → RowTree → Bool
-path_misses true = replace_misses
-path_misses false = insert_misses
+path_misses true = replace_is_missing
+path_misses false = insert_is_missing
 
 -- What a part has that the change doesn't look at.
 
 abbrev pub rows_go_beyond : Change → List ℕ → List PartEntry → Bool
 rows_go_beyond Insertion key es = list_any shows_cells es
-rows_go_beyond Replacement key es = rows_beyond key es
+rows_go_beyond Replacement key es = rows_surplus key es
 rows_go_beyond Removal key es = list_any shows_cells es
 
-abbrev pub change_goes_beyond : Change → List ℕ → RowTree → Bool
-change_goes_beyond Insertion = insert_goes_beyond
-change_goes_beyond Replacement = replace_goes_beyond
-change_goes_beyond Removal = remove_goes_beyond
+abbrev pub change_has_surplus : Change → List ℕ → RowTree → Bool
+change_has_surplus Insertion = insert_has_surplus
+change_has_surplus Replacement = replace_has_surplus
+change_has_surplus Removal = remove_has_surplus
 
 -- beside the child of this number, and below its sibling's node if that is opened
 abbrev pub surplus_along : ℕ → Bool → List RowTree → Bool
 surplus_along i opens ts =
-    if opens then looked_beyond (child_at (sibling_of i) ts) || outside (i - 1) (i - 1 + 2) ts else outside i (i + 1) ts
+    if opens then opened_sibling_surplus (child_at (sibling_of i) ts)
+    || outside (i - 1) (i - 1 + 2) ts else outside i (i + 1) ts

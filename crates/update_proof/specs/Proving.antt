@@ -3,11 +3,11 @@ use Rattle.std.specs.Prelude.{ℕ, Bool, if◌then◌else◌, Result, Ok, Err}
 use Rattle.vo_spec.specs.declared.trees.ScanFault.{ScanFault}
 use Rattle.vo_spec.specs.declared.trees.ScanFault.TheVariants.{Missing}
 use Rattle.vo_spec.specs.Trees.{RowTree}
-use Rattle.vo_spec.specs.Inserts.{insert_misses, insert_goes_beyond, insert_proof}
+use Rattle.vo_spec.specs.Inserts.{insert_is_missing, insert_has_surplus, insert_proof}
 use Rattle.vo_spec.specs.Removes.{replace_proof, remove_proof}
 use Rattle.mb_update.specs.declared.ops.Op.{Op}
 use Rattle.mb_update.specs.declared.ops.Op.TheVariants.{Insert, Replace, Remove}
-pub use Rattle.vo_laws.specs.UpdateProofs.{lacks, replace_misses, rows_beyond, replace_goes_beyond, replace_beyond_in, remove_misses, looked_beyond, neighbour_beyond, first_beyond, remove_goes_beyond, remove_beyond_in, remove_beyond_after}
+pub use Rattle.vo_laws.specs.UpdateProofs.{lacks, replace_is_missing, rows_surplus, replace_has_surplus, replace_has_surplus_in, remove_is_missing, opened_sibling_surplus, sibling_surplus, first_surplus, remove_has_surplus, remove_has_surplus_in, remove_has_surplus_after}
 
 -- Missing where something is, else the answer
 abbrev pub told : Bool → Bool → Result Bool ScanFault
@@ -20,13 +20,13 @@ update_proof (Replace key sets) = replace_proof key
 update_proof (Remove key) = remove_proof key
 
 -- the change looks at a stub, or at what it can't go on with
-abbrev pub update_misses : Op → RowTree → Bool
-update_misses (Insert row) = insert_misses row.key
-update_misses (Replace key sets) = replace_misses key
-update_misses (Remove key) = remove_misses key
+abbrev pub update_is_missing : Op → RowTree → Bool
+update_is_missing (Insert row) = insert_is_missing row.key
+update_is_missing (Replace key sets) = replace_is_missing key
+update_is_missing (Remove key) = remove_is_missing key
 
 -- what the change doesn't look at is open
-abbrev pub update_goes_beyond : Op → RowTree → Bool
-update_goes_beyond (Insert row) = insert_goes_beyond row.key
-update_goes_beyond (Replace key sets) = replace_goes_beyond key
-update_goes_beyond (Remove key) = remove_goes_beyond key
+abbrev pub update_has_surplus : Op → RowTree → Bool
+update_has_surplus (Insert row) = insert_has_surplus row.key
+update_has_surplus (Replace key sets) = replace_has_surplus key
+update_has_surplus (Remove key) = remove_has_surplus key

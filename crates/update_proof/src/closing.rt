@@ -2,7 +2,7 @@
 ghost use Rattle.std.specs.Prelude.{◌≡◌, map, IfOk};
 ghost use Rattle.vo_spec.specs.Cells.{whole_entry};
 ghost use Rattle.vo_spec.specs.Inserts.{closed_entry};
-ghost use Rattle.vo_spec.specs.Removes.{looked_at};
+ghost use Rattle.vo_spec.specs.Removes.{opened_sibling};
 ghost use Rattle.mb_tree.specs.View.{part_of};
 ghost use Rattle.update_proof.specs.Closing.{closed_tree};
 
@@ -43,7 +43,7 @@ pub fn close_entries<'b>(
 
 /// The branch's node, and nothing of what is below it.
 pub fn open_node<'b>(alloc: Global, branch: &'b Branch) -> Result<PartTree<'b>, AllocError>
-    ensures { IfOk result (λ part. part_of part ≡ looked_at branch.now) }
+    ensures { IfOk result (λ part. part_of part ≡ opened_sibling branch.now) }
 {
     match branch.node() {
         Node::Leaf(entries) => Ok(PartTree::Leaf(close_entries(alloc, entries)?)),

@@ -2,8 +2,8 @@
 ghost use Rattle.std.specs.Prelude.{◌≡◌, length, map};
 ghost use Rattle.vo_spec.specs.Parts.{leaf, inner};
 ghost use Rattle.mb_tree.specs.View.{part_of, parts_of};
-ghost use Rattle.update_proof.specs.Changes.{change_misses, path_misses};
-ghost use Rattle.update_proof.specs.Proving.{remove_misses, replace_misses};
+ghost use Rattle.update_proof.specs.Changes.{change_is_missing, path_misses};
+ghost use Rattle.update_proof.specs.Proving.{remove_is_missing, replace_is_missing};
 
 use crate::change::Change;
 use btree::{position_above, position_of, remaining};
@@ -12,7 +12,7 @@ use vo_spec::{KeyPart, PartEntry, RowPart, UpdateFault};
 
 /// Whether something is missing that the change looks at.
 pub fn is_missing(tree: &PartTree<'_>, key: &[u8], change: Change) -> bool
-    ensures { result ≡ change_misses change key.now (part_of tree.now) }
+    ensures { result ≡ change_is_missing change key.now (part_of tree.now) }
 {
     match change {
         Change::Insertion => lacks_path(tree, key, false),
@@ -23,7 +23,7 @@ pub fn is_missing(tree: &PartTree<'_>, key: &[u8], change: Change) -> bool
 
 /// Whether the path of a removal, or a sibling of a node that is left underfull, isn't open.
 fn lacks_siblings(tree: &PartTree<'_>, key: &[u8]) -> bool
-    ensures { result ≡ remove_misses key.now (part_of tree.now) }
+    ensures { result ≡ remove_is_missing key.now (part_of tree.now) }
 {
     match remaining::<PartTree<'_>>(tree, key) {
         Err(UpdateFault::Missing) => true,
@@ -64,7 +64,7 @@ fn lacks_path_below(
 
 /// Whether the row of the key is a digest.
 fn lacks_row(entries: &[PartEntry<'_>], key: &[u8]) -> bool
-    ensures { result ≡ replace_misses key.now (leaf entries.now) }
+    ensures { result ≡ replace_is_missing key.now (leaf entries.now) }
 {
     let place = position_of(entries, key);
     if place >= entries.len() {

@@ -3,9 +3,9 @@ ghost use Rattle.std.specs.Prelude.{◌≡◌, ◌≤◌, ◌<◌, not, length, 
 ghost use Rattle.std.specs.List.{list_any};
 ghost use Rattle.vo_spec.specs.Parts.{inner};
 ghost use Rattle.mb_tree.specs.View.{part_of, parts_of};
-ghost use Rattle.update_proof.specs.Changes.{change_goes_beyond, surplus_along};
+ghost use Rattle.update_proof.specs.Changes.{change_has_surplus, surplus_along};
 ghost use Rattle.update_proof.specs.Closing.{is_open, outside};
-ghost use Rattle.update_proof.specs.Proving.{looked_beyond, told, update_misses, update_goes_beyond};
+ghost use Rattle.update_proof.specs.Proving.{opened_sibling_surplus, told, update_is_missing, update_has_surplus};
 
 use crate::change::{Change, change_of, key_of, step_of};
 use crate::missing::is_missing;
@@ -18,8 +18,8 @@ use vo_spec::{KeyPart, ScanFault};
 /// Whether the part is the proof of the change, as far as it alone can tell: with nothing missing, true
 /// exactly where nothing is open that the change doesn't look at. It takes no memory.
 pub fn is_update_proof(tree: &PartTree<'_>, op: &Op) -> Result<bool, ScanFault>
-    ensures { result ≡ told (update_misses op.now (part_of tree.now))
-        (not (update_goes_beyond op.now (part_of tree.now))) }
+    ensures { result ≡ told (update_is_missing op.now (part_of tree.now))
+        (not (update_has_surplus op.now (part_of tree.now))) }
 {
     let key = key_of(op);
     let change = change_of(op);
@@ -32,7 +32,7 @@ pub fn is_update_proof(tree: &PartTree<'_>, op: &Op) -> Result<bool, ScanFault>
 /// Whether anything is open that the change doesn't look at.
 #[cycle(has_surplus)]
 fn has_surplus<'b>(tree: &PartTree<'b>, key: &[u8], change: Change) -> bool
-    ensures { result ≡ change_goes_beyond change key.now (part_of tree.now) }
+    ensures { result ≡ change_has_surplus change key.now (part_of tree.now) }
 {
     match tree {
         PartTree::Stub(_) => false,
@@ -51,7 +51,7 @@ fn children_have_surplus<'b>(
     key: &[u8],
     change: Change,
 ) -> bool
-    ensures { result ≡ change_goes_beyond change key.now
+    ensures { result ≡ change_has_surplus change key.now
         (inner separators.now (parts_of children.now)) }
 {
     let step = step_of(change, separators, children, key);
@@ -98,7 +98,7 @@ fn any_open(trees: &[PartTree<'_>]) -> bool
 
 /// Whether more is open of a node than the node itself.
 fn is_open_below(tree: &PartTree<'_>) -> bool
-    ensures { result ≡ looked_beyond (part_of tree.now) }
+    ensures { result ≡ opened_sibling_surplus (part_of tree.now) }
 {
     match tree {
         PartTree::Stub(_) => false,

@@ -3,7 +3,7 @@ ghost use Rattle.std.specs.Prelude.{◌≡◌, ◌<◌, ◌+◌, ◌||◌, lengt
 ghost use Rattle.std.specs.List.{list_any};
 ghost use Rattle.update_proof.specs.Changes.{rows_go_beyond};
 ghost use Rattle.update_proof.specs.Closing.{is_shown, shows_any, shows_cells};
-ghost use Rattle.update_proof.specs.Proving.{rows_beyond};
+ghost use Rattle.update_proof.specs.Proving.{rows_surplus};
 
 use crate::change::Change;
 use btree::position_of;
@@ -21,7 +21,7 @@ pub fn rows_have_surplus(entries: &[PartEntry<'_>], key: &[u8], change: Change) 
 
 /// Whether the row of the key shows a cell, or another row stands as cells.
 fn others_have_surplus(entries: &[PartEntry<'_>], key: &[u8]) -> bool
-    ensures { result ≡ rows_beyond key.now entries.now }
+    ensures { result ≡ rows_surplus key.now entries.now }
 {
     let place = position_of(entries, key);
     if place >= entries.len() {

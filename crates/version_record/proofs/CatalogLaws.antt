@@ -10,7 +10,7 @@ use Rattle.vo_spec.specs.declared.records.CatalogTable.{CatalogTable}
 use Rattle.vo_spec.specs.declared.records.Catalog.{Catalog}
 use Rattle.vo_spec.specs.Bytes.{IsBytes, u16_bytes, u64_bytes, short_string}
 use Rattle.vo_spec.specs.Values.{same_kind}
-use Rattle.vo_spec.specs.Tables.{column_at, has_twice, most_tables}
+use Rattle.vo_spec.specs.Tables.{column_at, has_twice, max_tables}
 use Rattle.vo_spec.specs.Batches.{FitCounted, FitsColumn, counted, column_bytes}
 use Rattle.vo_spec.specs.Records.{catalog_table_bytes, catalog_bytes, are_rising, FitsSchema, FitsCatalogTable, FitsCatalog, IsCatalog}
 use Rattle.row_bytes.specs.declared.read_fault.ReadFault.{ReadFault}
@@ -114,11 +114,11 @@ regrouped name s rows root =
     ap (λ (t : List ℕ). t ++ rows ++ root) (sym (append_assoc (short_string name) (counted column_bytes s.columns) (one_byte s.key)))
     ∙ ap (λ (t : List ℕ). t ++ root) (append_assoc (short_string name ++ counted column_bytes s.columns) (one_byte s.key) rows)
 
-Spelled : List ℕ → CatalogTable × List ℕ → Type 0
-Spelled bytes p = Took bytes (catalog_table_bytes p.0) p.1 × FitsCatalogTable p.0
+Encoded : List ℕ → CatalogTable × List ℕ → Type 0
+Encoded bytes p = Took bytes (catalog_table_bytes p.0) p.1 × FitsCatalogTable p.0
 
 table_found : (bytes : List ℕ) (t : CatalogTable) (rest : List ℕ) → IsBytes bytes → catalog_table_at bytes ≡ Some (t, rest) → Took bytes (catalog_table_bytes t) rest × FitsCatalogTable t
-unfolding catalog_table_at Spelled
+unfolding catalog_table_at Encoded
 table_found bytes t rest fits e =
     let y : CatalogTable × List ℕ = (t, rest) in
     let n = next_found names_read schema_behind bytes y fits e in
@@ -129,8 +129,8 @@ table_found bytes t rest fits e =
     let ns = took_then bytes (short_string n.0) n.1 (schema_bytes s.0) s.1 n.2 s.2 in
     let nsr = took_then bytes (short_string n.0 ++ schema_bytes s.0) s.1 (u64_bytes r.0) r.1 ns r.2 in
     let all = took_then bytes (short_string n.0 ++ schema_bytes s.0 ++ u64_bytes r.0) r.1 d.0 d.1 nsr d.2 in
-    let spelled : Took bytes (catalog_table_bytes (table_of n.0 s.0 r.0 d.0)) d.1 = subst (λ (x : List ℕ). Took bytes x d.1) (regrouped n.0 s.0 (u64_bytes r.0) d.0) all in
-    subst (Spelled bytes) few.1 (spelled, record { name = n.3; schema = s.3; rows = ltb-true r.0 (2 ^ 32) few.0; root = d.3 })
+    let encoded : Took bytes (catalog_table_bytes (table_of n.0 s.0 r.0 d.0)) d.1 = subst (λ (x : List ℕ). Took bytes x d.1) (regrouped n.0 s.0 (u64_bytes r.0) d.0) all in
+    subst (Encoded bytes) few.1 (encoded, record { name = n.3; schema = s.3; rows = ltb-true r.0 (2 ^ 32) few.0; root = d.3 })
 
 table_again : (t : CatalogTable) (rest : List ℕ) → FitsCatalogTable t → catalog_table_at (catalog_table_bytes t ++ rest) ≡ Some (t, rest)
 unfolding catalog_table_at
@@ -160,27 +160,27 @@ abbrev tables_of : ℕ × List ℕ → Option (Catalog × List ℕ)
 tables_of count = times catalog_table_at count.0 count.1 >>= rising
 
 abbrev counted_tables : ℕ × List ℕ → Option (Catalog × List ℕ)
-counted_tables count = where_true (leb count.0 most_tables) count >>= tables_of
+counted_tables count = where_true (leb count.0 max_tables) count >>= tables_of
 
-IsSpelled : List ℕ → Catalog × List ℕ → Type 0
-IsSpelled bytes p = (bytes ≡ catalog_bytes p.0 ++ p.1) × FitsCatalog p.0
+IsEncoded : List ℕ → Catalog × List ℕ → Type 0
+IsEncoded bytes p = (bytes ≡ catalog_bytes p.0 ++ p.1) × FitsCatalog p.0
 
 catalog_found : (bytes : List ℕ) (c : Catalog) (rest : List ℕ) → IsBytes bytes → catalog_at bytes ≡ Some (c, rest) → (bytes ≡ catalog_bytes c ++ rest) × FitsCatalog c
-unfolding catalog_at catalog_bytes IsSpelled
+unfolding catalog_at catalog_bytes IsEncoded
 catalog_found bytes c rest fits e =
     let y : Catalog × List ℕ = (c, rest) in
     let a = bound (u16_at bytes) counted_tables y e in
     let n = u16_found bytes a.0.0 a.0.1 fits a.1 in
-    let b = bound (where_true (leb a.0.0 most_tables) a.0) tables_of y a.2 in
-    let few = tested (leb a.0.0 most_tables) a.0 b.0 b.1 in
+    let b = bound (where_true (leb a.0.0 max_tables) a.0) tables_of y a.2 in
+    let few = tested (leb a.0.0 max_tables) a.0 b.0 b.1 in
     let read : times catalog_table_at a.0.0 a.0.1 >>= rising ≡ Some y = ap tables_of few.1 ∙ b.2 in
     let d = bound (times catalog_table_at a.0.0 a.0.1) rising y read in
     let f = times_found catalog_table_at catalog_table_bytes FitsCatalogTable tables_law a.0.0 a.0.1 d.0.0 d.0.1 n.behind d.1 in
     let last = tested (are_rising (names_of d.0.0)) (catalog_of d.0.0, d.0.1) y d.2 in
     let parts = (took_then bytes (u16_bytes a.0.0) a.0.1 (flat_map catalog_table_bytes d.0.0) d.0.1 n f.0).parts in
-    let spelled : bytes ≡ catalog_bytes (catalog_of d.0.0) ++ d.0.1 = parts ∙ ap (λ (k : ℕ). u16_bytes k ++ flat_map catalog_table_bytes d.0.0 ++ d.0.1) (sym f.1) in
-    subst (IsSpelled bytes) last.1
-    (spelled, record { count = omega (arith, leb-true a.0.0 most_tables few.0, f.1); each = f.2; rising = last.0 })
+    let encoded : bytes ≡ catalog_bytes (catalog_of d.0.0) ++ d.0.1 = parts ∙ ap (λ (k : ℕ). u16_bytes k ++ flat_map catalog_table_bytes d.0.0 ++ d.0.1) (sym f.1) in
+    subst (IsEncoded bytes) last.1
+    (encoded, record { count = omega (arith, leb-true a.0.0 max_tables few.0, f.1); each = f.2; rising = last.0 })
 
 catalog_again : (c : Catalog) (rest : List ℕ) → FitsCatalog c → catalog_at (catalog_bytes c ++ rest) ≡ Some (c, rest)
 unfolding catalog_at catalog_bytes
@@ -188,7 +188,7 @@ catalog_again c rest fits =
     ap catalog_at (append_assoc (u16_bytes (length c.tables)) (flat_map catalog_table_bytes c.tables) rest)
     ∙ rw (
       u16_read (length c.tables) (flat_map catalog_table_bytes c.tables ++ rest) (omega (arith, fits.count)),
-      le-leb (length c.tables) most_tables fits.count,
+      le-leb (length c.tables) max_tables fits.count,
       times_again catalog_table_at catalog_table_bytes FitsCatalogTable tables_law c.tables rest fits.each,
       fits.rising,
     ) refl
@@ -198,11 +198,11 @@ catalog_again c rest fits =
 pub is_catalog : (bytes : List ℕ) (r : Result Catalog ReadFault) → IsBytes bytes → CatalogRead r (whole (catalog_at bytes)) → IfOk r (λ catalog. IsCatalog bytes catalog)
 is_catalog bytes (Ok catalog) fits read =
     let f = catalog_found bytes catalog [] fits (whole_is (catalog_at bytes) catalog read) in
-    record { fits = f.1; spelled = f.0 ∙ append-nil (catalog_bytes catalog) }
+    record { fits = f.1; encoded = f.0 ∙ append-nil (catalog_bytes catalog) }
 is_catalog bytes (Err fault) fits read = tt
 
 pub is_read : (bytes : List ℕ) (r : Result Catalog ReadFault) (c : Catalog) → CatalogRead r (whole (catalog_at bytes)) → IsCatalog bytes c → CatalogRead r (Some c)
 is_read bytes r c read is =
     subst (CatalogRead r)
-    (ap (λ (t : List ℕ). whole (catalog_at t)) (is.spelled ∙ sym (append-nil (catalog_bytes c))) ∙ ap whole (catalog_again c [] is.fits))
+    (ap (λ (t : List ℕ). whole (catalog_at t)) (is.encoded ∙ sym (append-nil (catalog_bytes c))) ∙ ap whole (catalog_again c [] is.fits))
     read

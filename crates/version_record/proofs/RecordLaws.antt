@@ -143,9 +143,9 @@ pub is_record : (bytes : List ℕ) (read : Option Record) → IsBytes bytes → 
 is_record bytes None fits e = tt
 is_record bytes (Some rec) fits e =
     let f = record_found bytes rec [] fits (whole_is (record_at bytes) rec (sym e)) in
-    record { fits = f.1; spelled = f.0.parts ∙ append-nil (record_bytes rec) }
+    record { fits = f.1; encoded = f.0.parts ∙ append-nil (record_bytes rec) }
 
 pub is_read : (bytes : List ℕ) (rec : Record) → IsRecord bytes rec → whole (record_at bytes) ≡ Some rec
 is_read bytes rec is =
-    ap (λ (t : List ℕ). whole (record_at t)) (is.spelled ∙ sym (append-nil (record_bytes rec)))
+    ap (λ (t : List ℕ). whole (record_at t)) (is.encoded ∙ sym (append-nil (record_bytes rec)))
     ∙ ap whole (record_again rec [] is.fits)

@@ -11,8 +11,8 @@ use Rattle.vo_spec.specs.declared.records.Entry.{Entry}
 use Rattle.vo_spec.specs.Firsts.{first_some, unless}
 use Rattle.vo_spec.specs.Conditions.{Query}
 use Rattle.vo_spec.specs.Records.{catalog_digest}
-use Rattle.vo_spec.specs.Replies.{Reply, IsReply, most_reply}
-use Rattle.vo_spec.specs.Checks.{key_fault, leaf_fault, signature_fault, age_fault, catalog_fault, count_fault, shape_fault, root_fault, missing_fault, surplus_fault, tables_wanted, trees_of, reply_fault, answer_to, CheckOf}
+use Rattle.vo_spec.specs.Replies.{Reply, IsReply, max_reply}
+use Rattle.vo_spec.specs.Checks.{key_fault, leaf_fault, signature_fault, age_fault, catalog_fault, count_fault, shape_fault, root_fault, missing_fault, surplus_fault, tables_wanted, trees_of, check_fault, answer_to, CheckOf}
 use Rattle.vo_spec.specs.Owners.{IsOwned, IsBadAt}
 use Rattle.vo_spec.specs.Audits.{AuditOf}
 use Rattle.vo_laws.proofs.JoinLaws.{is_bytes}
@@ -46,9 +46,9 @@ pub record IsAccepted (q : Query) (r : Reply) (answer : Answer) : Type 0 where
   pub answer_is : answer ≡ seen_answer q r
 
 pub accepted : (key : List ℕ) (q : Query) (r : Reply) (answer : Answer) → answer_to key 0 q r ≡ Ok answer → IsAccepted q r answer
-unfolding answer_to reply_fault
+unfolding answer_to check_fault
 accepted key q r answer e =
-    let all = unless_ok (reply_fault key 0 q r) (seen_answer q r) answer e in
+    let all = unless_ok (check_fault key 0 q r) (seen_answer q r) answer e in
     let none = ten_pass (key_fault key r) (leaf_fault key r) (signature_fault key r) (age_fault 0 r) (catalog_fault r) (count_fault q r) (shape_fault q r)
     (first_some (map root_fault (trees_of q r))) (missing_fault q r) (surplus_fault q r) all.0 in
     record {
@@ -63,7 +63,7 @@ accepted key q r answer e =
 
 -- what is told of a reply that was read is told of its bytes
 pub told_of_bytes : (key journal bytes : List ℕ) (es : List Entry) (q : Query) (r : Reply) (answer : Result Verdict AuditFault)
-    → IsOwned key journal es → length bytes ≤ most_reply → IsReply bytes r → AuditsReply key es q r answer
+    → IsOwned key journal es → length bytes ≤ max_reply → IsReply bytes r → AuditsReply key es q r answer
     → (answer ≡ Err Memory) ⊎ AuditOf key journal q bytes answer
 unfolding AuditOf CheckOf
 told_of_bytes key journal bytes es q r (Err (BadJournal index)) owned short is told = absurd told

@@ -7,7 +7,7 @@ use Rattle.vo_spec.specs.declared.records.Entry.{Entry}
 use Rattle.vo_spec.specs.Journals.{FitsEntry, IsJournal}
 use Rattle.vo_spec.specs.Owners.{IsOwned}
 use Rattle.vo_spec.specs.Honest.{honest_record}
-use Rattle.vo_laws.proofs.EntryLaws.{owned_are_taken, held_record, stand_at}
+use Rattle.vo_laws.proofs.EntryLaws.{owned_are_loadable, held_record, stand_at}
 use Rattle.owner_state.specs.declared.journals.OwnedJournal.{OwnedJournal}
 use Rattle.vo_audit.specs.Auditing.{IsReadAt, stored_at}
 
@@ -20,7 +20,7 @@ pub read_at : (key bytes : List ℕ) (version : ℕ) (owned : OwnedJournal) → 
     → IsReadAt version owned
 unfolding IsOwned honest_record
 read_at key bytes version owned is tables there =
-    let taken = owned_are_taken key owned.entries is.1 in
+    let taken = owned_are_loadable key owned.entries is.1 in
     record {
       some = is.2;
       signed = λ rec holds. ap (λ (r : Record). r.catalog) (held_record key owned.entries rec taken holds);

@@ -12,9 +12,9 @@ use Rattle.vo_spec.specs.declared.queries.QueryFault.{QueryFault}
 use Rattle.vo_spec.specs.declared.queries.QueryFault.TheVariants.{NoTable}
 use Rattle.vo_spec.specs.Firsts.{first_some}
 use Rattle.vo_spec.specs.Conditions.{Condition, Query}
-use Rattle.vo_spec.specs.Tables.{heading_named}
-use Rattle.vo_spec.specs.Results.{sides, sources, missing_table, binding_fault}
-use Rattle.vo_spec.specs.Records.{headings}
+use Rattle.vo_spec.specs.Tables.{table_header_named}
+use Rattle.vo_spec.specs.Results.{bound_sources, sources, missing_table, binding_fault}
+use Rattle.vo_spec.specs.Records.{table_headers}
 use Rattle.vo_spec.specs.Fits.{FitsTree}
 use Rattle.vo_spec.specs.Trees.{RowTree, Prunes, digest}
 use Rattle.vo_spec.specs.Replies.{Reply, FitsReply}
@@ -36,12 +36,12 @@ stored_named name stored = find (λ s. bytes_eq s.name name) stored
 abbrev IsThere : List Stored → List ℕ → Type 0
 IsThere stored name = is_some (stored_named name stored) ≡ true
 
-heading_there : (name : List ℕ) (stored : List Stored) → is_some (heading_named name (headings (catalog_of stored))) ≡ true → IsThere stored name
-heading_there name [] e = e
-heading_there name (s ∷ stored) e = step (bytes_eq s.name name) (heading_there name stored) e
+table_header_there : (name : List ℕ) (stored : List Stored) → is_some (table_header_named name (table_headers (catalog_of stored))) ≡ true → IsThere stored name
+table_header_there name [] e = e
+table_header_there name (s ∷ stored) e = step (bytes_eq s.name name) (table_header_there name stored) e
   where
-    step : (b : Bool) → (is_some (heading_named name (headings (catalog_of stored))) ≡ true → IsThere stored name)
-        → is_some (cond b (Some (record { name = s.name; schema = (catalog_table s).schema; count = (catalog_table s).rows })) (heading_named name (headings (catalog_of stored)))) ≡ true
+    step : (b : Bool) → (is_some (table_header_named name (table_headers (catalog_of stored))) ≡ true → IsThere stored name)
+        → is_some (cond b (Some (record { name = s.name; schema = (catalog_table s).schema; count = (catalog_table s).rows })) (table_header_named name (table_headers (catalog_of stored)))) ≡ true
         → is_some (cond b (Some s) (stored_named name stored)) ≡ true
     step true more e = refl
     step false more e = more e
@@ -56,12 +56,12 @@ first_none (Some f) os e = absurd (cc)
 
 -- the first sources of tests in a row are there
 sources_there : (stored : List Stored) (ss : List Source) (others : List (Option QueryFault))
-    → first_some (map (missing_table (headings (catalog_of stored))) ss ++ others) ≡ None → AllByRecursion (λ (s : Source). IsThere stored s.table) ss
+    → first_some (map (missing_table (table_headers (catalog_of stored))) ss ++ others) ≡ None → AllByRecursion (λ (s : Source). IsThere stored s.table) ss
 sources_there stored [] others e = tt
 sources_there stored (s ∷ ss) others e =
-    let hs = headings (catalog_of stored) in
+    let hs = table_headers (catalog_of stored) in
     let p = first_none (missing_table hs s) (map (missing_table hs) ss ++ others) e in
-    (heading_there s.table stored (source_there (is_some (heading_named s.table hs)) s.table p.0), sources_there stored ss others p.1)
+    (table_header_there s.table stored (source_there (is_some (table_header_named s.table hs)) s.table p.0), sources_there stored ss others p.1)
 
 -- The tables that are wanted.
 
@@ -88,12 +88,12 @@ wanted_there_of : (stored : List Stored) (items : Items) (left : Source) (join :
     → AllByRecursion (IsThere stored) (tables_wanted (record { items = items; left = left; join = join; condition = condition }) (catalog_of stored))
 wanted_there_of stored items left None condition =
     let q : Query = record { items = items; left = left; join = None; condition = condition } in
-    let fault = binding_fault (headings (catalog_of stored)) q in
+    let fault = binding_fault (table_headers (catalog_of stored)) q in
     alone_there (IsThere stored) (is_some fault) left.table (λ right. (sources_there stored (sources q) _ (no_fault fault right)).0)
 wanted_there_of stored items left (Some j) condition =
     let q : Query = record { items = items; left = left; join = Some j; condition = condition } in
-    let fault = binding_fault (headings (catalog_of stored)) q in
-    joined_there (IsThere stored) (is_some fault) (same_table (sides (headings (catalog_of stored)) q)) left.table j.right.table
+    let fault = binding_fault (table_headers (catalog_of stored)) q in
+    joined_there (IsThere stored) (is_some fault) (same_table (bound_sources (table_headers (catalog_of stored)) q)) left.table j.right.table
     (λ right. let all = sources_there stored (sources q) _ (no_fault fault right) in (all.0, all.1.0))
 
 wanted_there : (stored : List Stored) (q : Query) → AllByRecursion (IsThere stored) (tables_wanted q (catalog_of stored))
@@ -118,10 +118,10 @@ wanted_at_of : (items : Items) (left : Source) (join : Option Join) (condition :
     place < length (tables_wanted q c) → get_or (tables_wanted q c) place d ≡ table_at q place
 wanted_at_of items left None condition c d place h =
     let q : Query = record { items = items; left = left; join = None; condition = condition } in
-    alone_at (is_some (binding_fault (headings c) q)) left.table left.table d place h
+    alone_at (is_some (binding_fault (table_headers c) q)) left.table left.table d place h
 wanted_at_of items left (Some j) condition c d place h =
     let q : Query = record { items = items; left = left; join = Some j; condition = condition } in
-    joined_at (is_some (binding_fault (headings c) q)) (same_table (sides (headings c) q)) left.table j.right.table d place h
+    joined_at (is_some (binding_fault (table_headers c) q)) (same_table (bound_sources (table_headers c) q)) left.table j.right.table d place h
 
 wanted_at : (q : Query) (c : Catalog) (d : List ℕ) (place : ℕ) → place < length (tables_wanted q c) → get_or (tables_wanted q c) place d ≡ table_at q place
 wanted_at q c d place h = wanted_at_of q.items q.left q.join q.condition c d place h

@@ -22,15 +22,15 @@ use Rattle.vo_spec.specs.Journals.{Holds, batches_of, tables_at}
 use Rattle.vo_spec.specs.Trees.{Prunes}
 use Rattle.vo_spec.specs.Replies.{Reply}
 use Rattle.vo_spec.specs.Checks.{tables_wanted, trees_of, root_fault, missing_fault, seen_outcome, answer_to}
-use Rattle.vo_spec.specs.Honest.{Stored, StandForTables, catalog_of, honest_trees, trees_for}
+use Rattle.vo_spec.specs.Honest.{Stored, RepresentTables, catalog_of, honest_trees, trees_for}
 use Rattle.vo_spec.specs.Audits.{IsVerdict}
 use Rattle.vo_format.specs.declared.reply.Reply.{Reply as ReadReply}
 use Rattle.owner_state.specs.declared.journals.OwnedJournal.{OwnedJournal}
 
 -- two different byte strings of one digest are found, or the fact holds
-abbrev pub Finds : Option (List ℕ × List ℕ) → Type 0 → Type 0
-Finds None fact = fact
-Finds (Some found) fact = Collides found.0 found.1
+abbrev pub CollidesOr : Option (List ℕ × List ℕ) → Type 0 → Type 0
+CollidesOr None fact = fact
+CollidesOr (Some found) fact = Collides found.0 found.1
 
 -- the numbers that comparisons compare with are of 64 bits
 abbrev pub FitComparisons : List (Ref × Operand) → Type 0
@@ -69,8 +69,9 @@ stored_at version es = honest_trees (batches_of (take version (drop 1 es)))
 -- an owner's journal, read with the tables of this version
 pub record IsReadAt (version : ℕ) (owned : OwnedJournal) : Type 0 where
   pub some : 0 < length owned.entries
-  pub signed : (rec : Record) → Holds owned.entries rec → rec.catalog ≡ catalog_digest (catalog_of (stored_at rec.version owned.entries))
-  pub stand : StandForTables (stored_at version owned.entries) (tables_at version owned.entries)
+  pub signed : (rec : Record) → Holds owned.entries rec
+      → rec.catalog ≡ catalog_digest (catalog_of (stored_at rec.version owned.entries))
+  pub stand : RepresentTables (stored_at version owned.entries) (tables_at version owned.entries)
   pub tables : IfSome owned.tables (λ tables. tables ≡ stored_at version owned.entries)
   pub there : version < length owned.entries → IsSome owned.tables
 
@@ -79,12 +80,15 @@ pub record IsReadAt (version : ℕ) (owned : OwnedJournal) : Type 0 where
 -- the verdict where the journal holds the record, by the tables of its version
 abbrev pub IsHeldVerdict : List Table → Query → Answer → Verdict → Type 0
 IsHeldVerdict tables q answer (Unsigned rec signature last) = ⊥
-IsHeldVerdict tables q answer (Exact version) = (answer.outcome ≡ result q tables) × (version ≡ answer.version)
-IsHeldVerdict tables q answer (Collide found) = (answer.outcome ≢ result q tables) × Collides found.0 found.1
+IsHeldVerdict tables q answer (Exact version) = (answer.outcome ≡ result q tables)
+    × (version ≡ answer.version)
+IsHeldVerdict tables q answer (Collide found) = (answer.outcome ≢ result q tables)
+    × Collides found.0 found.1
 
 -- what an audit says of a reply that was read, by the entries of a journal that was
 abbrev pub AuditsReply : List ℕ → List Entry → Query → Reply → Result Verdict AuditFault → Type 0
 AuditsReply key es q r (Err (BadJournal index)) = ⊥
 AuditsReply key es q r (Err (Refused fault)) = answer_to key 0 q r ≡ Err fault
 AuditsReply key es q r (Err Memory) = Unit {0}
-AuditsReply key es q r (Ok verdict) = (answer : Answer) × (answer_to key 0 q r ≡ Ok answer) × IsVerdict es q r answer verdict
+AuditsReply key es q r (Ok verdict) = (answer : Answer) × (answer_to key 0 q r ≡ Ok answer)
+    × IsVerdict es q r answer verdict

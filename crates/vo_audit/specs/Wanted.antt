@@ -8,7 +8,8 @@ use Rattle.vo_spec.specs.Honest.{Stored}
 
 -- the table whose tree stands at this place: the left one's is first
 abbrev pub table_at : Query → ℕ → List ℕ
-table_at q place = if place == 0 then q.left.table else option_map_or (λ j. j.right.table) q.join q.left.table
+table_at q place = if place == 0 then q.left.table
+    else option_map_or (λ j. j.right.table) q.join q.left.table
 
 -- the tree is within its limits and has the digest of the whole tree of this table
 pub record IsWanted (stored : List Stored) (name : List ℕ) (tree : RowTree) : Type 0 where

@@ -3,7 +3,7 @@ ghost use Rattle.std.specs.Prelude.{◌≡◌, ◌↔◌, List, IsTrue, IfOk};
 ghost use Rattle.vo_spec.specs.declared.tables.Table.{Table};
 ghost use Rattle.vo_spec.specs.Conditions.{query_of};
 ghost use Rattle.vo_spec.specs.Results.{result as result_of};
-ghost use Rattle.vo_spec.specs.Honest.{StandForTables};
+ghost use Rattle.vo_spec.specs.Honest.{RepresentTables};
 
 use plain_result::{result_on, same_outcome};
 use std::alloc::{AllocError, Global};
@@ -17,7 +17,7 @@ pub(crate) fn is_result(
     query: &QueryText,
     outcome: &Outcome,
 ) -> Result<bool, AllocError>
-    ensures { (plain : List Table) → StandForTables tables.now plain
+    ensures { (plain : List Table) → RepresentTables tables.now plain
         → IfOk result (λ same. IsTrue same ↔ (outcome.now ≡ result_of (query_of query.now) plain)) }
 {
     let plain = tables.tables(alloc)?;

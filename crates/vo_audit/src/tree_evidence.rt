@@ -6,7 +6,7 @@ ghost use Rattle.vo_spec.specs.Trees.{Prunes};
 ghost use Rattle.vo_spec.specs.Checks.{tables_wanted};
 ghost use Rattle.vo_spec.specs.Honest.{catalog_of, stored_tree, trees_for};
 ghost use Rattle.mb_tree.specs.View.{part_of};
-ghost use Rattle.vo_audit.specs.Auditing.{Finds};
+ghost use Rattle.vo_audit.specs.Auditing.{CollidesOr};
 ghost use Rattle.vo_audit.specs.Wanted.{IsWanted, table_at};
 
 use mb_tree::PartTree;
@@ -33,7 +33,7 @@ fn compare_tree(
 ) -> Result<Option<Collision>, AllocError>
     requires { IsWanted tables.now name.now (part_of tree.now) }
     ensures { IfOk result (λ found.
-        Finds found (Prunes (part_of tree.now) (stored_tree tables.now name.now))) }
+        CollidesOr found (Prunes (part_of tree.now) (stored_tree tables.now name.now))) }
 {
     match tables.find(name.as_bytes()) {
         Some(table) => match agree(alloc, tree, &table.tree)? {
@@ -54,7 +54,7 @@ pub(crate) fn compare_trees(
     requires { AllZip (IsWanted tables.now)
         (tables_wanted (query_of query.now) (catalog_of tables.now)) (map part_of trees.now) }
     ensures { IfOk result (λ found.
-        Finds found (AllZip Prunes (map part_of trees.now)
+        CollidesOr found (AllZip Prunes (map part_of trees.now)
         (trees_for (query_of query.now) tables.now))) }
 {
     for (place, tree) in trees.iter().enumerate() {

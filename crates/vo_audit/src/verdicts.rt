@@ -5,7 +5,7 @@ ghost use Rattle.vo_spec.specs.declared.tables.Table.{Table};
 ghost use Rattle.vo_spec.specs.Conditions.{query_of};
 ghost use Rattle.vo_spec.specs.Records.{catalog_digest};
 ghost use Rattle.vo_spec.specs.Replies.{FitsReply};
-ghost use Rattle.vo_spec.specs.Honest.{StandForTables, catalog_of};
+ghost use Rattle.vo_spec.specs.Honest.{RepresentTables, catalog_of};
 ghost use Rattle.vo_spec.specs.Audits.{IsVerdict};
 ghost use Rattle.vo_format.specs.View.{reply_of};
 ghost use Rattle.vo_audit.specs.Auditing.{HasPassed, IsHeldVerdict, IsReadAt, seen_answer};
@@ -46,7 +46,7 @@ fn verdict_by(
     requires passed { HasPassed (query_of query.now) (reply_of reply.now) }
     requires answer { answer.now ≡ seen_answer (query_of query.now) (reply_of reply.now) }
     requires held { reply.now.rec.catalog ≡ catalog_digest (catalog_of tables.now) }
-    ensures { (plain : List Table) → StandForTables tables.now plain
+    ensures { (plain : List Table) → RepresentTables tables.now plain
         → IfOk result (λ verdict. IsHeldVerdict plain (query_of query.now) answer.now verdict) }
 {
     see_numbers(query);

@@ -11,10 +11,10 @@ use Rattle.vo_spec.specs.declared.checks.CheckFault.TheVariants.{Memory, WrongLe
 use Rattle.vo_spec.specs.Firsts.{first_some, unless}
 use Rattle.vo_spec.specs.Conditions.{Query}
 use Rattle.vo_spec.specs.Records.{record_bytes}
-use Rattle.vo_spec.specs.Replies.{Reply, IsReply, most_reply}
+use Rattle.vo_spec.specs.Replies.{Reply, IsReply, max_reply}
 use Rattle.vo_spec.specs.LmsSets.{lms_signature_len}
 use Rattle.vo_spec.specs.Lms.{key_lms, key_ots, key_id, key_root, is_lms_form, is_valid_under, is_valid_by, lms_valid, leaf_of}
-use Rattle.vo_spec.specs.Checks.{key_fault, leaf_fault, signature_fault, age_fault, reply_fault, seen_outcome, answer_to, CheckOf}
+use Rattle.vo_spec.specs.Checks.{key_fault, leaf_fault, signature_fault, age_fault, check_fault, seen_outcome, answer_to, CheckOf}
 use Rattle.vo_spec.specs.Owners.{IsSigned}
 use Rattle.vo_check.specs.Accepting.{IsSignedReply}
 
@@ -69,8 +69,8 @@ module _ (key : List ℕ) (least : ℕ) (r : Reply) where
   not_older e = let below : nat_lt r.rec.version least ≡ false = not_refused (nat_lt r.rec.version least) (Stale least r.rec.version) e in grind (arith, nat_tests)
 
   module _ (q : Query) where
-    pub of_no_fault : reply_fault key least q r ≡ None → IsSigned key r.rec r.signature × (least ≤ r.rec.version)
-    unfolding reply_fault
+    pub of_no_fault : check_fault key least q r ≡ None → IsSigned key r.rec r.signature × (least ≤ r.rec.version)
+    unfolding check_fault
     of_no_fault e =
         let after_key = (none_first (key_fault key r) _ e).1 in
         let at_leaf = none_first (leaf_fault key r) _ after_key in
@@ -79,7 +79,7 @@ module _ (key : List ℕ) (least : ℕ) (r : Reply) where
         let valid = passed (lms_valid key (record_bytes r.rec) r.signature) _ at_signature.0 in
         (record { leaf = by_leaf (leaf_of key r.signature) refl at_leaf.0 valid; valid = valid }, not_older at_age.0)
 
-    by_fault : (bytes : List ℕ) → IsReply bytes r → (a : Answer) (o : Option CheckFault) → reply_fault key least q r ≡ o
+    by_fault : (bytes : List ℕ) → IsReply bytes r → (a : Answer) (o : Option CheckFault) → check_fault key least q r ≡ o
         → Ok a ≡ unless o (record { version = r.rec.version; outcome = seen_outcome q r.catalog r.trees }) → IsSignedReply key least bytes a.version
     by_fault bytes read a (Some f) is e = absurd cc
     by_fault bytes read a None is e =
@@ -94,10 +94,10 @@ accepted key least q bytes (Err f) h = tt
 accepted key least q bytes (Ok a) (inl e) = absurd cc
 accepted key least q bytes (Ok a) (inr (inl (_, e))) = absurd cc
 accepted key least q bytes (Ok a) (inr (inr (inl (_, _, e)))) = absurd cc
-accepted key least q bytes (Ok a) (inr (inr (inr (_, reply, read, e)))) = by_fault key least reply q bytes read a (reply_fault key least q reply) refl e
+accepted key least q bytes (Ok a) (inr (inr (inr (_, reply, read, e)))) = by_fault key least reply q bytes read a (check_fault key least q reply) refl e
 
 -- the same of a reply that was read
-pub judged : (key : List ℕ) (least : ℕ) (q : Query) (bytes : List ℕ) (reply : Reply) (r : Result Answer CheckFault) → (length bytes ≤ most_reply) × IsReply bytes reply
+pub judged : (key : List ℕ) (least : ℕ) (q : Query) (bytes : List ℕ) (reply : Reply) (r : Result Answer CheckFault) → (length bytes ≤ max_reply) × IsReply bytes reply
     → (r ≡ Err Memory) ⊎ (r ≡ answer_to key least q reply) → IfOk r (λ answer. IsSignedReply key least bytes answer.version)
 unfolding CheckOf
 judged key least q bytes reply r read (inl out) = accepted key least q bytes r (inl out)

@@ -12,16 +12,16 @@ use Rattle.vo_spec.specs.declared.needs.Need.{Need}
 use Rattle.vo_spec.specs.Trees.{RowTree}
 use Rattle.vo_spec.specs.Firsts.{first_some, unless}
 use Rattle.vo_spec.specs.Conditions.{Query}
-use Rattle.vo_spec.specs.Records.{headings}
+use Rattle.vo_spec.specs.Records.{table_headers}
 use Rattle.vo_spec.specs.Replies.{Reply}
-use Rattle.vo_spec.specs.Results.{Side, sides, binding_fault, header, outcome, answer_rows}
+use Rattle.vo_spec.specs.Results.{BoundSource, bound_sources, binding_fault, header, outcome, answer_rows}
 use Rattle.vo_spec.specs.Needs.{tables_used, needs, seen_lefts, seen_rights}
-use Rattle.vo_spec.specs.Checks.{key_fault, leaf_fault, signature_fault, age_fault, catalog_fault, count_fault, trees_of, shape_fault, root_fault, missing_fault, surplus_fault, reply_fault, seen_outcome}
+use Rattle.vo_spec.specs.Checks.{key_fault, leaf_fault, signature_fault, age_fault, catalog_fault, count_fault, trees_of, shape_fault, root_fault, missing_fault, surplus_fault, check_fault, seen_outcome}
 use Rattle.query_plan.specs.BoundQueries.{BoundQuery, bound_query}
 use Rattle.query_plan.specs.Plans.{QueryPlan, plan_of}
 use Rattle.plan_run.specs.Running.{is_any_missing}
 use Rattle.plan_run.proofs.ByNames.{rows_same, needs_same}
-use Rattle.vo_check.specs.Testing.{Gives, Passes, paired, number_fault, shapes_fault, trees_fault, missed_fault, excess_fault, needs_fault}
+use Rattle.vo_check.specs.Testing.{GivesIfPassed, PassesTests, paired, number_fault, shapes_fault, trees_fault, missed_fault, excess_fault, needs_fault}
 use Rattle.vo_check.specs.Judging.{needed_for, shown_for, bound_fault, record_fault, proof_fault}
 
 -- Lists of faults in groups.
@@ -60,22 +60,22 @@ first_if false f rest e = absurd cc
 pub needs_refused : (p : QueryPlan) (r : Reply) → is_any_missing p r.trees ≡ true → needs_fault (needed_for p r) ≡ Some Missing
 needs_refused p r e = ap (λ b. first_some ((if b then Some Missing else None) ∷ excess_fault (needed_for p r) ∷ [])) e
 
-pub trees_refused : (b : BoundQuery) (r : Reply) (names : List (List ℕ)) → names ≡ tables_used b.sides → (fault : CheckFault) → Passes (Err fault) (trees_fault names r)
-    → Passes (Err fault) (bound_fault b r)
+pub trees_refused : (b : BoundQuery) (r : Reply) (names : List (List ℕ)) → names ≡ tables_used b.bound_sources → (fault : CheckFault) → PassesTests (Err fault) (trees_fault names r)
+    → PassesTests (Err fault) (bound_fault b r)
 trees_refused b r names are fault (inl memory) = inl memory
 trees_refused b r names are fault (inr found) =
     inr (ap (λ o. first_some (o ∷ needs_fault (needed_for (plan_of b) r) ∷ [])) (ap (λ ns. trees_fault ns r) (sym are) ∙ found))
 
-pub trees_passed : (b : BoundQuery) (r : Reply) (names : List (List ℕ)) → names ≡ tables_used b.sides → trees_fault names r ≡ None → bound_fault b r ≡ needs_fault (needed_for (plan_of b) r)
+pub trees_passed : (b : BoundQuery) (r : Reply) (names : List (List ℕ)) → names ≡ tables_used b.bound_sources → trees_fault names r ≡ None → bound_fault b r ≡ needs_fault (needed_for (plan_of b) r)
 trees_passed b r names are none =
     ap (λ o. first_some (o ∷ needs_fault (needed_for (plan_of b) r) ∷ [])) (ap (λ ns. trees_fault ns r) (sym are) ∙ none) ∙ alone (needs_fault (needed_for (plan_of b) r))
 
 -- a bound query whose trees pass is judged by what its plan needs
-pub bound_given : (b : BoundQuery) (r : Reply) (names : List (List ℕ)) → names ≡ tables_used b.sides → trees_fault names r ≡ None → (p : QueryPlan) → p ≡ plan_of b → (result : Result Outcome CheckFault)
-    → Gives result (needs_fault (needed_for p r)) (shown_for p r) → Gives result (bound_fault b r) (shown_for (plan_of b) r)
+pub bound_given : (b : BoundQuery) (r : Reply) (names : List (List ℕ)) → names ≡ tables_used b.bound_sources → trees_fault names r ≡ None → (p : QueryPlan) → p ≡ plan_of b → (result : Result Outcome CheckFault)
+    → GivesIfPassed result (needs_fault (needed_for p r)) (shown_for p r) → GivesIfPassed result (bound_fault b r) (shown_for (plan_of b) r)
 bound_given b r names are none p is result given =
-    subst (λ (o : Option CheckFault). Gives result o (shown_for (plan_of b) r)) (sym (trees_passed b r names are none))
-    (subst (λ (x : QueryPlan). Gives result (needs_fault (needed_for x r)) (shown_for x r)) is given)
+    subst (λ (o : Option CheckFault). GivesIfPassed result o (shown_for (plan_of b) r)) (sym (trees_passed b r names are none))
+    (subst (λ (x : QueryPlan). GivesIfPassed result (needs_fault (needed_for x r)) (shown_for x r)) is given)
 
 -- The tests of trees.
 
@@ -83,14 +83,14 @@ pub has_trees : (wanted : List (List ℕ)) (r : Reply) → trees_fault wanted r 
 has_trees wanted r e = sym (eqb-true (length r.trees) (length wanted) (first_if (length r.trees == length wanted) _ _ e))
 
 -- the trees, each with its needs, and what they show, by names
-abbrev needed_by : List Side → Query → Reply → List (List Need × RowTree)
+abbrev needed_by : List BoundSource → Query → Reply → List (List Need × RowTree)
 needed_by ss q r = zip (needs ss q r.trees) r.trees
 
-abbrev shown_rows : List Side → Query → Reply → Outcome
+abbrev shown_rows : List BoundSource → Query → Reply → Outcome
 shown_rows ss q r = Rows (header ss q.items) (answer_rows ss q (seen_lefts ss q r.trees) (seen_rights ss q r.trees))
 
 -- by whether the query is wrong
-abbrev proof_by : Bool → List Side → Query → Reply → Option CheckFault
+abbrev proof_by : Bool → List BoundSource → Query → Reply → Option CheckFault
 proof_by b ss q r =
     let wanted = if b then [] else tables_used ss in
     let needed = if b then [] else needed_by ss q r in
@@ -102,16 +102,16 @@ proof_by b ss q r =
     ∷ excess_fault needed
     ∷ [])
 
-proof_is : (q : Query) (r : Reply) (b : Bool) → is_some (binding_fault (headings r.catalog) q) ≡ b → proof_fault q r ≡ proof_by b (sides (headings r.catalog) q) q r
+proof_is : (q : Query) (r : Reply) (b : Bool) → is_some (binding_fault (table_headers r.catalog) q) ≡ b → proof_fault q r ≡ proof_by b (bound_sources (table_headers r.catalog) q) q r
 unfolding proof_fault
-proof_is q r b e = ap (λ (b : Bool). proof_by b (sides (headings r.catalog) q) q r) e
+proof_is q r b e = ap (λ (b : Bool). proof_by b (bound_sources (table_headers r.catalog) q) q r) e
 
 module _ (q : Query) (r : Reply) where
   abbrev faults : Option QueryFault
-  faults = binding_fault (headings r.catalog) q
+  faults = binding_fault (table_headers r.catalog) q
 
-  abbrev ss : List Side
-  ss = sides (headings r.catalog) q
+  abbrev ss : List BoundSource
+  ss = bound_sources (table_headers r.catalog) q
 
   bound_parts : faults ≡ None → proof_fault q r ≡ first_some (trees_fault (tables_used ss) r ∷ needs_fault (needed_by ss q r) ∷ [])
   bound_parts e =
@@ -134,8 +134,8 @@ module _ (q : Query) (r : Reply) where
   wrong_outcome f e = ap (λ f. outcome f (header ss q.items) (answer_rows ss q (seen_lefts ss q r.trees) (seen_rights ss q r.trees))) e
 
   -- a reply to a bound query is judged as one to its query
-  pub bound_same : faults ≡ None → (result : Result Outcome CheckFault) → Gives result (bound_fault (bound_query ss q) r) (shown_for (plan_of (bound_query ss q)) r)
-      → Gives result (proof_fault q r) (seen_outcome q r.catalog r.trees)
+  pub bound_same : faults ≡ None → (result : Result Outcome CheckFault) → GivesIfPassed result (bound_fault (bound_query ss q) r) (shown_for (plan_of (bound_query ss q)) r)
+      → GivesIfPassed result (proof_fault q r) (seen_outcome q r.catalog r.trees)
   bound_same e result given =
       let parts : proof_fault q r ≡ bound_fault (bound_query ss q) r =
       bound_parts e ∙ ap (λ (ns : List (List Need)). first_some (trees_fault (tables_used ss) r ∷ needs_fault (zip ns r.trees) ∷ [])) (sym (needs_same ss q r.trees)) in
@@ -143,32 +143,32 @@ module _ (q : Query) (r : Reply) where
       bound_outcome e ∙ ap (λ (rows : List (List Value)). Rows (header ss q.items) rows) (sym (rows_same ss q r.trees)) in
       rw (parts, shown) given
 
-  pub wrong_refused : (f : QueryFault) → faults ≡ Some f → (fault : CheckFault) → Passes (Err fault) (trees_fault [] r) → Passes (Err fault) (proof_fault q r)
+  pub wrong_refused : (f : QueryFault) → faults ≡ Some f → (fault : CheckFault) → PassesTests (Err fault) (trees_fault [] r) → PassesTests (Err fault) (proof_fault q r)
   wrong_refused f e fault (inl memory) = inl memory
   wrong_refused f e fault (inr found) = inr (wrong_parts f e ∙ found)
 
-  pub wrong_gives : (f : QueryFault) → faults ≡ Some f → trees_fault [] r ≡ None → Gives (Ok (Wrong f)) (proof_fault q r) (seen_outcome q r.catalog r.trees)
+  pub wrong_gives : (f : QueryFault) → faults ≡ Some f → trees_fault [] r ≡ None → GivesIfPassed (Ok (Wrong f)) (proof_fault q r) (seen_outcome q r.catalog r.trees)
   wrong_gives f e none = (wrong_parts f e ∙ none, sym (wrong_outcome f e))
 
 -- All tests.
 
 module _ (key : List ℕ) (least : ℕ) (q : Query) (r : Reply) where
-  reply_parts : reply_fault key least q r ≡ first_some (record_fault key least r ∷ catalog_fault r ∷ proof_fault q r ∷ [])
-  unfolding reply_fault proof_fault
+  reply_parts : check_fault key least q r ≡ first_some (record_fault key least r ∷ catalog_fault r ∷ proof_fault q r ∷ [])
+  unfolding check_fault proof_fault
   reply_parts = four_one (key_fault key r) (leaf_fault key r) (signature_fault key r) (age_fault least r) (catalog_fault r)
       (count_fault q r ∷ shape_fault q r ∷ first_some (map root_fault (trees_of q r)) ∷ missing_fault q r ∷ surplus_fault q r ∷ [])
 
-  pub refused_record : (fault : CheckFault) → Some fault ≡ record_fault key least r → reply_fault key least q r ≡ Some fault
+  pub refused_record : (fault : CheckFault) → Some fault ≡ record_fault key least r → check_fault key least q r ≡ Some fault
   refused_record fault e = reply_parts ∙ rw (sym e) refl
 
-  pub refused_catalog : (fault : CheckFault) → None ≡ record_fault key least r → Passes (Err fault) (catalog_fault r) → Passes (Err fault) (reply_fault key least q r)
+  pub refused_catalog : (fault : CheckFault) → None ≡ record_fault key least r → PassesTests (Err fault) (catalog_fault r) → PassesTests (Err fault) (check_fault key least q r)
   refused_catalog fault none (inl memory) = inl memory
   refused_catalog fault none (inr found) = inr (reply_parts ∙ rw (sym none, found) refl)
 
-  pub left_to_trees : None ≡ record_fault key least r → catalog_fault r ≡ None → reply_fault key least q r ≡ proof_fault q r
+  pub left_to_trees : None ≡ record_fault key least r → catalog_fault r ≡ None → check_fault key least q r ≡ proof_fault q r
   left_to_trees none passed = reply_parts ∙ rw (sym none, passed) (alone (proof_fault q r))
 
-pub answered : {A : Type 0} (result : Result A CheckFault) (found : Option CheckFault) (value : A) → Gives result found value
+pub answered : {A : Type 0} (result : Result A CheckFault) (found : Option CheckFault) (value : A) → GivesIfPassed result found value
     → (result ≡ Err Memory) ⊎ (result ≡ unless found value)
 answered (Ok x) found value given = inr (rw (given.0, given.1) refl)
 answered (Err fault) found value (inl memory) = inl (ap Err memory)

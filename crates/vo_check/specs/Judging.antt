@@ -22,15 +22,17 @@ abbrev pub needed_for : QueryPlan → Reply → List (List Need × RowTree)
 needed_for p r = zip (run_needs p r.trees) r.trees
 
 abbrev pub shown_for : QueryPlan → Reply → Outcome
-shown_for p r = Rows (header p.query.sides p.query.items) (run_rows p r.trees)
+shown_for p r = Rows (header p.query.bound_sources p.query.items) (run_rows p r.trees)
 
 -- the first test of the trees of a bound query that refuses the reply
 abbrev pub bound_fault : BoundQuery → Reply → Option CheckFault
-bound_fault b r = first_some (trees_fault (tables_used b.sides) r ∷ needs_fault (needed_for (plan_of b) r) ∷ [])
+bound_fault b r = first_some (trees_fault (tables_used b.bound_sources) r
+    ∷ needs_fault (needed_for (plan_of b) r) ∷ [])
 
 -- the first test of the record that refuses the reply
 abbrev pub record_fault : List ℕ → ℕ → Reply → Option CheckFault
-record_fault key least r = first_some (key_fault key r ∷ leaf_fault key r ∷ signature_fault key r ∷ age_fault least r ∷ [])
+record_fault key least r = first_some
+    (key_fault key r ∷ leaf_fault key r ∷ signature_fault key r ∷ age_fault least r ∷ [])
 
 -- the first test of the trees that does
 unfoldable pub proof_fault : Query → Reply → Option CheckFault

@@ -14,14 +14,14 @@ use Rattle.mb_tree.specs.View.{part_of}
 use Rattle.vo_check.specs.declared.table_tree.TableTree.{TableTree}
 
 -- a call gives the value where the tests find nothing, and else what they find, unless memory ran out
-abbrev pub Gives : {A : Type 0} → Result A CheckFault → Option CheckFault → A → Type 0
-Gives (Ok x) found value = (found ≡ None) × (x ≡ value)
-Gives (Err fault) found value = (fault ≡ Memory) ⊎ (found ≡ Some fault)
+abbrev pub GivesIfPassed : {A : Type 0} → Result A CheckFault → Option CheckFault → A → Type 0
+GivesIfPassed (Ok x) found value = (found ≡ None) × (x ≡ value)
+GivesIfPassed (Err fault) found value = (fault ≡ Memory) ⊎ (found ≡ Some fault)
 
 -- the same of a call that gives no value
-abbrev pub Passes : Result (Unit {0}) CheckFault → Option CheckFault → Type 0
-Passes (Ok done) found = found ≡ None
-Passes (Err fault) found = (fault ≡ Memory) ⊎ (found ≡ Some fault)
+abbrev pub PassesTests : Result (Unit {0}) CheckFault → Option CheckFault → Type 0
+PassesTests (Ok done) found = found ≡ None
+PassesTests (Err fault) found = (fault ≡ Memory) ⊎ (found ≡ Some fault)
 
 -- The tests of trees, by the names of the tables that are wanted.
 
@@ -36,7 +36,8 @@ abbrev pub paired : List (List ℕ) → Reply → List (Option CatalogTable × R
 paired wanted r = zip (map (λ name. table_named name r.catalog) wanted) r.trees
 
 abbrev pub number_fault : List (List ℕ) → Reply → Option CheckFault
-number_fault wanted r = if length r.trees == length wanted then None else Some (WrongTrees (length wanted) (length r.trees))
+number_fault wanted r = if length r.trees == length wanted then None
+    else Some (WrongTrees (length wanted) (length r.trees))
 
 abbrev pub shapes_fault : List (Option CatalogTable × RowTree) → Option CheckFault
 shapes_fault trees = if list_all has_table_shape trees then None else Some WrongShape

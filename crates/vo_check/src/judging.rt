@@ -1,18 +1,18 @@
 //! What a reply, once read, answers a query.
 ghost use Rattle.std.specs.Prelude.{◌≡◌, ◌≤◌, ◌⊎◌, length};
 ghost use Rattle.vo_spec.specs.Conditions.{query_of};
-ghost use Rattle.vo_spec.specs.Records.{headings};
+ghost use Rattle.vo_spec.specs.Records.{table_headers};
 ghost use Rattle.vo_spec.specs.Replies.{FitsReply};
 ghost use Rattle.vo_spec.specs.Results.{schema_at, binding_fault};
 ghost use Rattle.vo_spec.specs.Needs.{tables_used};
-ghost use Rattle.vo_spec.specs.Checks.{reply_fault, seen_outcome, answer_to};
-ghost use Rattle.vo_spec.specs.Batches.{most_columns};
-ghost use Rattle.query_binding.specs.Sided.{sides_seen};
+ghost use Rattle.vo_spec.specs.Checks.{check_fault, seen_outcome, answer_to};
+ghost use Rattle.vo_spec.specs.Batches.{max_columns};
+ghost use Rattle.query_binding.specs.Sided.{bound_sources_seen};
 ghost use Rattle.query_plan.specs.BoundViews.{query_seen};
 ghost use Rattle.query_plan.specs.Plans.{plan_of};
 ghost use Rattle.query_plan.specs.PlanViews.{plan_seen};
 ghost use Rattle.vo_format.specs.View.{reply_of};
-ghost use Rattle.vo_check.specs.Testing.{Gives, needs_fault};
+ghost use Rattle.vo_check.specs.Testing.{GivesIfPassed, needs_fault};
 ghost use Rattle.vo_check.specs.Judging.{needed_for, shown_for, bound_fault, proof_fault};
 
 use crate::catalog_fault::test_catalog;
@@ -28,10 +28,10 @@ use vo_spec::{Answer, CheckFault, Outcome, QueryFault, QueryText, ScanFault};
 
 /// The rows that the trees show, which have all that the query needs and nothing else.
 fn judge_needs(alloc: Global, plan: &Plan<'_, '_>, reply: &Reply<'_>) -> Result<Outcome, CheckFault>
-    requires { length (tables_used (sides_seen plan.now.query.now.sides))
+    requires { length (tables_used (bound_sources_seen plan.now.query.now.bound_sources))
         ≡ length reply.now.trees.items }
     ensures { let p = plan_seen plan.now in let r = reply_of reply.now in
-        Gives result (needs_fault (needed_for p r)) (shown_for p r) }
+        GivesIfPassed result (needs_fault (needed_for p r)) (shown_for p r) }
 {
     let ran = match run_plan(alloc, plan, &reply.trees) {
         Ok(ran) => ran,
@@ -42,7 +42,7 @@ fn judge_needs(alloc: Global, plan: &Plan<'_, '_>, reply: &Reply<'_>) -> Result<
         Ok(()) => {},
         Err(fault) => return Err(fault),
     }
-    match header(alloc, &plan.query.sides, plan.query.items) {
+    match header(alloc, &plan.query.bound_sources, plan.query.items) {
         Ok(header) => Ok(Outcome::Rows {
             header,
             rows: ran.rows,
@@ -55,12 +55,14 @@ fn judge_needs(alloc: Global, plan: &Plan<'_, '_>, reply: &Reply<'_>) -> Result<
 #[tactic(auto, using(crate::proofs::Judged::has_trees, crate::proofs::Judged::trees_passed))]
 fn judge_bound(alloc: Global, query: &Query<'_>, reply: &Reply<'_>) -> Result<Outcome, CheckFault>
     requires fits { FitsReply (reply_of reply.now) }
-    requires left { length (schema_at (sides_seen query.now.sides) 0).columns ≤ most_columns }
-    requires right { length (schema_at (sides_seen query.now.sides) 1).columns ≤ most_columns }
+    requires left { length (schema_at (bound_sources_seen query.now.bound_sources) 0).columns ≤
+        max_columns }
+    requires right { length (schema_at (bound_sources_seen query.now.bound_sources) 1).columns ≤
+        max_columns }
     ensures { let b = query_seen query.now in let r = reply_of reply.now in
-        Gives result (bound_fault b r) (shown_for (plan_of b) r) }
+        GivesIfPassed result (bound_fault b r) (shown_for (plan_of b) r) }
 {
-    let Ok(names) = tables_used(alloc, &query.sides) else {
+    let Ok(names) = tables_used(alloc, &query.bound_sources) else {
         return Err(CheckFault::Memory);
     };
     match test_trees(alloc, &names, reply) {
@@ -81,9 +83,10 @@ fn judge_wrong(
     reply: &Reply<'_>,
 ) -> Result<Outcome, CheckFault>
     requires fits { FitsReply (reply_of reply.now) }
-    requires wrong { binding_fault (headings reply.now.catalog) (query_of query.now) ≡ Some fault }
+    requires wrong { binding_fault (table_headers reply.now.catalog) (query_of query.now)
+        ≡ Some fault }
     ensures { let q = query_of query.now in let r = reply_of reply.now in
-        Gives result (proof_fault q r) (seen_outcome q r.catalog r.trees) }
+        GivesIfPassed result (proof_fault q r) (seen_outcome q r.catalog r.trees) }
 {
     match test_trees(alloc, &[], reply) {
         Ok(()) => Ok(Outcome::Wrong(fault)),
@@ -99,7 +102,7 @@ fn judge_trees<'q>(
 ) -> Result<Outcome, CheckFault>
     requires { FitsReply (reply_of reply.now) }
     ensures { let q = query_of query.now in let r = reply_of reply.now in
-        Gives result (proof_fault q r) (seen_outcome q r.catalog r.trees) }
+        GivesIfPassed result (proof_fault q r) (seen_outcome q r.catalog r.trees) }
 {
     match bind(alloc, &reply.catalog, query) {
         Ok(query) => judge_bound(alloc, &query, reply),
@@ -118,7 +121,7 @@ fn answer_of(
 ) -> Result<Answer, CheckFault>
     requires { FitsReply (reply_of reply.now) }
     ensures { let q = query_of query.now in let r = reply_of reply.now in
-        Gives result (reply_fault key.now least q r)
+        GivesIfPassed result (check_fault key.now least q r)
         (record { version = r.rec.version; outcome = seen_outcome q r.catalog r.trees }) }
 {
     if let Some(fault) = record_fault(key, least, reply) {

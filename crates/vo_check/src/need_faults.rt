@@ -1,7 +1,7 @@
 //! The tests of a reply's trees by what the query needs of them.
 ghost use Rattle.std.specs.Prelude.{◌≡◌, map, length, zip};
 ghost use Rattle.mb_tree.specs.View.{part_of};
-ghost use Rattle.vo_check.specs.Testing.{Passes, needs_fault};
+ghost use Rattle.vo_check.specs.Testing.{PassesTests, needs_fault};
 
 use mb_tree::PartTree;
 use range_proof::is_canonical;
@@ -16,7 +16,7 @@ pub(crate) fn test_needs(
     needs: &[List<Need>],
 ) -> Result<(), CheckFault>
     requires { length needs.now ≡ length trees.now }
-    ensures { Passes result (needs_fault (zip needs.now (map part_of trees.now))) }
+    ensures { PassesTests result (needs_fault (zip needs.now (map part_of trees.now))) }
 {
     let mut are_bare = true;
     for (place, tree) in trees.iter().enumerate() {

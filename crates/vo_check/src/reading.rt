@@ -3,14 +3,14 @@ ghost use Rattle.vo_check.specs.Reading.{ReadsReply};
 
 use std::alloc::Global;
 use vo_format::{ReadFault, Reply, read_reply};
-use vo_spec::CheckFault;
+use vo_spec::{CheckFault, MAX_REPLY};
 
 /// The reply that the bytes are, or why a client refuses them unread.
 #[tactic(auto, unfolding(vo_spec::specs::Checks::CheckOf))]
 pub fn read_within<'b>(alloc: Global, bytes: &'b [u8]) -> Result<Reply<'b>, CheckFault>
     ensures { ReadsReply bytes.now result }
 {
-    if bytes.len() > 67_108_864 {
+    if bytes.len() > MAX_REPLY {
         return Err(CheckFault::TooLong {
             length: bytes.len() as u64,
         });

@@ -6,7 +6,7 @@ ghost use Rattle.vo_spec.specs.Fits.{FitsTree};
 ghost use Rattle.vo_spec.specs.Checks.{has_table_shape, root_fault};
 ghost use Rattle.vo_format.specs.View.{reply_of, trees_of};
 ghost use Rattle.query_plan.specs.Used.{lent_name};
-ghost use Rattle.vo_check.specs.Testing.{Passes, tree_in, tree_seen, number_fault, shapes_fault, trees_fault};
+ghost use Rattle.vo_check.specs.Testing.{PassesTests, tree_in, tree_seen, number_fault, shapes_fault, trees_fault};
 
 use crate::pairing::pair_trees;
 use crate::shape::has_shape;
@@ -52,7 +52,7 @@ fn have_table_shapes(trees: &[TableTree<'_, '_>]) -> bool
 /// Refuses another tree than the one of the catalog's root.
 fn test_root(alloc: Global, tree: &TableTree<'_, '_>) -> Result<(), CheckFault>
     requires { FitsTree (tree_in tree.now) }
-    ensures { Passes result (root_fault (tree_seen tree.now)) }
+    ensures { PassesTests result (root_fault (tree_seen tree.now)) }
 {
     let Some(table) = tree.table else {
         return Ok(());
@@ -70,7 +70,7 @@ fn test_root(alloc: Global, tree: &TableTree<'_, '_>) -> Result<(), CheckFault>
 
 fn test_roots(alloc: Global, trees: &[TableTree<'_, '_>]) -> Result<(), CheckFault>
     requires { AllByRecursion FitsTree (map tree_in trees.now) }
-    ensures { Passes result (first_some (map root_fault (map tree_seen trees.now))) }
+    ensures { PassesTests result (first_some (map root_fault (map tree_seen trees.now))) }
 {
     for tree in trees {
         match test_root(alloc, tree) {
@@ -88,7 +88,7 @@ pub(crate) fn test_trees(
     reply: &Reply<'_>,
 ) -> Result<(), CheckFault>
     requires { AllByRecursion FitsTree (trees_of reply.now.trees) }
-    ensures { Passes result (trees_fault (map lent_name names.now) (reply_of reply.now)) }
+    ensures { PassesTests result (trees_fault (map lent_name names.now) (reply_of reply.now)) }
 {
     if let Some(fault) = number_fault(names, reply) {
         return Err(fault);

@@ -3,7 +3,7 @@
 
 ghost use Rattle.std.specs.Prelude.{◌≡◌, ◌≢◌, map, string_bytes, IfOk, IfErr, IfSome};
 ghost use Rattle.std.specs.IoError.{error_kind};
-ghost use Rattle.outside.specs.Rose.{Rose};
+ghost use Rattle.outside.specs.FaultRose.{FaultRose};
 ghost use Rattle.vo_words.specs.Asked.{asked_by};
 ghost use Rattle.vo_commands.specs.Dues.{Exactly, Ends, due_to, refused_words};
 
@@ -49,15 +49,15 @@ fn run_on_words<F: Shelf, D: Disk, N: Net, S: Sink>(
 ) -> u8
     ensures lines { IfOk words (λ words.
         IfSome (due_to (F.contents files.old) (asked_by (map string_bytes words.items))) (λ due.
-        Ends due (Rose (F.faults files.old) (F.faults files.new))
-        (Rose (S.faults out.old) (S.faults out.new))
+        Ends due (FaultRose (F.faults files.old) (F.faults files.new))
+        (FaultRose (S.faults out.old) (S.faults out.new))
         result (S.written out.old) (S.written out.new))) }
     ensures memory { IfErr words (λ error. error_kind error ≡ ErrorKind.OutOfMemory → result ≡ 4) }
     ensures silent { IfErr words (λ error. error_kind error ≡ ErrorKind.OutOfMemory
         → out.new ≡ out.old) }
     ensures no_text { IfErr words (λ error. error_kind error ≢ ErrorKind.OutOfMemory
-        → Ends (Exactly refused_words) (Rose (F.faults files.old) (F.faults files.new))
-        (Rose (S.faults out.old) (S.faults out.new)) result (S.written out.old)
+        → Ends (Exactly refused_words) (FaultRose (F.faults files.old) (F.faults files.new))
+        (FaultRose (S.faults out.old) (S.faults out.new)) result (S.written out.old)
         (S.written out.new)) }
 {
     match words {

@@ -39,77 +39,77 @@ of_no_query view text Outside rest reads = tt
 of_no_query view text Memory rest reads = tt
 
 abbrev KeyIs : List ℕ → List ℕ → Files → Type 0
-KeyIs name key told = (rest : List ℕ → Due) → with_key told name rest ≡ rest key
+KeyIs name key known = (rest : List ℕ → Due) → with_key known name rest ≡ rest key
 
 abbrev FileIs : List ℕ → ℕ → List ℕ → Files → Type 0
-FileIs name limit bytes told = (rest : List ℕ → Due) → with_file told name limit rest ≡ rest bytes
+FileIs name limit bytes known = (rest : List ℕ → Due) → with_file known name limit rest ≡ rest bytes
 
 abbrev FileStops : List ℕ → ℕ → Stop → Files → Type 0
-FileStops name limit stop told = GoesOn {A = List ℕ} (λ bytes. bytes) (with_file told name limit) (Err stop)
+FileStops name limit stop known = GoesOn {A = List ℕ} (λ bytes. bytes) (with_file known name limit) (Err stop)
 
 -- what the rest of the work says of the bytes of a file, or a stop at the file
 pub file_told : (name : List ℕ) (limit : ℕ) (rest : List ℕ → Due) (bytes : List ℕ) (o : Option Files) (r : Result Report Stop) → IfSome o (FileIs name limit bytes)
-    → Answers (rest bytes) r → IfSome o (λ told. Answers (with_file told name limit rest) r)
+    → Answers (rest bytes) r → IfSome o (λ known. Answers (with_file known name limit rest) r)
 file_told name limit rest bytes None r f a = tt
-file_told name limit rest bytes (Some told) r f a = of_file (with_file told name limit) bytes rest r f a
+file_told name limit rest bytes (Some known) r f a = of_file (with_file known name limit) bytes rest r f a
 
 pub file_stops : (name : List ℕ) (limit : ℕ) (rest : List ℕ → Due) (o : Option Files) (stop : Stop) → IfSome o (FileStops name limit stop)
-    → IfSome o (λ told. Answers (with_file told name limit rest) (Err stop))
+    → IfSome o (λ known. Answers (with_file known name limit rest) (Err stop))
 file_stops name limit rest None stop f = tt
-file_stops name limit rest (Some told) stop f = of_stop (λ bytes. bytes) (with_file told name limit) stop rest f
+file_stops name limit rest (Some known) stop f = of_stop (λ bytes. bytes) (with_file known name limit) stop rest f
 
 module _ (name query reply key : List ℕ) (least : ℕ) (q : Query) (is : IsQueryText query q) (r : Result Report Stop) where
   abbrev Checked : Files → Type 0
-  Checked told = Answers (with_file told reply reply_limit (λ z. Checks key least q z)) r
+  Checked known = Answers (with_file known reply reply_limit (λ z. Checks key least q z)) r
 
-  pub check_told : (o p : Option Files) → p ≡ o → IfSome o (KeyIs name key) → IfSome p Checked → IfSome o (λ told. Answers (check_due name query reply least told) r)
+  pub check_told : (o p : Option Files) → p ≡ o → IfSome o (KeyIs name key) → IfSome p Checked → IfSome o (λ known. Answers (check_due name query reply least known) r)
   check_told o p same k a = step o k (subst (λ z. IfSome z Checked) same a)
     where
-      step : (o : Option Files) → IfSome o (KeyIs name key) → IfSome o Checked → IfSome o (λ told. Answers (check_due name query reply least told) r)
+      step : (o : Option Files) → IfSome o (KeyIs name key) → IfSome o Checked → IfSome o (λ known. Answers (check_due name query reply least known) r)
       step None k a = tt
-      step (Some told) k a =
-          of_file (with_key told name) key (λ x. OfQuery query (λ y. with_file told reply reply_limit (λ z. Checks x least y z))) r k
-          (of_query query q (λ y. with_file told reply reply_limit (λ z. Checks key least y z)) r is a)
+      step (Some known) k a =
+          of_file (with_key known name) key (λ x. OfQuery query (λ y. with_file known reply reply_limit (λ z. Checks x least y z))) r k
+          (of_query query q (λ y. with_file known reply reply_limit (λ z. Checks key least y z)) r is a)
 
 -- what the rest of the work says of a text's query, or a stop at the text
 pub query_told : (text : List ℕ) (q : Query) (rest : Files → Query → Due) (o : Option Files) (r : Result Report Stop) → IsQueryText text q
-    → IfSome o (λ told. Answers (rest told q) r) → IfSome o (λ told. Answers (OfQuery text (rest told)) r)
+    → IfSome o (λ known. Answers (rest known q) r) → IfSome o (λ known. Answers (OfQuery text (rest known)) r)
 query_told text q rest None r is a = tt
-query_told text q rest (Some told) r is a = of_query text q (rest told) r is a
+query_told text q rest (Some known) r is a = of_query text q (rest known) r is a
 
 pub query_stops : {A : Type 0} (view : A → Query) (text : List ℕ) (rest : Files → Query → Due) (o : Option Files) (stop : Stop)
-    → ReadsText view (IsQueryText text) (IsRefusedQuery text) (Err stop) → IfSome o (λ told. Answers (OfQuery text (rest told)) (Err stop))
+    → ReadsText view (IsQueryText text) (IsRefusedQuery text) (Err stop) → IfSome o (λ known. Answers (OfQuery text (rest known)) (Err stop))
 query_stops view text rest None stop reads = tt
-query_stops view text rest (Some told) stop reads = of_no_query view text stop (rest told) reads
+query_stops view text rest (Some known) stop reads = of_no_query view text stop (rest known) reads
 
 module _ (name journal query reply key held : List ℕ) (r : Result Report Stop) where
   abbrev after_journal : Files → List ℕ → List ℕ → Due
-  after_journal told x y = OfQuery query (λ z. with_file told reply reply_limit (λ w. Audits x y z w))
+  after_journal known x y = OfQuery query (λ z. with_file known reply reply_limit (λ w. Audits x y z w))
 
   abbrev Audited : Files → Type 0
-  Audited told = Answers (after_journal told key held) r
+  Audited known = Answers (after_journal known key held) r
 
   pub audit_told : (o p s : Option Files) → p ≡ o → s ≡ p → IfSome o (KeyIs name key) → IfSome p (FileIs journal journal_limit held) → IfSome s Audited
-      → IfSome o (λ told. Answers (audit_due name journal query reply told) r)
+      → IfSome o (λ known. Answers (audit_due name journal query reply known) r)
   audit_told o p s same also k j a = step o k (subst (λ z. IfSome z (FileIs journal journal_limit held)) same j) (subst (λ z. IfSome z Audited) (also ∙ same) a)
     where
       step : (o : Option Files) → IfSome o (KeyIs name key) → IfSome o (FileIs journal journal_limit held) → IfSome o Audited
-          → IfSome o (λ told. Answers (audit_due name journal query reply told) r)
+          → IfSome o (λ known. Answers (audit_due name journal query reply known) r)
       step None k j a = tt
-      step (Some told) k j a =
-          of_file (with_key told name) key (λ x. with_file told journal journal_limit (after_journal told x)) r k
-          (of_file (with_file told journal journal_limit) held (after_journal told key) r j a)
+      step (Some known) k j a =
+          of_file (with_key known name) key (λ x. with_file known journal journal_limit (after_journal known x)) r k
+          (of_file (with_file known journal journal_limit) held (after_journal known key) r j a)
 
 module _ (name journal query key held : List ℕ) where
   pub answer_told : (o p : Option Files) (r : Result Report Stop) → p ≡ o → IfSome o (KeyIs name key) → IfSome p (FileIs journal journal_limit held)
-      → Answers (OfQuery query (λ z. Replies key held z)) r → IfSome o (λ told. Answers (answer_due name journal query told) r)
+      → Answers (OfQuery query (λ z. Replies key held z)) r → IfSome o (λ known. Answers (answer_due name journal query known) r)
   answer_told o p r same k j a = step o k (subst (λ z. IfSome z (FileIs journal journal_limit held)) same j)
     where
-      step : (o : Option Files) → IfSome o (KeyIs name key) → IfSome o (FileIs journal journal_limit held) → IfSome o (λ told. Answers (answer_due name journal query told) r)
+      step : (o : Option Files) → IfSome o (KeyIs name key) → IfSome o (FileIs journal journal_limit held) → IfSome o (λ known. Answers (answer_due name journal query known) r)
       step None k j = tt
-      step (Some told) k j =
-          of_file (with_key told name) key (λ x. with_file told journal journal_limit (λ y. OfQuery query (λ z. Replies x y z))) r k
-          (of_file (with_file told journal journal_limit) held (λ y. OfQuery query (λ z. Replies key y z)) r j a)
+      step (Some known) k j =
+          of_file (with_key known name) key (λ x. with_file known journal journal_limit (λ y. OfQuery query (λ z. Replies x y z))) r k
+          (of_file (with_file known journal journal_limit) held (λ y. OfQuery query (λ z. Replies key y z)) r j a)
 
 -- Scripts.
 
@@ -143,17 +143,17 @@ pub text_stops : {A : Type 0} (view : A → List ℕ) (secret : Secret) (bytes :
 text_stops view secret bytes stop goes = of_stop view (λ rest. with_text rest bytes) stop (λ t. OfScript t (λ b. Exactly (seal_said secret b))) goes
 
 abbrev SeedIs : List ℕ → ℕ → Secret → Files → Type 0
-SeedIs name height secret told = (rest : Secret → Due) → with_seed told name height rest ≡ rest secret
+SeedIs name height secret known = (rest : Secret → Due) → with_seed known name height rest ≡ rest secret
 
 pub seal_told : (name script : List ℕ) (height : ℕ) (secret : Secret) (bytes : List ℕ) (o p : Option Files) (r : Result Report Stop) → p ≡ o → IfSome o (SeedIs name height secret)
-    → IfSome p (FileIs script script_limit bytes) → Answers (script_due secret bytes) r → IfSome o (λ told. Answers (seal_due name script height told) r)
+    → IfSome p (FileIs script script_limit bytes) → Answers (script_due secret bytes) r → IfSome o (λ known. Answers (seal_due name script height known) r)
 seal_told name script height secret bytes o p r same k f a = step o k (subst (λ z. IfSome z (FileIs script script_limit bytes)) same f)
   where
-    step : (o : Option Files) → IfSome o (SeedIs name height secret) → IfSome o (FileIs script script_limit bytes) → IfSome o (λ told. Answers (seal_due name script height told) r)
+    step : (o : Option Files) → IfSome o (SeedIs name height secret) → IfSome o (FileIs script script_limit bytes) → IfSome o (λ known. Answers (seal_due name script height known) r)
     step None k f = tt
-    step (Some told) k f =
-        of_file (with_seed told name height) secret (λ s. with_file told script script_limit (script_due s)) r k
-        (of_file (with_file told script script_limit) bytes (script_due secret) r f a)
+    step (Some known) k f =
+        of_file (with_seed known name height) secret (λ s. with_file known script script_limit (script_due s)) r k
+        (of_file (with_file known script script_limit) bytes (script_due secret) r f a)
 
 -- Misses: files that are there cause none.
 
@@ -162,29 +162,29 @@ no_miss (Some a) before after there c = c
 no_miss None before after there c = absurd (cc)
 
 abbrev Missed : List ℕ → ℕ → ℕ → Files → Type 0
-Missed name before after told = CountsMiss (is_some (told name)) before after
+Missed name before after known = CountsMiss (is_some (known name)) before after
 
 pub two_there : (o p : Option Files) (a b : List ℕ) (x y z : ℕ) → p ≡ o → IfSome o (Missed a x y) → IfSome p (Missed b y z)
-    → IfSome o (λ told. HoldsEach told (a ∷ b ∷ []) → z ≡ x)
+    → IfSome o (λ known. HoldsEach known (a ∷ b ∷ []) → z ≡ x)
 two_there o p a b x y z same first second = step o first (subst (λ o. IfSome o (Missed b y z)) same second)
   where
-    step : (o : Option Files) → IfSome o (Missed a x y) → IfSome o (Missed b y z) → IfSome o (λ told. HoldsEach told (a ∷ b ∷ []) → z ≡ x)
+    step : (o : Option Files) → IfSome o (Missed a x y) → IfSome o (Missed b y z) → IfSome o (λ known. HoldsEach known (a ∷ b ∷ []) → z ≡ x)
     step None first second = tt
-    step (Some told) first second = λ there. no_miss (told b) y z there.1.0 second ∙ no_miss (told a) x y there.0 first
+    step (Some known) first second = λ there. no_miss (known b) y z there.1.0 second ∙ no_miss (known a) x y there.0 first
 
 abbrev OneThere : List ℕ → ℕ → ℕ → Files → Type 0
-OneThere name before after told = HoldsEach told (name ∷ []) → after ≡ before
+OneThere name before after known = HoldsEach known (name ∷ []) → after ≡ before
 
 pub one_there : (o : Option Files) (a : List ℕ) (x y : ℕ) → IfSome o (Missed a x y) → IfSome o (OneThere a x y)
 one_there None a x y miss = tt
-one_there (Some told) a x y miss = λ there. no_miss (told a) x y there.0 miss
+one_there (Some known) a x y miss = λ there. no_miss (known a) x y there.0 miss
 
 pub three_there : (o p s : Option Files) (a b c : List ℕ) (x y z w : ℕ) → p ≡ o → s ≡ p → IfSome o (Missed a x y) → IfSome p (Missed b y z) → IfSome s (OneThere c z w)
-    → IfSome o (λ told. HoldsEach told (a ∷ b ∷ c ∷ []) → w ≡ x)
+    → IfSome o (λ known. HoldsEach known (a ∷ b ∷ c ∷ []) → w ≡ x)
 three_there o p s a b c x y z w same also first second third =
     step o first (subst (λ o. IfSome o (Missed b y z)) same second) (subst (λ o. IfSome o (OneThere c z w)) (also ∙ same) third)
   where
     step : (o : Option Files) → IfSome o (Missed a x y) → IfSome o (Missed b y z) → IfSome o (OneThere c z w)
-        → IfSome o (λ told. HoldsEach told (a ∷ b ∷ c ∷ []) → w ≡ x)
+        → IfSome o (λ known. HoldsEach known (a ∷ b ∷ c ∷ []) → w ≡ x)
     step None first second third = tt
-    step (Some told) first second third = λ there. third there.1.1 ∙ no_miss (told b) y z there.1.0 second ∙ no_miss (told a) x y there.0 first
+    step (Some known) first second third = λ there. third there.1.1 ∙ no_miss (known b) y z there.1.0 second ∙ no_miss (known a) x y there.0 first

@@ -16,9 +16,9 @@ use Rattle.vo_spec.specs.Lms.{key_lms, key_ots}
 use Rattle.vo_spec.specs.Secret.{Secret, secret_of, public_of_secret, lms_of_height}
 use Rattle.vo_spec.specs.Conditions.{Query}
 use Rattle.vo_spec.specs.Journals.{journal_bytes}
-use Rattle.vo_spec.specs.Replies.{Reply, reply_bytes, most_reply}
+use Rattle.vo_spec.specs.Replies.{Reply, reply_bytes, max_reply}
 use Rattle.vo_spec.specs.Honest.{sealed, reply_of}
-use Rattle.vo_spec.specs.Owners.{IsLoaded, IsUnloadedAt}
+use Rattle.vo_spec.specs.Owners.{IsLoadable, IsUnloadableAt}
 use Rattle.vo_spec.specs.Checks.{CheckOf}
 use Rattle.vo_spec.specs.Audits.{AuditOf}
 use Rattle.owner_state.specs.declared.sealing.SealFault.{SealFault}
@@ -42,25 +42,30 @@ pub data Due : Type 0 where
 -- the reply of a store, where it isn't over the limit
 abbrev pub reply_said : List ℕ → Said
 reply_said bytes =
-    if nat_lt most_reply (length bytes) then refused 1 (codes "too large" ∷ decimal (length bytes) ∷ []) else done bytes
+    if nat_lt max_reply (length bytes)
+    then refused 1 (codes "too large" ∷ decimal (length bytes) ∷ []) else done bytes
 
 -- A store loads the journal's entries, or they fail at one.
 abbrev pub IsReplied : List ℕ → List ℕ → Query → Said → Type 0
 IsReplied key journal q said =
-    ((index : ℕ) × IsUnloadedAt key journal index × (said ≡ bad_journal index))
-    ⊎ ((es : List Entry) × (r : Reply) × IsLoaded key journal es × (reply_of q es ≡ Some r) × (said ≡ reply_said (reply_bytes r)))
+    ((index : ℕ) × IsUnloadableAt key journal index × (said ≡ bad_journal index))
+    ⊎ ((es : List Entry) × (r : Reply) × IsLoadable key journal es × (reply_of q es ≡ Some r)
+    × (said ≡ reply_said (reply_bytes r)))
 
 abbrev pub Fits : Due → Said → Type 0
 Fits (Exactly due) said = said ≡ due
 Fits (OfQuery text rest) said =
-    ((q : Query) × IsQueryText text q × Fits (rest q) said) ⊎ (((q : Query) → IsQueryText text q → ⊥) × IsRefusedQuery text said)
+    ((q : Query) × IsQueryText text q × Fits (rest q) said)
+    ⊎ (((q : Query) → IsQueryText text q → ⊥) × IsRefusedQuery text said)
 Fits (OfScript text rest) said =
     ((batches : List Batch) × IsScript text batches × Fits (rest batches) said)
     ⊎ (((batches : List Batch) → IsScript text batches → ⊥) × IsRefusedScript text said)
 Fits (Replies key journal q) said = IsReplied key journal q said
-Fits (Checks key least q reply) said = (answer : Result Accepted CheckFault) × CheckOf key least q reply answer × (said ≡ check_said answer)
+Fits (Checks key least q reply) said = (answer : Result Accepted CheckFault)
+    × CheckOf key least q reply answer × (said ≡ check_said answer)
 Fits (Audits key journal q reply) said =
-    (answer : Result Verdict AuditFault) × AuditOf key journal q reply answer × (said ≡ audit_said answer)
+    (answer : Result Verdict AuditFault) × AuditOf key journal q reply answer
+    × (said ≡ audit_said answer)
 
 -- the outside failed
 abbrev pub outside_failed : Said
@@ -73,7 +78,8 @@ refused_words = refused_input (codes "words" ∷ [])
 abbrev pub with_taken : Option (List ℕ) → List ℕ → ℕ → (List ℕ → Due) → Due
 with_taken None name limit rest = Exactly outside_failed
 with_taken (Some bytes) name limit rest =
-    if nat_lt limit (length bytes) then Exactly (refused_input (codes "file too long" ∷ name ∷ [])) else rest bytes
+    if nat_lt limit (length bytes) then Exactly (refused_input (codes "file too long" ∷ name ∷ []))
+    else rest bytes
 
 abbrev pub with_file : Files → List ℕ → ℕ → (List ℕ → Due) → Due
 with_file files name limit rest = with_taken (files name) name limit rest
@@ -83,7 +89,8 @@ abbrev pub seed_limit : ℕ
 seed_limit = 48
 
 abbrev pub secret_in : List ℕ → ℕ → Secret
-secret_in bytes height = secret_of (take 16 bytes) (take 32 (drop 16 bytes)) W8 (lms_of_height height)
+secret_in bytes height = secret_of (take 16 bytes) (take 32 (drop 16 bytes)) W8
+    (lms_of_height height)
 
 abbrev pub with_secret : ℕ → (Secret → Due) → List ℕ → Due
 with_secret height rest bytes =
@@ -94,7 +101,8 @@ abbrev pub with_seed : Files → List ℕ → ℕ → (Secret → Due) → Due
 with_seed files seed height rest = with_file files seed seed_limit (with_secret height rest)
 
 abbrev pub keygen_due : List ℕ → ℕ → Files → Due
-keygen_due seed height files = with_seed files seed height (λ secret. Exactly (done (public_of_secret secret)))
+keygen_due seed height files =
+    with_seed files seed height (λ secret. Exactly (done (public_of_secret secret)))
 
 -- a key file: the 56 bytes of a public key of known sets
 abbrev pub key_limit : ℕ
@@ -104,7 +112,8 @@ abbrev pub is_public_key : List ℕ → Bool
 is_public_key bytes = length bytes == 56 && is_some (key_lms bytes) && is_some (key_ots bytes)
 
 abbrev pub with_public : (List ℕ → Due) → List ℕ → Due
-with_public rest bytes = if is_public_key bytes then rest bytes else Exactly (refused_input (codes "key file" ∷ []))
+with_public rest bytes = if is_public_key bytes then rest bytes
+    else Exactly (refused_input (codes "key file" ∷ []))
 
 abbrev pub with_key : Files → List ℕ → (List ℕ → Due) → Due
 with_key files key rest = with_file files key key_limit (with_public rest)
@@ -120,7 +129,8 @@ abbrev pub reply_limit : ℕ
 reply_limit = 67108865
 
 abbrev pub with_text : (List ℕ → Due) → List ℕ → Due
-with_text rest bytes = if is_utf8 bytes then rest bytes else Exactly (refused_input (codes "not text" ∷ []))
+with_text rest bytes = if is_utf8 bytes then rest bytes
+    else Exactly (refused_input (codes "not text" ∷ []))
 
 -- the journal of a script's batches, or the first refusal
 abbrev pub sealed_said : Option SealFault → List ℕ → Said
@@ -131,11 +141,13 @@ sealed_said (Some seal.Memory) journal = refused 8 []
 
 abbrev pub seal_said : Secret → List Batch → Said
 seal_said secret batches =
-    sealed_said (seal_fault (leaves_of secret.lms) ([] ∷ []) (commands_of batches)) (journal_bytes (sealed secret (commands_of batches)))
+    sealed_said (seal_fault (leaves_of secret.lms) ([] ∷ []) (commands_of batches))
+    (journal_bytes (sealed secret (commands_of batches)))
 
 -- of a script's bytes
 abbrev pub script_due : Secret → List ℕ → Due
-script_due secret = with_text (λ text. OfScript text (λ batches. Exactly (seal_said secret batches)))
+script_due secret = with_text (λ text. OfScript text
+    (λ batches. Exactly (seal_said secret batches)))
 
 -- What each command comes to, the files in the order of its words and a query at its place.
 
@@ -145,11 +157,13 @@ seal_due seed script height files =
 
 abbrev pub answer_due : List ℕ → List ℕ → List ℕ → Files → Due
 answer_due key journal query files =
-    with_key files key (λ k. with_file files journal journal_limit (λ j. OfQuery query (λ q. Replies k j q)))
+    with_key files key (λ k. with_file files journal journal_limit
+    (λ j. OfQuery query (λ q. Replies k j q)))
 
 abbrev pub check_due : List ℕ → List ℕ → List ℕ → ℕ → Files → Due
 check_due key query reply least files =
-    with_key files key (λ k. OfQuery query (λ q. with_file files reply reply_limit (λ r. Checks k least q r)))
+    with_key files key (λ k. OfQuery query
+    (λ q. with_file files reply reply_limit (λ r. Checks k least q r)))
 
 abbrev pub audit_due : List ℕ → List ℕ → List ℕ → List ℕ → Files → Due
 audit_due key journal query reply files =

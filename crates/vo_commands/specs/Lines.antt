@@ -75,7 +75,8 @@ wrong_words query.TypeMismatch = codes "kinds differ" ∷ []
 wrong_words query.NotKeyJoin = codes "not a key join" ∷ []
 
 abbrev pub outcome_lines : Outcome → List ℕ
-outcome_lines (Rows header rows) = columns_line header ++ flat_map (λ row. columns_line (map literal row)) rows
+outcome_lines (Rows header rows) = columns_line header
+    ++ flat_map (λ row. columns_line (map literal row)) rows
 outcome_lines (Wrong fault) = words_line (codes "wrong:" ∷ wrong_words fault)
 
 abbrev pub version_line : ℕ → List ℕ
@@ -84,14 +85,17 @@ version_line version = words_line (codes "version" ∷ decimal version ∷ [])
 abbrev pub fault_words : CheckFault → List (List ℕ)
 fault_words (check.TooLong length) = codes "too long" ∷ decimal length ∷ []
 fault_words check.BadForm = codes "bad form" ∷ []
-fault_words (check.WrongKey want got) = codes "wrong key" ∷ encode_lower want ∷ encode_lower got ∷ []
+fault_words (check.WrongKey want got) =
+    codes "wrong key" ∷ encode_lower want ∷ encode_lower got ∷ []
 fault_words (check.WrongLeaf version q) = codes "wrong leaf" ∷ decimal version ∷ decimal q ∷ []
 fault_words check.BadSignature = codes "bad signature" ∷ []
 fault_words (check.Stale least got) = codes "stale" ∷ decimal least ∷ decimal got ∷ []
-fault_words (check.WrongCatalog want got) = codes "wrong catalog" ∷ encode_lower want ∷ encode_lower got ∷ []
+fault_words (check.WrongCatalog want got) =
+    codes "wrong catalog" ∷ encode_lower want ∷ encode_lower got ∷ []
 fault_words (check.WrongTrees want got) = codes "wrong trees" ∷ decimal want ∷ decimal got ∷ []
 fault_words check.WrongShape = codes "wrong shape" ∷ []
-fault_words (check.WrongRoot table want got) = codes "wrong root" ∷ table ∷ encode_lower want ∷ encode_lower got ∷ []
+fault_words (check.WrongRoot table want got) =
+    codes "wrong root" ∷ table ∷ encode_lower want ∷ encode_lower got ∷ []
 fault_words check.Missing = codes "missing" ∷ []
 fault_words check.Surplus = codes "surplus" ∷ []
 fault_words check.Memory = []
@@ -123,16 +127,21 @@ abbrev pub verdict_said : Verdict → Said
 verdict_said (Exact version) = done (words_line (codes "exact version" ∷ decimal version ∷ []))
 verdict_said (Unsigned rec signature last) = record {
   status = 6;
-  bytes = words_line (codes "unsigned" ∷ []) ++ words_line (encode_lower (record_bytes rec) ∷ []) ++ words_line (encode_lower signature ∷ [])
+  bytes = words_line (codes "unsigned" ∷ []) ++ words_line (encode_lower (record_bytes rec) ∷ [])
+      ++ words_line (encode_lower signature ∷ [])
       ++ words_line (codes "journal ends at version" ∷ decimal last ∷ []);
 }
 verdict_said (Collides found) = record {
   status = 5;
-  bytes = words_line (codes "collision" ∷ []) ++ words_line (encode_lower found.0 ∷ []) ++ words_line (encode_lower found.1 ∷ []);
+  bytes = words_line (codes "collision" ∷ []) ++ words_line (encode_lower found.0 ∷ [])
+      ++ words_line (encode_lower found.1 ∷ []);
 }
 
 abbrev pub bad_journal : ℕ → Said
-bad_journal index = record { status = 7; bytes = words_line (codes "bad journal" ∷ decimal index ∷ []) }
+bad_journal index = record {
+  status = 7;
+  bytes = words_line (codes "bad journal" ∷ decimal index ∷ []);
+}
 
 abbrev pub audit_said : Result Verdict AuditFault → Said
 audit_said (Ok verdict) = verdict_said verdict

@@ -35,9 +35,11 @@ GoesOn view due (Err Outside) = Unit {0}
 GoesOn view due (Err Memory) = Unit {0}
 
 -- The text is this; or it is nothing of the sort, and why is said.
-abbrev pub ReadsText : {A B : Type 0} → (A → B) → (B → Type 0) → (Said → Type 0) → Result A Stop → Type 0
+abbrev pub ReadsText : {A B : Type 0} → (A → B) → (B → Type 0) → (Said → Type 0)
+    → Result A Stop → Type 0
 ReadsText view Is IsRefused (Ok taken) = Is (view taken)
-ReadsText {B = B} view Is IsRefused (Err (Says report)) = ((b : B) → Is b → ⊥) × IsRefused (said_of report)
+ReadsText {B = B} view Is IsRefused (Err (Says report)) = ((b : B) → Is b → ⊥)
+    × IsRefused (said_of report)
 ReadsText view Is IsRefused (Err Outside) = ⊥
 ReadsText view Is IsRefused (Err Memory) = Unit {0}
 

@@ -4,7 +4,7 @@ use Rattle.vo_spec.specs.Conditions.{Query}
 use Rattle.sql_text.specs.declared.faults.SqlFault.{SqlFault}
 use Rattle.sql_text.specs.declared.faults.SqlFault.TheVariants as fault
 use Rattle.sql_text.specs.Queries.{query}
-use Rattle.sql_text.specs.Texts.{most_bytes, IsTextOf, HasFault}
+use Rattle.sql_text.specs.Texts.{max_bytes, IsTextOf, HasFault}
 use Rattle.sql_text.specs.Scripts.{HasScriptFault}
 use Rattle.vo_commands.specs.Lines.{Said, sql_said}
 
@@ -14,12 +14,14 @@ is_want_of_memory fault.Memory = true
 is_want_of_memory _ = false
 
 abbrev pub IsQueryText : List ℕ → Query → Type 0
-IsQueryText text q = IsTextOf most_bytes query text q
+IsQueryText text q = IsTextOf max_bytes query text q
 
 -- the text is no query, and its first fault is said
 abbrev pub IsRefusedQuery : List ℕ → Said → Type 0
-IsRefusedQuery text said = (f : SqlFault) × (is_want_of_memory f ≡ false) × HasFault most_bytes query text f × (said ≡ sql_said f)
+IsRefusedQuery text said = (f : SqlFault) × (is_want_of_memory f ≡ false)
+    × HasFault max_bytes query text f × (said ≡ sql_said f)
 
 -- the text is no script, and its first fault is said
 abbrev pub IsRefusedScript : List ℕ → Said → Type 0
-IsRefusedScript text said = (f : SqlFault) × (is_want_of_memory f ≡ false) × HasScriptFault text f × (said ≡ sql_said f)
+IsRefusedScript text said = (f : SqlFault) × (is_want_of_memory f ≡ false) × HasScriptFault text f
+    × (said ≡ sql_said f)

@@ -1,6 +1,6 @@
 //! `answer`: the reply of a store to a query.
 ghost use Rattle.std.specs.Prelude.{◌≡◌, ◌≤◌, [], ◌∷◌, IfSome, IsErrOf};
-ghost use Rattle.outside.specs.Rose.{Rose};
+ghost use Rattle.outside.specs.FaultRose.{FaultRose};
 ghost use Rattle.vo_spec.specs.Conditions.{query_of};
 ghost use Rattle.vo_commands.specs.Dues.{HoldsEach, answer_due, OfQuery, Replies};
 ghost use Rattle.vo_commands.specs.Reports.{Answers};
@@ -25,13 +25,14 @@ pub fn answer<F: Shelf>(
     journal: &str,
     query: &str,
 ) -> Result<Report, Stop>
-    ensures told { IfSome (F.contents files.old)
-        (λ told. Answers (answer_due key.now journal.now query.now told) result) }
+    ensures known { IfSome (F.contents files.old)
+        (λ known. Answers (answer_due key.now journal.now query.now known) result) }
     ensures kept { F.contents files.new ≡ F.contents files.old }
     ensures counts { F.faults files.old ≤ F.faults files.new }
-    ensures cause { IsErrOf result Stop.Outside → Rose (F.faults files.old) (F.faults files.new) }
+    ensures cause { IsErrOf result Stop.Outside
+        → FaultRose (F.faults files.old) (F.faults files.new) }
     ensures misses { IfSome (F.contents files.old)
-        (λ told. HoldsEach told (key.now ∷ journal.now ∷ [])
+        (λ known. HoldsEach known (key.now ∷ journal.now ∷ [])
         → F.misses files.new ≡ F.misses files.old) }
 {
     let key = take_key(alloc, files, key)?;
@@ -41,7 +42,7 @@ pub fn answer<F: Shelf>(
 
 /// The same by the bytes of the journal.
 fn answer_query(alloc: Global, key: PublicKey, journal: &[u8], query: &str) -> Result<Report, Stop>
-    ensures told { Answers (OfQuery query.now (λ q. Replies key journal.now q)) result }
+    ensures known { Answers (OfQuery query.now (λ q. Replies key journal.now q)) result }
     ensures inside { IsErrOf result Stop.Outside → ⊥ }
 {
     match query_in(alloc, query) {
@@ -51,7 +52,7 @@ fn answer_query(alloc: Global, key: PublicKey, journal: &[u8], query: &str) -> R
 }
 
 fn replied(alloc: Global, key: PublicKey, journal: &[u8], query: &QueryText) -> Result<Report, Stop>
-    ensures told { Answers (Replies key journal.now (query_of query.now)) result }
+    ensures known { Answers (Replies key journal.now (query_of query.now)) result }
     ensures inside { IsErrOf result Stop.Outside → ⊥ }
 {
     match reply_by(alloc, key, journal, query) {

@@ -1,7 +1,7 @@
 //! `audit`: what an auditor with the owner's journal says of a reply.
 ghost use Rattle.std.specs.Prelude.{◌≡◌, ◌≤◌, [], ◌∷◌, is_some, IfSome, IsErrOf};
 ghost use Rattle.outside.specs.Miss.{CountsMiss};
-ghost use Rattle.outside.specs.Rose.{Rose};
+ghost use Rattle.outside.specs.FaultRose.{FaultRose};
 ghost use Rattle.vo_spec.specs.Conditions.{query_of};
 ghost use Rattle.vo_commands.specs.Dues.{HoldsEach, audit_due, OfQuery, with_file, reply_limit, Audits};
 ghost use Rattle.vo_commands.specs.Reports.{Answers};
@@ -31,13 +31,14 @@ pub fn audit<F: Shelf>(
     query: &str,
     reply: &str,
 ) -> Result<Report, Stop>
-    ensures told { IfSome (F.contents files.old)
-        (λ told. Answers (audit_due key.now journal.now query.now reply.now told) result) }
+    ensures known { IfSome (F.contents files.old)
+        (λ known. Answers (audit_due key.now journal.now query.now reply.now known) result) }
     ensures kept { F.contents files.new ≡ F.contents files.old }
     ensures counts { F.faults files.old ≤ F.faults files.new }
-    ensures cause { IsErrOf result Stop.Outside → Rose (F.faults files.old) (F.faults files.new) }
+    ensures cause { IsErrOf result Stop.Outside
+        → FaultRose (F.faults files.old) (F.faults files.new) }
     ensures misses { IfSome (F.contents files.old)
-        (λ told. HoldsEach told (key.now ∷ journal.now ∷ reply.now ∷ [])
+        (λ known. HoldsEach known (key.now ∷ journal.now ∷ reply.now ∷ [])
         → F.misses files.new ≡ F.misses files.old) }
 {
     let key = take_key(alloc, files, key)?;
@@ -54,15 +55,16 @@ fn audit_query<F: Shelf>(
     query: &str,
     reply: &str,
 ) -> Result<Report, Stop>
-    ensures told { IfSome (F.contents files.old)
-        (λ told. Answers (OfQuery query.now
-        (λ q. with_file told reply.now reply_limit
+    ensures known { IfSome (F.contents files.old)
+        (λ known. Answers (OfQuery query.now
+        (λ q. with_file known reply.now reply_limit
         (λ bytes. Audits key.now journal.now q bytes))) result) }
     ensures kept { F.contents files.new ≡ F.contents files.old }
     ensures counts { F.faults files.old ≤ F.faults files.new }
-    ensures cause { IsErrOf result Stop.Outside → Rose (F.faults files.old) (F.faults files.new) }
+    ensures cause { IsErrOf result Stop.Outside
+        → FaultRose (F.faults files.old) (F.faults files.new) }
     ensures misses { IfSome (F.contents files.old)
-        (λ told. HoldsEach told (reply.now ∷ []) → F.misses files.new ≡ F.misses files.old) }
+        (λ known. HoldsEach known (reply.now ∷ []) → F.misses files.new ≡ F.misses files.old) }
 {
     match query_in(alloc, query) {
         Ok(query) => audit_file(alloc, files, key, journal, &query, reply),
@@ -79,14 +81,16 @@ fn audit_file<F: Shelf>(
     query: &QueryText,
     reply: &str,
 ) -> Result<Report, Stop>
-    ensures told { IfSome (F.contents files.old)
-        (λ told. Answers (with_file told reply.now reply_limit
+    ensures known { IfSome (F.contents files.old)
+        (λ known. Answers (with_file known reply.now reply_limit
         (λ bytes. Audits key.now journal.now (query_of query.now) bytes)) result) }
     ensures kept { F.contents files.new ≡ F.contents files.old }
     ensures counts { F.faults files.old ≤ F.faults files.new }
-    ensures cause { IsErrOf result Stop.Outside → Rose (F.faults files.old) (F.faults files.new) }
+    ensures cause { IsErrOf result Stop.Outside
+        → FaultRose (F.faults files.old) (F.faults files.new) }
     ensures misses { IfSome (F.contents files.old)
-        (λ told. CountsMiss (is_some (told reply.now)) (F.misses files.old) (F.misses files.new)) }
+        (λ known. CountsMiss (is_some (known reply.now)) (F.misses files.old)
+        (F.misses files.new)) }
 {
     match take_file(alloc, files, reply, REPLY_LIMIT) {
         Ok(reply) => judged(alloc, key, journal, query, &reply),
@@ -101,7 +105,7 @@ fn judged(
     query: &QueryText,
     reply: &[u8],
 ) -> Result<Report, Stop>
-    ensures told { Answers (Audits key.now journal.now (query_of query.now) reply.now) result }
+    ensures known { Answers (Audits key.now journal.now (query_of query.now) reply.now) result }
     ensures inside { IsErrOf result Stop.Outside → ⊥ }
 {
     match audited(alloc, key, journal, query, reply) {

@@ -1,7 +1,7 @@
 //! `check`: what a client says of a reply.
 ghost use Rattle.std.specs.Prelude.{◌≡◌, ◌≤◌, [], ◌∷◌, is_some, IfSome, IsErrOf};
 ghost use Rattle.outside.specs.Miss.{CountsMiss};
-ghost use Rattle.outside.specs.Rose.{Rose};
+ghost use Rattle.outside.specs.FaultRose.{FaultRose};
 ghost use Rattle.vo_spec.specs.Conditions.{query_of};
 ghost use Rattle.vo_commands.specs.Dues.{HoldsEach, check_due, with_file, reply_limit, Checks};
 ghost use Rattle.vo_commands.specs.Reports.{Answers};
@@ -29,13 +29,14 @@ pub fn check<F: Shelf>(
     reply: &str,
     least: u64,
 ) -> Result<Report, Stop>
-    ensures told { IfSome (F.contents files.old)
-        (λ told. Answers (check_due key.now query.now reply.now least told) result) }
+    ensures known { IfSome (F.contents files.old)
+        (λ known. Answers (check_due key.now query.now reply.now least known) result) }
     ensures kept { F.contents files.new ≡ F.contents files.old }
     ensures counts { F.faults files.old ≤ F.faults files.new }
-    ensures cause { IsErrOf result Stop.Outside → Rose (F.faults files.old) (F.faults files.new) }
+    ensures cause { IsErrOf result Stop.Outside
+        → FaultRose (F.faults files.old) (F.faults files.new) }
     ensures misses { IfSome (F.contents files.old)
-        (λ told. HoldsEach told (key.now ∷ reply.now ∷ [])
+        (λ known. HoldsEach known (key.now ∷ reply.now ∷ [])
         → F.misses files.new ≡ F.misses files.old) }
 {
     let key = take_key(alloc, files, key)?;
@@ -52,14 +53,16 @@ fn check_file<F: Shelf>(
     query: &QueryText,
     reply: &str,
 ) -> Result<Report, Stop>
-    ensures told { IfSome (F.contents files.old)
-        (λ told. Answers (with_file told reply.now reply_limit
+    ensures known { IfSome (F.contents files.old)
+        (λ known. Answers (with_file known reply.now reply_limit
         (λ bytes. Checks key least (query_of query.now) bytes)) result) }
     ensures kept { F.contents files.new ≡ F.contents files.old }
     ensures counts { F.faults files.old ≤ F.faults files.new }
-    ensures cause { IsErrOf result Stop.Outside → Rose (F.faults files.old) (F.faults files.new) }
+    ensures cause { IsErrOf result Stop.Outside
+        → FaultRose (F.faults files.old) (F.faults files.new) }
     ensures misses { IfSome (F.contents files.old)
-        (λ told. CountsMiss (is_some (told reply.now)) (F.misses files.old) (F.misses files.new)) }
+        (λ known. CountsMiss (is_some (known reply.now)) (F.misses files.old)
+        (F.misses files.new)) }
 {
     match take_file(alloc, files, reply, REPLY_LIMIT) {
         Ok(reply) => checked(alloc, key, least, query, &reply),
@@ -74,7 +77,7 @@ fn checked(
     query: &QueryText,
     reply: &[u8],
 ) -> Result<Report, Stop>
-    ensures told { Answers (Checks key least (query_of query.now) reply.now) result }
+    ensures known { Answers (Checks key least (query_of query.now) reply.now) result }
     ensures inside { IsErrOf result Stop.Outside → ⊥ }
 {
     let mut client = Client::new(key, least);

@@ -1,7 +1,7 @@
 //! Taking the files that a command names, in the order of its words.
 ghost use Rattle.std.specs.Prelude.{◌≡◌, ◌==◌, ℕ, ◌≤◌, length, take, drop, is_some, IfSome, IsErrOf};
 ghost use Rattle.outside.specs.Miss.{CountsMiss};
-ghost use Rattle.outside.specs.Rose.{Rose};
+ghost use Rattle.outside.specs.FaultRose.{FaultRose};
 ghost use Rattle.vo_words.specs.Height.{number_of};
 ghost use Rattle.vo_commands.specs.Dues.{with_file, with_seed, with_secret, seed_limit, with_key, with_public, is_public_key};
 ghost use Rattle.vo_commands.specs.Reports.{GoesOn};
@@ -21,13 +21,14 @@ pub fn take_file<F: Shelf>(
     name: &str,
     limit: u64,
 ) -> Result<Vec<u8>, Stop>
-    ensures told { IfSome (F.contents files.old)
-        (λ told. GoesOn (λ bytes. bytes.items) (with_file told name.now limit) result) }
+    ensures known { IfSome (F.contents files.old)
+        (λ known. GoesOn (λ bytes. bytes.items) (with_file known name.now limit) result) }
     ensures kept { F.contents files.new ≡ F.contents files.old }
     ensures counts { F.faults files.old ≤ F.faults files.new }
-    ensures cause { IsErrOf result Stop.Outside → Rose (F.faults files.old) (F.faults files.new) }
+    ensures cause { IsErrOf result Stop.Outside
+        → FaultRose (F.faults files.old) (F.faults files.new) }
     ensures misses { IfSome (F.contents files.old)
-        (λ told. CountsMiss (is_some (told name.now)) (F.misses files.old) (F.misses files.new)) }
+        (λ known. CountsMiss (is_some (known name.now)) (F.misses files.old) (F.misses files.new)) }
 {
     match files.take(alloc, name, limit) {
         Ok(bytes) => Ok(bytes),
@@ -47,20 +48,21 @@ pub fn take_seed<F: Shelf>(
     name: &str,
     height: Height,
 ) -> Result<SecretKey, Stop>
-    ensures told { IfSome (F.contents files.old)
-        (λ told. GoesOn (λ key. key) (with_seed told name.now (number_of height)) result) }
+    ensures known { IfSome (F.contents files.old)
+        (λ known. GoesOn (λ key. key) (with_seed known name.now (number_of height)) result) }
     ensures kept { F.contents files.new ≡ F.contents files.old }
     ensures counts { F.faults files.old ≤ F.faults files.new }
-    ensures cause { IsErrOf result Stop.Outside → Rose (F.faults files.old) (F.faults files.new) }
+    ensures cause { IsErrOf result Stop.Outside
+        → FaultRose (F.faults files.old) (F.faults files.new) }
     ensures misses { IfSome (F.contents files.old)
-        (λ told. CountsMiss (is_some (told name.now)) (F.misses files.old) (F.misses files.new)) }
+        (λ known. CountsMiss (is_some (known name.now)) (F.misses files.old) (F.misses files.new)) }
 {
     let bytes = take_file(alloc, files, name, 48)?;
     secret_key(alloc, &bytes, height)
 }
 
 fn secret_key(alloc: Global, bytes: &[u8], height: Height) -> Result<SecretKey, Stop>
-    ensures told { GoesOn (λ key. key)
+    ensures known { GoesOn (λ key. key)
         (λ rest. with_secret (number_of height) rest bytes.now) result }
     ensures inside { IsErrOf result Stop.Outside → ⊥ }
 {
@@ -88,20 +90,21 @@ fn parts_of(bytes: &[u8]) -> Option<(&[u8; 16], &[u8; 32])>
 
 /// The public key of a key file.
 pub fn take_key<F: Shelf>(alloc: Global, files: &mut F, name: &str) -> Result<PublicKey, Stop>
-    ensures told { IfSome (F.contents files.old)
-        (λ told. GoesOn (λ key. key) (with_key told name.now) result) }
+    ensures known { IfSome (F.contents files.old)
+        (λ known. GoesOn (λ key. key) (with_key known name.now) result) }
     ensures kept { F.contents files.new ≡ F.contents files.old }
     ensures counts { F.faults files.old ≤ F.faults files.new }
-    ensures cause { IsErrOf result Stop.Outside → Rose (F.faults files.old) (F.faults files.new) }
+    ensures cause { IsErrOf result Stop.Outside
+        → FaultRose (F.faults files.old) (F.faults files.new) }
     ensures misses { IfSome (F.contents files.old)
-        (λ told. CountsMiss (is_some (told name.now)) (F.misses files.old) (F.misses files.new)) }
+        (λ known. CountsMiss (is_some (known name.now)) (F.misses files.old) (F.misses files.new)) }
 {
     let bytes = take_file(alloc, files, name, 64)?;
     public_key(alloc, &bytes)
 }
 
 fn public_key(alloc: Global, bytes: &[u8]) -> Result<PublicKey, Stop>
-    ensures told { GoesOn (λ key. key) (λ rest. with_public rest bytes.now) result }
+    ensures known { GoesOn (λ key. key) (λ rest. with_public rest bytes.now) result }
     ensures inside { IsErrOf result Stop.Outside → ⊥ }
 {
     match PublicKey::read(bytes) {

@@ -1,7 +1,7 @@
 //! `keygen`: the public key of a seed file.
 ghost use Rattle.std.specs.Prelude.{◌≡◌, ◌≤◌, is_some, IfSome, IsErrOf};
 ghost use Rattle.outside.specs.Miss.{CountsMiss};
-ghost use Rattle.outside.specs.Rose.{Rose};
+ghost use Rattle.outside.specs.FaultRose.{FaultRose};
 ghost use Rattle.vo_words.specs.Height.{number_of};
 ghost use Rattle.vo_commands.specs.Dues.{keygen_due};
 ghost use Rattle.vo_commands.specs.Reports.{Answers};
@@ -19,13 +19,14 @@ pub fn keygen<F: Shelf>(
     seed: &str,
     height: Height,
 ) -> Result<Report, Stop>
-    ensures told { IfSome (F.contents files.old)
-        (λ told. Answers (keygen_due seed.now (number_of height) told) result) }
+    ensures known { IfSome (F.contents files.old)
+        (λ known. Answers (keygen_due seed.now (number_of height) known) result) }
     ensures kept { F.contents files.new ≡ F.contents files.old }
     ensures counts { F.faults files.old ≤ F.faults files.new }
-    ensures cause { IsErrOf result Stop.Outside → Rose (F.faults files.old) (F.faults files.new) }
+    ensures cause { IsErrOf result Stop.Outside
+        → FaultRose (F.faults files.old) (F.faults files.new) }
     ensures misses { IfSome (F.contents files.old)
-        (λ told. CountsMiss (is_some (told seed.now)) (F.misses files.old) (F.misses files.new)) }
+        (λ known. CountsMiss (is_some (known seed.now)) (F.misses files.old) (F.misses files.new)) }
 {
     let key = take_seed(alloc, files, seed, height)?;
     let bytes = key.public().bytes(alloc)?;

@@ -1,6 +1,6 @@
 //! `seal`: the journal of a script's batches.
 ghost use Rattle.std.specs.Prelude.{◌≡◌, ◌≤◌, [], ◌∷◌, IfSome, IsErrOf};
-ghost use Rattle.outside.specs.Rose.{Rose};
+ghost use Rattle.outside.specs.FaultRose.{FaultRose};
 ghost use Rattle.vo_commands.specs.Dues.{HoldsEach, Exactly, script_due, seal_due, seal_said, with_text};
 ghost use Rattle.vo_commands.specs.Reports.{Answers, GoesOn};
 ghost use Rattle.vo_words.specs.Height.{number_of};
@@ -29,13 +29,14 @@ pub fn seal<F: Shelf>(
     script: &str,
     height: Height,
 ) -> Result<Report, Stop>
-    ensures told { IfSome (F.contents files.old)
-        (λ told. Answers (seal_due seed.now script.now (number_of height) told) result) }
+    ensures known { IfSome (F.contents files.old)
+        (λ known. Answers (seal_due seed.now script.now (number_of height) known) result) }
     ensures kept { F.contents files.new ≡ F.contents files.old }
     ensures counts { F.faults files.old ≤ F.faults files.new }
-    ensures cause { IsErrOf result Stop.Outside → Rose (F.faults files.old) (F.faults files.new) }
+    ensures cause { IsErrOf result Stop.Outside
+        → FaultRose (F.faults files.old) (F.faults files.new) }
     ensures misses { IfSome (F.contents files.old)
-        (λ told. HoldsEach told (seed.now ∷ script.now ∷ [])
+        (λ known. HoldsEach known (seed.now ∷ script.now ∷ [])
         → F.misses files.new ≡ F.misses files.old) }
 {
     let key = take_seed(alloc, files, seed, height)?;
@@ -45,7 +46,7 @@ pub fn seal<F: Shelf>(
 
 /// The journal of the script that the bytes are.
 fn sealed_script(alloc: Global, key: &SecretKey, script: &[u8]) -> Result<Report, Stop>
-    ensures told { Answers (script_due key.now script.now) result }
+    ensures known { Answers (script_due key.now script.now) result }
     ensures inside { IsErrOf result Stop.Outside → ⊥ }
 {
     let text = match text_in(alloc, script) {
@@ -60,7 +61,7 @@ fn sealed_script(alloc: Global, key: &SecretKey, script: &[u8]) -> Result<Report
 
 /// The text that the bytes are.
 fn text_in(alloc: Global, bytes: &[u8]) -> Result<&str, Stop>
-    ensures told { GoesOn (λ text. text.now) (λ rest. with_text rest bytes.now) result }
+    ensures known { GoesOn (λ text. text.now) (λ rest. with_text rest bytes.now) result }
     ensures inside { IsErrOf result Stop.Outside → ⊥ }
 {
     match std::str::from_utf8(bytes) {
@@ -74,7 +75,7 @@ fn text_in(alloc: Global, bytes: &[u8]) -> Result<&str, Stop>
 
 fn journal_of(alloc: Global, key: &SecretKey, batches: List<Batch>) -> Result<Report, Stop>
     requires { FitEach batches }
-    ensures told { Answers (Exactly (seal_said key.now batches)) result }
+    ensures known { Answers (Exactly (seal_said key.now batches)) result }
     ensures inside { IsErrOf result Stop.Outside → ⊥ }
 {
     match sealed(alloc, key, batches) {

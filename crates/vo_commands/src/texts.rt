@@ -27,7 +27,7 @@ pub fn query_in(alloc: Global, text: &str) -> Result<QueryText, Stop>
 /// The batches of the script that the text is.
 #[tactic(auto, using(crate::proofs::TextSteps::each_fits))]
 pub fn batches_in(alloc: Global, text: &str) -> Result<Vec<Batch>, Stop>
-    ensures told { ReadsText (λ (v : Vec Batch Global). v.items) (IsScript text.now)
+    ensures known { ReadsText (λ (v : Vec Batch Global). v.items) (IsScript text.now)
         (IsRefusedScript text.now) result }
     ensures fit { IfOk result (λ (v : Vec Batch Global). FitEach v.items) }
 {

@@ -1,6 +1,6 @@
 //! The top call.
 ghost use Rattle.std.specs.Prelude.{◌≡◌, ◌≢◌, ◌⊎◌, ℕ, ◌≤◌, map, string_bytes, IfSome, IsErrOf};
-ghost use Rattle.outside.specs.Rose.{Rose};
+ghost use Rattle.outside.specs.FaultRose.{FaultRose};
 ghost use Rattle.vo_words.specs.Asked.{asked_by};
 ghost use Rattle.vo_words.specs.Request.{asked};
 ghost use Rattle.vo_commands.specs.Dues.{due_to, command_due, Ends, Writes, HoldsEach, asked_files, file_words};
@@ -31,15 +31,15 @@ pub fn run<F: Shelf, D: Disk, N: Net, S: Sink>(
     // Where the bytes that it goes by are told, it ends with what is due, or a fault rose, or memory ran out.
     ensures lines { IfSome (due_to (F.contents files.old) (asked_by (map string_bytes words.now)))
         (λ due.
-        Ends due (Rose (F.faults files.old) (F.faults files.new))
-        (Rose (S.faults out.old) (S.faults out.new))
+        Ends due (FaultRose (F.faults files.old) (F.faults files.new))
+        (FaultRose (S.faults out.old) (S.faults out.new))
         result (S.written out.old) (S.written out.new)) }
     ensures outside { result ≡ 3
-        → Rose (F.faults files.old) (F.faults files.new)
-        ⊎ Rose (S.faults out.old) (S.faults out.new) }
+        → FaultRose (F.faults files.old) (F.faults files.new)
+        ⊎ FaultRose (S.faults out.old) (S.faults out.new) }
     ensures memory { result ≡ 4 → S.written out.new ≡ S.written out.old }
-    ensures misses { IfSome (F.contents files.old) (λ told.
-        HoldsEach told (file_words (asked_by (map string_bytes words.now)))
+    ensures misses { IfSome (F.contents files.old) (λ known.
+        HoldsEach known (file_words (asked_by (map string_bytes words.now)))
         → F.misses files.new ≡ F.misses files.old) }
 
     ensures files { F.contents files.new ≡ F.contents files.old }
@@ -56,13 +56,14 @@ pub fn run<F: Shelf, D: Disk, N: Net, S: Sink>(
 
 /// What the words ask for, done.
 fn work<F: Shelf>(alloc: Global, words: &[String], files: &mut F) -> Result<Report, Stop>
-    ensures told { IfSome (due_to (F.contents files.old) (asked_by (map string_bytes words.now)))
+    ensures known { IfSome (due_to (F.contents files.old) (asked_by (map string_bytes words.now)))
         (λ due. Answers due result) }
     ensures kept { F.contents files.new ≡ F.contents files.old }
     ensures counts { F.faults files.old ≤ F.faults files.new }
-    ensures cause { IsErrOf result Stop.Outside → Rose (F.faults files.old) (F.faults files.new) }
-    ensures misses { IfSome (F.contents files.old) (λ told.
-        HoldsEach told (file_words (asked_by (map string_bytes words.now)))
+    ensures cause { IsErrOf result Stop.Outside
+        → FaultRose (F.faults files.old) (F.faults files.new) }
+    ensures misses { IfSome (F.contents files.old) (λ known.
+        HoldsEach known (file_words (asked_by (map string_bytes words.now)))
         → F.misses files.new ≡ F.misses files.old) }
 {
     match read_words(alloc, words)? {
@@ -73,13 +74,14 @@ fn work<F: Shelf>(alloc: Global, words: &[String], files: &mut F) -> Result<Repo
 
 /// What a command comes to.
 fn command<F: Shelf>(alloc: Global, request: Request<'_>, files: &mut F) -> Result<Report, Stop>
-    ensures told { IfSome (F.contents files.old)
-        (λ told. Answers (command_due (asked request.entry) told) result) }
+    ensures known { IfSome (F.contents files.old)
+        (λ known. Answers (command_due (asked request.entry) known) result) }
     ensures kept { F.contents files.new ≡ F.contents files.old }
     ensures counts { F.faults files.old ≤ F.faults files.new }
-    ensures cause { IsErrOf result Stop.Outside → Rose (F.faults files.old) (F.faults files.new) }
-    ensures misses { IfSome (F.contents files.old) (λ told.
-        HoldsEach told (asked_files (asked request.entry))
+    ensures cause { IsErrOf result Stop.Outside
+        → FaultRose (F.faults files.old) (F.faults files.new) }
+    ensures misses { IfSome (F.contents files.old) (λ known.
+        HoldsEach known (asked_files (asked request.entry))
         → F.misses files.new ≡ F.misses files.old) }
 {
     match request {
@@ -110,9 +112,9 @@ fn command<F: Shelf>(alloc: Global, request: Request<'_>, files: &mut F) -> Resu
 }
 
 fn say<S: Sink>(out: &mut S, report: &Report) -> u8
-    ensures wrote { Writes (said_of report.now) (Rose (S.faults out.old) (S.faults out.new))
+    ensures wrote { Writes (said_of report.now) (FaultRose (S.faults out.old) (S.faults out.new))
         result (S.written out.old) (S.written out.new) }
-    ensures outside { result ≡ 3 → Rose (S.faults out.old) (S.faults out.new) }
+    ensures outside { result ≡ 3 → FaultRose (S.faults out.old) (S.faults out.new) }
     ensures memory { result ≡ 4 → S.written out.new ≡ S.written out.old }
 {
     write(out, report.status.code(), &report.bytes)
@@ -121,9 +123,9 @@ fn say<S: Sink>(out: &mut S, report: &Report) -> u8
 /// Puts all output in one piece. A failing output gives 3 whatever the status was.
 fn write<S: Sink>(out: &mut S, status: u8, bytes: &[u8]) -> u8
     ensures wrote { Writes (record { status = status; bytes = bytes.now })
-        (Rose (S.faults out.old) (S.faults out.new))
+        (FaultRose (S.faults out.old) (S.faults out.new))
         result (S.written out.old) (S.written out.new) }
-    ensures outside { status ≢ 3 → result ≡ 3 → Rose (S.faults out.old) (S.faults out.new) }
+    ensures outside { status ≢ 3 → result ≡ 3 → FaultRose (S.faults out.old) (S.faults out.new) }
     ensures memory { status ≢ 4 → result ≡ 4 → S.written out.new ≡ S.written out.old }
 {
     match out.put(bytes) {

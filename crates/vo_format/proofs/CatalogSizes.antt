@@ -12,13 +12,13 @@ use Rattle.vo_spec.specs.Records.{catalog_table_bytes, catalog_bytes, FitsCatalo
 use Rattle.row_bytes.proofs.ValueLaws.{u16_length, u64_length}
 use Rattle.batch_format.proofs.Fitting.{name_is_short}
 
-pieces_short : {A : Type 0} (Fits : A → Type 0) (spell : A → List ℕ) (most : ℕ) → ((x : A) → Fits x → length (spell x) ≤ most)
-    → (xs : List A) → AllByRecursion Fits xs → length (flat_map spell xs) ≤ length xs * most
-pieces_short Fits spell most each [] fits = omega arith
-pieces_short Fits spell most each (x ∷ xs) fits =
-    let rest : length (flat_map spell xs) ≤ length xs * most = pieces_short Fits spell most each xs fits.1 in
-    let first : length (spell x) ≤ most = each x fits.0 in
-    let both : length (spell x ++ flat_map spell xs) ≡ length (spell x) + length (flat_map spell xs) = length-append (spell x) (flat_map spell xs) in
+pieces_short : {A : Type 0} (Fits : A → Type 0) (encode : A → List ℕ) (most : ℕ) → ((x : A) → Fits x → length (encode x) ≤ most)
+    → (xs : List A) → AllByRecursion Fits xs → length (flat_map encode xs) ≤ length xs * most
+pieces_short Fits encode most each [] fits = omega arith
+pieces_short Fits encode most each (x ∷ xs) fits =
+    let rest : length (flat_map encode xs) ≤ length xs * most = pieces_short Fits encode most each xs fits.1 in
+    let first : length (encode x) ≤ most = each x fits.0 in
+    let both : length (encode x ++ flat_map encode xs) ≡ length (encode x) + length (flat_map encode xs) = length-append (encode x) (flat_map encode xs) in
     let product : suc (length xs) * most ≡ most + length xs * most = grind arith in
     omega (arith, rest, first, both, product)
 

@@ -8,7 +8,7 @@ use Rattle.vo_spec.specs.declared.cells.RowPart.{RowPart}
 use Rattle.vo_spec.specs.declared.cells.RowPart.TheVariants.{Digest as Closed, Cells}
 use Rattle.vo_spec.specs.declared.cells.PartEntry.{PartEntry}
 use Rattle.vo_spec.specs.Bytes.{IsBytes, string}
-use Rattle.vo_spec.specs.Fits.{FitsCell, FitsRowPart, FitsEntry, most_cells}
+use Rattle.vo_spec.specs.Fits.{FitsCell, FitsRowPart, FitsEntry, max_cells}
 use Rattle.vo_spec.specs.TreeBytes.{cell_form, row_form, entry_form}
 use Rattle.row_bytes.specs.Reading.{bytes_at}
 use Rattle.row_bytes.proofs.Readers.{IsBytes-rest}
@@ -42,9 +42,9 @@ cells_law = record { found = cell_found; again = cell_again }
 
 -- Rows.
 
-many_cells : IsReader cells_at (λ cells. length cells ∷ flat_map cell_form cells) (λ cells. (length cells ≤ most_cells) × AllByRecursion FitsCell cells)
+many_cells : IsReader cells_at (λ cells. length cells ∷ flat_map cell_form cells) (λ cells. (length cells ≤ max_cells) × AllByRecursion FitsCell cells)
 unfolding cells_at
-many_cells = few_read cell_at cell_form FitsCell cells_law most_cells
+many_cells = few_read cell_at cell_form FitsCell cells_law max_cells
 
 row_found : (bytes : List ℕ) (r : RowPart) (rest : List ℕ) → IsBytes bytes → row_at bytes ≡ Some (r, rest) → Took bytes (row_form r) rest × FitsRowPart r
 unfolding row_at

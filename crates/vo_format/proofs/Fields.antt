@@ -6,7 +6,7 @@ use Rattle.std.proofs.lemmas.Nat.{be_bytes_4, from_be_bytes-to_be_bytes_4}
 use Rattle.std.proofs.lemmas.List.{take_at, drop_at, take-append-drop, length-append, length-take}
 use Rattle.vo_spec.specs.Bytes.{IsBytes, u16_bytes, u32_bytes, u32_of, string, block}
 use Rattle.vo_spec.specs.Fits.{FitsKey}
-use Rattle.vo_spec.specs.Tables.{most_key}
+use Rattle.vo_spec.specs.Tables.{max_key}
 use Rattle.vo_spec.specs.Batches.{counted}
 use Rattle.row_bytes.specs.Reading.{byte_at, bytes_at, u16_at, u32_at}
 use Rattle.row_bytes.specs.Fields.{◌>>=◌, where_true, string_at, block_at, times}
@@ -89,14 +89,14 @@ string_again text rest lt =
 key_found : (bytes key rest : List ℕ) → IsBytes bytes → key_at bytes ≡ Some (key, rest) → Took bytes (string key) rest × FitsKey key
 unfolding key_at
 key_found bytes key rest fits e =
-    let b = bound (string_at bytes) (λ key. where_true (leb (length key.0) most_key) key) (key, rest) e in
-    let t = tested (leb (length b.0.0) most_key) b.0 (key, rest) b.2 in
+    let b = bound (string_at bytes) (λ key. where_true (leb (length key.0) max_key) key) (key, rest) e in
+    let t = tested (leb (length b.0.0) max_key) b.0 (key, rest) b.2 in
     subst (λ (p : List ℕ × List ℕ). Took bytes (string p.0) p.1 × FitsKey p.0) t.1
-    (string_found bytes b.0.0 b.0.1 fits b.1, leb-true (length b.0.0) most_key t.0)
+    (string_found bytes b.0.0 b.0.1 fits b.1, leb-true (length b.0.0) max_key t.0)
 
 key_again : (key rest : List ℕ) → FitsKey key → key_at (string key ++ rest) ≡ Some (key, rest)
 unfolding key_at
-key_again key rest fits = rw (string_again key rest (omega (arith, fits)), le-leb (length key) most_key fits) refl
+key_again key rest fits = rw (string_again key rest (omega (arith, fits)), le-leb (length key) max_key fits) refl
 
 pub keys_read : IsReader key_at string FitsKey
 keys_read = record { found = key_found; again = key_again }
@@ -125,26 +125,26 @@ count_again least most n rest fits = rw (le-leb least n fits.0, le-leb n most fi
 pub counts_read : (least most : ℕ) → IsReader (count_within least most) one_byte (IsWithin least most)
 counts_read least most = record { found = count_found least most; again = count_again least most }
 
-module _ {A : Type 0} (read : Reader A) (spelling : A → List ℕ) (Fits : A → Type 0) (law : IsReader read spelling Fits) (most : ℕ) where
+module _ {A : Type 0} (read : Reader A) (encoding : A → List ℕ) (Fits : A → Type 0) (law : IsReader read encoding Fits) (most : ℕ) where
   abbrev pub few_at : Reader (List A)
   few_at bytes = count_within 0 most bytes >>= λ count. times read count.0 count.1
 
   abbrev pub AreFew : List A → Type 0
   AreFew xs = (length xs ≤ most) × AllByRecursion Fits xs
 
-  few_found : (bytes : List ℕ) (xs : List A) (rest : List ℕ) → IsBytes bytes → few_at bytes ≡ Some (xs, rest) → Took bytes (counted spelling xs) rest × AreFew xs
+  few_found : (bytes : List ℕ) (xs : List A) (rest : List ℕ) → IsBytes bytes → few_at bytes ≡ Some (xs, rest) → Took bytes (counted encoding xs) rest × AreFew xs
   few_found bytes xs rest fits e =
       let a = next_found (counts_read 0 most) (λ count. times read count) bytes (xs, rest) fits e in
-      let f = times_found read spelling Fits law a.0 a.1 xs rest a.2.behind a.4 in
-      let all : Took bytes (a.0 ∷ flat_map spelling xs) rest = took_then bytes (one_byte a.0) a.1 (flat_map spelling xs) rest a.2 f.0 in
-      (subst (λ (k : ℕ). Took bytes (k ∷ flat_map spelling xs) rest) (sym f.1) all, (subst (λ (k : ℕ). k ≤ most) (sym f.1) a.3.1, f.2))
+      let f = times_found read encoding Fits law a.0 a.1 xs rest a.2.behind a.4 in
+      let all : Took bytes (a.0 ∷ flat_map encoding xs) rest = took_then bytes (one_byte a.0) a.1 (flat_map encoding xs) rest a.2 f.0 in
+      (subst (λ (k : ℕ). Took bytes (k ∷ flat_map encoding xs) rest) (sym f.1) all, (subst (λ (k : ℕ). k ≤ most) (sym f.1) a.3.1, f.2))
 
-  few_again : (xs : List A) (rest : List ℕ) → AreFew xs → few_at (counted spelling xs ++ rest) ≡ Some (xs, rest)
+  few_again : (xs : List A) (rest : List ℕ) → AreFew xs → few_at (counted encoding xs ++ rest) ≡ Some (xs, rest)
   few_again xs rest fits =
-      next_again (counts_read 0 most) (λ count. times read count) (length xs) (flat_map spelling xs ++ rest) (omega arith, fits.0)
-      ∙ times_again read spelling Fits law xs rest fits.1
+      next_again (counts_read 0 most) (λ count. times read count) (length xs) (flat_map encoding xs ++ rest) (omega arith, fits.0)
+      ∙ times_again read encoding Fits law xs rest fits.1
 
-  pub few_read : IsReader few_at (counted spelling) AreFew
+  pub few_read : IsReader few_at (counted encoding) AreFew
   few_read = record { found = few_found; again = few_again }
 
 -- Things behind a byte that says what they are.
@@ -152,17 +152,17 @@ module _ {A : Type 0} (read : Reader A) (spelling : A → List ℕ) (Fits : A �
 pub behind_byte : (byte : ℕ) (bytes text rest : List ℕ) → Took bytes text rest → Took (byte ∷ bytes) (byte ∷ text) rest
 behind_byte byte bytes text rest t = record { parts = ap (λ (x : List ℕ). byte ∷ x) t.parts; behind = t.behind }
 
-pub tagged_found : {A X : Type 0} {read : Reader A} {spelling : A → List ℕ} {Fits : A → Type 0} → IsReader read spelling Fits → (make : A → X) (form : X → List ℕ) (FitsX : X → Type 0) (byte : ℕ)
-    → ((x : A) → form (make x) ≡ byte ∷ spelling x) → ((x : A) → Fits x → FitsX (make x))
+pub tagged_found : {A X : Type 0} {read : Reader A} {encoding : A → List ℕ} {Fits : A → Type 0} → IsReader read encoding Fits → (make : A → X) (form : X → List ℕ) (FitsX : X → Type 0) (byte : ℕ)
+    → ((x : A) → form (make x) ≡ byte ∷ encoding x) → ((x : A) → Fits x → FitsX (make x))
     → (bytes : List ℕ) (y : X) (rest : List ℕ) → IsBytes bytes → one make read bytes ≡ Some (y, rest) → Took (byte ∷ bytes) (form y) rest × FitsX y
-tagged_found {A = A} {X = X} {spelling = spelling} law make form FitsX byte spelled keeps bytes y rest fits e =
+tagged_found {A = A} {X = X} {encoding = encoding} law make form FitsX byte encoded keeps bytes y rest fits e =
     let a = one_found law make bytes (y, rest) fits e in
     let t : Took (byte ∷ bytes) (form (make a.0)) a.1 =
-    subst (λ (w : List ℕ). Took (byte ∷ bytes) w a.1) (sym (spelled a.0)) (behind_byte byte bytes (spelling a.0) a.1 a.2) in
+    subst (λ (w : List ℕ). Took (byte ∷ bytes) w a.1) (sym (encoded a.0)) (behind_byte byte bytes (encoding a.0) a.1 a.2) in
     subst (λ (p : X × List ℕ). Took (byte ∷ bytes) (form p.0) p.1 × FitsX p.0) a.4 (t, keeps a.0 a.3)
 
-pub tagged_again : {A X : Type 0} {read : Reader A} {spelling : A → List ℕ} {Fits : A → Type 0} → IsReader read spelling Fits → (make : A → X) (x : A) (rest : List ℕ) → Fits x
-    → one make read (spelling x ++ rest) ≡ Some (make x, rest)
+pub tagged_again : {A X : Type 0} {read : Reader A} {encoding : A → List ℕ} {Fits : A → Type 0} → IsReader read encoding Fits → (make : A → X) (x : A) (rest : List ℕ) → Fits x
+    → one make read (encoding x ++ rest) ≡ Some (make x, rest)
 tagged_again {X = X} law make x rest fits = next_again law (λ x rest. let made : Option (X × List ℕ) = Some (make x, rest) in made) x rest fits
 
 pub pick : {Y : Type 0} (P : ℕ → Type 0) (byte n : ℕ) (o others : Option Y) (y : Y) → cond (eqb byte n) o others ≡ Some y → (o ≡ Some y → P n) → (others ≡ Some y → P byte) → P byte

@@ -7,7 +7,7 @@ use Rattle.vo_spec.specs.Bytes.{string}
 use Rattle.vo_spec.specs.Parts.{inner}
 use Rattle.vo_spec.specs.Trees.{RowTree}
 use Rattle.vo_spec.specs.Fits.{FitsPart, FitsTree}
-use Rattle.vo_spec.specs.TreeBytes.{tree_bytes, trees_bytes_by, row_spelling}
+use Rattle.vo_spec.specs.TreeBytes.{tree_bytes, trees_bytes_by, row_encoding}
 use Rattle.row_bytes.specs.Fields.{times, with_front}
 use Rattle.row_bytes.proofs.Rounds.{times_step}
 use Rattle.mb_tree.specs.declared.parts.PartTree.{PartTree}
@@ -15,7 +15,7 @@ use Rattle.mb_tree.specs.View.{part_of, parts_of}
 use Rattle.mb_tree.proofs.PartLaws.{count_parts_of}
 use Rattle.vo_format.specs.Reading.{tree_at, node_at}
 
-pub bytes_parts_of : (ps : List PartTree) → trees_bytes_by row_spelling (parts_of ps) ≡ flat_map tree_bytes (map part_of ps)
+pub bytes_parts_of : (ps : List PartTree) → trees_bytes_by row_encoding (parts_of ps) ≡ flat_map tree_bytes (map part_of ps)
 bytes_parts_of [] = refl
 bytes_parts_of (p ∷ ps) = ap (λ bytes. tree_bytes (part_of p) ++ bytes) (bytes_parts_of ps)
 

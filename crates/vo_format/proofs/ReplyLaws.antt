@@ -6,10 +6,10 @@ use Rattle.std.proofs.lemmas.Bool.{leb-true, le-leb}
 use Rattle.vo_spec.specs.declared.records.Record.{Record}
 use Rattle.vo_spec.specs.declared.records.Catalog.{Catalog}
 use Rattle.vo_spec.specs.Bytes.{IsBytes, block}
-use Rattle.vo_spec.specs.Journals.{most_signature}
+use Rattle.vo_spec.specs.Journals.{max_signature}
 use Rattle.vo_spec.specs.Records.{record_bytes, catalog_bytes, FitsCatalog, IsCatalog}
 use Rattle.vo_spec.specs.Trees.{RowTree}
-use Rattle.vo_spec.specs.Fits.{FitsTree, most_levels}
+use Rattle.vo_spec.specs.Fits.{FitsTree, max_levels}
 use Rattle.vo_spec.specs.TreeBytes.{tree_bytes}
 use Rattle.vo_spec.specs.Replies.{Reply as Plain, reply_bytes, FitsReply, IsReply, IsNoReply}
 use Rattle.row_bytes.specs.declared.read_fault.ReadFault.{ReadFault}
@@ -33,19 +33,19 @@ use Rattle.vo_format.proofs.TreeLaws.{trees_read}
 -- Signatures.
 
 abbrev IsSignature : List ℕ → Type 0
-IsSignature s = length s ≤ most_signature
+IsSignature s = length s ≤ max_signature
 
 signature_found : (bytes s rest : List ℕ) → IsBytes bytes → signature_at bytes ≡ Some (s, rest) → Took bytes (block s) rest × IsSignature s
 unfolding signature_at
 signature_found bytes s rest fits e =
-    let b = bound (block_at bytes) (λ s. where_true (leb (length s.0) most_signature) s) (s, rest) e in
-    let t = tested (leb (length b.0.0) most_signature) b.0 (s, rest) b.2 in
+    let b = bound (block_at bytes) (λ s. where_true (leb (length s.0) max_signature) s) (s, rest) e in
+    let t = tested (leb (length b.0.0) max_signature) b.0 (s, rest) b.2 in
     subst (λ (p : List ℕ × List ℕ). Took bytes (block p.0) p.1 × IsSignature p.0) t.1
-    ((block_found bytes b.0.0 b.0.1 fits b.1).0, leb-true (length b.0.0) most_signature t.0)
+    ((block_found bytes b.0.0 b.0.1 fits b.1).0, leb-true (length b.0.0) max_signature t.0)
 
 signature_again : (s rest : List ℕ) → IsSignature s → signature_at (block s ++ rest) ≡ Some (s, rest)
 unfolding signature_at
-signature_again s rest fits = rw (block_again s rest (omega (arith, fits)), le-leb (length s) most_signature fits) refl
+signature_again s rest fits = rw (block_again s rest (omega (arith, fits)), le-leb (length s) max_signature fits) refl
 
 signatures_law : IsReader signature_at block IsSignature
 signatures_law = record { found = signature_found; again = signature_again }
@@ -60,7 +60,7 @@ read_whole None bytes c e is = absurd (no_some c (sym (is_read bytes (Err BadFor
 read_whole (Some d) bytes c e is = sym (is_read bytes (Ok d) c (sym e) is)
 
 whole_catalog : (c : Catalog) → FitsCatalog c → whole (catalog_at (catalog_bytes c)) ≡ Some c
-whole_catalog c fits = read_whole _ (catalog_bytes c) c refl (record { fits = fits; spelled = refl })
+whole_catalog c fits = read_whole _ (catalog_bytes c) c refl (record { fits = fits; encoded = refl })
 
 catalog_found : (bytes : List ℕ) (c : Catalog) (rest : List ℕ) → IsBytes bytes → catalog_block_at bytes ≡ Some (c, rest) → Took bytes (catalog_block c) rest × FitsCatalog c
 unfolding catalog_block_at
@@ -70,7 +70,7 @@ catalog_found bytes c rest fits e =
     let t = block_found bytes a.0.0 a.0.1 fits a.1 in
     let is : IsCatalog a.0.0 b.0 = is_catalog a.0.0 (Ok b.0) t.1 b.1 in
     subst (λ (p : Catalog × List ℕ). Took bytes (catalog_block p.0) p.1 × FitsCatalog p.0) (some_is (b.0, a.0.1) (c, rest) b.2)
-    (subst (λ (w : List ℕ). Took bytes (block w) a.0.1) is.spelled t.0, is.fits)
+    (subst (λ (w : List ℕ). Took bytes (block w) a.0.1) is.encoded t.0, is.fits)
 
 catalog_again : (c : Catalog) (rest : List ℕ) → FitsCatalog c → catalog_block_at (catalog_block c ++ rest) ≡ Some (c, rest)
 unfolding catalog_block_at
@@ -91,7 +91,7 @@ trees_found : (bytes : List ℕ) (ts : List RowTree) (rest : List ℕ) → IsByt
 unfolding counted_trees_at byte_at
 trees_found [] ts rest fits e = absurd cc
 trees_found (n ∷ bytes) ts rest fits e =
-    let f = times_found (tree_at most_levels) tree_bytes FitsTree trees_read n bytes ts rest (IsBytes-rest n bytes fits) e in
+    let f = times_found (tree_at max_levels) tree_bytes FitsTree trees_read n bytes ts rest (IsBytes-rest n bytes fits) e in
     let small : n < 256 = fits 0 in (
       subst (λ (k : ℕ). Took (n ∷ bytes) (k ∷ flat_map tree_bytes ts) rest) (sym f.1) (record { parts = ap (λ (t : List ℕ). n ∷ t) f.0.parts; behind = f.0.behind }),
       (subst (λ (k : ℕ). k < 256) (sym f.1) small, f.2),
@@ -99,7 +99,7 @@ trees_found (n ∷ bytes) ts rest fits e =
 
 trees_again : (ts : List RowTree) (rest : List ℕ) → AreTrees ts → counted_trees_at (counted_trees ts ++ rest) ≡ Some (ts, rest)
 unfolding counted_trees_at byte_at
-trees_again ts rest fits = times_again (tree_at most_levels) tree_bytes FitsTree trees_read ts rest fits.1
+trees_again ts rest fits = times_again (tree_at max_levels) tree_bytes FitsTree trees_read ts rest fits.1
 
 counted_law : IsReader counted_trees_at counted_trees AreTrees
 counted_law = record { found = trees_found; again = trees_again }
@@ -152,12 +152,12 @@ reply_again r rest fits =
 
 whole_reply : (bytes : List ℕ) (r : Plain) → IsReply bytes r → whole (reply_at bytes) ≡ Some r
 whole_reply bytes r is =
-    ap (λ (t : List ℕ). whole (reply_at t)) (is.spelled ∙ sym (append-nil (reply_bytes r))) ∙ ap whole (reply_again r [] is.fits)
+    ap (λ (t : List ℕ). whole (reply_at t)) (is.encoded ∙ sym (append-nil (reply_bytes r))) ∙ ap whole (reply_again r [] is.fits)
 
 pub is_reply : (bytes : List ℕ) (r : Result Reply ReadFault) → IsBytes bytes → ReadsAs reply_of r (whole (reply_at bytes)) → IfOk r (λ reply. IsReply bytes (reply_of reply))
 is_reply bytes (Ok reply) fits read =
     let f = reply_found bytes (reply_of reply) [] fits (whole_is (reply_at bytes) (reply_of reply) read) in
-    record { fits = f.1; spelled = f.0.parts ∙ append-nil (reply_bytes (reply_of reply)) }
+    record { fits = f.1; encoded = f.0.parts ∙ append-nil (reply_bytes (reply_of reply)) }
 is_reply bytes (Err fault) fits read = tt
 
 pub is_none : (bytes : List ℕ) (r : Result Reply ReadFault) → ReadsAs reply_of r (whole (reply_at bytes)) → r ≡ Err BadForm → IsNoReply bytes

@@ -7,8 +7,8 @@ use Rattle.vo_spec.specs.declared.cells.PartEntry.{PartEntry}
 use Rattle.vo_spec.specs.Bytes.{IsBytes, string}
 use Rattle.vo_spec.specs.Parts.{stub, leaf, inner, none, more, count, levels, levels_in}
 use Rattle.vo_spec.specs.Trees.{RowTree, RowTrees, open_parts}
-use Rattle.vo_spec.specs.Fits.{FitsKey, FitsEntry, FitsPart, FitsEach, FitsTree, most_in_node, most_levels}
-use Rattle.vo_spec.specs.TreeBytes.{entry_form, tree_bytes, trees_bytes_by, row_spelling}
+use Rattle.vo_spec.specs.Fits.{FitsKey, FitsEntry, FitsPart, FitsEach, FitsTree, max_fill, max_levels}
+use Rattle.vo_spec.specs.TreeBytes.{entry_form, tree_bytes, trees_bytes_by, row_encoding}
 use Rattle.row_bytes.specs.Reading.{bytes_at}
 use Rattle.row_bytes.specs.declared.read_fault.ReadFault.{ReadFault}
 use Rattle.row_bytes.specs.Fields.{FoundOr, times}
@@ -37,7 +37,7 @@ relisted : (ps : RowTrees) → open_parts (listed ps) ≡ ps
 relisted none = refl
 relisted (more m p ps) = ap (more tt p) (relisted ps)
 
-bytes_open_parts : (ts : List RowTree) → trees_bytes_by row_spelling (open_parts ts) ≡ flat_map tree_bytes ts
+bytes_open_parts : (ts : List RowTree) → trees_bytes_by row_encoding (open_parts ts) ≡ flat_map tree_bytes ts
 bytes_open_parts [] = refl
 bytes_open_parts (t ∷ ts) = ap (λ (bytes : List ℕ). tree_bytes t ++ bytes) (bytes_open_parts ts)
 
@@ -68,7 +68,7 @@ module _ (n : ℕ) (child : IsReader (tree_at n) tree_bytes (Within n)) where
   unfolding inner_at
   inner_found bytes p rest fits e =
       let y : RowTree × List ℕ = (p, rest) in
-      let a = next_found (counts_read 2 most_in_node) (λ count. two inner_node (times key_at (count - 1)) (times (tree_at n) count)) bytes y fits e in
+      let a = next_found (counts_read 2 max_fill) (λ count. two inner_node (times key_at (count - 1)) (times (tree_at n) count)) bytes y fits e in
       let b = bound (times key_at (a.0 - 1) a.1) (λ x. one (inner_node x.0) (times (tree_at n) a.0) x.1) y a.4 in
       let k = times_found key_at string FitsKey keys_read (a.0 - 1) a.1 b.0.0 b.0.1 a.2.behind b.1 in
       let c = bound (times (tree_at n) a.0 b.0.1) (λ x. Some (inner_node b.0.0 x.0, x.1)) y b.2 in
@@ -78,11 +78,11 @@ module _ (n : ℕ) (child : IsReader (tree_at n) tree_bytes (Within n)) where
       let all : Took bytes (a.0 ∷ flat_map string ss ++ flat_map tree_bytes ts) c.0.1 =
       took_then bytes (one_byte a.0 ++ flat_map string ss) b.0.1 (flat_map tree_bytes ts) c.0.1 (took_then bytes (one_byte a.0) a.1 (flat_map string ss) b.0.1 a.2 k.0) t.0 in
       let counts : count (open_parts ts) ≡ a.0 = count_open_parts ts ∙ t.1 in
-      let spelled : tree_bytes (inner_node ss ts) ≡ 2 ∷ a.0 ∷ flat_map string ss ++ flat_map tree_bytes ts = rw (counts, bytes_open_parts ts) refl in
+      let encoded : tree_bytes (inner_node ss ts) ≡ 2 ∷ a.0 ∷ flat_map string ss ++ flat_map tree_bytes ts = rw (counts, bytes_open_parts ts) refl in
       let took : Took (2 ∷ bytes) (tree_bytes (inner_node ss ts)) c.0.1 =
-      subst (λ (w : List ℕ). Took (2 ∷ bytes) w c.0.1) (sym spelled) (behind_byte 2 bytes (a.0 ∷ flat_map string ss ++ flat_map tree_bytes ts) c.0.1 all) in
+      subst (λ (w : List ℕ). Took (2 ∷ bytes) w c.0.1) (sym encoded) (behind_byte 2 bytes (a.0 ∷ flat_map string ss ++ flat_map tree_bytes ts) c.0.1 all) in
       let least : 2 ≤ a.0 = a.3.0 in
-      let most : a.0 ≤ most_in_node = a.3.1 in
+      let most : a.0 ≤ max_fill = a.3.1 in
       let between : length ss ≡ a.0 - 1 = k.1 in
       let deep : levels_in (open_parts ts) ≤ n = levels_within n ts t.2 in
       let within : Within (suc n) (inner_node ss ts) =
@@ -95,12 +95,12 @@ module _ (n : ℕ) (child : IsReader (tree_at n) tree_bytes (Within n)) where
   inner_again ss ts rest fits =
       let counts : count (open_parts ts) ≡ length ts = count_open_parts ts in
       let least : 2 ≤ count (open_parts ts) = fits.0.0 in
-      let most : count (open_parts ts) ≤ most_in_node = fits.0.1 in
+      let most : count (open_parts ts) ≤ max_fill = fits.0.1 in
       let between : length ss + 1 ≡ count (open_parts ts) = fits.0.2 in
       let fewer : length ts - 1 ≡ length ss = omega (arith, counts, between) in
       let deep : levels_in (open_parts ts) + 1 ≤ suc n = fits.1 in
       let each : AllByRecursion (Within n) ts = list_within n ts fits.0.4 (omega (arith, deep)) in
-      next_again (counts_read 2 most_in_node) (λ count. two inner_node (times key_at (count - 1)) (times (tree_at n) count)) (length ts) (flat_map string ss ++ (flat_map tree_bytes ts ++ rest))
+      next_again (counts_read 2 max_fill) (λ count. two inner_node (times key_at (count - 1)) (times (tree_at n) count)) (length ts) (flat_map string ss ++ (flat_map tree_bytes ts ++ rest))
       (omega (arith, counts, least), omega (arith, counts, most))
       ∙ rw (
         fewer,
@@ -108,21 +108,21 @@ module _ (n : ℕ) (child : IsReader (tree_at n) tree_bytes (Within n)) where
         times_again (tree_at n) tree_bytes (Within n) child ts rest each,
       ) refl
 
-  respelled : (ss : List (List ℕ)) (ts : List RowTree) (rest : List ℕ)
+  reencoded : (ss : List (List ℕ)) (ts : List RowTree) (rest : List ℕ)
       → tree_bytes (inner_node ss ts) ++ rest ≡ 2 ∷ length ts ∷ (flat_map string ss ++ (flat_map tree_bytes ts ++ rest))
-  respelled ss ts rest =
+  reencoded ss ts rest =
       rw (count_open_parts ts, bytes_open_parts ts) (ap (λ (w : List ℕ). 2 ∷ length ts ∷ w) (append_assoc (flat_map string ss) (flat_map tree_bytes ts) rest))
 
   leaf_found : (bytes : List ℕ) (p : RowTree) (rest : List ℕ) → IsBytes bytes → leaf_at bytes ≡ Some (p, rest) → Took (1 ∷ bytes) (tree_bytes p) rest × Within (suc n) p
   unfolding leaf_at
   leaf_found bytes p rest fits e =
       let y : RowTree × List ℕ = (p, rest) in
-      let a = next_found (counts_read 0 most_in_node) (λ count. one leaf (times entry_at count)) bytes y fits e in
+      let a = next_found (counts_read 0 max_fill) (λ count. one leaf (times entry_at count)) bytes y fits e in
       let b = bound (times entry_at a.0 a.1) (λ x. Some (leaf x.0, x.1)) y a.4 in
       let k = times_found entry_at entry_form FitsEntry entries_read a.0 a.1 b.0.0 b.0.1 a.2.behind b.1 in
       let es : List PartEntry = b.0.0 in
       let all : Took bytes (a.0 ∷ flat_map entry_form es) b.0.1 = took_then bytes (one_byte a.0) a.1 (flat_map entry_form es) b.0.1 a.2 k.0 in
-      let most : a.0 ≤ most_in_node = a.3.1 in
+      let most : a.0 ≤ max_fill = a.3.1 in
       let took : Took (1 ∷ bytes) (tree_bytes (leaf es)) b.0.1 =
       subst (λ (j : ℕ). Took (1 ∷ bytes) (1 ∷ j ∷ flat_map entry_form es) b.0.1) (sym k.1) (behind_byte 1 bytes (a.0 ∷ flat_map entry_form es) b.0.1 all) in
       let within : Within (suc n) (leaf es) = ((omega (arith, k.1, most), All-from_recursion FitsEntry es k.2), omega arith) in
@@ -131,7 +131,7 @@ module _ (n : ℕ) (child : IsReader (tree_at n) tree_bytes (Within n)) where
   leaf_again : (es : List PartEntry) (rest : List ℕ) → FitsPart (leaf es) → leaf_at (length es ∷ flat_map entry_form es ++ rest) ≡ Some (leaf es, rest)
   unfolding leaf_at
   leaf_again es rest fits =
-      next_again (counts_read 0 most_in_node) (λ count. one leaf (times entry_at count)) (length es) (flat_map entry_form es ++ rest) (omega arith, fits.0)
+      next_again (counts_read 0 max_fill) (λ count. one leaf (times entry_at count)) (length es) (flat_map entry_form es ++ rest) (omega arith, fits.0)
       ∙ rw (times_again entry_at entry_form FitsEntry entries_read es rest (recursion_from_All FitsEntry es fits.1)) refl
 
   node_found : (bytes : List ℕ) (p : RowTree) (rest : List ℕ) → IsBytes bytes → node_at (tree_at n) bytes ≡ Some (p, rest) → Took bytes (tree_bytes p) rest × Within (suc n) p
@@ -152,7 +152,7 @@ module _ (n : ℕ) (child : IsReader (tree_at n) tree_bytes (Within n)) where
   node_again (leaf es) rest fits = leaf_again es rest fits.0
   node_again (inner ss ps) rest fits =
       let P : RowTrees → Type 0 = λ qs. Within (suc n) (inner ss qs) → node_at (tree_at n) (tree_bytes (inner ss qs) ++ rest) ≡ Some (inner ss qs, rest) in
-      subst P (relisted ps) (λ good. ap (node_at (tree_at n)) (respelled ss (listed ps) rest) ∙ inner_again ss (listed ps) rest good) fits
+      subst P (relisted ps) (λ good. ap (node_at (tree_at n)) (reencoded ss (listed ps) rest) ∙ inner_again ss (listed ps) rest good) fits
 
 -- Trees.
 
@@ -168,24 +168,24 @@ unfolding tree_at
 levels_read zero = record { found = nothing_found; again = nothing_again }
 levels_read (suc n) = record { found = node_found n (levels_read n); again = node_again n (levels_read n) }
 
-tree_found : (bytes : List ℕ) (p : RowTree) (rest : List ℕ) → IsBytes bytes → tree_at most_levels bytes ≡ Some (p, rest) → Took bytes (tree_bytes p) rest × FitsTree p
+tree_found : (bytes : List ℕ) (p : RowTree) (rest : List ℕ) → IsBytes bytes → tree_at max_levels bytes ≡ Some (p, rest) → Took bytes (tree_bytes p) rest × FitsTree p
 tree_found bytes p rest fits e =
-    let f = (levels_read most_levels).found bytes p rest fits e in
+    let f = (levels_read max_levels).found bytes p rest fits e in
     (f.0, record { nodes = f.1.0; depth = f.1.1 })
 
-tree_again : (p : RowTree) (rest : List ℕ) → FitsTree p → tree_at most_levels (tree_bytes p ++ rest) ≡ Some (p, rest)
-tree_again p rest fits = (levels_read most_levels).again p rest (fits.nodes, fits.depth)
+tree_again : (p : RowTree) (rest : List ℕ) → FitsTree p → tree_at max_levels (tree_bytes p ++ rest) ≡ Some (p, rest)
+tree_again p rest fits = (levels_read max_levels).again p rest (fits.nodes, fits.depth)
 
-pub trees_read : IsReader (tree_at most_levels) tree_bytes FitsTree
+pub trees_read : IsReader (tree_at max_levels) tree_bytes FitsTree
 trees_read = record { found = tree_found; again = tree_again }
 
 -- What the call ensures.
 
-pub is_tree : (bytes rest : List ℕ) (r : Result PartTree ReadFault) → IsBytes bytes → FoundOr part_of r rest (tree_at most_levels bytes)
+pub is_tree : (bytes rest : List ℕ) (r : Result PartTree ReadFault) → IsBytes bytes → FoundOr part_of r rest (tree_at max_levels bytes)
     → IfOk r (λ tree. FitsTree (part_of tree) × (bytes ≡ tree_bytes (part_of tree) ++ rest))
 is_tree bytes rest (Ok tree) fits read = let f = tree_found bytes (part_of tree) rest fits read in (f.1, f.0.parts)
 is_tree bytes rest (Err fault) fits read = tt
 
-pub tree_is_read : (bytes left : List ℕ) (r : Result PartTree ReadFault) (tree : RowTree) (rest : List ℕ) → FoundOr part_of r left (tree_at most_levels bytes)
+pub tree_is_read : (bytes left : List ℕ) (r : Result PartTree ReadFault) (tree : RowTree) (rest : List ℕ) → FoundOr part_of r left (tree_at max_levels bytes)
     → FitsTree tree → bytes ≡ tree_bytes tree ++ rest → FoundOr part_of r left (Some (tree, rest))
-tree_is_read bytes left r tree rest read fits e = subst (FoundOr part_of r left) (ap (tree_at most_levels) e ∙ tree_again tree rest fits) read
+tree_is_read bytes left r tree rest read fits e = subst (FoundOr part_of r left) (ap (tree_at max_levels) e ∙ tree_again tree rest fits) read

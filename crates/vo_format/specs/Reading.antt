@@ -7,12 +7,12 @@ use Rattle.vo_spec.specs.declared.cells.RowPart.TheVariants.{Digest as Closed, C
 use Rattle.vo_spec.specs.declared.cells.PartEntry.{PartEntry}
 use Rattle.vo_spec.specs.declared.records.Record.{Record}
 use Rattle.vo_spec.specs.declared.records.Catalog.{Catalog}
-use Rattle.vo_spec.specs.Tables.{most_key}
+use Rattle.vo_spec.specs.Tables.{max_key}
 use Rattle.vo_spec.specs.Parts.{stub, leaf, inner}
 use Rattle.vo_spec.specs.Trees.{RowTree, open_parts}
-use Rattle.vo_spec.specs.Fits.{most_cells, most_in_node, most_levels}
-use Rattle.vo_spec.specs.Batches.{most_commands}
-use Rattle.vo_spec.specs.Journals.{most_signature, most_proofs}
+use Rattle.vo_spec.specs.Fits.{max_cells, max_fill, max_levels}
+use Rattle.vo_spec.specs.Batches.{max_commands}
+use Rattle.vo_spec.specs.Journals.{max_signature, max_proofs}
 use Rattle.vo_spec.specs.Replies.{Reply}
 use Rattle.row_bytes.specs.Reading.{byte_at, bytes_at, u16_at}
 use Rattle.row_bytes.specs.Fields.{◌>>=◌, where_true, string_at, block_at, word_at, times, whole}
@@ -30,10 +30,11 @@ cell_at (byte ∷ bytes) =
 
 -- how many things come next, at most so many
 abbrev pub count_within : ℕ → ℕ → Reader ℕ
-count_within least most bytes = byte_at bytes >>= λ count. where_true (nat_le least count.0 && nat_le count.0 most) count
+count_within least most bytes =
+    byte_at bytes >>= λ count. where_true (nat_le least count.0 && nat_le count.0 most) count
 
 unfoldable pub cells_at : Reader (List Cell)
-cells_at bytes = count_within 0 most_cells bytes >>= λ count. times cell_at count.0 count.1
+cells_at bytes = count_within 0 max_cells bytes >>= λ count. times cell_at count.0 count.1
 
 unfoldable pub row_at : Reader RowPart
 row_at [] = None
@@ -43,7 +44,7 @@ row_at (byte ∷ bytes) =
     else None
 
 unfoldable pub key_at : Reader (List ℕ)
-key_at bytes = string_at bytes >>= λ key. where_true (nat_le (length key.0) most_key) key
+key_at bytes = string_at bytes >>= λ key. where_true (nat_le (length key.0) max_key) key
 
 abbrev pub part_entry : List ℕ → RowPart → PartEntry
 part_entry key row = record { key = key; row = row }
@@ -54,14 +55,14 @@ entry_at bytes = two part_entry key_at row_at bytes
 -- Trees.
 
 unfoldable pub leaf_at : Reader RowTree
-leaf_at bytes = count_within 0 most_in_node bytes >>= λ count. one leaf (times entry_at count.0) count.1
+leaf_at bytes = count_within 0 max_fill bytes >>= λ count. one leaf (times entry_at count.0) count.1
 
 abbrev pub inner_node : List (List ℕ) → List RowTree → RowTree
 inner_node separators children = inner separators (open_parts children)
 
 -- a separator fewer than there are children
 unfoldable pub inner_at : Reader RowTree → Reader RowTree
-inner_at child bytes = count_within 2 most_in_node bytes >>= λ count.
+inner_at child bytes = count_within 2 max_fill bytes >>= λ count.
     two inner_node (times key_at (count.0 - 1)) (times child count.0) count.1
 
 -- a node whose children are read so
@@ -81,29 +82,34 @@ tree_at (suc levels) bytes = node_at (tree_at levels) bytes
 -- Replies.
 
 unfoldable pub signature_at : Reader (List ℕ)
-signature_at bytes = block_at bytes >>= λ signature. where_true (nat_le (length signature.0) most_signature) signature
+signature_at bytes = block_at bytes >>= λ signature. where_true
+    (nat_le (length signature.0) max_signature) signature
 
 -- a catalog behind its length
 unfoldable pub catalog_block_at : Reader Catalog
-catalog_block_at bytes = block_at bytes >>= λ block. whole (catalog_at block.0) >>= λ catalog. Some (catalog, block.1)
+catalog_block_at bytes = block_at bytes >>= λ block. whole (catalog_at block.0) >>= λ catalog. Some
+    (catalog, block.1)
 
 -- trees behind a byte that says how many there are
 unfoldable pub counted_trees_at : Reader (List RowTree)
-counted_trees_at bytes = byte_at bytes >>= λ count. times (tree_at most_levels) count.0 count.1
+counted_trees_at bytes = byte_at bytes >>= λ count. times (tree_at max_levels) count.0 count.1
 
 abbrev pub plain_reply : Record → List ℕ → Catalog → List RowTree → Reply
-plain_reply rec signature catalog trees = record { rec = rec; signature = signature; catalog = catalog; trees = trees }
+plain_reply rec signature catalog trees =
+    record { rec = rec; signature = signature; catalog = catalog; trees = trees }
 
 unfoldable pub reply_at : Reader Reply
 reply_at bytes = word_at (codes "VOR1") bytes >>= λ magic. record_at magic.1 >>= λ rec.
-    signature_at rec.1 >>= λ signature. two (plain_reply rec.0 signature.0) catalog_block_at counted_trees_at signature.1
+    signature_at rec.1 >>= λ signature. two (plain_reply rec.0 signature.0) catalog_block_at
+    counted_trees_at signature.1
 
 -- Proofs.
 
 unfoldable pub proofs_at : Reader (List RowTree)
 proofs_at bytes = word_at (codes "VOU1") bytes >>= λ magic. u16_at magic.1 >>= λ count.
-    where_true (nat_le count.0 most_commands) count >>= λ count. times (tree_at most_levels) count.0 count.1
+    where_true (nat_le count.0 max_commands) count >>= λ count. times (tree_at max_levels)
+    count.0 count.1
 
 -- the proofs that all the bytes are
 unfoldable pub proofs_of : List ℕ → Option (List RowTree)
-proofs_of bytes = if nat_le (length bytes) most_proofs then whole (proofs_at bytes) else None
+proofs_of bytes = if nat_le (length bytes) max_proofs then whole (proofs_at bytes) else None

@@ -13,7 +13,12 @@ abbrev pub trees_of : Vec PartTree → List RowTree
 trees_of trees = map part_of trees.items
 
 abbrev pub reply_of : Reply → Plain
-reply_of r = record { rec = r.rec; signature = r.signature.now; catalog = r.catalog; trees = trees_of r.trees }
+reply_of r = record {
+  rec = r.rec;
+  signature = r.signature.now;
+  catalog = r.catalog;
+  trees = trees_of r.trees;
+}
 
 -- a call gives what is read, or says that nothing is, unless memory ran out
 abbrev pub ReadsAs : {X A : Type 0} → (X → A) → Result X ReadFault → Option A → Type 0

@@ -14,7 +14,7 @@ use crate::tree_writing::put_trees;
 use mb_tree::PartTree;
 use row_bytes::{Cursor, ReadFault};
 use std::alloc::{AllocError, Global};
-use vo_spec::u16_bytes;
+use vo_spec::{MAX_PROOFS, u16_bytes};
 
 #[tactic(auto, unfolding(crate::specs::Reading::proofs_at))]
 fn take_proofs<'b>(alloc: Global, cursor: &mut Cursor<'b>) -> Result<Vec<PartTree<'b>>, ReadFault>
@@ -32,7 +32,7 @@ fn take_proofs<'b>(alloc: Global, cursor: &mut Cursor<'b>) -> Result<Vec<PartTre
 fn proofs_in<'b>(alloc: Global, bytes: &'b [u8]) -> Result<Vec<PartTree<'b>>, ReadFault>
     ensures { ReadsAs trees_of result (proofs_of bytes.now) }
 {
-    if bytes.len() > 134_217_728 {
+    if bytes.len() > MAX_PROOFS {
         return Err(ReadFault::BadForm);
     }
     let mut cursor = Cursor::new(bytes);

@@ -9,7 +9,7 @@ ghost use Rattle.vo_format.specs.Reading.{cell_at, cells_at, count_within, entry
 
 use row_bytes::{Cursor, ReadFault, take_value};
 use std::alloc::Global;
-use vo_spec::{Cell, CellValue, Digest, KeyPart, List, PartEntry, RowPart};
+use vo_spec::{Cell, CellValue, Digest, KeyPart, List, MAX_KEY, PartEntry, RowPart};
 
 /// How many things come next, within these limits.
 pub fn take_count(cursor: &mut Cursor<'_>, least: u8, most: u8) -> Option<u8>
@@ -37,7 +37,7 @@ pub fn take_key<'b>(cursor: &mut Cursor<'b>) -> Option<KeyPart<'b>>
     ensures { Found (λ key. key) result cursor.new (key_at cursor.old) }
 {
     let key = cursor.take_string()?;
-    if key.len() <= 255 {
+    if key.len() <= MAX_KEY {
         Some(KeyPart::lent(key))
     } else {
         None

@@ -4,7 +4,7 @@ ghost use Rattle.vo_spec.specs.declared.values.Value.TheVariants.{Int, Text};
 ghost use Rattle.vo_spec.specs.Bytes.{string};
 ghost use Rattle.vo_spec.specs.Values.{value_bytes, FitsValue};
 ghost use Rattle.vo_spec.specs.Lent.{value_of};
-ghost use Rattle.vo_spec.specs.Fits.{FitsCell, FitsEntry, FitsKey, FitsRowPart, most_cells};
+ghost use Rattle.vo_spec.specs.Fits.{FitsCell, FitsEntry, FitsKey, FitsRowPart, max_cells};
 ghost use Rattle.vo_spec.specs.TreeBytes.{cell_form, entry_form, row_form};
 
 use std::alloc::AllocError;
@@ -70,7 +70,7 @@ fn put_cell(out: &mut Vec<u8>, cell: &Cell<'_>) -> Result<(), AllocError>
 }
 
 fn put_cells(out: &mut Vec<u8>, cells: &[Cell<'_>]) -> Result<(), AllocError>
-    requires count { length cells.now ≤ most_cells }
+    requires count { length cells.now ≤ max_cells }
     requires fits { All FitsCell cells.now }
     ensures { OnOk result (out.new.items ≡ out.old.items ++ 1 ∷ length cells.now
         ∷ flat_map cell_form cells.now) }

@@ -12,14 +12,14 @@ use mb_tree::PartTree;
 use row_bytes::{Cursor, ReadFault};
 use std::alloc::Global;
 use version_record::{catalog_in, take_record};
-use vo_spec::Catalog;
+use vo_spec::{Catalog, MAX_SIGNATURE};
 
 #[tactic(auto, unfolding(crate::specs::Reading::signature_at))]
 fn take_signature<'b>(cursor: &mut Cursor<'b>) -> Option<&'b [u8]>
     ensures { Found (λ signature. signature.now) result cursor.new (signature_at cursor.old) }
 {
     let signature = cursor.take_block()?;
-    if signature.len() <= 65536 {
+    if signature.len() <= MAX_SIGNATURE {
         Some(signature)
     } else {
         None

@@ -1,7 +1,7 @@
 //! Reading trees, never deeper than a tree may be.
 ghost use Rattle.std.specs.Prelude.{◌≡◌, ℕ, List, ◌-◌, ◌++◌, Some, IfOk};
 ghost use Rattle.vo_spec.specs.Bytes.{IsBytes};
-ghost use Rattle.vo_spec.specs.Fits.{FitsTree, most_levels};
+ghost use Rattle.vo_spec.specs.Fits.{FitsTree, max_levels};
 ghost use Rattle.vo_spec.specs.Parts.{stub};
 ghost use Rattle.vo_spec.specs.Trees.{RowTree};
 ghost use Rattle.vo_spec.specs.TreeBytes.{tree_bytes};
@@ -19,9 +19,9 @@ use std::alloc::Global;
 use vo_spec::{KeyPart, List, PartEntry};
 
 /// How many levels a tree that is read has at most.
-const MOST_LEVELS: u8 = 11;
+const MAX_LEVELS: u8 = 11;
 
-/// The tree that comes next, of at most [`MOST_LEVELS`] levels. It is lent by the bytes.
+/// The tree that comes next, of at most [`MAX_LEVELS`] levels. It is lent by the bytes.
 pub fn take_tree<'b>(alloc: Global, cursor: &mut Cursor<'b>) -> Result<PartTree<'b>, ReadFault>
     // What is taken is spelled so, and keeps the limits.
     ensures found { IfOk result (λ tree. FitsTree (part_of tree)
@@ -33,10 +33,10 @@ pub fn take_tree<'b>(alloc: Global, cursor: &mut Cursor<'b>) -> Result<PartTree<
         → FoundOr part_of result cursor.new (Some (tree, rest)) }
 
     // What reading gives, unless memory runs out.
-    ensures exact { FoundOr part_of result cursor.new (tree_at most_levels cursor.old) }
+    ensures exact { FoundOr part_of result cursor.new (tree_at max_levels cursor.old) }
 {
     are_bytes(cursor.rest());
-    take_levels(alloc, cursor, MOST_LEVELS)
+    take_levels(alloc, cursor, MAX_LEVELS)
 }
 
 /// A slice of bytes holds bytes.
@@ -183,7 +183,7 @@ pub fn take_trees<'b>(
     cursor: &mut Cursor<'b>,
     count: u16,
 ) -> Result<Vec<PartTree<'b>>, ReadFault>
-    ensures { FoundOr trees_of result cursor.new (times (tree_at most_levels) count cursor.old) }
+    ensures { FoundOr trees_of result cursor.new (times (tree_at max_levels) count cursor.old) }
 {
     let mut trees = Vec::new(alloc);
     for _ in 0..count {

@@ -3,7 +3,7 @@ ghost use Rattle.std.specs.Prelude.{◌≡◌, ◌++◌, ◌≤◌, ◌∷◌, l
 ghost use Rattle.std.specs.List.{AllByRecursion};
 ghost use Rattle.vo_spec.specs.Bytes.{string};
 ghost use Rattle.vo_spec.specs.Parts.{inner};
-ghost use Rattle.vo_spec.specs.Fits.{FitsPart, FitsEach, FitsEntry, FitsKey, FitsTree, most_in_node};
+ghost use Rattle.vo_spec.specs.Fits.{FitsPart, FitsEach, FitsEntry, FitsKey, FitsTree, max_fill};
 ghost use Rattle.vo_spec.specs.TreeBytes.{entry_form, tree_bytes};
 ghost use Rattle.mb_tree.specs.View.{part_of, parts_of};
 
@@ -30,7 +30,7 @@ pub fn put_tree(out: &mut Vec<u8>, tree: &PartTree<'_>) -> Result<(), AllocError
 }
 
 fn put_leaf(out: &mut Vec<u8>, entries: &[PartEntry<'_>]) -> Result<(), AllocError>
-    requires count { length entries.now ≤ most_in_node }
+    requires count { length entries.now ≤ max_fill }
     requires fits { All FitsEntry entries.now }
     ensures { OnOk result (out.new.items ≡ out.old.items ++ 1 ∷ length entries.now
         ∷ flat_map entry_form entries.now) }
@@ -49,7 +49,7 @@ fn put_inner(
     separators: &[KeyPart<'_>],
     children: &[PartTree<'_>],
 ) -> Result<(), AllocError>
-    requires count { length children.now ≤ most_in_node }
+    requires count { length children.now ≤ max_fill }
     requires keys { All FitsKey separators.now }
     requires fits { FitsEach FitsEntry (parts_of children.now) }
     ensures { OnOk result (out.new.items ≡ out.old.items

@@ -1,5 +1,5 @@
 -- The proofs of a replacement and of a removal are within the limits of a tree: on each level one node is open, or
--- two neighbours.
+-- two siblings.
 use Rattle.std.proofs.Common.{◌≡◌, ℕ, suc, ◌+◌, ◌*◌, ◌≤◌, Bool, true, false, cond, List, [], ◌∷◌, length, map, refl, sym, ap, ◌∙◌, subst, arith}
 use Rattle.std.specs.Prelude.{flat_map, slice_get, drop, bytes_eq}
 use Rattle.std.specs.List.{AllByRecursion}
@@ -17,8 +17,8 @@ use Rattle.vo_spec.specs.Parts.{stub, leaf, inner, none, more, count, levels, le
 use Rattle.vo_spec.specs.Trees.{RowTree, RowTrees, row_family, digest}
 use Rattle.vo_spec.specs.Fits.{FitsDigest, FitsKey, FitsCell, FitsRowPart, FitsEntry, FitsEach, FitsPart, FitsTree}
 use Rattle.vo_spec.specs.Inserts.{goes_here, closed_entry}
-use Rattle.vo_spec.specs.Removes.{hidden_cells, hidden_row, opened_row, closed_parts, looked_at, path_to, path_in, replace_proof, becomes_small, look_at_if, neighbour_first, remove_proof, remove_proof_in, remove_proof_after}
-use Rattle.vo_spec.specs.TreeBytes.{cell_form, row_form, entry_form, row_spelling, tree_bytes, trees_bytes_by}
+use Rattle.vo_spec.specs.Removes.{hidden_cells, hidden_row, opened_row, closed_parts, opened_sibling, path_to, path_in, replace_proof, becomes_underfull, opened_sibling_if, sibling_first, remove_proof, remove_proof_in, remove_proof_after}
+use Rattle.vo_spec.specs.TreeBytes.{cell_form, row_form, entry_form, row_encoding, tree_bytes, trees_bytes_by}
 use Rattle.vo_laws.proofs.PrunedFits.{row_closed}
 use Rattle.vo_laws.proofs.ByteLengths.{flat_within, length-string, keys_within, entries_within}
 
@@ -33,7 +33,7 @@ record AreParts (extra : ℕ) (ps qs : RowTrees) : Type 0 where
   fit : FitsEach FitsEntry ps
   same : count ps ≡ count qs
   low : levels_in ps ≤ levels_in qs
-  short : length (trees_bytes_by row_spelling ps) ≤ count qs * 33 + extra
+  short : length (trees_bytes_by row_encoding ps) ≤ count qs * 33 + extra
 
 part_within : (n size : ℕ) (p t : RowTree) → n ≤ size → IsPart n p t → IsPart size p t
 part_within n size p t le is = record { fits = is.fits; low = is.low; short = omega (arith, is.short) }
@@ -65,7 +65,7 @@ part_and_parts size extra m n p q ps qs is are = record {
   fit = (is.fits, are.fit);
   same = ap (λ z. z + 1) are.same;
   low = omega (arith, is.low, are.low);
-  short = omega (arith, length-append (tree_bytes p) (trees_bytes_by row_spelling ps), is.short, are.short);
+  short = omega (arith, length-append (tree_bytes p) (trees_bytes_by row_encoding ps), is.short, are.short);
 }
 
 digest_and_parts : (extra : ℕ) (m n : Unit {0}) (q : RowTree) (ps qs : RowTrees) → FitsPart q → AreParts extra ps qs → AreParts extra (more m (stub (digest q)) ps) (more n q qs)
@@ -75,7 +75,7 @@ digest_and_parts extra m n q ps qs fits are =
       fit = (full, are.fit);
       same = ap (λ z. z + 1) are.same;
       low = omega (arith, one_level q, are.low);
-      short = omega (arith, length-append (tree_bytes (stub (digest q))) (trees_bytes_by row_spelling ps), are.short);
+      short = omega (arith, length-append (tree_bytes (stub (digest q))) (trees_bytes_by row_encoding ps), are.short);
     }
 
 parts_closed : (qs : RowTrees) → FitsEach FitsEntry qs → AreParts 0 (closed_parts qs) qs
@@ -95,7 +95,7 @@ inner_part extra ss ps qs fits are =
     record {
       fits = (omega (arith, fits.0), omega (arith, fits.1), fits.2 ∙ sym same, fits.3, are.fit);
       low = omega (arith, are.low);
-      short = omega (arith, length-append (flat_map string ss) (trees_bytes_by row_spelling ps), are.short, fits.1, fits.2);
+      short = omega (arith, length-append (flat_map string ss) (trees_bytes_by row_encoding ps), are.short, fits.1, fits.2);
     }
 
 each_closed : (es : List PartEntry) → AllByRecursion FitsEntry es → AllByRecursion FitsEntry (map closed_entry es)
@@ -116,15 +116,15 @@ closed_leaf es fits =
       short = omega (arith, closed_size es all, fits.0);
     }
 
-looked_at_part : (t : RowTree) → FitsPart t → IsPart most_open (looked_at t) t
-looked_at_part (stub d) fits = record { fits = fits; low = omega arith; short = omega (arith, fits) }
-looked_at_part (leaf es) fits = closed_leaf es fits
-looked_at_part (inner ss ps) fits = part_within (4385 + 0) most_open (inner ss (closed_parts ps)) (inner ss ps) (omega arith) (inner_part 0 ss (closed_parts ps) ps fits (parts_closed ps fits.4))
+opened_sibling_part : (t : RowTree) → FitsPart t → IsPart most_open (opened_sibling t) t
+opened_sibling_part (stub d) fits = record { fits = fits; low = omega arith; short = omega (arith, fits) }
+opened_sibling_part (leaf es) fits = closed_leaf es fits
+opened_sibling_part (inner ss ps) fits = part_within (4385 + 0) most_open (inner ss (closed_parts ps)) (inner ss ps) (omega arith) (inner_part 0 ss (closed_parts ps) ps fits (parts_closed ps fits.4))
 
-neighbour_and_parts : (b : Bool) (extra : ℕ) (m n : Unit {0}) (q : RowTree) (ps qs : RowTrees) → FitsPart q → AreParts extra ps qs
-    → AreParts (most_open + extra) (more m (look_at_if b q) ps) (more n q qs)
-neighbour_and_parts true extra m n q ps qs fits are = part_and_parts most_open extra m n (looked_at q) q ps qs (looked_at_part q fits) are
-neighbour_and_parts false extra m n q ps qs fits are =
+sibling_and_parts : (b : Bool) (extra : ℕ) (m n : Unit {0}) (q : RowTree) (ps qs : RowTrees) → FitsPart q → AreParts extra ps qs
+    → AreParts (most_open + extra) (more m (opened_sibling_if b q) ps) (more n q qs)
+sibling_and_parts true extra m n q ps qs fits are = part_and_parts most_open extra m n (opened_sibling q) q ps qs (opened_sibling_part q fits) are
+sibling_and_parts false extra m n q ps qs fits are =
     parts_within extra (most_open + extra) (more m (stub (digest q)) ps) (more n q qs) (omega arith) (digest_and_parts extra m n q ps qs fits are)
 
 -- A leaf with the row of a key as hidden cells.
@@ -234,13 +234,13 @@ mutual
 
 -- A removal.
 
--- how many bytes two neighbours have at most
+-- how many bytes two siblings have at most
 abbrev most_both : ℕ
 most_both = 11268
 
-neighbour_part : (b : Bool) (qs : RowTrees) → FitsEach FitsEntry qs → AreParts most_open (neighbour_first b qs) qs
-neighbour_part b none fits = no_parts most_open
-neighbour_part b (more m q qs) fits = neighbour_and_parts b 0 m m q (closed_parts qs) qs fits.0 (parts_closed qs fits.1)
+sibling_part : (b : Bool) (qs : RowTrees) → FitsEach FitsEntry qs → AreParts most_open (sibling_first b qs) qs
+sibling_part b none fits = no_parts most_open
+sibling_part b (more m q qs) fits = sibling_and_parts b 0 m m q (closed_parts qs) qs fits.0 (parts_closed qs fits.1)
 
 mutual
   remove_part : (key : List ℕ) (t : RowTree) → FitsPart t → IsPart (levels t * most_both) (remove_proof key t) t
@@ -254,9 +254,9 @@ mutual
   remove_parts key ss none fits = no_parts (most_open + 0 * most_both)
   remove_parts key ss (more m p ps) fits =
       either_parts (goes_here key (slice_get ss 0)) (most_open + levels_in (more m p ps) * most_both)
-      (more m (remove_proof key p) (neighbour_first (becomes_small key p) ps)) (remove_proof_after key m p ss ps) (more m p ps)
-      (parts_within (levels p * most_both + most_open) (most_open + levels_in (more m p ps) * most_both) (more m (remove_proof key p) (neighbour_first (becomes_small key p) ps)) (more m p ps) (omega arith)
-      (part_and_parts (levels p * most_both) most_open m m (remove_proof key p) p (neighbour_first (becomes_small key p) ps) ps (remove_part key p fits.0) (neighbour_part (becomes_small key p) ps fits.1)))
+      (more m (remove_proof key p) (sibling_first (becomes_underfull key p) ps)) (remove_proof_after key m p ss ps) (more m p ps)
+      (parts_within (levels p * most_both + most_open) (most_open + levels_in (more m p ps) * most_both) (more m (remove_proof key p) (sibling_first (becomes_underfull key p) ps)) (more m p ps) (omega arith)
+      (part_and_parts (levels p * most_both) most_open m m (remove_proof key p) p (sibling_first (becomes_underfull key p) ps) ps (remove_part key p fits.0) (sibling_part (becomes_underfull key p) ps fits.1)))
       (parts_within (most_open + levels_in ps * most_both) (most_open + levels_in (more m p ps) * most_both) (remove_proof_after key m p ss ps) (more m p ps) (omega arith)
       (later_remove_parts key m p ss ps fits.0 fits.1))
 
@@ -265,10 +265,10 @@ mutual
   later_remove_parts key m left ss none before fits = digest_and_parts (most_open + 0 * most_both) m m left none none before (no_parts (most_open + 0 * most_both))
   later_remove_parts key m left ss (more n p ps) before fits =
       either_parts (goes_here key (slice_get ss 1)) (most_open + levels_in (more n p ps) * most_both)
-      (more m (look_at_if (becomes_small key p) left) (more n (remove_proof key p) (closed_parts ps))) (more m (stub (digest left)) (remove_proof_after key n p (drop 1 ss) ps)) (more m left (more n p ps))
+      (more m (opened_sibling_if (becomes_underfull key p) left) (more n (remove_proof key p) (closed_parts ps))) (more m (stub (digest left)) (remove_proof_after key n p (drop 1 ss) ps)) (more m left (more n p ps))
       (parts_within (most_open + (levels p * most_both + 0)) (most_open + levels_in (more n p ps) * most_both)
-      (more m (look_at_if (becomes_small key p) left) (more n (remove_proof key p) (closed_parts ps))) (more m left (more n p ps)) (omega arith)
-      (neighbour_and_parts (becomes_small key p) (levels p * most_both + 0) m m left (more n (remove_proof key p) (closed_parts ps)) (more n p ps) before
+      (more m (opened_sibling_if (becomes_underfull key p) left) (more n (remove_proof key p) (closed_parts ps))) (more m left (more n p ps)) (omega arith)
+      (sibling_and_parts (becomes_underfull key p) (levels p * most_both + 0) m m left (more n (remove_proof key p) (closed_parts ps)) (more n p ps) before
       (part_and_parts (levels p * most_both) 0 n n (remove_proof key p) p (closed_parts ps) ps (remove_part key p fits.0) (parts_closed ps fits.1))))
       (parts_within (most_open + levels_in ps * most_both) (most_open + levels_in (more n p ps) * most_both)
       (more m (stub (digest left)) (remove_proof_after key n p (drop 1 ss) ps)) (more m left (more n p ps)) (omega arith)

@@ -10,12 +10,12 @@ use Rattle.vo_spec.specs.Tables.{CellChange}
 use Rattle.vo_spec.specs.Parts.{stub, leaf, inner, none, more, count, entries, entries_in}
 use Rattle.vo_spec.specs.Trees.{RowTree, RowTrees, row_family}
 use Rattle.vo_spec.specs.Fits.{FitsKey}
-use Rattle.vo_spec.specs.Inserts.{result_map, goes_here, one, two, Children, take_parts, drop_parts, after_child, has_key, first_key, put_grown}
-use Rattle.vo_spec.specs.Removes.{joined_parts, is_small, settled_root, without_entry, with_left, with_right, settle_first, settle_next, shrink, shrink_in, shrink_after, removed, edit_entry, edited_by, edited_in, set_row, replaced}
+use Rattle.vo_spec.specs.Inserts.{result_map, goes_here, one, two, Children, take_parts, drop_parts, after_child, has_key, first_key, put_insertion}
+use Rattle.vo_spec.specs.Removes.{joined_parts, is_underfull, settled_root, without_entry, with_left, with_right, settle_first, settle_next, shrink, shrink_in, shrink_after, removed, edit_entry, edited_by, edited_in, set_row, replaced}
 use Rattle.vo_laws.proofs.ListLaws.{each_left, each_right, each_both}
-use Rattle.vo_laws.proofs.TreeFits.{Separated, AreSeparated, SeparatedGrown, SeparatedChildren, SeparatedTree, KeyFits, each_taken, each_dropped, key_there, parts_taken, parts_dropped, first_fits, put_separated, after_separated, either_separated}
+use Rattle.vo_laws.proofs.TreeFits.{Separated, AreSeparated, SeparatedInsertion, SeparatedChildren, SeparatedTree, KeyFits, each_loadable, each_dropped, key_there, parts_taken, parts_dropped, first_fits, put_separated, after_separated, either_separated}
 
--- Two neighbours.
+-- Two siblings.
 
 parts_joined : (ps qs : RowTrees) → AreSeparated ps → AreSeparated qs → AreSeparated (joined_parts ps qs)
 parts_joined none qs all others = others
@@ -25,34 +25,34 @@ inners_separated : (ls : List (List ℕ)) (s : List ℕ) (rs : List (List ℕ)) 
     → Separated (inner (ls ++ s ∷ rs) (joined_parts ps qs))
 inners_separated ls s rs ps qs left key right = (each_both FitsKey ls (s ∷ rs) left.0 (key, right.0), parts_joined ps qs left.1 right.1)
 
-left_separated : (l : RowTree) (s : List ℕ) (r : RowTree) → AllByRecursion KeyFits (entries l) → Separated l → FitsKey s → Separated r → SeparatedGrown (with_left row_family l s r)
+left_separated : (l : RowTree) (s : List ℕ) (r : RowTree) → AllByRecursion KeyFits (entries l) → Separated l → FitsKey s → Separated r → SeparatedInsertion (with_left row_family l s r)
 left_separated (leaf ls) s (leaf rs) fits left key right = step (nat_lt 8 (length ls))
   where
-    step : (b : Bool) → SeparatedGrown (Ok (cond b (two (leaf (take (length ls - 1) ls)) (first_key row_family (drop (length ls - 1) ls)) (leaf (drop (length ls - 1) ls ++ rs))) (one (leaf (ls ++ rs)))))
+    step : (b : Bool) → SeparatedInsertion (Ok (cond b (two (leaf (take (length ls - 1) ls)) (first_key row_family (drop (length ls - 1) ls)) (leaf (drop (length ls - 1) ls ++ rs))) (one (leaf (ls ++ rs)))))
     step true = (tt, first_fits (drop (length ls - 1) ls) (each_dropped KeyFits (length ls - 1) ls fits), tt)
     step false = tt
 left_separated (inner ls ps) s (inner rs qs) fits left key right = step (nat_lt 8 (count ps))
   where
-    step : (b : Bool) → SeparatedGrown (Ok (cond b
+    step : (b : Bool) → SeparatedInsertion (Ok (cond b
         (two (inner (take (length ls - 1) ls) (take_parts (count ps - 1) ps)) (slice_index_or ls (length ls - 1) []) (inner (s ∷ rs) (joined_parts (drop_parts (count ps - 1) ps) qs)))
         (one (inner (ls ++ s ∷ rs) (joined_parts ps qs)))))
     step true = (
-      (each_taken FitsKey (length ls - 1) ls left.0, parts_taken (count ps - 1) ps left.1),
+      (each_loadable FitsKey (length ls - 1) ls left.0, parts_taken (count ps - 1) ps left.1),
       key_there ls (length ls - 1) left.0,
       ((key, right.0), parts_joined (drop_parts (count ps - 1) ps) qs (parts_dropped (count ps - 1) ps left.1) right.1),
     )
     step false = inners_separated ls s rs ps qs left key right
 left_separated l s r fits left key right = tt
 
-right_separated : (l : RowTree) (s : List ℕ) (r : RowTree) → AllByRecursion KeyFits (entries r) → Separated l → FitsKey s → Separated r → SeparatedGrown (with_right row_family l s r)
+right_separated : (l : RowTree) (s : List ℕ) (r : RowTree) → AllByRecursion KeyFits (entries r) → Separated l → FitsKey s → Separated r → SeparatedInsertion (with_right row_family l s r)
 right_separated (leaf ls) s (leaf rs) fits left key right = step (nat_lt 8 (length rs))
   where
-    step : (b : Bool) → SeparatedGrown (Ok (cond b (two (leaf (ls ++ take 1 rs)) (first_key row_family (drop 1 rs)) (leaf (drop 1 rs))) (one (leaf (ls ++ rs)))))
+    step : (b : Bool) → SeparatedInsertion (Ok (cond b (two (leaf (ls ++ take 1 rs)) (first_key row_family (drop 1 rs)) (leaf (drop 1 rs))) (one (leaf (ls ++ rs)))))
     step true = (tt, first_fits (drop 1 rs) (each_dropped KeyFits 1 rs fits), tt)
     step false = tt
 right_separated (inner ls ps) s (inner rs qs) fits left key right = step (nat_lt 8 (count qs))
   where
-    step : (b : Bool) → SeparatedGrown (Ok (cond b
+    step : (b : Bool) → SeparatedInsertion (Ok (cond b
         (two (inner (ls ++ s ∷ []) (joined_parts ps (take_parts 1 qs))) (slice_index_or rs 0 []) (inner (drop 1 rs) (drop_parts 1 qs)))
         (one (inner (ls ++ s ∷ rs) (joined_parts ps qs)))))
     step true = (
@@ -69,7 +69,7 @@ first_separated : (ss : List (List ℕ)) (ps : RowTrees) (p : RowTree) → AllBy
     → SeparatedChildren (settle_first row_family ss ps p)
 first_separated ss none p fits keys others here = (keys, (here, tt))
 first_separated ss (more m q qs) p fits keys others here =
-    either_separated (is_small p) (result_map (put_grown row_family (drop 1 ss) qs) (with_right row_family p (slice_index_or ss 0 []) q)) (Ok (put_grown row_family ss (more m q qs) (one p)))
+    either_separated (is_underfull p) (result_map (put_insertion row_family (drop 1 ss) qs) (with_right row_family p (slice_index_or ss 0 []) q)) (Ok (put_insertion row_family ss (more m q qs) (one p)))
     (put_separated (drop 1 ss) qs (with_right row_family p (slice_index_or ss 0 []) q) (each_dropped FitsKey 1 ss keys) others.1
     (right_separated p (slice_index_or ss 0 []) q (each_left KeyFits (entries q) (entries_in qs) fits) here (key_there ss 0 keys) others.0))
     (keys, (here, others))
@@ -77,10 +77,10 @@ first_separated ss (more m q qs) p fits keys others here =
 next_separated : (m : Unit {0}) (left : RowTree) (ss : List (List ℕ)) (ps : RowTrees) (p : RowTree) → AllByRecursion KeyFits (entries left) → AllByRecursion FitsKey ss
     → Separated left → AreSeparated ps → Separated p → SeparatedChildren (settle_next row_family m left ss ps p)
 next_separated m left ss ps p fits keys before others here =
-    either_separated (is_small p) (result_map (put_grown row_family (drop 1 ss) ps) (with_left row_family left (slice_index_or ss 0 []) p)) (Ok (after_child m left ss (put_grown row_family (drop 1 ss) ps (one p))))
+    either_separated (is_underfull p) (result_map (put_insertion row_family (drop 1 ss) ps) (with_left row_family left (slice_index_or ss 0 []) p)) (Ok (after_child m left ss (put_insertion row_family (drop 1 ss) ps (one p))))
     (put_separated (drop 1 ss) ps (with_left row_family left (slice_index_or ss 0 []) p) (each_dropped FitsKey 1 ss keys) others
     (left_separated left (slice_index_or ss 0 []) p fits before (key_there ss 0 keys) here))
-    (each_both FitsKey (take 1 ss) (drop 1 ss) (each_taken FitsKey 1 ss keys) (each_dropped FitsKey 1 ss keys), (before, (here, others)))
+    (each_both FitsKey (take 1 ss) (drop 1 ss) (each_loadable FitsKey 1 ss keys) (each_dropped FitsKey 1 ss keys), (before, (here, others)))
 
 settled_separated : (settle : RowTree → Result (Children PartEntry (Unit {0})) UpdateFault) (r : Result RowTree UpdateFault)
     → ((p : RowTree) → Separated p → SeparatedChildren (settle p)) → SeparatedTree r → SeparatedChildren (and_then settle r)

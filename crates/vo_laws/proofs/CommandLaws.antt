@@ -22,7 +22,7 @@ use Rattle.vo_spec.specs.declared.tables.CommandFault.{CommandFault}
 use Rattle.vo_spec.specs.declared.tables.CommandFault.TheVariants.{TableExists, NoTable, BadSchema, TooManyTables}
 use Rattle.vo_spec.specs.Firsts.{first_of}
 use Rattle.vo_spec.specs.Values.{kind_of, same_kind, key_of, key_lt, FitsValue, IsInRange, IsKeyOf, is_text}
-use Rattle.vo_spec.specs.Tables.{most_tables, most_rows, most_key, value_at, column_at, column_number, has_column, has_twice, are_of_kinds, Heading, heading_of, heading_named, is_bad_schema, insert_tests, on_table, refusal, row_of, put_row, table_named, put_table}
+use Rattle.vo_spec.specs.Tables.{max_tables, max_rows, max_key, value_at, column_at, column_number, has_column, has_twice, are_of_kinds, TableHeader, table_header_of, table_header_named, is_bad_schema, insert_tests, on_table, refusal, row_of, put_row, table_named, put_table}
 use Rattle.vo_spec.specs.Names.{FitsName}
 use Rattle.vo_spec.specs.Batches.{FitCounted, FitsCommand}
 use Rattle.vo_spec.specs.Records.{FitsSchema}
@@ -48,46 +48,46 @@ none_holds {F} (t ∷ tests) e = step t.0 refl e (none_holds tests)
     step true f e rest = absurd (cc)
     step false f e rest = (f, rest e)
 
-heading_found : (name : List ℕ) (tables : List Table) → heading_named name (map heading_of tables) ≡ option_map heading_of (table_named name tables)
-heading_found name [] = refl
-heading_found name (t ∷ tables) = step (bytes_eq t.name name) (heading_found name tables)
+table_header_found : (name : List ℕ) (tables : List Table) → table_header_named name (map table_header_of tables) ≡ option_map table_header_of (table_named name tables)
+table_header_found name [] = refl
+table_header_found name (t ∷ tables) = step (bytes_eq t.name name) (table_header_found name tables)
   where
-    step : (b : Bool) → heading_named name (map heading_of tables) ≡ option_map heading_of (table_named name tables)
-        → cond b (Some (heading_of t)) (heading_named name (map heading_of tables)) ≡ option_map heading_of (cond b (Some t) (table_named name tables))
+    step : (b : Bool) → table_header_named name (map table_header_of tables) ≡ option_map table_header_of (table_named name tables)
+        → cond b (Some (table_header_of t)) (table_header_named name (map table_header_of tables)) ≡ option_map table_header_of (cond b (Some t) (table_named name tables))
     step true rest = refl
     step false rest = rest
 
--- what is known of a row that no heading refuses
+-- what is known of a row that no table header refuses
 pub record IsInsertable (t : Table) (values : List Value) : Type 0 where
   pub arity : length values ≡ length t.schema.columns
   pub kinds : are_of_kinds t.schema.columns values ≡ true
-  pub short : length (key_of (value_at values t.schema.key)) ≤ most_key
-  pub room : length t.rows < most_rows
+  pub short : length (key_of (value_at values t.schema.key)) ≤ max_key
+  pub room : length t.rows < max_rows
 
--- the table of a command that no heading refuses is there, and none of the command's tests on it holds
-pub table_there : (name : List ℕ) (tests : Heading → List (Bool × CommandFault)) (tables : List Table) → on_table name (map heading_of tables) tests ≡ None
+-- the table of a command that no table header refuses is there, and none of the command's tests on it holds
+pub table_there : (name : List ℕ) (tests : TableHeader → List (Bool × CommandFault)) (tables : List Table) → on_table name (map table_header_of tables) tests ≡ None
     → is_some (table_named name tables) ≡ true
-table_there name tests tables e = step (table_named name tables) (ap (λ o. option_map_or (λ h. first_of (tests h)) o (Some NoTable)) (sym (heading_found name tables)) ∙ e)
+table_there name tests tables e = step (table_named name tables) (ap (λ o. option_map_or (λ h. first_of (tests h)) o (Some NoTable)) (sym (table_header_found name tables)) ∙ e)
   where
-    step : (o : Option Table) → option_map_or (λ h. first_of (tests h)) (option_map heading_of o) (Some NoTable) ≡ None → is_some o ≡ true
+    step : (o : Option Table) → option_map_or (λ h. first_of (tests h)) (option_map table_header_of o) (Some NoTable) ≡ None → is_some o ≡ true
     step (Some t) f = refl
     step None f = absurd (cc)
 
-pub tests_fail : (name : List ℕ) (tests : Heading → List (Bool × CommandFault)) (tables : List Table) → on_table name (map heading_of tables) tests ≡ None
-    → (t : Table) → table_named name tables ≡ Some t → AllByRecursion (λ (x : Bool × CommandFault). x.0 ≡ false) (tests (heading_of t))
+pub tests_fail : (name : List ℕ) (tests : TableHeader → List (Bool × CommandFault)) (tables : List Table) → on_table name (map table_header_of tables) tests ≡ None
+    → (t : Table) → table_named name tables ≡ Some t → AllByRecursion (λ (x : Bool × CommandFault). x.0 ≡ false) (tests (table_header_of t))
 tests_fail name tests tables e t found =
-    let here : heading_named name (map heading_of tables) ≡ Some (heading_of t) = heading_found name tables ∙ ap (option_map heading_of) found in
-    none_holds (tests (heading_of t)) (ap (λ o. option_map_or (λ h. first_of (tests h)) o (Some NoTable)) (sym here) ∙ e)
+    let here : table_header_named name (map table_header_of tables) ≡ Some (table_header_of t) = table_header_found name tables ∙ ap (option_map table_header_of) found in
+    none_holds (tests (table_header_of t)) (ap (λ o. option_map_or (λ h. first_of (tests h)) o (Some NoTable)) (sym here) ∙ e)
 
-pub insertable : (name : List ℕ) (values : List Value) (tables : List Table) → refusal (Insert name values) (map heading_of tables) ≡ None
+pub insertable : (name : List ℕ) (values : List Value) (tables : List Table) → refusal (Insert name values) (map table_header_of tables) ≡ None
     → (t : Table) → table_named name tables ≡ Some t → IsInsertable t values
 insertable name values tables e t found =
     let tests = tests_fail name (insert_tests values) tables e t found in
     record {
       arity = eqb-true (length values) (length t.schema.columns) (not_false (length values == length t.schema.columns) tests.0);
       kinds = not_false (are_of_kinds t.schema.columns values) tests.1.0;
-      short = ltb-false most_key (length (key_of (value_at values t.schema.key))) tests.1.1.0;
-      room = leb-false most_rows (length t.rows) tests.1.1.1.0;
+      short = ltb-false max_key (length (key_of (value_at values t.schema.key))) tests.1.1.0;
+      room = leb-false max_rows (length t.rows) tests.1.1.1.0;
     }
 
 kind_there : (columns : List Column) (values : List Value) (i : ℕ) → are_of_kinds columns values ≡ true → i < length columns
@@ -140,7 +140,7 @@ kinds_removed (c ∷ columns) (v ∷ values) (suc k) e =
     let p = and_parts (same_kind c.kind (kind_of v)) (are_of_kinds columns values) e in
     and_from (same_kind c.kind (kind_of v)) (are_of_kinds (remove columns k) (remove values k)) p.0 (kinds_removed columns values k p.1)
 
-is_key : (k : Kind) (v : Value) → kind_of v ≡ k → same_kind k kind.Bool ≡ false → FitsValue v → length (key_of v) ≤ most_key
+is_key : (k : Kind) (v : Value) → kind_of v ≡ k → same_kind k kind.Bool ≡ false → FitsValue v → length (key_of v) ≤ max_key
     → is_key_of k (key_of v) ≡ true
 is_key kind.Int (Int z) e other fits short = eq-eqb (length (key_of (Int z))) 8 (number_length _)
 is_key kind.Int (Text s) e other fits short = absurd (cc)
@@ -164,7 +164,7 @@ pub record FitsTable (t : Table) : Type 0 where
   pub schema : FitsSchema t.schema
   pub rows : AllByRecursion FitsRow t.rows
   pub kinds : AllByRecursion (HasKinds t.schema) t.rows
-  pub count : length t.rows ≤ most_rows
+  pub count : length t.rows ≤ max_rows
 
 abbrev pub names_of : List Table → List (List ℕ)
 names_of = map (λ (t : Table). t.name)
@@ -172,7 +172,7 @@ names_of = map (λ (t : Table). t.name)
 pub record FitTables (tables : List Table) : Type 0 where
   pub each : AllByRecursion FitsTable tables
   pub rising : AreRising (names_of tables)
-  pub count : length tables ≤ most_tables
+  pub count : length tables ≤ max_tables
 
 -- A table is dropped.
 
@@ -207,17 +207,17 @@ filter_shorter {A} test (x ∷ xs) = step (test x) (filter_shorter test xs)
 pub dropped_fit : (test : Table → Bool) (tables : List Table) → FitTables tables → FitTables (filter test tables)
 dropped_fit test tables fits =
     let shorter : length (filter test tables) ≤ length tables = filter_shorter test tables in
-    let few : length tables ≤ most_tables = fits.count in
+    let few : length tables ≤ max_tables = fits.count in
     record { each = each_filter FitsTable test tables fits.each; rising = filter_rises test tables fits.rising; count = omega arith }
 
 -- A table is made.
 
-named_nowhere : (name : List ℕ) (tables : List Table) → is_some (heading_named name (map heading_of tables)) ≡ false → AllByRecursion (λ (t : Table). bytes_eq t.name name ≡ false) tables
+named_nowhere : (name : List ℕ) (tables : List Table) → is_some (table_header_named name (map table_header_of tables)) ≡ false → AllByRecursion (λ (t : Table). bytes_eq t.name name ≡ false) tables
 named_nowhere name [] e = tt
 named_nowhere name (t ∷ tables) e = step (bytes_eq t.name name) refl e (named_nowhere name tables)
   where
-    step : (b : Bool) → bytes_eq t.name name ≡ b → is_some (cond b (Some (heading_of t)) (heading_named name (map heading_of tables))) ≡ false
-        → (is_some (heading_named name (map heading_of tables)) ≡ false → AllByRecursion (λ (u : Table). bytes_eq u.name name ≡ false) tables)
+    step : (b : Bool) → bytes_eq t.name name ≡ b → is_some (cond b (Some (table_header_of t)) (table_header_named name (map table_header_of tables))) ≡ false
+        → (is_some (table_header_named name (map table_header_of tables)) ≡ false → AllByRecursion (λ (u : Table). bytes_eq u.name name ≡ false) tables)
         → (bytes_eq t.name name ≡ false) × AllByRecursion (λ (u : Table). bytes_eq u.name name ≡ false) tables
     step true f e rest = absurd (cc)
     step false f e rest = (f, rest e)
@@ -258,15 +258,15 @@ put_table_length t (u ∷ tables) = step (key_lt t.name u.name) (put_table_lengt
     step false rest = ap suc rest
 
 pub created_fit : (name : List ℕ) (columns : List Column) (key : List ℕ) (tables : List Table) → FitsCommand (Create name columns key)
-    → refusal (Create name columns key) (map heading_of tables) ≡ None → FitTables tables
+    → refusal (Create name columns key) (map table_header_of tables) ≡ None → FitTables tables
     → FitTables (put_table (record { name = name; schema = record { columns = columns; key = column_number columns key }; rows = [] }) tables)
 unfolding FitsCommand
 created_fit name columns key tables fits e before =
     let tests = none_holds
-    ((is_some (heading_named name (map heading_of tables)), TableExists) ∷ (nat_le most_tables (length (map heading_of tables)), TooManyTables) ∷ (is_bad_schema columns key, BadSchema) ∷ []) e in
+    ((is_some (table_header_named name (map table_header_of tables)), TableExists) ∷ (nat_le max_tables (length (map table_header_of tables)), TooManyTables) ∷ (is_bad_schema columns key, BadSchema) ∷ []) e in
     let schema = or_parts (has_twice (map (λ (c : Column). c.name) columns) || not (has_column columns key)) (same_kind (column_at columns (column_number columns key)).kind kind.Bool) tests.1.1.0 in
     let names = or_parts (has_twice (map (λ (c : Column). c.name) columns)) (not (has_column columns key)) schema.0 in
-    let few : length (map heading_of tables) < most_tables = leb-false most_tables (length (map heading_of tables)) tests.1.0 in
+    let few : length (map table_header_of tables) < max_tables = leb-false max_tables (length (map table_header_of tables)) tests.1.0 in
     let made : Table = record { name = name; schema = record { columns = columns; key = column_number columns key }; rows = [] } in
     let longer : length (put_table made tables) ≡ suc (length tables) = put_table_length made tables in
     record {
@@ -284,7 +284,7 @@ created_fit name columns key tables fits e before =
             count = omega arith;
           }) before.each;
       rising = put_table_rises made tables (named_nowhere name tables tests.0) before.rising;
-      count = omega (arith, length-map tables heading_of);
+      count = omega (arith, length-map tables table_header_of);
     }
 
 -- A row is put into a table.
@@ -305,10 +305,10 @@ put_row_length row (r ∷ rows) = step (key_lt row.key r.key) (put_row_length ro
     step true rest = refl
     step false rest = ap suc rest
 
-each_taken : (n : ℕ) (values : List Value) → AllByRecursion FitsValue values → AllByRecursion FitsValue (take n values)
-each_taken zero values all = tt
-each_taken (suc n) [] all = tt
-each_taken (suc n) (v ∷ values) all = (all.0, each_taken n values all.1)
+each_loadable : (n : ℕ) (values : List Value) → AllByRecursion FitsValue values → AllByRecursion FitsValue (take n values)
+each_loadable zero values all = tt
+each_loadable (suc n) [] all = tt
+each_loadable (suc n) (v ∷ values) all = (all.0, each_loadable n values all.1)
 
 each_dropped : (n : ℕ) (values : List Value) → AllByRecursion FitsValue values → AllByRecursion FitsValue (drop n values)
 each_dropped zero values all = all
@@ -326,6 +326,6 @@ row_fits t values schema fits is =
       cells = record {
         count = omega arith;
         each = All-from_recursion FitsValue (remove values t.schema.key)
-            (each_both FitsValue (take t.schema.key values) (drop (suc t.schema.key) values) (each_taken t.schema.key values fits.2) (each_dropped (suc t.schema.key) values fits.2));
+            (each_both FitsValue (take t.schema.key values) (drop (suc t.schema.key) values) (each_loadable t.schema.key values fits.2) (each_dropped (suc t.schema.key) values fits.2));
       };
     }

@@ -20,9 +20,9 @@ use Rattle.vo_spec.specs.declared.keys.Bound.TheVariants.{Absent, Inclusive, Exc
 use Rattle.vo_spec.specs.declared.keys.Interval.{Interval}
 use Rattle.vo_spec.specs.Values.{kind_of, same_kind, key_of, key_cmp, key_lt, value_cmp, value_of_key, IsKeyOf}
 use Rattle.vo_spec.specs.Conditions.{Condition, Conditions, every, some, negated, test, none, more, operand_refs, condition_refs, conditions_refs, comparisons, comparisons_in, compares, operand_value, truth, all_true, any_true, FitsOperand}
-use Rattle.vo_spec.specs.Results.{Side, schema_at, place_of, ref_kind, kind_fault}
+use Rattle.vo_spec.specs.Results.{BoundSource, schema_at, place_of, ref_kind, kind_fault}
 use Rattle.vo_spec.specs.Scans.{is_above, is_below, in_interval}
-use Rattle.vo_spec.specs.Needs.{all_keys, keys_that, higher, lower, shared, is_left_key, test_interval, interval_of, interval_of_all, is_left, left_truth, left_truths}
+use Rattle.vo_spec.specs.Needs.{all_keys, keys_that, higher, lower, intersection, is_left_key, test_interval, interval_of, interval_of_all, is_left, left_truth, left_truths}
 use Rattle.vo_spec.specs.Checks.{key_kind}
 use Rattle.vo_laws.proofs.KeyOrder.{flipped}
 use Rattle.vo_laws.proofs.ListLaws.{each_left, each_right}
@@ -62,18 +62,18 @@ mutual
 
 -- The left condition goes by the references that mean left columns.
 
-abbrev pub SameLeft : List Side → (Ref → Value) → (Ref → Value) → Ref → Type 0
-SameLeft ss row other r = ((place_of ss r).side == 0) ≡ true → row r ≡ other r
+abbrev pub SameLeft : List BoundSource → (Ref → Value) → (Ref → Value) → Ref → Type 0
+SameLeft ss row other r = ((place_of ss r).bound_source == 0) ≡ true → row r ≡ other r
 
-left_refs : (ss : List Side) (row other : Ref → Value) (rs : List Ref) → list_all (λ r. (place_of ss r).side == 0) rs ≡ true
+left_refs : (ss : List BoundSource) (row other : Ref → Value) (rs : List Ref) → list_all (λ r. (place_of ss r).bound_source == 0) rs ≡ true
     → AllByRecursion (SameLeft ss row other) rs → AllByRecursion (Same row other) rs
 left_refs ss row other [] e all = tt
 left_refs ss row other (r ∷ rs) e all =
-    let p = and_parts ((place_of ss r).side == 0) (list_all (λ x. (place_of ss x).side == 0) rs) e in
+    let p = and_parts ((place_of ss r).bound_source == 0) (list_all (λ x. (place_of ss x).bound_source == 0) rs) e in
     (all.0 p.0, left_refs ss row other rs p.1 all.1)
 
 -- where the condition is on left columns alone, both rows agree on it
-left_same : (ss : List Side) (row other : Ref → Value) (c : Condition) → AllByRecursion (SameLeft ss row other) (condition_refs c)
+left_same : (ss : List BoundSource) (row other : Ref → Value) (c : Condition) → AllByRecursion (SameLeft ss row other) (condition_refs c)
     → is_left ss c ≡ true → truth row c ≡ truth other c
 left_same ss row other c all e = same_truth row other c (left_refs ss row other (condition_refs c) e all)
 
@@ -82,7 +82,7 @@ same_choice true x y f = f refl
 same_choice false x y f = refl
 
 mutual
-  pub same_left : (ss : List Side) (row other : Ref → Value) (c : Condition) → AllByRecursion (SameLeft ss row other) (condition_refs c)
+  pub same_left : (ss : List BoundSource) (row other : Ref → Value) (c : Condition) → AllByRecursion (SameLeft ss row other) (condition_refs c)
       → left_truth ss row c ≡ left_truth ss other c
   same_left ss row other (every cs) all = same_lefts ss row other cs all
   same_left ss row other (some cs) all =
@@ -93,7 +93,7 @@ mutual
       same_choice (is_left ss (test left op right)) (truth row (test left op right)) (truth other (test left op right))
       (left_same ss row other (test left op right) all)
 
-  same_lefts : (ss : List Side) (row other : Ref → Value) (cs : Conditions) → AllByRecursion (SameLeft ss row other) (conditions_refs cs)
+  same_lefts : (ss : List BoundSource) (row other : Ref → Value) (cs : Conditions) → AllByRecursion (SameLeft ss row other) (conditions_refs cs)
       → left_truths ss row cs ≡ left_truths ss other cs
   same_lefts ss row other none all = refl
   same_lefts ss row other (more c cs) all =
@@ -109,7 +109,7 @@ choice_true true x f = f refl
 choice_true false x f = refl
 
 mutual
-  pub left_met : (ss : List Side) (row left : Ref → Value) (c : Condition) → AllByRecursion (SameLeft ss row left) (condition_refs c)
+  pub left_met : (ss : List BoundSource) (row left : Ref → Value) (c : Condition) → AllByRecursion (SameLeft ss row left) (condition_refs c)
       → truth row c ≡ true → left_truth ss left c ≡ true
   left_met ss row left (every cs) all e = lefts_met ss row left cs all e
   left_met ss row left (some cs) all e =
@@ -119,7 +119,7 @@ mutual
   left_met ss row left (test a op b) all e =
       choice_true (is_left ss (test a op b)) (truth left (test a op b)) (λ l. sym (left_same ss row left (test a op b) all l) ∙ e)
 
-  lefts_met : (ss : List Side) (row left : Ref → Value) (cs : Conditions) → AllByRecursion (SameLeft ss row left) (conditions_refs cs)
+  lefts_met : (ss : List BoundSource) (row left : Ref → Value) (cs : Conditions) → AllByRecursion (SameLeft ss row left) (conditions_refs cs)
       → all_true row cs ≡ true → left_truths ss left cs ≡ true
   lefts_met ss row left none all e = refl
   lefts_met ss row left (more c cs) all e =
@@ -156,8 +156,8 @@ lower_below (Inclusive a) (Exclusive b) key e f = pick_below (key_lt a b) (Inclu
 lower_below (Exclusive a) (Inclusive b) key e f = pick_below (key_lt b a) (Inclusive b) (Exclusive a) key f e
 lower_below (Exclusive a) (Exclusive b) key e f = pick_below (key_lt b a) (Exclusive b) (Exclusive a) key f e
 
-in_shared : (a b : Interval) (key : List ℕ) → in_interval a key ≡ true → in_interval b key ≡ true → in_interval (shared a b) key ≡ true
-in_shared a b key e f =
+in_intersection : (a b : Interval) (key : List ℕ) → in_interval a key ≡ true → in_interval b key ≡ true → in_interval (intersection a b) key ≡ true
+in_intersection a b key e f =
     let p = and_parts (is_above a.low key) (is_below a.high key) e in
     let q = and_parts (is_above b.low key) (is_below b.high key) f in
     and_from (is_above (higher a.low b.low) key) (is_below (lower a.high b.high) key) (higher_above a.low b.low key p.0 q.0) (lower_below a.high b.high key p.1 q.1)
@@ -207,23 +207,23 @@ same_kind_is kind.Bool kind.Text e = absurd (cc)
 same_kind_is kind.Bool kind.Bool e = refl
 
 -- the row has the key's value wherever the left key is meant
-abbrev pub ReadsKey : List Side → (Ref → Value) → List ℕ → Type 0
+abbrev pub ReadsKey : List BoundSource → (Ref → Value) → List ℕ → Type 0
 ReadsKey ss row key = (r : Ref) → is_left_key ss (place_of ss r) ≡ true → (row r ≡ value_of_key (key_kind (schema_at ss 0)) key) × (ref_kind ss r ≡ key_kind (schema_at ss 0))
 
-abbrev pub KindsAgree : List Side → Ref × Operand → Type 0
+abbrev pub KindsAgree : List BoundSource → Ref × Operand → Type 0
 KindsAgree ss c = kind_fault ss c ≡ None
 
 abbrev Fitting : Ref × Operand → Type 0
 Fitting c = FitsOperand c.1
 
-kinds_are : (ss : List Side) (r : Ref) (v : Value) → KindsAgree ss (r, Literal v) → kind_of v ≡ ref_kind ss r
+kinds_are : (ss : List BoundSource) (r : Ref) (v : Value) → KindsAgree ss (r, Literal v) → kind_of v ≡ ref_kind ss r
 kinds_are ss r v e = step (same_kind (ref_kind ss r) (kind_of v)) refl e
   where
     step : (b : Bool) → same_kind (ref_kind ss r) (kind_of v) ≡ b → cond b None (Some TypeMismatch) ≡ None → kind_of v ≡ ref_kind ss r
     step true f e = same_kind_is (ref_kind ss r) (kind_of v) f
     step false f e = absurd (cc)
 
-tested_inside : (ss : List Side) (row : Ref → Value) (key : List ℕ) (left : Ref) (op : Cmp) (right : Operand)
+tested_inside : (ss : List BoundSource) (row : Ref → Value) (key : List ℕ) (left : Ref) (op : Cmp) (right : Operand)
     → IsKeyOf (key_kind (schema_at ss 0)) key → ReadsKey ss row key → KindsAgree ss (left, right) → FitsOperand right
     → truth row (test left op right) ≡ true → in_interval (test_interval ss left op right) key ≡ true
 tested_inside ss row key left op (Column r) is reads kinds fits e = refl
@@ -238,7 +238,7 @@ tested_inside ss row key left op (Literal v) is reads kinds fits e = step (is_le
     step false f = refl
 
 mutual
-  pub met_inside : (ss : List Side) (row : Ref → Value) (key : List ℕ) (c : Condition)
+  pub met_inside : (ss : List BoundSource) (row : Ref → Value) (key : List ℕ) (c : Condition)
       → IsKeyOf (key_kind (schema_at ss 0)) key → ReadsKey ss row key
       → AllByRecursion (KindsAgree ss) (comparisons c) → AllByRecursion Fitting (comparisons c)
       → truth row c ≡ true → in_interval (interval_of ss c) key ≡ true
@@ -247,14 +247,14 @@ mutual
   met_inside ss row key (negated c) is reads kinds fits e = refl
   met_inside ss row key (test left op right) is reads kinds fits e = tested_inside ss row key left op right is reads kinds.0 fits.0 e
 
-  all_inside : (ss : List Side) (row : Ref → Value) (key : List ℕ) (cs : Conditions)
+  all_inside : (ss : List BoundSource) (row : Ref → Value) (key : List ℕ) (cs : Conditions)
       → IsKeyOf (key_kind (schema_at ss 0)) key → ReadsKey ss row key
       → AllByRecursion (KindsAgree ss) (comparisons_in cs) → AllByRecursion Fitting (comparisons_in cs)
       → all_true row cs ≡ true → in_interval (interval_of_all ss cs) key ≡ true
   all_inside ss row key none is reads kinds fits e = refl
   all_inside ss row key (more c cs) is reads kinds fits e =
       let p = and_parts (truth row c) (all_true row cs) e in
-      in_shared (interval_of ss c) (interval_of_all ss cs) key
+      in_intersection (interval_of ss c) (interval_of_all ss cs) key
       (met_inside ss row key c is reads (each_left (KindsAgree ss) (comparisons c) (comparisons_in cs) kinds)
       (each_left Fitting (comparisons c) (comparisons_in cs) fits) p.0)
       (all_inside ss row key cs is reads (each_right (KindsAgree ss) (comparisons c) (comparisons_in cs) kinds)

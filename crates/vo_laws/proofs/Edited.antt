@@ -9,13 +9,13 @@ use Rattle.vo_spec.specs.declared.trees.UpdateFault.{UpdateFault}
 use Rattle.vo_spec.specs.declared.trees.UpdateFault.TheVariants.{NoRow}
 use Rattle.vo_spec.specs.Values.{key_lt}
 use Rattle.vo_spec.specs.Parts.{Part, Parts, Family, stub, leaf, inner, none, more, count, entries, entries_in}
-use Rattle.vo_spec.specs.Inserts.{half, result_map}
+use Rattle.vo_spec.specs.Inserts.{min_fill, result_map}
 use Rattle.vo_spec.specs.Removes.{edit_entry, edited_by, edited_in}
 use Rattle.vo_spec.specs.Standing.{is_from, is_before, is_between, is_within, AreRising, IsNode, AreNodes, IsTree, fewest_in_root}
 use Rattle.vo_laws.proofs.ListLaws.{each_map, each_mapped}
 use Rattle.vo_laws.proofs.NodeBounds.{Between, node_between, nodes_between}
 use Rattle.vo_laws.proofs.Growing.{keys_in, Below, Above, other_key, other_back}
-use Rattle.vo_laws.proofs.Grown.{each_above, each_below, fewer, root_few}
+use Rattle.vo_laws.proofs.Insertion.{each_above, each_below, fewer, root_few}
 
 mapped_twice : {A B C F : Type 0} (g : B → C) (f : A → B) (r : Result A F) → result_map g (result_map f r) ≡ result_map (λ x. g (f x)) r
 mapped_twice g f (Ok x) = refl
@@ -106,30 +106,30 @@ module _ {E M : Type 0} (family : Family E M) (edit : E → Result E UpdateFault
   inner_edits key fewest height lower upper ss es n (Err fault) high few many two_or_more g = g
 
   -- the only child that is left
-  last_edits : (key : List ℕ) (height : ℕ) (lower upper : Option (List ℕ)) (es : List E) (r : Result (Part E M) UpdateFault) → NodeEdits key half height lower upper es r
-      → NodesEdit key height lower upper [] (es ++ []) (0 + 1) (result_map (λ q. more (family.mark q) q none) r)
+  last_edits : (key : List ℕ) (height : ℕ) (lower upper : Option (List ℕ)) (es : List E) (r : Result (Part E M) UpdateFault) → NodeEdits key min_fill height lower upper es r
+      → NodesEdit key height lower upper [] (es ++ []) (0 + 1) (result_map (λ q. more (family.annotation q) q none) r)
   last_edits key height lower upper es (Ok t) g = (edit_left key es [] tt ∙ ap (result_map (λ zs. zs ++ [])) g.0, (refl, g.1), refl)
   last_edits key height lower upper es (Err fault) g = edit_left key es [] tt ∙ ap (result_map (λ zs. zs ++ [])) g
 
   -- the first child before others
   first_edits : (key : List ℕ) (height : ℕ) (lower upper : Option (List ℕ)) (s : List ℕ) (ss : List (List ℕ)) (es : List E) (ps : Parts E M) (r : Result (Part E M) UpdateFault)
-      → is_within lower upper s ≡ true → AreNodes family height (Some s) upper ss ps → AllByRecursion (Above family key) (entries_in ps) → NodeEdits key half height lower (Some s) es r
-      → NodesEdit key height lower upper (s ∷ ss) (es ++ entries_in ps) (count ps + 1) (result_map (λ q. more (family.mark q) q ps) r)
+      → is_within lower upper s ≡ true → AreNodes family height (Some s) upper ss ps → AllByRecursion (Above family key) (entries_in ps) → NodeEdits key min_fill height lower (Some s) es r
+      → NodesEdit key height lower upper (s ∷ ss) (es ++ entries_in ps) (count ps + 1) (result_map (λ q. more (family.annotation q) q ps) r)
   first_edits key height lower upper s ss es ps (Ok t) w nodes above g =
       (edit_left key es (entries_in ps) above ∙ ap (result_map (λ zs. zs ++ entries_in ps)) g.0, (refl, w, g.1, nodes), refl)
   first_edits key height lower upper s ss es ps (Err fault) w nodes above g = edit_left key es (entries_in ps) above ∙ ap (result_map (λ zs. zs ++ entries_in ps)) g
 
   -- a child behind another
   later_edits : (key : List ℕ) (height : ℕ) (lower upper : Option (List ℕ)) (s : List ℕ) (ss : List (List ℕ)) (m : M) (p : Part E M) (es : List E) (n : ℕ)
-      (r : Result (Parts E M) UpdateFault) → m ≡ family.mark p → is_within lower upper s ≡ true → IsNode family half height lower (Some s) p → AllByRecursion (Below family key) (entries p)
+      (r : Result (Parts E M) UpdateFault) → m ≡ family.annotation p → is_within lower upper s ≡ true → IsNode family min_fill height lower (Some s) p → AllByRecursion (Below family key) (entries p)
       → NodesEdit key height (Some s) upper ss es n r → NodesEdit key height lower upper (s ∷ ss) (entries p ++ es) (n + 1) (result_map (more m p) r)
-  later_edits key height lower upper s ss m p es n (Ok ps) mark w node below g =
-      (edit_right key (entries p) es below ∙ ap (result_map (λ zs. entries p ++ zs)) g.0, (mark, w, node, g.1), ap (λ z. z + 1) g.2)
-  later_edits key height lower upper s ss m p es n (Err fault) mark w node below g = edit_right key (entries p) es below ∙ ap (result_map (λ zs. entries p ++ zs)) g
+  later_edits key height lower upper s ss m p es n (Ok ps) annotation w node below g =
+      (edit_right key (entries p) es below ∙ ap (result_map (λ zs. entries p ++ zs)) g.0, (annotation, w, node, g.1), ap (λ z. z + 1) g.2)
+  later_edits key height lower upper s ss m p es n (Err fault) annotation w node below g = edit_right key (entries p) es below ∙ ap (result_map (λ zs. entries p ++ zs)) g
 
   child_edits : (key : List ℕ) (height : ℕ) (lower upper : Option (List ℕ)) (s : List ℕ) (ss : List (List ℕ)) (m : M) (p : Part E M) (ps : Parts E M)
       → AreNodes family height lower upper (s ∷ ss) (more m p ps) → is_between lower upper key ≡ true
-      → (is_between lower (Some s) key ≡ true → NodeEdits key half height lower (Some s) (entries p) (edited_by family edit key p))
+      → (is_between lower (Some s) key ≡ true → NodeEdits key min_fill height lower (Some s) (entries p) (edited_by family edit key p))
       → (is_between (Some s) upper key ≡ true → NodesEdit key height (Some s) upper ss (entries_in ps) (count ps) (edited_in family edit key ss ps))
       → NodesEdit key height lower upper (s ∷ ss) (entries p ++ entries_in ps) (count ps + 1) (edited_in family edit key (s ∷ ss) (more m p ps))
   child_edits key height lower upper s ss m p ps nodes here first later = step (key_lt key s) refl
@@ -138,12 +138,12 @@ module _ {E M : Type 0} (family : Family E M) (edit : E → Result E UpdateFault
       parts = and_parts (is_from lower key) (is_before upper key) here
 
       step : (b : Bool) → key_lt key s ≡ b → NodesEdit key height lower upper (s ∷ ss) (entries p ++ entries_in ps) (count ps + 1)
-          (cond b (result_map (λ q. more (family.mark q) q ps) (edited_by family edit key p)) (result_map (more m p) (edited_in family edit key ss ps)))
+          (cond b (result_map (λ q. more (family.annotation q) q ps) (edited_by family edit key p)) (result_map (more m p) (edited_in family edit key ss ps)))
       step true lt = first_edits key height lower upper s ss (entries p) ps (edited_by family edit key p) nodes.1 nodes.3
           (each_above family key s upper (entries_in ps) lt (nodes_between family height (Some s) upper ss ps nodes.3))
           (first (and_from (is_from lower key) (key_lt key s) parts.0 lt))
       step false ge = later_edits key height lower upper s ss m p (entries_in ps) (count ps) (edited_in family edit key ss ps) nodes.0 nodes.1 nodes.2
-          (each_below family key s lower (entries p) ge (node_between family half height lower (Some s) p nodes.2))
+          (each_below family key s lower (entries p) ge (node_between family min_fill height lower (Some s) p nodes.2))
           (later (and_from (not (key_lt key s)) (is_before upper key) (not_from_false (key_lt key s) ge) parts.1))
 
   mutual
@@ -159,11 +159,11 @@ module _ {E M : Type 0} (family : Family E M) (edit : E → Result E UpdateFault
         → is_between lower upper key ≡ true → NodesEdit key height lower upper ss (entries_in ps) (count ps) (edited_in family edit key ss ps)
     nodes_edit keeps key height lower upper ss none nodes here = absurd nodes
     nodes_edit keeps key height lower upper [] (more m p none) nodes here =
-        last_edits key height lower upper (entries p) (edited_by family edit key p) (node_edits keeps key half height lower upper p nodes.1 here (root_few family p))
+        last_edits key height lower upper (entries p) (edited_by family edit key p) (node_edits keeps key min_fill height lower upper p nodes.1 here (root_few family p))
     nodes_edit keeps key height lower upper [] (more m p (more n q ps)) nodes here = absurd nodes
     nodes_edit keeps key height lower upper (s ∷ ss) (more m p ps) nodes here =
         child_edits key height lower upper s ss m p ps nodes here
-        (λ b. node_edits keeps key half height lower (Some s) p nodes.2 b (root_few family p))
+        (λ b. node_edits keeps key min_fill height lower (Some s) p nodes.2 b (root_few family p))
         (λ b. nodes_edit keeps key height (Some s) upper ss ps nodes.3 b)
 
   -- what an edit gives of a whole tree with these entries

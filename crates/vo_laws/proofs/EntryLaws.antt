@@ -9,9 +9,9 @@ use Rattle.vo_spec.specs.declared.records.Record.{Record}
 use Rattle.vo_spec.specs.declared.records.Entry.{Entry}
 use Rattle.vo_spec.specs.Batches.{FitsBatch}
 use Rattle.vo_spec.specs.Journals.{FitsEntry, Holds, batches_of, tables_at}
-use Rattle.vo_spec.specs.Honest.{StandForTables, honest_trees, honest_record}
-use Rattle.vo_spec.specs.Owners.{IsSigned, IsTakenEntry, IsHonestEntry, AreOwnedAfter, AreOwned, AreTakenAfter, AreTaken}
-use Rattle.vo_laws.proofs.TreeFits.{each_taken, each_dropped}
+use Rattle.vo_spec.specs.Honest.{RepresentTables, honest_trees, honest_record}
+use Rattle.vo_spec.specs.Owners.{IsSigned, IsLoadableEntry, IsHonestEntry, AreOwnedAfter, AreOwned, AreLoadableAfter, AreLoadable}
+use Rattle.vo_laws.proofs.TreeFits.{each_loadable, each_dropped}
 use Rattle.vo_laws.proofs.StandingLaws.{stands}
 use Rattle.vo_laws.proofs.StepLaws.{no_trees_before}
 
@@ -27,10 +27,10 @@ module _ (Is : List (List Command) → Entry → Type 0) where
   after_front (suc n) earlier [] all = tt
   after_front (suc n) earlier (e ∷ es) all = (all.0, after_front n (earlier ++ e.batch.commands ∷ []) es all.1)
 
-  after_grown : (earlier : List (List Command)) (es : List Entry) (f : Entry) → After earlier es → Is (earlier ++ batches_of es) f → After earlier (es ++ f ∷ [])
-  after_grown earlier [] f all is = (subst (λ bs. Is bs f) (append-nil earlier) is, tt)
-  after_grown earlier (e ∷ es) f all is =
-      (all.0, after_grown (earlier ++ e.batch.commands ∷ []) es f all.1 (subst (λ bs. Is bs f) (sym (append_assoc earlier (e.batch.commands ∷ []) (batches_of es))) is))
+  after_insertion : (earlier : List (List Command)) (es : List Entry) (f : Entry) → After earlier es → Is (earlier ++ batches_of es) f → After earlier (es ++ f ∷ [])
+  after_insertion earlier [] f all is = (subst (λ bs. Is bs f) (append-nil earlier) is, tt)
+  after_insertion earlier (e ∷ es) f all is =
+      (all.0, after_insertion (earlier ++ e.batch.commands ∷ []) es f all.1 (subst (λ bs. Is bs f) (sym (append_assoc earlier (e.batch.commands ∷ []) (batches_of es))) is))
 
   after_parts : (earlier : List (List Command)) (es : List Entry) (f : Entry) → After earlier (es ++ f ∷ []) → After earlier es × Is (earlier ++ batches_of es) f
   after_parts earlier [] f all = (tt, subst (λ bs. Is bs f) (sym (append-nil earlier)) all.0)
@@ -39,8 +39,8 @@ module _ (Is : List (List Command) → Entry → Type 0) where
       ((all.0, rest.0), subst (λ bs. Is bs f) (append_assoc earlier (e.batch.commands ∷ []) (batches_of es)) rest.1)
 
 module _ (key : List ℕ) where
-  abbrev TakenEntry : List (List Command) → Entry → Type 0
-  TakenEntry = IsTakenEntry key
+  abbrev LoadableEntry : List (List Command) → Entry → Type 0
+  LoadableEntry = IsLoadableEntry key
 
   abbrev HonestEntry : List (List Command) → Entry → Type 0
   HonestEntry = IsHonestEntry key
@@ -53,17 +53,17 @@ module _ (key : List ℕ) where
   owned_from earlier [] all = tt
   owned_from earlier (e ∷ es) all = (all.0, owned_from (earlier ++ e.batch.commands ∷ []) es all.1)
 
-  taken_to : (earlier : List (List Command)) (es : List Entry) → AreTakenAfter key earlier es → After TakenEntry earlier es
+  taken_to : (earlier : List (List Command)) (es : List Entry) → AreLoadableAfter key earlier es → After LoadableEntry earlier es
   taken_to earlier [] all = tt
   taken_to earlier (e ∷ es) all = (all.0, taken_to (earlier ++ e.batch.commands ∷ []) es all.1)
 
-  taken_from : (earlier : List (List Command)) (es : List Entry) → After TakenEntry earlier es → AreTakenAfter key earlier es
+  taken_from : (earlier : List (List Command)) (es : List Entry) → After LoadableEntry earlier es → AreLoadableAfter key earlier es
   taken_from earlier [] all = tt
   taken_from earlier (e ∷ es) all = (all.0, taken_from (earlier ++ e.batch.commands ∷ []) es all.1)
 
-  owned_taken_after : (earlier : List (List Command)) (es : List Entry) → AreOwnedAfter key earlier es → AreTakenAfter key earlier es
-  owned_taken_after earlier [] all = tt
-  owned_taken_after earlier (e ∷ es) all = (all.0.taken, owned_taken_after (earlier ++ e.batch.commands ∷ []) es all.1)
+  owned_loadable_after : (earlier : List (List Command)) (es : List Entry) → AreOwnedAfter key earlier es → AreLoadableAfter key earlier es
+  owned_loadable_after earlier [] all = tt
+  owned_loadable_after earlier (e ∷ es) all = (all.0.taken, owned_loadable_after (earlier ++ e.batch.commands ∷ []) es all.1)
 
   -- An owner's entries.
 
@@ -76,7 +76,7 @@ module _ (key : List ℕ) where
   owned_grows [] e some = absurd (omega arith)
   owned_grows (f ∷ es) e some = (
     λ all. let p = after_parts HonestEntry [] (f ∷ es) e (owned_to [] (f ∷ es ++ e ∷ []) all.1) in ((all.0, owned_from [] (f ∷ es) p.0), p.1),
-    λ both. (both.0.0, owned_from [] (f ∷ es ++ e ∷ []) (after_grown HonestEntry [] (f ∷ es) e (owned_to [] (f ∷ es) both.0.1) both.1)),
+    λ both. (both.0.0, owned_from [] (f ∷ es ++ e ∷ []) (after_insertion HonestEntry [] (f ∷ es) e (owned_to [] (f ∷ es) both.0.1) both.1)),
   )
 
   pub owned_front : (n : ℕ) (es : List Entry) → AreOwned key es → AreOwned key (take n es)
@@ -99,34 +99,34 @@ module _ (key : List ℕ) where
   owned_entry [] v e all found = absurd (cc)
   owned_entry (f ∷ es) v e all found = after_at [] (f ∷ es) v e all.1 found
 
-  pub owned_are_taken : (es : List Entry) → AreOwned key es → AreTaken key es
-  unfolding AreOwned AreTaken
-  owned_are_taken [] all = tt
-  owned_are_taken (e ∷ es) all = (
+  pub owned_are_loadable : (es : List Entry) → AreOwned key es → AreLoadable key es
+  unfolding AreOwned AreLoadable
+  owned_are_loadable [] all = tt
+  owned_are_loadable (e ∷ es) all = (
     all.1.0.taken.record_is ∙ ap (λ bs. honest_record key 0 (honest_trees (bs ∷ []))) all.0 ∙ ap (honest_record key 0) (no_trees_before []),
     all.1.0.taken.signed,
-    subst (λ bs. AreTakenAfter key (bs ∷ []) es) all.0 (owned_taken_after (e.batch.commands ∷ []) es all.1.1),
+    subst (λ bs. AreLoadableAfter key (bs ∷ []) es) all.0 (owned_loadable_after (e.batch.commands ∷ []) es all.1.1),
   )
 
   -- The entries that a store takes.
 
-  pub taken_first : (e : Entry) → AreTaken key (e ∷ []) ↔ ((e.rec ≡ honest_record key 0 (honest_trees [])) × IsSigned key e.rec e.signature)
-  unfolding AreTaken
+  pub taken_first : (e : Entry) → AreLoadable key (e ∷ []) ↔ ((e.rec ≡ honest_record key 0 (honest_trees [])) × IsSigned key e.rec e.signature)
+  unfolding AreLoadable
   taken_first e = (λ all. (all.0, all.1), λ is. (is.0, is.1, tt))
 
-  pub taken_grows : (es : List Entry) (e : Entry) → 0 < length es → AreTaken key (es ++ e ∷ []) ↔ (AreTaken key es × IsTakenEntry key ([] ∷ batches_of (drop 1 es)) e)
-  unfolding AreTaken
+  pub taken_grows : (es : List Entry) (e : Entry) → 0 < length es → AreLoadable key (es ++ e ∷ []) ↔ (AreLoadable key es × IsLoadableEntry key ([] ∷ batches_of (drop 1 es)) e)
+  unfolding AreLoadable
   taken_grows [] e some = absurd (omega arith)
   taken_grows (f ∷ es) e some = (
-    λ all. let p = after_parts TakenEntry ([] ∷ []) es e (taken_to ([] ∷ []) (es ++ e ∷ []) all.2) in ((all.0, all.1, taken_from ([] ∷ []) es p.0), p.1),
-    λ both. (both.0.0, both.0.1, taken_from ([] ∷ []) (es ++ e ∷ []) (after_grown TakenEntry ([] ∷ []) es e (taken_to ([] ∷ []) es both.0.2) both.1)),
+    λ all. let p = after_parts LoadableEntry ([] ∷ []) es e (taken_to ([] ∷ []) (es ++ e ∷ []) all.2) in ((all.0, all.1, taken_from ([] ∷ []) es p.0), p.1),
+    λ both. (both.0.0, both.0.1, taken_from ([] ∷ []) (es ++ e ∷ []) (after_insertion LoadableEntry ([] ∷ []) es e (taken_to ([] ∷ []) es both.0.2) both.1)),
   )
 
-  pub taken_front : (n : ℕ) (es : List Entry) → AreTaken key es → AreTaken key (take n es)
-  unfolding AreTaken
+  pub taken_front : (n : ℕ) (es : List Entry) → AreLoadable key es → AreLoadable key (take n es)
+  unfolding AreLoadable
   taken_front zero es all = tt
   taken_front (suc n) [] all = tt
-  taken_front (suc n) (e ∷ es) all = (all.0, all.1, taken_from ([] ∷ []) (take n es) (after_front TakenEntry n ([] ∷ []) es (taken_to ([] ∷ []) es all.2)))
+  taken_front (suc n) (e ∷ es) all = (all.0, all.1, taken_from ([] ∷ []) (take n es) (after_front LoadableEntry n ([] ∷ []) es (taken_to ([] ∷ []) es all.2)))
 
   -- What each of them holds.
 
@@ -134,7 +134,7 @@ module _ (key : List ℕ) where
     record_is : e.rec ≡ honest_record key (length earlier + v) (honest_trees (earlier ++ batches_of (take (suc v) es)))
     signed : IsSigned key e.rec e.signature
 
-  holds_after : (earlier : List (List Command)) (es : List Entry) (v : ℕ) (e : Entry) → AreTakenAfter key earlier es → slice_get es v ≡ Some e → HoldsAt earlier es v e
+  holds_after : (earlier : List (List Command)) (es : List Entry) (v : ℕ) (e : Entry) → AreLoadableAfter key earlier es → slice_get es v ≡ Some e → HoldsAt earlier es v e
   holds_after earlier [] v e all found = absurd (cc)
   holds_after earlier (f ∷ es) zero e all found =
       let same : f ≡ e = cc in
@@ -154,8 +154,8 @@ module _ (key : List ℕ) where
     pub record_is : e.rec ≡ honest_record key v (honest_trees (batches_of (take v (drop 1 es))))
     pub signed : IsSigned key e.rec e.signature
 
-  pub entry_held : (es : List Entry) (v : ℕ) (e : Entry) → AreTaken key es → slice_get es v ≡ Some e → IsHeld es v e
-  unfolding AreTaken
+  pub entry_held : (es : List Entry) (v : ℕ) (e : Entry) → AreLoadable key es → slice_get es v ≡ Some e → IsHeld es v e
+  unfolding AreLoadable
   entry_held [] v e all found = absurd (cc)
   entry_held (f ∷ es) zero e all found =
       let same : f ≡ e = cc in
@@ -169,7 +169,7 @@ module _ (key : List ℕ) where
         signed = h.signed;
       }
 
-  pub held_record : (es : List Entry) (rec : Record) → AreTaken key es → Holds es rec → rec ≡ honest_record key rec.version (honest_trees (batches_of (take rec.version (drop 1 es))))
+  pub held_record : (es : List Entry) (rec : Record) → AreLoadable key es → Holds es rec → rec ≡ honest_record key rec.version (honest_trees (batches_of (take rec.version (drop 1 es))))
   unfolding Holds
   held_record es rec all holds = step (slice_get es rec.version) refl holds
     where
@@ -187,12 +187,12 @@ batches_fit [] all = tt
 batches_fit (e ∷ es) all = (all.0.batch, batches_fit es all.1)
 
 pub fit_at : (v : ℕ) (es : List Entry) → AllByRecursion FitsEntry es → AllByRecursion FitsBatch (batches_of (take v (drop 1 es)))
-fit_at v es all = batches_fit (take v (drop 1 es)) (each_taken FitsEntry v (drop 1 es) (each_dropped FitsEntry 1 es all))
+fit_at v es all = batches_fit (take v (drop 1 es)) (each_loadable FitsEntry v (drop 1 es) (each_dropped FitsEntry 1 es all))
 
 pub all_fit : (es : List Entry) → AllByRecursion FitsEntry es → AllByRecursion FitsBatch (batches_of (drop 1 es))
 all_fit es all = batches_fit (drop 1 es) (each_dropped FitsEntry 1 es all)
 
-pub stand_at : (key : List ℕ) (v : ℕ) (es : List Entry) → AreTaken key es → AllByRecursion FitsEntry es
-    → StandForTables (honest_trees (batches_of (take v (drop 1 es)))) (tables_at v es)
+pub stand_at : (key : List ℕ) (v : ℕ) (es : List Entry) → AreLoadable key es → AllByRecursion FitsEntry es
+    → RepresentTables (honest_trees (batches_of (take v (drop 1 es)))) (tables_at v es)
 unfolding tables_at
 stand_at key v es all fits = (stands (batches_of (take v (drop 1 es))) (fit_at v es fits)).0

@@ -7,7 +7,7 @@ use Rattle.std.proofs.lemmas.List.{append-nil, length-take, length-drop, take-ap
 use Rattle.std.proofs.lemmas.Slice.Eq.{bytes_eq-Decides}
 use Rattle.vo_spec.specs.Values.{key_lt}
 use Rattle.vo_spec.specs.Parts.{Parts, Family, leaf, inner, none, more, count, entries, entries_in}
-use Rattle.vo_spec.specs.Inserts.{half, Grown, one, two, Children, take_parts, drop_parts, has_key, put_entry, first_key, split_leaf, split_inner}
+use Rattle.vo_spec.specs.Inserts.{min_fill, Insertion, one, two, Children, take_parts, drop_parts, has_key, put_entry, first_key, split_leaf, split_inner}
 use Rattle.vo_spec.specs.Standing.{is_from, is_before, is_up_to, is_within, AreRising, IsNode, AreNodes, fewest_in_root}
 use Rattle.vo_laws.proofs.KeyOrder.{key_lt_itself, same_key, key_lt_back, key_le_le, key_lt_lt}
 use Rattle.vo_laws.proofs.ListLaws.{each_left, each_right, each_weaker, each_map, each_mapped}
@@ -34,9 +34,9 @@ not_there key other e f = elim (cases_Bool (key_lt other key)) [
   | inr g ↦ absurd (both_ways (bytes_eq other key) f ((bytes_eq-Decides other key).1 (same_key other key g e)))
 ]
 
-abbrev pub grown_entries : {E M : Type 0} → Grown E M → List E
-grown_entries (one p) = entries p
-grown_entries (two left key right) = entries left ++ entries right
+abbrev pub insertion_entries : {E M : Type 0} → Insertion E M → List E
+insertion_entries (one p) = entries p
+insertion_entries (two left key right) = entries left ++ entries right
 
 pub narrower : (lower upper : Option (List ℕ)) (s z : List ℕ) → is_within lower upper s ≡ true → is_within (Some s) upper z ≡ true
     → (is_within lower upper z ≡ true) × (is_within lower (Some z) s ≡ true)
@@ -163,18 +163,18 @@ module _ {E M : Type 0} (family : Family E M) where
 
   -- What comes in a node's place.
 
-  abbrev pub IsGrown : ℕ → ℕ → Option (List ℕ) → Option (List ℕ) → Grown E M → Type 0
-  IsGrown fewest height lower upper (one p) = IsNode family fewest height lower upper p × (fewest_in_root family p ≤ fewest)
-  IsGrown fewest height lower upper (two left key right) =
-      (is_within lower upper key ≡ true) × IsNode family half height lower (Some key) left × IsNode family half height (Some key) upper right
+  abbrev pub IsInsertion : ℕ → ℕ → Option (List ℕ) → Option (List ℕ) → Insertion E M → Type 0
+  IsInsertion fewest height lower upper (one p) = IsNode family fewest height lower upper p × (fewest_in_root family p ≤ fewest)
+  IsInsertion fewest height lower upper (two left key right) =
+      (is_within lower upper key ≡ true) × IsNode family min_fill height lower (Some key) left × IsNode family min_fill height (Some key) upper right
 
   -- A leaf is split.
 
-  pub halves_grown : (fewest height : ℕ) (lower upper : Option (List ℕ)) (xs ys : List E) → height ≡ 0 → 8 ≤ length xs → length xs ≤ 16 → 8 ≤ length ys → length ys ≤ 16
+  pub halves_insertion : (fewest height : ℕ) (lower upper : Option (List ℕ)) (xs ys : List E) → height ≡ 0 → 8 ≤ length xs → length xs ≤ 16 → 8 ≤ length ys → length ys ≤ 16
       → AllByRecursion (Between family lower upper) (xs ++ ys) → AreRising (keys_in (xs ++ ys))
-      → IsGrown fewest height lower upper (two (leaf xs) (first_key family ys) (leaf ys))
-  halves_grown fewest height lower upper xs [] low left_few left_many few many all rising = absurd (omega arith)
-  halves_grown fewest height lower upper xs (y ∷ ys) low left_few left_many few many all rising = (
+      → IsInsertion fewest height lower upper (two (leaf xs) (first_key family ys) (leaf ys))
+  halves_insertion fewest height lower upper xs [] low left_few left_many few many all rising = absurd (omega arith)
+  halves_insertion fewest height lower upper xs (y ∷ ys) low left_few left_many few many all rising = (
     within,
     (low, left_few, left_many, lefts xs (each_left (Between family lower upper) xs (y ∷ ys) all) (rising_before xs y ys rising)),
     (low, few, many, rights),
@@ -206,23 +206,23 @@ module _ {E M : Type 0} (family : Family E M) where
         after ys (each_right (Between family lower upper) xs (y ∷ ys) all).1 (each_mapped (λ k. key_lt (family.key y) k ≡ true) family.key ys (rising_right xs (y ∷ ys) rising).0),
       )
 
-  pub leaf_grown : (fewest height : ℕ) (lower upper : Option (List ℕ)) (es : List E) → height ≡ 0 → fewest ≤ length es → length es ≤ 17
+  pub leaf_insertion : (fewest height : ℕ) (lower upper : Option (List ℕ)) (es : List E) → height ≡ 0 → fewest ≤ length es → length es ≤ 17
       → AllByRecursion (Between family lower upper) es → AreRising (keys_in es)
-      → IsGrown fewest height lower upper (split_leaf family es) × (grown_entries (split_leaf family es) ≡ es)
-  leaf_grown fewest height lower upper es low few many all rising = step (nat_le (length es) 16) refl
+      → IsInsertion fewest height lower upper (split_leaf family es) × (insertion_entries (split_leaf family es) ≡ es)
+  leaf_insertion fewest height lower upper es low few many all rising = step (nat_le (length es) 16) refl
     where
       whole : take 8 es ++ drop 8 es ≡ es
       whole = take-append-drop 8 es
 
       step : (b : Bool) → nat_le (length es) 16 ≡ b
-          → IsGrown fewest height lower upper (cond b (one (leaf es)) (two (leaf (take 8 es)) (first_key family (drop 8 es)) (leaf (drop 8 es))))
-          × (grown_entries {M = M} (cond b (one (leaf es)) (two (leaf (take 8 es)) (first_key family (drop 8 es)) (leaf (drop 8 es)))) ≡ es)
+          → IsInsertion fewest height lower upper (cond b (one (leaf es)) (two (leaf (take 8 es)) (first_key family (drop 8 es)) (leaf (drop 8 es))))
+          × (insertion_entries {M = M} (cond b (one (leaf es)) (two (leaf (take 8 es)) (first_key family (drop 8 es)) (leaf (drop 8 es)))) ≡ es)
       step true e = let small : length es ≤ 16 = leb-true (length es) 16 e in (((low, few, small, all), omega arith), refl)
       step false e =
           let large : 16 < length es = leb-false (length es) 16 e in
           let left : length (take 8 es) ≡ 8 = omega (arith, length-take 8 es) in
           let right : length (drop 8 es) ≡ 9 = omega (arith, length-drop 8 es) in (
-            halves_grown fewest height lower upper (take 8 es) (drop 8 es) low (omega arith) (omega arith) (omega arith) (omega arith)
+            halves_insertion fewest height lower upper (take 8 es) (drop 8 es) low (omega arith) (omega arith) (omega arith) (omega arith)
                 (subst (AllByRecursion (Between family lower upper)) (sym whole) all) (subst (λ zs. AreRising (keys_in zs)) (sym whole) rising),
             whole,
           )
@@ -270,14 +270,14 @@ module _ {E M : Type 0} (family : Family E M) where
         whole = append_assoc (entries p) (entries_in (take_parts (suc k) ps)) (entries_in (drop_parts (suc k) ps)) ∙ ap (λ z. entries p ++ z) i.whole;
       }
 
-  pub inner_grown : (fewest height : ℕ) (lower upper : Option (List ℕ)) (c : Children E M) → 0 < height → fewest ≤ count c.parts → count c.parts ≤ 17 → 2 ≤ fewest
+  pub inner_insertion : (fewest height : ℕ) (lower upper : Option (List ℕ)) (c : Children E M) → 0 < height → fewest ≤ count c.parts → count c.parts ≤ 17 → 2 ≤ fewest
       → AreNodes family (height - 1) lower upper c.separators c.parts
-      → IsGrown fewest height lower upper (split_inner family c) × (grown_entries (split_inner family c) ≡ entries_in c.parts)
-  inner_grown fewest height lower upper c high few many two_or_more nodes = step (nat_le (count c.parts) 16) refl
+      → IsInsertion fewest height lower upper (split_inner family c) × (insertion_entries (split_inner family c) ≡ entries_in c.parts)
+  inner_insertion fewest height lower upper c high few many two_or_more nodes = step (nat_le (count c.parts) 16) refl
     where
       step : (b : Bool) → nat_le (count c.parts) 16 ≡ b
-          → IsGrown fewest height lower upper (cond b (one (inner c.separators c.parts)) (two (inner (take 7 c.separators) (take_parts 8 c.parts)) (slice_index_or c.separators 7 []) (inner (drop 8 c.separators) (drop_parts 8 c.parts))))
-          × (grown_entries (cond b (one (inner c.separators c.parts)) (two (inner (take 7 c.separators) (take_parts 8 c.parts)) (slice_index_or c.separators 7 []) (inner (drop 8 c.separators) (drop_parts 8 c.parts)))) ≡ entries_in c.parts)
+          → IsInsertion fewest height lower upper (cond b (one (inner c.separators c.parts)) (two (inner (take 7 c.separators) (take_parts 8 c.parts)) (slice_index_or c.separators 7 []) (inner (drop 8 c.separators) (drop_parts 8 c.parts))))
+          × (insertion_entries (cond b (one (inner c.separators c.parts)) (two (inner (take 7 c.separators) (take_parts 8 c.parts)) (slice_index_or c.separators 7 []) (inner (drop 8 c.separators) (drop_parts 8 c.parts)))) ≡ entries_in c.parts)
       step true e = let small : count c.parts ≤ 16 = leb-true (count c.parts) 16 e in (((high, few, small, nodes), two_or_more), refl)
       step false e =
           let large : 16 < count c.parts = leb-false (count c.parts) 16 e in

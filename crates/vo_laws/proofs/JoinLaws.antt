@@ -18,7 +18,7 @@ use Rattle.vo_spec.specs.declared.queries.QueryFault.TheVariants.{NotKeyJoin, Ty
 use Rattle.vo_spec.specs.Firsts.{first_of}
 use Rattle.vo_spec.specs.Values.{same_kind, key_of, key_cmp, value_cmp, value_of_key, IsKeyOf}
 use Rattle.vo_spec.specs.Conditions.{Query, is_met}
-use Rattle.vo_spec.specs.Results.{Side, Place, schema_at, place_of, ref_kind, join_refs, join_places, is_key_join, join_fault, Line, line_of, no_line, place_value, ref_value, is_joined}
+use Rattle.vo_spec.specs.Results.{BoundSource, ColumnPlace, schema_at, place_of, ref_kind, join_refs, join_places, is_key_join, join_fault, RowView, row_view_of, no_row_view, place_value, ref_value, is_joined}
 use Rattle.vo_spec.specs.Scans.{in_interval}
 use Rattle.vo_spec.specs.Needs.{keys_that, join_value, right_need}
 use Rattle.vo_spec.specs.Checks.{key_kind}
@@ -52,7 +52,7 @@ values_equal (Truth false) (Truth true) e = absurd (cc)
 values_equal (Truth true) (Truth false) e = absurd (cc)
 values_equal (Truth true) (Truth true) e = refl
 
-module _ (ss : List Side) (j : Join) where
+module _ (ss : List BoundSource) (j : Join) where
   key_join : join_fault ss j ≡ None → is_key_join ss j ≡ true
   key_join e = step (is_key_join ss j) refl e
     where
@@ -64,95 +64,95 @@ module _ (ss : List Side) (j : Join) where
 
   -- ON's left column is that of the left source, its right one the key of the right source
   pub record JoinsOnKey : Type 0 where
-    pub left_side : (join_places ss j).0.side ≡ 0
-    pub right_side : (join_places ss j).1.side ≡ 1
+    pub left_side : (join_places ss j).0.bound_source ≡ 0
+    pub right_side : (join_places ss j).1.bound_source ≡ 1
     pub right_column : (join_places ss j).1.column ≡ (schema_at ss 1).key
 
   pub joins_on_key : join_fault ss j ≡ None → JoinsOnKey
   joins_on_key e =
-      let p = and_parts ((join_places ss j).0.side == 0 && (join_places ss j).1.side == 1) ((join_places ss j).1.column == (schema_at ss 1).key) (key_join e) in
-      let r = and_parts ((join_places ss j).0.side == 0) ((join_places ss j).1.side == 1) p.0 in
+      let p = and_parts ((join_places ss j).0.bound_source == 0 && (join_places ss j).1.bound_source == 1) ((join_places ss j).1.column == (schema_at ss 1).key) (key_join e) in
+      let r = and_parts ((join_places ss j).0.bound_source == 0) ((join_places ss j).1.bound_source == 1) p.0 in
       record {
-        left_side = eqb-true (join_places ss j).0.side 0 r.0;
-        right_side = eqb-true (join_places ss j).1.side 1 r.1;
+        left_side = eqb-true (join_places ss j).0.bound_source 0 r.0;
+        right_side = eqb-true (join_places ss j).1.bound_source 1 r.1;
         right_column = eqb-true (join_places ss j).1.column (schema_at ss 1).key p.1;
       }
 
-  equal_places : (rows : List Line) → place_value rows (place_of ss j.left_ref) ≡ place_value rows (place_of ss j.right_ref)
+  equal_places : (rows : List RowView) → place_value rows (place_of ss j.left_ref) ≡ place_value rows (place_of ss j.right_ref)
       → place_value rows (join_places ss j).0 ≡ place_value rows (join_places ss j).1
-  equal_places rows e = step ((place_of ss j.left_ref).side == 1)
+  equal_places rows e = step ((place_of ss j.left_ref).bound_source == 1)
     where
-      step : (b : Bool) → place_value rows (cond {A = Place × Place} b (place_of ss j.right_ref, place_of ss j.left_ref) (place_of ss j.left_ref, place_of ss j.right_ref)).0
-          ≡ place_value rows (cond {A = Place × Place} b (place_of ss j.right_ref, place_of ss j.left_ref) (place_of ss j.left_ref, place_of ss j.right_ref)).1
+      step : (b : Bool) → place_value rows (cond {A = ColumnPlace × ColumnPlace} b (place_of ss j.right_ref, place_of ss j.left_ref) (place_of ss j.left_ref, place_of ss j.right_ref)).0
+          ≡ place_value rows (cond {A = ColumnPlace × ColumnPlace} b (place_of ss j.right_ref, place_of ss j.left_ref) (place_of ss j.left_ref, place_of ss j.right_ref)).1
       step true = sym e
       step false = e
 
-  left_value : (left right : Line) → JoinsOnKey → place_value (left ∷ right ∷ []) (join_places ss j).0 ≡ join_value ss j left
-  left_value left right on = at (join_places ss j).0.side (join_places ss j).0.column on.left_side
+  left_value : (left right : RowView) → JoinsOnKey → place_value (left ∷ right ∷ []) (join_places ss j).0 ≡ join_value ss j left
+  left_value left right on = at (join_places ss j).0.bound_source (join_places ss j).0.column on.left_side
     where
-      at : (side column : ℕ) → side ≡ 0 → slice_index_or (left ∷ right ∷ []) side no_line column ≡ slice_index_or (left ∷ []) side no_line column
-      at side column e = rw e refl
+      at : (bound_source column : ℕ) → bound_source ≡ 0 → slice_index_or (left ∷ right ∷ []) bound_source no_row_view column ≡ slice_index_or (left ∷ []) bound_source no_row_view column
+      at bound_source column e = rw e refl
 
-  right_value : (left : Line) (row : Row) → JoinsOnKey
-      → place_value (left ∷ line_of (schema_at ss 1) row ∷ []) (join_places ss j).1 ≡ value_of_key (key_kind (schema_at ss 1)) row.key
-  right_value left row on = at (join_places ss j).1.side (join_places ss j).1.column on.right_side on.right_column
+  right_value : (left : RowView) (row : Row) → JoinsOnKey
+      → place_value (left ∷ row_view_of (schema_at ss 1) row ∷ []) (join_places ss j).1 ≡ value_of_key (key_kind (schema_at ss 1)) row.key
+  right_value left row on = at (join_places ss j).1.bound_source (join_places ss j).1.column on.right_side on.right_column
     where
-      at_key : (column : ℕ) → column ≡ (schema_at ss 1).key → line_of (schema_at ss 1) row column ≡ value_of_key (key_kind (schema_at ss 1)) row.key
+      at_key : (column : ℕ) → column ≡ (schema_at ss 1).key → row_view_of (schema_at ss 1) row column ≡ value_of_key (key_kind (schema_at ss 1)) row.key
       at_key column e = rw (e, eq-eqb (schema_at ss 1).key (schema_at ss 1).key refl) refl
 
-      at : (side column : ℕ) → side ≡ 1 → column ≡ (schema_at ss 1).key
-          → slice_index_or (left ∷ line_of (schema_at ss 1) row ∷ []) side no_line column ≡ value_of_key (key_kind (schema_at ss 1)) row.key
-      at side column e f = rw e (at_key column f)
+      at : (bound_source column : ℕ) → bound_source ≡ 1 → column ≡ (schema_at ss 1).key
+          → slice_index_or (left ∷ row_view_of (schema_at ss 1) row ∷ []) bound_source no_row_view column ≡ value_of_key (key_kind (schema_at ss 1)) row.key
+      at bound_source column e f = rw e (at_key column f)
 
   -- a right row that joins has its key where the left row looks for it
-  joined_inside : (left : Line) (row : Row) → JoinsOnKey → IsKeyOf (key_kind (schema_at ss 1)) row.key
-      → is_joined ss (left ∷ line_of (schema_at ss 1) row ∷ []) (Some j) ≡ true → in_interval (keys_that cmp.Eq (key_of (join_value ss j left))) row.key ≡ true
+  joined_inside : (left : RowView) (row : Row) → JoinsOnKey → IsKeyOf (key_kind (schema_at ss 1)) row.key
+      → is_joined ss (left ∷ row_view_of (schema_at ss 1) row ∷ []) (Some j) ≡ true → in_interval (keys_that cmp.Eq (key_of (join_value ss j left))) row.key ≡ true
   joined_inside left row on is e =
-      let rows : List Line = left ∷ line_of (schema_at ss 1) row ∷ [] in
+      let rows : List RowView = left ∷ row_view_of (schema_at ss 1) row ∷ [] in
       let equal : place_value rows (place_of ss j.left_ref) ≡ place_value rows (place_of ss j.right_ref) = values_equal (ref_value ss rows j.left_ref) (ref_value ss rows j.right_ref) e in
       let same : key_of (join_value ss j left) ≡ row.key =
-      ap key_of (sym (left_value left (line_of (schema_at ss 1) row) on) ∙ equal_places rows equal ∙ right_value left row on)
+      ap key_of (sym (left_value left (row_view_of (schema_at ss 1) row) on) ∙ equal_places rows equal ∙ right_value left row on)
       ∙ key_again (key_kind (schema_at ss 1)) row.key is in
       key_among cmp.Eq row.key (key_of (join_value ss j left)) (ap is_eq (ap (key_cmp row.key) same ∙ tied_itself nat_list_cmp_total row.key))
 
-module _ (ss : List Side) (q : Query) (j : Join) (is_join : q.join ≡ Some j) where
+module _ (ss : List BoundSource) (q : Query) (j : Join) (is_join : q.join ≡ Some j) where
   left_read : IsRead ss q (join_places ss j).0
-  left_read = step ((place_of ss j.left_ref).side == 1) (subst (λ o. AllByRecursion (λ r. IsRead ss q (place_of ss r)) (option_map_or join_refs o [])) is_join (joins_read ss q))
+  left_read = step ((place_of ss j.left_ref).bound_source == 1) (subst (λ o. AllByRecursion (λ r. IsRead ss q (place_of ss r)) (option_map_or join_refs o [])) is_join (joins_read ss q))
     where
       step : (b : Bool) → AllByRecursion (λ r. IsRead ss q (place_of ss r)) (join_refs j)
-          → IsRead ss q (cond {A = Place × Place} b (place_of ss j.right_ref, place_of ss j.left_ref) (place_of ss j.left_ref, place_of ss j.right_ref)).0
+          → IsRead ss q (cond {A = ColumnPlace × ColumnPlace} b (place_of ss j.right_ref, place_of ss j.left_ref) (place_of ss j.left_ref, place_of ss j.right_ref)).0
       step true all = all.1.0
       step false all = all.0
 
-  right_outside : (left : Line) (row : Row) → JoinsOnKey ss j → IsKeyOf (key_kind (schema_at ss 1)) row.key
-      → in_interval (keys_that cmp.Eq (key_of (join_value ss j left))) row.key ≡ false → answer_of ss q (left ∷ line_of (schema_at ss 1) row ∷ []) ≡ []
-  right_outside left row on is e = no_answer ss q (left ∷ line_of (schema_at ss 1) row ∷ []) (λ a.
-      let joined = (and_parts (is_joined ss (left ∷ line_of (schema_at ss 1) row ∷ []) q.join) (is_met (ref_value ss (left ∷ line_of (schema_at ss 1) row ∷ [])) q.condition) a).0 in
+  right_outside : (left : RowView) (row : Row) → JoinsOnKey ss j → IsKeyOf (key_kind (schema_at ss 1)) row.key
+      → in_interval (keys_that cmp.Eq (key_of (join_value ss j left))) row.key ≡ false → answer_of ss q (left ∷ row_view_of (schema_at ss 1) row ∷ []) ≡ []
+  right_outside left row on is e = no_answer ss q (left ∷ row_view_of (schema_at ss 1) row ∷ []) (λ a.
+      let joined = (and_parts (is_joined ss (left ∷ row_view_of (schema_at ss 1) row ∷ []) q.join) (is_met (ref_value ss (left ∷ row_view_of (schema_at ss 1) row ∷ [])) q.condition) a).0 in
       both_ways (in_interval (keys_that cmp.Eq (key_of (join_value ss j left))) row.key) e
-      (joined_inside ss j left row on is (subst (λ o. is_joined ss (left ∷ line_of (schema_at ss 1) row ∷ []) o ≡ true) is_join joined)))
+      (joined_inside ss j left row on is (subst (λ o. is_joined ss (left ∷ row_view_of (schema_at ss 1) row ∷ []) o ≡ true) is_join joined)))
 
-  rights_outside : (left : Line) (rows : List Row) → JoinsOnKey ss j → AllByRecursion (λ (row : Row). IsKeyOf (key_kind (schema_at ss 1)) row.key) rows
+  rights_outside : (left : RowView) (rows : List Row) → JoinsOnKey ss j → AllByRecursion (λ (row : Row). IsKeyOf (key_kind (schema_at ss 1)) row.key) rows
       → AllByRecursion (λ (row : Row). in_interval (keys_that cmp.Eq (key_of (join_value ss j left))) row.key ≡ false
-      → answer_of ss q (left ∷ line_of (schema_at ss 1) row ∷ []) ≡ []) rows
+      → answer_of ss q (left ∷ row_view_of (schema_at ss 1) row ∷ []) ≡ []) rows
   rights_outside left [] on keys = tt
   rights_outside left (row ∷ rows) on keys = (right_outside left row on keys.0, rights_outside left rows on keys.1)
 
   -- What is seen of a left row's right rows gives the answers that all right rows give with the left row.
-  pub same_rights : (a b : Line) (seen : List Line) (rows : List Row) → join_fault ss j ≡ None → 1 < length ss → AlikeIn ss q 0 a b
+  pub same_rights : (a b : RowView) (seen : List RowView) (rows : List Row) → join_fault ss j ≡ None → 1 < length ss → AlikeIn ss q 0 a b
       → AllByRecursion (λ (row : Row). IsKeyOf (key_kind (schema_at ss 1)) row.key) rows
-      → AllZip (AlikeIn ss q 1) seen (map (line_of (schema_at ss 1)) (rows_in (right_need ss q j a).interval rows))
-      → flat_map (λ right. answer_of ss q (a ∷ right ∷ [])) seen ≡ flat_map (λ right. answer_of ss q (b ∷ right ∷ [])) (map (line_of (schema_at ss 1)) rows)
+      → AllZip (AlikeIn ss q 1) seen (map (row_view_of (schema_at ss 1)) (rows_in (right_need ss q j a).interval rows))
+      → flat_map (λ right. answer_of ss q (a ∷ right ∷ [])) seen ≡ flat_map (λ right. answer_of ss q (b ∷ right ∷ [])) (map (row_view_of (schema_at ss 1)) rows)
   same_rights a b seen rows fault lt alike keys zip =
       flat_map_zip (λ right. answer_of ss q (a ∷ right ∷ [])) (λ right. answer_of ss q (b ∷ right ∷ [])) seen
-      (map (line_of (schema_at ss 1)) (rows_in (right_need ss q j a).interval rows))
+      (map (row_view_of (schema_at ss 1)) (rows_in (right_need ss q j a).interval rows))
       (zip_weaker (AlikeIn ss q 1) (λ r s. answer_of ss q (a ∷ r ∷ []) ≡ answer_of ss q (b ∷ s ∷ []))
       (λ r s other. same_answer ss q (a ∷ r ∷ []) (b ∷ s ∷ []) (agree_two ss q a b r s lt alike other)) seen
-      (map (line_of (schema_at ss 1)) (rows_in (right_need ss q j a).interval rows)) zip)
-      ∙ flat_map_map (λ right. answer_of ss q (b ∷ right ∷ [])) (line_of (schema_at ss 1)) (rows_in (right_need ss q j a).interval rows)
-      ∙ ap (λ v. flat_map (λ (row : Row). answer_of ss q (b ∷ line_of (schema_at ss 1) row ∷ [])) (rows_in (keys_that cmp.Eq (key_of v)) rows)) same_value
-      ∙ flat_map_kept (λ (row : Row). answer_of ss q (b ∷ line_of (schema_at ss 1) row ∷ [])) (λ (row : Row). in_interval (keys_that cmp.Eq (key_of (join_value ss j b))) row.key) rows
+      (map (row_view_of (schema_at ss 1)) (rows_in (right_need ss q j a).interval rows)) zip)
+      ∙ flat_map_map (λ right. answer_of ss q (b ∷ right ∷ [])) (row_view_of (schema_at ss 1)) (rows_in (right_need ss q j a).interval rows)
+      ∙ ap (λ v. flat_map (λ (row : Row). answer_of ss q (b ∷ row_view_of (schema_at ss 1) row ∷ [])) (rows_in (keys_that cmp.Eq (key_of v)) rows)) same_value
+      ∙ flat_map_kept (λ (row : Row). answer_of ss q (b ∷ row_view_of (schema_at ss 1) row ∷ [])) (λ (row : Row). in_interval (keys_that cmp.Eq (key_of (join_value ss j b))) row.key) rows
       (rights_outside b rows (joins_on_key ss j fault) keys)
-      ∙ sym (flat_map_map (λ right. answer_of ss q (b ∷ right ∷ [])) (line_of (schema_at ss 1)) rows)
+      ∙ sym (flat_map_map (λ right. answer_of ss q (b ∷ right ∷ [])) (row_view_of (schema_at ss 1)) rows)
     where
       same_value : join_value ss j a ≡ join_value ss j b
       same_value = agree_one ss q a b (omega arith) alike (join_places ss j).0 left_read

@@ -12,7 +12,7 @@ pub mod AnswerLaws
 pub mod JoinLaws
 pub mod Exact
 pub mod Growing
-pub mod Grown
+pub mod Insertion
 pub mod Settling
 pub mod Shrinking
 pub mod Without
@@ -42,7 +42,7 @@ pub mod StepLaws
 pub mod EntryLaws
 pub mod SealedLaws
 pub mod NeedLaws
-pub mod CatalogSpelling
+pub mod CatalogEncoding
 pub mod PathProofs
 pub mod RemovalProofs
 pub mod UpdateProofLaws

@@ -11,9 +11,9 @@ use Rattle.vo_spec.specs.declared.tables.Column.{Column}
 use Rattle.vo_spec.specs.declared.tables.Schema.{Schema}
 use Rattle.vo_spec.specs.declared.tables.Table.{Table}
 use Rattle.vo_spec.specs.Values.{kind_of, same_kind}
-use Rattle.vo_spec.specs.Tables.{Heading, heading_of, heading_named, rows_named, cell_number, are_of_kinds}
+use Rattle.vo_spec.specs.Tables.{TableHeader, table_header_of, table_header_named, rows_named, cell_number, are_of_kinds}
 use Rattle.vo_spec.specs.Conditions.{Query}
-use Rattle.vo_spec.specs.Results.{Side, schema_at, no_schema, numbers_from}
+use Rattle.vo_spec.specs.Results.{BoundSource, schema_at, no_schema, numbers_from}
 use Rattle.vo_spec.specs.Needs.{is_named_column, named_columns, named_cells}
 use Rattle.vo_laws.proofs.ListLaws.{IsIn, each_of, each_from, each_map, filter_in}
 use Rattle.vo_laws.proofs.AnswerLaws.{numbers_below}
@@ -61,25 +61,25 @@ nothing_fits : NamedFits no_schema []
 nothing_fits = record { columns = λ column lt e. absurd (omega arith); cells = tt }
 
 pub named_fits : (name : List ℕ) (tables : List Table) → AllByRecursion FitsTable tables
-    → NamedFits (option_map_or (λ (h : Heading). h.schema) (heading_named name (map heading_of tables)) no_schema) (rows_named name tables)
+    → NamedFits (option_map_or (λ (h : TableHeader). h.schema) (table_header_named name (map table_header_of tables)) no_schema) (rows_named name tables)
 named_fits name [] fits = nothing_fits
 named_fits name (t ∷ tables) fits = step (bytes_eq t.name name) (named_fits name tables fits.1)
   where
-    step : (b : Bool) → NamedFits (option_map_or (λ (h : Heading). h.schema) (heading_named name (map heading_of tables)) no_schema) (rows_named name tables)
-        → NamedFits (option_map_or (λ (h : Heading). h.schema) (cond b (Some (heading_of t)) (heading_named name (map heading_of tables))) no_schema)
+    step : (b : Bool) → NamedFits (option_map_or (λ (h : TableHeader). h.schema) (table_header_named name (map table_header_of tables)) no_schema) (rows_named name tables)
+        → NamedFits (option_map_or (λ (h : TableHeader). h.schema) (cond b (Some (table_header_of t)) (table_header_named name (map table_header_of tables))) no_schema)
         (option_map_or (λ (x : Table). x.rows) (cond b (Some t) (find (λ (x : Table). bytes_eq x.name name) tables)) [])
     step true rest = table_fits t fits.0
     step false rest = rest
 
-pub named_cells_below : (ss : List Side) (q : Query) (side : ℕ) (rows : List Row) → NamedFits (schema_at ss side) rows
-    → AreBelow (cells_of (schema_at ss side)) (named_cells ss q side)
-named_cells_below ss q side rows fits =
-    each_map (λ c. c < cells_of (schema_at ss side)) (cell_number (schema_at ss side).key) (named_columns ss q side)
-    (each_from (λ column. cell_number (schema_at ss side).key column < cells_of (schema_at ss side)) (named_columns ss q side) there)
+pub named_cells_below : (ss : List BoundSource) (q : Query) (bound_source : ℕ) (rows : List Row) → NamedFits (schema_at ss bound_source) rows
+    → AreBelow (cells_of (schema_at ss bound_source)) (named_cells ss q bound_source)
+named_cells_below ss q bound_source rows fits =
+    each_map (λ c. c < cells_of (schema_at ss bound_source)) (cell_number (schema_at ss bound_source).key) (named_columns ss q bound_source)
+    (each_from (λ column. cell_number (schema_at ss bound_source).key column < cells_of (schema_at ss bound_source)) (named_columns ss q bound_source) there)
   where
-    there : (column : ℕ) → IsIn column (named_columns ss q side) → cell_number (schema_at ss side).key column < cells_of (schema_at ss side)
+    there : (column : ℕ) → IsIn column (named_columns ss q bound_source) → cell_number (schema_at ss bound_source).key column < cells_of (schema_at ss bound_source)
     there column i =
-        let f = filter_in (λ c. not (c == (schema_at ss side).key) && is_named_column ss q side c) (numbers_from 0 (length (schema_at ss side).columns)) column i in
-        let lt : column < 0 + length (schema_at ss side).columns =
-        each_of (λ c. c < 0 + length (schema_at ss side).columns) (numbers_from 0 (length (schema_at ss side).columns)) (numbers_below 0 (length (schema_at ss side).columns)) column f.0 in
-        fits.columns column (omega arith) (not-true (column == (schema_at ss side).key) (and_parts (not (column == (schema_at ss side).key)) (is_named_column ss q side column) f.1).0)
+        let f = filter_in (λ c. not (c == (schema_at ss bound_source).key) && is_named_column ss q bound_source c) (numbers_from 0 (length (schema_at ss bound_source).columns)) column i in
+        let lt : column < 0 + length (schema_at ss bound_source).columns =
+        each_of (λ c. c < 0 + length (schema_at ss bound_source).columns) (numbers_from 0 (length (schema_at ss bound_source).columns)) (numbers_below 0 (length (schema_at ss bound_source).columns)) column f.0 in
+        fits.columns column (omega arith) (not-true (column == (schema_at ss bound_source).key) (and_parts (not (column == (schema_at ss bound_source).key)) (is_named_column ss q bound_source column) f.1).0)

@@ -5,7 +5,7 @@ use Rattle.std.specs.List.{AllByRecursion}
 use Rattle.std.proofs.lemmas.Bool.{and_parts, and_from, not-true, not_from_false}
 use Rattle.vo_spec.specs.Values.{key_lt}
 use Rattle.vo_spec.specs.Parts.{Part, Parts, Family, stub, leaf, inner, none, more, count, entries, entries_in}
-use Rattle.vo_spec.specs.Inserts.{half}
+use Rattle.vo_spec.specs.Inserts.{min_fill}
 use Rattle.vo_spec.specs.Standing.{is_from, is_before, is_up_to, is_between, is_within, IsNode, AreNodes}
 use Rattle.vo_laws.proofs.KeyOrder.{key_le_le, key_lt_le}
 use Rattle.vo_laws.proofs.ListLaws.{each_both, each_weaker}
@@ -45,11 +45,11 @@ module _ {E M : Type 0} (family : Family E M) where
     pub nodes_between : (height : ℕ) (lower upper : Option (List ℕ)) (ss : List (List ℕ)) (ps : Parts E M) → AreNodes family height lower upper ss ps
         → AllByRecursion (Between lower upper) (entries_in ps)
     nodes_between height lower upper ss none n = absurd n
-    nodes_between height lower upper [] (more m p none) n = each_both (Between lower upper) (entries p) [] (node_between half height lower upper p n.1) tt
+    nodes_between height lower upper [] (more m p none) n = each_both (Between lower upper) (entries p) [] (node_between min_fill height lower upper p n.1) tt
     nodes_between height lower upper [] (more m p (more k q ps)) n = absurd n
     nodes_between height lower upper (s ∷ ss) (more m p ps) n =
         each_both (Between lower upper) (entries p) (entries_in ps)
-        (each_weaker (Between lower (Some s)) (Between lower upper) (left_between lower upper s n.1) (entries p) (node_between half height lower (Some s) p n.2))
+        (each_weaker (Between lower (Some s)) (Between lower upper) (left_between lower upper s n.1) (entries p) (node_between min_fill height lower (Some s) p n.2))
         (each_weaker (Between (Some s) upper) (Between lower upper) (right_between lower upper s n.1) (entries_in ps) (nodes_between height (Some s) upper ss ps n.3))
 
   pub separators_counted : (height : ℕ) (lower upper : Option (List ℕ)) (ss : List (List ℕ)) (ps : Parts E M) → AreNodes family height lower upper ss ps → length ss + 1 ≡ count ps

@@ -14,8 +14,8 @@ use Rattle.vo_spec.specs.declared.cells.PartEntry.{PartEntry}
 use Rattle.vo_spec.specs.Cells.{cell_digest, row_digest, whole_cells, whole_entry, whole_row, shown_value, value_in, CellsPrune, RowPrunes, EntryPrunes}
 use Rattle.vo_spec.specs.Trees.{RowTree, row_family, Prunes}
 use Rattle.vo_spec.specs.Scans.{in_interval}
-use Rattle.vo_spec.specs.Pruned.{going_in, is_any, named, has_column, hides_any, shows_beyond, row_beyond, shown_cell, shown_cells, shown_row, shown_entry, walk_for, IsCanonical, pruned}
-use Rattle.vo_spec.specs.Standing.{StandsFor, fewest_in_root}
+use Rattle.vo_spec.specs.Pruned.{at_root, is_any, needed_columns, has_column, hides_any, shows_surplus, row_has_surplus, shown_cell, shown_cells, shown_row, shown_entry, walk_for, IsCanonical, pruned}
+use Rattle.vo_spec.specs.Standing.{Represents, fewest_in_root}
 use Rattle.vo_laws.specs.Columns.{HasColumns, HaveColumns}
 use Rattle.vo_laws.proofs.ListLaws.{IsIn, each_of, each_weaker, each_both, any_in, none_any}
 use Rattle.vo_laws.proofs.WalkLaws.{only_part}
@@ -50,31 +50,31 @@ row_complete (c ∷ columns) values below =
     from_none : (x : ℕ) → x ≡ 0 + x
     from_none x = omega arith
 
-named_there : (needs : List Need) (row : Row) → AllByRecursion (λ (need : Need). HasColumns need row) needs → AreBelow (length row.cells) (named needs row.key)
+named_there : (needs : List Need) (row : Row) → AllByRecursion (λ (need : Need). HasColumns need row) needs → AreBelow (length row.cells) (needed_columns needs row.key)
 named_there [] row all = tt
 named_there (need ∷ needs) row all = step (in_interval need.interval row.key) refl (named_there needs row all.1)
   where
-    step : (b : Bool) → in_interval need.interval row.key ≡ b → AreBelow (length row.cells) (named needs row.key)
+    step : (b : Bool) → in_interval need.interval row.key ≡ b → AreBelow (length row.cells) (needed_columns needs row.key)
         → AreBelow (length row.cells) (flat_map (λ (n : Need). n.columns) (cond b (need ∷ filter (λ (n : Need). in_interval n.interval row.key) needs) (filter (λ (n : Need). in_interval n.interval row.key) needs)))
-    step true inside rest = each_both (λ c. c < length row.cells) need.columns (named needs row.key) (all.0 inside) rest
+    step true inside rest = each_both (λ c. c < length row.cells) need.columns (needed_columns needs row.key) (all.0 inside) rest
     step false outside rest = rest
 
 abbrev IsComplete : List Need → PartEntry → Type 0
-IsComplete needs e = hides_any (named needs e.key) (shown_entry needs e).row ≡ false
+IsComplete needs e = hides_any (needed_columns needs e.key) (shown_entry needs e).row ≡ false
 
 entries_complete : (needs : List Need) (rows : List Row) → AllByRecursion (HaveColumns rows) needs → AllByRecursion (IsComplete needs) (map whole_entry rows)
 entries_complete needs [] all = tt
 entries_complete needs (row ∷ rows) all = (
-  row_complete (named needs row.key) row.cells (named_there needs row (each_weaker (HaveColumns (row ∷ rows)) (λ (need : Need). HasColumns need row) (λ need have. have.0) needs all)),
+  row_complete (needed_columns needs row.key) row.cells (named_there needs row (each_weaker (HaveColumns (row ∷ rows)) (λ (need : Need). HasColumns need row) (λ need have. have.0) needs all)),
   entries_complete needs rows (each_weaker (HaveColumns (row ∷ rows)) (HaveColumns rows) (λ need have. have.1) needs all),
 )
 
-pub pruned_canonical : (needs : List Need) (t : RowTree) (rows : List Row) → StandsFor t rows → AllByRecursion (HaveColumns rows) needs → IsCanonical needs (pruned needs t)
+pub pruned_canonical : (needs : List Need) (t : RowTree) (rows : List Row) → Represents t rows → AllByRecursion (HaveColumns rows) needs → IsCanonical needs (pruned needs t)
 pruned_canonical needs t rows stands have = record {
   complete =
-      walk_complete (walk_for needs) (going_in needs) (fewest_in_root row_family t) stands.tree.height None None t stands.tree.shape
+      walk_complete (walk_for needs) (at_root needs) (fewest_in_root row_family t) stands.tree.height None None t stands.tree.shape
       (subst (AllByRecursion (IsComplete needs)) (sym stands.rows_are) (entries_complete needs rows have));
-  bare = pruned_bare needs t;
+  minimal = pruned_bare needs t;
 }
 
 -- It is the only one. First of cells, where each of these columns is shown and no other.
@@ -103,7 +103,7 @@ later_shown columns column c cells shown i e =
     let same : column + 1 + i ≡ column + suc i = omega arith in
     shown (suc i) (subst (λ n. has_column columns n ≡ true) same e)
 
-cells_are : (columns : List ℕ) (column : ℕ) (cs ds : List Cell) → CellsPrune column cs ds → AreShown columns column cs → shows_beyond columns column cs ≡ false
+cells_are : (columns : List ℕ) (column : ℕ) (cs ds : List Cell) → CellsPrune column cs ds → AreShown columns column cs → shows_surplus columns column cs ≡ false
     → cs ≡ shown_cells columns column ds
 cells_are columns column [] [] z shown b = refl
 cells_are columns column [] (d ∷ ds) z shown b = absurd z
@@ -115,7 +115,7 @@ cells_are columns column (Hidden h ∷ cs) (d ∷ ds) z shown b =
     ) refl
 cells_are columns column (Shown v ∷ cs) (Hidden g ∷ ds) z shown b = absurd z.0
 cells_are columns column (Shown v ∷ cs) (Shown w ∷ ds) z shown b =
-    let o = or_parts (not (has_column columns column)) (shows_beyond columns (column + 1) cs) b in
+    let o = or_parts (not (has_column columns column)) (shows_surplus columns (column + 1) cs) b in
     let named_here : has_column columns column ≡ true = not-false (has_column columns column) o.0 in
     rw (named_here, z.0, cells_are columns (column + 1) cs ds z.1 (later_shown columns column (Shown v) cs shown) o.1) refl
 
@@ -130,12 +130,12 @@ closed_is : (digest : List ℕ) (s : RowPart) → digest ≡ row_digest s → Cl
 closed_is digest (Closed g) same = ap Closed same
 closed_is digest (Cells ds) same = ap Closed same
 
-row_is : (columns : List ℕ) (r s : RowPart) → RowPrunes r s → hides_any columns r ≡ false → row_beyond columns r ≡ false → r ≡ shown_row columns s
+row_is : (columns : List ℕ) (r s : RowPart) → RowPrunes r s → hides_any columns r ≡ false → row_has_surplus columns r ≡ false → r ≡ shown_row columns s
 row_is [] (Closed d) s z h b = closed_is d s z
 row_is (c ∷ columns) (Closed d) s z h b = absurd (cc)
 row_is columns (Cells cs) (Closed d) z h b = absurd z
 row_is columns (Cells cs) (Cells ds) z h b =
-    let o = or_parts (not (is_any columns)) (shows_beyond columns 0 cs) b in
+    let o = or_parts (not (is_any columns)) (shows_surplus columns 0 cs) b in
     let some : is_any columns ≡ true = not-false (is_any columns) o.0 in
     rw some (ap Cells (cells_are columns 0 cs ds z shown o.1))
   where
@@ -145,13 +145,13 @@ row_is columns (Cells cs) (Cells ds) z h b =
         of_column (λ c. is_none (value_in (Cells cs) c) ≡ false) columns i (subst (λ n. has_column columns n ≡ true) same e)
         (none_any (λ c. is_none (value_in (Cells cs) c)) columns h)
 
-row_and_key : (needs : List Need) (j k : List ℕ) (r s : RowPart) → j ≡ k → RowPrunes r s → hides_any (named needs j) r ≡ false → row_beyond (named needs j) r ≡ false
-    → ◌≡◌ {A = PartEntry} (record { key = j; row = r }) (record { key = k; row = shown_row (named needs k) s })
-row_and_key needs j k r s same z h b = rw (row_is (named needs j) r s z h b, same) refl
+row_and_key : (needs : List Need) (j k : List ℕ) (r s : RowPart) → j ≡ k → RowPrunes r s → hides_any (needed_columns needs j) r ≡ false → row_has_surplus (needed_columns needs j) r ≡ false
+    → ◌≡◌ {A = PartEntry} (record { key = j; row = r }) (record { key = k; row = shown_row (needed_columns needs k) s })
+row_and_key needs j k r s same z h b = rw (row_is (needed_columns needs j) r s z h b, same) refl
 
-entry_is : (needs : List Need) (e f : PartEntry) → EntryPrunes e f → hides_any (named needs e.key) e.row ≡ false → row_beyond (named needs e.key) e.row ≡ false
+entry_is : (needs : List Need) (e f : PartEntry) → EntryPrunes e f → hides_any (needed_columns needs e.key) e.row ≡ false → row_has_surplus (needed_columns needs e.key) e.row ≡ false
     → e ≡ shown_entry needs f
 entry_is needs e f z h b = row_and_key needs e.key f.key e.row f.row z.key z.row h b
 
 pub only_canonical : (needs : List Need) (p t : RowTree) → Prunes p t → IsCanonical needs p → p ≡ pruned needs t
-only_canonical needs p t z is = only_part (walk_for needs) row_family EntryPrunes (entry_is needs) (going_in needs) p t is.complete is.bare z
+only_canonical needs p t z is = only_part (walk_for needs) row_family EntryPrunes (entry_is needs) (at_root needs) p t is.complete is.minimal z

@@ -15,9 +15,9 @@ use Rattle.vo_spec.specs.Cells.{CellsPrune, RowPrunes, EntryPrunes}
 use Rattle.vo_spec.specs.Parts.{stub, leaf, inner, none, more, PrunesEach}
 use Rattle.vo_spec.specs.Trees.{RowTree, RowTrees, row_family, digest, Prunes}
 use Rattle.vo_spec.specs.Pruned.{pruned_by, pruned_in}
-use Rattle.vo_spec.specs.Inserts.{result_map, goes_here, has_key, put_entry, split_leaf, split_inner, put_grown, after_child, grow, grow_in, root_of, inserted, closed_entry, walk_to, insert_proof}
+use Rattle.vo_spec.specs.Inserts.{result_map, goes_here, has_key, put_entry, split_leaf, split_inner, put_insertion, after_child, grow, grow_in, root_of, inserted, closed_entry, walk_to, insert_proof}
 use Rattle.vo_spec.specs.Removes.{hidden_cells, hidden_row, opened_row, closed_parts, path_to, path_in, edit_entry, edited_by, edited_in, set_row, replaced, replace_proof}
-use Rattle.vo_laws.specs.UpdateProofs.{lacks, any_open, shows_cells, is_shown, shows_any, rows_beyond, replace_goes_beyond, replace_beyond_in}
+use Rattle.vo_laws.specs.UpdateProofs.{lacks, any_open, shows_cells, is_shown, shows_any, rows_surplus, replace_has_surplus, replace_has_surplus_in}
 
 pub lacks_map : {A B : Type 0} (f : A → B) (r : Result A UpdateFault) → lacks (result_map f r) ≡ lacks r
 lacks_map f (Ok x) = refl
@@ -43,11 +43,11 @@ module _ (e : PartEntry) where
   grow_step : (ss : List (List ℕ)) (m : Unit {0}) (p : RowTree) (ps : RowTrees) (b : Bool)
       → lacks (grow row_family e (pruned_by (walk_to e.key) row_family true p)) ≡ lacks (grow row_family e p)
       → lacks (grow_in row_family e (drop 1 ss) (pruned_in (walk_to e.key) row_family true (slice_get ss 0) (drop 1 ss) ps)) ≡ lacks (grow_in row_family e (drop 1 ss) ps)
-      → lacks (cond b (result_map (put_grown row_family ss (pruned_in (walk_to e.key) row_family (not b) (slice_get ss 0) (drop 1 ss) ps)) (grow row_family e (pruned_by (walk_to e.key) row_family b p)))
+      → lacks (cond b (result_map (put_insertion row_family ss (pruned_in (walk_to e.key) row_family (not b) (slice_get ss 0) (drop 1 ss) ps)) (grow row_family e (pruned_by (walk_to e.key) row_family b p)))
       (result_map (after_child m (pruned_by (walk_to e.key) row_family b p) ss) (grow_in row_family e (drop 1 ss) (pruned_in (walk_to e.key) row_family (not b) (slice_get ss 0) (drop 1 ss) ps))))
-      ≡ lacks (cond b (result_map (put_grown row_family ss ps) (grow row_family e p)) (result_map (after_child m p ss) (grow_in row_family e (drop 1 ss) ps)))
+      ≡ lacks (cond b (result_map (put_insertion row_family ss ps) (grow row_family e p)) (result_map (after_child m p ss) (grow_in row_family e (drop 1 ss) ps)))
   grow_step ss m p ps true here behind =
-      lacks_same (put_grown row_family ss (pruned_in (walk_to e.key) row_family false (slice_get ss 0) (drop 1 ss) ps)) (put_grown row_family ss ps)
+      lacks_same (put_insertion row_family ss (pruned_in (walk_to e.key) row_family false (slice_get ss 0) (drop 1 ss) ps)) (put_insertion row_family ss ps)
       (grow row_family e (pruned_by (walk_to e.key) row_family true p)) (grow row_family e p) here
   grow_step ss m p ps false here behind =
       lacks_same (after_child m (pruned_by (walk_to e.key) row_family false p) ss) (after_child m p ss)
@@ -118,12 +118,12 @@ module _ (key : List ℕ) where
       step true rest = (record { key = refl; row = row_hidden e.row }, closed_zip es)
       step false rest = (record { key = refl; row = refl }, rest)
 
-  opened_bare : (es : List PartEntry) → rows_beyond key (opened_row key es) ≡ false
+  opened_bare : (es : List PartEntry) → rows_surplus key (opened_row key es) ≡ false
   opened_bare [] = refl
   opened_bare (e ∷ es) = step (bytes_eq e.key key) refl (opened_bare es)
     where
-      step : (b : Bool) → bytes_eq e.key key ≡ b → rows_beyond key (opened_row key es) ≡ false
-          → rows_beyond key (cond b (record { key = e.key; row = hidden_row e.row } ∷ map closed_entry es) (closed_entry e ∷ opened_row key es)) ≡ false
+      step : (b : Bool) → bytes_eq e.key key ≡ b → rows_surplus key (opened_row key es) ≡ false
+          → rows_surplus key (cond b (record { key = e.key; row = hidden_row e.row } ∷ map closed_entry es) (closed_entry e ∷ opened_row key es)) ≡ false
       step true same rest = rw same (or_from (shows_any (hidden_row e.row)) (list_any shows_cells (map closed_entry es)) (shows_none e.row) (closed_cells es))
       step false other rest = rw other rest
 
@@ -146,18 +146,18 @@ module _ (key : List ℕ) where
     path_prunes ss (more m p ps) = path_step_prunes (goes_here key (slice_get ss 0)) m ss p ps (replace_prunes p) (path_prunes (drop 1 ss) ps)
 
   path_step_bare : (b : Bool) (m : Unit {0}) (ss : List (List ℕ)) (p : RowTree) (ps : RowTrees) → goes_here key (slice_get ss 0) ≡ b
-      → replace_goes_beyond key (path_to (opened_row key) key p) ≡ false → replace_beyond_in key (drop 1 ss) (path_in (opened_row key) key (drop 1 ss) ps) ≡ false
-      → replace_beyond_in key ss (cond b (more m (path_to (opened_row key) key p) (closed_parts ps)) (more m (stub (digest p)) (path_in (opened_row key) key (drop 1 ss) ps))) ≡ false
-  path_step_bare true m ss p ps goes here behind = rw goes (or_from (replace_goes_beyond key (path_to (opened_row key) key p)) (any_open (closed_parts ps)) here (closed_shut ps))
+      → replace_has_surplus key (path_to (opened_row key) key p) ≡ false → replace_has_surplus_in key (drop 1 ss) (path_in (opened_row key) key (drop 1 ss) ps) ≡ false
+      → replace_has_surplus_in key ss (cond b (more m (path_to (opened_row key) key p) (closed_parts ps)) (more m (stub (digest p)) (path_in (opened_row key) key (drop 1 ss) ps))) ≡ false
+  path_step_bare true m ss p ps goes here behind = rw goes (or_from (replace_has_surplus key (path_to (opened_row key) key p)) (any_open (closed_parts ps)) here (closed_shut ps))
   path_step_bare false m ss p ps passes here behind = rw passes behind
 
   mutual
-    pub replace_bare : (t : RowTree) → replace_goes_beyond key (replace_proof key t) ≡ false
+    pub replace_bare : (t : RowTree) → replace_has_surplus key (replace_proof key t) ≡ false
     replace_bare (stub d) = refl
     replace_bare (leaf es) = opened_bare es
     replace_bare (inner ss ps) = path_bare ss ps
 
-    path_bare : (ss : List (List ℕ)) (ps : RowTrees) → replace_beyond_in key ss (path_in (opened_row key) key ss ps) ≡ false
+    path_bare : (ss : List (List ℕ)) (ps : RowTrees) → replace_has_surplus_in key ss (path_in (opened_row key) key ss ps) ≡ false
     path_bare ss none = refl
     path_bare ss (more m p ps) = path_step_bare (goes_here key (slice_get ss 0)) m ss p ps refl (replace_bare p) (path_bare (drop 1 ss) ps)
 

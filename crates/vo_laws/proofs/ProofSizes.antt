@@ -14,16 +14,16 @@ use Rattle.vo_spec.specs.declared.tables.CommandFault.{CommandFault}
 use Rattle.vo_spec.specs.Bytes.{u16_bytes, string}
 use Rattle.vo_spec.specs.Values.{key_of}
 use Rattle.vo_spec.specs.Tables.{value_at, refusal, apply, tables_after}
-use Rattle.vo_spec.specs.Batches.{most_commands, FitsCommand, FitsBatch}
+use Rattle.vo_spec.specs.Batches.{max_commands, FitsCommand, FitsBatch}
 use Rattle.vo_spec.specs.Parts.{stub, leaf, inner, none, more, count, levels, levels_in, leaf_bytes, inner_bytes}
 use Rattle.vo_spec.specs.Trees.{RowTree, RowTrees, row_family}
 use Rattle.vo_spec.specs.Fits.{FitsKey, FitsEntry, FitsEach, FitsPart, FitsTree}
 use Rattle.vo_spec.specs.Pruned.{pruned_by, pruned_in}
 use Rattle.vo_spec.specs.Inserts.{result_map, goes_here, closed_entry, walk_to, insert_proof}
 use Rattle.vo_spec.specs.Removes.{replace_proof, remove_proof}
-use Rattle.vo_spec.specs.TreeBytes.{entry_form, row_spelling, tree_bytes, trees_bytes_by}
+use Rattle.vo_spec.specs.TreeBytes.{entry_form, row_encoding, tree_bytes, trees_bytes_by}
 use Rattle.vo_spec.specs.Replies.{proofs_bytes, FitsProofs}
-use Rattle.vo_spec.specs.Honest.{Stored, StandForTables, stored_heading, work, proof_on, table_of, command_proof, honest_proofs, honest_trees}
+use Rattle.vo_spec.specs.Honest.{Stored, RepresentTables, stored_table_header, work, proof_on, table_of, command_proof, honest_proofs, honest_trees}
 use Rattle.vo_laws.proofs.ListLaws.{each_both, each_weaker}
 use Rattle.vo_laws.proofs.CommandLaws.{FitTables}
 use Rattle.vo_laws.proofs.StandingLaws.{InStep, FitAfter, command_in_step, stands}
@@ -46,14 +46,14 @@ shut_size key (inner ss ps) fits = omega (arith, length-sha256 (inner_bytes row_
 by_place : (key : List ℕ) (p : RowTree) (ps : RowTrees) (lower : Option (List ℕ)) (ss : List (List ℕ)) (b : Bool)
     → length (tree_bytes (pruned_by (walk_to key) row_family true p)) ≤ levels p * most_node
     → length (tree_bytes (pruned_by (walk_to key) row_family false p)) ≡ 33
-    → length (trees_bytes_by row_spelling (pruned_in (walk_to key) row_family true lower ss ps)) ≤ count ps * 33 + levels_in ps * most_node
-    → length (trees_bytes_by row_spelling (pruned_in (walk_to key) row_family false lower ss ps)) ≤ count ps * 33 + 0
-    → length (tree_bytes (pruned_by (walk_to key) row_family b p) ++ trees_bytes_by row_spelling (pruned_in (walk_to key) row_family (not b) lower ss ps))
+    → length (trees_bytes_by row_encoding (pruned_in (walk_to key) row_family true lower ss ps)) ≤ count ps * 33 + levels_in ps * most_node
+    → length (trees_bytes_by row_encoding (pruned_in (walk_to key) row_family false lower ss ps)) ≤ count ps * 33 + 0
+    → length (tree_bytes (pruned_by (walk_to key) row_family b p) ++ trees_bytes_by row_encoding (pruned_in (walk_to key) row_family (not b) lower ss ps))
     ≤ count (more tt p ps) * 33 + levels_in (more tt p ps) * most_node
 by_place key p ps lower ss true opened shut on off =
-    omega (arith, length-append (tree_bytes (pruned_by (walk_to key) row_family true p)) (trees_bytes_by row_spelling (pruned_in (walk_to key) row_family false lower ss ps)))
+    omega (arith, length-append (tree_bytes (pruned_by (walk_to key) row_family true p)) (trees_bytes_by row_encoding (pruned_in (walk_to key) row_family false lower ss ps)))
 by_place key p ps lower ss false opened shut on off =
-    omega (arith, length-append (tree_bytes (pruned_by (walk_to key) row_family false p)) (trees_bytes_by row_spelling (pruned_in (walk_to key) row_family true lower ss ps)))
+    omega (arith, length-append (tree_bytes (pruned_by (walk_to key) row_family false p)) (trees_bytes_by row_encoding (pruned_in (walk_to key) row_family true lower ss ps)))
 
 mutual
   open_size : (key : List ℕ) (t : RowTree) → FitsPart t → length (tree_bytes (pruned_by (walk_to key) row_family true t)) ≤ levels t * most_node
@@ -64,17 +64,17 @@ mutual
       omega (arith, length-map es closed_entry, fits.0)
   open_size key (inner ss ps) fits =
       let separators : length (flat_map string ss) ≤ length ss * 257 = flat_within string 257 ss (keys_within ss (recursion_from_All FitsKey ss fits.3)) in
-      let children : length (trees_bytes_by row_spelling (pruned_in (walk_to key) row_family true None ss ps)) ≤ count ps * 33 + levels_in ps * most_node = each_size key true None ss ps fits.4 in
-      omega (arith, length-append (flat_map string ss) (trees_bytes_by row_spelling (pruned_in (walk_to key) row_family true None ss ps)), fits.1, fits.2)
+      let children : length (trees_bytes_by row_encoding (pruned_in (walk_to key) row_family true None ss ps)) ≤ count ps * 33 + levels_in ps * most_node = each_size key true None ss ps fits.4 in
+      omega (arith, length-append (flat_map string ss) (trees_bytes_by row_encoding (pruned_in (walk_to key) row_family true None ss ps)), fits.1, fits.2)
 
   each_size : (key : List ℕ) (here : Bool) (lower : Option (List ℕ)) (ss : List (List ℕ)) (ps : RowTrees) → FitsEach FitsEntry ps
-      → length (trees_bytes_by row_spelling (pruned_in (walk_to key) row_family here lower ss ps)) ≤ count ps * 33 + cond here (levels_in ps * most_node) 0
+      → length (trees_bytes_by row_encoding (pruned_in (walk_to key) row_family here lower ss ps)) ≤ count ps * 33 + cond here (levels_in ps * most_node) 0
   each_size key here lower ss none fits = omega arith
   each_size key false lower ss (more m p ps) fits =
-      let rest : length (trees_bytes_by row_spelling (pruned_in (walk_to key) row_family false (slice_get ss 0) (drop 1 ss) ps)) ≤ count ps * 33 + 0 = each_size key false (slice_get ss 0) (drop 1 ss) ps fits.1 in
+      let rest : length (trees_bytes_by row_encoding (pruned_in (walk_to key) row_family false (slice_get ss 0) (drop 1 ss) ps)) ≤ count ps * 33 + 0 = each_size key false (slice_get ss 0) (drop 1 ss) ps fits.1 in
       omega (
         arith,
-        length-append (tree_bytes (pruned_by (walk_to key) row_family false p)) (trees_bytes_by row_spelling (pruned_in (walk_to key) row_family false (slice_get ss 0) (drop 1 ss) ps)),
+        length-append (tree_bytes (pruned_by (walk_to key) row_family false p)) (trees_bytes_by row_encoding (pruned_in (walk_to key) row_family false (slice_get ss 0) (drop 1 ss) ps)),
         shut_size key p fits.0,
       )
   each_size key true lower ss (more m p ps) fits =
@@ -139,7 +139,7 @@ behind cs r = result_unwrap_or (result_map (honest_proofs cs) r) []
 
 few_proofs : (cs : List Command) (stored : List Stored) → length (honest_proofs cs stored) ≤ length cs
 few_proofs [] stored = omega arith
-few_proofs (c ∷ cs) stored = step (is_some (refusal c (map stored_heading stored))) (work c stored) (few_proofs cs)
+few_proofs (c ∷ cs) stored = step (is_some (refusal c (map stored_table_header stored))) (work c stored) (few_proofs cs)
   where
     step : (b : Bool) (r : Result (List Stored) CommandFault) → ((after : List Stored) → length (honest_proofs cs after) ≤ length cs)
         → length (cond b [] (command_proof c stored ++ behind cs r)) ≤ suc (length cs)
@@ -148,11 +148,11 @@ few_proofs (c ∷ cs) stored = step (is_some (refusal c (map stored_heading stor
     step false (Err fault) rest = omega (arith, length-append (command_proof c stored) [], command_few c stored)
 
 small_proofs : (cs : List Command) (stored : List Stored) (tables : List Table) → AllByRecursion FitsCommand cs
-    → StandForTables stored tables → FitTables tables → AreSeparatedIn stored → AllByRecursion IsSmall (honest_proofs cs stored)
+    → RepresentTables stored tables → FitTables tables → AreSeparatedIn stored → AllByRecursion IsSmall (honest_proofs cs stored)
 small_proofs [] stored tables fits zs good all = tt
 small_proofs (c ∷ cs) stored tables fits zs good all =
     let i = command_in_step c stored tables fits.0 zs good in
-    step (is_some (refusal c (map stored_heading stored)))
+    step (is_some (refusal c (map stored_table_header stored)))
     (command_small c stored (each_tree_fits stored tables zs good.each all))
     (next (work c stored) (apply c tables) i.0 i.1 (work_separated c stored tables zs good all)
     (λ after others y g a. small_proofs cs after others fits.1 y g a))
@@ -163,13 +163,13 @@ small_proofs (c ∷ cs) stored tables fits zs good all =
     step false here rest = each_both IsSmall (command_proof c stored) (behind cs (work c stored)) here rest
 
     next : (r : Result (List Stored) CommandFault) (s : Result (List Table) CommandFault) → InStep r s → FitAfter s → SeparatedAfter r
-        → ((after : List Stored) (others : List Table) → StandForTables after others → FitTables others → AreSeparatedIn after → AllByRecursion IsSmall (honest_proofs cs after))
+        → ((after : List Stored) (others : List Table) → RepresentTables after others → FitTables others → AreSeparatedIn after → AllByRecursion IsSmall (honest_proofs cs after))
         → AllByRecursion IsSmall (behind cs r)
     next (Ok after) (Ok others) i g a f = f after others i g a
     next (Ok after) (Err fault) i g a f = absurd i
     next (Err fault) s i g a f = tt
 
-proofs_fit : (trees : List RowTree) → length trees ≤ most_commands → AllByRecursion IsSmall trees → FitsProofs trees
+proofs_fit : (trees : List RowTree) → length trees ≤ max_commands → AllByRecursion IsSmall trees → FitsProofs trees
 unfolding proofs_bytes
 proofs_fit trees few all =
     let size : length (flat_map tree_bytes trees) ≤ length trees * most_tree = flat_within tree_bytes most_tree trees (each_weaker IsSmall (λ t. length (tree_bytes t) ≤ most_tree) (λ t is. is.1) trees all) in

@@ -12,8 +12,8 @@ use Rattle.vo_spec.specs.declared.cells.PartEntry.{PartEntry}
 use Rattle.vo_spec.specs.Cells.{cell_digest, cell_digests, row_digest, entry_bytes, CellPrunes, CellsPrune, RowPrunes, EntryPrunes}
 use Rattle.vo_spec.specs.Parts.{entries}
 use Rattle.vo_spec.specs.Trees.{RowTree, row_family, digest, Prunes}
-use Rattle.vo_spec.specs.Pruned.{Walk, misses, goes_beyond, pruned_by, going_in, is_any, named, has_column, shows_beyond, row_beyond, shown_cells, shown_row, walk_for, has_surplus, pruned}
-use Rattle.vo_spec.specs.Inserts.{walk_to, insert_proof, insert_misses, insert_goes_beyond}
+use Rattle.vo_spec.specs.Pruned.{Walk, is_missing_by, has_surplus_by, pruned_by, at_root, is_any, needed_columns, has_column, shows_surplus, row_has_surplus, shown_cells, shown_row, walk_for, has_surplus, pruned}
+use Rattle.vo_spec.specs.Inserts.{walk_to, insert_proof, insert_is_missing, insert_has_surplus}
 use Rattle.vo_spec.specs.Standing.{IsNode, IsTree, fewest_in_root}
 use Rattle.vo_laws.proofs.WalkLaws as walks
 use Rattle.vo_laws.proofs.WalkLaws.{digest_kept}
@@ -55,10 +55,10 @@ module _ {S : Type 0} (walk : Walk PartEntry S) where
   walk_each = walks.walk_each walk row_family
 
   pub walk_complete : (s : S) (fewest height : ℕ) (lower upper : Option (List ℕ)) (t : RowTree) → IsNode row_family fewest height lower upper t
-      → AllByRecursion (λ (e : PartEntry). walk.lacks (walk.shown e) ≡ false) (entries t) → misses walk s (pruned_by walk row_family s t) ≡ false
+      → AllByRecursion (λ (e : PartEntry). walk.lacks (walk.shown e) ≡ false) (entries t) → is_missing_by walk s (pruned_by walk row_family s t) ≡ false
   walk_complete = walks.walk_complete walk row_family
 
-  pub walk_bare : ((e : PartEntry) → walk.exceeds (walk.shown e) ≡ false) → (s : S) (t : RowTree) → goes_beyond walk s (pruned_by walk row_family s t) ≡ false
+  pub walk_bare : ((e : PartEntry) → walk.exceeds (walk.shown e) ≡ false) → (s : S) (t : RowTree) → has_surplus_by walk s (pruned_by walk row_family s t) ≡ false
   walk_bare = walks.walk_bare walk row_family
 
 -- The walk for needs.
@@ -81,41 +81,41 @@ row_shown_prune columns (Cells cells) = step (is_any columns)
     step false = refl
 
 pub pruned_prunes : (needs : List Need) (t : RowTree) → Prunes (pruned needs t) t
-pruned_prunes needs t = walk_prunes (walk_for needs) (λ e. record { key = refl; row = row_shown_prune (named needs e.key) e.row }) (going_in needs) t
+pruned_prunes needs t = walk_prunes (walk_for needs) (λ e. record { key = refl; row = row_shown_prune (needed_columns needs e.key) e.row }) (at_root needs) t
 
-cells_bare : (columns : List ℕ) (column : ℕ) (cells : List Cell) → shows_beyond columns column (shown_cells columns column cells) ≡ false
+cells_bare : (columns : List ℕ) (column : ℕ) (cells : List Cell) → shows_surplus columns column (shown_cells columns column cells) ≡ false
 cells_bare columns column [] = refl
 cells_bare columns column (Hidden d ∷ cells) = cells_bare columns (column + 1) cells
 cells_bare columns column (Shown v ∷ cells) = step (has_column columns column) refl (cells_bare columns (column + 1) cells)
   where
-    step : (b : Bool) → has_column columns column ≡ b → shows_beyond columns (column + 1) (shown_cells columns (column + 1) cells) ≡ false
-        → shows_beyond columns column (cond b (Shown v) (Hidden (cell_digest column (Shown v))) ∷ shown_cells columns (column + 1) cells) ≡ false
-    step true e rest = or_from (not (has_column columns column)) (shows_beyond columns (column + 1) (shown_cells columns (column + 1) cells)) (not_from_true (has_column columns column) e) rest
+    step : (b : Bool) → has_column columns column ≡ b → shows_surplus columns (column + 1) (shown_cells columns (column + 1) cells) ≡ false
+        → shows_surplus columns column (cond b (Shown v) (Hidden (cell_digest column (Shown v))) ∷ shown_cells columns (column + 1) cells) ≡ false
+    step true e rest = or_from (not (has_column columns column)) (shows_surplus columns (column + 1) (shown_cells columns (column + 1) cells)) (not_from_true (has_column columns column) e) rest
     step false e rest = rest
 
-row_bare : (columns : List ℕ) (row : RowPart) → row_beyond columns (shown_row columns row) ≡ false
+row_bare : (columns : List ℕ) (row : RowPart) → row_has_surplus columns (shown_row columns row) ≡ false
 row_bare columns (Closed d) = refl
 row_bare columns (Cells cells) = step (is_any columns) refl
   where
-    step : (b : Bool) → is_any columns ≡ b → row_beyond columns (cond b (Cells (shown_cells columns 0 cells)) (Closed (row_digest (Cells cells)))) ≡ false
-    step true e = or_from (not (is_any columns)) (shows_beyond columns 0 (shown_cells columns 0 cells)) (not_from_true (is_any columns) e) (cells_bare columns 0 cells)
+    step : (b : Bool) → is_any columns ≡ b → row_has_surplus columns (cond b (Cells (shown_cells columns 0 cells)) (Closed (row_digest (Cells cells)))) ≡ false
+    step true e = or_from (not (is_any columns)) (shows_surplus columns 0 (shown_cells columns 0 cells)) (not_from_true (is_any columns) e) (cells_bare columns 0 cells)
     step false e = refl
 
 pub pruned_bare : (needs : List Need) (t : RowTree) → has_surplus needs (pruned needs t) ≡ false
-pruned_bare needs t = walk_bare (walk_for needs) (λ e. row_bare (named needs e.key) e.row) (going_in needs) t
+pruned_bare needs t = walk_bare (walk_for needs) (λ e. row_bare (needed_columns needs e.key) e.row) (at_root needs) t
 
 -- The proof of an insertion.
 
 pub insert_prunes : (key : List ℕ) (t : RowTree) → Prunes (insert_proof key t) t
 insert_prunes key t = walk_prunes (walk_to key) (λ e. record { key = refl; row = refl }) true t
 
-pub insert_bare : (key : List ℕ) (t : RowTree) → insert_goes_beyond key (insert_proof key t) ≡ false
+pub insert_bare : (key : List ℕ) (t : RowTree) → insert_has_surplus key (insert_proof key t) ≡ false
 insert_bare key t = walk_bare (walk_to key) (λ e. refl) true t
 
 nothing_lacks : (es : List PartEntry) → AllByRecursion (λ (e : PartEntry). false ≡ false) es
 nothing_lacks [] = tt
 nothing_lacks (e ∷ es) = (refl, nothing_lacks es)
 
-pub insert_complete : (key : List ℕ) (t : RowTree) → IsTree row_family t → insert_misses key (insert_proof key t) ≡ false
+pub insert_complete : (key : List ℕ) (t : RowTree) → IsTree row_family t → insert_is_missing key (insert_proof key t) ≡ false
 insert_complete key t tree =
     walk_complete (walk_to key) true (fewest_in_root row_family t) tree.height None None t tree.shape (nothing_lacks (entries t))

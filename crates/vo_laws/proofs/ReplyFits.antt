@@ -10,9 +10,9 @@ use Rattle.vo_spec.specs.declared.needs.Need.{Need}
 use Rattle.vo_spec.specs.declared.records.Record.{Record}
 use Rattle.vo_spec.specs.Batches.{FitsBatch}
 use Rattle.vo_spec.specs.Conditions.{Query}
-use Rattle.vo_spec.specs.Results.{Side, side_at, sides, binding_fault}
-use Rattle.vo_spec.specs.Records.{FitsRecord, headings}
-use Rattle.vo_spec.specs.Journals.{most_signature}
+use Rattle.vo_spec.specs.Results.{BoundSource, bound_source_at, bound_sources, binding_fault}
+use Rattle.vo_spec.specs.Records.{FitsRecord, table_headers}
+use Rattle.vo_spec.specs.Journals.{max_signature}
 use Rattle.vo_spec.specs.Parts.{leaf}
 use Rattle.vo_spec.specs.Trees.{RowTree}
 use Rattle.vo_spec.specs.Fits.{FitsEntry, FitsTree}
@@ -51,28 +51,28 @@ no_more [] ts = omega arith
 no_more (ns ∷ nss) [] = omega arith
 no_more (ns ∷ nss) (t ∷ ts) = let rest : length (pruned_each nss ts) ≤ length ts = no_more nss ts in omega arith
 
-two_at_most : (ss : List Side) → length (tables_used ss) ≤ 2
+two_at_most : (ss : List BoundSource) → length (tables_used ss) ≤ 2
 two_at_most ss = step (length ss == 1 || same_table ss)
   where
-    step : (b : Bool) → length (cond b ((side_at ss 0).table ∷ []) ((side_at ss 0).table ∷ (side_at ss 1).table ∷ [])) ≤ 2
+    step : (b : Bool) → length (cond b ((bound_source_at ss 0).table ∷ []) ((bound_source_at ss 0).table ∷ (bound_source_at ss 1).table ∷ [])) ≤ 2
     step true = omega arith
     step false = omega arith
 
 few_wanted : (q : Query) (stored : List Stored) → length (tables_wanted q (catalog_of stored)) ≤ 2
-few_wanted q stored = step (is_some (binding_fault (headings (catalog_of stored)) q))
+few_wanted q stored = step (is_some (binding_fault (table_headers (catalog_of stored)) q))
   where
-    step : (b : Bool) → length (cond b [] (tables_used (sides (headings (catalog_of stored)) q))) ≤ 2
+    step : (b : Bool) → length (cond b [] (tables_used (bound_sources (table_headers (catalog_of stored)) q))) ≤ 2
     step true = omega arith
-    step false = two_at_most (sides (headings (catalog_of stored)) q)
+    step false = two_at_most (bound_sources (table_headers (catalog_of stored)) q)
 
 -- The reply to a query, of a store that holds the trees after these batches.
 pub reply_fits : (batches : List (List Command)) (q : Query) (rec : Record) (signature : List ℕ) → AllByRecursion FitsBatch batches
-    → FitsRecord rec → length signature ≤ most_signature → FitsReply (honest_reply q rec signature (honest_trees batches))
+    → FitsRecord rec → length signature ≤ max_signature → FitsReply (honest_reply q rec signature (honest_trees batches))
 unfolding honest_reply
 reply_fits batches q rec signature fits record_fits short =
     let stored : List Stored = honest_trees batches in
     let s = stands batches fits in
-    let nss : List (List Need) = needs (sides (headings (catalog_of stored)) q) q (trees_for q stored) in
+    let nss : List (List Need) = needs (bound_sources (table_headers (catalog_of stored)) q) q (trees_for q stored) in
     let few : length (tables_wanted q (catalog_of stored)) ≤ 2 = few_wanted q stored in
     record {
       rec = record_fits;

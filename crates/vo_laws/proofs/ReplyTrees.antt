@@ -19,10 +19,10 @@ use Rattle.vo_spec.specs.Tables.{are_of_kinds}
 use Rattle.vo_spec.specs.Cells.{cell_digest, row_digest, whole_cells, whole_row, whole_entry}
 use Rattle.vo_spec.specs.Parts.{leaf, entries}
 use Rattle.vo_spec.specs.Trees.{RowTree, digest}
-use Rattle.vo_spec.specs.Pruned.{going_in, is_any, named, has_column, shown_cell, shown_cells, shown_row, shown_entry, walk_for, is_missing, pruned}
-use Rattle.vo_spec.specs.Standing.{StandsFor}
+use Rattle.vo_spec.specs.Pruned.{at_root, is_any, needed_columns, has_column, shown_cell, shown_cells, shown_row, shown_entry, walk_for, is_missing, pruned}
+use Rattle.vo_spec.specs.Standing.{Represents}
 use Rattle.vo_spec.specs.Checks.{key_kind, is_key_of, shows_kind, cells_fit, row_fits, entry_fits, has_shape, table_named, has_table_shape, root_fault}
-use Rattle.vo_spec.specs.Honest.{Stored, StandForTables, catalog_of, stored_tree}
+use Rattle.vo_spec.specs.Honest.{Stored, RepresentTables, catalog_of, stored_tree}
 use Rattle.vo_laws.specs.Columns.{HaveColumns}
 use Rattle.vo_laws.proofs.ListLaws.{each_weaker}
 use Rattle.vo_laws.proofs.CommandLaws.{HasKinds, FitsTable}
@@ -41,7 +41,7 @@ rows_have : (n : ℕ) (need : Need) (rows : List Row) → AreBelow n need.column
 rows_have n need [] below cells = tt
 rows_have n need (row ∷ rows) below cells = (λ inside. subst (λ k. AreBelow k need.columns) (sym cells.0) below, rows_have n need rows below cells.1)
 
-pub pruned_complete : (n : ℕ) (needs : List Need) (t : RowTree) (rows : List Row) → StandsFor t rows → AreBounded n needs → AllByRecursion (HasCells n) rows
+pub pruned_complete : (n : ℕ) (needs : List Need) (t : RowTree) (rows : List Row) → Represents t rows → AreBounded n needs → AllByRecursion (HasCells n) rows
     → is_missing needs (pruned needs t) ≡ false
 pruned_complete n needs t rows stands all cells =
     (pruned_canonical needs t rows stands
@@ -75,7 +75,7 @@ entries_shape : (schema : Schema) (needs : List Need) (rows : List Row) → AllB
     → AllByRecursion (λ (e : PartEntry). entry_fits schema (shown_entry needs e) ≡ true) (map whole_entry rows)
 entries_shape schema needs [] all = tt
 entries_shape schema needs (row ∷ rows) all = (
-  and_from (is_key_of (key_kind schema) row.key) (row_fits schema (shown_row (named needs row.key) (whole_row row.cells))) all.0.key (row_shape schema (named needs row.key) row.cells all.0.cells),
+  and_from (is_key_of (key_kind schema) row.key) (row_fits schema (shown_row (needed_columns needs row.key) (whole_row row.cells))) all.0.key (row_shape schema (needed_columns needs row.key) row.cells all.0.cells),
   entries_shape schema needs rows all.1,
 )
 
@@ -83,11 +83,11 @@ all_of : {A : Type 0} (test : A → Bool) (xs : List A) → AllByRecursion (λ x
 all_of test [] all = refl
 all_of test (x ∷ xs) all = and_from (test x) (list_all test xs) all.0 (all_of test xs all.1)
 
-pub pruned_shape : (schema : Schema) (needs : List Need) (t : RowTree) (rows : List Row) → StandsFor t rows → AllByRecursion (HasKinds schema) rows
+pub pruned_shape : (schema : Schema) (needs : List Need) (t : RowTree) (rows : List Row) → Represents t rows → AllByRecursion (HasKinds schema) rows
     → has_shape schema (pruned needs t) ≡ true
 pruned_shape schema needs t rows stands kinds =
     all_of (entry_fits schema) (entries (pruned needs t))
-    (walk_each (walk_for needs) (λ (e : PartEntry). entry_fits schema e ≡ true) (going_in needs) t
+    (walk_each (walk_for needs) (λ (e : PartEntry). entry_fits schema e ≡ true) (at_root needs) t
     (subst (AllByRecursion (λ (e : PartEntry). entry_fits schema (shown_entry needs e) ≡ true)) (sym stands.rows_are) (entries_shape schema needs rows kinds)))
 
 -- Tables of catalogs by name.
@@ -112,7 +112,7 @@ IsGoodBy needs b s name stored =
       pruned needs (option_map_or (λ (x : Stored). x.tree) (cond b (Some s) (find (λ (x : Stored). bytes_eq x.name name) stored)) (leaf [])),
     ) ≡ None)
 
-pub good : (name : List ℕ) (needs : List Need) (stored : List Stored) (tables : List Table) → StandForTables stored tables → AllByRecursion FitsTable tables → IsGood name needs stored
+pub good : (name : List ℕ) (needs : List Need) (stored : List Stored) (tables : List Table) → RepresentTables stored tables → AllByRecursion FitsTable tables → IsGood name needs stored
 good name needs [] [] zs fits = record { shape = refl; root = refl }
 good name needs [] (t ∷ tables) zs fits = absurd zs
 good name needs (s ∷ stored) [] zs fits = absurd zs

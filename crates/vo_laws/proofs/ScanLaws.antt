@@ -20,42 +20,42 @@ use Rattle.vo_spec.specs.Cells.{value_in, shown_value, CellsPrune, RowPrunes, En
 use Rattle.vo_spec.specs.Parts.{stub, leaf, inner, none, more, entries, entries_in, PrunesEach}
 use Rattle.vo_spec.specs.Trees.{RowTree, RowTrees, row_family, Prunes}
 use Rattle.vo_spec.specs.Scans.{is_above, is_below, in_interval, is_empty_interval, ends_above, begins_below, visits, put_before, joined, values_in, with_key, seen_entries, seen_in, seen_in_each, seen}
-use Rattle.vo_spec.specs.Pruned.{walk_for, misses, misses_in, going_in, going_on, is_any, named, hides_any, is_missing}
+use Rattle.vo_spec.specs.Pruned.{walk_for, is_missing_by, is_missing_in, at_root, descend, is_any, needed_columns, hides_any, is_missing}
 use Rattle.vo_spec.specs.Standing.{is_from, is_before, IsNode, AreNodes, IsTree, fewest_in_root}
-use Rattle.vo_spec.specs.Inserts.{half}
+use Rattle.vo_spec.specs.Inserts.{min_fill}
 use Rattle.vo_laws.proofs.KeyOrder.{key_lt_back, key_le_le, key_lt_le}
 use Rattle.vo_laws.proofs.NodeBounds.{Between, node_between}
 use Rattle.vo_laws.proofs.ListLaws.{IsIn, each_of, each_weaker, none_any, in_filter, in_flat_map}
 
 -- What the one gives, so does the other.
 
-abbrev pub Gives : {A : Type 0} → Option A → Option A → Type 0
-Gives None y = Unit {0}
-Gives (Some x) y = y ≡ Some x
+abbrev pub IsNoneOrSame : {A : Type 0} → Option A → Option A → Type 0
+IsNoneOrSame None y = Unit {0}
+IsNoneOrSame (Some x) y = y ≡ Some x
 
-gives_itself : {A : Type 0} (x : Option A) → Gives x x
+gives_itself : {A : Type 0} (x : Option A) → IsNoneOrSame x x
 gives_itself None = tt
 gives_itself (Some x) = refl
 
-gives_put : {A : Type 0} (x y : Option A) (xs ys : Option (List A)) → Gives x y → Gives xs ys → Gives (put_before x xs) (put_before y ys)
+gives_put : {A : Type 0} (x y : Option A) (xs ys : Option (List A)) → IsNoneOrSame x y → IsNoneOrSame xs ys → IsNoneOrSame (put_before x xs) (put_before y ys)
 gives_put None y xs ys g h = tt
 gives_put (Some x) y None ys g h = tt
 gives_put (Some x) y (Some xs) ys g h = rw (g, h) refl
 
-gives_joined : {A : Type 0} (xs ys zs ws : Option (List A)) → Gives xs ys → Gives zs ws → Gives (joined xs zs) (joined ys ws)
+gives_joined : {A : Type 0} (xs ys zs ws : Option (List A)) → IsNoneOrSame xs ys → IsNoneOrSame zs ws → IsNoneOrSame (joined xs zs) (joined ys ws)
 gives_joined None ys zs ws g h = tt
 gives_joined (Some xs) ys None ws g h = tt
 gives_joined (Some xs) ys (Some zs) ws g h = rw (g, h) refl
 
-gives_key : (key : List ℕ) (xs ys : Option (List Value)) → Gives xs ys → Gives (with_key key xs) (with_key key ys)
+gives_key : (key : List ℕ) (xs ys : Option (List Value)) → IsNoneOrSame xs ys → IsNoneOrSame (with_key key xs) (with_key key ys)
 gives_key key None ys g = tt
 gives_key key (Some xs) ys g = rw g refl
 
-gives_cond : {A : Type 0} (b : Bool) (x y z w : Option A) → Gives x z → Gives y w → Gives (cond b x y) (cond b z w)
+gives_cond : {A : Type 0} (b : Bool) (x y z w : Option A) → IsNoneOrSame x z → IsNoneOrSame y w → IsNoneOrSame (cond b x y) (cond b z w)
 gives_cond true x y z w g h = g
 gives_cond false x y z w g h = h
 
-cell_given : (column : ℕ) (cs ds : List Cell) (i : ℕ) → CellsPrune column cs ds → Gives (shown_value (slice_get cs i)) (shown_value (slice_get ds i))
+cell_given : (column : ℕ) (cs ds : List Cell) (i : ℕ) → CellsPrune column cs ds → IsNoneOrSame (shown_value (slice_get cs i)) (shown_value (slice_get ds i))
 cell_given column [] ds i p = tt
 cell_given column (c ∷ cs) [] i p = absurd p
 cell_given column (Hidden d ∷ cs) (e ∷ ds) zero p = tt
@@ -63,17 +63,17 @@ cell_given column (Shown v ∷ cs) (Shown w ∷ ds) zero p = ap Some (sym p.0)
 cell_given column (Shown v ∷ cs) (Hidden d ∷ ds) zero p = absurd p.0
 cell_given column (c ∷ cs) (d ∷ ds) (suc i) p = cell_given (column + 1) cs ds i p.1
 
-value_given : (r s : RowPart) (i : ℕ) → RowPrunes r s → Gives (value_in r i) (value_in s i)
+value_given : (r s : RowPart) (i : ℕ) → RowPrunes r s → IsNoneOrSame (value_in r i) (value_in s i)
 value_given (Closed d) s i p = tt
 value_given (Cells cs) (Closed d) i p = absurd p
 value_given (Cells cs) (Cells ds) i p = cell_given 0 cs ds i p
 
-values_given : (r s : RowPart) (columns : List ℕ) → RowPrunes r s → Gives (values_in r columns) (values_in s columns)
+values_given : (r s : RowPart) (columns : List ℕ) → RowPrunes r s → IsNoneOrSame (values_in r columns) (values_in s columns)
 values_given r s [] p = refl
 values_given r s (c ∷ columns) p =
     gives_put (value_in r c) (value_in s c) (values_in r columns) (values_in s columns) (value_given r s c p) (values_given r s columns p)
 
-entries_given : (need : Need) (es fs : List PartEntry) → AllZip EntryPrunes es fs → Gives (seen_entries need es) (seen_entries need fs)
+entries_given : (need : Need) (es fs : List PartEntry) → AllZip EntryPrunes es fs → IsNoneOrSame (seen_entries need es) (seen_entries need fs)
 entries_given need [] [] z = refl
 entries_given need [] (f ∷ fs) z = absurd z
 entries_given need (e ∷ es) [] z = absurd z
@@ -87,7 +87,7 @@ entries_given need (e ∷ es) (f ∷ fs) z =
     (entries_given need es fs z.1))
 
 mutual
-  node_given : (need : Need) (p t : RowTree) → Prunes p t → Gives (seen_in need p) (seen_in need t)
+  node_given : (need : Need) (p t : RowTree) → Prunes p t → IsNoneOrSame (seen_in need p) (seen_in need t)
   node_given need (stub d) t g = tt
   node_given need (leaf es) (leaf fs) g = entries_given need es fs g
   node_given need (leaf es) (stub d) g = absurd g
@@ -95,10 +95,10 @@ mutual
   node_given need (inner ss ps) (stub d) g = absurd g
   node_given need (inner ss ps) (leaf es) g = absurd g
   node_given need (inner ss ps) (inner ts qs) g =
-      subst (λ z. Gives (seen_in_each need None ss ps) (seen_in_each need None z qs)) g.0 (nodes_given need None ss ps qs g.1)
+      subst (λ z. IsNoneOrSame (seen_in_each need None ss ps) (seen_in_each need None z qs)) g.0 (nodes_given need None ss ps qs g.1)
 
   nodes_given : (need : Need) (lower : Option (List ℕ)) (ss : List (List ℕ)) (ps qs : RowTrees) → PrunesEach row_family EntryPrunes ps qs
-      → Gives (seen_in_each need lower ss ps) (seen_in_each need lower ss qs)
+      → IsNoneOrSame (seen_in_each need lower ss ps) (seen_in_each need lower ss qs)
   nodes_given need lower ss none none g = refl
   nodes_given need lower ss none (more m p ps) g = absurd g
   nodes_given need lower ss (more m p ps) none g = absurd g
@@ -111,7 +111,7 @@ mutual
       (nodes_given need (slice_get ss 0) (drop 1 ss) ps qs g.2)
 
 -- What a part tree shows for a need, the tree that it prunes shows too.
-pub sound : (need : Need) (p t : RowTree) → Prunes p t → Gives (seen need p) (seen need t)
+pub sound : (need : Need) (p t : RowTree) → Prunes p t → IsNoneOrSame (seen need p) (seen need t)
 sound need p t g = gives_cond (is_empty_interval need.interval) (Some []) (seen_in need p) (Some []) (seen_in need t) refl (node_given need p t g)
 
 -- There is a value.
@@ -148,20 +148,20 @@ values_shown row (c ∷ columns) f =
     shows_put (value_in row c) (values_in row columns) (shows_some (value_in row c) (f c (inl refl))) (values_shown row columns (λ x i. f x (inr i)))
 
 row_shown : (needs : List Need) (need : Need) (e : PartEntry) → IsIn need needs → in_interval need.interval e.key ≡ true
-    → hides_any (named needs e.key) e.row ≡ false → Shows (values_in e.row need.columns)
+    → hides_any (needed_columns needs e.key) e.row ≡ false → Shows (values_in e.row need.columns)
 row_shown needs need e i inside h = values_shown e.row need.columns (λ c j.
-    each_of (λ x. is_none (value_in e.row x) ≡ false) (named needs e.key) (none_any (λ x. is_none (value_in e.row x)) (named needs e.key) h) c (here c j))
+    each_of (λ x. is_none (value_in e.row x) ≡ false) (needed_columns needs e.key) (none_any (λ x. is_none (value_in e.row x)) (needed_columns needs e.key) h) c (here c j))
   where
-    here : (c : ℕ) → IsIn c need.columns → IsIn c (named needs e.key)
+    here : (c : ℕ) → IsIn c need.columns → IsIn c (needed_columns needs e.key)
     here c j = in_flat_map (λ n. n.columns) _ need c (in_filter (λ n. in_interval n.interval e.key) needs need i inside) j
 
 entries_shown : (needs : List Need) (need : Need) (es : List PartEntry) → IsIn need needs
-    → list_any (λ (e : PartEntry). hides_any (named needs e.key) e.row) es ≡ false → Shows (seen_entries need es)
+    → list_any (λ (e : PartEntry). hides_any (needed_columns needs e.key) e.row) es ≡ false → Shows (seen_entries need es)
 entries_shown needs need [] i h = tt
 entries_shown needs need (e ∷ es) i h = step (in_interval need.interval e.key) refl (entries_shown needs need es i both.1)
   where
-    both : (hides_any (named needs e.key) e.row ≡ false) × (list_any (λ (e : PartEntry). hides_any (named needs e.key) e.row) es ≡ false)
-    both = or_parts (hides_any (named needs e.key) e.row) _ h
+    both : (hides_any (needed_columns needs e.key) e.row ≡ false) × (list_any (λ (e : PartEntry). hides_any (needed_columns needs e.key) e.row) es ≡ false)
+    both = or_parts (hides_any (needed_columns needs e.key) e.row) _ h
 
     step : (b : Bool) → in_interval need.interval e.key ≡ b → Shows (seen_entries need es)
         → Shows (cond b (put_before (with_key e.key (values_in e.row need.columns)) (seen_entries need es)) (seen_entries need es))
@@ -180,18 +180,18 @@ child_shown need lower upper x y f s = step (visits need.interval lower upper) r
 
 mutual
   node_shown : (needs : List Need) (need : Need) (going : List Need) (p : RowTree) → IsIn need needs → IsIn need going
-      → misses (walk_for needs) going p ≡ false → Shows (seen_in need p)
+      → is_missing_by (walk_for needs) going p ≡ false → Shows (seen_in need p)
   node_shown needs need going (stub d) i j h = absurd (both_ways (is_any going) h (any_of going need j))
   node_shown needs need going (leaf es) i j h = entries_shown needs need es i h
   node_shown needs need going (inner ss ps) i j h = nodes_shown needs need going None ss ps i j h
 
   nodes_shown : (needs : List Need) (need : Need) (going : List Need) (lower : Option (List ℕ)) (ss : List (List ℕ)) (ps : RowTrees)
-      → IsIn need needs → IsIn need going → misses_in (walk_for needs) going lower ss ps ≡ false → Shows (seen_in_each need lower ss ps)
+      → IsIn need needs → IsIn need going → is_missing_in (walk_for needs) going lower ss ps ≡ false → Shows (seen_in_each need lower ss ps)
   nodes_shown needs need going lower ss none i j h = tt
   nodes_shown needs need going lower ss (more m p ps) i j h =
-      let both = or_parts (misses (walk_for needs) (going_on going lower (slice_get ss 0)) p) (misses_in (walk_for needs) going (slice_get ss 0) (drop 1 ss) ps) h in
+      let both = or_parts (is_missing_by (walk_for needs) (descend going lower (slice_get ss 0)) p) (is_missing_in (walk_for needs) going (slice_get ss 0) (drop 1 ss) ps) h in
       child_shown need lower (slice_get ss 0) (seen_in need p) (seen_in_each need (slice_get ss 0) (drop 1 ss) ps)
-      (λ v. node_shown needs need (going_on going lower (slice_get ss 0)) p i (in_filter (λ n. visits n.interval lower (slice_get ss 0)) going need j v) both.0)
+      (λ v. node_shown needs need (descend going lower (slice_get ss 0)) p i (in_filter (λ n. visits n.interval lower (slice_get ss 0)) going need j v) both.0)
       (nodes_shown needs need going (slice_get ss 0) (drop 1 ss) ps i j both.1)
 
 -- A part tree that misses nothing for some needs shows something for each of them.
@@ -201,7 +201,7 @@ complete needs need p i h = step (is_empty_interval need.interval) refl
     step : (b : Bool) → is_empty_interval need.interval ≡ b → Shows (cond b (Some []) (seen_in need p))
     step true e = tt
     step false e =
-        node_shown needs need (going_in needs) p i
+        node_shown needs need (at_root needs) p i
         (in_filter (λ n. not (is_empty_interval n.interval)) needs need i (not_from_false (is_empty_interval need.interval) e)) h
 
 -- Of a whole tree a scan is a filter of its entries.
@@ -306,12 +306,12 @@ mutual
       → seen_in_each need near ss ps ≡ seen_entries need (entries_in ps)
   nodes_scanned need height near lower upper ss none near_is n = absurd n
   nodes_scanned need height near lower upper [] (more m p none) near_is n =
-      last_scanned need near lower upper p near_is (node_between row_family half height lower upper p n.1) (node_scanned need half height lower upper p n.1)
+      last_scanned need near lower upper p near_is (node_between row_family min_fill height lower upper p n.1) (node_scanned need min_fill height lower upper p n.1)
   nodes_scanned need height near lower upper [] (more m p (more k q ps)) near_is n = absurd n
   nodes_scanned need height near lower upper (s ∷ ss) (more m p ps) near_is n =
       rw (nodes_scanned need height (Some s) (Some s) upper ss ps (λ key f. f) n.3, entries_joined need (entries p) (entries_in ps))
       (child_scanned need near lower (Some s) p (seen_entries need (entries_in ps)) near_is
-      (node_between row_family half height lower (Some s) p n.2) (node_scanned need half height lower (Some s) p n.2))
+      (node_between row_family min_fill height lower (Some s) p n.2) (node_scanned need min_fill height lower (Some s) p n.2))
 
 -- A scan of a whole tree is a filter of its entries.
 pub scan_is_filter : (need : Need) (t : RowTree) → IsTree row_family t → seen_in need t ≡ seen_entries need (entries t)

@@ -17,7 +17,7 @@ use Rattle.vo_spec.specs.LmsSets.{lms_code_of, height_of, leaves_of, lms_signatu
 use Rattle.vo_spec.specs.Lms.{public_bytes, key_lms, key_ots, signature_len_by, key_signature_len}
 use Rattle.vo_spec.specs.Secret.{Secret, tree_node, public_of_secret}
 use Rattle.vo_spec.specs.Records.{record_bytes}
-use Rattle.vo_spec.specs.Journals.{most_signature, FitsEntry, batches_of}
+use Rattle.vo_spec.specs.Journals.{max_signature, FitsEntry, batches_of}
 use Rattle.vo_spec.specs.Honest.{honest_trees, honest_record, sealed_entry, sealed_after, sealed}
 use Rattle.vo_spec.specs.Owners.{IsSigned, IsHonestEntry, AreOwnedAfter, AreOwned}
 use Rattle.vo_laws.specs.Sealing.{AreAcceptedAfter, SignsValidly}
@@ -28,7 +28,7 @@ use Rattle.vo_laws.proofs.ListLaws.{each_both}
 
 -- Signatures are short enough for a journal.
 
-set_short : (lms : LmsType) (ots : OtsType) → lms_signature_len lms ots ≤ most_signature
+set_short : (lms : LmsType) (ots : OtsType) → lms_signature_len lms ots ≤ max_signature
 set_short lms ots =
     let chains : ots_signature_len ots ≤ 8516 = by_width ots in
     let path : height_of lms ≤ 25 = by_height lms in
@@ -47,11 +47,11 @@ set_short lms ots =
     by_height H20 = omega arith
     by_height H25 = omega arith
 
-pub signatures_short : (key : List ℕ) → key_signature_len key ≤ most_signature
+pub signatures_short : (key : List ℕ) → key_signature_len key ≤ max_signature
 unfolding key_signature_len
 signatures_short key = step (key_lms key) (key_ots key)
   where
-    step : (lms : Option LmsType) (ots : Option OtsType) → signature_len_by lms ots ≤ most_signature
+    step : (lms : Option LmsType) (ots : Option OtsType) → signature_len_by lms ots ≤ max_signature
     step (Some lms) (Some ots) = set_short lms ots
     step (Some lms) None = omega arith
     step None (Some ots) = omega arith
@@ -77,7 +77,7 @@ key_long secret sixteen = bytes_long secret.lms secret.ots secret.id (tree_node 
 
 pub sealed_entry_fits : (secret : Secret) (earlier : List (List Command)) (batch : List Command) → length secret.id ≡ 16
     → AllByRecursion FitsBatch earlier → FitsBatch batch → length earlier < 2 ^ 64
-    → length (sealed_entry secret earlier batch).signature ≤ most_signature → FitsEntry (sealed_entry secret earlier batch)
+    → length (sealed_entry secret earlier batch).signature ≤ max_signature → FitsEntry (sealed_entry secret earlier batch)
 unfolding sealed_entry
 sealed_entry_fits secret earlier batch sixteen fits batch_fits few short = record {
   batch = batch_fits;
@@ -148,21 +148,21 @@ sealed_are_signed secret batches valid few = signed_each secret [] ([] ∷ batch
 
 -- A journal of one more batch.
 
-grown_after : (secret : Secret) (earlier batches : List (List Command)) (batch : List Command)
+insertion_after : (secret : Secret) (earlier batches : List (List Command)) (batch : List Command)
     → sealed_after secret earlier (batches ++ batch ∷ []) ≡ sealed_after secret earlier batches ++ sealed_entry secret (earlier ++ batches) batch ∷ []
-grown_after secret earlier [] batch = ap (λ bs. sealed_entry secret bs batch ∷ []) (sym (nothing_behind earlier))
+insertion_after secret earlier [] batch = ap (λ bs. sealed_entry secret bs batch ∷ []) (sym (nothing_behind earlier))
   where
     nothing_behind : (bs : List (List Command)) → bs ++ [] ≡ bs
     nothing_behind [] = refl
     nothing_behind (b ∷ bs) = ap (λ z. b ∷ z) (nothing_behind bs)
-grown_after secret earlier (b ∷ batches) batch =
-    ap (λ es. sealed_entry secret earlier b ∷ es) (grown_after secret (earlier ++ b ∷ []) batches batch
+insertion_after secret earlier (b ∷ batches) batch =
+    ap (λ es. sealed_entry secret earlier b ∷ es) (insertion_after secret (earlier ++ b ∷ []) batches batch
     ∙ ap (λ bs. sealed_after secret (earlier ++ b ∷ []) batches ++ sealed_entry secret bs batch ∷ []) (append_assoc earlier (b ∷ []) batches))
 
 pub sealed_grows : (secret : Secret) (batches : List (List Command)) (batch : List Command)
     → sealed secret (batches ++ batch ∷ []) ≡ sealed secret batches ++ sealed_entry secret ([] ∷ batches) batch ∷ []
 unfolding sealed
-sealed_grows secret batches batch = grown_after secret [] ([] ∷ batches) batch
+sealed_grows secret batches batch = insertion_after secret [] ([] ∷ batches) batch
 
 batches_after : (secret : Secret) (earlier batches : List (List Command)) → batches_of (sealed_after secret earlier batches) ≡ batches
 batches_after secret earlier [] = refl
@@ -175,7 +175,7 @@ batches_sealed secret batches = batches_after secret [] ([] ∷ batches)
 -- Its entries fit, where the signatures do.
 
 abbrev ShortlySigned : Entry → Type 0
-ShortlySigned e = length e.signature ≤ most_signature
+ShortlySigned e = length e.signature ≤ max_signature
 
 fit_after : (secret : Secret) (earlier batches : List (List Command)) → length secret.id ≡ 16 → AllByRecursion FitsBatch earlier
     → AllByRecursion FitsBatch batches → length earlier + length batches ≤ 2 ^ 64
@@ -188,6 +188,6 @@ fit_after secret earlier (batch ∷ batches) sixteen earlier_fit fits few short 
 )
 
 pub sealed_fit : (secret : Secret) (batches : List (List Command)) → length secret.id ≡ 16 → AllByRecursion FitsBatch batches → length batches < 2 ^ 64
-    → AllByRecursion (λ (e : Entry). length e.signature ≤ most_signature) (sealed secret batches) → AllByRecursion FitsEntry (sealed secret batches)
+    → AllByRecursion (λ (e : Entry). length e.signature ≤ max_signature) (sealed secret batches) → AllByRecursion FitsEntry (sealed secret batches)
 unfolding sealed
 sealed_fit secret batches sixteen fits few short = fit_after secret [] ([] ∷ batches) sixteen tt (no_commands_fit, fits) (omega arith) short

@@ -13,16 +13,16 @@ use Rattle.vo_spec.specs.declared.needs.Need.{Need}
 use Rattle.vo_spec.specs.declared.needs.SeenRow.{SeenRow}
 use Rattle.vo_spec.specs.Values.{key_lt, value_of_key}
 use Rattle.vo_spec.specs.Tables.{column_at, cell_number, value_at}
-use Rattle.vo_spec.specs.Results.{Line, line_of}
+use Rattle.vo_spec.specs.Results.{RowView, row_view_of}
 use Rattle.vo_spec.specs.Cells.{value_in, whole_entry, whole_row}
 use Rattle.vo_spec.specs.Trees.{RowTree, Prunes}
 use Rattle.vo_spec.specs.Scans.{is_above, is_below, in_interval, are_crossed, is_empty_interval, put_before, values_in, with_key, seen_entries, seen_in, seen}
 use Rattle.vo_spec.specs.Pruned.{is_missing}
-use Rattle.vo_spec.specs.Standing.{StandsFor}
-use Rattle.vo_spec.specs.Needs.{seen_line, seen_lines}
+use Rattle.vo_spec.specs.Standing.{Represents}
+use Rattle.vo_spec.specs.Needs.{seen_row_view, seen_row_views}
 use Rattle.vo_laws.proofs.KeyOrder.{key_lt_back, key_le_le, key_lt_le, key_le_lt}
 use Rattle.vo_laws.proofs.ListLaws.{IsIn, zip_map, zip_weaker}
-use Rattle.vo_laws.proofs.ScanLaws.{Gives, Shows, sound, complete, scan_is_filter}
+use Rattle.vo_laws.proofs.ScanLaws.{IsNoneOrSame, Shows, sound, complete, scan_is_filter}
 
 -- An empty interval has no key.
 
@@ -108,11 +108,11 @@ value_read cells (x ∷ columns) values c e i =
         rw is (chosen v ws g h more (x == c) refl)
 
 -- Two lines are alike in the key and in these cells.
-abbrev pub Alike : Schema → List ℕ → Line → Line → Type 0
+abbrev pub Alike : Schema → List ℕ → RowView → RowView → Type 0
 Alike schema cells a b = (column : ℕ) → ((column == schema.key) ≡ true) ⊎ IsIn (cell_number schema.key column) cells → a column ≡ b column
 
-line_alike : (schema : Schema) (columns : List ℕ) (x : SeenRow) (row : Row) → IsSeenOf columns x row → Alike schema columns (seen_line schema columns x) (line_of schema row)
-line_alike schema columns x row s column i = step (column == schema.key) refl i
+row_view_alike : (schema : Schema) (columns : List ℕ) (x : SeenRow) (row : Row) → IsSeenOf columns x row → Alike schema columns (seen_row_view schema columns x) (row_view_of schema row)
+row_view_alike schema columns x row s column i = step (column == schema.key) refl i
   where
     other : ((column == schema.key) ≡ true) ⊎ IsIn (cell_number schema.key column) columns → (column == schema.key) ≡ false → IsIn (cell_number schema.key column) columns
     other (inl h) f = absurd (both_ways (column == schema.key) f h)
@@ -132,7 +132,7 @@ pub none_kept : (interval : Interval) (rows : List Row) → is_empty_interval in
 none_kept interval [] e = refl
 none_kept interval (row ∷ rows) e = rw (empty_has_none interval row.key e) (none_kept interval rows e)
 
-whole_seen : (need : Need) (t : RowTree) (rows : List Row) → StandsFor t rows → AreSeenOf need.columns (seen need t) (rows_in need.interval rows)
+whole_seen : (need : Need) (t : RowTree) (rows : List Row) → Represents t rows → AreSeenOf need.columns (seen need t) (rows_in need.interval rows)
 whole_seen need t rows stands = step (is_empty_interval need.interval) refl
   where
     step : (b : Bool) → is_empty_interval need.interval ≡ b → AreSeenOf need.columns (cond b (Some []) (seen_in need t)) (rows_in need.interval rows)
@@ -142,17 +142,17 @@ whole_seen need t rows stands = step (is_empty_interval need.interval) refl
 -- What is seen of a part tree that misses nothing, of a tree that stands for these rows, is the rows in the
 -- need's interval, as far as their keys and the need's columns go.
 pub accepted : (schema : Schema) (needs : List Need) (need : Need) (p t : RowTree) (rows : List Row)
-    → IsIn need needs → is_missing needs p ≡ false → Prunes p t → StandsFor t rows
-    → AllZip (Alike schema need.columns) (seen_lines schema need p) (map (line_of schema) (rows_in need.interval rows))
+    → IsIn need needs → is_missing needs p ≡ false → Prunes p t → Represents t rows
+    → AllZip (Alike schema need.columns) (seen_row_views schema need p) (map (row_view_of schema) (rows_in need.interval rows))
 accepted schema needs need p t rows i full prunes stands =
     step (seen need p) (complete needs need p i full) (sound need p t prunes)
   where
-    step : (o : Option (List SeenRow)) → Shows o → Gives o (seen need t)
-        → AllZip (Alike schema need.columns) (map (seen_line schema need.columns) (unwrap_or o [])) (map (line_of schema) (rows_in need.interval rows))
+    step : (o : Option (List SeenRow)) → Shows o → IsNoneOrSame o (seen need t)
+        → AllZip (Alike schema need.columns) (map (seen_row_view schema need.columns) (unwrap_or o [])) (map (row_view_of schema) (rows_in need.interval rows))
     step None s g = absurd s
     step (Some xs) s g =
         let all : AllZip (IsSeenOf need.columns) xs (rows_in need.interval rows) =
         subst (λ z. AreSeenOf need.columns z (rows_in need.interval rows)) g (whole_seen need t rows stands) in
-        zip_map (Alike schema need.columns) (seen_line schema need.columns) (line_of schema) xs (rows_in need.interval rows)
-        (zip_weaker (IsSeenOf need.columns) (λ x row. Alike schema need.columns (seen_line schema need.columns x) (line_of schema row))
-        (line_alike schema need.columns) xs (rows_in need.interval rows) all)
+        zip_map (Alike schema need.columns) (seen_row_view schema need.columns) (row_view_of schema) xs (rows_in need.interval rows)
+        (zip_weaker (IsSeenOf need.columns) (λ x row. Alike schema need.columns (seen_row_view schema need.columns x) (row_view_of schema row))
+        (row_view_alike schema need.columns) xs (rows_in need.interval rows) all)

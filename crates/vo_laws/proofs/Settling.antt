@@ -1,4 +1,4 @@
--- A small node and its neighbour: the one or two nodes that they settle into stand between the same bounds.
+-- A small node and its sibling: the one or two nodes that they settle into stand between the same bounds.
 use Rattle.std.proofs.Common.{◌≡◌, ℕ, suc, ◌+◌, ◌-◌, ◌<◌, ◌≤◌, Bool, true, false, cond, List, [], ◌∷◌, ◌++◌, Option, Some, Result, Ok, Err, length, take, drop, refl, sym, ap, ◌∙◌, subst, arith, append_assoc}
 use Rattle.std.specs.Prelude.{nat_lt, slice_index_or}
 use Rattle.std.specs.List.{AllByRecursion}
@@ -6,19 +6,19 @@ use Rattle.std.proofs.lemmas.Bool.{ltb-true, ltb-false}
 use Rattle.std.proofs.lemmas.List.{length-append, length-take, length-drop, take-append-drop, drop_all}
 use Rattle.vo_spec.specs.declared.trees.UpdateFault.{UpdateFault}
 use Rattle.vo_spec.specs.Parts.{Part, Parts, Family, stub, leaf, inner, none, more, count, entries, entries_in}
-use Rattle.vo_spec.specs.Inserts.{half, Grown, one, two, take_parts, drop_parts, first_key}
-use Rattle.vo_spec.specs.Removes.{joined_parts, is_small, with_left, with_right}
+use Rattle.vo_spec.specs.Inserts.{min_fill, Insertion, one, two, take_parts, drop_parts, first_key}
+use Rattle.vo_spec.specs.Removes.{joined_parts, is_underfull, with_left, with_right}
 use Rattle.vo_spec.specs.Standing.{is_within, AreRising, IsNode, AreNodes}
 use Rattle.vo_laws.proofs.ListLaws.{each_both, each_weaker}
 use Rattle.vo_laws.proofs.NodeBounds.{Between, left_between, right_between}
-use Rattle.vo_laws.proofs.Growing.{keys_in, grown_entries, IsGrown, halves_grown, AreSplit, narrower, nodes_split}
-use Rattle.vo_laws.proofs.Grown.{wider, behind}
+use Rattle.vo_laws.proofs.Growing.{keys_in, insertion_entries, IsInsertion, halves_insertion, AreSplit, narrower, nodes_split}
+use Rattle.vo_laws.proofs.Insertion.{wider, behind}
 use Rattle.vo_laws.proofs.NodeBounds.{separators_counted}
 
 module _ {E M : Type 0} (family : Family E M) where
-  -- what two neighbours with these entries settle into
-  abbrev pub Settles : ℕ → Option (List ℕ) → Option (List ℕ) → List E → Result (Grown E M) UpdateFault → Type 0
-  Settles height lower upper es (Ok g) = IsGrown family half height lower upper g × (grown_entries g ≡ es)
+  -- what two siblings with these entries settle into
+  abbrev pub Settles : ℕ → Option (List ℕ) → Option (List ℕ) → List E → Result (Insertion E M) UpdateFault → Type 0
+  Settles height lower upper es (Ok g) = IsInsertion family min_fill height lower upper g × (insertion_entries g ≡ es)
   Settles height lower upper es (Err fault) = ⊥
 
   -- Two leaves.
@@ -34,7 +34,7 @@ module _ {E M : Type 0} (family : Family E M) where
       → xs ++ ys ≡ es → 8 ≤ length xs → length xs ≤ 16 → 8 ≤ length ys → length ys ≤ 16
       → Settles height lower upper es (Ok (two (leaf xs) (first_key family ys) (leaf ys)))
   leaves_shared height lower upper es xs ys low all rising whole left_few left_many few many = (
-    halves_grown family half height lower upper xs ys low left_few left_many few many
+    halves_insertion family min_fill height lower upper xs ys low left_few left_many few many
         (subst (AllByRecursion (Between family lower upper)) (sym whole) all) (subst (λ zs. AreRising (keys_in family zs)) (sym whole) rising),
     whole,
   )
@@ -49,7 +49,7 @@ module _ {E M : Type 0} (family : Family E M) where
 
   -- the last entry of the left one goes over
   leaf_and_left : (height : ℕ) (lower upper : Option (List ℕ)) (s : List ℕ) (ls rs : List E) → is_within lower upper s ≡ true
-      → IsNode family half height lower (Some s) (leaf ls) → IsNode family 7 height (Some s) upper (leaf rs) → length rs < 8 → AreRising (keys_in family (ls ++ rs))
+      → IsNode family min_fill height lower (Some s) (leaf ls) → IsNode family 7 height (Some s) upper (leaf rs) → length rs < 8 → AreRising (keys_in family (ls ++ rs))
       → Settles height lower upper (ls ++ rs) (with_left family (leaf ls) s (leaf rs))
   leaf_and_left height lower upper s ls rs w left right small rising = step (nat_lt 8 (length ls)) refl
     where
@@ -77,7 +77,7 @@ module _ {E M : Type 0} (family : Family E M) where
 
   -- the first entry of the right one goes over
   leaf_and_right : (height : ℕ) (lower upper : Option (List ℕ)) (s : List ℕ) (ls rs : List E) → is_within lower upper s ≡ true
-      → IsNode family 7 height lower (Some s) (leaf ls) → IsNode family half height (Some s) upper (leaf rs) → length ls < 8 → AreRising (keys_in family (ls ++ rs))
+      → IsNode family 7 height lower (Some s) (leaf ls) → IsNode family min_fill height (Some s) upper (leaf rs) → length ls < 8 → AreRising (keys_in family (ls ++ rs))
       → Settles height lower upper (ls ++ rs) (with_right family (leaf ls) s (leaf rs))
   leaf_and_right height lower upper s ls rs w left right small rising = step (nat_lt 8 (length rs)) refl
     where
@@ -155,7 +155,7 @@ module _ {E M : Type 0} (family : Family E M) where
       )
 
   inner_and_left : (height : ℕ) (lower upper : Option (List ℕ)) (s : List ℕ) (ls rs : List (List ℕ)) (ps qs : Parts E M) → is_within lower upper s ≡ true
-      → IsNode family half height lower (Some s) (inner ls ps) → IsNode family 7 height (Some s) upper (inner rs qs) → count qs < 8
+      → IsNode family min_fill height lower (Some s) (inner ls ps) → IsNode family 7 height (Some s) upper (inner rs qs) → count qs < 8
       → Settles height lower upper (entries_in ps ++ entries_in qs) (with_left family (inner ls ps) s (inner rs qs))
   inner_and_left height lower upper s ls rs ps qs w left right small = step (nat_lt 8 (count ps)) refl
     where
@@ -195,7 +195,7 @@ module _ {E M : Type 0} (family : Family E M) where
       )
 
   inner_and_right : (height : ℕ) (lower upper : Option (List ℕ)) (s : List ℕ) (ls rs : List (List ℕ)) (ps qs : Parts E M) → is_within lower upper s ≡ true
-      → IsNode family 7 height lower (Some s) (inner ls ps) → IsNode family half height (Some s) upper (inner rs qs) → count ps < 8
+      → IsNode family 7 height lower (Some s) (inner ls ps) → IsNode family min_fill height (Some s) upper (inner rs qs) → count ps < 8
       → Settles height lower upper (entries_in ps ++ entries_in qs) (with_right family (inner ls ps) s (inner rs qs))
   inner_and_right height lower upper s ls rs ps qs w left right small = step (nat_lt 8 (count qs)) refl
     where
@@ -211,9 +211,9 @@ module _ {E M : Type 0} (family : Family E M) where
 
   -- Two nodes.
 
-  -- a small node with its left neighbour
-  pub left_settles : (height : ℕ) (lower upper : Option (List ℕ)) (s : List ℕ) (l r : Part E M) → is_within lower upper s ≡ true → IsNode family half height lower (Some s) l
-      → IsNode family 7 height (Some s) upper r → is_small r ≡ true → AreRising (keys_in family (entries l ++ entries r))
+  -- a small node with its left sibling
+  pub left_settles : (height : ℕ) (lower upper : Option (List ℕ)) (s : List ℕ) (l r : Part E M) → is_within lower upper s ≡ true → IsNode family min_fill height lower (Some s) l
+      → IsNode family 7 height (Some s) upper r → is_underfull r ≡ true → AreRising (keys_in family (entries l ++ entries r))
       → Settles height lower upper (entries l ++ entries r) (with_left family l s r)
   left_settles height lower upper s (stub d) r w left right small rising = absurd left
   left_settles height lower upper s l (stub d) w left right small rising = absurd right
@@ -224,7 +224,7 @@ module _ {E M : Type 0} (family : Family E M) where
 
   -- with its right one
   pub right_settles : (height : ℕ) (lower upper : Option (List ℕ)) (s : List ℕ) (l r : Part E M) → is_within lower upper s ≡ true → IsNode family 7 height lower (Some s) l
-      → IsNode family half height (Some s) upper r → is_small l ≡ true → AreRising (keys_in family (entries l ++ entries r))
+      → IsNode family min_fill height (Some s) upper r → is_underfull l ≡ true → AreRising (keys_in family (entries l ++ entries r))
       → Settles height lower upper (entries l ++ entries r) (with_right family l s r)
   right_settles height lower upper s (stub d) r w left right small rising = absurd left
   right_settles height lower upper s l (stub d) w left right small rising = absurd right

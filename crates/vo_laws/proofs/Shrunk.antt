@@ -9,12 +9,12 @@ use Rattle.vo_spec.specs.declared.trees.UpdateFault.TheVariants.{DuplicateKey, N
 use Rattle.vo_spec.specs.Firsts.{and_then}
 use Rattle.vo_spec.specs.Values.{key_lt}
 use Rattle.vo_spec.specs.Parts.{Part, Parts, Family, stub, leaf, inner, none, more, count, entries, entries_in}
-use Rattle.vo_spec.specs.Inserts.{half, result_map, Children, after_child, has_key}
+use Rattle.vo_spec.specs.Inserts.{min_fill, result_map, Children, after_child, has_key}
 use Rattle.vo_spec.specs.Removes.{without_entry, settle_first, settle_next, shrink, shrink_in, shrink_after, settled_root, removed_by}
 use Rattle.vo_spec.specs.Standing.{is_from, is_before, is_between, is_within, AreRising, IsNode, AreNodes, IsTree, fewest_in_root}
 use Rattle.vo_laws.proofs.NodeBounds.{Between, node_between, nodes_between}
 use Rattle.vo_laws.proofs.Growing.{keys_in, Below, Above, none_below, has_left, has_right, rising_left, rising_right}
-use Rattle.vo_laws.proofs.Grown.{each_above, each_below, fewer, root_few}
+use Rattle.vo_laws.proofs.Insertion.{each_above, each_below, fewer, root_few}
 use Rattle.vo_laws.proofs.Without.{without_left, without_right, without_length, without_each, without_rises}
 use Rattle.vo_laws.proofs.Shrinking.{bound_above, AreBehind, ChildrenSettle, first_settles, next_settles}
 
@@ -62,44 +62,44 @@ module _ {E M : Type 0} (family : Family E M) where
 
   -- From the child behind this one.
   next_shrinks : (key : List ℕ) (height : ℕ) (lower upper : Option (List ℕ)) (s : List ℕ) (ss : List (List ℕ)) (m : M) (left : Part E M) (es : List E) (ps : Parts E M)
-      (r : Result (Part E M) UpdateFault) → m ≡ family.mark left → is_within lower upper s ≡ true → IsNode family half height lower (Some s) left → AreBehind family height (Some s) upper ss ps
+      (r : Result (Part E M) UpdateFault) → m ≡ family.annotation left → is_within lower upper s ≡ true → IsNode family min_fill height lower (Some s) left → AreBehind family height (Some s) upper ss ps
       → AllByRecursion (Below family key) (entries left) → AllByRecursion (Above family key) (entries_in ps) → AreRising (keys_in family (entries left ++ (es ++ entries_in ps)))
       → NodeShrinks key 7 height (Some s) (bound_above upper ss) es r
       → NodesShrink key height lower upper (entries left ++ (es ++ entries_in ps)) (count ps + 1 + 1) (and_then (settle_next family m left (s ∷ ss) ps) r)
-  next_shrinks key height lower upper s ss m left es ps (Ok t) mark w before others below above rising g =
+  next_shrinks key height lower upper s ss m left es ps (Ok t) annotation w before others below above rising g =
       settled_shrinks key height lower upper (entries left ++ (es ++ entries_in ps)) (entries left ++ (entries t ++ entries_in ps)) (count ps + 1 + 1) (settle_next family m left (s ∷ ss) ps t)
       (has_right family key (entries left) (es ++ entries_in ps) below ∙ has_left family key es (entries_in ps) above ∙ g.0) same
-      (next_settles family height lower upper s ss m left t ps mark w before g.1 others
+      (next_settles family height lower upper s ss m left t ps annotation w before g.1 others
       (subst (λ z. AreRising (keys_in family z)) (sym same) (without_rises family key (entries left ++ (es ++ entries_in ps)) rising)))
     where
       same : entries left ++ (entries t ++ entries_in ps) ≡ without_entry family key (entries left ++ (es ++ entries_in ps))
       same = ap (λ z. entries left ++ (z ++ entries_in ps)) g.2
           ∙ ap (λ z. entries left ++ z) (sym (without_left family key es (entries_in ps) g.0))
           ∙ sym (without_right family key (entries left) (es ++ entries_in ps) (none_below family key (entries left) below))
-  next_shrinks key height lower upper s ss m left es ps (Err DuplicateKey) mark w before others below above rising g = absurd g
-  next_shrinks key height lower upper s ss m left es ps (Err NoRow) mark w before others below above rising g =
+  next_shrinks key height lower upper s ss m left es ps (Err DuplicateKey) annotation w before others below above rising g = absurd g
+  next_shrinks key height lower upper s ss m left es ps (Err NoRow) annotation w before others below above rising g =
       has_right family key (entries left) (es ++ entries_in ps) below ∙ has_left family key es (entries_in ps) above ∙ g
-  next_shrinks key height lower upper s ss m left es ps (Err Missing) mark w before others below above rising g = absurd g
-  next_shrinks key height lower upper s ss m left es ps (Err Memory) mark w before others below above rising g = absurd g
+  next_shrinks key height lower upper s ss m left es ps (Err Missing) annotation w before others below above rising g = absurd g
+  next_shrinks key height lower upper s ss m left es ps (Err Memory) annotation w before others below above rising g = absurd g
 
   -- From a child further behind.
   later_shrinks : (key : List ℕ) (height : ℕ) (lower upper : Option (List ℕ)) (s : List ℕ) (ss : List (List ℕ)) (m : M) (p : Part E M) (es : List E) (n : ℕ)
-      (r : Result (Children E M) UpdateFault) → m ≡ family.mark p → is_within lower upper s ≡ true → IsNode family half height lower (Some s) p → AllByRecursion (Below family key) (entries p)
+      (r : Result (Children E M) UpdateFault) → m ≡ family.annotation p → is_within lower upper s ≡ true → IsNode family min_fill height lower (Some s) p → AllByRecursion (Below family key) (entries p)
       → NodesShrink key height (Some s) upper es n r
       → NodesShrink key height lower upper (entries p ++ es) (n + 1) (result_map (after_child m p (s ∷ ss)) r)
-  later_shrinks key height lower upper s ss m p es n (Ok c) mark w node below g = (
+  later_shrinks key height lower upper s ss m p es n (Ok c) annotation w node below g = (
     has_right family key (entries p) es below ∙ g.0,
     (
-      (mark, w, node, g.1.0),
+      (annotation, w, node, g.1.0),
       ap (λ z. entries p ++ z) g.1.1 ∙ sym (without_right family key (entries p) es (none_below family key (entries p) below)),
       omega (arith, g.1.2),
       omega (arith, g.1.3),
     ),
   )
-  later_shrinks key height lower upper s ss m p es n (Err DuplicateKey) mark w node below g = absurd g
-  later_shrinks key height lower upper s ss m p es n (Err NoRow) mark w node below g = has_right family key (entries p) es below ∙ g
-  later_shrinks key height lower upper s ss m p es n (Err Missing) mark w node below g = absurd g
-  later_shrinks key height lower upper s ss m p es n (Err Memory) mark w node below g = absurd g
+  later_shrinks key height lower upper s ss m p es n (Err DuplicateKey) annotation w node below g = absurd g
+  later_shrinks key height lower upper s ss m p es n (Err NoRow) annotation w node below g = has_right family key (entries p) es below ∙ g
+  later_shrinks key height lower upper s ss m p es n (Err Missing) annotation w node below g = absurd g
+  later_shrinks key height lower upper s ss m p es n (Err Memory) annotation w node below g = absurd g
 
   -- From a node.
 
@@ -146,29 +146,29 @@ module _ {E M : Type 0} (family : Family E M) where
           (each_above family key s upper (entries q ++ entries_in qs) lt (nodes_between family height (Some s) upper ss (more n q qs) nodes.3)) rising
           (first (and_from (is_from lower key) (key_lt key s) parts.0 lt))
       step false ge = later (and_from (not (key_lt key s)) (is_before upper key) (not_from_false (key_lt key s) ge) parts.1)
-          (each_below family key s lower (entries p) ge (node_between family half height lower (Some s) p nodes.2))
+          (each_below family key s lower (entries p) ge (node_between family min_fill height lower (Some s) p nodes.2))
 
   -- to the child behind this one, or to one further behind
   after_shrinks : (key : List ℕ) (height : ℕ) (lower upper : Option (List ℕ)) (s t : List ℕ) (ss : List (List ℕ)) (m n : M) (left p : Part E M) (ps : Parts E M)
-      → m ≡ family.mark left → is_within lower upper s ≡ true → IsNode family half height lower (Some s) left → AllByRecursion (Below family key) (entries left)
+      → m ≡ family.annotation left → is_within lower upper s ≡ true → IsNode family min_fill height lower (Some s) left → AllByRecursion (Below family key) (entries left)
       → AreNodes family height (Some s) upper (t ∷ ss) (more n p ps) → is_between (Some s) upper key ≡ true → AreRising (keys_in family (entries left ++ (entries p ++ entries_in ps)))
       → (is_between (Some s) (Some t) key ≡ true → NodeShrinks key 7 height (Some s) (Some t) (entries p) (shrink family key p))
       → (is_between (Some t) upper key ≡ true → AllByRecursion (Below family key) (entries p)
       → NodesShrink key height (Some s) upper (entries p ++ entries_in ps) (count ps + 1) (shrink_after family key n p (t ∷ ss) ps))
       → NodesShrink key height lower upper (entries left ++ (entries p ++ entries_in ps)) (count ps + 1 + 1) (shrink_after family key m left (s ∷ t ∷ ss) (more n p ps))
-  after_shrinks key height lower upper s t ss m n left p ps mark w before below nodes here rising next later = step (key_lt key t) refl
+  after_shrinks key height lower upper s t ss m n left p ps annotation w before below nodes here rising next later = step (key_lt key t) refl
     where
       parts : (is_from (Some s) key ≡ true) × (is_before upper key ≡ true)
       parts = and_parts (is_from (Some s) key) (is_before upper key) here
 
       step : (b : Bool) → key_lt key t ≡ b → NodesShrink key height lower upper (entries left ++ (entries p ++ entries_in ps)) (count ps + 1 + 1)
           (cond b (and_then (settle_next family m left (s ∷ t ∷ ss) ps) (shrink family key p)) (result_map (after_child m left (s ∷ t ∷ ss)) (shrink_after family key n p (t ∷ ss) ps)))
-      step true lt = next_shrinks key height lower upper s (t ∷ ss) m left (entries p) ps (shrink family key p) mark w before (nodes.1, nodes.3) below
+      step true lt = next_shrinks key height lower upper s (t ∷ ss) m left (entries p) ps (shrink family key p) annotation w before (nodes.1, nodes.3) below
           (each_above family key t upper (entries_in ps) lt (nodes_between family height (Some t) upper ss ps nodes.3)) rising
           (next (and_from (is_from (Some s) key) (key_lt key t) parts.0 lt))
-      step false ge = later_shrinks key height lower upper s (t ∷ ss) m left (entries p ++ entries_in ps) (count ps + 1) (shrink_after family key n p (t ∷ ss) ps) mark w before below
+      step false ge = later_shrinks key height lower upper s (t ∷ ss) m left (entries p ++ entries_in ps) (count ps + 1) (shrink_after family key n p (t ∷ ss) ps) annotation w before below
           (later (and_from (not (key_lt key t)) (is_before upper key) (not_from_false (key_lt key t) ge) parts.1)
-          (each_below family key t (Some s) (entries p) ge (node_between family half height (Some s) (Some t) p nodes.2)))
+          (each_below family key t (Some s) (entries p) ge (node_between family min_fill height (Some s) (Some t) p nodes.2)))
 
   mutual
     node_shrinks : (key : List ℕ) (fewest height : ℕ) (lower upper : Option (List ℕ)) (t : Part E M) → IsNode family fewest height lower upper t
@@ -188,21 +188,21 @@ module _ {E M : Type 0} (family : Family E M) where
     nodes_shrink key height lower upper [] (more m p (more n q ps)) nodes rising here several = absurd nodes
     nodes_shrink key height lower upper (s ∷ ss) (more m p ps) nodes rising here several =
         child_shrinks key height lower upper s ss m p ps nodes here rising
-        (λ b. node_shrinks key half height lower (Some s) p nodes.2 (rising_left family (entries p) (entries_in ps) rising) b (root_few family p))
+        (λ b. node_shrinks key min_fill height lower (Some s) p nodes.2 (rising_left family (entries p) (entries_in ps) rising) b (root_few family p))
         (λ b below. later_nodes_shrink key height lower upper s ss m p ps nodes.0 nodes.1 nodes.2 below nodes.3 rising b)
 
     later_nodes_shrink : (key : List ℕ) (height : ℕ) (lower upper : Option (List ℕ)) (s : List ℕ) (ss : List (List ℕ)) (m : M) (left : Part E M) (ps : Parts E M)
-        → m ≡ family.mark left → is_within lower upper s ≡ true → IsNode family half height lower (Some s) left → AllByRecursion (Below family key) (entries left)
+        → m ≡ family.annotation left → is_within lower upper s ≡ true → IsNode family min_fill height lower (Some s) left → AllByRecursion (Below family key) (entries left)
         → AreNodes family height (Some s) upper ss ps → AreRising (keys_in family (entries left ++ entries_in ps)) → is_between (Some s) upper key ≡ true
         → NodesShrink key height lower upper (entries left ++ entries_in ps) (count ps + 1) (shrink_after family key m left (s ∷ ss) ps)
-    later_nodes_shrink key height lower upper s ss m left none mark w before below nodes rising here = absurd nodes
-    later_nodes_shrink key height lower upper s [] m left (more n p none) mark w before below nodes rising here =
-        next_shrinks key height lower upper s [] m left (entries p) none (shrink family key p) mark w before tt below tt rising
-        (node_shrinks key half height (Some s) upper p nodes.1 (rising_left family (entries p) [] (rising_right family (entries left) (entries p ++ []) rising)) here (root_few family p))
-    later_nodes_shrink key height lower upper s [] m left (more n p (more o q ps)) mark w before below nodes rising here = absurd nodes
-    later_nodes_shrink key height lower upper s (t ∷ ss) m left (more n p ps) mark w before below nodes rising here =
-        after_shrinks key height lower upper s t ss m n left p ps mark w before below nodes here rising
-        (λ b. node_shrinks key half height (Some s) (Some t) p nodes.2 (rising_left family (entries p) (entries_in ps) (rising_right family (entries left) (entries p ++ entries_in ps) rising)) b (root_few family p))
+    later_nodes_shrink key height lower upper s ss m left none annotation w before below nodes rising here = absurd nodes
+    later_nodes_shrink key height lower upper s [] m left (more n p none) annotation w before below nodes rising here =
+        next_shrinks key height lower upper s [] m left (entries p) none (shrink family key p) annotation w before tt below tt rising
+        (node_shrinks key min_fill height (Some s) upper p nodes.1 (rising_left family (entries p) [] (rising_right family (entries left) (entries p ++ []) rising)) here (root_few family p))
+    later_nodes_shrink key height lower upper s [] m left (more n p (more o q ps)) annotation w before below nodes rising here = absurd nodes
+    later_nodes_shrink key height lower upper s (t ∷ ss) m left (more n p ps) annotation w before below nodes rising here =
+        after_shrinks key height lower upper s t ss m n left p ps annotation w before below nodes here rising
+        (λ b. node_shrinks key min_fill height (Some s) (Some t) p nodes.2 (rising_left family (entries p) (entries_in ps) (rising_right family (entries left) (entries p ++ entries_in ps) rising)) b (root_few family p))
         (λ b low. later_nodes_shrink key height (Some s) upper t ss n p ps nodes.0 nodes.1 nodes.2 low nodes.3 (rising_right family (entries left) (entries p ++ entries_in ps) rising) b)
 
   -- A root.
@@ -224,7 +224,7 @@ module _ {E M : Type 0} (family : Family E M) where
   root_settles fewest height (inner [] (more m p none)) node rising = (
     record {
       height = height - 1;
-      shape = fewer family (fewest_in_root family p) half (height - 1) None None p (root_few family p) node.3.1;
+      shape = fewer family (fewest_in_root family p) min_fill (height - 1) None None p (root_few family p) node.3.1;
       rising = rising_left family (entries p) [] rising;
     },
     sym (append-nil (entries p)),

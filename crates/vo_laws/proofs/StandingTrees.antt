@@ -19,12 +19,12 @@ use Rattle.vo_spec.specs.Parts.{entries}
 use Rattle.vo_spec.specs.Trees.{RowTree, key_in, row_family}
 use Rattle.vo_spec.specs.Inserts.{result_map, has_key, put_entry, inserted}
 use Rattle.vo_spec.specs.Removes.{without_entry, edit_entry, set_cells, set_row, removed, replaced}
-use Rattle.vo_spec.specs.Standing.{AreRising, StandsFor}
+use Rattle.vo_spec.specs.Standing.{AreRising, Represents}
 pub use Rattle.vo_laws.specs.Changing.{Inserts}
 use Rattle.vo_laws.specs.Changing.{Changes}
 use Rattle.vo_laws.proofs.ListLaws.{each_mapped}
 use Rattle.vo_laws.proofs.Growing.{keys_in, other_back}
-use Rattle.vo_laws.proofs.Grown.{TreeGrows, tree_grows}
+use Rattle.vo_laws.proofs.Insertion.{TreeGrows, tree_grows}
 use Rattle.vo_laws.proofs.Without.{whole_without}
 use Rattle.vo_laws.proofs.Shrunk.{TreeShrinks, tree_shrinks}
 use Rattle.vo_laws.proofs.Edited.{TreeEdits, tree_edits}
@@ -33,7 +33,7 @@ whole_has : (key : List ℕ) (rows : List Row) → has_key row_family key (map w
 whole_has key [] = refl
 whole_has key (r ∷ rows) = ap (λ b. bytes_eq r.key key || b) (whole_has key rows)
 
-has_in : (key : List ℕ) (t : RowTree) (rows : List Row) → StandsFor t rows → has_key row_family key (entries t) ≡ has_row key rows
+has_in : (key : List ℕ) (t : RowTree) (rows : List Row) → Represents t rows → has_key row_family key (entries t) ≡ has_row key rows
 has_in key t rows stands = ap (has_key row_family key) stands.rows_are ∙ whole_has key rows
 
 -- An insertion.
@@ -48,7 +48,7 @@ whole_put row (r ∷ rows) = step (key_lt row.key r.key) (whole_put row rows)
     step true rest = refl
     step false rest = ap (λ z. whole_entry r ∷ z) rest
 
-pub inserted_stands : (row : Row) (t : RowTree) (rows : List Row) → StandsFor t rows → Inserts row rows (inserted (whole_entry row) t)
+pub inserted_stands : (row : Row) (t : RowTree) (rows : List Row) → Represents t rows → Inserts row rows (inserted (whole_entry row) t)
 inserted_stands row t rows stands = step (inserted (whole_entry row) t) (tree_grows row_family (whole_entry row) t stands.tree)
   where
     has : has_key row_family row.key (entries t) ≡ has_row row.key rows
@@ -63,10 +63,10 @@ inserted_stands row t rows stands = step (inserted (whole_entry row) t) (tree_gr
 
 -- Changes of the row of a key.
 
-rows_rise : (t : RowTree) (rows : List Row) → StandsFor t rows → AreRising (keys_in row_family (map whole_entry rows))
+rows_rise : (t : RowTree) (rows : List Row) → Represents t rows → AreRising (keys_in row_family (map whole_entry rows))
 rows_rise t rows stands = subst (λ z. AreRising (keys_in row_family z)) stands.rows_are stands.tree.rising
 
-pub removed_stands : (key : List ℕ) (t : RowTree) (rows : List Row) → StandsFor t rows → Changes key rows (without_row key rows) (removed key t)
+pub removed_stands : (key : List ℕ) (t : RowTree) (rows : List Row) → Represents t rows → Changes key rows (without_row key rows) (removed key t)
 removed_stands key t rows stands = step (removed key t) (tree_shrinks row_family key t stands.tree)
   where
     has : has_key row_family key (entries t) ≡ has_row key rows
@@ -127,7 +127,7 @@ set_row_keeps changes e f is = step e.row is
         let same : record { key = e.key; row = Cells (set_cells changes cells) } ≡ f = cc in
         ap key_in (sym same)
 
-pub replaced_stands : (key : List ℕ) (changes : List CellChange) (t : RowTree) (rows : List Row) → StandsFor t rows
+pub replaced_stands : (key : List ℕ) (changes : List CellChange) (t : RowTree) (rows : List Row) → Represents t rows
     → Changes key rows (map (changed_row key changes) rows) (replaced key changes t)
 replaced_stands key changes t rows stands = step (replaced key changes t) (has_row key rows) refl edited (tree_edits row_family (set_row changes) (set_row_keeps changes) key t stands.tree)
   where

@@ -16,7 +16,7 @@ use Rattle.vo_spec.specs.declared.records.CatalogTable.{CatalogTable}
 use Rattle.vo_spec.specs.Firsts.{unless, and_then}
 use Rattle.vo_spec.specs.Bytes.{id_at}
 use Rattle.vo_spec.specs.Values.{key_of, key_lt}
-use Rattle.vo_spec.specs.Tables.{most_tables, heading_of, row_of, cell_changes, table_named, refusal, apply, apply_batch, tables_after}
+use Rattle.vo_spec.specs.Tables.{max_tables, table_header_of, row_of, cell_changes, table_named, refusal, apply, apply_batch, tables_after}
 use Rattle.vo_spec.specs.Batches.{FitsCommand, FitsBatch}
 use Rattle.vo_spec.specs.Records.{FitsSchema, FitsCatalogTable, FitsCatalog, FitsRecord, are_rising, catalog_digest}
 use Rattle.vo_spec.specs.Lms.{key_id}
@@ -26,12 +26,12 @@ use Rattle.vo_spec.specs.Parts.{stub, leaf, inner, entries, leaf_bytes}
 use Rattle.vo_spec.specs.Trees.{RowTree, row_family, digest}
 use Rattle.vo_spec.specs.Fits.{FitsKey, FitsRow, FitsTree}
 use Rattle.vo_spec.specs.Standing.{AreRising, IsTree, IsNode, fewest_in_root}
-use Rattle.vo_spec.specs.Honest.{Stored, StandForTables, put_stored, tree_after, with_tree, behind_stored, change_tree, changed_trees, work, work_all, after_work, honest_trees, catalog_of, honest_record}
+use Rattle.vo_spec.specs.Honest.{Stored, RepresentTables, put_stored, tree_after, with_tree, behind_stored, change_tree, changed_trees, work, work_all, after_work, honest_trees, catalog_of, honest_record}
 use Rattle.vo_laws.proofs.CommandLaws.{insertable, FitsTable, FitTables, names_of, each_filter}
 use Rattle.vo_laws.proofs.TreeFits.{Separated, SeparatedTree, KeyFits, tree_separated}
 use Rattle.vo_laws.proofs.ChangedFits.{removed_separated, replaced_separated}
 use Rattle.vo_laws.proofs.TreeLevels.{whole_fits}
-use Rattle.vo_laws.proofs.StandingLaws.{InStep, FitAfter, stored_headings, command_in_step, batch_in_step, InStepFrom, stands}
+use Rattle.vo_laws.proofs.StandingLaws.{InStep, FitAfter, stored_table_headers, command_in_step, batch_in_step, InStepFrom, stands}
 
 -- The separators of what is stored fit.
 
@@ -57,7 +57,7 @@ keys_fit : (rows : List Row) → AllByRecursion FitsRow rows → AllByRecursion 
 keys_fit [] all = tt
 keys_fit (row ∷ rows) all = (all.0.key, keys_fit rows all.1)
 
-change_separated : (c : Command) (name : List ℕ) (stored : List Stored) (tables : List Table) → StandForTables stored tables → AllByRecursion FitsTable tables
+change_separated : (c : Command) (name : List ℕ) (stored : List Stored) (tables : List Table) → RepresentTables stored tables → AllByRecursion FitsTable tables
     → ((s : Stored) (t : Table) → table_named name tables ≡ Some t → s.schema ≡ t.schema → AllByRecursion KeyFits (entries s.tree) → SeparatedIn s → SeparatedTree (tree_after c s))
     → AreSeparatedIn stored → SeparatedAfter (change_tree name c stored)
 change_separated c name [] [] zs fits keep all = tt
@@ -87,7 +87,7 @@ put_separated s (r ∷ stored) here all = step (key_lt s.name r.name) (put_separ
     step true rest = (here, all)
     step false rest = (all.0, rest)
 
-changed_separated : (c : Command) (stored : List Stored) (tables : List Table) → refusal c (map heading_of tables) ≡ None → StandForTables stored tables
+changed_separated : (c : Command) (stored : List Stored) (tables : List Table) → refusal c (map table_header_of tables) ≡ None → RepresentTables stored tables
     → FitTables tables → AreSeparatedIn stored → SeparatedAfter (changed_trees c stored)
 changed_separated (Create name columns key) stored tables e zs good all = put_separated _ stored tt all
 changed_separated (Drop name) stored tables e zs good all = each_filter SeparatedIn (λ (s : Stored). not (bytes_eq s.name name)) stored all
@@ -99,25 +99,25 @@ changed_separated (Update name sets column value) stored tables e zs good all =
 changed_separated (Delete name column value) stored tables e zs good all =
     change_separated (Delete name column value) name stored tables zs good.each (λ s t found same keys here. removed_separated (key_of value) s.tree keys here) all
 
-pub work_separated : (c : Command) (stored : List Stored) (tables : List Table) → StandForTables stored tables → FitTables tables → AreSeparatedIn stored
+pub work_separated : (c : Command) (stored : List Stored) (tables : List Table) → RepresentTables stored tables → FitTables tables → AreSeparatedIn stored
     → SeparatedAfter (work c stored)
 unfolding work
 work_separated c stored tables zs good all =
-    subst (λ hs. SeparatedAfter (and_then (changed_trees c) (unless (refusal c hs) stored))) (sym (stored_headings stored tables zs)) (step (refusal c (map heading_of tables)) refl)
+    subst (λ hs. SeparatedAfter (and_then (changed_trees c) (unless (refusal c hs) stored))) (sym (stored_table_headers stored tables zs)) (step (refusal c (map table_header_of tables)) refl)
   where
-    step : (r : Option CommandFault) → refusal c (map heading_of tables) ≡ r → SeparatedAfter (and_then (changed_trees c) (unless r stored))
+    step : (r : Option CommandFault) → refusal c (map table_header_of tables) ≡ r → SeparatedAfter (and_then (changed_trees c) (unless r stored))
     step None e = changed_separated c stored tables e zs good all
     step (Some fault) e = tt
 
 next_separated : (cs : List Command) (r : Result (List Stored) CommandFault) (s : Result (List Table) CommandFault) → InStep r s → FitAfter s → SeparatedAfter r
-    → ((stored : List Stored) (tables : List Table) → StandForTables stored tables → FitTables tables → AreSeparatedIn stored → SeparatedAfter (work_all cs stored))
+    → ((stored : List Stored) (tables : List Table) → RepresentTables stored tables → FitTables tables → AreSeparatedIn stored → SeparatedAfter (work_all cs stored))
     → SeparatedAfter (and_then (work_all cs) r)
 next_separated cs (Ok stored) (Ok tables) i good all next = next stored tables i good all
 next_separated cs (Ok stored) (Err fault) i good all next = absurd i
 next_separated cs (Err fault) s i good all next = tt
 
 pub batch_separated : (cs : List Command) (stored : List Stored) (tables : List Table) → AllByRecursion FitsCommand cs
-    → StandForTables stored tables → FitTables tables → AreSeparatedIn stored → SeparatedAfter (work_all cs stored)
+    → RepresentTables stored tables → FitTables tables → AreSeparatedIn stored → SeparatedAfter (work_all cs stored)
 batch_separated [] stored tables fits zs good all = all
 batch_separated (c ∷ cs) stored tables fits zs good all =
     let i = command_in_step c stored tables fits.0 zs good in
@@ -125,14 +125,14 @@ batch_separated (c ∷ cs) stored tables fits zs good all =
     (λ after others y g a. batch_separated cs after others fits.1 y g a)
 
 all_separated : (batches : List (List Command)) (stored : List Stored) (tables : List Table) → AllByRecursion FitsBatch batches
-    → StandForTables stored tables → FitTables tables → AreSeparatedIn stored → AreSeparatedIn (fold after_work stored batches)
+    → RepresentTables stored tables → FitTables tables → AreSeparatedIn stored → AreSeparatedIn (fold after_work stored batches)
 all_separated [] stored tables fits zs good all = all
 all_separated (batch ∷ batches) stored tables fits zs good all =
     next (work_all batch stored) (apply_batch batch tables) (batch_in_step 0 batch stored tables fits.0.each zs good) (batch_separated batch stored tables fits.0.each zs good all)
     (λ after others y g a. all_separated batches after others fits.1 y g a)
   where
     next : (r : Result (List Stored) CommandFault) (s : Result (List Table) (ℕ × CommandFault)) → InStepFrom r s → SeparatedAfter r
-        → ((after : List Stored) (others : List Table) → StandForTables after others → FitTables others → AreSeparatedIn after → AreSeparatedIn (fold after_work after batches))
+        → ((after : List Stored) (others : List Table) → RepresentTables after others → FitTables others → AreSeparatedIn after → AreSeparatedIn (fold after_work after batches))
         → AreSeparatedIn (fold after_work (result_unwrap_or r stored) batches)
     next (Ok after) (Ok others) i a f = f after others i.0 i.1 a
     next (Ok after) (Err fault) i a f = absurd i
@@ -144,7 +144,7 @@ honest_separated batches fits = all_separated batches [] [] fits tt (record { ea
 
 -- Trees.
 
-pub each_tree_fits : (stored : List Stored) (tables : List Table) → StandForTables stored tables → AllByRecursion FitsTable tables → AreSeparatedIn stored
+pub each_tree_fits : (stored : List Stored) (tables : List Table) → RepresentTables stored tables → AllByRecursion FitsTable tables → AreSeparatedIn stored
     → AllByRecursion (λ (s : Stored). FitsTree s.tree) stored
 each_tree_fits [] [] zs fits all = tt
 each_tree_fits [] (t ∷ tables) zs fits all = absurd zs
@@ -167,7 +167,7 @@ root_length t tree = step t (fewest_in_root row_family t) tree.height tree.shape
     step (leaf es) fewest height n = length-sha256 (leaf_bytes row_family es)
     step (inner ss ps) fewest height n = length-sha256 _
 
-each_catalog_fits : (stored : List Stored) (tables : List Table) → StandForTables stored tables → AllByRecursion FitsTable tables
+each_catalog_fits : (stored : List Stored) (tables : List Table) → RepresentTables stored tables → AllByRecursion FitsTable tables
     → AllByRecursion FitsCatalogTable (catalog_of stored).tables
 each_catalog_fits [] [] zs fits = tt
 each_catalog_fits [] (t ∷ tables) zs fits = absurd zs
@@ -183,7 +183,7 @@ each_catalog_fits (s ∷ stored) (t ∷ tables) zs fits =
       each_catalog_fits stored tables zs.1 fits.1,
     )
 
-names_same : (stored : List Stored) (tables : List Table) → StandForTables stored tables → map (λ (t : CatalogTable). t.name) (catalog_of stored).tables ≡ names_of tables
+names_same : (stored : List Stored) (tables : List Table) → RepresentTables stored tables → map (λ (t : CatalogTable). t.name) (catalog_of stored).tables ≡ names_of tables
 names_same [] [] zs = refl
 names_same [] (t ∷ tables) zs = absurd zs
 names_same (s ∷ stored) [] zs = absurd zs
@@ -194,15 +194,15 @@ rises [] r = refl
 rises (a ∷ []) r = refl
 rises (a ∷ b ∷ names) r = and_from (key_lt a b) (are_rising (b ∷ names)) r.0.0 (rises (b ∷ names) r.1)
 
-counted : (stored : List Stored) (tables : List Table) → StandForTables stored tables → length (catalog_of stored).tables ≡ length tables
+counted : (stored : List Stored) (tables : List Table) → RepresentTables stored tables → length (catalog_of stored).tables ≡ length tables
 counted [] [] zs = refl
 counted [] (t ∷ tables) zs = absurd zs
 counted (s ∷ stored) [] zs = absurd zs
 counted (s ∷ stored) (t ∷ tables) zs = ap suc (counted stored tables zs.1)
 
-pub catalog_fits : (stored : List Stored) (tables : List Table) → StandForTables stored tables → FitTables tables → FitsCatalog (catalog_of stored)
+pub catalog_fits : (stored : List Stored) (tables : List Table) → RepresentTables stored tables → FitTables tables → FitsCatalog (catalog_of stored)
 catalog_fits stored tables zs good = record {
-  count = subst (λ n. n ≤ most_tables) (sym (counted stored tables zs)) good.count;
+  count = subst (λ n. n ≤ max_tables) (sym (counted stored tables zs)) good.count;
   each = each_catalog_fits stored tables zs good.each;
   rising = subst (λ names. IsTrue (are_rising names)) (sym (names_same stored tables zs)) (rises (names_of tables) good.rising);
 }

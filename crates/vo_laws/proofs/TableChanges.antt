@@ -14,7 +14,7 @@ use Rattle.vo_spec.specs.declared.tables.Table.{Table}
 use Rattle.vo_spec.specs.declared.tables.SetPart.{SetPart}
 use Rattle.vo_spec.specs.declared.tables.Command.TheVariants.{Insert, Update}
 use Rattle.vo_spec.specs.Values.{kind_of, same_kind, key_lt, FitsValue}
-use Rattle.vo_spec.specs.Tables.{most_rows, column_at, column_number, cell_number, has_twice, are_of_kinds, heading_of, is_key, suits, update_tests, refusal, row_of, put_row, with_rows, CellChange, changed_cells, changed_row, cell_changes, without_row, table_named}
+use Rattle.vo_spec.specs.Tables.{max_rows, column_at, column_number, cell_number, has_twice, are_of_kinds, table_header_of, is_key, suits, update_tests, refusal, row_of, put_row, with_rows, CellChange, changed_cells, changed_row, cell_changes, without_row, table_named}
 use Rattle.vo_spec.specs.Batches.{FitCounted, FitsSet, FitsCommand}
 use Rattle.vo_spec.specs.Fits.{FitsRow}
 use Rattle.vo_spec.specs.Standing.{AreRising}
@@ -70,7 +70,7 @@ table_inserted : (values : List Value) (t : Table) → FitCounted FitsValue valu
     → FitsTable (record { name = t.name; schema = t.schema; rows = put_row (row_of t.schema values) t.rows })
 table_inserted values t fits is before =
     let longer : length (put_row (row_of t.schema values) t.rows) ≡ suc (length t.rows) = put_row_length (row_of t.schema values) t.rows in
-    let room : length t.rows < most_rows = is.room in
+    let room : length t.rows < max_rows = is.room in
     record {
       name = before.name;
       schema = before.schema;
@@ -80,13 +80,13 @@ table_inserted values t fits is before =
     }
 
 pub inserted_fit : (name : List ℕ) (values : List Value) (tables : List Table) → FitsCommand (Insert name values)
-    → refusal (Insert name values) (map heading_of tables) ≡ None → FitTables tables
+    → refusal (Insert name values) (map table_header_of tables) ≡ None → FitTables tables
     → FitTables (with_rows name (λ t. put_row (row_of t.schema values) t.rows) tables)
 unfolding FitsCommand
 inserted_fit name values tables fits e before =
     rows_changed_fit name (λ t. put_row (row_of t.schema values) t.rows) tables (λ t found is. table_inserted values t fits.1 (insertable name values tables e t found) is) before
 
--- What is known of an update that no heading refuses.
+-- What is known of an update that no table header refuses.
 
 abbrev pub SetFits : Schema → SetPart → Type 0
 SetFits schema s = (is_key schema s.column ≡ false) × (suits schema.columns s.column s.value ≡ true)
@@ -99,7 +99,7 @@ both_hold : {A : Type 0} (P Q : A → Type 0) (xs : List A) → AllByRecursion P
 both_hold P Q [] all others = tt
 both_hold P Q (x ∷ xs) all others = ((all.0, others.0), both_hold P Q xs all.1 others.1)
 
-pub updatable : (name : List ℕ) (sets : List SetPart) (column : List ℕ) (value : Value) (tables : List Table) → refusal (Update name sets column value) (map heading_of tables) ≡ None
+pub updatable : (name : List ℕ) (sets : List SetPart) (column : List ℕ) (value : Value) (tables : List Table) → refusal (Update name sets column value) (map table_header_of tables) ≡ None
     → (t : Table) → table_named name tables ≡ Some t → AllByRecursion (SetFits t.schema) sets
 updatable name sets column value tables e t found =
     let tests = tests_fail name (update_tests sets column value) tables e t found in

@@ -25,9 +25,9 @@ use Rattle.vo_spec.specs.Parts.{leaf}
 use Rattle.vo_spec.specs.Trees.{RowTree}
 use Rattle.vo_spec.specs.Inserts.{inserted}
 use Rattle.vo_spec.specs.Removes.{removed, replaced}
-use Rattle.vo_spec.specs.Standing.{AreRising, StandsFor}
+use Rattle.vo_spec.specs.Standing.{AreRising, Represents}
 use Rattle.vo_spec.specs.Checks.{key_kind}
-use Rattle.vo_spec.specs.Honest.{Stored, StandsForTable, StandForTables, put_stored, row_refusal, tree_after, with_tree, behind_stored, change_tree}
+use Rattle.vo_spec.specs.Honest.{Stored, RepresentsTable, RepresentTables, put_stored, row_refusal, tree_after, with_tree, behind_stored, change_tree}
 use Rattle.vo_laws.proofs.ListLaws.{each_weaker, each_map}
 use Rattle.vo_laws.specs.Changing.{Changes}
 use Rattle.vo_laws.proofs.StandingTrees.{Inserts, inserted_stands, removed_stands, replaced_stands}
@@ -37,29 +37,29 @@ use Rattle.vo_laws.proofs.TableChanges.{others_kept}
 
 -- Both go on in step, or both refuse for one reason.
 abbrev pub InStep : Result (List Stored) CommandFault → Result (List Table) CommandFault → Type 0
-InStep (Ok stored) (Ok tables) = StandForTables stored tables
+InStep (Ok stored) (Ok tables) = RepresentTables stored tables
 InStep (Ok stored) (Err fault) = ⊥
 InStep (Err fault) (Ok tables) = ⊥
 InStep (Err fault) (Err other) = fault ≡ other
 
 -- A table is made, or dropped.
 
-pub create_in_step : (s : Stored) (t : Table) (stored : List Stored) (tables : List Table) → StandsForTable s t → StandForTables stored tables → StandForTables (put_stored s stored) (put_table t tables)
+pub create_in_step : (s : Stored) (t : Table) (stored : List Stored) (tables : List Table) → RepresentsTable s t → RepresentTables stored tables → RepresentTables (put_stored s stored) (put_table t tables)
 create_in_step s t [] [] z zs = (z, tt)
 create_in_step s t [] (u ∷ tables) z zs = absurd zs
 create_in_step s t (r ∷ stored) [] z zs = absurd zs
 create_in_step s t (r ∷ stored) (u ∷ tables) z zs =
     step (key_lt s.name r.name) (key_lt t.name u.name) (ap (λ n. key_lt n r.name) z.name ∙ ap (key_lt t.name) zs.0.name) (create_in_step s t stored tables z zs.1)
   where
-    step : (b c : Bool) → b ≡ c → StandForTables (put_stored s stored) (put_table t tables)
-        → StandForTables (cond b (s ∷ r ∷ stored) (r ∷ put_stored s stored)) (cond c (t ∷ u ∷ tables) (u ∷ put_table t tables))
+    step : (b c : Bool) → b ≡ c → RepresentTables (put_stored s stored) (put_table t tables)
+        → RepresentTables (cond b (s ∷ r ∷ stored) (r ∷ put_stored s stored)) (cond c (t ∷ u ∷ tables) (u ∷ put_table t tables))
     step true true e rest = (z, (zs.0, zs.1))
     step true false e rest = absurd (cc)
     step false true e rest = absurd (cc)
     step false false e rest = (zs.0, rest)
 
 pub made_stands : (name : List ℕ) (columns : List Column) (key : List ℕ)
-    → StandsForTable (record { name = name; schema = record { columns = columns; key = column_number columns key }; tree = leaf [] })
+    → RepresentsTable (record { name = name; schema = record { columns = columns; key = column_number columns key }; tree = leaf [] })
     (record { name = name; schema = record { columns = columns; key = column_number columns key }; rows = [] })
 made_stands name columns key = record { name = refl; schema = refl; stands = nothing_stands; keys = tt }
 
@@ -67,21 +67,21 @@ made_stands name columns key = record { name = refl; schema = refl; stands = not
 
 -- why the table refuses the change, if it does; and what the change makes of its tree
 abbrev Follows : Table → List Row → Option CommandFault → Result RowTree UpdateFault → Type 0
-Follows t after None (Ok u) = StandsFor u after × AllByRecursion (λ (row : Row). IsKeyOf (key_kind t.schema) row.key) after
+Follows t after None (Ok u) = Represents u after × AllByRecursion (λ (row : Row). IsKeyOf (key_kind t.schema) row.key) after
 Follows t after None (Err fault) = ⊥
 Follows t after (Some why) (Ok u) = ⊥
 Follows t after (Some why) (Err fault) = row_refusal fault ≡ why
 
 here_in_step : (s : Stored) (t : Table) (after : List Row) (stored : List Stored) (tables others : List Table) (r : Result RowTree UpdateFault) (why : Option CommandFault)
-    → StandsForTable s t → StandForTables stored tables → others ≡ tables → Follows t after why r
+    → RepresentsTable s t → RepresentTables stored tables → others ≡ tables → Follows t after why r
     → InStep (with_tree s stored r) (unless why (record { name = t.name; schema = t.schema; rows = after } ∷ others))
 here_in_step s t after stored tables others (Ok u) None z zs e f =
-    (record { name = z.name; schema = z.schema; stands = f.0; keys = f.1 }, subst (StandForTables stored) (sym e) zs)
+    (record { name = z.name; schema = z.schema; stands = f.0; keys = f.1 }, subst (RepresentTables stored) (sym e) zs)
 here_in_step s t after stored tables others (Ok u) (Some why) z zs e f = absurd f
 here_in_step s t after stored tables others (Err fault) None z zs e f = absurd f
 here_in_step s t after stored tables others (Err fault) (Some why) z zs e f = f
 
-behind_in_step : (s : Stored) (t : Table) (r : Result (List Stored) CommandFault) (why : Option CommandFault) (tables : List Table) → StandsForTable s t
+behind_in_step : (s : Stored) (t : Table) (r : Result (List Stored) CommandFault) (why : Option CommandFault) (tables : List Table) → RepresentsTable s t
     → InStep r (unless why tables) → InStep (behind_stored s r) (unless why (t ∷ tables))
 behind_in_step s t (Ok stored) None tables z i = (z, i)
 behind_in_step s t (Ok stored) (Some why) tables z i = absurd i
@@ -92,8 +92,8 @@ module _ (c : Command) (name : List ℕ) (after : Table → List Row) (why : Tab
   abbrev refused : Option Table → Option CommandFault
   refused found = option_map_or why found None
 
-  change_in_step : (stored : List Stored) (tables : List Table) → StandForTables stored tables → AreRising (names_of tables)
-      → ((s : Stored) (t : Table) → table_named name tables ≡ Some t → StandsForTable s t → Follows t (after t) (why t) (tree_after c s))
+  change_in_step : (stored : List Stored) (tables : List Table) → RepresentTables stored tables → AreRising (names_of tables)
+      → ((s : Stored) (t : Table) → table_named name tables ≡ Some t → RepresentsTable s t → Follows t (after t) (why t) (tree_after c s))
       → InStep (change_tree name c stored) (unless (refused (table_named name tables)) (with_rows name after tables))
   change_in_step [] [] zs rising follows = tt
   change_in_step [] (t ∷ tables) zs rising follows = absurd zs
@@ -102,8 +102,8 @@ module _ (c : Command) (name : List ℕ) (after : Table → List Row) (why : Tab
       step (bytes_eq s.name name) (bytes_eq t.name name) (ap (λ n. bytes_eq n name) zs.0.name) refl follows (change_in_step stored tables zs.1 rising.1)
     where
       step : (b d : Bool) → b ≡ d → bytes_eq t.name name ≡ d
-          → ((r : Stored) (u : Table) → cond d (Some t) (table_named name tables) ≡ Some u → StandsForTable r u → Follows u (after u) (why u) (tree_after c r))
-          → (((r : Stored) (u : Table) → table_named name tables ≡ Some u → StandsForTable r u → Follows u (after u) (why u) (tree_after c r))
+          → ((r : Stored) (u : Table) → cond d (Some t) (table_named name tables) ≡ Some u → RepresentsTable r u → Follows u (after u) (why u) (tree_after c r))
+          → (((r : Stored) (u : Table) → table_named name tables ≡ Some u → RepresentsTable r u → Follows u (after u) (why u) (tree_after c r))
           → InStep (change_tree name c stored) (unless (refused (table_named name tables)) (with_rows name after tables)))
           → InStep (cond b (with_tree s stored (tree_after c s)) (behind_stored s (change_tree name c stored)))
           (unless (refused (cond d (Some t) (table_named name tables))) (cond d (record { name = t.name; schema = t.schema; rows = after t }) t ∷ with_rows name after tables))
@@ -129,7 +129,7 @@ put_follows t row (Err NoRow) keys key i = absurd i
 put_follows t row (Err Missing) keys key i = absurd i
 put_follows t row (Err Memory) keys key i = absurd i
 
-pub insert_in_step : (name : List ℕ) (values : List Value) (stored : List Stored) (tables : List Table) → StandForTables stored tables → AreRising (names_of tables)
+pub insert_in_step : (name : List ℕ) (values : List Value) (stored : List Stored) (tables : List Table) → RepresentTables stored tables → AreRising (names_of tables)
     → ((t : Table) → table_named name tables ≡ Some t → IsKeyOf (key_kind t.schema) (row_of t.schema values).key)
     → InStep (change_tree name (Insert name values) stored)
     (cond (is_doubled values (table_named name tables)) (Err command.DuplicateKey) (Ok (with_rows name (λ t. put_row (row_of t.schema values) t.rows) tables)))
@@ -186,7 +186,7 @@ changed_keys kind key changes rows all =
     each_map (λ (row : Row). IsKeyOf kind row.key) (changed_row key changes) rows
     (each_weaker (λ (row : Row). IsKeyOf kind row.key) (λ row. IsKeyOf kind (changed_row key changes row).key) (key_kept kind key changes) rows all)
 
-pub update_in_step : (name : List ℕ) (sets : List SetPart) (column : List ℕ) (value : Value) (stored : List Stored) (tables : List Table) → StandForTables stored tables
+pub update_in_step : (name : List ℕ) (sets : List SetPart) (column : List ℕ) (value : Value) (stored : List Stored) (tables : List Table) → RepresentTables stored tables
     → AreRising (names_of tables) → is_some (table_named name tables) ≡ true
     → InStep (change_tree name (Update name sets column value) stored)
     (cond (has_row (key_of value) (rows_named name tables)) (Ok (with_rows name (λ t. map (changed_row (key_of value) (cell_changes t.schema sets)) t.rows) tables)) (Err command.NoRow))
@@ -199,7 +199,7 @@ update_in_step name sets column value stored tables zs rising there =
     (subst (λ sch. Changes (key_of value) t.rows (map (changed_row (key_of value) (cell_changes t.schema sets)) t.rows) (replaced (key_of value) (cell_changes sch sets) s.tree)) (sym z.schema)
     (replaced_stands (key_of value) (cell_changes t.schema sets) s.tree t.rows z.stands))))
 
-pub delete_in_step : (name column : List ℕ) (value : Value) (stored : List Stored) (tables : List Table) → StandForTables stored tables
+pub delete_in_step : (name column : List ℕ) (value : Value) (stored : List Stored) (tables : List Table) → RepresentTables stored tables
     → AreRising (names_of tables) → is_some (table_named name tables) ≡ true
     → InStep (change_tree name (Delete name column value) stored)
     (cond (has_row (key_of value) (rows_named name tables)) (Ok (with_rows name (λ t. without_row (key_of value) t.rows) tables)) (Err command.NoRow))

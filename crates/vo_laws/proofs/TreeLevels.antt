@@ -13,8 +13,8 @@ use Rattle.vo_spec.specs.Cells.{whole_cells, whole_entry}
 use Rattle.vo_spec.specs.Parts.{Part, Parts, Family, stub, leaf, inner, none, more, count, entries, entries_in, levels, levels_in}
 use Rattle.vo_spec.specs.Trees.{RowTree, row_family}
 use Rattle.vo_spec.specs.Fits.{FitsCell, FitsEntry, FitsRow, FitsTree}
-use Rattle.vo_spec.specs.Inserts.{half}
-use Rattle.vo_spec.specs.Standing.{IsNode, AreNodes, fewest_in_root, StandsFor}
+use Rattle.vo_spec.specs.Inserts.{min_fill}
+use Rattle.vo_spec.specs.Standing.{IsNode, AreNodes, fewest_in_root, Represents}
 use Rattle.vo_laws.proofs.TreeFits.{Separated, node_fits}
 
 -- how many entries a node has at least that isn't the root, so many levels above its leaves
@@ -31,12 +31,12 @@ least_above zero = omega arith
 least_above (suc d) =
     let next : 10 + suc d ≡ suc (10 + d) = omega arith in
     let below : least 10 ≤ least (10 + d) = least_above d in
-    let grown : least (10 + suc d) ≡ 8 * least (10 + d) = ap least next in
+    let insertion : least (10 + suc d) ≡ 8 * least (10 + d) = ap least next in
     omega arith
 
 module _ {E M : Type 0} (family : Family E M) where
   mutual
-    node_holds : (fewest height : ℕ) (lower upper : Option (List ℕ)) (t : Part E M) → half ≤ fewest → IsNode family fewest height lower upper t
+    node_holds : (fewest height : ℕ) (lower upper : Option (List ℕ)) (t : Part E M) → min_fill ≤ fewest → IsNode family fewest height lower upper t
         → least height ≤ length (entries t)
     node_holds fewest height lower upper (stub d) few n = absurd n
     node_holds fewest height lower upper (leaf es) few n = let zero_is : least height ≡ 8 = ap least n.0 in omega (arith, n.1)
@@ -49,11 +49,11 @@ module _ {E M : Type 0} (family : Family E M) where
         → count ps * least height ≤ length (entries_in ps)
     nodes_hold height lower upper ss none n = absurd n
     nodes_hold height lower upper [] (more m p none) n =
-        let here : least height ≤ length (entries p) = node_holds half height lower upper p (omega arith) n.1 in
+        let here : least height ≤ length (entries p) = node_holds min_fill height lower upper p (omega arith) n.1 in
         omega (arith, length-append (entries p) [])
     nodes_hold height lower upper [] (more m p (more o q ps)) n = absurd n
     nodes_hold height lower upper (s ∷ ss) (more m p ps) n =
-        let here : least height ≤ length (entries p) = node_holds half height lower (Some s) p (omega arith) n.2 in
+        let here : least height ≤ length (entries p) = node_holds min_fill height lower (Some s) p (omega arith) n.2 in
         let rest : count ps * least height ≤ length (entries_in ps) = nodes_hold height (Some s) upper ss ps n.3 in
         omega (arith, length-append (entries p) (entries_in ps))
 
@@ -68,10 +68,10 @@ module _ {E M : Type 0} (family : Family E M) where
     nodes_levels : (height : ℕ) (lower upper : Option (List ℕ)) (ss : List (List ℕ)) (ps : Parts E M) → AreNodes family height lower upper ss ps
         → levels_in ps ≡ height + 1
     nodes_levels height lower upper ss none n = absurd n
-    nodes_levels height lower upper [] (more m p none) n = let here : levels p ≡ height + 1 = node_levels half height lower upper p n.1 in omega arith
+    nodes_levels height lower upper [] (more m p none) n = let here : levels p ≡ height + 1 = node_levels min_fill height lower upper p n.1 in omega arith
     nodes_levels height lower upper [] (more m p (more o q ps)) n = absurd n
     nodes_levels height lower upper (s ∷ ss) (more m p ps) n =
-        let here : levels p ≡ height + 1 = node_levels half height lower (Some s) p n.2 in
+        let here : levels p ≡ height + 1 = node_levels min_fill height lower (Some s) p n.2 in
         let rest : levels_in ps ≡ height + 1 = nodes_levels height (Some s) upper ss ps n.3 in
         omega arith
 
@@ -110,7 +110,7 @@ each_entry_fits [] all = tt
 each_entry_fits (row ∷ rows) all = (entry_fits row all.0, each_entry_fits rows all.1)
 
 -- A whole tree of rows that fit, with separators that fit, is within the limits of a tree.
-pub whole_fits : (t : RowTree) (rows : List Row) → StandsFor t rows → Separated t → AllByRecursion FitsRow rows → length rows < 2 ^ 32 → FitsTree t
+pub whole_fits : (t : RowTree) (rows : List Row) → Represents t rows → Separated t → AllByRecursion FitsRow rows → length rows < 2 ^ 32 → FitsTree t
 whole_fits t rows stands separated fits few =
     let same : length (entries t) ≡ length rows = ap length stands.rows_are ∙ length-map rows whole_entry in
     let low : stands.tree.height ≤ 10 = root_low row_family (fewest_in_root row_family t) stands.tree.height None None t (omega arith) stands.tree.shape (omega arith) in

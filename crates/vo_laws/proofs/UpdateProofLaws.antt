@@ -6,11 +6,11 @@ use Rattle.vo_spec.specs.declared.trees.UpdateFault.TheVariants.{DuplicateKey, N
 use Rattle.vo_spec.specs.Tables.{CellChange, without_row, changed_row}
 use Rattle.vo_spec.specs.Cells.{whole_entry}
 use Rattle.vo_spec.specs.Trees.{RowTree, row_family}
-use Rattle.vo_spec.specs.Inserts.{inserted, insert_misses, insert_goes_beyond, insert_proof}
+use Rattle.vo_spec.specs.Inserts.{inserted, insert_is_missing, insert_has_surplus, insert_proof}
 use Rattle.vo_spec.specs.Removes.{settled_root, shrink, removed, replaced, remove_proof, replace_proof}
-use Rattle.vo_spec.specs.Standing.{StandsFor}
+use Rattle.vo_spec.specs.Standing.{Represents}
 use Rattle.vo_laws.specs.Changing.{Changes, Inserts}
-use Rattle.vo_laws.specs.UpdateProofs.{lacks, replace_misses, replace_goes_beyond, remove_misses, remove_goes_beyond, IsUpdateProof}
+use Rattle.vo_laws.specs.UpdateProofs.{lacks, replace_is_missing, replace_has_surplus, remove_is_missing, remove_has_surplus, IsUpdateProof}
 use Rattle.vo_laws.proofs.PrunedLaws.{insert_prunes, insert_bare, insert_complete}
 use Rattle.vo_laws.proofs.StandingTrees.{inserted_stands, removed_stands, replaced_stands}
 use Rattle.vo_laws.proofs.PathProofs.{lacks_map, insertion_lacks, replace_prunes, replace_bare, replacement_lacks}
@@ -34,36 +34,36 @@ change_there key before after (Err Memory) is = refl
 
 -- So nothing is on its proof.
 
-pub insertion_works : (row : Row) (t : RowTree) (rows : List Row) → StandsFor t rows → lacks (inserted (whole_entry row) (insert_proof row.key t)) ≡ false
+pub insertion_works : (row : Row) (t : RowTree) (rows : List Row) → Represents t rows → lacks (inserted (whole_entry row) (insert_proof row.key t)) ≡ false
 insertion_works row t rows stands =
     insertion_lacks (whole_entry row) t ∙ insert_there row rows (inserted (whole_entry row) t) (inserted_stands row t rows stands)
 
-pub replacement_works : (key : List ℕ) (changes : List CellChange) (t : RowTree) (rows : List Row) → StandsFor t rows → lacks (replaced key changes (replace_proof key t)) ≡ false
+pub replacement_works : (key : List ℕ) (changes : List CellChange) (t : RowTree) (rows : List Row) → Represents t rows → lacks (replaced key changes (replace_proof key t)) ≡ false
 replacement_works key changes t rows stands =
     replacement_lacks key changes t ∙ change_there key rows (map (changed_row key changes) rows) (replaced key changes t) (replaced_stands key changes t rows stands)
 
-pub removal_works : (key : List ℕ) (t : RowTree) (rows : List Row) → StandsFor t rows → lacks (removed key (remove_proof key t)) ≡ false
+pub removal_works : (key : List ℕ) (t : RowTree) (rows : List Row) → Represents t rows → lacks (removed key (remove_proof key t)) ≡ false
 removal_works key t rows stands =
     removal_lacks key t ∙ change_there key rows (without_row key rows) (removed key t) (removed_stands key t rows stands)
 
-pub insertion_proved : (key : List ℕ) (t : RowTree) (rows : List Row) → StandsFor t rows → IsUpdateProof (insert_misses key) (insert_goes_beyond key) t (insert_proof key t)
+pub insertion_proved : (key : List ℕ) (t : RowTree) (rows : List Row) → Represents t rows → IsUpdateProof (insert_is_missing key) (insert_has_surplus key) t (insert_proof key t)
 insertion_proved key t rows stands = record {
   prunes = insert_prunes key t;
   complete = insert_complete key t stands.tree;
-  bare = insert_bare key t;
+  minimal = insert_bare key t;
 }
 
-pub replacement_proved : (key : List ℕ) (t : RowTree) (rows : List Row) → StandsFor t rows → IsUpdateProof (replace_misses key) (replace_goes_beyond key) t (replace_proof key t)
+pub replacement_proved : (key : List ℕ) (t : RowTree) (rows : List Row) → Represents t rows → IsUpdateProof (replace_is_missing key) (replace_has_surplus key) t (replace_proof key t)
 replacement_proved key t rows stands = record {
   prunes = replace_prunes key t;
   complete = replacement_works key [] t rows stands;
-  bare = replace_bare key t;
+  minimal = replace_bare key t;
 }
 
-pub removal_proved : (key : List ℕ) (t : RowTree) (rows : List Row) → StandsFor t rows → IsUpdateProof (remove_misses key) (remove_goes_beyond key) t (remove_proof key t)
+pub removal_proved : (key : List ℕ) (t : RowTree) (rows : List Row) → Represents t rows → IsUpdateProof (remove_is_missing key) (remove_has_surplus key) t (remove_proof key t)
 removal_proved key t rows stands = record {
   prunes = remove_prunes key t;
   complete =
       shrink_lacks key t ∙ sym (lacks_map settled_root (shrink row_family key t)) ∙ change_there key rows (without_row key rows) (removed key t) (removed_stands key t rows stands);
-  bare = remove_bare key t;
+  minimal = remove_bare key t;
 }

@@ -36,14 +36,14 @@ int_greater a b lt = by_ranked (a <ℤ b) (a ≡ b) (b <ℤ a) (int_cmp a b) (in
 -- Byte strings of one length are in the order of the numbers that they spell, the highest byte first.
 
 -- the number that the bytes spell behind these that were read
-abbrev spelled : ℕ → List ℕ → ℕ
-spelled n [] = n
-spelled n (b ∷ bytes) = spelled (n * 256 + b) bytes
+abbrev encoded : ℕ → List ℕ → ℕ
+encoded n [] = n
+encoded n (b ∷ bytes) = encoded (n * 256 + b) bytes
 
 abbrev AreBytes : List ℕ → Type 0
 AreBytes = AllByRecursion (λ b. b < 256)
 
-ahead : (m n : ℕ) (xs ys : List ℕ) → AreBytes xs → length xs ≡ length ys → m < n → spelled m xs < spelled n ys
+ahead : (m n : ℕ) (xs ys : List ℕ) → AreBytes xs → length xs ≡ length ys → m < n → encoded m xs < encoded n ys
 ahead m n [] [] all len lt = lt
 ahead m n [] (y ∷ ys) all len lt = absurd (omega arith)
 ahead m n (x ∷ xs) [] all len lt = absurd (omega arith)
@@ -52,7 +52,7 @@ ahead m n (x ∷ xs) (y ∷ ys) all len lt =
     ahead (m * 256 + x) (n * 256 + y) xs ys all.1 (omega arith) (omega arith)
 
 in_order : (n : ℕ) (xs ys : List ℕ) → AreBytes xs → AreBytes ys → length xs ≡ length ys
-    → slice_cmp nat_cmp xs ys ≡ nat_cmp (spelled n xs) (spelled n ys)
+    → slice_cmp nat_cmp xs ys ≡ nat_cmp (encoded n xs) (encoded n ys)
 in_order n [] [] p q len = sym (same n)
   where
     same : (k : ℕ) → nat_cmp k k ≡ Equal
@@ -65,23 +65,23 @@ in_order n (x ∷ xs) (y ∷ ys) p q len =
     rest : length xs ≡ length ys
     rest = omega arith
 
-    below : nat_cmp x y ≡ Less → x < y → ordering_then (nat_cmp x y) (slice_cmp nat_cmp xs ys) ≡ nat_cmp (spelled n (x ∷ xs)) (spelled n (y ∷ ys))
-    below e lt = rw (e, nat_less (spelled n (x ∷ xs)) (spelled n (y ∷ ys)) (ahead (n * 256 + x) (n * 256 + y) xs ys p.1 rest (omega arith))) refl
+    below : nat_cmp x y ≡ Less → x < y → ordering_then (nat_cmp x y) (slice_cmp nat_cmp xs ys) ≡ nat_cmp (encoded n (x ∷ xs)) (encoded n (y ∷ ys))
+    below e lt = rw (e, nat_less (encoded n (x ∷ xs)) (encoded n (y ∷ ys)) (ahead (n * 256 + x) (n * 256 + y) xs ys p.1 rest (omega arith))) refl
 
-    above : nat_cmp x y ≡ Greater → y < x → ordering_then (nat_cmp x y) (slice_cmp nat_cmp xs ys) ≡ nat_cmp (spelled n (x ∷ xs)) (spelled n (y ∷ ys))
-    above e lt = rw (e, nat_greater (spelled n (x ∷ xs)) (spelled n (y ∷ ys)) (ahead (n * 256 + y) (n * 256 + x) ys xs q.1 (sym rest) (omega arith))) refl
+    above : nat_cmp x y ≡ Greater → y < x → ordering_then (nat_cmp x y) (slice_cmp nat_cmp xs ys) ≡ nat_cmp (encoded n (x ∷ xs)) (encoded n (y ∷ ys))
+    above e lt = rw (e, nat_greater (encoded n (x ∷ xs)) (encoded n (y ∷ ys)) (ahead (n * 256 + y) (n * 256 + x) ys xs q.1 (sym rest) (omega arith))) refl
 
-    equal : slice_cmp nat_cmp xs ys ≡ nat_cmp (spelled (n * 256 + x) xs) (spelled (n * 256 + x) ys)
-        → nat_cmp x y ≡ Equal → x ≡ y → ordering_then (nat_cmp x y) (slice_cmp nat_cmp xs ys) ≡ nat_cmp (spelled n (x ∷ xs)) (spelled n (y ∷ ys))
+    equal : slice_cmp nat_cmp xs ys ≡ nat_cmp (encoded (n * 256 + x) xs) (encoded (n * 256 + x) ys)
+        → nat_cmp x y ≡ Equal → x ≡ y → ordering_then (nat_cmp x y) (slice_cmp nat_cmp xs ys) ≡ nat_cmp (encoded n (x ∷ xs)) (encoded n (y ∷ ys))
     equal more e same = rw (e, ← same) more
 
-eight_spell : (a b c d e f g h : ℕ)
-    → spelled 0 (a ∷ b ∷ c ∷ d ∷ e ∷ f ∷ g ∷ h ∷ []) ≡ from_be_bytes w64 (a ∷ b ∷ c ∷ d ∷ e ∷ f ∷ g ∷ h ∷ [])
-eight_spell a b c d e f g h = omega arith
+eight_encode : (a b c d e f g h : ℕ)
+    → encoded 0 (a ∷ b ∷ c ∷ d ∷ e ∷ f ∷ g ∷ h ∷ []) ≡ from_be_bytes w64 (a ∷ b ∷ c ∷ d ∷ e ∷ f ∷ g ∷ h ∷ [])
+eight_encode a b c d e f g h = omega arith
 
-number_spelled : (n : ℕ) → n < 2 ^ 64 → spelled 0 (u64_bytes n) ≡ n
+number_encoded : (n : ℕ) → n < 2 ^ 64 → encoded 0 (u64_bytes n) ≡ n
 unfolding u64_bytes
-number_spelled n lt = eight_spell _ _ _ _ _ _ _ _ ∙ from_be_bytes-to_be_bytes_8 n lt
+number_encoded n lt = eight_encode _ _ _ _ _ _ _ _ ∙ from_be_bytes-to_be_bytes_8 n lt
 
 number_bytes : (n : ℕ) → AreBytes (u64_bytes n)
 unfolding u64_bytes
@@ -94,7 +94,7 @@ number_length n = refl
 numbers_in_order : (a b : ℕ) → a < 2 ^ 64 → b < 2 ^ 64 → slice_cmp nat_cmp (u64_bytes a) (u64_bytes b) ≡ nat_cmp a b
 numbers_in_order a b la lb =
     in_order 0 (u64_bytes a) (u64_bytes b) (number_bytes a) (number_bytes b) (number_length a ∙ sym (number_length b))
-    ∙ ap (λ x. nat_cmp x (spelled 0 (u64_bytes b))) (number_spelled a la) ∙ ap (λ y. nat_cmp a y) (number_spelled b lb)
+    ∙ ap (λ x. nat_cmp x (encoded 0 (u64_bytes b))) (number_encoded a la) ∙ ap (λ y. nat_cmp a y) (number_encoded b lb)
 
 -- Integers with their sign bit flipped.
 

@@ -5,8 +5,8 @@ use Rattle.std.specs.Prelude.{not, slice_get, drop, flat_map}
 use Rattle.std.specs.List.{list_any, AllByRecursion, AllZip}
 use Rattle.std.proofs.lemmas.Bool.{or_from, or_parts, not-false, not_from_true}
 use Rattle.vo_spec.specs.Parts.{Part, Parts, stub, leaf, inner, none, more, Family, count, entries, entries_in, digest_by, child_bytes, PrunesBy, PrunesEach}
-use Rattle.vo_spec.specs.Pruned.{Walk, misses, misses_in, goes_beyond, goes_beyond_in, pruned_by, pruned_in}
-use Rattle.vo_spec.specs.Inserts.{half}
+use Rattle.vo_spec.specs.Pruned.{Walk, is_missing_by, is_missing_in, has_surplus_by, has_surplus_in, pruned_by, pruned_in}
+use Rattle.vo_spec.specs.Inserts.{min_fill}
 use Rattle.vo_spec.specs.Standing.{IsNode, AreNodes}
 use Rattle.vo_laws.proofs.ListLaws.{each_left, each_right, each_both}
 
@@ -99,7 +99,7 @@ module _ {E M S : Type 0} (walk : Walk E S) (family : Family E M) (Narrows : E �
   stub_is s d (inner ss ps) shut same = rw shut (ap stub same)
 
   mutual
-    pub only_part : ShowsJustThat → (s : S) (p t : Part E M) → misses walk s p ≡ false → goes_beyond walk s p ≡ false → PrunesBy family Narrows p t
+    pub only_part : ShowsJustThat → (s : S) (p t : Part E M) → is_missing_by walk s p ≡ false → has_surplus_by walk s p ≡ false → PrunesBy family Narrows p t
         → p ≡ pruned_by walk family s t
     only_part just s (stub d) t m b z = stub_is s d t m z
     only_part just s (leaf es) (stub d) m b z = absurd z
@@ -111,12 +111,12 @@ module _ {E M S : Type 0} (walk : Walk E S) (family : Family E M) (Narrows : E �
     only_part just s (inner ss ps) (stub d) m b z = absurd z
     only_part just s (inner ss ps) (leaf es) m b z = absurd z
     only_part just s (inner ss ps) (inner ts qs) m b z =
-        let o = or_parts (not (walk.opens s)) (goes_beyond_in walk s None ss ps) b in
+        let o = or_parts (not (walk.opens s)) (has_surplus_in walk s None ss ps) b in
         let open_here : walk.opens s ≡ true = not-false (walk.opens s) o.0 in
         rw open_here (ap (inner ss) (only_parts just s None ss ps qs m o.1 z.1) ∙ ap (λ us. inner us (pruned_in walk family s None us qs)) z.0)
 
     only_parts : ShowsJustThat → (s : S) (lower : Option (List ℕ)) (ss : List (List ℕ)) (ps qs : Parts E M)
-        → misses_in walk s lower ss ps ≡ false → goes_beyond_in walk s lower ss ps ≡ false → PrunesEach family Narrows ps qs
+        → is_missing_in walk s lower ss ps ≡ false → has_surplus_in walk s lower ss ps ≡ false → PrunesEach family Narrows ps qs
         → ps ≡ pruned_in walk family s lower ss qs
     only_parts just s lower ss none none m b z = refl
     only_parts just s lower ss none (more n q qs) m b z = absurd z
@@ -124,8 +124,8 @@ module _ {E M S : Type 0} (walk : Walk E S) (family : Family E M) (Narrows : E �
     only_parts just s lower ss (more k p ps) (more n q qs) m b z =
         let onward = walk.onward s lower (slice_get ss 0) in
         let past = walk.past s lower (slice_get ss 0) in
-        let l = or_parts (misses walk onward p) (misses_in walk past (slice_get ss 0) (drop 1 ss) ps) m in
-        let o = or_parts (goes_beyond walk onward p) (goes_beyond_in walk past (slice_get ss 0) (drop 1 ss) ps) b in
+        let l = or_parts (is_missing_by walk onward p) (is_missing_in walk past (slice_get ss 0) (drop 1 ss) ps) m in
+        let o = or_parts (has_surplus_by walk onward p) (has_surplus_in walk past (slice_get ss 0) (drop 1 ss) ps) b in
         rw (z.0, only_part just onward p q l.0 o.0 z.1, only_parts just past (slice_get ss 0) (drop 1 ss) ps qs l.1 o.1 z.2) refl
 
 -- What holds of the entries that a walk shows, and that what it has open lacks nothing and shows no more.
@@ -167,40 +167,40 @@ module _ {E M S : Type 0} (walk : Walk E S) (family : Family E M) where
   none_lacks (e ∷ es) all = or_from (walk.lacks (walk.shown e)) (list_any walk.lacks (map walk.shown es)) all.0 (none_lacks es all.1)
 
   leaf_complete : (s : S) (es : List E) → AllByRecursion (λ (e : E). walk.lacks (walk.shown e) ≡ false) es
-      → misses walk s (cond {A = Part E M} (walk.opens s) (leaf (map walk.shown es)) (stub (digest_by family (leaf es)))) ≡ false
+      → is_missing_by walk s (cond {A = Part E M} (walk.opens s) (leaf (map walk.shown es)) (stub (digest_by family (leaf es)))) ≡ false
   leaf_complete s es all = step (walk.opens s) refl
     where
-      step : (b : Bool) → walk.opens s ≡ b → misses walk s (cond {A = Part E M} b (leaf (map walk.shown es)) (stub (digest_by family (leaf es)))) ≡ false
+      step : (b : Bool) → walk.opens s ≡ b → is_missing_by walk s (cond {A = Part E M} b (leaf (map walk.shown es)) (stub (digest_by family (leaf es)))) ≡ false
       step true e = none_lacks es all
       step false e = e
 
-  inner_complete : (s : S) (ss : List (List ℕ)) (ps : Parts E M) → misses_in walk s None ss (pruned_in walk family s None ss ps) ≡ false
-      → misses walk s (cond (walk.opens s) (inner ss (pruned_in walk family s None ss ps)) (stub (digest_by family (inner ss ps)))) ≡ false
+  inner_complete : (s : S) (ss : List (List ℕ)) (ps : Parts E M) → is_missing_in walk s None ss (pruned_in walk family s None ss ps) ≡ false
+      → is_missing_by walk s (cond (walk.opens s) (inner ss (pruned_in walk family s None ss ps)) (stub (digest_by family (inner ss ps)))) ≡ false
   inner_complete s ss ps f = step (walk.opens s) refl
     where
-      step : (b : Bool) → walk.opens s ≡ b → misses walk s (cond b (inner ss (pruned_in walk family s None ss ps)) (stub (digest_by family (inner ss ps)))) ≡ false
+      step : (b : Bool) → walk.opens s ≡ b → is_missing_by walk s (cond b (inner ss (pruned_in walk family s None ss ps)) (stub (digest_by family (inner ss ps)))) ≡ false
       step true e = f
       step false e = e
 
   mutual
     pub walk_complete : (s : S) (fewest height : ℕ) (lower upper : Option (List ℕ)) (t : Part E M) → IsNode family fewest height lower upper t
-        → AllByRecursion (λ (e : E). walk.lacks (walk.shown e) ≡ false) (entries t) → misses walk s (pruned_by walk family s t) ≡ false
+        → AllByRecursion (λ (e : E). walk.lacks (walk.shown e) ≡ false) (entries t) → is_missing_by walk s (pruned_by walk family s t) ≡ false
     walk_complete s fewest height lower upper (stub d) n all = absurd n
     walk_complete s fewest height lower upper (leaf es) n all = leaf_complete s es all
     walk_complete s fewest height lower upper (inner ss ps) n all = inner_complete s ss ps (each_complete s None (height - 1) lower upper ss ps n.3 all)
 
     each_complete : (s : S) (near : Option (List ℕ)) (height : ℕ) (lower upper : Option (List ℕ)) (ss : List (List ℕ)) (ps : Parts E M) → AreNodes family height lower upper ss ps
         → AllByRecursion (λ (e : E). walk.lacks (walk.shown e) ≡ false) (entries_in ps)
-        → misses_in walk s near ss (pruned_in walk family s near ss ps) ≡ false
+        → is_missing_in walk s near ss (pruned_in walk family s near ss ps) ≡ false
     each_complete s near height lower upper ss none n all = absurd n
     each_complete s near height lower upper [] (more m p none) n all =
-        or_from (misses walk (walk.onward s near None) (pruned_by walk family (walk.onward s near None) p)) false
-        (walk_complete (walk.onward s near None) half height lower upper p n.1 (each_left (λ (e : E). walk.lacks (walk.shown e) ≡ false) (entries p) [] all)) refl
+        or_from (is_missing_by walk (walk.onward s near None) (pruned_by walk family (walk.onward s near None) p)) false
+        (walk_complete (walk.onward s near None) min_fill height lower upper p n.1 (each_left (λ (e : E). walk.lacks (walk.shown e) ≡ false) (entries p) [] all)) refl
     each_complete s near height lower upper [] (more m p (more k q ps)) n all = absurd n
     each_complete s near height lower upper (x ∷ ss) (more m p ps) n all =
-        or_from (misses walk (walk.onward s near (Some x)) (pruned_by walk family (walk.onward s near (Some x)) p))
-        (misses_in walk (walk.past s near (Some x)) (Some x) ss (pruned_in walk family (walk.past s near (Some x)) (Some x) ss ps))
-        (walk_complete (walk.onward s near (Some x)) half height lower (Some x) p n.2 (each_left (λ (e : E). walk.lacks (walk.shown e) ≡ false) (entries p) (entries_in ps) all))
+        or_from (is_missing_by walk (walk.onward s near (Some x)) (pruned_by walk family (walk.onward s near (Some x)) p))
+        (is_missing_in walk (walk.past s near (Some x)) (Some x) ss (pruned_in walk family (walk.past s near (Some x)) (Some x) ss ps))
+        (walk_complete (walk.onward s near (Some x)) min_fill height lower (Some x) p n.2 (each_left (λ (e : E). walk.lacks (walk.shown e) ≡ false) (entries p) (entries_in ps) all))
         (each_complete (walk.past s near (Some x)) (Some x) height (Some x) upper ss ps n.3 (each_right (λ (e : E). walk.lacks (walk.shown e) ≡ false) (entries p) (entries_in ps) all))
 
   -- nor does it show more than is to be shown
@@ -210,31 +210,31 @@ module _ {E M S : Type 0} (walk : Walk E S) (family : Family E M) where
   none_exceeds f (e ∷ es) = or_from (walk.exceeds (walk.shown e)) (list_any walk.exceeds (map walk.shown es)) (f e) (none_exceeds f es)
 
   leaf_bare : ((e : E) → walk.exceeds (walk.shown e) ≡ false) → (s : S) (es : List E)
-      → goes_beyond walk s (cond {A = Part E M} (walk.opens s) (leaf (map walk.shown es)) (stub (digest_by family (leaf es)))) ≡ false
+      → has_surplus_by walk s (cond {A = Part E M} (walk.opens s) (leaf (map walk.shown es)) (stub (digest_by family (leaf es)))) ≡ false
   leaf_bare f s es = step (walk.opens s) refl
     where
-      step : (b : Bool) → walk.opens s ≡ b → goes_beyond walk s (cond {A = Part E M} b (leaf (map walk.shown es)) (stub (digest_by family (leaf es)))) ≡ false
+      step : (b : Bool) → walk.opens s ≡ b → has_surplus_by walk s (cond {A = Part E M} b (leaf (map walk.shown es)) (stub (digest_by family (leaf es)))) ≡ false
       step true e = or_from (not (walk.opens s)) (list_any walk.exceeds (map walk.shown es)) (not_from_true (walk.opens s) e) (none_exceeds f es)
       step false e = refl
 
-  inner_bare : (s : S) (ss : List (List ℕ)) (ps : Parts E M) → goes_beyond_in walk s None ss (pruned_in walk family s None ss ps) ≡ false
-      → goes_beyond walk s (cond (walk.opens s) (inner ss (pruned_in walk family s None ss ps)) (stub (digest_by family (inner ss ps)))) ≡ false
+  inner_bare : (s : S) (ss : List (List ℕ)) (ps : Parts E M) → has_surplus_in walk s None ss (pruned_in walk family s None ss ps) ≡ false
+      → has_surplus_by walk s (cond (walk.opens s) (inner ss (pruned_in walk family s None ss ps)) (stub (digest_by family (inner ss ps)))) ≡ false
   inner_bare s ss ps f = step (walk.opens s) refl
     where
-      step : (b : Bool) → walk.opens s ≡ b → goes_beyond walk s (cond b (inner ss (pruned_in walk family s None ss ps)) (stub (digest_by family (inner ss ps)))) ≡ false
-      step true e = or_from (not (walk.opens s)) (goes_beyond_in walk s None ss (pruned_in walk family s None ss ps)) (not_from_true (walk.opens s) e) f
+      step : (b : Bool) → walk.opens s ≡ b → has_surplus_by walk s (cond b (inner ss (pruned_in walk family s None ss ps)) (stub (digest_by family (inner ss ps)))) ≡ false
+      step true e = or_from (not (walk.opens s)) (has_surplus_in walk s None ss (pruned_in walk family s None ss ps)) (not_from_true (walk.opens s) e) f
       step false e = refl
 
   mutual
-    pub walk_bare : ((e : E) → walk.exceeds (walk.shown e) ≡ false) → (s : S) (t : Part E M) → goes_beyond walk s (pruned_by walk family s t) ≡ false
+    pub walk_bare : ((e : E) → walk.exceeds (walk.shown e) ≡ false) → (s : S) (t : Part E M) → has_surplus_by walk s (pruned_by walk family s t) ≡ false
     walk_bare f s (stub d) = refl
     walk_bare f s (leaf es) = leaf_bare f s es
     walk_bare f s (inner ss ps) = inner_bare s ss ps (each_bare f s None ss ps)
 
     each_bare : ((e : E) → walk.exceeds (walk.shown e) ≡ false) → (s : S) (lower : Option (List ℕ)) (ss : List (List ℕ)) (ps : Parts E M)
-        → goes_beyond_in walk s lower ss (pruned_in walk family s lower ss ps) ≡ false
+        → has_surplus_in walk s lower ss (pruned_in walk family s lower ss ps) ≡ false
     each_bare f s lower ss none = refl
     each_bare f s lower ss (more m p ps) =
-        or_from (goes_beyond walk (walk.onward s lower (slice_get ss 0)) (pruned_by walk family (walk.onward s lower (slice_get ss 0)) p))
-        (goes_beyond_in walk (walk.past s lower (slice_get ss 0)) (slice_get ss 0) (drop 1 ss) (pruned_in walk family (walk.past s lower (slice_get ss 0)) (slice_get ss 0) (drop 1 ss) ps))
+        or_from (has_surplus_by walk (walk.onward s lower (slice_get ss 0)) (pruned_by walk family (walk.onward s lower (slice_get ss 0)) p))
+        (has_surplus_in walk (walk.past s lower (slice_get ss 0)) (slice_get ss 0) (drop 1 ss) (pruned_in walk family (walk.past s lower (slice_get ss 0)) (slice_get ss 0) (drop 1 ss) ps))
         (walk_bare f (walk.onward s lower (slice_get ss 0)) p) (each_bare f (walk.past s lower (slice_get ss 0)) (slice_get ss 0) (drop 1 ss) ps)

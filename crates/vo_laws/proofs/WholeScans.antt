@@ -10,9 +10,9 @@ use Rattle.vo_spec.specs.Tables.{value_at}
 use Rattle.vo_spec.specs.Cells.{whole_cells, whole_entry, whole_row, shown_value}
 use Rattle.vo_spec.specs.Trees.{RowTree, Prunes}
 use Rattle.vo_spec.specs.Scans.{in_interval, is_empty_interval, put_before, values_in, with_key, seen_entries, seen_in, seen}
-use Rattle.vo_spec.specs.Standing.{StandsFor}
+use Rattle.vo_spec.specs.Standing.{Represents}
 use Rattle.vo_laws.specs.Columns.{HaveColumns, seen_row}
-use Rattle.vo_laws.proofs.ScanLaws.{Gives, sound, scan_is_filter}
+use Rattle.vo_laws.proofs.ScanLaws.{IsNoneOrSame, sound, scan_is_filter}
 use Rattle.vo_laws.proofs.SeenLaws.{rows_in, none_kept}
 
 cell_there : (cells : List Value) (c : ℕ) → c < length cells → shown_value (slice_get (whole_cells cells) c) ≡ Some (value_at cells c)
@@ -34,7 +34,7 @@ rows_seen need (row ∷ rows) have = step (in_interval need.interval row.key) re
     step true inside rest = rw (values_there row.cells need.columns (have.0 inside), rest) refl
     step false outside rest = rest
 
-pub whole_scan : (need : Need) (t : RowTree) (rows : List Row) → StandsFor t rows → HaveColumns rows need → seen need t ≡ Some (map (seen_row need.columns) (rows_in need.interval rows))
+pub whole_scan : (need : Need) (t : RowTree) (rows : List Row) → Represents t rows → HaveColumns rows need → seen need t ≡ Some (map (seen_row need.columns) (rows_in need.interval rows))
 whole_scan need t rows stands have = step (is_empty_interval need.interval) refl
   where
     step : (b : Bool) → is_empty_interval need.interval ≡ b → cond b (Some []) (seen_in need t) ≡ Some (map (seen_row need.columns) (rows_in need.interval rows))
@@ -45,6 +45,6 @@ whole_scan need t rows stands have = step (is_empty_interval need.interval) refl
 pub part_scan : (need : Need) (p t : RowTree) → Prunes p t → (seen need p ≡ None) ⊎ (seen need p ≡ seen need t)
 part_scan need p t z = step (seen need p) (sound need p t z)
   where
-    step : (o : Option (List SeenRow)) → Gives o (seen need t) → (o ≡ None) ⊎ (o ≡ seen need t)
+    step : (o : Option (List SeenRow)) → IsNoneOrSame o (seen need t) → (o ≡ None) ⊎ (o ≡ seen need t)
     step None g = inl refl
     step (Some xs) g = inr (sym g)

@@ -15,7 +15,7 @@ use Rattle.vo_spec.specs.Parts.{stub, leaf, inner, none, more}
 use Rattle.vo_spec.specs.Trees.{RowTree, RowTrees, preimage}
 use Rattle.vo_spec.specs.Scans.{seen}
 use Rattle.vo_spec.specs.Pruned.{is_missing, has_surplus, pruned}
-use Rattle.vo_spec.specs.Inserts.{inserted, insert_proof, insert_misses}
+use Rattle.vo_spec.specs.Inserts.{inserted, insert_proof, insert_is_missing}
 use Rattle.vo_spec.specs.TreeBytes.{tree_bytes}
 
 -- keys of one byte, and rows of the one text 'x'
@@ -123,7 +123,7 @@ path_to_nine = refl
 path_to_eight : short (insert_proof (key 8) tree) ≡ root first_leaf closed
 path_to_eight = refl
 
-path_is_there : insert_misses (key 8) (insert_proof (key 8) tree) ≡ false
+path_is_there : insert_is_missing (key 8) (insert_proof (key 8) tree) ≡ false
 path_is_there = refl
 
 empty_tree : tree_bytes (leaf []) ≡ 1 ∷ 0 ∷ []

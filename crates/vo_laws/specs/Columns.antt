@@ -9,7 +9,8 @@ use Rattle.vo_spec.specs.Scans.{in_interval}
 
 -- the row has the need's columns, where its key is in the need's interval
 abbrev pub HasColumns : Need → Row → Type 0
-HasColumns need row = IsTrue (in_interval need.interval row.key) → AllByRecursion (λ column. column < length row.cells) need.columns
+HasColumns need row = IsTrue (in_interval need.interval row.key)
+    → AllByRecursion (λ column. column < length row.cells) need.columns
 
 -- each of the rows does
 abbrev pub HaveColumns : List Row → Need → Type 0

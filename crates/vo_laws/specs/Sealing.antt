@@ -9,7 +9,8 @@ use Rattle.vo_spec.specs.Secret.{Secret, public_of_secret, lms_signature}
 -- each batch is accepted on the tables after those before it
 abbrev pub AreAcceptedAfter : List (List Command) → List (List Command) → Type 0
 AreAcceptedAfter earlier [] = Unit {0}
-AreAcceptedAfter earlier (batch ∷ batches) = IsOk (apply_batch batch (tables_after earlier)) × AreAcceptedAfter (earlier ++ batch ∷ []) batches
+AreAcceptedAfter earlier (batch ∷ batches) = IsOk (apply_batch batch (tables_after earlier))
+    × AreAcceptedAfter (earlier ++ batch ∷ []) batches
 
 -- whatever a leaf of the key signs is validly signed, by that leaf
 abbrev pub SignsValidly : Secret → Type 0

@@ -8,7 +8,7 @@ ghost use Rattle.vo_spec.specs.declared.tables.Command.{Command};
 ghost use Rattle.vo_spec.specs.declared.tables.CommandFault.{CommandFault};
 ghost use Rattle.vo_spec.specs.Batches.{FitsBatch};
 ghost use Rattle.vo_spec.specs.Fits.{FitsTree};
-ghost use Rattle.vo_spec.specs.Owners.{IsSigned, IsTakenEntry, IsHonestEntry, AreOwned, AreTaken};
+ghost use Rattle.vo_spec.specs.Owners.{IsSigned, IsLoadableEntry, IsHonestEntry, AreOwned, AreLoadable};
 ghost use Rattle.vo_spec.specs.Tables.{apply_batch, after_batch, tables_after};
 ghost use Rattle.vo_spec.specs.LmsSets.{leaves_of};
 ghost use Rattle.vo_spec.specs.Lms.{key_signature_len};
@@ -18,9 +18,9 @@ ghost use Rattle.vo_spec.specs.Parts.{levels};
 ghost use Rattle.vo_spec.specs.Inserts.{insert_proof};
 ghost use Rattle.vo_spec.specs.Removes.{remove_proof, replace_proof};
 ghost use Rattle.vo_spec.specs.TreeBytes.{tree_bytes};
-ghost use Rattle.vo_spec.specs.Journals.{most_signature, FitsEntry, Holds, batches_of, tables_at};
+ghost use Rattle.vo_spec.specs.Journals.{max_signature, FitsEntry, Holds, batches_of, tables_at};
 ghost use Rattle.vo_spec.specs.Replies.{FitsProofs};
-ghost use Rattle.vo_spec.specs.Honest.{StandForTables, honest_proofs, honest_record, honest_trees, work_all, after_work, sealed, sealed_entry};
+ghost use Rattle.vo_spec.specs.Honest.{RepresentTables, honest_proofs, honest_record, honest_trees, work_all, after_work, sealed, sealed_entry};
 ghost use Rattle.vo_laws.specs.Sealing.{AreAcceptedAfter, SignsValidly};
 
 /// The trees and the tables of one more batch are what it makes of those before it, and one of no commands
@@ -62,17 +62,17 @@ pub fn honest_proofs_fit()
 /// What an owner seals fits its bytes, as long as the signature is no longer than a key's are; and it is a
 /// journal of that owner, where its batches are accepted one after the other and its records are signed.
 pub fn sealed_journals_are_owned()
-    ensures signatures_short { (key : List ℕ) → key_signature_len key ≤ most_signature }
+    ensures signatures_short { (key : List ℕ) → key_signature_len key ≤ max_signature }
     ensures entry_fits { (secret : Secret) (earlier : List (List Command)) (batch : List Command)
         → length secret.id ≡ 16
         → AllByRecursion FitsBatch earlier → FitsBatch batch
         → length earlier < 2 ^ 64 → length (sealed_entry secret earlier batch).signature
-        ≤ most_signature
+        ≤ max_signature
         → FitsEntry (sealed_entry secret earlier batch) }
     ensures entries_fit { (secret : Secret) (batches : List (List Command)) → length secret.id ≡ 16
         → AllByRecursion FitsBatch batches
         → length batches < 2 ^ 64 → AllByRecursion
-        (λ (e : Entry). length e.signature ≤ most_signature) (sealed secret batches)
+        (λ (e : Entry). length e.signature ≤ max_signature) (sealed secret batches)
         → AllByRecursion FitsEntry (sealed secret batches) }
     ensures entry_is_honest { (secret : Secret) (earlier : List (List Command))
         (batch : List Command)
@@ -108,26 +108,29 @@ pub fn journals_grow_by_entries()
         → AreOwned key es → slice_get es version ≡ Some e
         → IsHonestEntry key (batches_of (take version es)) e }
     ensures taken_first { (key : List ℕ) (e : Entry)
-        → AreTaken key (e ∷ []) ↔ ((e.rec ≡ honest_record key 0 (honest_trees []))
+        → AreLoadable key (e ∷ []) ↔ ((e.rec ≡ honest_record key 0 (honest_trees []))
         × IsSigned key e.rec e.signature) }
     ensures taken_grows { (key : List ℕ) (es : List Entry) (e : Entry) → 0 < length es
-        → AreTaken key (es ++ e ∷ [])
-        ↔ (AreTaken key es × IsTakenEntry key ([] ∷ batches_of (drop 1 es)) e) }
-    ensures taken_front { (key : List ℕ) (n : ℕ) (es : List Entry) → AreTaken key es
-        → AreTaken key (take n es) }
-    ensures owned_are_taken { (key : List ℕ) (es : List Entry) → AreOwned key es → AreTaken key es }
+        → AreLoadable key (es ++ e ∷ [])
+        ↔ (AreLoadable key es × IsLoadableEntry key ([] ∷ batches_of (drop 1 es)) e) }
+    ensures taken_front { (key : List ℕ) (n : ℕ) (es : List Entry) → AreLoadable key es
+        → AreLoadable key (take n es) }
+    ensures owned_are_loadable { (key : List ℕ) (es : List Entry) → AreOwned key es
+        → AreLoadable key es }
 {}
 
 /// Each entry that a store takes holds the record of the honest trees after the batches of its version, signed;
 /// these batches fit, and the trees stand for that version's tables.
 pub fn journals_hold_honest_records()
-    ensures record_is { (key : List ℕ) (es : List Entry) (version : ℕ) (e : Entry) → AreTaken key es
+    ensures record_is { (key : List ℕ) (es : List Entry) (version : ℕ) (e : Entry)
+        → AreLoadable key es
         → slice_get es version ≡ Some e
         → e.rec ≡ honest_record key version (honest_trees (batches_of (take version (drop 1 es)))) }
-    ensures signed { (key : List ℕ) (es : List Entry) (version : ℕ) (e : Entry) → AreTaken key es
+    ensures signed { (key : List ℕ) (es : List Entry) (version : ℕ) (e : Entry) → AreLoadable key es
         → slice_get es version ≡ Some e
         → IsSigned key e.rec e.signature }
-    ensures held { (key : List ℕ) (es : List Entry) (rec : Record) → AreTaken key es → Holds es rec
+    ensures held { (key : List ℕ) (es : List Entry) (rec : Record) → AreLoadable key es
+        → Holds es rec
         → rec ≡ honest_record key rec.version
         (honest_trees (batches_of (take rec.version (drop 1 es)))) }
     ensures batches_fit { (es : List Entry) → AllByRecursion FitsEntry es
@@ -136,8 +139,8 @@ pub fn journals_hold_honest_records()
         → AllByRecursion FitsBatch (batches_of (drop 1 es)) }
     ensures fit_at { (version : ℕ) (es : List Entry) → AllByRecursion FitsEntry es
         → AllByRecursion FitsBatch (batches_of (take version (drop 1 es))) }
-    ensures stand_at { (key : List ℕ) (version : ℕ) (es : List Entry) → AreTaken key es
+    ensures stand_at { (key : List ℕ) (version : ℕ) (es : List Entry) → AreLoadable key es
         → AllByRecursion FitsEntry es
-        → StandForTables (honest_trees (batches_of (take version (drop 1 es))))
+        → RepresentTables (honest_trees (batches_of (take version (drop 1 es))))
         (tables_at version es) }
 {}

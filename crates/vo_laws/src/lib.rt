@@ -19,26 +19,26 @@ ghost use Rattle.vo_spec.specs.declared.tables.Table.{Table};
 ghost use Rattle.vo_spec.specs.Batches.{FitsBatch};
 ghost use Rattle.vo_spec.specs.Fits.{FitsTree};
 ghost use Rattle.vo_spec.specs.Owners.{IsSigned};
-ghost use Rattle.vo_spec.specs.Records.{FitsCatalog, FitsRecord, headings, catalog_bytes, catalog_digest};
+ghost use Rattle.vo_spec.specs.Records.{FitsCatalog, FitsRecord, table_headers, catalog_bytes, catalog_digest};
 ghost use Rattle.vo_spec.specs.Collides.{Collides};
 ghost use Rattle.vo_spec.specs.Tables.{tables_after};
 ghost use Rattle.vo_spec.specs.Conditions.{Query, FitsQuery};
-ghost use Rattle.vo_spec.specs.Results.{Side, sides, result as result_of};
+ghost use Rattle.vo_spec.specs.Results.{BoundSource, bound_sources, result as result_of};
 ghost use Rattle.vo_spec.specs.Needs.{left_need, needs, tree_at};
 ghost use Rattle.vo_spec.specs.Scans.{seen};
 ghost use Rattle.vo_spec.specs.Pruned.{pruned};
-ghost use Rattle.vo_spec.specs.Standing.{StandsFor};
+ghost use Rattle.vo_spec.specs.Standing.{Represents};
 ghost use Rattle.vo_spec.specs.Trees.{RowTree, Prunes};
-ghost use Rattle.vo_spec.specs.Journals.{most_signature};
+ghost use Rattle.vo_spec.specs.Journals.{max_signature};
 ghost use Rattle.vo_spec.specs.Replies.{Reply, FitsReply};
 ghost use Rattle.vo_spec.specs.Checks.{answer_to, seen_outcome, missing_fault};
-ghost use Rattle.vo_spec.specs.Honest.{Stored, StandForTables, catalog_of, honest_record, honest_reply, honest_trees, trees_for};
+ghost use Rattle.vo_spec.specs.Honest.{Stored, RepresentTables, catalog_of, honest_record, honest_reply, honest_trees, trees_for};
 
 /// Where each tree of a reply prunes the whole tree of its table, nothing is missing, and the whole trees
 /// stand for plain tables, the outcome that the trees show is the query's result on these tables.
 pub fn complete_proofs_show_the_result()
     ensures { (q : Query) (r : Reply) (stored : List Stored) (tables : List Table)
-        → StandForTables stored tables → FitsQuery q
+        → RepresentTables stored tables → FitsQuery q
         → r.catalog ≡ catalog_of stored → AllZip Prunes r.trees (trees_for q stored)
         → missing_fault q r ≡ None
         → seen_outcome q r.catalog r.trees ≡ result_of q tables }
@@ -46,9 +46,9 @@ pub fn complete_proofs_show_the_result()
 
 /// The trees that an honest owner keeps stand for the plain tables of the same batches, whatever commands these
 /// have; and trees, catalogs and records fit their bytes.
-pub fn honest_trees_stand_for_the_tables()
+pub fn honest_trees_represent_the_tables()
     ensures stand { (batches : List (List Command)) → AllByRecursion FitsBatch batches
-        → StandForTables (honest_trees batches) (tables_after batches) }
+        → RepresentTables (honest_trees batches) (tables_after batches) }
     ensures trees_fit { (batches : List (List Command)) → AllByRecursion FitsBatch batches
         → AllByRecursion (λ (s : Stored). FitsTree s.tree) (honest_trees batches) }
     ensures catalog_fits { (batches : List (List Command)) → AllByRecursion FitsBatch batches
@@ -58,7 +58,7 @@ pub fn honest_trees_stand_for_the_tables()
         → FitsRecord (honest_record key version stored) }
     ensures reply_fits { (batches : List (List Command)) (q : Query) (rec : Record)
         (signature : List ℕ) → AllByRecursion FitsBatch batches
-        → FitsRecord rec → length signature ≤ most_signature
+        → FitsRecord rec → length signature ≤ max_signature
         → FitsReply (honest_reply q rec signature (honest_trees batches)) }
 {}
 
@@ -75,17 +75,18 @@ pub fn honest_replies_are_accepted()
 /// A scan of a tree's proof for one need gives what a scan of the whole tree gives, where the rows have the
 /// need's columns; so a store finds a query's needs from the proof for its left need.
 pub fn proofs_show_what_their_need_sees()
-    ensures seen { (cells : ℕ) (need : Need) (t : RowTree) (rows : List Row) → StandsFor t rows
+    ensures seen { (cells : ℕ) (need : Need) (t : RowTree) (rows : List Row) → Represents t rows
         → AllByRecursion (λ column. column < cells) need.columns
         → AllByRecursion (λ (row : Row). length row.cells ≡ cells) rows
         → seen need (pruned (need ∷ []) t) ≡ seen need t }
-    ensures by_seen { (ss : List Side) (q : Query) (trees : List RowTree) (others : List RowTree)
+    ensures by_seen { (ss : List BoundSource) (q : Query) (trees : List RowTree)
+        (others : List RowTree)
         → seen (left_need ss q) (tree_at trees 0) ≡ seen (left_need ss q) (tree_at others 0)
         → needs ss q trees ≡ needs ss q others }
     ensures needs { (batches : List (List Command)) (q : Query) (others : List RowTree)
         → AllByRecursion FitsBatch batches
         → let stored : List Stored = honest_trees batches in
-        let ss : List Side = sides (headings (catalog_of stored)) q in
+        let ss : List BoundSource = bound_sources (table_headers (catalog_of stored)) q in
         needs ss q (pruned (left_need ss q ∷ []) (tree_at (trees_for q stored) 0) ∷ others)
         ≡ needs ss q (trees_for q stored) }
 {}

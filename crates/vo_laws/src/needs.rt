@@ -6,14 +6,14 @@ ghost use Rattle.vo_spec.specs.declared.needs.Need.{Need};
 ghost use Rattle.vo_spec.specs.declared.values.Row.{Row};
 ghost use Rattle.vo_spec.specs.Trees.{RowTree, Prunes};
 ghost use Rattle.vo_spec.specs.Pruned.{IsCanonical, pruned};
-ghost use Rattle.vo_spec.specs.Standing.{StandsFor};
+ghost use Rattle.vo_spec.specs.Standing.{Represents};
 ghost use Rattle.vo_laws.specs.Columns.{HaveColumns};
 
 /// What a tree has open for some needs prunes it, and is canonical where the tree stands for rows that
 /// have the columns of the needs; and no other part of the tree is canonical.
 pub fn needs_have_one_proof()
     ensures prunes { (needs : List Need) (t : RowTree) → Prunes (pruned needs t) t }
-    ensures canonical { (needs : List Need) (t : RowTree) (rows : List Row) → StandsFor t rows
+    ensures canonical { (needs : List Need) (t : RowTree) (rows : List Row) → Represents t rows
         → AllByRecursion (HaveColumns rows) needs → IsCanonical needs (pruned needs t) }
     ensures only { (needs : List Need) (p t : RowTree) → Prunes p t → IsCanonical needs p
         → p ≡ pruned needs t }

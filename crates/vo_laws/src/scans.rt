@@ -5,14 +5,14 @@ ghost use Rattle.vo_spec.specs.declared.needs.Need.{Need};
 ghost use Rattle.vo_spec.specs.declared.values.Row.{Row};
 ghost use Rattle.vo_spec.specs.Trees.{RowTree, Prunes};
 ghost use Rattle.vo_spec.specs.Scans.{in_interval, seen};
-ghost use Rattle.vo_spec.specs.Standing.{StandsFor};
+ghost use Rattle.vo_spec.specs.Standing.{Represents};
 ghost use Rattle.vo_laws.specs.Columns.{HaveColumns, seen_row};
 
 /// Of a tree that stands for rows, a scan for a need gives the rows with their keys in its interval,
 /// where these have its columns. Of a part of a tree it misses something, or gives what it gives of the
 /// tree.
 pub fn scans_filter_the_rows()
-    ensures whole { (need : Need) (t : RowTree) (rows : List Row) → StandsFor t rows
+    ensures whole { (need : Need) (t : RowTree) (rows : List Row) → Represents t rows
         → HaveColumns rows need
         → let inside : List Row = filter (λ row. in_interval need.interval row.key) rows in
         seen need t ≡ Some (map (seen_row need.columns) inside) }

@@ -20,15 +20,19 @@ unfoldable pub IsVerdict : List Entry → Query → Reply → Answer → Verdict
 IsVerdict es q r answer (Unsigned rec signature last) =
     (Holds es r.rec → ⊥) × (rec ≡ r.rec) × (signature ≡ r.signature) × (last ≡ last_version es)
 IsVerdict es q r answer (Exact version) =
-    Holds es r.rec × (answer.outcome ≡ result q (tables_at answer.version es)) × (version ≡ answer.version)
+    Holds es r.rec × (answer.outcome ≡ result q (tables_at answer.version es))
+    × (version ≡ answer.version)
 IsVerdict es q r answer (Collide found) =
-    Holds es r.rec × (answer.outcome ≢ result q (tables_at answer.version es)) × Collides found.0 found.1
+    Holds es r.rec × (answer.outcome ≢ result q (tables_at answer.version es))
+    × Collides found.0 found.1
 
 -- What an audit says of these bytes as the reply to this query, by these bytes as the journal of this key's
 -- owner. Want of memory is no answer of this.
 unfoldable pub AuditOf : List ℕ → List ℕ → Query → List ℕ → Result Verdict AuditFault → Type 0
 AuditOf key journal q bytes (Err (BadJournal index)) = IsBadAt key journal index
-AuditOf key journal q bytes (Err (Refused fault)) = (es : List Entry) × IsOwned key journal es × CheckOf key 0 q bytes (Err fault)
+AuditOf key journal q bytes (Err (Refused fault)) = (es : List Entry) × IsOwned key journal es
+    × CheckOf key 0 q bytes (Err fault)
 AuditOf key journal q bytes (Err Memory) = ⊥
 AuditOf key journal q bytes (Ok verdict) = (es : List Entry) × IsOwned key journal es
-    × (r : Reply) × IsReply bytes r × (answer : Answer) × CheckOf key 0 q bytes (Ok answer) × IsVerdict es q r answer verdict
+    × (r : Reply) × IsReply bytes r × (answer : Answer) × CheckOf key 0 q bytes (Ok answer)
+    × IsVerdict es q r answer verdict

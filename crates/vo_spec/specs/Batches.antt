@@ -11,15 +11,15 @@ use Rattle.vo_spec.specs.Names.{FitsName}
 use Rattle.vo_spec.specs.Values.{type_byte, value_bytes, FitsValue}
 
 -- how many commands a batch may have, and bytes
-abbrev pub most_commands : ℕ
-most_commands = 1000
+abbrev pub max_commands : ℕ
+max_commands = 1000
 
-abbrev pub most_batch_bytes : ℕ
-most_batch_bytes = 1048576
+abbrev pub max_batch_bytes : ℕ
+max_batch_bytes = 1048576
 
 -- how many columns a table may have, values an INSERT, parts a SET
-abbrev pub most_columns : ℕ
-most_columns = 32
+abbrev pub max_columns : ℕ
+max_columns = 32
 
 -- Bytes.
 
@@ -34,11 +34,14 @@ abbrev pub set_bytes : SetPart → List ℕ
 set_bytes s = short_string s.column ++ value_bytes s.value
 
 unfoldable pub command_bytes : Command → List ℕ
-command_bytes (Create name columns key) = 1 ∷ short_string name ++ counted column_bytes columns ++ short_string key
+command_bytes (Create name columns key) = 1 ∷ short_string name ++ counted column_bytes columns
+    ++ short_string key
 command_bytes (Drop name) = 2 ∷ short_string name
 command_bytes (Insert name values) = 3 ∷ short_string name ++ counted value_bytes values
-command_bytes (Update name sets column value) = 4 ∷ short_string name ++ counted set_bytes sets ++ short_string column ++ value_bytes value
-command_bytes (Delete name column value) = 5 ∷ short_string name ++ short_string column ++ value_bytes value
+command_bytes (Update name sets column value) = 4 ∷ short_string name ++ counted set_bytes sets
+    ++ short_string column ++ value_bytes value
+command_bytes (Delete name column value) = 5 ∷ short_string name ++ short_string column
+    ++ value_bytes value
 
 unfoldable pub batch_bytes : List Command → List ℕ
 batch_bytes commands = u16_bytes (length commands) ++ flat_map command_bytes commands
@@ -47,7 +50,8 @@ batch_bytes commands = u16_bytes (length commands) ++ flat_map command_bytes com
 
 -- one to 32 that fit
 abbrev pub FitCounted : {A : Type 0} → (A → Type 0) → List A → Type 0
-FitCounted Fits items = (1 ≤ length items) × (length items ≤ most_columns) × AllByRecursion Fits items
+FitCounted Fits items = (1 ≤ length items) × (length items ≤ max_columns)
+    × AllByRecursion Fits items
 
 abbrev pub FitsColumn : Column → Type 0
 FitsColumn c = FitsName c.name
@@ -59,15 +63,16 @@ unfoldable pub FitsCommand : Command → Type 0
 FitsCommand (Create name columns key) = FitsName name × FitCounted FitsColumn columns × FitsName key
 FitsCommand (Drop name) = FitsName name
 FitsCommand (Insert name values) = FitsName name × FitCounted FitsValue values
-FitsCommand (Update name sets column value) = FitsName name × FitCounted FitsSet sets × FitsName column × FitsValue value
+FitsCommand (Update name sets column value) = FitsName name × FitCounted FitsSet sets
+    × FitsName column × FitsValue value
 FitsCommand (Delete name column value) = FitsName name × FitsName column × FitsValue value
 
 pub record FitsBatch (commands : List Command) : Type 0 where
-  pub count : length commands ≤ most_commands
+  pub count : length commands ≤ max_commands
   pub each : AllByRecursion FitsCommand commands
-  pub size : length (batch_bytes commands) ≤ most_batch_bytes
+  pub size : length (batch_bytes commands) ≤ max_batch_bytes
 
 -- The bytes are this batch.
 pub record IsBatch (bytes : List ℕ) (batch : List Command) : Type 0 where
   pub fits : FitsBatch batch
-  pub spelled : bytes ≡ batch_bytes batch
+  pub encoded : bytes ≡ batch_bytes batch

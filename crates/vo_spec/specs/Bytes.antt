@@ -22,7 +22,8 @@ u64_bytes n = to_be_bytes w64 n
 -- the number that the four bytes from a place on spell
 unfoldable pub u32_at : List ℕ → ℕ → ℕ
 u32_at bytes at = from_be_bytes w32
-    (slice_index bytes at ∷ slice_index bytes (at + 1) ∷ slice_index bytes (at + 2) ∷ slice_index bytes (at + 3) ∷ [])
+    (slice_index bytes at ∷ slice_index bytes (at + 1) ∷ slice_index bytes (at + 2)
+    ∷ slice_index bytes (at + 3) ∷ [])
 
 -- the number that two bytes spell
 unfoldable pub u16_of : List ℕ → ℕ

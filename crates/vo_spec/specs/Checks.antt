@@ -21,12 +21,12 @@ use Rattle.vo_spec.specs.declared.checks.CheckFault.{CheckFault}
 use Rattle.vo_spec.specs.declared.checks.CheckFault.TheVariants.{TooLong, BadForm, WrongKey, WrongLeaf, BadSignature, Stale, WrongCatalog, WrongTrees, WrongShape, WrongRoot, Missing, Surplus}
 use Rattle.vo_spec.specs.Firsts.{first_some, unless}
 use Rattle.vo_spec.specs.Values.{kind_of, same_kind, is_text}
-use Rattle.vo_spec.specs.Tables.{column_at, most_key}
-use Rattle.vo_spec.specs.Results.{Side, schema_at, sides, binding_fault, header, outcome, answer_rows}
+use Rattle.vo_spec.specs.Tables.{column_at, max_key}
+use Rattle.vo_spec.specs.Results.{BoundSource, schema_at, bound_sources, binding_fault, header, outcome, answer_rows}
 use Rattle.vo_spec.specs.Conditions.{Query}
 use Rattle.vo_spec.specs.Lms.{key_id, leaf_of, lms_valid}
-use Rattle.vo_spec.specs.Records.{record_bytes, catalog_digest, headings}
-use Rattle.vo_spec.specs.Replies.{Reply, IsReply, IsNoReply, most_reply}
+use Rattle.vo_spec.specs.Records.{record_bytes, catalog_digest, table_headers}
+use Rattle.vo_spec.specs.Replies.{Reply, IsReply, IsNoReply, max_reply}
 use Rattle.vo_spec.specs.Parts.{entries}
 use Rattle.vo_spec.specs.Trees.{RowTree, digest}
 use Rattle.vo_spec.specs.Pruned.{is_missing, has_surplus}
@@ -38,7 +38,7 @@ use Rattle.vo_spec.specs.Needs.{tables_used, needs, seen_lefts, seen_rights}
 -- the bytes of a key of this kind
 abbrev pub is_key_of : Kind → List ℕ → Bool
 is_key_of kind.Int key = length key == 8
-is_key_of kind.Text key = nat_le (length key) most_key && is_text key
+is_key_of kind.Text key = nat_le (length key) max_key && is_text key
 is_key_of kind.Bool key = false
 
 abbrev pub key_kind : Schema → Kind
@@ -67,13 +67,17 @@ has_shape schema p = list_all (entry_fits schema) (entries p)
 -- The tests of a reply, in their order; `want` is what the client goes by.
 
 abbrev pub key_fault : List ℕ → Reply → Option CheckFault
-key_fault key r = if bytes_eq r.rec.id (key_id key) then None else Some (WrongKey (key_id key) r.rec.id)
+key_fault key r = if bytes_eq r.rec.id (key_id key) then None
+    else Some (WrongKey (key_id key) r.rec.id)
 
 abbrev pub leaf_fault : List ℕ → Reply → Option CheckFault
-leaf_fault key r = option_and_then (λ q. if q == r.rec.version then None else Some (WrongLeaf r.rec.version q)) (leaf_of key r.signature)
+leaf_fault key r = option_and_then
+    (λ q. if q == r.rec.version then None else Some (WrongLeaf r.rec.version q))
+    (leaf_of key r.signature)
 
 abbrev pub signature_fault : List ℕ → Reply → Option CheckFault
-signature_fault key r = if lms_valid key (record_bytes r.rec) r.signature then None else Some BadSignature
+signature_fault key r = if lms_valid key (record_bytes r.rec) r.signature then None
+    else Some BadSignature
 
 abbrev pub age_fault : ℕ → Reply → Option CheckFault
 age_fault least r = if nat_lt r.rec.version least then Some (Stale least r.rec.version) else None
@@ -86,7 +90,8 @@ catalog_fault r =
 -- the tables whose trees the reply is to have: none, where the query is wrong
 abbrev pub tables_wanted : Query → Catalog → List (List ℕ)
 tables_wanted q c =
-    if is_some (binding_fault (headings c) q) then [] else tables_used (sides (headings c) q)
+    if is_some (binding_fault (table_headers c) q) then []
+    else tables_used (bound_sources (table_headers c) q)
 
 abbrev pub count_fault : Query → Reply → Option CheckFault
 count_fault q r =
@@ -108,13 +113,14 @@ shape_fault q r = if list_all has_table_shape (trees_of q r) then None else Some
 
 abbrev pub root_fault : Option CatalogTable × RowTree → Option CheckFault
 root_fault t = option_and_then (λ (table : CatalogTable).
-    if bytes_eq table.root (digest t.1) then None else Some (WrongRoot table.name table.root (digest t.1))) t.0
+    if bytes_eq table.root (digest t.1) then None
+    else Some (WrongRoot table.name table.root (digest t.1))) t.0
 
 -- the trees, each with its needs
 abbrev pub needed : Query → Reply → List (List Need × RowTree)
 needed q r =
-    if is_some (binding_fault (headings r.catalog) q) then []
-    else zip (needs (sides (headings r.catalog) q) q r.trees) r.trees
+    if is_some (binding_fault (table_headers r.catalog) q) then []
+    else zip (needs (bound_sources (table_headers r.catalog) q) q r.trees) r.trees
 
 abbrev pub missing_fault : Query → Reply → Option CheckFault
 missing_fault q r = if list_any (λ t. is_missing t.0 t.1) (needed q r) then Some Missing else None
@@ -123,8 +129,8 @@ abbrev pub surplus_fault : Query → Reply → Option CheckFault
 surplus_fault q r = if list_any (λ t. has_surplus t.0 t.1) (needed q r) then Some Surplus else None
 
 -- the first test that refuses a reply
-unfoldable pub reply_fault : List ℕ → ℕ → Query → Reply → Option CheckFault
-reply_fault key least q r = first_some
+unfoldable pub check_fault : List ℕ → ℕ → Query → Reply → Option CheckFault
+check_fault key least q r = first_some
     (key_fault key r
     ∷ leaf_fault key r
     ∷ signature_fault key r
@@ -139,17 +145,20 @@ reply_fault key least q r = first_some
 
 -- The outcome by what the trees show: the filter or the nested loop over the rows that are seen.
 unfoldable pub seen_outcome : Query → Catalog → List RowTree → Outcome
-seen_outcome q c trees = let ss = sides (headings c) q in
-    outcome (binding_fault (headings c) q) (header ss q.items) (answer_rows ss q (seen_lefts ss q trees) (seen_rights ss q trees))
+seen_outcome q c trees = let ss = bound_sources (table_headers c) q in
+    outcome (binding_fault (table_headers c) q) (header ss q.items)
+    (answer_rows ss q (seen_lefts ss q trees) (seen_rights ss q trees))
 
 unfoldable pub answer_to : List ℕ → ℕ → Query → Reply → Result Answer CheckFault
 answer_to key least q r =
-    unless (reply_fault key least q r) (record { version = r.rec.version; outcome = seen_outcome q r.catalog r.trees })
+    unless (check_fault key least q r)
+    (record { version = r.rec.version; outcome = seen_outcome q r.catalog r.trees })
 
 -- What a client of this key, who accepts no version below `least`, says of these bytes as the reply to this
 -- query. Want of memory is no answer of this.
 unfoldable pub CheckOf : List ℕ → ℕ → Query → List ℕ → Result Answer CheckFault → Type 0
 CheckOf key least q bytes answer =
-    ((most_reply < length bytes) × (answer ≡ Err (TooLong (length bytes))))
-    ⊎ ((length bytes ≤ most_reply) × IsNoReply bytes × (answer ≡ Err BadForm))
-    ⊎ ((length bytes ≤ most_reply) × (r : Reply) × IsReply bytes r × (answer ≡ answer_to key least q r))
+    ((max_reply < length bytes) × (answer ≡ Err (TooLong (length bytes))))
+    ⊎ ((length bytes ≤ max_reply) × IsNoReply bytes × (answer ≡ Err BadForm))
+    ⊎ ((length bytes ≤ max_reply) × (r : Reply) × IsReply bytes r
+    × (answer ≡ answer_to key least q r))

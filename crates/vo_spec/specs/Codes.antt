@@ -32,7 +32,8 @@ module _ {E M : Type 0} (e : Coded E) (m : Coded M) where
 
     pub parts_code : Parts E M → Gv
     parts_code none = gcons (gnum 0) gnil
-    parts_code (more a p ps) = gcons (gnum 1) (gcons (m.code a) (gcons (part_code p) (parts_code ps)))
+    parts_code (more a p ps) = gcons (gnum 1)
+        (gcons (m.code a) (gcons (part_code p) (parts_code ps)))
 
   mutual
     pub part_inj : (x y : Part E M) → part_code x ≡ part_code y → x ≡ y
@@ -45,14 +46,16 @@ module _ {E M : Type 0} (e : Coded E) (m : Coded M) where
     part_inj (inner ss ps) (stub c) p = absurd (apart 2 0 p (omega arith))
     part_inj (inner ss ps) (leaf fs) p = absurd (apart 2 1 p (omega arith))
     part_inj (inner ss ps) (inner ts qs) p =
-        λ i. inner (keys.inj ss ts (ap (λ g. head (tail g)) p) i) (parts_inj ps qs (ap (λ g. tail (tail g)) p) i)
+        λ i. inner (keys.inj ss ts (ap (λ g. head (tail g)) p) i)
+        (parts_inj ps qs (ap (λ g. tail (tail g)) p) i)
 
     pub parts_inj : (x y : Parts E M) → parts_code x ≡ parts_code y → x ≡ y
     parts_inj none none p = λ i. none
     parts_inj none (more b q qs) p = absurd (apart 0 1 p (omega arith))
     parts_inj (more a p ps) none h = absurd (apart 1 0 h (omega arith))
     parts_inj (more a p ps) (more b q qs) h =
-        λ i. more (m.inj a b (ap (λ g. head (tail g)) h) i) (part_inj p q (ap (λ g. head (tail (tail g))) h) i)
+        λ i. more (m.inj a b (ap (λ g. head (tail g)) h) i)
+        (part_inj p q (ap (λ g. head (tail (tail g))) h) i)
         (parts_inj ps qs (ap (λ g. tail (tail (tail g))) h) i)
 
   abbrev pub coded_part : Coded (Part E M)

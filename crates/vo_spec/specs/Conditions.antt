@@ -54,7 +54,12 @@ pub record Query : Type 0 where
   pub condition : Option Condition
 
 abbrev pub query_of : QueryText → Query
-query_of q = record { items = q.items; left = q.left; join = q.join; condition = option_map condition_of q.cond }
+query_of q = record {
+  items = q.items;
+  left = q.left;
+  join = q.join;
+  condition = option_map condition_of q.cond;
+}
 
 -- What a condition names, in the order of its text.
 
@@ -127,4 +132,5 @@ FitsOperand (Column r) = Unit {0}
 FitsOperand (Literal v) = IsInRange v
 
 abbrev pub FitsQuery : Query → Type 0
-FitsQuery q = AllByRecursion (λ (c : Ref × Operand). FitsOperand c.1) (option_map_or comparisons q.condition [])
+FitsQuery q = AllByRecursion (λ (c : Ref × Operand). FitsOperand c.1)
+    (option_map_or comparisons q.condition [])

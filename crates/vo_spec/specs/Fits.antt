@@ -8,25 +8,25 @@ use Rattle.vo_spec.specs.declared.cells.RowPart.{RowPart}
 use Rattle.vo_spec.specs.declared.cells.RowPart.TheVariants.{Digest as Closed, Cells}
 use Rattle.vo_spec.specs.declared.cells.PartEntry.{PartEntry}
 use Rattle.vo_spec.specs.Values.{FitsValue}
-use Rattle.vo_spec.specs.Tables.{most_key}
+use Rattle.vo_spec.specs.Tables.{max_key}
 use Rattle.vo_spec.specs.Parts.{Part, Parts, stub, leaf, inner, none, more, count, levels}
 use Rattle.vo_spec.specs.Trees.{RowTree}
 
 -- how many cells a row has at most, entries or children a node has, and levels a tree that is read has
-abbrev pub most_cells : ℕ
-most_cells = 31
+abbrev pub max_cells : ℕ
+max_cells = 31
 
-abbrev pub most_in_node : ℕ
-most_in_node = 16
+abbrev pub max_fill : ℕ
+max_fill = 16
 
-abbrev pub most_levels : ℕ
-most_levels = 11
+abbrev pub max_levels : ℕ
+max_levels = 11
 
 abbrev pub FitsDigest : List ℕ → Type 0
 FitsDigest digest = length digest ≡ 32
 
 abbrev pub FitsKey : List ℕ → Type 0
-FitsKey key = length key ≤ most_key
+FitsKey key = length key ≤ max_key
 
 abbrev pub FitsCell : Cell → Type 0
 FitsCell (Shown value) = FitsValue value
@@ -34,7 +34,7 @@ FitsCell (Hidden digest) = FitsDigest digest
 
 abbrev pub FitsRowPart : RowPart → Type 0
 FitsRowPart (Closed digest) = FitsDigest digest
-FitsRowPart (Cells cells) = (length cells ≤ most_cells) × All FitsCell cells
+FitsRowPart (Cells cells) = (length cells ≤ max_cells) × All FitsCell cells
 
 pub record FitsEntry (e : PartEntry) : Type 0 where
   pub key : FitsKey e.key
@@ -42,7 +42,7 @@ pub record FitsEntry (e : PartEntry) : Type 0 where
 
 -- the values of a row without its key, and a row of a table
 pub record FitsCells (values : List Value) : Type 0 where
-  pub count : length values ≤ most_cells
+  pub count : length values ≤ max_cells
   pub each : All FitsValue values
 
 pub record FitsRow (row : Row) : Type 0 where
@@ -53,9 +53,10 @@ module _ {E M : Type 0} (FitsE : E → Type 0) where
   abbrev mutual
     pub FitsBy : Part E M → Type 0
     FitsBy (stub d) = FitsDigest d
-    FitsBy (leaf es) = (length es ≤ most_in_node) × All FitsE es
+    FitsBy (leaf es) = (length es ≤ max_fill) × All FitsE es
     FitsBy (inner ss ps) =
-        (2 ≤ count ps) × (count ps ≤ most_in_node) × (length ss + 1 ≡ count ps) × All FitsKey ss × FitsEach ps
+        (2 ≤ count ps) × (count ps ≤ max_fill) × (length ss + 1 ≡ count ps) × All FitsKey ss
+        × FitsEach ps
 
     pub FitsEach : Parts E M → Type 0
     FitsEach none = Unit {0}
@@ -68,4 +69,4 @@ FitsPart = FitsBy FitsEntry
 -- and there are no more levels than a reader gives
 pub record FitsTree (p : RowTree) : Type 0 where
   pub nodes : FitsPart p
-  pub depth : levels p ≤ most_levels
+  pub depth : levels p ≤ max_levels

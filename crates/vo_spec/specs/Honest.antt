@@ -19,12 +19,12 @@ use Rattle.vo_spec.specs.declared.records.Record.{Record}
 use Rattle.vo_spec.specs.declared.records.Entry.{Entry}
 use Rattle.vo_spec.specs.Firsts.{unless, and_then}
 use Rattle.vo_spec.specs.Values.{key_of, key_lt, IsKeyOf}
-use Rattle.vo_spec.specs.Tables.{Heading, refusal, column_number, value_at, row_of, cell_changes}
+use Rattle.vo_spec.specs.Tables.{TableHeader, refusal, column_number, value_at, row_of, cell_changes}
 use Rattle.vo_spec.specs.Conditions.{Query}
-use Rattle.vo_spec.specs.Results.{sides}
+use Rattle.vo_spec.specs.Results.{bound_sources}
 use Rattle.vo_spec.specs.Lms.{key_id}
 use Rattle.vo_spec.specs.Secret.{Secret, public_of_secret, lms_signature}
-use Rattle.vo_spec.specs.Records.{record_bytes, catalog_digest, headings}
+use Rattle.vo_spec.specs.Records.{record_bytes, catalog_digest, table_headers}
 use Rattle.vo_spec.specs.Journals.{batches_of}
 use Rattle.vo_spec.specs.Parts.{leaf, entries}
 use Rattle.vo_spec.specs.Trees.{RowTree, digest}
@@ -33,7 +33,7 @@ use Rattle.vo_spec.specs.Inserts.{result_map, inserted, insert_proof}
 use Rattle.vo_spec.specs.Removes.{removed, replaced, remove_proof, replace_proof}
 use Rattle.vo_spec.specs.Pruned.{pruned}
 use Rattle.vo_spec.specs.Needs.{needs}
-use Rattle.vo_spec.specs.Standing.{StandsFor}
+use Rattle.vo_spec.specs.Standing.{Represents}
 use Rattle.vo_spec.specs.Checks.{tables_wanted, key_kind}
 use Rattle.vo_spec.specs.Replies.{Reply, proofs_bytes}
 
@@ -43,22 +43,23 @@ pub record Stored : Type 0 where
   pub schema : Schema
   pub tree : RowTree
 
-abbrev pub stored_heading : Stored → Heading
-stored_heading s = record { name = s.name; schema = s.schema; count = length (entries s.tree) }
+abbrev pub stored_table_header : Stored → TableHeader
+stored_table_header s = record { name = s.name; schema = s.schema; count = length (entries s.tree) }
 
 abbrev pub put_stored : Stored → List Stored → List Stored
 put_stored stored [] = stored ∷ []
-put_stored stored (s ∷ ss) = if key_lt stored.name s.name then stored ∷ s ∷ ss else s ∷ put_stored stored ss
+put_stored stored (s ∷ ss) = if key_lt stored.name s.name then stored ∷ s ∷ ss
+    else s ∷ put_stored stored ss
 
 -- The tree stands for the table's rows, and their keys are keys of values of the key's kind.
-pub record StandsForTable (s : Stored) (t : Table) : Type 0 where
+pub record RepresentsTable (s : Stored) (t : Table) : Type 0 where
   pub name : s.name ≡ t.name
   pub schema : s.schema ≡ t.schema
-  pub stands : StandsFor s.tree t.rows
+  pub stands : Represents s.tree t.rows
   pub keys : AllByRecursion (λ (row : Row). IsKeyOf (key_kind t.schema) row.key) t.rows
 
-abbrev pub StandForTables : List Stored → List Table → Type 0
-StandForTables = AllZip StandsForTable
+abbrev pub RepresentTables : List Stored → List Table → Type 0
+RepresentTables = AllZip RepresentsTable
 
 -- Commands on trees.
 
@@ -69,15 +70,18 @@ row_refusal _ = command.NoRow
 -- the tree with what the command changes of its rows
 abbrev pub tree_after : Command → Stored → Result RowTree UpdateFault
 tree_after (Insert name values) s = inserted (whole_entry (row_of s.schema values)) s.tree
-tree_after (Update name sets column value) s = replaced (key_of value) (cell_changes s.schema sets) s.tree
+tree_after (Update name sets column value) s =
+    replaced (key_of value) (cell_changes s.schema sets) s.tree
 tree_after (Delete name column value) s = removed (key_of value) s.tree
 tree_after _ s = Ok s.tree
 
-abbrev pub with_tree : Stored → List Stored → Result RowTree UpdateFault → Result (List Stored) CommandFault
+abbrev pub with_tree : Stored → List Stored → Result RowTree UpdateFault
+    → Result (List Stored) CommandFault
 with_tree s ss (Ok tree) = Ok (record { name = s.name; schema = s.schema; tree = tree } ∷ ss)
 with_tree s ss (Err fault) = Err (row_refusal fault)
 
-abbrev pub behind_stored : Stored → Result (List Stored) CommandFault → Result (List Stored) CommandFault
+abbrev pub behind_stored : Stored → Result (List Stored) CommandFault
+    → Result (List Stored) CommandFault
 behind_stored s (Ok ss) = Ok (s ∷ ss)
 behind_stored s (Err fault) = Err fault
 
@@ -85,19 +89,26 @@ behind_stored s (Err fault) = Err fault
 abbrev pub change_tree : List ℕ → Command → List Stored → Result (List Stored) CommandFault
 change_tree name c [] = Ok []
 change_tree name c (s ∷ ss) =
-    if bytes_eq s.name name then with_tree s ss (tree_after c s) else behind_stored s (change_tree name c ss)
+    if bytes_eq s.name name then with_tree s ss (tree_after c s)
+    else behind_stored s (change_tree name c ss)
 
 abbrev pub changed_trees : Command → List Stored → Result (List Stored) CommandFault
 changed_trees (Create name columns key) stored =
-    Ok (put_stored (record { name = name; schema = record { columns = columns; key = column_number columns key }; tree = leaf [] }) stored)
+    Ok (put_stored (record {
+      name = name;
+      schema = record { columns = columns; key = column_number columns key };
+      tree = leaf [];
+    }) stored)
 changed_trees (Drop name) stored = Ok (filter (λ s. not (bytes_eq s.name name)) stored)
 changed_trees (Insert name values) stored = change_tree name (Insert name values) stored
-changed_trees (Update name sets column value) stored = change_tree name (Update name sets column value) stored
+changed_trees (Update name sets column value) stored =
+    change_tree name (Update name sets column value) stored
 changed_trees (Delete name column value) stored = change_tree name (Delete name column value) stored
 
 -- the trees after a command, or its first refusal
 unfoldable pub work : Command → List Stored → Result (List Stored) CommandFault
-work c stored = and_then (changed_trees c) (unless (refusal c (map stored_heading stored)) stored)
+work c stored = and_then (changed_trees c)
+    (unless (refusal c (map stored_table_header stored)) stored)
 
 abbrev pub work_all : List Command → List Stored → Result (List Stored) CommandFault
 work_all [] stored = Ok stored
@@ -129,27 +140,39 @@ table_of (Update name sets column value) = name
 table_of (Delete name column value) = name
 
 abbrev pub command_proof : Command → List Stored → List RowTree
-command_proof c stored = option_map_or (proof_on c) (find (λ s. bytes_eq s.name (table_of c)) stored) []
+command_proof c stored = option_map_or (proof_on c)
+    (find (λ s. bytes_eq s.name (table_of c)) stored) []
 
 abbrev pub honest_proofs : List Command → List Stored → List RowTree
 honest_proofs [] stored = []
 honest_proofs (c ∷ cs) stored =
-    if is_some (refusal c (map stored_heading stored)) then []
-    else command_proof c stored ++ result_unwrap_or (result_map (honest_proofs cs) (work c stored)) []
+    if is_some (refusal c (map stored_table_header stored)) then []
+    else command_proof c stored ++ result_unwrap_or
+    (result_map (honest_proofs cs) (work c stored)) []
 
 -- Catalogs, records and entries.
 
 abbrev pub catalog_of : List Stored → Catalog
-catalog_of stored = record { tables = map (λ s. record { name = s.name; schema = s.schema; rows = length (entries s.tree); root = digest s.tree }) stored }
+catalog_of stored = record {
+  tables =
+      map (λ s. record {
+        name = s.name;
+        schema = s.schema;
+        rows = length (entries s.tree);
+        root = digest s.tree;
+      }) stored;
+}
 
 unfoldable pub honest_record : List ℕ → ℕ → List Stored → Record
-honest_record key version stored = record { id = key_id key; version = version; catalog = catalog_digest (catalog_of stored) }
+honest_record key version stored =
+    record { id = key_id key; version = version; catalog = catalog_digest (catalog_of stored) }
 
 -- the entry that the owner writes of this batch, after the batches of this many versions from 0 on
 unfoldable pub sealed_entry : Secret → List (List Command) → List Command → Entry
 sealed_entry secret earlier batch =
     let version = length earlier in
-    let rec = honest_record (public_of_secret secret) version (honest_trees (earlier ++ batch ∷ [])) in
+    let rec = honest_record (public_of_secret secret) version
+    (honest_trees (earlier ++ batch ∷ [])) in
     record {
       batch = record { commands = batch };
       proofs = proofs_bytes (honest_proofs batch (honest_trees earlier));
@@ -159,7 +182,8 @@ sealed_entry secret earlier batch =
 
 abbrev pub sealed_after : Secret → List (List Command) → List (List Command) → List Entry
 sealed_after secret earlier [] = []
-sealed_after secret earlier (batch ∷ batches) = sealed_entry secret earlier batch ∷ sealed_after secret (earlier ++ batch ∷ []) batches
+sealed_after secret earlier (batch ∷ batches) =
+    sealed_entry secret earlier batch ∷ sealed_after secret (earlier ++ batch ∷ []) batches
 
 -- The entries of a journal of these batches: version 0 has none of them, its batch is empty.
 unfoldable pub sealed : Secret → List (List Command) → List Entry
@@ -168,7 +192,8 @@ sealed secret batches = sealed_after secret [] ([] ∷ batches)
 -- Replies.
 
 abbrev pub stored_tree : List Stored → List ℕ → RowTree
-stored_tree stored name = option_map_or (λ s. s.tree) (find (λ s. bytes_eq s.name name) stored) (leaf [])
+stored_tree stored name = option_map_or (λ s. s.tree)
+    (find (λ s. bytes_eq s.name name) stored) (leaf [])
 
 -- the whole trees that the query uses
 abbrev pub trees_for : Query → List Stored → List RowTree
@@ -186,10 +211,12 @@ honest_reply q rec signature stored =
       rec = rec;
       signature = signature;
       catalog = catalog_of stored;
-      trees = pruned_each (needs (sides (headings (catalog_of stored)) q) q trees) trees;
+      trees = pruned_each (needs (bound_sources (table_headers (catalog_of stored)) q) q
+          trees) trees;
     }
 
 -- the reply of a store that has loaded these entries
 abbrev pub reply_of : Query → List Entry → Option Reply
 reply_of q es =
-    option_map (λ (e : Entry). honest_reply q e.rec e.signature (honest_trees (batches_of (drop 1 es)))) (slice_get es (length es - 1))
+    option_map (λ (e : Entry). honest_reply q e.rec e.signature
+    (honest_trees (batches_of (drop 1 es)))) (slice_get es (length es - 1))

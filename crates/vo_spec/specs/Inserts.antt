@@ -10,12 +10,12 @@ use Rattle.vo_spec.specs.Values.{key_lt}
 use Rattle.vo_spec.specs.Cells.{row_digest}
 use Rattle.vo_spec.specs.Parts.{Part, Parts, stub, leaf, inner, none, more, Family, count}
 use Rattle.vo_spec.specs.Trees.{RowTree, row_family}
-use Rattle.vo_spec.specs.Fits.{most_in_node}
-use Rattle.vo_spec.specs.Pruned.{Walk, misses, goes_beyond, pruned_by}
+use Rattle.vo_spec.specs.Fits.{max_fill}
+use Rattle.vo_spec.specs.Pruned.{Walk, is_missing_by, has_surplus_by, pruned_by}
 
 -- how many entries or children a node has at least, and of 17 the left one of two gets
-abbrev pub half : ℕ
-half = 8
+abbrev pub min_fill : ℕ
+min_fill = 8
 
 -- what the value is made into, or the fault
 abbrev pub result_map : {A B F : Type 0} → (A → B) → Result A F → Result B F
@@ -28,9 +28,9 @@ goes_here key None = true
 goes_here key (Some upper) = key_lt key upper
 
 -- What comes in a node's place: a node, or two with the separator between them.
-pub data Grown (E M : Type 0) : Type 0 where
-  one : Part E M → Grown E M
-  two : Part E M → List ℕ → Part E M → Grown E M
+pub data Insertion (E M : Type 0) : Type 0 where
+  one : Part E M → Insertion E M
+  two : Part E M → List ℕ → Part E M → Insertion E M
 
 -- the separators and children of an inner node
 pub record Children (E M : Type 0) : Type 0 where
@@ -50,7 +50,10 @@ module _ {E M : Type 0} where
 
   -- children before which stands one more, which has the first of these separators above it
   abbrev pub after_child : M → Part E M → List (List ℕ) → Children E M → Children E M
-  after_child m p ss rest = record { separators = take 1 ss ++ rest.separators; parts = more m p rest.parts }
+  after_child m p ss rest = record {
+    separators = take 1 ss ++ rest.separators;
+    parts = more m p rest.parts;
+  }
 
 module _ {E M : Type 0} (family : Family E M) where
   abbrev pub has_key : List ℕ → List E → Bool
@@ -59,7 +62,8 @@ module _ {E M : Type 0} (family : Family E M) where
   -- with the entry before the first of a greater key
   abbrev pub put_entry : E → List E → List E
   put_entry e [] = e ∷ []
-  put_entry e (f ∷ fs) = if key_lt (family.key e) (family.key f) then e ∷ f ∷ fs else f ∷ put_entry e fs
+  put_entry e (f ∷ fs) = if key_lt (family.key e) (family.key f) then e ∷ f ∷ fs
+      else f ∷ put_entry e fs
 
   abbrev pub first_key : List E → List ℕ
   first_key [] = []
@@ -67,41 +71,47 @@ module _ {E M : Type 0} (family : Family E M) where
 
   -- A node of 17 is split into 8 and 9. Between leaves stands the right one's first key; between inner
   -- nodes, the separator that stood between these children.
-  abbrev pub split_leaf : List E → Grown E M
+  abbrev pub split_leaf : List E → Insertion E M
   split_leaf es =
-      if nat_le (length es) most_in_node then one (leaf es)
-      else two (leaf (take half es)) (first_key (drop half es)) (leaf (drop half es))
+      if nat_le (length es) max_fill then one (leaf es)
+      else two (leaf (take min_fill es)) (first_key (drop min_fill es)) (leaf (drop min_fill es))
 
-  abbrev pub split_inner : Children E M → Grown E M
+  abbrev pub split_inner : Children E M → Insertion E M
   split_inner c =
-      if nat_le (count c.parts) most_in_node then one (inner c.separators c.parts)
-      else two (inner (take (half - 1) c.separators) (take_parts half c.parts)) (slice_index_or c.separators (half - 1) [])
-      (inner (drop half c.separators) (drop_parts half c.parts))
+      if nat_le (count c.parts) max_fill then one (inner c.separators c.parts)
+      else two (inner (take (min_fill - 1) c.separators) (take_parts min_fill c.parts))
+      (slice_index_or c.separators (min_fill - 1) [])
+      (inner (drop min_fill c.separators) (drop_parts min_fill c.parts))
 
-  abbrev pub put_grown : List (List ℕ) → Parts E M → Grown E M → Children E M
-  put_grown ss ps (one p) = record { separators = ss; parts = more (family.mark p) p ps }
-  put_grown ss ps (two left key right) =
-      record { separators = key ∷ ss; parts = more (family.mark left) left (more (family.mark right) right ps) }
+  abbrev pub put_insertion : List (List ℕ) → Parts E M → Insertion E M → Children E M
+  put_insertion ss ps (one p) = record { separators = ss; parts = more (family.annotation p) p ps }
+  put_insertion ss ps (two left key right) =
+      record {
+        separators = key ∷ ss;
+        parts = more (family.annotation left) left (more (family.annotation right) right ps);
+      }
 
   -- into a node, and into the child to which the search goes
   abbrev mutual
-    pub grow : E → Part E M → Result (Grown E M) UpdateFault
+    pub grow : E → Part E M → Result (Insertion E M) UpdateFault
     grow e (stub d) = Err Missing
-    grow e (leaf es) = if has_key (family.key e) es then Err DuplicateKey else Ok (split_leaf (put_entry e es))
+    grow e (leaf es) = if has_key (family.key e) es then Err DuplicateKey
+        else Ok (split_leaf (put_entry e es))
     grow e (inner ss ps) = result_map split_inner (grow_in e ss ps)
 
     pub grow_in : E → List (List ℕ) → Parts E M → Result (Children E M) UpdateFault
     grow_in e ss none = Err Missing
     grow_in e ss (more m p ps) =
         if goes_here (family.key e) (slice_get ss 0)
-        then result_map (put_grown ss ps) (grow e p)
+        then result_map (put_insertion ss ps) (grow e p)
         else result_map (after_child m p ss) (grow_in e (drop 1 ss) ps)
 
   -- a root that is split gets a new root of two children
-  abbrev pub root_of : Grown E M → Part E M
+  abbrev pub root_of : Insertion E M → Part E M
   root_of (one p) = p
   root_of (two left key right) =
-      inner (key ∷ []) (more (family.mark left) left (more (family.mark right) right none))
+      inner (key ∷ []) (more (family.annotation left) left
+      (more (family.annotation right) right none))
 
   abbrev pub inserted_by : E → Part E M → Result (Part E M) UpdateFault
   inserted_by e t = result_map root_of (grow e t)
@@ -130,11 +140,11 @@ walk_to key = record {
   shown = closed_entry;
 }
 
-abbrev pub insert_misses : List ℕ → RowTree → Bool
-insert_misses key p = misses (walk_to key) true p
+abbrev pub insert_is_missing : List ℕ → RowTree → Bool
+insert_is_missing key p = is_missing_by (walk_to key) true p
 
-abbrev pub insert_goes_beyond : List ℕ → RowTree → Bool
-insert_goes_beyond key p = goes_beyond (walk_to key) true p
+abbrev pub insert_has_surplus : List ℕ → RowTree → Bool
+insert_has_surplus key p = has_surplus_by (walk_to key) true p
 
 abbrev pub insert_proof : List ℕ → RowTree → RowTree
 insert_proof key t = pruned_by (walk_to key) row_family true t

@@ -12,21 +12,22 @@ use Rattle.vo_spec.specs.Batches.{FitsBatch, batch_bytes}
 use Rattle.vo_spec.specs.Records.{FitsRecord, record_bytes}
 
 -- how many bytes the proofs of a batch and a signature may have
-abbrev pub most_proofs : ℕ
-most_proofs = 134217728
+abbrev pub max_proofs : ℕ
+max_proofs = 134217728
 
-abbrev pub most_signature : ℕ
-most_signature = 65536
+abbrev pub max_signature : ℕ
+max_signature = 65536
 
 unfoldable pub entry_bytes : Entry → List ℕ
-entry_bytes e = codes "VOE1" ++ block (batch_bytes e.batch.commands) ++ block e.proofs ++ record_bytes e.rec ++ block e.signature
+entry_bytes e = codes "VOE1" ++ block (batch_bytes e.batch.commands) ++ block e.proofs
+    ++ record_bytes e.rec ++ block e.signature
 
 -- The proofs in an entry are any bytes: whether they prove anything is another question.
 pub record FitsEntry (e : Entry) : Type 0 where
   pub batch : FitsBatch e.batch.commands
-  pub proofs : length e.proofs ≤ most_proofs
+  pub proofs : length e.proofs ≤ max_proofs
   pub rec : FitsRecord e.rec
-  pub signature : length e.signature ≤ most_signature
+  pub signature : length e.signature ≤ max_signature
 
 -- a slot: an open gate, and an entry behind its length
 abbrev pub slot : Entry → List ℕ
@@ -45,11 +46,13 @@ Begins bytes es = AllByRecursion FitsEntry es × (rest : List ℕ) × (bytes ≡
 -- stand. One byte, or none, is a journal of no entries.
 abbrev pub IsJournal : List ℕ → List Entry → Type 0
 IsJournal bytes [] = (length bytes < 2) ⊎ IsClosed bytes
-IsJournal bytes (e ∷ es) = AllByRecursion FitsEntry (e ∷ es) × (rest : List ℕ) × IsClosed rest × (bytes ≡ flat_map slot (e ∷ es) ++ rest)
+IsJournal bytes (e ∷ es) = AllByRecursion FitsEntry (e ∷ es) × (rest : List ℕ) × IsClosed rest
+    × (bytes ≡ flat_map slot (e ∷ es) ++ rest)
 
 -- Bytes that are damaged: behind slots of these entries stands no gate, or an open one that no entry follows whole.
 abbrev pub IsDamaged : List ℕ → List Entry → Type 0
-IsDamaged bytes es = Begins bytes es × ((more : List Entry) → IsJournal bytes more → ⊥) × ((e : Entry) → Begins bytes (es ++ e ∷ []) → ⊥)
+IsDamaged bytes es = Begins bytes es × ((more : List Entry) → IsJournal bytes more → ⊥)
+    × ((e : Entry) → Begins bytes (es ++ e ∷ []) → ⊥)
 
 -- what a journal of these entries is as bytes, where nothing stands behind its closed gate
 unfoldable pub journal_bytes : List Entry → List ℕ

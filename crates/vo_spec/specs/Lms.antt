@@ -27,7 +27,8 @@ inner_node id r left right = sha256 (inner_text id r left right)
 
 -- the node above node r, from r's digest and its sibling's: an odd r is the right child
 unfoldable pub parent : List ℕ → ℕ → List ℕ → List ℕ → List ℕ
-parent id r node sibling = if r % 2 == 1 then inner_node id (r / 2) sibling node else inner_node id (r / 2) node sibling
+parent id r node sibling = if r % 2 == 1 then inner_node id (r / 2) sibling node
+    else inner_node id (r / 2) node sibling
 
 -- the node n levels above node r, along a path of siblings
 unfoldable pub climb : List ℕ → ℕ → (ℕ → List ℕ) → List ℕ → ℕ → List ℕ
@@ -54,7 +55,8 @@ unfoldable pub lms_candidate : LmsType → OtsType → List ℕ → List ℕ →
 lms_candidate lms ots id message signature =
     let q = u32_at signature 0 in
     let r = leaves_of lms + q in
-    climb id r (path_at ots signature) (leaf_node id r (ots_candidate id q ots message (ots_part ots signature))) (height_of lms)
+    climb id r (path_at ots signature)
+    (leaf_node id r (ots_candidate id q ots message (ots_part ots signature))) (height_of lms)
 
 -- a signature of a message is valid under a key with these parts
 unfoldable pub is_valid_under : LmsType → OtsType → List ℕ → List ℕ → List ℕ → List ℕ → Bool
@@ -65,7 +67,8 @@ is_valid_under lms ots id root message signature =
 
 -- the same, where the key's typecodes may name no set
 abbrev pub is_valid_by : Option LmsType → Option OtsType → List ℕ → List ℕ → List ℕ → List ℕ → Bool
-is_valid_by (Some lms) (Some ots) id root message signature = is_valid_under lms ots id root message signature
+is_valid_by (Some lms) (Some ots) id root message signature =
+    is_valid_under lms ots id root message signature
 is_valid_by _ _ id root message signature = false
 
 -- the parts of a public key: two typecodes, the identifier I and the root (5.3)
@@ -82,7 +85,8 @@ unfoldable pub key_root : List ℕ → List ℕ
 key_root key = digest_at key 24
 
 unfoldable pub public_bytes : LmsType → OtsType → List ℕ → List ℕ → List ℕ
-public_bytes lms ots id root = u32_bytes (lms_code_of lms) ++ u32_bytes (ots_code_of ots) ++ id ++ root
+public_bytes lms ots id root = u32_bytes (lms_code_of lms) ++ u32_bytes (ots_code_of ots)
+    ++ id ++ root
 
 -- 56 bytes whose typecodes do not both name a set
 unfoldable pub IsUnknownSet : List ℕ → Type 0
@@ -91,7 +95,8 @@ IsUnknownSet key = (length key ≡ 56) × ((key_lms key ≡ None) ⊎ (key_ots k
 -- the signature of a message is valid under a public key (algorithm 6)
 unfoldable pub lms_valid : List ℕ → List ℕ → List ℕ → Bool
 lms_valid key message signature =
-    (length key == 56) && is_valid_by (key_lms key) (key_ots key) (key_id key) (key_root key) message signature
+    (length key == 56) && is_valid_by (key_lms key) (key_ots key) (key_id key) (key_root key)
+    message signature
 
 -- the leaf that a signature says it is by, where it is long enough to say so
 unfoldable pub leaf_of : List ℕ → List ℕ → Option ℕ

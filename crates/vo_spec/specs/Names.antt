@@ -9,10 +9,15 @@ is_digit byte = nat_le 48 byte && nat_le byte 57
 abbrev pub is_name_byte : ℕ → Bool
 is_name_byte byte = (nat_le 97 byte && nat_le byte 122) || is_digit byte || byte == 95
 
--- 1 to 63 such bytes, of which the first is no digit
+-- how many bytes a name may have
+abbrev pub max_name : ℕ
+max_name = 63
+
+-- such bytes, at least one, of which the first is no digit
 abbrev pub is_name : List ℕ → Bool
 is_name [] = false
-is_name (first ∷ others) = nat_le (length (first ∷ others)) 63 && not (is_digit first) && list_all is_name_byte (first ∷ others)
+is_name (first ∷ others) = nat_le (length (first ∷ others)) max_name && not (is_digit first)
+    && list_all is_name_byte (first ∷ others)
 
 abbrev pub FitsName : List ℕ → Type 0
 FitsName name = IsTrue (is_name name)

@@ -21,7 +21,7 @@ use Rattle.vo_spec.specs.declared.queries.Items.TheVariants.{All, Refs}
 use Rattle.vo_spec.specs.Values.{key_of, key_lt, value_of_key}
 use Rattle.vo_spec.specs.Tables.{column_at, cell_number, value_at}
 use Rattle.vo_spec.specs.Conditions.{Condition, Conditions, every, some, negated, test, none, more, condition_refs, truth, Query}
-use Rattle.vo_spec.specs.Results.{Side, Place, side_at, schema_at, place_of, join_places, query_refs, numbers_from, Line, place_value, ref_value}
+use Rattle.vo_spec.specs.Results.{BoundSource, ColumnPlace, bound_source_at, schema_at, place_of, join_places, query_refs, numbers_from, RowView, place_value, ref_value}
 use Rattle.vo_spec.specs.Parts.{leaf}
 use Rattle.vo_spec.specs.Trees.{RowTree}
 use Rattle.vo_spec.specs.Scans.{seen}
@@ -56,98 +56,110 @@ lower (Inclusive a) (Exclusive b) = if key_lt a b then Inclusive a else Exclusiv
 lower (Exclusive a) (Inclusive b) = if key_lt b a then Inclusive b else Exclusive a
 lower (Exclusive a) (Exclusive b) = if key_lt b a then Exclusive b else Exclusive a
 
-abbrev pub shared : Interval → Interval → Interval
-shared a b = record { low = higher a.low b.low; high = lower a.high b.high }
+abbrev pub intersection : Interval → Interval → Interval
+intersection a b = record { low = higher a.low b.low; high = lower a.high b.high }
 
 -- The left interval: what the condition's conjuncts of the form `key op literal` share.
 
-abbrev pub is_left_key : List Side → Place → Bool
-is_left_key ss p = p.side == 0 && p.column == (schema_at ss 0).key
+abbrev pub is_left_key : List BoundSource → ColumnPlace → Bool
+is_left_key ss p = p.bound_source == 0 && p.column == (schema_at ss 0).key
 
-abbrev pub test_interval : List Side → Ref → Cmp → Operand → Interval
+abbrev pub test_interval : List BoundSource → Ref → Cmp → Operand → Interval
 test_interval ss left op (Column_of r) = all_keys
-test_interval ss left op (Literal v) = if is_left_key ss (place_of ss left) then keys_that op (key_of v) else all_keys
+test_interval ss left op (Literal v) = if is_left_key ss (place_of ss left)
+    then keys_that op (key_of v) else all_keys
 
 abbrev mutual
-  pub interval_of : List Side → Condition → Interval
+  pub interval_of : List BoundSource → Condition → Interval
   interval_of ss (every cs) = interval_of_all ss cs
   interval_of ss (some cs) = all_keys
   interval_of ss (negated c) = all_keys
   interval_of ss (test left op right) = test_interval ss left op right
 
-  pub interval_of_all : List Side → Conditions → Interval
+  pub interval_of_all : List BoundSource → Conditions → Interval
   interval_of_all ss none = all_keys
-  interval_of_all ss (more c cs) = shared (interval_of ss c) (interval_of_all ss cs)
+  interval_of_all ss (more c cs) = intersection (interval_of ss c) (interval_of_all ss cs)
 
 -- The left condition: the conjuncts on left columns alone. The others wait for the right row.
 
-abbrev pub is_left : List Side → Condition → Bool
-is_left ss c = list_all (λ r. (place_of ss r).side == 0) (condition_refs c)
+abbrev pub is_left : List BoundSource → Condition → Bool
+is_left ss c = list_all (λ r. (place_of ss r).bound_source == 0) (condition_refs c)
 
 abbrev mutual
-  pub left_truth : List Side → (Ref → Value) → Condition → Bool
+  pub left_truth : List BoundSource → (Ref → Value) → Condition → Bool
   left_truth ss row (every cs) = left_truths ss row cs
   left_truth ss row (some cs) = if is_left ss (some cs) then truth row (some cs) else true
   left_truth ss row (negated c) = if is_left ss (negated c) then truth row (negated c) else true
-  left_truth ss row (test left op right) = if is_left ss (test left op right) then truth row (test left op right) else true
+  left_truth ss row (test left op right) = if is_left ss (test left op right)
+      then truth row (test left op right) else true
 
-  pub left_truths : List Side → (Ref → Value) → Conditions → Bool
+  pub left_truths : List BoundSource → (Ref → Value) → Conditions → Bool
   left_truths ss row none = true
   left_truths ss row (more c cs) = left_truth ss row c && left_truths ss row cs
 
-abbrev pub meets_left : List Side → Query → Line → Bool
+abbrev pub meets_left : List BoundSource → Query → RowView → Bool
 meets_left ss q left = option_map_or (left_truth ss (ref_value ss (left ∷ []))) q.condition true
 
 -- The cells of a side that the query names: those of all its columns but the key under `*`, else those that
 -- some reference means.
 
-abbrev pub is_place : Place → Place → Bool
-is_place a b = a.side == b.side && a.column == b.column
+abbrev pub is_place : ColumnPlace → ColumnPlace → Bool
+is_place a b = a.bound_source == b.bound_source && a.column == b.column
 
 abbrev pub shows_all : Items → Bool
 shows_all All = true
 shows_all (Refs rs) = false
 
-abbrev pub is_named_column : List Side → Query → ℕ → ℕ → Bool
-is_named_column ss q side column =
-    shows_all q.items || list_any (λ r. is_place (place_of ss r) (record { side = side; column = column })) (query_refs q)
+abbrev pub is_named_column : List BoundSource → Query → ℕ → ℕ → Bool
+is_named_column ss q bound_source column =
+    shows_all q.items || list_any (λ r. is_place (place_of ss r)
+    (record { bound_source = bound_source; column = column })) (query_refs q)
 
-abbrev pub named_columns : List Side → Query → ℕ → List ℕ
-named_columns ss q side =
-    filter (λ column. not (column == (schema_at ss side).key) && is_named_column ss q side column)
-    (numbers_from 0 (length (schema_at ss side).columns))
+abbrev pub named_columns : List BoundSource → Query → ℕ → List ℕ
+named_columns ss q bound_source =
+    filter (λ column. not (column == (schema_at ss bound_source).key)
+    && is_named_column ss q bound_source column)
+    (numbers_from 0 (length (schema_at ss bound_source).columns))
 
-abbrev pub named_cells : List Side → Query → ℕ → List ℕ
-named_cells ss q side = map (cell_number (schema_at ss side).key) (named_columns ss q side)
+abbrev pub named_cells : List BoundSource → Query → ℕ → List ℕ
+named_cells ss q bound_source =
+    map (cell_number (schema_at ss bound_source).key) (named_columns ss q bound_source)
 
 -- The needs, and what is seen for them.
 
-abbrev pub left_need : List Side → Query → Need
-left_need ss q = record { interval = option_map_or (interval_of ss) q.condition all_keys; columns = named_cells ss q 0 }
+abbrev pub left_need : List BoundSource → Query → Need
+left_need ss q = record {
+  interval = option_map_or (interval_of ss) q.condition all_keys;
+  columns = named_cells ss q 0;
+}
 
 -- the value by which a left row finds its right row
-abbrev pub join_value : List Side → Join → Line → Value
+abbrev pub join_value : List BoundSource → Join → RowView → Value
 join_value ss j left = place_value (left ∷ []) (join_places ss j).0
 
-abbrev pub right_need : List Side → Query → Join → Line → Need
-right_need ss q j left = record { interval = keys_that cmp.Eq (key_of (join_value ss j left)); columns = named_cells ss q 1 }
+abbrev pub right_need : List BoundSource → Query → Join → RowView → Need
+right_need ss q j left = record {
+  interval = keys_that cmp.Eq (key_of (join_value ss j left));
+  columns = named_cells ss q 1;
+}
 
 -- a row that was seen, as the values of its columns: those in its key and in the need's cells
-abbrev pub seen_line : Schema → List ℕ → SeenRow → Line
-seen_line schema cells row column =
+abbrev pub seen_row_view : Schema → List ℕ → SeenRow → RowView
+seen_row_view schema cells row column =
     if column == schema.key then value_of_key (column_at schema.columns column).kind row.key
     else value_at row.values (position_or_len (λ c. c == cell_number schema.key column) cells)
 
-abbrev pub seen_lines : Schema → Need → RowTree → List Line
-seen_lines schema need p = map (seen_line schema need.columns) (unwrap_or (seen need p) [])
+abbrev pub seen_row_views : Schema → Need → RowTree → List RowView
+seen_row_views schema need p = map (seen_row_view schema need.columns) (unwrap_or (seen need p) [])
 
 -- The trees of a query: one for each of its tables, the left one first. A table joined with itself has one.
 
-abbrev pub same_table : List Side → Bool
-same_table ss = bytes_eq (side_at ss 0).table (side_at ss 1).table
+abbrev pub same_table : List BoundSource → Bool
+same_table ss = bytes_eq (bound_source_at ss 0).table (bound_source_at ss 1).table
 
-abbrev pub tables_used : List Side → List (List ℕ)
-tables_used ss = if length ss == 1 || same_table ss then (side_at ss 0).table ∷ [] else (side_at ss 0).table ∷ (side_at ss 1).table ∷ []
+abbrev pub tables_used : List BoundSource → List (List ℕ)
+tables_used ss = if length ss == 1 || same_table ss then (bound_source_at ss 0).table ∷ []
+    else (bound_source_at ss 0).table ∷ (bound_source_at ss 1).table ∷ []
 
 abbrev pub no_tree : RowTree
 no_tree = leaf []
@@ -155,21 +167,25 @@ no_tree = leaf []
 abbrev pub tree_at : List RowTree → ℕ → RowTree
 tree_at trees i = slice_index_or trees i no_tree
 
-abbrev pub right_tree : List Side → List RowTree → RowTree
+abbrev pub right_tree : List BoundSource → List RowTree → RowTree
 right_tree ss trees = if same_table ss then tree_at trees 0 else tree_at trees 1
 
 -- the left rows that are seen and meet the left condition; and of one of them, the right rows that are seen
-abbrev pub seen_lefts : List Side → Query → List RowTree → List Line
-seen_lefts ss q trees = filter (meets_left ss q) (seen_lines (schema_at ss 0) (left_need ss q) (tree_at trees 0))
+abbrev pub seen_lefts : List BoundSource → Query → List RowTree → List RowView
+seen_lefts ss q trees = filter (meets_left ss q)
+    (seen_row_views (schema_at ss 0) (left_need ss q) (tree_at trees 0))
 
-abbrev pub seen_rights : List Side → Query → List RowTree → Line → List Line
-seen_rights ss q trees left = flat_map (λ j. seen_lines (schema_at ss 1) (right_need ss q j left) (right_tree ss trees)) (option_to_list q.join)
+abbrev pub seen_rights : List BoundSource → Query → List RowTree → RowView → List RowView
+seen_rights ss q trees left = flat_map
+    (λ j. seen_row_views (schema_at ss 1) (right_need ss q j left) (right_tree ss trees))
+    (option_to_list q.join)
 
-abbrev pub right_needs : List Side → Query → List RowTree → List Need
-right_needs ss q trees = flat_map (λ j. map (right_need ss q j) (seen_lefts ss q trees)) (option_to_list q.join)
+abbrev pub right_needs : List BoundSource → Query → List RowTree → List Need
+right_needs ss q trees = flat_map (λ j. map (right_need ss q j) (seen_lefts ss q trees))
+    (option_to_list q.join)
 
 -- the needs of each tree, in the order of the trees
-abbrev pub needs : List Side → Query → List RowTree → List (List Need)
+abbrev pub needs : List BoundSource → Query → List RowTree → List (List Need)
 needs ss q trees =
     if length (tables_used ss) == 1
     then (left_need ss q ∷ right_needs ss q trees) ∷ []

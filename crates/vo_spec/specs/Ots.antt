@@ -8,7 +8,8 @@ use Rattle.vo_spec.specs.Bytes.{u16_bytes, u32_bytes, u32_at, digest_at, joined}
 
 -- digit i of width w of a byte string (3.1.3)
 abbrev pub coef : List ℕ → ℕ → ℕ → ℕ
-coef bytes i w = bit_and (2 ^ w - 1) (slice_index bytes (i * w / 8) / 2 ^ (8 - (w * (i % (8 / w)) + w)))
+coef bytes i w = bit_and (2 ^ w - 1)
+    (slice_index bytes (i * w / 8) / 2 ^ (8 - (w * (i % (8 / w)) + w)))
 
 -- by how much the first n digits of a digest fall short of the greatest digit, together
 unfoldable pub shortfall : List ℕ → ℕ → ℕ → ℕ
@@ -62,22 +63,26 @@ public_end id q ots seed i = advance id q i 0 (2 ^ width_of ots - 1) (secret id 
 
 -- the public key K (4.3)
 unfoldable pub ots_public : List ℕ → ℕ → OtsType → List ℕ → List ℕ
-ots_public id q ots seed = sha256 (public_text id q (joined (public_end id q ots seed) (count_of ots)))
+ots_public id q ots seed = sha256
+    (public_text id q (joined (public_end id q ots seed) (count_of ots)))
 
 -- what a signature releases of chain i, where these digits are signed
 abbrev pub signed_value : List ℕ → ℕ → OtsType → List ℕ → List ℕ → ℕ → List ℕ
-signed_value id q ots seed digits i = advance id q i 0 (coef digits i (width_of ots)) (secret id q seed i)
+signed_value id q ots seed digits i =
+    advance id q i 0 (coef digits i (width_of ots)) (secret id q seed i)
 
 -- the signature (4.5): the typecode, C, and a value of each chain
 unfoldable pub ots_signature : List ℕ → ℕ → OtsType → List ℕ → List ℕ → List ℕ
 ots_signature id q ots seed message =
     let random = randomizer id q seed in
     let digits = digits_of id q ots random message in
-    u32_bytes (ots_code_of ots) ++ random ++ joined (signed_value id q ots seed digits) (count_of ots)
+    u32_bytes (ots_code_of ots) ++ random
+    ++ joined (signed_value id q ots seed digits) (count_of ots)
 
 -- a signature's length and typecode are the set's
 unfoldable pub is_ots_form : OtsType → List ℕ → Bool
-is_ots_form ots signature = (length signature == ots_signature_len ots) && (u32_at signature 0 == ots_code_of ots)
+is_ots_form ots signature = (length signature == ots_signature_len ots)
+    && (u32_at signature 0 == ots_code_of ots)
 
 -- the end of chain i that a signature leads to
 abbrev pub candidate_end : List ℕ → ℕ → OtsType → List ℕ → List ℕ → ℕ → List ℕ

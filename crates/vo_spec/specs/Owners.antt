@@ -17,35 +17,39 @@ pub record IsSigned (key : List ℕ) (rec : Record) (signature : List ℕ) : Typ
   pub valid : IsTrue (lms_valid key (record_bytes rec) signature)
 
 -- the entry after these batches, which are as many as its version, its proofs aside
-pub record IsTakenEntry (key : List ℕ) (earlier : List (List Command)) (e : Entry) : Type 0 where
+pub record IsLoadableEntry (key : List ℕ) (earlier : List (List Command)) (e : Entry) : Type 0 where
   pub accepted : IsOk (apply_batch e.batch.commands (tables_after earlier))
-  pub record_is : e.rec ≡ honest_record key (length earlier) (honest_trees (earlier ++ e.batch.commands ∷ []))
+  pub record_is : e.rec ≡ honest_record key (length earlier)
+      (honest_trees (earlier ++ e.batch.commands ∷ []))
   pub signed : IsSigned key e.rec e.signature
 
 -- and with the proofs of its batch
 pub record IsHonestEntry (key : List ℕ) (earlier : List (List Command)) (e : Entry) : Type 0 where
-  pub taken : IsTakenEntry key earlier e
+  pub taken : IsLoadableEntry key earlier e
   pub proofs_are : e.proofs ≡ proofs_bytes (honest_proofs e.batch.commands (honest_trees earlier))
 
 abbrev pub AreOwnedAfter : List ℕ → List (List Command) → List Entry → Type 0
 AreOwnedAfter key earlier [] = Unit {0}
-AreOwnedAfter key earlier (e ∷ es) = IsHonestEntry key earlier e × AreOwnedAfter key (earlier ++ e.batch.commands ∷ []) es
+AreOwnedAfter key earlier (e ∷ es) = IsHonestEntry key earlier e
+    × AreOwnedAfter key (earlier ++ e.batch.commands ∷ []) es
 
 -- Entries from version 0 on that an owner of this key has written. Version 0 has no commands.
 unfoldable pub AreOwned : List ℕ → List Entry → Type 0
 AreOwned key [] = Unit {0}
 AreOwned key (e ∷ es) = (e.batch.commands ≡ []) × AreOwnedAfter key [] (e ∷ es)
 
-abbrev pub AreTakenAfter : List ℕ → List (List Command) → List Entry → Type 0
-AreTakenAfter key earlier [] = Unit {0}
-AreTakenAfter key earlier (e ∷ es) = IsTakenEntry key earlier e × AreTakenAfter key (earlier ++ e.batch.commands ∷ []) es
+abbrev pub AreLoadableAfter : List ℕ → List (List Command) → List Entry → Type 0
+AreLoadableAfter key earlier [] = Unit {0}
+AreLoadableAfter key earlier (e ∷ es) = IsLoadableEntry key earlier e
+    × AreLoadableAfter key (earlier ++ e.batch.commands ∷ []) es
 
 -- Entries from version 0 on that a store takes: it looks at no proofs, and of version 0 at the record and the
 -- signature alone.
-unfoldable pub AreTaken : List ℕ → List Entry → Type 0
-AreTaken key [] = Unit {0}
-AreTaken key (e ∷ es) =
-    (e.rec ≡ honest_record key 0 (honest_trees [])) × IsSigned key e.rec e.signature × AreTakenAfter key ([] ∷ []) es
+unfoldable pub AreLoadable : List ℕ → List Entry → Type 0
+AreLoadable key [] = Unit {0}
+AreLoadable key (e ∷ es) =
+    (e.rec ≡ honest_record key 0 (honest_trees [])) × IsSigned key e.rec e.signature
+    × AreLoadableAfter key ([] ∷ []) es
 
 -- The bytes are the journal of these entries, at least one, and they are of this sort.
 abbrev pub IsJournalOf : (List Entry → Type 0) → List ℕ → List Entry → Type 0
@@ -65,8 +69,8 @@ unfoldable pub IsBadAt : List ℕ → List ℕ → ℕ → Type 0
 IsBadAt key = FailsAt (AreOwned key)
 
 -- a journal that a store of this key takes, and where bytes fail to be one
-unfoldable pub IsLoaded : List ℕ → List ℕ → List Entry → Type 0
-IsLoaded key = IsJournalOf (AreTaken key)
+unfoldable pub IsLoadable : List ℕ → List ℕ → List Entry → Type 0
+IsLoadable key = IsJournalOf (AreLoadable key)
 
-unfoldable pub IsUnloadedAt : List ℕ → List ℕ → ℕ → Type 0
-IsUnloadedAt key = FailsAt (AreTaken key)
+unfoldable pub IsUnloadableAt : List ℕ → List ℕ → ℕ → Type 0
+IsUnloadableAt key = FailsAt (AreLoadable key)

@@ -1,6 +1,6 @@
 -- Merkle B-trees, whole or in part: their nodes, digests, and what a part may leave out of a tree. One
 -- type has them all. A family of trees says what its entries are, and what a node holds of each child
--- beside the child itself (its mark: nothing, in the trees of rows).
+-- beside the child itself (its annotation: nothing, in the trees of rows).
 use Rattle.std.specs.Prelude.{◌≡◌, ℕ, ◌+◌, max, List, [], ◌∷◌, ◌++◌, length, flat_map}
 use Rattle.std.specs.List.{AllZip}
 use Rattle.sha2.specs.Sha256.{sha256}
@@ -18,14 +18,14 @@ mutual
     more : M → Part E M → Parts E M → Parts E M
 
 -- What a family has of its own: the first bytes of its preimages, its entries' keys, and the bytes of
--- its entries and of its marks.
+-- its entries and of its annotations.
 pub record Family (E M : Type 0) : Type 0 where
   pub leaf_tag : ℕ
   pub inner_tag : ℕ
   pub key : E → List ℕ
   pub entry_bytes : E → List ℕ
-  pub mark : Part E M → M
-  pub mark_bytes : M → List ℕ
+  pub annotation : Part E M → M
+  pub annotation_bytes : M → List ℕ
 
 module _ {E M : Type 0} where
   abbrev pub count : Parts E M → ℕ
@@ -72,7 +72,7 @@ module _ {E M : Type 0} (family : Family E M) where
 
     pub child_bytes : Parts E M → List ℕ
     child_bytes none = []
-    child_bytes (more m p ps) = digest_by p ++ (family.mark_bytes m ++ child_bytes ps)
+    child_bytes (more m p ps) = digest_by p ++ (family.annotation_bytes m ++ child_bytes ps)
 
   abbrev pub inner_bytes : List (List ℕ) → Parts E M → List ℕ
   inner_bytes ss ps = inner_head ss (count ps) ++ child_bytes ps

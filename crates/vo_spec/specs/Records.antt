@@ -10,7 +10,7 @@ use Rattle.vo_spec.specs.declared.records.Catalog.{Catalog}
 use Rattle.vo_spec.specs.declared.records.Record.{Record}
 use Rattle.vo_spec.specs.Bytes.{u16_bytes, u64_bytes, short_string}
 use Rattle.vo_spec.specs.Values.{key_lt, same_kind}
-use Rattle.vo_spec.specs.Tables.{Heading, column_at, has_twice, most_tables, most_rows}
+use Rattle.vo_spec.specs.Tables.{TableHeader, column_at, has_twice, max_tables, max_rows}
 use Rattle.vo_spec.specs.Names.{FitsName}
 use Rattle.vo_spec.specs.Batches.{FitCounted, FitsColumn, counted, column_bytes}
 
@@ -18,7 +18,8 @@ use Rattle.vo_spec.specs.Batches.{FitCounted, FitsColumn, counted, column_bytes}
 
 abbrev pub catalog_table_bytes : CatalogTable → List ℕ
 catalog_table_bytes t =
-    short_string t.name ++ counted column_bytes t.schema.columns ++ t.schema.key ∷ u64_bytes t.rows ++ t.root
+    short_string t.name ++ counted column_bytes t.schema.columns
+    ++ t.schema.key ∷ u64_bytes t.rows ++ t.root
 
 unfoldable pub catalog_bytes : Catalog → List ℕ
 catalog_bytes c = u16_bytes (length c.tables) ++ flat_map catalog_table_bytes c.tables
@@ -47,18 +48,19 @@ are_rising (a ∷ []) = true
 are_rising (a ∷ b ∷ names) = key_lt a b && are_rising (b ∷ names)
 
 pub record FitsCatalog (c : Catalog) : Type 0 where
-  pub count : length c.tables ≤ most_tables
+  pub count : length c.tables ≤ max_tables
   pub each : AllByRecursion FitsCatalogTable c.tables
   pub rising : IsTrue (are_rising (map (λ (t : CatalogTable). t.name) c.tables))
 
 -- The bytes are this catalog.
 pub record IsCatalog (bytes : List ℕ) (c : Catalog) : Type 0 where
   pub fits : FitsCatalog c
-  pub spelled : bytes ≡ catalog_bytes c
+  pub encoded : bytes ≡ catalog_bytes c
 
 -- the tables of a catalog without their rows, by which commands and queries are refused
-abbrev pub headings : Catalog → List Heading
-headings c = map (λ (t : CatalogTable). record { name = t.name; schema = t.schema; count = t.rows }) c.tables
+abbrev pub table_headers : Catalog → List TableHeader
+table_headers c = map (λ (t : CatalogTable).
+    record { name = t.name; schema = t.schema; count = t.rows }) c.tables
 
 abbrev pub no_tables : Catalog
 no_tables = record { tables = [] }
@@ -80,4 +82,4 @@ pub record FitsRecord (r : Record) : Type 0 where
 -- The bytes are this record.
 pub record IsRecord (bytes : List ℕ) (r : Record) : Type 0 where
   pub fits : FitsRecord r
-  pub spelled : bytes ≡ record_bytes r
+  pub encoded : bytes ≡ record_bytes r

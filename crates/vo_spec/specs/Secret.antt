@@ -20,7 +20,8 @@ secret_of id seed ots lms = record { id = id; seed = seed; ots = ots; lms = lms 
 
 -- the tree's node r where it is at or above 2 ^ h, from the one-time key of its leaf
 abbrev pub bottom_node : Secret → ℕ → List ℕ
-bottom_node key r = leaf_node key.id r (ots_public key.id (r - 2 ^ height_of key.lms) key.ots key.seed)
+bottom_node key r = leaf_node key.id r
+    (ots_public key.id (r - 2 ^ height_of key.lms) key.ots key.seed)
 
 -- T[r] (5.3), at most n levels above the leaves
 unfoldable pub node_within : Secret → ℕ → ℕ → List ℕ

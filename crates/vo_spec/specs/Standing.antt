@@ -12,8 +12,8 @@ use Rattle.vo_spec.specs.Values.{key_lt}
 use Rattle.vo_spec.specs.Cells.{whole_entry}
 use Rattle.vo_spec.specs.Parts.{Part, Parts, stub, leaf, inner, none, more, Family, count, entries}
 use Rattle.vo_spec.specs.Trees.{RowTree, row_family}
-use Rattle.vo_spec.specs.Fits.{most_in_node}
-use Rattle.vo_spec.specs.Inserts.{half}
+use Rattle.vo_spec.specs.Fits.{max_fill}
+use Rattle.vo_spec.specs.Inserts.{min_fill}
 
 abbrev pub is_from : Option (List ℕ) → List ℕ → Bool
 is_from None key = true
@@ -42,24 +42,26 @@ AreRising (key ∷ keys) = AllByRecursion (λ k. IsTrue (key_lt key k)) keys × 
 
 module _ {E M : Type 0} (family : Family E M) where
   -- A node of no stub, with at least so many entries or children, with its leaves so many levels below it,
-  -- and with its keys between these separators. A parent holds of each child the mark of that child.
+  -- and with its keys between these separators. A parent holds of each child the annotation of that child.
   abbrev mutual
     pub IsNode : ℕ → ℕ → Option (List ℕ) → Option (List ℕ) → Part E M → Type 0
     IsNode fewest height lower upper (stub d) = ⊥
     IsNode fewest height lower upper (leaf es) =
-        (height ≡ 0) × (fewest ≤ length es) × (length es ≤ most_in_node)
+        (height ≡ 0) × (fewest ≤ length es) × (length es ≤ max_fill)
         × AllByRecursion (λ e. IsTrue (is_between lower upper (family.key e))) es
     IsNode fewest height lower upper (inner ss ps) =
-        (0 < height) × (fewest ≤ count ps) × (count ps ≤ most_in_node) × AreNodes (height - 1) lower upper ss ps
+        (0 < height) × (fewest ≤ count ps) × (count ps ≤ max_fill)
+        × AreNodes (height - 1) lower upper ss ps
 
     -- and its children, with the separators between them, one fewer, within the same bounds
     pub AreNodes : ℕ → Option (List ℕ) → Option (List ℕ) → List (List ℕ) → Parts E M → Type 0
     AreNodes height lower upper ss none = ⊥
-    AreNodes height lower upper [] (more m p none) = (m ≡ family.mark p) × IsNode half height lower upper p
+    AreNodes height lower upper [] (more m p none) = (m ≡ family.annotation p)
+        × IsNode min_fill height lower upper p
     AreNodes height lower upper [] (more m p (more n q ps)) = ⊥
     AreNodes height lower upper (s ∷ ss) (more m p ps) =
-        (m ≡ family.mark p) × IsTrue (is_within lower upper s)
-        × IsNode half height lower (Some s) p × AreNodes height (Some s) upper ss ps
+        (m ≡ family.annotation p) × IsTrue (is_within lower upper s)
+        × IsNode min_fill height lower (Some s) p × AreNodes height (Some s) upper ss ps
 
   -- a root that is a leaf may have any number of entries, and an inner one two children
   abbrev pub fewest_in_root : Part E M → ℕ
@@ -74,7 +76,7 @@ module _ {E M : Type 0} (family : Family E M) where
     pub rising : AreRising (map family.key (entries t))
 
 -- The tree is whole, and its entries are the rows, from left to right, with every cell shown.
-pub record StandsFor (t : RowTree) (rows : List Row) : Type 0 where
+pub record Represents (t : RowTree) (rows : List Row) : Type 0 where
   pub tree : IsTree row_family t
   pub rows_are : entries t ≡ map whole_entry rows
 

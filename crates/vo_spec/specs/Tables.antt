@@ -19,14 +19,14 @@ use Rattle.vo_spec.specs.Firsts.{first_of, unless, and_then}
 use Rattle.vo_spec.specs.Values.{kind_of, same_kind, key_of, key_lt}
 
 -- how many tables there may be, rows in a table, bytes in a stored key
-abbrev pub most_tables : ℕ
-most_tables = 64
+abbrev pub max_tables : ℕ
+max_tables = 64
 
-abbrev pub most_rows : ℕ
-most_rows = 4294967295
+abbrev pub max_rows : ℕ
+max_rows = 4294967295
 
-abbrev pub most_key : ℕ
-most_key = 255
+abbrev pub max_key : ℕ
+max_key = 255
 
 -- Columns.
 
@@ -62,25 +62,28 @@ has_twice (name ∷ names) = list_any (bytes_eq name) names || has_twice names
 -- whether each value is of its column's kind, column by column
 abbrev pub are_of_kinds : List Column → List Value → Bool
 are_of_kinds [] [] = true
-are_of_kinds (c ∷ columns) (v ∷ values) = same_kind c.kind (kind_of v) && are_of_kinds columns values
+are_of_kinds (c ∷ columns) (v ∷ values) = same_kind c.kind (kind_of v)
+    && are_of_kinds columns values
 are_of_kinds _ _ = false
 
 -- Tables without their rows, by which nearly all refusals go.
 
-pub record Heading : Type 0 where
+pub record TableHeader : Type 0 where
   pub name : List ℕ
   pub schema : Schema
   pub count : ℕ
 
-abbrev pub heading_of : Table → Heading
-heading_of t = record { name = t.name; schema = t.schema; count = length t.rows }
+abbrev pub table_header_of : Table → TableHeader
+table_header_of t = record { name = t.name; schema = t.schema; count = length t.rows }
 
-abbrev pub heading_named : List ℕ → List Heading → Option Heading
-heading_named name = find (λ (h : Heading). bytes_eq h.name name)
+abbrev pub table_header_named : List ℕ → List TableHeader → Option TableHeader
+table_header_named name = find (λ (h : TableHeader). bytes_eq h.name name)
 
 -- the first of the tests on the table of this name that holds, where there is that table
-abbrev pub on_table : List ℕ → List Heading → (Heading → List (Bool × CommandFault)) → Option CommandFault
-on_table name headings tests = option_map_or (λ h. first_of (tests h)) (heading_named name headings) (Some NoTable)
+abbrev pub on_table : List ℕ → List TableHeader → (TableHeader → List (Bool × CommandFault))
+    → Option CommandFault
+on_table name table_headers tests =
+    option_map_or (λ h. first_of (tests h)) (table_header_named name table_headers) (Some NoTable)
 
 -- no schema: two columns of one name, or a key that is no column or a BOOLEAN
 abbrev pub is_bad_schema : List Column → List ℕ → Bool
@@ -94,37 +97,49 @@ is_key schema name = column_number schema.columns name == schema.key
 
 -- whether the value is of the kind of the column of this name
 abbrev pub suits : List Column → List ℕ → Value → Bool
-suits columns name value = same_kind (column_at columns (column_number columns name)).kind (kind_of value)
+suits columns name value = same_kind (column_at columns (column_number columns name)).kind
+    (kind_of value)
 
 -- The tests of each command, in their order, but for those that need the rows (DuplicateKey, NoRow).
 
 abbrev pub Tests : Type 0
 Tests = List (Bool × CommandFault)
 
-abbrev pub create_tests : List ℕ → List Column → List ℕ → List Heading → Tests
-create_tests name columns key headings =
-    (is_some (heading_named name headings), TableExists)
-    ∷ (nat_le most_tables (length headings), TooManyTables)
+abbrev pub create_tests : List ℕ → List Column → List ℕ → List TableHeader → Tests
+create_tests name columns key table_headers =
+    (is_some (table_header_named name table_headers), TableExists)
+    ∷ (nat_le max_tables (length table_headers), TooManyTables)
     ∷ (is_bad_schema columns key, BadSchema)
     ∷ []
 
-abbrev pub insert_tests : List Value → Heading → Tests
+abbrev pub insert_tests : List Value → TableHeader → Tests
 insert_tests values h =
     (not (length values == length h.schema.columns), Arity)
     ∷ (not (are_of_kinds h.schema.columns values), TypeMismatch)
-    ∷ (nat_lt most_key (length (key_of (value_at values h.schema.key))), KeyTooLong)
-    ∷ (nat_le most_rows h.count, TableFull)
+    ∷ (nat_lt max_key (length (key_of (value_at values h.schema.key))), KeyTooLong)
+    ∷ (nat_le max_rows h.count, TableFull)
     ∷ []
 
-abbrev pub update_tests : List SetPart → List ℕ → Value → Heading → Tests
-update_tests sets column value h =
-    (not (list_all (λ (s : SetPart). has_column h.schema.columns s.column) sets && has_column h.schema.columns column), NoColumn)
+abbrev pub update_tests : List SetPart → List ℕ → Value → TableHeader → Tests
+update_tests sets column value h = (
+  not (list_all (λ (s : SetPart). has_column h.schema.columns s.column) sets
+      && has_column h.schema.columns column),
+  NoColumn,
+)
     ∷ (not (is_key h.schema column), NotKey)
-    ∷ (list_any (λ (s : SetPart). is_key h.schema s.column) sets || has_twice (map (λ (s : SetPart). s.column) sets), BadSet)
-    ∷ (not (list_all (λ (s : SetPart). suits h.schema.columns s.column s.value) sets && suits h.schema.columns column value), TypeMismatch)
+    ∷ (
+      list_any (λ (s : SetPart). is_key h.schema s.column) sets
+          || has_twice (map (λ (s : SetPart). s.column) sets),
+      BadSet,
+    )
+    ∷ (
+      not (list_all (λ (s : SetPart). suits h.schema.columns s.column s.value) sets
+          && suits h.schema.columns column value),
+      TypeMismatch,
+    )
     ∷ []
 
-abbrev pub delete_tests : List ℕ → Value → Heading → Tests
+abbrev pub delete_tests : List ℕ → Value → TableHeader → Tests
 delete_tests column value h =
     (not (has_column h.schema.columns column), NoColumn)
     ∷ (not (is_key h.schema column), NotKey)
@@ -132,18 +147,24 @@ delete_tests column value h =
     ∷ []
 
 -- the first of a command's tests that holds
-abbrev pub refusal : Command → List Heading → Option CommandFault
-refusal (Create name columns key) headings = first_of (create_tests name columns key headings)
-refusal (Drop name) headings = on_table name headings (λ h. [])
-refusal (Insert name values) headings = on_table name headings (insert_tests values)
-refusal (Update name sets column value) headings = on_table name headings (update_tests sets column value)
-refusal (Delete name column value) headings = on_table name headings (delete_tests column value)
+abbrev pub refusal : Command → List TableHeader → Option CommandFault
+refusal (Create name columns key) table_headers =
+    first_of (create_tests name columns key table_headers)
+refusal (Drop name) table_headers = on_table name table_headers (λ h. [])
+refusal (Insert name values) table_headers = on_table name table_headers (insert_tests values)
+refusal (Update name sets column value) table_headers =
+    on_table name table_headers (update_tests sets column value)
+refusal (Delete name column value) table_headers =
+    on_table name table_headers (delete_tests column value)
 
 -- Rows.
 
 -- the row of a full list of values, its key apart
 abbrev pub row_of : Schema → List Value → Row
-row_of schema values = record { key = key_of (value_at values schema.key); cells = remove values schema.key }
+row_of schema values = record {
+  key = key_of (value_at values schema.key);
+  cells = remove values schema.key;
+}
 
 abbrev pub has_row : List ℕ → List Row → Bool
 has_row key = list_any (λ (r : Row). bytes_eq r.key key)
@@ -162,13 +183,19 @@ pub record CellChange : Type 0 where
   pub value : Value
 
 abbrev pub changed_cells : List CellChange → List Value → List Value
-changed_cells changes cells = fold (λ (vs : List Value) (c : CellChange). slice_set vs c.column c.value) cells changes
+changed_cells changes cells = fold
+    (λ (vs : List Value) (c : CellChange). slice_set vs c.column c.value) cells changes
 
 abbrev pub changed_row : List ℕ → List CellChange → Row → Row
-changed_row key changes row = if bytes_eq row.key key then record { key = row.key; cells = changed_cells changes row.cells } else row
+changed_row key changes row = if bytes_eq row.key key
+    then record { key = row.key; cells = changed_cells changes row.cells } else row
 
 abbrev pub cell_changes : Schema → List SetPart → List CellChange
-cell_changes schema = map (λ (s : SetPart). record { column = cell_number schema.key (column_number schema.columns s.column); value = s.value })
+cell_changes schema = map (λ (s : SetPart).
+    record {
+      column = cell_number schema.key (column_number schema.columns s.column);
+      value = s.value;
+    })
 
 -- Tables.
 
@@ -181,24 +208,32 @@ rows_named name tables = option_map_or (λ (t : Table). t.rows) (table_named nam
 -- with this table before the first of a greater name
 abbrev pub put_table : Table → List Table → List Table
 put_table table [] = table ∷ []
-put_table table (t ∷ tables) = if key_lt table.name t.name then table ∷ t ∷ tables else t ∷ put_table table tables
+put_table table (t ∷ tables) = if key_lt table.name t.name then table ∷ t ∷ tables
+    else t ∷ put_table table tables
 
 -- with other rows in the table of this name
 abbrev pub with_rows : List ℕ → (Table → List Row) → List Table → List Table
-with_rows name rows = map (λ (t : Table). if bytes_eq t.name name then record { name = t.name; schema = t.schema; rows = rows t } else t)
+with_rows name rows = map (λ (t : Table). if bytes_eq t.name name
+    then record { name = t.name; schema = t.schema; rows = rows t } else t)
 
--- what a command that no heading refuses makes of the tables, or the refusal that needs the rows
+-- what a command that no table header refuses makes of the tables, or the refusal that needs the rows
 abbrev pub changed : Command → List Table → Result (List Table) CommandFault
 changed (Create name columns key) tables =
-    Ok (put_table (record { name = name; schema = record { columns = columns; key = column_number columns key }; rows = [] }) tables)
+    Ok (put_table (record {
+      name = name;
+      schema = record { columns = columns; key = column_number columns key };
+      rows = [];
+    }) tables)
 changed (Drop name) tables = Ok (filter (λ (t : Table). not (bytes_eq t.name name)) tables)
 changed (Insert name values) tables =
-    if option_map_or (λ (t : Table). has_row (row_of t.schema values).key t.rows) (table_named name tables) false
+    if option_map_or (λ (t : Table). has_row (row_of t.schema values).key t.rows)
+    (table_named name tables) false
     then Err DuplicateKey
     else Ok (with_rows name (λ t. put_row (row_of t.schema values) t.rows) tables)
 changed (Update name sets column value) tables =
     if has_row (key_of value) (rows_named name tables)
-    then Ok (with_rows name (λ t. map (changed_row (key_of value) (cell_changes t.schema sets)) t.rows) tables)
+    then Ok (with_rows name (λ t. map (changed_row (key_of value) (cell_changes t.schema sets))
+    t.rows) tables)
     else Err NoRow
 changed (Delete name column value) tables =
     if has_row (key_of value) (rows_named name tables)
@@ -207,7 +242,8 @@ changed (Delete name column value) tables =
 
 -- The tables after a command, or its first refusal.
 unfoldable pub apply : Command → List Table → Result (List Table) CommandFault
-apply command tables = and_then (changed command) (unless (refusal command (map heading_of tables)) tables)
+apply command tables = and_then (changed command)
+    (unless (refusal command (map table_header_of tables)) tables)
 
 -- a refusal with its command's number
 abbrev pub numbered : ℕ → Result (List Table) CommandFault → Result (List Table) (ℕ × CommandFault)
@@ -217,7 +253,8 @@ numbered index (Err fault) = Err (index, fault)
 -- commands in order, the first of them the one of this number
 abbrev pub apply_from : ℕ → List Command → List Table → Result (List Table) (ℕ × CommandFault)
 apply_from index [] tables = Ok tables
-apply_from index (command ∷ commands) tables = and_then (apply_from (index + 1) commands) (numbered index (apply command tables))
+apply_from index (command ∷ commands) tables =
+    and_then (apply_from (index + 1) commands) (numbered index (apply command tables))
 
 -- The tables after a batch; the first refused command refuses it whole.
 abbrev pub apply_batch : List Command → List Table → Result (List Table) (ℕ × CommandFault)

@@ -20,8 +20,8 @@ row_family = record {
   inner_tag = 4;
   key = key_in;
   entry_bytes = entry_bytes;
-  mark = λ _. tt;
-  mark_bytes = λ _. [];
+  annotation = λ _. tt;
+  annotation_bytes = λ _. [];
 }
 
 abbrev pub digest : RowTree → List ℕ

@@ -31,9 +31,13 @@ value_bytes (Int z) = 1 ∷ u64_bytes (cast_unsigned w64 z)
 value_bytes (Text s) = 2 ∷ string s
 value_bytes (Truth b) = 3 ∷ from_bool b ∷ []
 
--- a text that a column may hold: UTF-8, at most 1,024 bytes, no control character below 20 hex
+-- how many bytes a text may have
+abbrev pub max_text : ℕ
+max_text = 1024
+
+-- a text that a column may hold: UTF-8, with no control character below 20 hex
 abbrev pub is_text : List ℕ → Bool
-is_text s = nat_le (length s) 1024 && is_utf8 s && list_all (nat_le 32) s
+is_text s = nat_le (length s) max_text && is_utf8 s && list_all (nat_le 32) s
 
 abbrev pub FitsValue : Value → Type 0
 FitsValue (Int z) = FitsSigned w64 z

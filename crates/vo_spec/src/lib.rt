@@ -10,6 +10,7 @@ mod checks;
 mod collision;
 mod digest;
 mod keys;
+mod limits;
 mod lists;
 mod needs;
 mod numbers;
@@ -26,6 +27,10 @@ pub use checks::{Answer, AuditFault, CheckFault, Verdict};
 pub use collision::Collision;
 pub use digest::Digest;
 pub use keys::{Bound, Interval, Key};
+pub use limits::{
+    MAX_CELLS, MAX_COLUMNS, MAX_COMMANDS, MAX_FILL, MAX_KEY, MAX_LEVELS, MAX_NAME, MAX_PROOFS,
+    MAX_REPLY, MAX_ROWS, MAX_SIGNATURE, MAX_TABLES, MAX_TEXT, MIN_FILL,
+};
 pub use lists::List;
 pub use needs::{Need, SeenRow};
 pub use numbers::{u16_bytes, u32_bytes, u64_bytes};

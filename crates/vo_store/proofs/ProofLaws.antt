@@ -9,11 +9,11 @@ use Rattle.vo_spec.specs.declared.queries.Join.{Join}
 use Rattle.vo_spec.specs.declared.queries.Source.{Source}
 use Rattle.vo_spec.specs.declared.queries.QueryFault.{QueryFault}
 use Rattle.vo_spec.specs.Firsts.{first_some}
-use Rattle.vo_spec.specs.Batches.{most_columns}
+use Rattle.vo_spec.specs.Batches.{max_columns}
 use Rattle.vo_spec.specs.Conditions.{comparisons, Query}
-use Rattle.vo_spec.specs.Tables.{Heading, heading_of, heading_named, rows_named}
-use Rattle.vo_spec.specs.Records.{headings}
-use Rattle.vo_spec.specs.Results.{Side, side_at, schema_at, side_of, sides, sources, missing_table, same_alias, ref_fault, query_refs, join_fault, kind_fault, binding_fault}
+use Rattle.vo_spec.specs.Tables.{TableHeader, table_header_of, table_header_named, rows_named}
+use Rattle.vo_spec.specs.Records.{table_headers}
+use Rattle.vo_spec.specs.Results.{BoundSource, bound_source_at, schema_at, bound_source_of, bound_sources, sources, missing_table, same_alias, ref_fault, query_refs, join_fault, kind_fault, binding_fault}
 use Rattle.vo_spec.specs.Parts.{entries}
 use Rattle.vo_spec.specs.Trees.{RowTree}
 use Rattle.vo_spec.specs.Scans.{seen}
@@ -24,12 +24,12 @@ use Rattle.vo_laws.proofs.NamedFits.{cells_of, named_fits, named_cells_below}
 use Rattle.vo_laws.proofs.ReplyTrees.{pruned_complete}
 use Rattle.vo_laws.proofs.ScanLaws.{Shows, complete}
 use Rattle.vo_laws.proofs.StoredFits.{catalog_fits}
-use Rattle.vo_laws.proofs.Exact.{named_stands, same_headings}
+use Rattle.vo_laws.proofs.Exact.{named_stands, same_table_headers}
 use Rattle.vo_laws.proofs.NeedLaws.{needs_of_left}
-use Rattle.query_binding.specs.declared.sides.Side.{Side as HeldSide}
-use Rattle.query_binding.specs.Sided.{side_seen}
+use Rattle.query_binding.specs.declared.bound_sources.BoundSource.{BoundSource as HeldBoundSource}
+use Rattle.query_binding.specs.Sided.{bound_source_seen}
 use Rattle.stored_tables.specs.Standing.{IsStanding}
-use Rattle.query_plan.proofs.Narrow.{sides_narrow}
+use Rattle.query_plan.proofs.Narrow.{bound_sources_narrow}
 use Rattle.query_plan.specs.BoundQueries.{bound_query}
 use Rattle.query_plan.specs.Plans.{QueryPlan, plan_of}
 use Rattle.query_plan.proofs.MeaningLaws.{left_need_same}
@@ -41,28 +41,28 @@ use Rattle.vo_store.specs.Proving.{HasTable, HasTables, proofs_of, tree_by, left
 abbrev is_there : List ℕ → List Stored → Bool
 is_there name stored = is_some (find (λ (s : Stored). bytes_eq s.name name) stored)
 
-same_names : (name : List ℕ) (stored : List Stored) → is_some (heading_named name (headings (catalog_of stored))) ≡ is_there name stored
+same_names : (name : List ℕ) (stored : List Stored) → is_some (table_header_named name (table_headers (catalog_of stored))) ≡ is_there name stored
 same_names name [] = refl
 same_names name (s ∷ stored) = step (bytes_eq s.name name) (same_names name stored)
   where
-    step : (b : Bool) → is_some (heading_named name (headings (catalog_of stored))) ≡ is_there name stored
-        → is_some (cond b (Some (record { name = s.name; schema = s.schema; count = length (entries s.tree) })) (heading_named name (headings (catalog_of stored))))
+    step : (b : Bool) → is_some (table_header_named name (table_headers (catalog_of stored))) ≡ is_there name stored
+        → is_some (cond b (Some (record { name = s.name; schema = s.schema; count = length (entries s.tree) })) (table_header_named name (table_headers (catalog_of stored))))
         ≡ is_some (cond b (Some s) (find (λ (x : Stored). bytes_eq x.name name) stored))
     step true e = refl
     step false e = e
 
 module _ (stored : List Stored) where
-  abbrev hs : List Heading
-  hs = headings (catalog_of stored)
+  abbrev hs : List TableHeader
+  hs = table_headers (catalog_of stored)
 
   passed : (b : Bool) (fault : QueryFault) (rest : List (Option QueryFault)) → first_some (cond b None (Some fault) ∷ rest) ≡ None → (b ≡ true) × (first_some rest ≡ None)
   passed true fault rest e = (refl, e)
   passed false fault rest e = absurd (cc)
 
-  each_there : (ss : List Source) → first_some (map (missing_table hs) ss) ≡ None → (i : ℕ) → i < length ss → HasTable stored (side_at (map (side_of hs) ss) i).table
+  each_there : (ss : List Source) → first_some (map (missing_table hs) ss) ≡ None → (i : ℕ) → i < length ss → HasTable stored (bound_source_at (map (bound_source_of hs) ss) i).table
   each_there [] e i lt = absurd (omega arith)
-  each_there (s ∷ ss) e zero lt = sym (same_names s.table stored) ∙ (passed (is_some (heading_named s.table hs)) _ (map (missing_table hs) ss) e).0
-  each_there (s ∷ ss) e (suc i) lt = each_there ss (passed (is_some (heading_named s.table hs)) _ (map (missing_table hs) ss) e).1 i (omega arith)
+  each_there (s ∷ ss) e zero lt = sym (same_names s.table stored) ∙ (passed (is_some (table_header_named s.table hs)) _ (map (missing_table hs) ss) e).0
+  each_there (s ∷ ss) e (suc i) lt = each_there ss (passed (is_some (table_header_named s.table hs)) _ (map (missing_table hs) ss) e).1 i (omega arith)
 
   front : (xs ys : List (Option QueryFault)) → first_some (xs ++ ys) ≡ None → first_some xs ≡ None
   front [] ys e = refl
@@ -70,15 +70,15 @@ module _ (stored : List Stored) where
   front (Some fault ∷ xs) ys e = e
 
   -- a query that binds is of tables that are there
-  pub side_there : (q : Query) → binding_fault hs q ≡ None → HasTables stored (sides hs q)
-  side_there q e i lt =
-      let ss : List Side = sides hs q in
+  pub bound_source_there : (q : Query) → binding_fault hs q ≡ None → HasTables stored (bound_sources hs q)
+  bound_source_there q e i lt =
+      let ss : List BoundSource = bound_sources hs q in
       let tables = map (missing_table hs) (sources q) in
       let aliases = tables ++ same_alias (sources q) ∷ [] in
       let refs = aliases ++ map (ref_fault ss) (query_refs q) in
       let joins = refs ++ map (join_fault ss) (option_to_list q.join) in
       let kinds = map (kind_fault ss) (option_map_or comparisons q.condition []) in
-      each_there (sources q) (front tables _ (front aliases _ (front refs _ (front joins kinds e)))) i (omega (arith, length-map (sources q) (side_of hs)))
+      each_there (sources q) (front tables _ (front aliases _ (front refs _ (front joins kinds e)))) i (omega (arith, length-map (sources q) (bound_source_of hs)))
 
 -- what is not there is nothing
 pub unseen_none : {A : Type 0} (o : Option A) → is_none o ≡ true → o ≡ None
@@ -86,45 +86,45 @@ unseen_none None e = refl
 unseen_none (Some x) e = absurd (cc)
 
 -- a query of one source needs nothing of a right tree
-pub alone : (hs : List Heading) (q : Query) (ts : List RowTree) → length (sides hs q) ≡ 1 → right_needs (sides hs q) q ts ≡ []
+pub alone : (hs : List TableHeader) (q : Query) (ts : List RowTree) → length (bound_sources hs q) ≡ 1 → right_needs (bound_sources hs q) q ts ≡ []
 alone hs q ts e = step q.join refl
   where
-    step : (o : Option Join) → q.join ≡ o → right_needs (sides hs q) q ts ≡ []
+    step : (o : Option Join) → q.join ≡ o → right_needs (bound_sources hs q) q ts ≡ []
     step None is = rw is refl
     step (Some j) is =
-        let two : length (sides hs q) ≡ 2 = ap (λ (o : Option Join). length (map (side_of hs) (q.left ∷ option_to_list (option_map (λ (k : Join). k.right) o)))) is in
+        let two : length (bound_sources hs q) ≡ 2 = ap (λ (o : Option Join). length (map (bound_source_of hs) (q.left ∷ option_to_list (option_map (λ (k : Join). k.right) o)))) is in
         absurd (omega (arith, two, e))
 
 module _ (stored : List Stored) (standing : IsStanding stored) (q : Query) where
-  abbrev ss : List Side
-  ss = sides (headings (catalog_of stored)) q
+  abbrev ss : List BoundSource
+  ss = bound_sources (table_headers (catalog_of stored)) q
 
   abbrev need : Need
   need = left_need ss q
 
   abbrev tree : ℕ → RowTree
-  tree i = stored_tree stored (side_at ss i).table
+  tree i = stored_tree stored (bound_source_at ss i).table
 
   -- the left table's own proof
   abbrev first : RowTree
   first = pruned (need ∷ []) (tree 0)
 
-  pub narrow : (i : ℕ) → length (schema_at ss i).columns ≤ most_columns
-  narrow i = sides_narrow (catalog_of stored) (catalog_fits stored standing.tables standing.stand standing.fit) q i
+  pub narrow : (i : ℕ) → length (schema_at ss i).columns ≤ max_columns
+  narrow i = bound_sources_narrow (catalog_of stored) (catalog_fits stored standing.tables standing.stand standing.fit) q i
 
-  abbrev IsComplete : List Heading → Type 0
-  IsComplete hs = is_missing (left_need (sides hs q) q ∷ []) (pruned (left_need (sides hs q) q ∷ []) (stored_tree stored q.left.table)) ≡ false
+  abbrev IsComplete : List TableHeader → Type 0
+  IsComplete hs = is_missing (left_need (bound_sources hs q) q ∷ []) (pruned (left_need (bound_sources hs q) q ∷ []) (stored_tree stored q.left.table)) ≡ false
 
-  whole_complete : IsComplete (map heading_of standing.tables)
+  whole_complete : IsComplete (map table_header_of standing.tables)
   whole_complete =
-      let held : List Side = sides (map heading_of standing.tables) q in
+      let held : List BoundSource = bound_sources (map table_header_of standing.tables) q in
       let rows = rows_named q.left.table standing.tables in
       let fits = named_fits q.left.table standing.tables standing.fit.each in
       pruned_complete (cells_of (schema_at held 0)) (left_need held q ∷ []) (stored_tree stored q.left.table) rows
       (named_stands q.left.table stored standing.tables standing.stand) (named_cells_below held q 0 rows fits, tt) fits.cells
 
   first_complete : is_missing (need ∷ []) first ≡ false
-  first_complete = subst IsComplete (sym (same_headings stored standing.tables standing.stand)) whole_complete
+  first_complete = subst IsComplete (sym (same_table_headers stored standing.tables standing.stand)) whole_complete
 
   pub first_shown : seen need first ≡ None → ⊥
   first_shown e = subst Shows e (complete (need ∷ []) need first (inl refl) first_complete)
@@ -132,7 +132,7 @@ module _ (stored : List Stored) (standing : IsStanding stored) (q : Query) where
   -- The proofs, by how many trees the query uses.
 
   abbrev names : Bool → List (List ℕ)
-  names b = cond b ((side_at ss 0).table ∷ []) ((side_at ss 0).table ∷ (side_at ss 1).table ∷ [])
+  names b = cond b ((bound_source_at ss 0).table ∷ []) ((bound_source_at ss 0).table ∷ (bound_source_at ss 1).table ∷ [])
 
   abbrev rights : List (List ℕ) → List Need
   rights ns = right_needs ss q (pruned (need ∷ []) (tree_at (map (stored_tree stored) ns) 0) ∷ [])
@@ -145,24 +145,24 @@ module _ (stored : List Stored) (standing : IsStanding stored) (q : Query) where
   abbrev is_one : Bool
   is_one = length ss == 1 || same_table ss
 
-  by_first : proofs_of q stored ≡ proofs_by is_one (cond (is_some (binding_fault (headings (catalog_of stored)) q)) [] (names is_one))
-  by_first = ap (λ nss. pruned_each nss (map (stored_tree stored) (cond (is_some (binding_fault (headings (catalog_of stored)) q)) [] (names is_one))))
+  by_first : proofs_of q stored ≡ proofs_by is_one (cond (is_some (binding_fault (table_headers (catalog_of stored)) q)) [] (names is_one))
+  by_first = ap (λ nss. pruned_each nss (map (stored_tree stored) (cond (is_some (binding_fault (table_headers (catalog_of stored)) q)) [] (names is_one))))
       (sym (needs_of_left stored standing.tables standing.stand standing.fit q []))
 
-  bound_proofs : binding_fault (headings (catalog_of stored)) q ≡ None → proofs_of q stored ≡ proofs_by is_one (names is_one)
+  bound_proofs : binding_fault (table_headers (catalog_of stored)) q ≡ None → proofs_of q stored ≡ proofs_by is_one (names is_one)
   bound_proofs e = by_first ∙ ap (λ (o : Option QueryFault). proofs_by is_one (cond (is_some o) [] (names is_one))) e
 
-  pub one_proof : binding_fault (headings (catalog_of stored)) q ≡ None → is_one ≡ true → proofs_of q stored ≡ pruned (need ∷ right_needs ss q (first ∷ [])) (tree 0) ∷ []
+  pub one_proof : binding_fault (table_headers (catalog_of stored)) q ≡ None → is_one ≡ true → proofs_of q stored ≡ pruned (need ∷ right_needs ss q (first ∷ [])) (tree 0) ∷ []
   one_proof e one = bound_proofs e ∙ ap (λ b. proofs_by b (names b)) one
 
-  pub two_proofs : binding_fault (headings (catalog_of stored)) q ≡ None → is_one ≡ false → proofs_of q stored ≡ first ∷ pruned (right_needs ss q (first ∷ [])) (tree 1) ∷ []
+  pub two_proofs : binding_fault (table_headers (catalog_of stored)) q ≡ None → is_one ≡ false → proofs_of q stored ≡ first ∷ pruned (right_needs ss q (first ∷ [])) (tree 1) ∷ []
   two_proofs e two = bound_proofs e ∙ ap (λ b. proofs_by b (names b)) two
 
   none_each : (nss : List (List Need)) → pruned_each nss [] ≡ []
   none_each [] = refl
   none_each (ns ∷ nss) = refl
 
-  pub no_proofs : (fault : QueryFault) → binding_fault (headings (catalog_of stored)) q ≡ Some fault → proofs_of q stored ≡ []
+  pub no_proofs : (fault : QueryFault) → binding_fault (table_headers (catalog_of stored)) q ≡ Some fault → proofs_of q stored ≡ []
   no_proofs fault e =
       by_first ∙ ap (λ (o : Option QueryFault). proofs_by is_one (cond (is_some o) [] (names is_one))) e ∙ none_each _
 
@@ -181,7 +181,7 @@ module _ (stored : List Stored) (standing : IsStanding stored) (q : Query) where
   same_rights = right_needs_same ss q (left_proof plan stored) ∙ ap (λ (t : RowTree). right_needs ss q (t ∷ [])) same_proof
 
   -- by whether there is one source, and whether the tables are one
-  pub plan_same : binding_fault (headings (catalog_of stored)) q ≡ None → plan_proofs plan stored ≡ proofs_of q stored
+  pub plan_same : binding_fault (table_headers (catalog_of stored)) q ≡ None → plan_proofs plan stored ≡ proofs_of q stored
   plan_same e = step (length ss == 1) (same_table ss) refl refl
     where
       step : (one same : Bool) → (length ss == 1) ≡ one → same_table ss ≡ same
@@ -189,7 +189,7 @@ module _ (stored : List Stored) (standing : IsStanding stored) (q : Query) where
           ≡ proofs_of q stored
       step true same is f =
           ap (λ (t : RowTree). t ∷ []) same_proof
-          ∙ ap (λ (ns : List Need). pruned (need ∷ ns) (tree 0) ∷ []) (sym (alone (headings (catalog_of stored)) q (first ∷ []) (eqb-true (length ss) 1 is)))
+          ∙ ap (λ (ns : List Need). pruned (need ∷ ns) (tree 0) ∷ []) (sym (alone (table_headers (catalog_of stored)) q (first ∷ []) (eqb-true (length ss) 1 is)))
           ∙ sym (one_proof e (or_left (length ss == 1) (same_table ss) is))
       step false true is f =
           ap (λ (n : Need). pruned (n ∷ rights_by_proof plan stored) (tree 0) ∷ []) same_need
@@ -205,8 +205,8 @@ module _ (stored : List Stored) (standing : IsStanding stored) (q : Query) where
   plan_shown u = first_shown (sym (ap (seen need) same_proof) ∙ ap (λ (n : Need). seen n (left_proof plan stored)) (sym same_need) ∙ u)
 
 -- a left source, with a right one beside it if there is one
-abbrev pub beside : HeldSide → Option HeldSide → List Side
-beside left right = side_seen left ∷ option_to_list (option_map side_seen right)
+abbrev pub beside : HeldBoundSource → Option HeldBoundSource → List BoundSource
+beside left right = bound_source_seen left ∷ option_to_list (option_map bound_source_seen right)
 
 -- The proofs of a plan, by whether there is one source, and whether the tables are one.
 module _ (p : QueryPlan) (stored : List Stored) where
@@ -214,14 +214,14 @@ module _ (p : QueryPlan) (stored : List Stored) where
   made one same =
       cond one (left_proof p stored ∷ []) (cond same (pruned (p.left_need ∷ rights_by_proof p stored) (tree_by p stored 0) ∷ []) (left_proof p stored ∷ pruned (rights_by_proof p stored) (tree_by p stored 1) ∷ []))
 
-  pub made_alone : (length p.query.sides == 1) ≡ true → left_proof p stored ∷ [] ≡ plan_proofs p stored
-  made_alone one = ap (λ b. made b (same_table p.query.sides)) (sym one)
+  pub made_alone : (length p.query.bound_sources == 1) ≡ true → left_proof p stored ∷ [] ≡ plan_proofs p stored
+  made_alone one = ap (λ b. made b (same_table p.query.bound_sources)) (sym one)
 
-  module _ (two : (length p.query.sides == 1) ≡ false) (rights : List Need) (are : rights ≡ rights_by_proof p stored) where
-    pub made_of_both : same_table p.query.sides ≡ true → pruned (p.left_need ∷ rights) (tree_by p stored 0) ∷ [] ≡ plan_proofs p stored
+  module _ (two : (length p.query.bound_sources == 1) ≡ false) (rights : List Need) (are : rights ≡ rights_by_proof p stored) where
+    pub made_of_both : same_table p.query.bound_sources ≡ true → pruned (p.left_need ∷ rights) (tree_by p stored 0) ∷ [] ≡ plan_proofs p stored
     made_of_both same =
-        ap (λ (ns : List Need). pruned (p.left_need ∷ ns) (tree_by p stored 0) ∷ []) are ∙ ap (made false) (sym same) ∙ ap (λ b. made b (same_table p.query.sides)) (sym two)
+        ap (λ (ns : List Need). pruned (p.left_need ∷ ns) (tree_by p stored 0) ∷ []) are ∙ ap (made false) (sym same) ∙ ap (λ b. made b (same_table p.query.bound_sources)) (sym two)
 
-    pub made_of_each : same_table p.query.sides ≡ false → left_proof p stored ∷ pruned rights (tree_by p stored 1) ∷ [] ≡ plan_proofs p stored
+    pub made_of_each : same_table p.query.bound_sources ≡ false → left_proof p stored ∷ pruned rights (tree_by p stored 1) ∷ [] ≡ plan_proofs p stored
     made_of_each other =
-        ap (λ (ns : List Need). left_proof p stored ∷ pruned ns (tree_by p stored 1) ∷ []) are ∙ ap (made false) (sym other) ∙ ap (λ b. made b (same_table p.query.sides)) (sym two)
+        ap (λ (ns : List Need). left_proof p stored ∷ pruned ns (tree_by p stored 1) ∷ []) are ∙ ap (made false) (sym other) ∙ ap (λ b. made b (same_table p.query.bound_sources)) (sym two)

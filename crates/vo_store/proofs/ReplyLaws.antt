@@ -8,7 +8,7 @@ use Rattle.vo_spec.specs.declared.records.Catalog.{Catalog}
 use Rattle.vo_spec.specs.Tables.{tables_after}
 use Rattle.vo_spec.specs.Conditions.{Query}
 use Rattle.vo_spec.specs.Journals.{FitsEntry, IsJournal, batches_of}
-use Rattle.vo_spec.specs.Owners.{IsLoaded}
+use Rattle.vo_spec.specs.Owners.{IsLoadable}
 use Rattle.vo_spec.specs.Trees.{RowTree}
 use Rattle.vo_spec.specs.Replies.{Reply, FitsReply}
 use Rattle.vo_spec.specs.Honest.{Stored, catalog_of, honest_trees, honest_reply, reply_of}
@@ -24,9 +24,9 @@ journal_fits : (journal : List ℕ) (es : List Entry) → IsJournal journal es �
 journal_fits journal [] is = tt
 journal_fits journal (e ∷ es) is = is.0
 
-pub loaded_taken : (key journal : List ℕ) (es : List Entry) (stored : List Stored) → IsLoaded key journal es → stored ≡ honest_trees (batches_of (drop 1 es)) → IsTaken es stored
-unfolding IsLoaded
-loaded_taken key journal es stored loaded trees_are = record {
+pub loadable_taken : (key journal : List ℕ) (es : List Entry) (stored : List Stored) → IsLoadable key journal es → stored ≡ honest_trees (batches_of (drop 1 es)) → IsTaken es stored
+unfolding IsLoadable
+loadable_taken key journal es stored loaded trees_are = record {
   some = loaded.2;
   fit = journal_fits journal es loaded.0;
   trees_are = trees_are;

@@ -2,8 +2,8 @@
 use Rattle.std.specs.Prelude.{ℕ, ◌<◌, ◌==◌, if◌then◌else◌, List, [], ◌∷◌, length, find, bytes_eq, is_some, IsTrue}
 use Rattle.vo_spec.specs.declared.needs.Need.{Need}
 use Rattle.vo_spec.specs.Conditions.{Query}
-use Rattle.vo_spec.specs.Results.{Side, sides, side_at}
-use Rattle.vo_spec.specs.Records.{headings}
+use Rattle.vo_spec.specs.Results.{BoundSource, bound_sources, bound_source_at}
+use Rattle.vo_spec.specs.Records.{table_headers}
 use Rattle.vo_spec.specs.Trees.{RowTree}
 use Rattle.vo_spec.specs.Pruned.{pruned}
 use Rattle.vo_spec.specs.Needs.{needs, same_table}
@@ -14,20 +14,20 @@ use Rattle.plan_run.specs.Running.{lefts_seen, needs_of}
 -- the trees of the query, with open what it needs of each
 abbrev pub proofs_of : Query → List Stored → List RowTree
 proofs_of q stored = let trees = trees_for q stored in
-    pruned_each (needs (sides (headings (catalog_of stored)) q) q trees) trees
+    pruned_each (needs (bound_sources (table_headers (catalog_of stored)) q) q trees) trees
 
 -- there is a table of this name, and of each source's
 abbrev pub HasTable : List Stored → List ℕ → Type 0
 HasTable stored name = IsTrue (is_some (find (λ (s : Stored). bytes_eq s.name name) stored))
 
-abbrev pub HasTables : List Stored → List Side → Type 0
-HasTables stored ss = (i : ℕ) → i < length ss → HasTable stored (side_at ss i).table
+abbrev pub HasTables : List Stored → List BoundSource → Type 0
+HasTables stored ss = (i : ℕ) → i < length ss → HasTable stored (bound_source_at ss i).table
 
 -- The same of a plan.
 
 -- the tree of a source's table, whole
 abbrev pub tree_by : QueryPlan → List Stored → ℕ → RowTree
-tree_by p stored i = stored_tree stored (side_at p.query.sides i).table
+tree_by p stored i = stored_tree stored (bound_source_at p.query.bound_sources i).table
 
 -- the left table's own proof
 abbrev pub left_proof : QueryPlan → List Stored → RowTree
@@ -39,6 +39,7 @@ rights_by_proof p stored = needs_of p (lefts_seen p (left_proof p stored))
 
 abbrev pub plan_proofs : QueryPlan → List Stored → List RowTree
 plan_proofs p stored =
-    if length p.query.sides == 1 then left_proof p stored ∷ []
-    else (if same_table p.query.sides then pruned (p.left_need ∷ rights_by_proof p stored) (tree_by p stored 0) ∷ []
+    if length p.query.bound_sources == 1 then left_proof p stored ∷ []
+    else (if same_table p.query.bound_sources
+    then pruned (p.left_need ∷ rights_by_proof p stored) (tree_by p stored 0) ∷ []
     else left_proof p stored ∷ pruned (rights_by_proof p stored) (tree_by p stored 1) ∷ [])

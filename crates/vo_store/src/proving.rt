@@ -1,13 +1,13 @@
 //! The trees of a reply: those of the query's tables, with open what it needs of each.
 ghost use Rattle.std.specs.Prelude.{◌≡◌, ◌≤◌, [], ◌∷◌, None, Some, length, IfOk};
-ghost use Rattle.vo_spec.specs.Batches.{most_columns};
+ghost use Rattle.vo_spec.specs.Batches.{max_columns};
 ghost use Rattle.vo_spec.specs.Conditions.{query_of};
 ghost use Rattle.vo_spec.specs.Results.{schema_at};
 ghost use Rattle.vo_spec.specs.Scans.{seen};
 ghost use Rattle.vo_spec.specs.Pruned.{pruned};
 ghost use Rattle.vo_spec.specs.Honest.{catalog_of, stored_tree};
 ghost use Rattle.mb_tree.specs.View.{part_of};
-ghost use Rattle.query_binding.specs.Sided.{sides_seen};
+ghost use Rattle.query_binding.specs.Sided.{bound_sources_seen};
 ghost use Rattle.query_plan.specs.BoundViews.{query_seen};
 ghost use Rattle.query_plan.specs.Plans.{plan_of};
 ghost use Rattle.query_plan.specs.PlanViews.{plan_seen};
@@ -18,7 +18,7 @@ ghost use Rattle.vo_store.specs.Proving.{HasTable, HasTables, left_proof, plan_p
 
 use mb_tree::{PartTree, Tree};
 use plan_run::right_needs;
-use query_plan::{BindFault, Plan, Query, Side, bind, copy_need, plan, same_table};
+use query_plan::{BindFault, BoundSource, Plan, Query, bind, copy_need, plan, same_table};
 use range_proof::prune;
 use std::alloc::{AllocError, Global};
 use std::slice;
@@ -121,20 +121,20 @@ fn joined_proofs<'t>(
     alloc: Global,
     tables: &'t StoredTables,
     plan: &Plan<'_, '_>,
-    right: &Side<'_>,
+    right: &BoundSource<'_>,
     proof: PartTree<'t>,
 ) -> Result<Vec<PartTree<'t>>, AllocError>
-    requires left { HasTable tables.now plan.now.query.now.sides.left.table.now }
+    requires left { HasTable tables.now plan.now.query.now.bound_sources.left.table.now }
     requires right { HasTable tables.now right.now.table.now }
-    requires joined { plan.now.query.now.sides.right ≡ Some right.now }
+    requires joined { plan.now.query.now.bound_sources.right ≡ Some right.now }
     requires proof { part_of proof ≡ left_proof (plan_seen plan.now) tables.now }
     requires shown { seen plan.now.left_need (part_of proof) ≡ None → ⊥ }
     ensures { IfOk result (λ trees. trees_of trees ≡ plan_proofs (plan_seen plan.now) tables.now) }
 {
     let query = plan.query;
     let rights = needs_by_proof(alloc, plan, &proof)?;
-    if same_table(&query.sides) {
-        let tree = tree_of(tables, query.sides.left.table);
+    if same_table(&query.bound_sources) {
+        let tree = tree_of(tables, query.bound_sources.left.table);
         proofs_of_both(alloc, tree, &plan.left_need, rights)
     } else {
         let tree = tree_of(tables, right.table);
@@ -148,15 +148,15 @@ fn plan_proofs<'t>(
     tables: &'t StoredTables,
     plan: &Plan<'_, '_>,
 ) -> Result<Vec<PartTree<'t>>, AllocError>
-    requires tables { HasTables tables.now (sides_seen plan.now.query.now.sides) }
+    requires tables { HasTables tables.now (bound_sources_seen plan.now.query.now.bound_sources) }
     requires shown { seen plan.now.left_need (left_proof (plan_seen plan.now) tables.now) ≡ None
         → ⊥ }
     ensures { IfOk result (λ trees. trees_of trees ≡ plan_proofs (plan_seen plan.now) tables.now) }
 {
     let query = plan.query;
-    let tree = tree_of(tables, query.sides.left.table);
+    let tree = tree_of(tables, query.bound_sources.left.table);
     let proof = prune(alloc, tree, slice::from_ref(&plan.left_need))?;
-    match &query.sides.right {
+    match &query.bound_sources.right {
         Some(right) => joined_proofs(alloc, tables, plan, right, proof),
         None => one_proof(alloc, proof),
     }
@@ -168,9 +168,11 @@ fn bound_proofs<'t>(
     tables: &'t StoredTables,
     query: &Query<'_>,
 ) -> Result<Vec<PartTree<'t>>, AllocError>
-    requires tables { HasTables tables.now (sides_seen query.now.sides) }
-    requires left { length (schema_at (sides_seen query.now.sides) 0).columns ≤ most_columns }
-    requires right { length (schema_at (sides_seen query.now.sides) 1).columns ≤ most_columns }
+    requires tables { HasTables tables.now (bound_sources_seen query.now.bound_sources) }
+    requires left { length (schema_at (bound_sources_seen query.now.bound_sources) 0).columns ≤
+        max_columns }
+    requires right { length (schema_at (bound_sources_seen query.now.bound_sources) 1).columns ≤
+        max_columns }
     requires shown { let p = plan_of (query_seen query.now) in seen p.left_need
         (left_proof p tables.now) ≡ None → ⊥ }
     ensures { IfOk result (λ trees. trees_of trees

@@ -3,7 +3,7 @@ ghost use Rattle.std.specs.Prelude.{◌≡◌, ◌-◌, ◌<◌, ℕ, Err, IfOk,
 ghost use Rattle.vo_spec.specs.Conditions.{query_of};
 ghost use Rattle.vo_spec.specs.Replies.{FitsReply};
 ghost use Rattle.vo_spec.specs.Honest.{reply_of as reply_to};
-ghost use Rattle.vo_spec.specs.Owners.{IsUnloadedAt};
+ghost use Rattle.vo_spec.specs.Owners.{IsUnloadableAt};
 ghost use Rattle.vo_format.specs.View.{reply_of};
 ghost use Rattle.vo_store.specs.Taking.{IsTaken};
 ghost use Rattle.vo_store.specs.Replying.{IsReplyBy, IsTooLarge};
@@ -12,7 +12,7 @@ use crate::fault::ReplyFault;
 use crate::proving::proofs_for;
 use crate::writing::bytes_of;
 use lms_sign::PublicKey;
-use owner_state::{JournalFault, TakenJournal, read_taken};
+use owner_state::{JournalFault, LoadableJournal, read_loadable};
 use std::alloc::{AllocError, Global};
 use vo_format::Reply;
 use vo_spec::{Entry, QueryText};
@@ -27,7 +27,7 @@ fn last(entries: &[Entry]) -> &Entry
 /// The reply by the last entry and the tables behind it.
 fn reply_to<'t>(
     alloc: Global,
-    taken: &'t TakenJournal,
+    taken: &'t LoadableJournal,
     query: &QueryText,
 ) -> Result<Reply<'t>, AllocError>
     requires { IsTaken taken.now.entries taken.now.tables }
@@ -56,11 +56,11 @@ pub fn reply_by(
     ensures replies { IfOk result (λ bytes.
         IsReplyBy key journal.now (query_of query.now) bytes.items) }
     ensures bad { (index : ℕ) → result ≡ Err (ReplyFault.BadJournal index)
-        → IsUnloadedAt key journal.now index }
+        → IsUnloadableAt key journal.now index }
     ensures large { (size : ℕ) → result ≡ Err (ReplyFault.TooLarge size)
         → IsTooLarge key journal.now (query_of query.now) size }
 {
-    match read_taken(alloc, &key, journal) {
+    match read_loadable(alloc, &key, journal) {
         Ok(taken) => match reply_to(alloc, &taken, query) {
             Ok(reply) => bytes_of(alloc, &reply),
             Err(_) => Err(ReplyFault::Memory),

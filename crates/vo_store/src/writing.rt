@@ -8,7 +8,7 @@ use std::alloc::Global;
 use vo_format::{Reply, write_reply};
 
 /// How many bytes a reply may have.
-const MOST_REPLY: u64 = 67_108_864;
+const MAX_REPLY: u64 = 67_108_864;
 
 pub(crate) fn bytes_of(alloc: Global, reply: &Reply<'_>) -> Result<Vec<u8>, ReplyFault>
     requires { FitsReply (reply_of reply.now) }
@@ -16,7 +16,7 @@ pub(crate) fn bytes_of(alloc: Global, reply: &Reply<'_>) -> Result<Vec<u8>, Repl
 {
     let bytes = write_reply(alloc, reply)?;
     let length = bytes.len() as u64;
-    if length > MOST_REPLY {
+    if length > MAX_REPLY {
         return Err(ReplyFault::TooLarge { length });
     }
     Ok(bytes)

@@ -34,19 +34,22 @@ abbrev pub with_word : Text → List Row → (Text → Option Asked) → Option 
 with_word id rows rest = option_and_then rest (first_of id rows)
 
 abbrev pub keygen_asked : List Row → Option Asked
-keygen_asked rows = with_word (codes "seed") rows (λ seed. option_map (Keygen seed) (given_height rows))
+keygen_asked rows = with_word (codes "seed") rows
+    (λ seed. option_map (Keygen seed) (given_height rows))
 
 abbrev pub seal_asked : List Row → Option Asked
 seal_asked rows = with_word (codes "seed") rows (λ seed. with_word (codes "script") rows (λ script.
     option_map (Seal seed script) (given_height rows)))
 
 abbrev pub answer_asked : List Row → Option Asked
-answer_asked rows = with_word (codes "key") rows (λ key. with_word (codes "journal") rows (λ journal.
+answer_asked rows = with_word (codes "key") rows
+    (λ key. with_word (codes "journal") rows (λ journal.
     with_word (codes "query") rows (λ query. Some (Answer key journal query))))
 
 abbrev pub check_asked : List Row → Option Asked
 check_asked rows = with_word (codes "key") rows (λ key. with_word (codes "query") rows (λ query.
-    with_word (codes "reply") rows (λ reply. option_map (Check key query reply) (given_least rows))))
+    with_word (codes "reply") rows
+    (λ reply. option_map (Check key query reply) (given_least rows))))
 
 abbrev pub audit_asked : List Row → Option Asked
 audit_asked rows = with_word (codes "key") rows (λ key. with_word (codes "journal") rows (λ journal.

@@ -15,7 +15,8 @@ abbrev pub command_of : Text → List Rule → App
 command_of name rules = fold with_rule (new_app name) rules
 
 abbrev pub keygen_app : App
-keygen_app = command_of (codes "keygen") (word_rule (codes "seed") ∷ option_rule (codes "height") ∷ [])
+keygen_app = command_of (codes "keygen")
+    (word_rule (codes "seed") ∷ option_rule (codes "height") ∷ [])
 
 abbrev pub seal_app : App
 seal_app = command_of (codes "seal")
@@ -27,11 +28,13 @@ answer_app = command_of (codes "answer")
 
 abbrev pub check_app : App
 check_app = command_of (codes "check")
-    (word_rule (codes "key") ∷ word_rule (codes "query") ∷ word_rule (codes "reply") ∷ option_rule (codes "least") ∷ [])
+    (word_rule (codes "key") ∷ word_rule (codes "query") ∷ word_rule (codes "reply")
+    ∷ option_rule (codes "least") ∷ [])
 
 abbrev pub audit_app : App
 audit_app = command_of (codes "audit")
-    (word_rule (codes "key") ∷ word_rule (codes "journal") ∷ word_rule (codes "query") ∷ word_rule (codes "reply") ∷ [])
+    (word_rule (codes "key") ∷ word_rule (codes "journal") ∷ word_rule (codes "query")
+    ∷ word_rule (codes "reply") ∷ [])
 
 -- a command line of which a command must be used
 abbrev pub empty_app : App

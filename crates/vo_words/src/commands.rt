@@ -64,7 +64,8 @@ fn add_command<'a>(
     program: Command<'a>,
     form: &Form<'a>,
 ) -> Result<Command<'a>, AllocError>
-    ensures { IfOk result (λ made. app_of made ≡ with_command (app_of program.entry) (app_for form.now)) }
+    ensures { IfOk result (λ made. app_of made
+        ≡ with_command (app_of program.entry) (app_for form.now)) }
 {
     match command(alloc, form) {
         Ok(command) => program.subcommand(command),

@@ -15,7 +15,8 @@ use std::alloc::{AllocError, Global};
 /// What the words ask for, the program's name first. None are refused words: those that `clap`
 /// refuses or answers with help, and a number that the command doesn't take.
 pub fn read_words<'a>(alloc: Global, words: &'a [String]) -> Result<Option<Request<'a>>, AllocError>
-    ensures { IfOk result (λ request. option_map asked request ≡ asked_by (map string_bytes words.entry.now)) }
+    ensures { IfOk result (λ request. option_map asked request
+        ≡ asked_by (map string_bytes words.entry.now)) }
 {
     match program(alloc)?.try_get_matches_from(words) {
         Ok(matches) => Ok(request_in(&matches)),

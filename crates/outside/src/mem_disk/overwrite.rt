@@ -1,6 +1,6 @@
 //! A write into bytes that may grow by it.
 ghost use Rattle.std.specs.Prelude.{◌≡◌, ◌+◌, ◌≤◌, length, vec_capacity};
-ghost use Rattle.outside.specs.Drive.{overwritten};
+ghost use Rattle.outside.specs.DiskModel.{overwritten};
 
 /// Writes the piece at a place, with zeros before it where the bytes end earlier.
 pub fn overwrite(bytes: &mut Vec<u8>, at: usize, piece: &[u8])

@@ -29,8 +29,8 @@ fn connects(
 /// Whether the bytes that are put at one end come at the other, in their order and once, and then the end.
 fn talks(server: &mut Tcp<'_, HostRuntime>, client: &mut Tcp<'_, HostRuntime>) -> bool {
     let asked = (client.put(b"ask"), got::<3>(server));
-    let told = (
-        server.put(b"told"),
+    let known = (
+        server.put(b"known"),
         server.put(b" twice"),
         got::<10>(client),
     );
@@ -38,7 +38,7 @@ fn talks(server: &mut Tcp<'_, HostRuntime>, client: &mut Tcp<'_, HostRuntime>) -
     server.close();
     let closed = client.get(&mut [0u8; 4]);
     asked == (Ok(()), Ok(*b"ask"))
-        && told == (Ok(()), Ok(()), Ok(*b"told twice"))
+        && known == (Ok(()), Ok(()), Ok(*b"known twice"))
         && thanked == (Ok(()), Ok(*b"thanks"))
         && closed == Ok(0)
 }

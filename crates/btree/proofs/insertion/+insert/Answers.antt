@@ -4,7 +4,7 @@ use Rattle.std.specs.List.{position_or_len}
 use Rattle.vo_spec.specs.Values.{key_lt}
 use Rattle.vo_spec.specs.Parts.{Part, levels, levels_in}
 use Rattle.vo_spec.specs.Inserts.{grow}
-use Rattle.btree.specs.Nodes.{parts_from, IsGrown}
+use Rattle.btree.specs.Nodes.{parts_from, IsInsertion}
 use Rattle.btree.specs.Placing.{split, splice, node_of}
 use Rattle.btree.proofs.Answered.{answered, answers, fault_on}
 use Rattle.btree.proofs.Descents.{place_keys, inner_grows, inner_grow_fails}
@@ -27,7 +27,7 @@ insert_in_child-insert_below-requires g t c κs within =
 
 pub insert_in_child-split-requires-clause-linked : goal.insert_in_child-split-requires-clause-linked
 insert_in_child-split-requires-clause-linked g t c =
-    let a = answered (IsGrown g.N.TreeNode.family g.N.Key.Keyed.key g.N.TreeNode.kid) c.in-Ok.siblings _ c.in-Ok.ensures in
+    let a = answered (IsInsertion g.N.TreeNode.family g.N.Key.Keyed.key g.N.TreeNode.kid) c.in-Ok.siblings _ c.in-Ok.ensures in
     let ks = length-map c.args.children.now g.N.TreeNode.kid in
     let ss = length-map c.args.separators.now g.N.Key.Keyed.key in
     put_linked g.N.TreeNode.family c.position_above-place.result (map g.N.Key.Keyed.key c.args.separators.now) (map g.N.TreeNode.kid c.args.children.now) a.value _
@@ -35,7 +35,7 @@ insert_in_child-split-requires-clause-linked g t c =
 
 pub insert_in_child-split-requires-clause-most : goal.insert_in_child-split-requires-clause-most
 insert_in_child-split-requires-clause-most g t c =
-    let a = answered (IsGrown g.N.TreeNode.family g.N.Key.Keyed.key g.N.TreeNode.kid) c.in-Ok.siblings _ c.in-Ok.ensures in
+    let a = answered (IsInsertion g.N.TreeNode.family g.N.Key.Keyed.key g.N.TreeNode.kid) c.in-Ok.siblings _ c.in-Ok.ensures in
     let ks = length-map c.args.children.now g.N.TreeNode.kid in
     let ss = length-map c.args.separators.now g.N.Key.Keyed.key in
     put_most g.N.TreeNode.family c.position_above-place.result (map g.N.Key.Keyed.key c.args.separators.now) (map g.N.TreeNode.kid c.args.children.now) a.value _
@@ -47,7 +47,7 @@ insert_in_child-returns-in_ok-split-in-Ok g t c =
     let ss = map g.N.Key.Keyed.key c.args.separators.now in
     let ks = map g.N.TreeNode.kid c.args.children.now in
     let place = c.position_above-place.result in
-    let R = IsGrown family g.N.Key.Keyed.key g.N.TreeNode.kid in
+    let R = IsInsertion family g.N.Key.Keyed.key g.N.TreeNode.kid in
     let a = answered R c.in-Ok.siblings _ c.in-Ok.ensures in
     let within : place < length c.args.children.now = omega (arith, c.position_above-place.ensures.within, c.requires.between) in
     let d = child g.N.TreeNode.kid c.args.children.now place c.index-children-place.result (g.N.TreeNode.seen c.tree.result.now) within c.index-children-place.is c.tree.ensures c.requires.shaped in
@@ -65,7 +65,7 @@ insert_in_child-returns-in-Err g t c =
     let ss = map g.N.Key.Keyed.key c.args.separators.now in
     let ks = map g.N.TreeNode.kid c.args.children.now in
     let place = c.position_above-place.result in
-    let R = IsGrown family g.N.Key.Keyed.key g.N.TreeNode.kid in
+    let R = IsInsertion family g.N.Key.Keyed.key g.N.TreeNode.kid in
     let within : place < length c.args.children.now = omega (arith, c.position_above-place.ensures.within, c.requires.between) in
     let d = child g.N.TreeNode.kid c.args.children.now place c.index-children-place.result (g.N.TreeNode.seen c.tree.result.now) within c.index-children-place.is c.tree.ensures c.requires.shaped in
     let between : length ss + 1 ≡ length ks = omega (arith, length-map c.args.children.now g.N.TreeNode.kid, length-map c.args.separators.now g.N.Key.Keyed.key, c.requires.between) in

@@ -1,7 +1,7 @@
 use Rattle.std.proofs.Common.{◌+◌, map, Ok, ap, sym, arith}
 use Rattle.std.proofs.lemmas.List.{length-map}
 use Rattle.vo_spec.specs.Inserts.{result_map}
-use Rattle.btree.specs.Nodes.{contents_of, IsContents, IsGrown}
+use Rattle.btree.specs.Nodes.{contents_of, IsContents, IsInsertion}
 use Rattle.btree.specs.Placing.{node_of, splice}
 use Rattle.btree.proofs.Answered.{answered, answers, fault_on}
 use Rattle.btree.proofs.Insertions.{child}
@@ -18,7 +18,7 @@ returns-in_ok-put_siblings-in-Ok-clause-value g c =
     let ss = map g.N.Key.Keyed.key c.args.separators.now in
     let ks = map g.N.TreeNode.kid c.args.children.now in
     let t = contents_of g.N.Key.Keyed.key g.N.TreeNode.entry g.N.TreeNode.kid c.args.child in
-    let a = answered (IsGrown family g.N.Key.Keyed.key g.N.TreeNode.kid) c.in-Ok.siblings _ c.in-Ok.ensures in
+    let a = answered (IsInsertion family g.N.Key.Keyed.key g.N.TreeNode.kid) c.in-Ok.siblings _ c.in-Ok.ensures in
     let e = left_borrowed family g.N.Key.Keyed.key g.N.TreeNode.kid c.args.separators.now c.args.children.now c.args.left c.index-children-left.result c.index-separators-left.result t (g.N.TreeNode.seen c.tree.result.now) (Ok a.value)
     (omega (arith, c.requires.at, c.requires.between)) (omega (arith, c.requires.at)) c.index-children-left.is c.index-separators-left.is c.tree.ensures a.is in
     answers (IsContents g.N.Key.Keyed.key g.N.TreeNode.entry g.N.TreeNode.kid) c.in_ok-put_siblings-in-Ok.field-0 (node_of (splice family c.args.left (c.args.left + 1) ss ks a.value)) _
@@ -30,7 +30,7 @@ returns-in_ok-put_siblings-in-Ok-clause-loose g c =
     let ks = map g.N.TreeNode.kid c.args.children.now in
     let keys = length-map c.args.separators.now g.N.Key.Keyed.key in
     let children = length-map c.args.children.now g.N.TreeNode.kid in
-    let a = answered (IsGrown g.N.TreeNode.family g.N.Key.Keyed.key g.N.TreeNode.kid) c.in-Ok.siblings _ c.in-Ok.ensures in
+    let a = answered (IsInsertion g.N.TreeNode.family g.N.Key.Keyed.key g.N.TreeNode.kid) c.in-Ok.siblings _ c.in-Ok.ensures in
     pair_within g.N.TreeNode.family c.args.left ss ks a.value (contents_of g.N.Key.Keyed.key g.N.TreeNode.entry g.N.TreeNode.kid c.in_ok-put_siblings-in-Ok.field-0)
     (omega (arith, keys, children, c.requires.at)) (omega (arith, keys, children, c.requires.most)) (omega (arith, keys, children, c.requires.between)) (c.in_ok-put_siblings-in-Ok.ensures a.value a.holds)
 
@@ -38,7 +38,7 @@ pub returns-in-Err-clause-value : goal.returns-in-Err-clause-value
 returns-in-Err-clause-value g c =
     let family = g.N.TreeNode.family in
     let t = contents_of g.N.Key.Keyed.key g.N.TreeNode.entry g.N.TreeNode.kid c.args.child in
-    fault_on (IsGrown family g.N.Key.Keyed.key g.N.TreeNode.kid) (IsContents g.N.Key.Keyed.key g.N.TreeNode.entry g.N.TreeNode.kid) c.in-Err.fault _ _ c.in-Err.ensures
+    fault_on (IsInsertion family g.N.Key.Keyed.key g.N.TreeNode.kid) (IsContents g.N.Key.Keyed.key g.N.TreeNode.entry g.N.TreeNode.kid) c.in-Err.fault _ _ c.in-Err.ensures
     (λ f fails. ap (result_map node_of)
     (left_borrowed family g.N.Key.Keyed.key g.N.TreeNode.kid c.args.separators.now c.args.children.now c.args.left c.index-children-left.result c.index-separators-left.result t (g.N.TreeNode.seen c.tree.result.now) _
     (omega (arith, c.requires.at, c.requires.between)) (omega (arith, c.requires.at)) c.index-children-left.is c.index-separators-left.is c.tree.ensures fails))

@@ -1,7 +1,7 @@
 use Rattle.std.proofs.Common.{◌≡◌, ◌-◌, Ok, ap, ◌∙◌, subst, refl}
 use Rattle.vo_spec.specs.Parts.{Part}
 use Rattle.vo_spec.specs.Removes.{with_left}
-use Rattle.btree.specs.Nodes.{contents_of, IsContents, IsGrown}
+use Rattle.btree.specs.Nodes.{contents_of, IsContents, IsInsertion}
 use Rattle.btree.specs.Placing.{divide_merged}
 use Rattle.btree.specs.Shapes.{IsShaped, IsLinked}
 use Rattle.btree.proofs.Answered.{answered, answers}
@@ -33,6 +33,6 @@ returns g c =
     let P : Part _ _ → Type 0 = λ x. IsShaped x in
     let linked : IsLinked 2 t = linked_part family t (subst P first c.requires.shaped) in
     let g' = divide_merged family c.fill_of-fill.result c.saturating_sub.result (seen c.in_ok-all.all) in
-    answers (IsGrown family g.N.Key.Keyed.key g.N.TreeNode.kid) c.in_ok-divide_where_more.field-0 g' _
+    answers (IsInsertion family g.N.Key.Keyed.key g.N.TreeNode.kid) c.in_ok-divide_where_more.field-0 g' _
     (ap (λ x. with_left family x s (seen c.args.node)) first ∙ left_redivided family t s (seen c.args.node) (seen c.in_ok-all.all) c.fill_of-fill.result c.saturating_sub.result g' linked (m.is ∙ ap Ok m.holds) c.fill_of-fill.ensures (c.saturating_sub.ensures ∙ ap (λ n. n - 1) c.fill_of-fill.ensures) refl)
     c.in_ok-divide_where_more.ensures

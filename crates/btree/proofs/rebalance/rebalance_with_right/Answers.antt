@@ -1,7 +1,7 @@
 use Rattle.std.proofs.Common.{◌≡◌, ◌+◌, Ok, ap, ◌∙◌, subst, refl}
 use Rattle.vo_spec.specs.Parts.{Part}
 use Rattle.vo_spec.specs.Removes.{with_right}
-use Rattle.btree.specs.Nodes.{contents_of, IsContents, IsGrown}
+use Rattle.btree.specs.Nodes.{contents_of, IsContents, IsInsertion}
 use Rattle.btree.specs.Placing.{divide_merged}
 use Rattle.btree.specs.Shapes.{IsShaped}
 use Rattle.btree.proofs.Answered.{answered, answers}
@@ -31,6 +31,6 @@ returns g c =
     let second : g.N.TreeNode.seen c.args.right.now ≡ u = opened_is family (g.N.TreeNode.seen c.args.right.now) a.value a.is ∙ a.holds in
     let m = answered R c.in_ok-all.all _ c.in_ok-all.ensures in
     let g' = divide_merged family c.fill_of-fill.result (c.fill_of-at.result + 1) (seen c.in_ok-all.all) in
-    answers (IsGrown family g.N.Key.Keyed.key g.N.TreeNode.kid) c.in_ok-divide_where_more.field-0 g' _
+    answers (IsInsertion family g.N.Key.Keyed.key g.N.TreeNode.kid) c.in_ok-divide_where_more.field-0 g' _
     (ap (with_right family (seen c.args.node) s) second ∙ right_redivided family (seen c.args.node) s u (seen c.in_ok-all.all) c.fill_of-fill.result (c.fill_of-at.result + 1) g' c.requires.loose.linked (m.is ∙ ap Ok m.holds) c.fill_of-fill.ensures (ap (λ n. n + 1) c.fill_of-at.ensures) refl)
     c.in_ok-divide_where_more.ensures

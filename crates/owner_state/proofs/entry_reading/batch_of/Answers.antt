@@ -1,5 +1,5 @@
 use Rattle.std.proofs.Common.{arith}
-use Rattle.owner_state.proofs.BatchTaken.{batch_is_read}
+use Rattle.owner_state.proofs.BatchLoadable.{batch_is_read}
 use Rattle.owner_state.proofs.entry_reading.batch_of.Goals as goal
 
 pub returns : goal.returns

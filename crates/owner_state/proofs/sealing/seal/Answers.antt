@@ -1,7 +1,7 @@
 use Rattle.std.proofs.Common.{ℕ, List, [], ◌∷◌, ◌++◌, ap, ◌∙◌, sym, subst}
 use Rattle.vo_spec.specs.Honest.{sealed}
 use Rattle.vo_spec.specs.Journals.{journal_bytes}
-use Rattle.vo_spec.specs.Owners.{IsLoaded, IsOwned}
+use Rattle.vo_spec.specs.Owners.{IsLoadable, IsOwned}
 use Rattle.vo_spec.specs.Secret.{public_of_secret}
 use Rattle.round_trips.proofs.Sealed.{loaded, owned}
 use Rattle.owner_state.specs.Sealing.{commands_of}
@@ -33,5 +33,5 @@ returns-in_ok-extend_from_slice-in-Ok-clause-loaded c =
     let told = c.public-public.ensures in
     let signs = signs_validly key c.public-public.result told.value told.valid told.by in
     let done = sealable key batches signs (each_fits c.args.batches c.requires) c.in-Ok.ensures.sealed in
-    subst (λ (bytes : List ℕ). IsLoaded (public_of_secret key) bytes (sealed key batches))
+    subst (λ (bytes : List ℕ). IsLoadable (public_of_secret key) bytes (sealed key batches))
     (sym (c.in_ok-extend_from_slice-in-Ok.ensures.items ∙ ap (λ (t : List ℕ). t ++ 0 ∷ []) c.in-Ok.ensures.slots)) (loaded key batches done)

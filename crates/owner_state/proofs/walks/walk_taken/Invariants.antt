@@ -1,12 +1,12 @@
 use Rattle.std.proofs.Common.{◌≡◌, drop, take}
 use Rattle.vo_spec.specs.Journals.{batches_of}
-use Rattle.vo_spec.specs.Owners.{AreTaken}
+use Rattle.vo_spec.specs.Owners.{AreLoadable}
 use Rattle.vo_spec.specs.Honest.{honest_trees}
 use Rattle.owner_state.proofs.walks.walk_taken.Given as goal
 
 -- the entries so far are taken, and these are the tables behind them
 abbrev pub invariant-loop-index : goal.invariant-loop-index
 invariant-loop-index l = record {
-  taken : AreTaken l.key (take l.index l.entries);
+  taken : AreLoadable l.key (take l.index l.entries);
   trees : l.tables ≡ honest_trees (batches_of (drop 1 (take l.index l.entries)));
 }

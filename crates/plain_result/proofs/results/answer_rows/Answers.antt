@@ -1,7 +1,7 @@
 use Rattle.std.proofs.Common.{◌≡◌, map, ap, subst, ◌∙◌}
 use Rattle.std.specs.Prelude.{IfOk}
 use Rattle.query_plan.specs.BoundViews.{conjunct_seen, query_seen}
-use Rattle.plain_result.specs.RowLines.{row_line}
+use Rattle.plain_result.specs.RowViews.{view_of_row}
 use Rattle.plain_result.proofs.ResultLaws.{plain_are}
 use Rattle.plain_result.proofs.results.answer_rows.Goals as goal
 
@@ -11,6 +11,6 @@ returns c =
     (plain_are (query_seen c.args.query.now) c.args.tables.now _ _ _ _
     (ap (map conjunct_seen) c.deref.ensures.value ∙ c.in_ok-left.ensures)
     (ap (map conjunct_seen) c.deref-2.ensures.value ∙ c.in_ok-late.ensures)
-    (ap (map row_line) c.deref-3.ensures.value ∙ c.in_ok-lefts.ensures)
-    (ap (map row_line) c.deref-4.ensures.value ∙ c.in_ok-rights.ensures))
+    (ap (map view_of_row) c.deref-3.ensures.value ∙ c.in_ok-lefts.ensures)
+    (ap (map view_of_row) c.deref-4.ensures.value ∙ c.in_ok-rights.ensures))
     c.rows_of.ensures

@@ -1,7 +1,7 @@
 use Rattle.std.proofs.Common.{◌≡◌, ◌<◌, Some, length, map, arith}
 use Rattle.vo_spec.specs.Scans.{seen}
 use Rattle.mb_tree.specs.View.{part_of}
-use Rattle.query_binding.specs.Sided.{sides_seen}
+use Rattle.query_binding.specs.Sided.{bound_sources_seen}
 use Rattle.query_plan.specs.PlanViews.{plan_seen}
 use Rattle.plan_run.proofs.RunLaws.{used_some, first_tree, left_fault, run_done, right_fault}
 use Rattle.plan_run.proofs.running.run_plan.Goals as goal
@@ -9,14 +9,14 @@ use Rattle.plan_run.proofs.running.run_plan.Goals as goal
 pub returns-in-Err : goal.returns-in-Err
 returns-in-Err c =
     let trees = c.args.trees.now in
-    let some = used_some (sides_seen c.args.plan.now.query.now.sides) in
+    let some = used_some (bound_sources_seen c.args.plan.now.query.now.bound_sources) in
     let lt : 0 < length c.args.trees.now = omega (arith, some, c.requires) in
     left_fault (plan_seen c.args.plan.now) (map part_of trees) (part_of c.index-trees-0.result) (first_tree trees _ lt c.index-trees-0.is) c.in-Err.fault c.in-Err.ensures
 
 pub returns-in-Ok-show_seen : goal.returns-in-Ok-show_seen
 returns-in-Ok-show_seen c =
     let trees = c.args.trees.now in
-    let some = used_some (sides_seen c.args.plan.now.query.now.sides) in
+    let some = used_some (bound_sources_seen c.args.plan.now.query.now.bound_sources) in
     let lt : 0 < length c.args.trees.now = omega (arith, some, c.requires) in
     let found : seen c.args.plan.now.left_need (part_of c.index-trees-0.result) ≡ Some c.as_slice.result.now = cc c.in-Ok.ensures in
     run_done (plan_seen c.args.plan.now) (map part_of trees) (part_of c.index-trees-0.result) (first_tree trees _ lt c.index-trees-0.is)
@@ -25,7 +25,7 @@ returns-in-Ok-show_seen c =
 pub returns : goal.returns
 returns c =
     let trees = c.args.trees.now in
-    let some = used_some (sides_seen c.args.plan.now.query.now.sides) in
+    let some = used_some (bound_sources_seen c.args.plan.now.query.now.bound_sources) in
     let lt : 0 < length c.args.trees.now = omega (arith, some, c.requires) in
     let found : seen c.args.plan.now.left_need (part_of c.index-trees-0.result) ≡ Some c.as_slice.result.now = cc c.in-Ok.ensures in
     right_fault (plan_seen c.args.plan.now) (map part_of trees) (part_of c.index-trees-0.result) (first_tree trees _ lt c.index-trees-0.is)

@@ -6,5 +6,5 @@ use Rattle.query_plan.proofs.answers.push_pairs.Given as goal
 -- with what the rows to come show, this is all
 abbrev pub invariant-loop-right : goal.invariant-loop-right
 invariant-loop-right g l =
-    l.out.items ++ pair_answers (query_seen l.query) (map conjunct_seen l.late) (map g.R.Line.line (drop l.right-index l.rights)) (g.L.Line.line l.left)
-    ≡ l.initial.out.items ++ pair_answers (query_seen l.query) (map conjunct_seen l.late) (map g.R.Line.line l.rights) (g.L.Line.line l.left)
+    l.out.items ++ pair_answers (query_seen l.query) (map conjunct_seen l.late) (map g.R.RowView.row_view (drop l.right-index l.rights)) (g.L.RowView.row_view l.left)
+    ≡ l.initial.out.items ++ pair_answers (query_seen l.query) (map conjunct_seen l.late) (map g.R.RowView.row_view l.rights) (g.L.RowView.row_view l.left)

@@ -5,7 +5,7 @@ pub returns-clause-left : goal.returns-clause-left
 returns-clause-left c = λ ss q. left_need_same ss q
 
 pub returns-clause-right : goal.returns-clause-right
-returns-clause-right c = λ ss q j line. right_need_same ss q j line
+returns-clause-right c = λ ss q j row_view. right_need_same ss q j row_view
 
 pub returns-clause-kept : goal.returns-clause-kept
-returns-clause-kept c = λ ss q line. meets_same ss q line
+returns-clause-kept c = λ ss q row_view. meets_same ss q row_view

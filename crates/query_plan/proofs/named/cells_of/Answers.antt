@@ -12,9 +12,9 @@ loop-column-preserved c =
     let lt : c.loop-column.column < length c.args.schema.now.columns = omega arith in
     elim c.if-is_named_cell.branch [
       | then-is_named_cell+in_ok-push w ↦
-          let named : is_named_cell b c.args.side schema.key c.loop-column.column ≡ true = cc in
-          rw (w.cells-is, w.in_ok-push.ensures.items, w.cell_number.ensures) (step_named b c.args.side schema _ _ _ _ lt named c.loop-column.invariant)
+          let named : is_named_cell b c.args.bound_source schema.key c.loop-column.column ≡ true = cc in
+          rw (w.cells-is, w.in_ok-push.ensures.items, w.cell_number.ensures) (step_named b c.args.bound_source schema _ _ _ _ lt named c.loop-column.invariant)
       | else-is_named_cell w ↦
-          let passed : is_named_cell b c.args.side schema.key c.loop-column.column ≡ false = cc in
-          rw w.cells-is (step_passed b c.args.side schema _ _ _ _ lt passed c.loop-column.invariant)
+          let passed : is_named_cell b c.args.bound_source schema.key c.loop-column.column ≡ false = cc in
+          rw w.cells-is (step_passed b c.args.bound_source schema _ _ _ _ lt passed c.loop-column.invariant)
     ]

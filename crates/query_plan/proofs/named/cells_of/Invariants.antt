@@ -6,5 +6,5 @@ use Rattle.query_plan.proofs.named.cells_of.Given as goal
 -- with those of the columns to come, these are all
 abbrev pub invariant-loop-column : goal.invariant-loop-column
 invariant-loop-column l =
-    l.cells.items ++ cells_from (query_seen l.query) l.side l.schema l.column (length l.schema.columns - l.column)
-    ≡ cells_of (query_seen l.query) l.side l.schema
+    l.cells.items ++ cells_from (query_seen l.query) l.bound_source l.schema l.column (length l.schema.columns - l.column)
+    ≡ cells_of (query_seen l.query) l.bound_source l.schema

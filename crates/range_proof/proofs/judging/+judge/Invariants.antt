@@ -1,7 +1,7 @@
 use Rattle.std.proofs.Common.{◌≡◌, ◌+◌, ◌*◌, ◌||◌, drop, None}
 use Rattle.std.specs.Option.{option_copied}
 use Rattle.vo_spec.specs.Parts.{levels, levels_in}
-use Rattle.vo_spec.specs.Pruned.{misses_in, goes_beyond_in, walk_for}
+use Rattle.vo_spec.specs.Pruned.{is_missing_in, has_surplus_in, walk_for}
 use Rattle.mb_tree.specs.View.{part_of, parts_of}
 use Rattle.range_proof.proofs.judging.+judge.Given as goal
 
@@ -14,7 +14,7 @@ decreases-judge_children l = 2 * levels_in (parts_of l.children.now) + 1
 -- no child so far misses anything, and what is told of them goes for all with those to come
 abbrev pub invariant-judge_children-loop-place : goal.invariant-judge_children-loop-place
 invariant-judge_children-loop-place l =
-    (misses_in (walk_for l.visitors.all) l.visitors.going (option_copied l.lower) (drop l.place l.separators) (parts_of (drop l.place l.children))
-    ≡ misses_in (walk_for l.visitors.all) l.visitors.going None l.separators (parts_of l.children))
-    × (l.surplus || goes_beyond_in (walk_for l.visitors.all) l.visitors.going (option_copied l.lower) (drop l.place l.separators) (parts_of (drop l.place l.children))
-    ≡ goes_beyond_in (walk_for l.visitors.all) l.visitors.going None l.separators (parts_of l.children))
+    (is_missing_in (walk_for l.visitors.all) l.visitors.going (option_copied l.lower) (drop l.place l.separators) (parts_of (drop l.place l.children))
+    ≡ is_missing_in (walk_for l.visitors.all) l.visitors.going None l.separators (parts_of l.children))
+    × (l.surplus || has_surplus_in (walk_for l.visitors.all) l.visitors.going (option_copied l.lower) (drop l.place l.separators) (parts_of (drop l.place l.children))
+    ≡ has_surplus_in (walk_for l.visitors.all) l.visitors.going None l.separators (parts_of l.children))

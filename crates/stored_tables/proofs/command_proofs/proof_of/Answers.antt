@@ -1,8 +1,8 @@
 use Rattle.std.proofs.Common.{sym}
-use Rattle.table_list.specs.Headings.{command_name}
+use Rattle.table_list.specs.TableHeaders.{command_name}
 use Rattle.stored_tables.specs.View.{stored_in, lent_stored}
 use Rattle.stored_tables.proofs.LimitLaws.{fits_at}
-use Rattle.stored_tables.proofs.PlaceLaws.{proof_nowhere, proof_at, unlike_lent, at_lent}
+use Rattle.stored_tables.proofs.PositionLaws.{proof_nowhere, proof_at, unlike_lent, at_lent}
 use Rattle.stored_tables.proofs.ProofLaws.{as_found, found_fits}
 use Rattle.stored_tables.proofs.command_proofs.proof_of.Goals as goal
 

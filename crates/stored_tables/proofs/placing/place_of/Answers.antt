@@ -1,5 +1,5 @@
 use Rattle.stored_tables.specs.View.{stored_in}
-use Rattle.stored_tables.proofs.PlaceLaws.{found_here, unlike_more}
+use Rattle.stored_tables.proofs.PositionLaws.{found_here, unlike_more}
 use Rattle.stored_tables.proofs.placing.place_of.Goals as goal
 
 pub returns-then-has_name : goal.returns-then-has_name

@@ -1,7 +1,7 @@
 use Rattle.std.proofs.Common.{sym}
 use Rattle.stored_tables.specs.View.{stored_in, lent_stored}
 use Rattle.stored_tables.proofs.LimitLaws.{fits_at}
-use Rattle.stored_tables.proofs.PlaceLaws.{find_at, find_nowhere}
+use Rattle.stored_tables.proofs.PositionLaws.{find_at, find_nowhere}
 use Rattle.stored_tables.proofs.placing.table_of.Goals as goal
 
 pub returns-in-Some-clause-found : goal.returns-in-Some-clause-found

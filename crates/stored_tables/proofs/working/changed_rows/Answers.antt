@@ -2,11 +2,11 @@ use Rattle.std.specs.declared.rc.Rc.{Rc}
 use Rattle.std.specs.declared.vec.Vec.{Vec}
 use Rattle.std.specs.declared.alloc.Global.{Global}
 use Rattle.std.proofs.Common.{Err, sym, subst, ◌∙◌}
-use Rattle.table_list.specs.Changes.{Gives}
-use Rattle.table_list.specs.Headings.{command_name}
+use Rattle.table_list.specs.Changes.{Returns}
+use Rattle.table_list.specs.TableHeaders.{command_name}
 use Rattle.stored_tables.specs.declared.table.StoredTable.{StoredTable}
 use Rattle.stored_tables.specs.View.{stored_in, lent_stored}
-use Rattle.stored_tables.proofs.PlaceLaws.{rows_changed, table_changed, table_refused, unlike_lent, at_lent}
+use Rattle.stored_tables.proofs.PositionLaws.{rows_changed, table_changed, table_refused, unlike_lent, at_lent}
 use Rattle.stored_tables.proofs.ReadyLaws.{rows_nowhere, ready}
 use Rattle.stored_tables.proofs.working.changed_rows.Goals as goal
 
@@ -38,6 +38,6 @@ returns-in-Err c =
     let command = c.args.command.now in
     let stored = stored_in c.args.tables.now in
     let s = lent_stored c.in-Some.place.table in
-    subst (Gives (λ (new : Vec (Rc StoredTable Global) Global). stored_in new.items) (Err c.in-Err.fault)) (sym (rows_changed command stored c.requires.rows))
+    subst (Returns (λ (new : Vec (Rc StoredTable Global) Global). stored_in new.items) (Err c.in-Err.fault)) (sym (rows_changed command stored c.requires.rows))
     (table_refused (λ (new : Vec (Rc StoredTable Global) Global). stored_in new.items) (command_name command) command stored c.in-Some.place.at s c.in-Err.fault
     (at_lent _ (command_name command) stored c.in-Some.place.at s c.command_name.ensures c.in-Some.ensures) c.in-Err.ensures)

@@ -2,7 +2,7 @@ use Rattle.std.proofs.Common.{sym, subst, ◌∙◌}
 use Rattle.std.specs.declared.rc.Rc.{Rc}
 use Rattle.std.specs.declared.vec.Vec.{Vec}
 use Rattle.std.specs.declared.alloc.Global.{Global}
-use Rattle.table_list.specs.Changes.{Gives}
+use Rattle.table_list.specs.Changes.{Returns}
 use Rattle.stored_tables.specs.declared.table.StoredTable.{StoredTable}
 use Rattle.stored_tables.specs.View.{stored_in}
 use Rattle.stored_tables.proofs.WorkLaws.{work_allowed, work_refused}
@@ -17,4 +17,4 @@ returns-in-None-clause-standing c =
     let stored = stored_in c.args.tables.now in
     let allowed = sym c.fault_of.ensures ∙ c.in-None.is in
     gives_standing (λ (new : Vec (Rc StoredTable Global) Global). stored_in new.items) c.args.command.now stored c.changed.result c.requires.fits c.requires.standing
-    (subst (λ answer. Gives (λ (new : Vec (Rc StoredTable Global) Global). stored_in new.items) c.changed.result answer) (sym (work_allowed c.args.command.now stored allowed)) c.changed.ensures)
+    (subst (λ answer. Returns (λ (new : Vec (Rc StoredTable Global) Global). stored_in new.items) c.changed.result answer) (sym (work_allowed c.args.command.now stored allowed)) c.changed.ensures)

@@ -1,22 +1,22 @@
 use Rattle.std.proofs.Common.{Some, map, sym, ap, ◌∙◌}
 use Rattle.std.specs.Prelude.{option_map}
 use Rattle.std.proofs.lemmas.List.{length-map}
-use Rattle.vo_spec.specs.Tables.{heading_of, heading_named}
-use Rattle.table_list.proofs.PlainLaws.{heading_by_name}
+use Rattle.vo_spec.specs.Tables.{table_header_of, table_header_named}
+use Rattle.table_list.proofs.PlainLaws.{table_header_by_name}
 use Rattle.table_list.proofs.commands.refusal.Goals as goal
 
 pub returns-in-Some : goal.returns-in-Some
 returns-in-Some c =
     let tables = c.args.tables.now in
-    let named = heading_by_name c.command_name.result.now tables ∙ ap (option_map heading_of) (sym c.in-Some.ensures) in
-    c.first_refusal.ensures (map heading_of tables)
-    (ap (λ n. heading_named n (map heading_of tables)) (sym c.command_name.ensures) ∙ named ∙ ap Some (sym c.heading_of.ensures))
-    (length-map tables heading_of)
+    let named = table_header_by_name c.command_name.result.now tables ∙ ap (option_map table_header_of) (sym c.in-Some.ensures) in
+    c.first_refusal.ensures (map table_header_of tables)
+    (ap (λ n. table_header_named n (map table_header_of tables)) (sym c.command_name.ensures) ∙ named ∙ ap Some (sym c.table_header_of.ensures))
+    (length-map tables table_header_of)
 
 pub returns-in-None : goal.returns-in-None
 returns-in-None c =
     let tables = c.args.tables.now in
-    let named = heading_by_name c.command_name.result.now tables ∙ ap (option_map heading_of) (sym c.in-None.ensures) in
-    c.first_refusal-in-None.ensures (map heading_of tables)
-    (ap (λ n. heading_named n (map heading_of tables)) (sym c.command_name.ensures) ∙ named)
-    (length-map tables heading_of)
+    let named = table_header_by_name c.command_name.result.now tables ∙ ap (option_map table_header_of) (sym c.in-None.ensures) in
+    c.first_refusal-in-None.ensures (map table_header_of tables)
+    (ap (λ n. table_header_named n (map table_header_of tables)) (sym c.command_name.ensures) ∙ named)
+    (length-map tables table_header_of)

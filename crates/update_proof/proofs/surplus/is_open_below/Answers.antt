@@ -1,7 +1,7 @@
 use Rattle.std.proofs.Common.{map, sym, ap, ◌∙◌}
 use Rattle.mb_tree.specs.View.{part_of}
 use Rattle.update_proof.specs.Closing.{any_open}
-use Rattle.update_proof.specs.Proving.{looked_beyond}
+use Rattle.update_proof.specs.Proving.{opened_sibling_surplus}
 use Rattle.update_proof.proofs.ReplacementPaths.{any_open_list}
 use Rattle.update_proof.proofs.surplus.is_open_below.Goals as goal
 
@@ -10,4 +10,4 @@ returns-in-Inner c =
     c.any_open.ensures
     ∙ sym (any_open_list (map part_of c.as_slice-in-Inner.result.now))
     ∙ ap any_open c.as_slice-in-Inner.ensures
-    ∙ ap (λ p. looked_beyond (part_of p)) (sym c.in-Inner.is)
+    ∙ ap (λ p. opened_sibling_surplus (part_of p)) (sym c.in-Inner.is)

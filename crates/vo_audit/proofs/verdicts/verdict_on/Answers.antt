@@ -2,7 +2,7 @@ use Rattle.std.proofs.Common.{◌≡◌, List, Option, sym, subst}
 use Rattle.std.specs.Prelude.{IfSome}
 use Rattle.vo_spec.specs.Conditions.{query_of}
 use Rattle.vo_spec.specs.Journals.{tables_at}
-use Rattle.vo_spec.specs.Honest.{Stored, StandForTables}
+use Rattle.vo_spec.specs.Honest.{Stored, RepresentTables}
 use Rattle.vo_format.specs.View.{reply_of}
 use Rattle.vo_audit.specs.Auditing.{stored_at}
 use Rattle.vo_audit.proofs.VerdictLaws.{none_is_some, not_held, is_held, held_within, unsigned_verdict, held_verdict}
@@ -31,4 +31,4 @@ returns c =
     subst (λ (found : Option (List Stored)). IfSome found (λ tables. tables ≡ stored_at version es)) c.in-Some.is c.requires.read.tables in
     held_verdict es (query_of c.args.query.now) r c.args.answer.now c.verdict_by.result
     (is_held es c.as_slice.result.now r.rec c.holds.result c.holds.ensures c.as_slice.ensures c.if-not-holds.false) c.requires.answer
-    (c.verdict_by.ensures (tables_at version es) (subst (λ (stored : List Stored). StandForTables stored (tables_at version es)) (sym is) c.requires.read.stand))
+    (c.verdict_by.ensures (tables_at version es) (subst (λ (stored : List Stored). RepresentTables stored (tables_at version es)) (sym is) c.requires.read.stand))

@@ -1,11 +1,11 @@
 use Rattle.vo_commands.proofs.CommandSteps.{audit_told, three_there}
 use Rattle.vo_commands.proofs.audit.audit.Goals as goal
 
-pub returns-clause-told : goal.returns-clause-told
-returns-clause-told g c =
+pub returns-clause-known : goal.returns-clause-known
+returns-clause-known g c =
     audit_told c.args.key.now c.args.journal.now c.args.query.now c.args.reply.now _ _ _ _ _ _
-    c.in_ok-key.ensures.kept c.in_ok-journal.ensures.kept c.in_ok-key.ensures.told c.in_ok-journal.ensures.told
-    (rw c.deref.ensures.value at c.audit_query.ensures.told)
+    c.in_ok-key.ensures.kept c.in_ok-journal.ensures.kept c.in_ok-key.ensures.known c.in_ok-journal.ensures.known
+    (rw c.deref.ensures.value at c.audit_query.ensures.known)
 
 pub returns-clause-misses : goal.returns-clause-misses
 returns-clause-misses g c =

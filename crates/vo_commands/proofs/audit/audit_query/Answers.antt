@@ -3,15 +3,15 @@ use Rattle.vo_commands.specs.Dues.{with_file, reply_limit, Audits}
 use Rattle.vo_commands.proofs.CommandSteps.{query_told, query_stops, one_there}
 use Rattle.vo_commands.proofs.audit.audit_query.Goals as goal
 
-pub returns-in-Ok-clause-told : goal.returns-in-Ok-clause-told
-returns-in-Ok-clause-told g c =
-    query_told c.args.query.now _ (λ told q. with_file told c.args.reply.now reply_limit (λ bytes. Audits c.args.key.now c.args.journal.now q bytes)) _ _
-    c.in-Ok.ensures c.audit_file.ensures.told
+pub returns-in-Ok-clause-known : goal.returns-in-Ok-clause-known
+returns-in-Ok-clause-known g c =
+    query_told c.args.query.now _ (λ known q. with_file known c.args.reply.now reply_limit (λ bytes. Audits c.args.key.now c.args.journal.now q bytes)) _ _
+    c.in-Ok.ensures c.audit_file.ensures.known
 
 pub returns-in-Ok-clause-misses : goal.returns-in-Ok-clause-misses
 returns-in-Ok-clause-misses g c = one_there _ c.args.reply.now _ _ c.audit_file.ensures.misses
 
-pub returns-in-Err-clause-told : goal.returns-in-Err-clause-told
-returns-in-Err-clause-told g c =
-    query_stops query_of c.args.query.now (λ told q. with_file told c.args.reply.now reply_limit (λ bytes. Audits c.args.key.now c.args.journal.now q bytes)) _ _
+pub returns-in-Err-clause-known : goal.returns-in-Err-clause-known
+returns-in-Err-clause-known g c =
+    query_stops query_of c.args.query.now (λ known q. with_file known c.args.reply.now reply_limit (λ bytes. Audits c.args.key.now c.args.journal.now q bytes)) _ _
     c.in-Err.ensures

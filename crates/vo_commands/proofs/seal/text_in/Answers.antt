@@ -1,8 +1,8 @@
 use Rattle.vo_commands.proofs.FileSteps.{text_goes_on, no_text_refused}
 use Rattle.vo_commands.proofs.seal.text_in.Goals as goal
 
-pub returns-in-Ok-clause-told : goal.returns-in-Ok-clause-told
-returns-in-Ok-clause-told c = text_goes_on c.args.bytes.now c.in-Ok.text.now c.in-Ok.ensures.cases.0 c.in-Ok.ensures.cases.1
+pub returns-in-Ok-clause-known : goal.returns-in-Ok-clause-known
+returns-in-Ok-clause-known c = text_goes_on c.args.bytes.now c.in-Ok.text.now c.in-Ok.ensures.cases.0 c.in-Ok.ensures.cases.1
 
-pub returns-in_ok-refusal-in-Err-clause-told : goal.returns-in_ok-refusal-in-Err-clause-told
-returns-in_ok-refusal-in-Err-clause-told c = no_text_refused c.args.bytes.now _ c.in-Err.ensures.cases.0 c.in_ok-refusal-in-Err.ensures
+pub returns-in_ok-refusal-in-Err-clause-known : goal.returns-in_ok-refusal-in-Err-clause-known
+returns-in_ok-refusal-in-Err-clause-known c = no_text_refused c.args.bytes.now _ c.in-Err.ensures.cases.0 c.in_ok-refusal-in-Err.ensures

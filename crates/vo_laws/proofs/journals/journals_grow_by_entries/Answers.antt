@@ -1,4 +1,4 @@
-use Rattle.vo_laws.proofs.EntryLaws.{owned_first, owned_grows, owned_front, owned_entry, taken_first, taken_grows, taken_front, owned_are_taken}
+use Rattle.vo_laws.proofs.EntryLaws.{owned_first, owned_grows, owned_front, owned_entry, taken_first, taken_grows, taken_front, owned_are_loadable}
 use Rattle.vo_laws.proofs.journals.journals_grow_by_entries.Goals as goal
 
 pub returns : goal.returns
@@ -10,5 +10,5 @@ returns c = record {
   taken_first = taken_first;
   taken_grows = taken_grows;
   taken_front = taken_front;
-  owned_are_taken = owned_are_taken;
+  owned_are_loadable = owned_are_loadable;
 }

@@ -1,11 +1,11 @@
 use Rattle.std.proofs.Common.{◌≡◌, ◌==◌, true, false, [], ◌∷◌, Option, length, ap, sym, subst, ◌∙◌, IfOk}
-use Rattle.vo_spec.specs.Results.{side_at}
+use Rattle.vo_spec.specs.Results.{bound_source_at}
 use Rattle.vo_spec.specs.Trees.{RowTree}
 use Rattle.vo_spec.specs.Pruned.{pruned}
 use Rattle.vo_spec.specs.Needs.{same_table}
 use Rattle.vo_spec.specs.Honest.{stored_tree}
-use Rattle.query_binding.specs.declared.sides.Side.{Side as HeldSide}
-use Rattle.query_binding.specs.Sided.{sides_seen}
+use Rattle.query_binding.specs.declared.bound_sources.BoundSource.{BoundSource as HeldBoundSource}
+use Rattle.query_binding.specs.Sided.{bound_sources_seen}
 use Rattle.query_plan.specs.PlanViews.{plan_seen}
 use Rattle.plan_run.specs.Running.{lefts_seen, needs_of}
 use Rattle.vo_format.specs.View.{trees_of}
@@ -18,8 +18,8 @@ returns-then-same_table c =
     let p = plan_seen c.args.plan.now in
     let stored = c.args.tables.now in
     let rights = c.in_ok-rights.rights.items in
-    let same : same_table (sides_seen c.args.plan.now.query.now.sides) ≡ true = sym c.same_table.ensures ∙ c.if-same_table.true in
-    let two : (length (sides_seen c.args.plan.now.query.now.sides) == 1) ≡ false = ap (λ (r : Option HeldSide). length (beside c.args.plan.now.query.now.sides.left r) == 1) c.requires.joined in
+    let same : same_table (bound_sources_seen c.args.plan.now.query.now.bound_sources) ≡ true = sym c.same_table.ensures ∙ c.if-same_table.true in
+    let two : (length (bound_sources_seen c.args.plan.now.query.now.bound_sources) == 1) ≡ false = ap (λ (r : Option HeldBoundSource). length (beside c.args.plan.now.query.now.bound_sources.left r) == 1) c.requires.joined in
     let are : c.in_ok-rights.rights.items ≡ rights_by_proof (plan_seen c.args.plan.now) c.args.tables.now =
     c.in_ok-rights.ensures ∙ ap (λ (t : RowTree). needs_of p (lefts_seen p t)) c.requires.proof in
     subst (λ trees. IfOk c.proofs_of_both.result (λ proofs. trees_of proofs ≡ trees))
@@ -31,12 +31,12 @@ returns c =
     let p = plan_seen c.args.plan.now in
     let stored = c.args.tables.now in
     let rights = c.in_ok-rights.rights.items in
-    let apart : same_table (sides_seen c.args.plan.now.query.now.sides) ≡ false = sym c.same_table.ensures ∙ c.if-same_table.false in
-    let two : (length (sides_seen c.args.plan.now.query.now.sides) == 1) ≡ false = ap (λ (r : Option HeldSide). length (beside c.args.plan.now.query.now.sides.left r) == 1) c.requires.joined in
+    let apart : same_table (bound_sources_seen c.args.plan.now.query.now.bound_sources) ≡ false = sym c.same_table.ensures ∙ c.if-same_table.false in
+    let two : (length (bound_sources_seen c.args.plan.now.query.now.bound_sources) == 1) ≡ false = ap (λ (r : Option HeldBoundSource). length (beside c.args.plan.now.query.now.bound_sources.left r) == 1) c.requires.joined in
     let are : c.in_ok-rights.rights.items ≡ rights_by_proof (plan_seen c.args.plan.now) c.args.tables.now =
     c.in_ok-rights.ensures ∙ ap (λ (t : RowTree). needs_of p (lefts_seen p t)) c.requires.proof in
     let right_tree : c.tree_of-tree-else-same_table.result.now ≡ tree_by (plan_seen c.args.plan.now) c.args.tables.now 1 =
-    c.tree_of-tree-else-same_table.ensures ∙ ap (λ (r : Option HeldSide). stored_tree c.args.tables.now (side_at (beside c.args.plan.now.query.now.sides.left r) 1).table) (sym c.requires.joined) in
+    c.tree_of-tree-else-same_table.ensures ∙ ap (λ (r : Option HeldBoundSource). stored_tree c.args.tables.now (bound_source_at (beside c.args.plan.now.query.now.bound_sources.left r) 1).table) (sym c.requires.joined) in
     subst (λ trees. IfOk c.proofs_of_each.result (λ proofs. trees_of proofs ≡ trees))
     (ap (λ (t : RowTree). t ∷ pruned rights c.tree_of-tree-else-same_table.result.now ∷ []) c.requires.proof
     ∙ ap (λ (t : RowTree). left_proof p stored ∷ pruned rights t ∷ []) right_tree

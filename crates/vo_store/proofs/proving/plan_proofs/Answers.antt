@@ -3,8 +3,8 @@ use Rattle.vo_spec.specs.Trees.{RowTree}
 use Rattle.vo_spec.specs.Scans.{seen}
 use Rattle.vo_spec.specs.Pruned.{pruned}
 use Rattle.mb_tree.specs.View.{part_of}
-use Rattle.query_binding.specs.declared.sides.Side.{Side as HeldSide}
-use Rattle.query_binding.specs.Sided.{sides_seen}
+use Rattle.query_binding.specs.declared.bound_sources.BoundSource.{BoundSource as HeldBoundSource}
+use Rattle.query_binding.specs.Sided.{bound_sources_seen}
 use Rattle.query_plan.specs.PlanViews.{plan_seen}
 use Rattle.vo_format.specs.View.{trees_of}
 use Rattle.vo_store.specs.Proving.{HasTables, left_proof}
@@ -19,8 +19,8 @@ joined_proofs-requires-clause-left c = c.requires.tables 0 (omega arith)
 
 pub joined_proofs-requires-clause-right : goal.joined_proofs-requires-clause-right
 joined_proofs-requires-clause-right c =
-    let both : HasTables c.args.tables.now (beside c.args.plan.now.query.now.sides.left (Some c.in-Some.right)) =
-    subst (λ (r : Option HeldSide). HasTables c.args.tables.now (beside c.args.plan.now.query.now.sides.left r)) c.in-Some.is c.requires.tables in
+    let both : HasTables c.args.tables.now (beside c.args.plan.now.query.now.bound_sources.left (Some c.in-Some.right)) =
+    subst (λ (r : Option HeldBoundSource). HasTables c.args.tables.now (beside c.args.plan.now.query.now.bound_sources.left r)) c.in-Some.is c.requires.tables in
     both 1 (omega arith)
 
 pub joined_proofs-requires-clause-proof : goal.joined_proofs-requires-clause-proof
@@ -36,7 +36,7 @@ joined_proofs-requires-clause-shown c =
 
 pub returns-in-None : goal.returns-in-None
 returns-in-None c =
-    let one : (length (sides_seen c.args.plan.now.query.now.sides) == 1) ≡ true = ap (λ (r : Option HeldSide). length (beside c.args.plan.now.query.now.sides.left r) == 1) c.in-None.is in
+    let one : (length (bound_sources_seen c.args.plan.now.query.now.bound_sources) == 1) ≡ true = ap (λ (r : Option HeldBoundSource). length (beside c.args.plan.now.query.now.bound_sources.left r) == 1) c.in-None.is in
     let made : part_of c.in_ok-proof.proof ≡ pruned (c.args.plan.now.left_need ∷ []) c.tree_of-tree.result.now = rw c.from_ref.ensures.value at c.in_ok-proof.ensures in
     let proof : part_of c.in_ok-proof.proof ≡ left_proof (plan_seen c.args.plan.now) c.args.tables.now = made ∙ ap (pruned (c.args.plan.now.left_need ∷ [])) c.tree_of-tree.ensures in
     subst (λ trees. IfOk c.one_proof.result (λ proofs. trees_of proofs ≡ trees))

@@ -30,8 +30,8 @@ enclosed-returns-in_err-whole-clause-value t c =
 pub enclosed-returns-clause-value : goal.enclosed-returns-clause-value
 enclosed-returns-clause-value t c =
     paren_closed c.args.self.now.levels (left_of c.args.self.now) c.open.new.self.levels (token_of c.in_ok-open.field-0) (left_of c.open.new.self) c.in_ok-open.ensures.levels
-    c.in_ok-whole.whole (left_of c.disj.new.self) c.closed_by.result (left_of c.closed_by.new.self)
-    c.requires.other c.requires.next c.in_ok-open.ensures.opened c.in_ok-whole.ensures.value c.closed_by.ensures.value c.closed_by.ensures.same
+    c.in_ok-whole.whole (left_of c.disj.new.self) c.then_expect.result (left_of c.then_expect.new.self)
+    c.requires.other c.requires.next c.in_ok-open.ensures.opened c.in_ok-whole.ensures.value c.then_expect.ensures.value c.then_expect.ensures.same
 
 pub conj-returns-in_err-parts-clause-value : goal.conj-returns-in_err-parts-clause-value
 conj-returns-in_err-parts-clause-value t c =

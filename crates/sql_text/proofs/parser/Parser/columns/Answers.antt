@@ -8,7 +8,7 @@ use Rattle.vo_spec.specs.declared.tables.Column.{Column}
 use Rattle.sql_text.specs.Rules.{closed, ended}
 use Rattle.sql_text.specs.Queries.{name}
 use Rattle.sql_text.specs.Commands.{column}
-use Rattle.sql_text.proofs.Repeats.{turn_in, turn_stops, begun_in, begun_stops, appended_len, stops, overfull, fewer_in, no_room}
+use Rattle.sql_text.proofs.Repeats.{turn_in, turn_stops, begun_in, begun_stops, push_parsed_len, stops, overfull, fewer_in, no_room}
 use Rattle.sql_text.proofs.parser.Parser.columns.Goals as goal
 
 pub returns-in_err-list-clause-value : goal.returns-in_err-list-clause-value
@@ -43,7 +43,7 @@ parts-preserved c =
       turn_in (λ x. x) (closed column k.Comma) refl 32 c.parts.self.levels c.parts.self.levels c.column-in-parts.new.self.levels c.parts.list.items c.column-in-parts.result c.in_ok-list-2.list (left_of c.parts.self) (left_of c.column-in-parts.new.self)
           refl c.column-in-parts.ensures.levels room (sym c.sees.ensures ∙ c.parts-test.true) c.column-in-parts.ensures.value c.in_ok-list-2.ensures
           ∙ c.parts.invariant.2,
-      omega (arith, appended_len c.parts.list.items c.column-in-parts.result c.in_ok-list-2.list c.in_ok-list-2.ensures, room),
+      omega (arith, push_parsed_len c.parts.list.items c.column-in-parts.result c.in_ok-list-2.list c.in_ok-list-2.ensures, room),
     )
 
 pub returns-clause-value : goal.returns-clause-value

@@ -7,7 +7,7 @@ use Rattle.std.specs.Global.{Global}
 use Rattle.vo_spec.specs.declared.tables.SetPart.{SetPart}
 use Rattle.sql_text.specs.Rules.{before, listed}
 use Rattle.sql_text.specs.Commands.{set_part}
-use Rattle.sql_text.proofs.Repeats.{turn_in, turn_stops, begun_in, begun_stops, appended_len, stops, overfull, fewer_in, no_room}
+use Rattle.sql_text.proofs.Repeats.{turn_in, turn_stops, begun_in, begun_stops, push_parsed_len, stops, overfull, fewer_in, no_room}
 use Rattle.sql_text.proofs.parser.Parser.set_parts.Goals as goal
 
 pub returns-in_err-list-clause-value : goal.returns-in_err-list-clause-value
@@ -42,7 +42,7 @@ parts-preserved c =
       turn_in (λ x. x) (before k.Comma set_part) refl 32 c.parts.self.levels c.parts.self.levels c.next_set_part.new.self.levels c.parts.list.items c.next_set_part.result c.in_ok-list-2.list (left_of c.parts.self) (left_of c.next_set_part.new.self)
           refl c.next_set_part.ensures.levels room (sym c.sees.ensures ∙ c.parts-test.true) c.next_set_part.ensures.value c.in_ok-list-2.ensures
           ∙ c.parts.invariant.2,
-      omega (arith, appended_len c.parts.list.items c.next_set_part.result c.in_ok-list-2.list c.in_ok-list-2.ensures, room),
+      omega (arith, push_parsed_len c.parts.list.items c.next_set_part.result c.in_ok-list-2.list c.in_ok-list-2.ensures, room),
     )
 
 pub returns-clause-value : goal.returns-clause-value

@@ -1,0 +1,134 @@
+-- Catalogs that fit are told from their bytes, so two of them with one digest give two strings with one digest.
+use Rattle.std.proofs.Common.{◌≡◌, ◌≢◌, ℕ, ◌^◌, ◌<◌, ◌≤◌, List, [], ◌∷◌, ◌++◌, length, refl, sym, ap, ◌∙◌, append_assoc, append-nil, arith}
+use Rattle.std.specs.Prelude.{flat_map}
+use Rattle.std.specs.Int.{w16, w64, from_be_bytes}
+use Rattle.std.specs.List.{AllByRecursion}
+use Rattle.std.proofs.lemmas.Bool.{eq-eqb}
+use Rattle.std.proofs.lemmas.Nat.{from_be_bytes-to_be_bytes_2, from_be_bytes-to_be_bytes_8}
+use Rattle.vo_spec.specs.declared.values.Kind.{Kind}
+use Rattle.vo_spec.specs.declared.tables.Column.{Column}
+use Rattle.vo_spec.specs.declared.records.CatalogTable.{CatalogTable}
+use Rattle.vo_spec.specs.declared.records.Catalog.{Catalog}
+use Rattle.vo_spec.specs.Collides.{Collides}
+use Rattle.vo_spec.specs.Bytes.{u16_bytes, u64_bytes, short_string}
+use Rattle.vo_spec.specs.Values.{type_byte}
+use Rattle.vo_spec.specs.Tables.{max_tables}
+use Rattle.vo_spec.specs.Batches.{counted, column_bytes}
+use Rattle.vo_spec.specs.Records.{catalog_table_bytes, catalog_bytes, catalog_digest, FitsCatalogTable, FitsCatalog}
+use Rattle.vo_laws.proofs.ConditionLaws.{same_kind_is}
+use Rattle.vo_laws.proofs.ValueOrder.{number_length}
+use Rattle.vo_laws.proofs.ByteLengths.{length-u16}
+
+-- Pieces before anything more.
+
+same_pieces : (xs ys r s : List ℕ) → length xs ≡ length ys → xs ++ r ≡ ys ++ s → (xs ≡ ys) × (r ≡ s)
+same_pieces [] [] r s len e = (refl, e)
+same_pieces [] (y ∷ ys) r s len e = absurd (omega arith)
+same_pieces (x ∷ xs) [] r s len e = absurd (omega arith)
+same_pieces (x ∷ xs) (y ∷ ys) r s len e =
+    let first : x ≡ y = cc in
+    let others : xs ++ r ≡ ys ++ s = cc in
+    let rest = same_pieces xs ys r s (omega arith) others in
+    (rw (first, rest.0) refl, rest.1)
+
+-- what is spelled so is told from its bytes and whatever stands behind them
+abbrev Told : {A : Type 0} → (A → List ℕ) → (A → Type 0) → Type 0
+Told {A} bytes Fits = (a b : A) (r s : List ℕ) → Fits a → Fits b → bytes a ++ r ≡ bytes b ++ s → (a ≡ b) × (r ≡ s)
+
+list_told : {A : Type 0} (bytes : A → List ℕ) (Fits : A → Type 0) → Told bytes Fits → (xs ys : List A) (r s : List ℕ) → AllByRecursion Fits xs → AllByRecursion Fits ys
+    → length xs ≡ length ys → flat_map bytes xs ++ r ≡ flat_map bytes ys ++ s → (xs ≡ ys) × (r ≡ s)
+list_told bytes Fits told [] [] r s xs_fit ys_fit len e = (refl, e)
+list_told bytes Fits told [] (y ∷ ys) r s xs_fit ys_fit len e = absurd (omega arith)
+list_told bytes Fits told (x ∷ xs) [] r s xs_fit ys_fit len e = absurd (omega arith)
+list_told bytes Fits told (x ∷ xs) (y ∷ ys) r s xs_fit ys_fit len e =
+    let first = told x y (flat_map bytes xs ++ r) (flat_map bytes ys ++ s) xs_fit.0 ys_fit.0
+    (sym (append_assoc (bytes x) (flat_map bytes xs) r) ∙ e ∙ append_assoc (bytes y) (flat_map bytes ys) s) in
+    let rest = list_told bytes Fits told xs ys r s xs_fit.1 ys_fit.1 (omega arith) first.1 in
+    (rw (first.0, rest.0) refl, rest.1)
+
+u16_told : Told u16_bytes (λ n. n < 2 ^ 16)
+unfolding u16_bytes
+u16_told m n r s m_fits n_fits e =
+    let p = same_pieces (u16_bytes m) (u16_bytes n) r s (length-u16 m ∙ sym (length-u16 n)) e in
+    (sym (from_be_bytes-to_be_bytes_2 m m_fits) ∙ ap (from_be_bytes w16) p.0 ∙ from_be_bytes-to_be_bytes_2 n n_fits, p.1)
+
+u64_told : Told u64_bytes (λ n. n < 2 ^ 64)
+unfolding u64_bytes
+u64_told m n r s m_fits n_fits e =
+    let p = same_pieces (u64_bytes m) (u64_bytes n) r s (number_length m ∙ sym (number_length n)) e in
+    (sym (from_be_bytes-to_be_bytes_8 m m_fits) ∙ ap (from_be_bytes w64) p.0 ∙ from_be_bytes-to_be_bytes_8 n n_fits, p.1)
+
+short_told : (a b r s : List ℕ) → short_string a ++ r ≡ short_string b ++ s → (a ≡ b) × (r ≡ s)
+short_told a b r s e =
+    let len : length a ≡ length b = cc in
+    let others : a ++ r ≡ b ++ s = cc in
+    same_pieces a b r s len others
+
+-- Catalogs.
+
+kind_told : (a b : Kind) → type_byte a ≡ type_byte b → a ≡ b
+kind_told a b e = sym (same_kind_is a b (eq-eqb (type_byte a) (type_byte b) e))
+
+abbrev Anything : Column → Type 0
+Anything c = Unit {0}
+
+abbrev column : List ℕ → Kind → Column
+column name kind = record { name = name; kind = kind }
+
+same_column : (m n : List ℕ) (k l : Kind) → m ≡ n → k ≡ l → column m k ≡ column n l
+same_column m n k l a b = rw (a, b) refl
+
+column_told : Told column_bytes Anything
+column_told c d r s c_fits d_fits e =
+    let p = short_told c.name d.name (type_byte c.kind ∷ r) (type_byte d.kind ∷ s)
+    (sym (append_assoc (short_string c.name) (type_byte c.kind ∷ []) r) ∙ e ∙ append_assoc (short_string d.name) (type_byte d.kind ∷ []) s) in
+    let byte : type_byte c.kind ≡ type_byte d.kind = cc in
+    let behind : r ≡ s = cc in
+    (same_column c.name d.name c.kind d.kind p.0 (kind_told c.kind d.kind byte), behind)
+
+no_limits : (cs : List Column) → AllByRecursion Anything cs
+no_limits [] = tt
+no_limits (c ∷ cs) = (tt, no_limits cs)
+
+columns_told : (cs ds : List Column) (r s : List ℕ) → counted column_bytes cs ++ r ≡ counted column_bytes ds ++ s → (cs ≡ ds) × (r ≡ s)
+columns_told cs ds r s e =
+    let len : length cs ≡ length ds = cc in
+    let others : flat_map column_bytes cs ++ r ≡ flat_map column_bytes ds ++ s = cc in
+    list_told column_bytes Anything column_told cs ds r s (no_limits cs) (no_limits ds) len others
+
+regrouped : (a b : List ℕ) (k : ℕ) (u d rest : List ℕ) → (a ++ b ++ k ∷ u ++ d) ++ rest ≡ a ++ (b ++ (k ∷ (u ++ (d ++ rest))))
+regrouped a b k u d rest = append_assoc (a ++ b ++ k ∷ u) d rest ∙ append_assoc (a ++ b) (k ∷ u) (d ++ rest) ∙ append_assoc a b (k ∷ (u ++ (d ++ rest)))
+
+abbrev table : List ℕ → List Column → ℕ → ℕ → List ℕ → CatalogTable
+table name columns key rows root = record { name = name; schema = record { columns = columns; key = key }; rows = rows; root = root }
+
+same_table : (m n : List ℕ) (cs ds : List Column) (j k x y : ℕ) (p q : List ℕ) → m ≡ n → cs ≡ ds → j ≡ k → x ≡ y → p ≡ q → table m cs j x p ≡ table n ds k y q
+same_table m n cs ds j k x y p q a b c d e = rw (a, b, c, d, e) refl
+
+table_told : Told catalog_table_bytes FitsCatalogTable
+table_told t u r s t_fits u_fits e =
+    let name = short_told t.name u.name _ _ (sym (regrouped (short_string t.name) (counted column_bytes t.schema.columns) t.schema.key (u64_bytes t.rows) t.root r)
+    ∙ e ∙ regrouped (short_string u.name) (counted column_bytes u.schema.columns) u.schema.key (u64_bytes u.rows) u.root s) in
+    let columns = columns_told t.schema.columns u.schema.columns (t.schema.key ∷ (u64_bytes t.rows ++ (t.root ++ r))) (u.schema.key ∷ (u64_bytes u.rows ++ (u.root ++ s))) name.1 in
+    let key : t.schema.key ≡ u.schema.key = cc in
+    let behind : u64_bytes t.rows ++ (t.root ++ r) ≡ u64_bytes u.rows ++ (u.root ++ s) = cc in
+    let rows = u64_told t.rows u.rows (t.root ++ r) (u.root ++ s) (omega (arith, t_fits.rows)) (omega (arith, u_fits.rows)) behind in
+    let root = same_pieces t.root u.root r s (t_fits.root ∙ sym u_fits.root) rows.1 in
+    (same_table t.name u.name t.schema.columns u.schema.columns t.schema.key u.schema.key t.rows u.rows t.root u.root name.0 columns.0 key rows.0 root.0, root.1)
+
+abbrev catalog : List CatalogTable → Catalog
+catalog tables = record { tables = tables }
+
+pub catalog_told : (a b : Catalog) → FitsCatalog a → FitsCatalog b → catalog_bytes a ≡ catalog_bytes b → a ≡ b
+unfolding catalog_bytes
+catalog_told a b a_fits b_fits e =
+    let few : length a.tables ≤ max_tables = a_fits.count in
+    let few_too : length b.tables ≤ max_tables = b_fits.count in
+    let count = u16_told (length a.tables) (length b.tables) (flat_map catalog_table_bytes a.tables) (flat_map catalog_table_bytes b.tables) (omega arith) (omega arith) e in
+    let tables = list_told catalog_table_bytes FitsCatalogTable table_told a.tables b.tables [] [] a_fits.each b_fits.each count.0
+    (append-nil (flat_map catalog_table_bytes a.tables) ∙ count.1 ∙ sym (append-nil (flat_map catalog_table_bytes b.tables))) in
+    ap catalog tables.0
+
+pub catalogs_collide : (a b : Catalog) → FitsCatalog a → FitsCatalog b → a ≢ b → catalog_digest a ≡ catalog_digest b → Collides (5 ∷ catalog_bytes a) (5 ∷ catalog_bytes b)
+unfolding catalog_digest
+catalogs_collide a b a_fits b_fits other same = record { differ = λ e. let bytes : catalog_bytes a ≡ catalog_bytes b = cc in other (catalog_told a b a_fits b_fits bytes); agree = same }
