@@ -6,6 +6,7 @@ places there.
 import os
 import re
 
+import forms
 from vo_ref import lms
 from vo_ref.audit import read_owned
 from vo_ref.catalog import catalog_digest, read_catalog, read_record
@@ -17,7 +18,7 @@ from vo_ref.owner import Owner
 from vo_ref.sql import parse_query
 from vo_ref.store import Store
 from vo_ref.tree import attr_digest, cell_digest, hide, row_digest
-from vo_ref.values import BOOL, INT, Cursor, take_value, value_bytes
+from vo_ref.values import Cursor, take_value, value_bytes
 
 
 # -- the calls, as the other implementation answers them
@@ -37,19 +38,11 @@ def cell_in(data):
     return data[1:] if data[0] == 0 else value_in(data[1:])
 
 
-def shown(value):
-    """A value as the program shows it for debugging."""
-    kind, content = value
-    if kind == INT:
-        return f"Int({content})"
-    return f"Bool({str(bool(content)).lower()})" if kind == BOOL else f"Text({list(content)})"
+def cells_text(cells):
+    return " ".join([str(len(cells)), *(cell.hex() if isinstance(cell, bytes) else forms.value(cell) for cell in cells)])
 
 
-def shown_cells(cells):
-    return " ".join([str(len(cells)), *(cell.hex() if isinstance(cell, bytes) else shown(cell) for cell in cells)])
-
-
-def shown_catalog(catalog):
+def catalog_text(catalog):
     return f"{catalog_digest(catalog.bytes()).hex()} {catalog.bytes().hex()}"
 
 
@@ -57,7 +50,7 @@ def or_none(thing, show):
     return "none" if thing is None else show(thing)
 
 
-def sealed(key, batches):
+def seal_batches(key, batches):
     """The journal of batches."""
     owner, first = Owner.start(key)
     store, entries = Store(key.public()), [first]
@@ -72,7 +65,7 @@ def sealed(key, batches):
     return journal_bytes(entries)
 
 
-def loaded(key, journal):
+def load_store(key, journal):
     """The store that takes a journal, and how many entries it has."""
     damaged = None
     try:
@@ -180,7 +173,7 @@ class Calls:
         return row_digest(tuple(value_in(value) for value in values)).hex()
 
     def hide(self, columns, *values):
-        return shown_cells(hide([value_in(value) for value in values], columns))
+        return cells_text(hide([value_in(value) for value in values], columns))
 
     hide_cells = hide
 
@@ -188,7 +181,7 @@ class Calls:
 
     def catalog(self, data):
         try:
-            return shown_catalog(read_catalog(data))
+            return catalog_text(read_catalog(data))
         except BadForm as fault:
             return fault.name
 
@@ -219,55 +212,55 @@ class Calls:
         try:
             entries, ending = walk_journal(data)[0], "Closed"
         except EntriesFault as fault:
-            entries, ending = fault.entries, f"Damaged {{ at: {fault.at} }}"
+            entries, ending = fault.entries, forms.form("Damaged", str(fault.at))
         return " ".join([ending, *(slot_bytes(entry).hex() for entry in entries)])
 
     def entries(self, data):
         try:
             entries = read_entries(data)
         except EntriesFault as fault:
-            return damage(fault)
+            return damage_form(fault)
         return " ".join([str(len(entries)), *(entry_bytes(entry).hex() for entry in entries)])
 
     def journal(self, data):
         try:
             return journal_bytes(read_entries(data)).hex()
         except EntriesFault as fault:
-            return damage(fault)
+            return damage_form(fault)
 
     def seal(self, *batches):
         try:
-            return self.keeping(sealed(self.made, [read_batch(batch) for batch in batches]))
+            return self.keeping(seal_batches(self.made, [read_batch(batch) for batch in batches]))
         except OwnerFault as fault:
             return fault.name
         except StoreFault as fault:
-            return f"Command {{ index: {fault.index}, fault: {fault.fields['fault']} }}"
+            return forms.refusal(fault.index, fault.fields["fault"])
 
     def owned(self, key, version, journal):
         try:
             entries, roots = read_owned(lms.PublicKey.read(key), journal)
         except AuditFault as fault:
-            return f"BadAt {{ index: {fault.index} }}"
+            return forms.form("BadAt", str(fault.index))
         there = number(version) < len(entries)
-        return f"{len(entries)} {shown_catalog(roots[number(version)].catalog) if there else 'no such version'}"
+        return f"{len(entries)} {catalog_text(roots[number(version)].catalog) if there else 'no such version'}"
 
     def taken(self, key, journal):
         try:
-            store, count = loaded(lms.PublicKey.read(key), journal)
+            store, count = load_store(lms.PublicKey.read(key), journal)
         except EntryFault as fault:
-            return f"BadAt {{ index: {fault.index} }}"
-        return f"{count} {shown_catalog(store.kept[-1].catalog)}"
+            return forms.form("BadAt", str(fault.index))
+        return f"{count} {catalog_text(store.kept[-1].catalog)}"
 
     def answer(self, key, query, journal):
         try:
-            store, _ = loaded(lms.PublicKey.read(key), journal)
+            store, _ = load_store(lms.PublicKey.read(key), journal)
         except EntryFault as fault:
-            return f"BadJournal {{ index: {fault.index} }}"
+            return forms.form("BadJournal", str(fault.index))
         return store.answer(parse_query(query.decode())).hex()
 
 
-def damage(fault):
-    return f"Damaged {{ index: {fault.index}, at: {fault.at} }}"
+def damage_form(fault):
+    return forms.form("Damaged", str(fault.index), str(fault.at))
 
 
 # -- lines
@@ -286,7 +279,7 @@ def digits(data):
     return "+".join(piece for piece in [*pieces, data[at:].hex()] if piece) or "*0"
 
 
-def spelled(data, kept):
+def pieces_of(data, kept):
     """A byte string's pieces: the kept bytes in it, or what it begins and ends with as they do, by the places there."""
     if len(kept) >= 64 and kept in data:
         front, back = data.split(kept, 1)
@@ -303,9 +296,9 @@ def some_digits(data):
     return [digits(data)] if data else []
 
 
-def answered(rows):
+def lines_with_answers(rows):
     """The line of each row, a word and its byte strings, and the answer due."""
     calls = Calls()
     for word, *strings in rows:
-        line = " ".join([word, *(spelled(data, calls.kept) for data in strings)])
+        line = " ".join([word, *(pieces_of(data, calls.kept) for data in strings)])
         yield line, getattr(calls, word)(*strings)

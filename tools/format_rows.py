@@ -1,5 +1,5 @@
 """The rows of the stored run of crates/format_lines: chosen cases, each the word of a call and its byte strings."""
-from format_answers import loaded, number, sealed
+from format_answers import load_store, number, seal_batches
 from vo_ref import lms
 from vo_ref.catalog import catalog_digest
 from vo_ref.formats import batch_bytes
@@ -376,8 +376,8 @@ def journal_rows():
     public = secret.public().bytes()
     yield "make", LEAF, b"\x04", ID, OWNER_SEED
     yield seal_row(CREATE, *INSERTS)
-    yield from read_rows(public, sealed(secret, batches_of(CREATE, *INSERTS)))
-    changed = sealed(secret, batches_of(CREATE, *INSERTS, *CHANGES))
+    yield from read_rows(public, seal_batches(secret, batches_of(CREATE, *INSERTS)))
+    changed = seal_batches(secret, batches_of(CREATE, *INSERTS, *CHANGES))
     yield seal_row(CREATE, *INSERTS, *CHANGES)
     for version in range(8):
         yield "owned", public, bytes([version]), changed
@@ -406,7 +406,7 @@ def read_rows(public, journal):
     for count in 0, 2000, len(journal) - 1:
         yield "owned", public, b"\0", journal[:count]
         yield "taken", public, journal[:count]
-    reply = loaded(lms.PublicKey.read(public), journal)[0].answer(parse_query("SELECT * FROM t"))
+    reply = load_store(lms.PublicKey.read(public), journal)[0].answer(parse_query("SELECT * FROM t"))
     yield "answer", public, b"SELECT * FROM t", journal
     yield "reply", reply
     yield "record", reply[4:64]
@@ -419,7 +419,7 @@ EXAMPLE_SEED = bytes(3 + 7 * place for place in range(32))
 def answer_rows():
     """Replies by a journal of one batch."""
     secret = lms.SecretKey.make(ID, EXAMPLE_SEED, 4, 5)
-    public, journal = secret.public().bytes(), sealed(secret, batches_of(CREATE + "".join(INSERTS)))
+    public, journal = secret.public().bytes(), seal_batches(secret, batches_of(CREATE + "".join(INSERTS)))
     yield "make", LEAF, b"\x04", ID, EXAMPLE_SEED
     yield seal_row(CREATE + "".join(INSERTS))
     yield "answer", public, b"SELECT * FROM t", journal

@@ -17,7 +17,7 @@ def print_difference(line, due, got):
 
 
 def count_differences(tool, program, pairs, show=lambda line: line):
-    """How many lines the program answers otherwise than is due, after the first are shown."""
+    """How many lines the program answers otherwise than is due, after the first are forms."""
     text = "".join(line + "\n" for line, _ in pairs)
     ran = subprocess.run([program], input=text.encode(), stdout=subprocess.PIPE, check=True)
     answers = ran.stdout.decode().split("\n")[:-1]

@@ -2,19 +2,20 @@
 
 A line is a word and byte strings in hexadecimal; a part tree is given as a node or as bytes, which may be none.
 """
+import forms
 from vo_ref import tree as trees
 from vo_ref.faults import BatchFault, CommandFault, Fault
 from vo_ref.formats import batch_bytes, read_tree, tree_bytes
 from vo_ref.syntax import Create, Drop
 from vo_ref.tables import Tables, apply, catalog_refusal
 from vo_ref.tree import digest_of, do_op, empty_tree, entries_of, found_entry, is_update_proof, prune_update, spelled_key
-from vo_ref.values import BOOL, INT, Cursor, value_bytes
+from vo_ref.values import Cursor, value_bytes
 from vo_ref.work import main_op
 
 
 # -- byte strings
 
-def spelled_change(op):
+def change_bytes(op):
     front = bytes([["insert", "replace", "remove"].index(op.name) + 1]) + spelled_key(op.key)
     if op.name == "insert":
         return front + bytes([len(op.cells)]) + b"".join(value_bytes(value) for value in op.cells)
@@ -23,16 +24,16 @@ def spelled_change(op):
     return front
 
 
-def spelled_bound(bound):
+def bound_bytes(bound):
     return b"\0" if bound is None else bytes([1 if bound[1] else 2]) + spelled_key(bound[0])
 
 
-def spelled_need(need):
+def need_bytes(need):
     low, high = need.interval
-    return spelled_bound(low) + spelled_bound(high) + bytes([len(need.columns), *sorted(need.columns)])
+    return bound_bytes(low) + bound_bytes(high) + bytes([len(need.columns), *sorted(need.columns)])
 
 
-def spelled_part(part):
+def part_bytes(part):
     return part if isinstance(part, bytes) else tree_bytes(part)
 
 
@@ -40,37 +41,9 @@ def line(word, *strings):
     return " ".join([word, *(string.hex() for string in strings)])
 
 
-# -- values as they are shown
-
-def shown_bytes(data):
-    return f"{{ bytes: {list(data)} }}"
-
-
-def shown_list(items):
-    return f"List {{ items: [{', '.join(items)}] }}"
-
-
-def shown_value(value):
-    kind, content = value
-    if kind == INT:
-        return f"Int({content})"
-    if kind == BOOL:
-        return f"Bool({'true' if content else 'false'})"
-    return f"Text(Text {shown_bytes(content)})"
-
-
-def shown_row(kind, key, name, values):
-    """A row of this kind, whose values have a name."""
-    return f"{kind} {{ key: Key {shown_bytes(key)}, {name}: {shown_list(map(shown_value, values))} }}"
-
-
-def shown_fault(fault):
-    return "None" if fault is None else f"Some({fault})"
-
-
 # -- part trees
 
-def answered(work):
+def value_or_fault(work):
     """What a call answers, a fault by its name."""
     try:
         return work()
@@ -85,10 +58,10 @@ def read_whole(data):
     return tree
 
 
-def part_line(word, shown, part, *strings):
+def part_line(word, show, part, *strings):
     """A line on a part tree, whose answer is shown of it where it is one."""
-    data = spelled_part(part)
-    return line(word, *strings, data), answered(lambda: shown(read_whole(data)))
+    data = part_bytes(part)
+    return line(word, *strings, data), value_or_fault(lambda: show(read_whole(data)))
 
 
 def digest(part):
@@ -103,7 +76,7 @@ def read(part):
     return part_line("read", lambda tree: tree_bytes(tree).hex(), part)
 
 
-def done(tree, op):
+def change_tree(tree, op):
     """The tree after a change, which passes over the cells that the row hasn't."""
     found = found_entry(tree, op.key)
     if op.name == "replace" and found is not None and not isinstance(found.part, bytes):
@@ -111,68 +84,67 @@ def done(tree, op):
     return do_op(tree, op)
 
 
-def done_in_turn(tree, ops):
+def change_tree_in_turn(tree, ops):
     for op in ops:
-        tree = done(tree, op)
+        tree = change_tree(tree, op)
     return tree
 
 
 def work(op, part):
-    return part_line("work", lambda tree: tree_bytes(done(tree, op)).hex(), part, spelled_change(op))
+    return part_line("work", lambda tree: tree_bytes(change_tree(tree, op)).hex(), part, change_bytes(op))
 
 
 def after(ops, part):
-    return part_line("after", lambda tree: digest_of(done_in_turn(tree, ops)).hex(), part, b"".join(map(spelled_change, ops)))
+    return part_line("after", lambda tree: digest_of(change_tree_in_turn(tree, ops)).hex(), part, b"".join(map(change_bytes, ops)))
 
 
-def unset(op):
+def without_missing_cells(op):
     """The change without what it sets, by which no proof goes."""
     return trees.Op(op.name, op.key, cells=op.cells)
 
 
 def update_proof(tree, op):
-    return prune_update(tree, unset(op))
+    return prune_update(tree, without_missing_cells(op))
 
 
 def judge(op, part):
-    return part_line("judge", lambda tree: "yes" if is_update_proof(tree, unset(op)) else "no", part, spelled_change(op))
+    return part_line("judge", lambda tree: "yes" if is_update_proof(tree, without_missing_cells(op)) else "no", part, change_bytes(op))
 
 
 def seen_rows(need, tree):
     rows = trees.scan(tree, need)
-    return shown_list(shown_row("SeenRow", key, "values", [values[column] for column in sorted(values)]) for key, values in rows)
+    return forms.list_of(forms.row(key, [values[column] for column in sorted(values)]) for key, values in rows)
 
 
 def scan(need, part):
-    found, due = part_line("scan", lambda tree: f"Ok({seen_rows(need, tree)})", part, spelled_need(need))
-    return found, "Err(Missing)" if due == "Missing" else due
+    return part_line("scan", lambda tree: seen_rows(need, tree), part, need_bytes(need))
 
 
 def canonical(needs, part):
     return part_line("canonical", lambda tree: "yes" if trees.is_canonical(tree, needs) else "no", part,
-                     b"".join(map(spelled_need, needs)))
+                     b"".join(map(need_bytes, needs)))
 
 
 # -- the tree of a table
 
-def counted(tree):
+def count_and_digest(tree):
     return f"{len(entries_of(tree))} {digest_of(tree).hex()}"
 
 
 def root(tree):
-    return line("root"), f"{counted(tree)} {tree.preimage().hex()}"
+    return line("root"), f"{count_and_digest(tree)} {tree.preimage().hex()}"
 
 
 def change(tree, op):
-    return line("change", spelled_change(op)), f"{answered(lambda: counted(done(tree, op)))} of {counted(tree)}"
+    return line("change", change_bytes(op)), f"{value_or_fault(lambda: count_and_digest(change_tree(tree, op)))} of {count_and_digest(tree)}"
 
 
 def prove(tree, op):
-    return line("prove", spelled_change(op)), tree_bytes(update_proof(tree, op)).hex()
+    return line("prove", change_bytes(op)), tree_bytes(update_proof(tree, op)).hex()
 
 
 def prune(tree, needs):
-    return line("prune", b"".join(map(spelled_need, needs))), tree_bytes(trees.prune(tree, needs)).hex()
+    return line("prune", b"".join(map(need_bytes, needs))), tree_bytes(trees.prune(tree, needs)).hex()
 
 
 def agree(tree, part):
@@ -214,7 +186,7 @@ class Twin:
             try:
                 new.do(command)
             except CommandFault as fault:
-                raise BatchFault(f"Command {{ index: {index}, fault: {fault.name} }}") from None
+                raise BatchFault(forms.refusal(index, fault.name)) from None
         self.plain, self.trees = new.plain, new.trees
 
     def fault(self, command):
@@ -222,7 +194,7 @@ class Twin:
         try:
             self.do(command)
         except CommandFault as fault:
-            return f"Refused({fault.name})"
+            return fault.name
         return None
 
     # the lines
@@ -235,15 +207,15 @@ class Twin:
         def applied():
             self.do_all(commands)
             return digest_of(self.tree).hex() if "t" in self.trees else "no table"
-        return line("apply", batch_bytes(commands)), answered(applied)
+        return line("apply", batch_bytes(commands)), value_or_fault(applied)
 
     def step(self, commands):
-        faults = [shown_fault(self.fault(command)) for command in commands]
-        return line("step", batch_bytes(commands)), f"[{', '.join(faults)}]"
+        faults = [self.fault(command) or "none" for command in commands]
+        return line("step", batch_bytes(commands)), forms.list_of(faults)
 
     def refusal(self, commands):
-        faults = [shown_fault(catalog_refusal(self.plain, command)) for command in commands]
-        return line("refusal", batch_bytes(commands)), f"[{', '.join(faults)}]"
+        faults = [catalog_refusal(self.plain, command) or "none" for command in commands]
+        return line("refusal", batch_bytes(commands)), forms.list_of(faults)
 
     def proof(self, commands):
         """The proof of the one command of a batch."""
@@ -254,11 +226,12 @@ class Twin:
         return given, tree_bytes(prune_update(self.trees[name], main_op(self.plain.schema(name), command))).hex()
 
     def catalog(self):
-        words = [f'"{name.encode().hex()} {counted(self.trees[name])}"' for name in self.plain.names()]
-        return line("catalog"), f"[{', '.join(words)}]"
+        tables = [forms.form("table", forms.octets(name), str(len(entries_of(self.trees[name]))),
+                             forms.octets(digest_of(self.trees[name]))) for name in self.plain.names()]
+        return line("catalog"), forms.list_of(tables)
 
     def rows(self):
         if "t" not in self.trees:
             return line("rows"), "no table"
         table = self.plain.by_name["t"]
-        return line("rows"), shown_list(shown_row("Row", key, "cells", cells) for key, cells in zip(table.keys, table.cells))
+        return line("rows"), forms.list_of(map(forms.row, table.keys, table.cells))

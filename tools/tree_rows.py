@@ -2,7 +2,7 @@
 from itertools import product
 
 from tree_answers import (Twin, after, agree, canonical, change, digest, judge, preimage, prove, prune, read, root, scan,
-                          spelled_part, update_proof, work)
+                          part_bytes, update_proof, work)
 from vo_ref.sql import parse_batch
 from vo_ref.tree import Entry, Inner, Leaf, Need, Op, Stub, attr_digest, digest_of, do_op, empty_tree
 from vo_ref.tree import prune as pruned
@@ -69,7 +69,7 @@ def grown(ops, tree=EMPTY):
 
 
 def shown(*numbers):
-    """The leaf of these rows with their cells shown."""
+    """The leaf of these rows with their cells forms."""
     return Leaf(Entry(key(number), (text_value("x"),)) for number in numbers)
 
 
@@ -153,7 +153,7 @@ def bytes_of_trees():
 
 
 def bytes_of_no_trees():
-    stub, hidden = spelled_part(STUB), spelled_part(hidden_leaf())
+    stub, hidden = part_bytes(STUB), part_bytes(hidden_leaf())
     wrong = [
         # no byte, no such node, row or cell, and a digest a byte too short
         b"", b"\3\0", b"\1\1\0\1k\2\0", b"\1\1\0\1k\1\1\2\3\1", stub[:-1],

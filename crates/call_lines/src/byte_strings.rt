@@ -27,12 +27,12 @@ pub fn answer(alloc: Global, call: BytesCall, bytes: &[u8]) -> io::Result<String
 /// The value in front with its bytes, or its fault; and what is left.
 fn value(alloc: Global, bytes: &[u8]) -> io::Result<String> {
     let mut cursor = Cursor::new(bytes);
-    let said = match take_value(&mut cursor) {
+    let answer = match take_value(&mut cursor) {
         Ok(value) => describe_value(alloc, value)?,
         Err(fault) => describe(alloc, &fault)?,
     };
     let left = hex::encode(alloc, cursor.rest())?;
-    Ok(format!(in alloc; "{said} {left}")?)
+    Ok(format!(in alloc; "{answer} {left}")?)
 }
 
 /// A value, and its bytes.
@@ -41,7 +41,8 @@ fn describe_value(alloc: Global, value: ValueRef<'_>) -> io::Result<String>
 {
     let value = own_value(alloc, value)?;
     let digits = digits_of(alloc, &value)?;
-    Ok(format!(in alloc; "{value:?} {digits}")?)
+    let value = describe(alloc, &value)?;
+    Ok(format!(in alloc; "{value} {digits}")?)
 }
 
 fn digits_of(alloc: Global, value: &Value) -> io::Result<String>
@@ -72,7 +73,7 @@ pub fn take_values(alloc: Global, bytes: &[u8]) -> io::Result<Result<Vec<Value>,
 /// The values that the bytes are, copied.
 fn copies(alloc: Global, bytes: &[u8]) -> io::Result<String> {
     match take_values(alloc, bytes)? {
-        Ok(values) => Ok(format!(in alloc; "{:?}", copy_values(alloc, &values)?)?),
+        Ok(values) => describe(alloc, &copy_values(alloc, &values)?),
         Err(fault) => describe(alloc, &fault),
     }
 }
@@ -95,7 +96,7 @@ fn key_value(alloc: Global, bytes: &[u8]) -> io::Result<String> {
         return word(alloc, "no kind");
     };
     match value_of_key(kind, cursor.rest()) {
-        Ok(value) => Ok(format!(in alloc; "{:?}", own_value(alloc, value)?)?),
+        Ok(value) => describe(alloc, &value),
         Err(fault) => describe(alloc, &fault),
     }
 }
@@ -105,8 +106,9 @@ fn columns(alloc: Global, bytes: &[u8]) -> io::Result<String> {
     let mut cursor = Cursor::new(bytes);
     match take_columns(alloc, &mut cursor) {
         Ok(columns) => {
+            let columns = describe(alloc, &columns)?;
             let left = hex::encode(alloc, cursor.rest())?;
-            Ok(format!(in alloc; "{columns:?} {left}")?)
+            Ok(format!(in alloc; "{columns} {left}")?)
         }
         Err(fault) => describe(alloc, &fault),
     }

@@ -1,6 +1,7 @@
 //! The answer to each line, by what the lines before it left.
 use crate::line::{Call, Line, read_line};
 use crate::{byte_strings, plans, texts};
+use line_pieces::describe;
 use std::alloc::Global;
 use std::io;
 use table_list::Tables;
@@ -53,7 +54,7 @@ impl State {
                 self.catalog = catalog;
                 Ok(format!(in alloc; "{}", self.catalog.tables.len())?)
             }
-            Err(fault) => Ok(format!(in alloc; "{fault:?}")?),
+            Err(fault) => describe(alloc, &fault),
         }
     }
 }

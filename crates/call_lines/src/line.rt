@@ -1,4 +1,4 @@
-//! A line: the word of a call, and its byte strings.
+//! What a line asks for: a call of texts, of bytes or of plans, and its byte strings.
 use line_pieces::{NoAnswer, call_named, put_piece};
 use std::alloc::Global;
 

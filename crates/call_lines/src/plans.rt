@@ -4,10 +4,11 @@ ghost use Rattle.vo_spec.specs.Tables.{value_at};
 use crate::byte_strings::take_values;
 use crate::line::PlanCall;
 use crate::runs;
+use crate::text_faults::describe_fault;
 use line_pieces::{describe, word};
 use query_plan::{
-    RowView, Plan, Query, bind, has_one_tree, is_narrow, meets_left, plan, right_need, same_table,
-    tables_used,
+    BindFault, Plan, Query, RowView, bind, has_one_tree, is_narrow, meets_left, plan, right_need,
+    same_table, tables_used,
 };
 use sql_text::parse_query;
 use std::alloc::Global;
@@ -27,7 +28,7 @@ pub fn answer(
     };
     match parse_query(alloc, text) {
         Ok(query) => bind_and_answer(alloc, catalog, call, &query, more),
-        Err(fault) => describe(alloc, &fault),
+        Err(fault) => describe_fault(alloc, fault),
     }
 }
 
@@ -40,7 +41,8 @@ fn bind_and_answer<'q>(
 ) -> io::Result<String> {
     match bind(alloc, catalog, query) {
         Ok(query) => answer_query(alloc, call, &query, more),
-        Err(fault) => describe(alloc, &fault),
+        Err(BindFault::Wrong(fault)) => describe(alloc, &fault),
+        Err(BindFault::Memory) => word(alloc, "Memory"),
     }
 }
 
@@ -77,9 +79,9 @@ fn answer_plan(
 /// Whether a table is joined with itself, whether one tree is read, and the tables whose trees are.
 fn trees(alloc: Global, query: &Query<'_>) -> io::Result<String> {
     let bound_sources = &query.bound_sources;
-    let names = tables_used(alloc, bound_sources)?;
+    let names = describe(alloc, &tables_used(alloc, bound_sources)?)?;
     Ok(format!(in alloc;
-        "{} {} {names:?}",
+        "{} {} {names}",
         same_table(bound_sources),
         has_one_tree(bound_sources)
     )?)
@@ -92,7 +94,7 @@ struct Fields {
 }
 
 impl RowView for Fields {
-    ghost line = { λ fields. value_at fields.values.items };
+    ghost row_view = { λ fields. value_at fields.values.items };
 
     fn field(&self, column: usize) -> ValueRef<'_> {
         match self.values.get(column) {
@@ -102,7 +104,8 @@ impl RowView for Fields {
     }
 }
 
-/// What the query needs for a left row of these values, none where the row doesn't meet the condition.
+/// What the query needs for a left row of these values, none where the row doesn't meet the
+/// condition.
 fn right_need_text(alloc: Global, plan: &Plan<'_, '_>, values: &[u8]) -> io::Result<String> {
     match take_values(alloc, values)? {
         Ok(values) => right_need_of(alloc, plan, &Fields { values }),

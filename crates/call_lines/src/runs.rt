@@ -4,7 +4,7 @@ ghost use Rattle.vo_spec.specs.Needs.{tables_used};
 ghost use Rattle.query_binding.specs.Sided.{bound_sources_seen};
 
 use line_pieces::{describe, word};
-use plan_run::{right_needs, run_plan};
+use plan_run::{Ran, right_needs, run_plan};
 use query_plan::{BoundSources, Plan, has_one_tree};
 use std::alloc::Global;
 use std::io;
@@ -22,7 +22,16 @@ fn run_on(alloc: Global, plan: &Plan<'_, '_>, trees: &[PartTree<'_>]) -> io::Res
     if !has_trees(&plan.query.bound_sources, trees) {
         return word(alloc, "other trees");
     }
-    describe(alloc, &run_plan(alloc, plan, trees))
+    match run_plan(alloc, plan, trees) {
+        Ok(ran) => describe_ran(alloc, &ran),
+        Err(fault) => describe(alloc, &fault),
+    }
+}
+
+fn describe_ran(alloc: Global, ran: &Ran) -> io::Result<String> {
+    let rows = describe(alloc, &ran.rows)?;
+    let needs = describe(alloc, &ran.needs)?;
+    Ok(format!(in alloc; "(ran {rows} {needs})")?)
 }
 
 /// What the query needs of the right tree by what the left one shows.

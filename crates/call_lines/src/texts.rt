@@ -1,5 +1,6 @@
-//! Calls of texts, and of tables by texts. Values are shown as for debugging.
+//! Calls of texts, and of tables by texts.
 use crate::line::TextCall;
+use crate::text_faults::describe_read;
 use batch_format::batch_bytes;
 use line_pieces::{describe, word};
 use plain_result::result;
@@ -32,31 +33,31 @@ fn answer_call(
         TextCall::Query => read_query(alloc, text),
         TextCall::Batch => read_batch(alloc, text),
         TextCall::Script => read_script(alloc, text),
-        TextCall::Apply => describe(alloc, &apply_script(alloc, tables, text)),
-        TextCall::Step => describe(alloc, &apply_each(alloc, tables, text)),
+        TextCall::Apply => describe_read(alloc, &apply_script(alloc, tables, text)),
+        TextCall::Step => describe_read(alloc, &apply_each(alloc, tables, text)),
         TextCall::Result => result_of(alloc, tables, text),
         TextCall::PrintQuery => reprint_query(alloc, text),
         TextCall::PrintBatch => reprint_batch(alloc, text),
         TextCall::Bytes => batch_digits(alloc, text),
-        TextCall::Count => describe(alloc, &batch_count(alloc, text)),
+        TextCall::Count => describe_read(alloc, &batch_count(alloc, text)),
         TextCall::Length => describe(alloc, &text.len()),
     }
 }
 
 fn read_query(alloc: Global, text: &str) -> io::Result<String> {
-    describe(alloc, &parse_query(alloc, text))
+    describe_read(alloc, &parse_query(alloc, text))
 }
 
 fn read_batch(alloc: Global, text: &str) -> io::Result<String> {
-    describe(alloc, &parse_batch(alloc, text))
+    describe_read(alloc, &parse_batch(alloc, text))
 }
 
 fn read_script(alloc: Global, text: &str) -> io::Result<String> {
-    describe(alloc, &parse_script(alloc, text))
+    describe_read(alloc, &parse_script(alloc, text))
 }
 
 fn result_of(alloc: Global, tables: &Tables, text: &str) -> io::Result<String> {
-    describe(alloc, &query_result(alloc, tables, text))
+    describe_read(alloc, &query_result(alloc, tables, text))
 }
 
 /// The text that the query of a text is printed as.

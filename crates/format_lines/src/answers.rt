@@ -1,38 +1,38 @@
-//! The answer to a line: bytes in hexadecimal, a number or a word, or a fault as it is shown for debugging.
+//! The answer to a line: bytes in hexadecimal, numbers, words, and written forms.
 use crate::call::Call;
 use crate::hashing::{collision, digest, hash};
 use crate::journals::{entries, journal, owned_journal, seal, slots, taken_journal};
-use crate::kept::{Kept, keep};
 use crate::keys::{copy, key, leaf, make, node, sign, verify};
 use crate::line::read_line;
 use crate::one_time::{candidate, checksum, digit, ots_public, ots_sign};
 use crate::records::{catalog, record};
 use crate::replies::{answer_by, begin, proofs, reply};
-use crate::rows::{attribute, cell, hidden_row, hide, hide_cells, row, value, whole_row};
+use crate::rows::{attribute, cell, closed_row, hide, hide_cells, row, value, whole_row};
+use crate::state::{State, keep};
 use line_pieces::NoAnswer;
 use std::alloc::Global;
 use std::io;
 
 /// The answer to a line.
-pub fn answer(alloc: Global, kept: &mut Kept, line: &str) -> io::Result<String> {
-    match answer_line(alloc, kept, line) {
+pub fn answer(alloc: Global, state: &mut State, line: &str) -> io::Result<String> {
+    match answer_line(alloc, state, line) {
         Ok(answer) => Ok(answer),
         Err(fault) => Ok(format!(in alloc; "{fault}")?),
     }
 }
 
-fn answer_line(alloc: Global, kept: &mut Kept, line: &str) -> Result<String, NoAnswer> {
-    let line = read_line(alloc, &kept.bytes, line)?;
+fn answer_line(alloc: Global, state: &mut State, line: &str) -> Result<String, NoAnswer> {
+    let line = read_line(alloc, &state.bytes, line)?;
     let call = line.call;
     let strings = line.strings.as_slice();
     match call {
-        Call::Keep => keep(alloc, kept, strings),
-        Call::OtsSign => ots_sign(alloc, kept, strings),
-        Call::Make => make(alloc, kept, strings),
-        Call::Copy => copy(alloc, kept),
-        Call::Node => node(alloc, kept, strings),
-        Call::Sign => sign(alloc, kept, strings),
-        Call::Seal => seal(alloc, kept, strings),
+        Call::Keep => keep(alloc, state, strings),
+        Call::OtsSign => ots_sign(alloc, state, strings),
+        Call::Make => make(alloc, state, strings),
+        Call::Copy => copy(alloc, state),
+        Call::Node => node(alloc, state, strings),
+        Call::Sign => sign(alloc, state, strings),
+        Call::Seal => seal(alloc, state, strings),
         _ => by_strings(alloc, call, strings),
     }
 }
@@ -61,7 +61,7 @@ fn by_formats(alloc: Global, call: Call, strings: &[Vec<u8>]) -> Result<String, 
         Call::Attribute => attribute(alloc, strings),
         Call::Cell => cell(alloc, strings),
         Call::Row => row(alloc, strings),
-        Call::Closed => hidden_row(alloc, strings),
+        Call::Closed => closed_row(alloc, strings),
         Call::Whole => whole_row(alloc, strings),
         Call::Hide => hide(alloc, strings),
         Call::HideCells => hide_cells(alloc, strings),

@@ -5,14 +5,15 @@ ghost use Rattle.vo_spec.specs.Journals.{FitsEntry};
 ghost use Rattle.owner_state.specs.Sealing.{FitEach};
 
 use crate::arguments::number_of;
-use crate::kept::Kept;
 use crate::keys::read_key;
 use crate::records::catalog_text;
+use crate::state::State;
 use batch_format::read_batch;
-use line_pieces::NoAnswer;
+use line_pieces::{NoAnswer, form_of};
 use owner_state::{
-    Entry, LoadableJournal, OwnedJournal, entry_bytes, journal_bytes, put_slot, read_entries,
-    read_loadable, read_owned, read_slots, seal as sealed,
+    Ending, EntriesFault, Entry, JournalFault, LoadableJournal, OwnedJournal, SealFault,
+    entry_bytes, journal_bytes, put_slot, read_entries, read_loadable, read_owned, read_slots,
+    seal as sealed,
 };
 use std::alloc::Global;
 use vo_spec::{Batch, List};
@@ -23,9 +24,16 @@ pub fn slots(alloc: Global, strings: &[Vec<u8>]) -> Result<String, NoAnswer> {
         return Err(NoAnswer::NoSuchLine);
     };
     let slots = read_slots(alloc, bytes)?;
-    let mut line = format!(in alloc; "{:?}", slots.ending)?;
+    let mut line = ending_text(alloc, slots.ending)?;
     put_slots(alloc, &mut line, slots.entries.as_slice())?;
     Ok(line)
+}
+
+fn ending_text(alloc: Global, ending: Ending) -> Result<String, NoAnswer> {
+    match ending {
+        Ending::Closed => Ok("Closed".to_string(alloc)?),
+        Ending::Damaged { at } => Ok(format!(in alloc; "(Damaged {at})")?),
+    }
 }
 
 fn put_slots(alloc: Global, line: &mut String, entries: &[Entry]) -> Result<(), NoAnswer>
@@ -53,7 +61,14 @@ pub fn entries(alloc: Global, strings: &[Vec<u8>]) -> Result<String, NoAnswer> {
     };
     match read_entries(alloc, bytes) {
         Ok(entries) => entries_text(alloc, entries.as_slice()),
-        Err(fault) => Ok(format!(in alloc; "{fault:?}")?),
+        Err(fault) => damage_text(alloc, fault),
+    }
+}
+
+fn damage_text(alloc: Global, fault: EntriesFault) -> Result<String, NoAnswer> {
+    match fault {
+        EntriesFault::Damaged { index, at } => Ok(format!(in alloc; "(Damaged {index} {at})")?),
+        EntriesFault::Memory => Err(NoAnswer::Memory),
     }
 }
 
@@ -81,16 +96,27 @@ pub fn journal(alloc: Global, strings: &[Vec<u8>]) -> Result<String, NoAnswer> {
     };
     match read_entries(alloc, bytes) {
         Ok(entries) => Ok(hex::encode(alloc, journal_bytes(alloc, entries.as_slice())?)?),
-        Err(fault) => Ok(format!(in alloc; "{fault:?}")?),
+        Err(fault) => damage_text(alloc, fault),
     }
 }
 
 /// The journal of batches, sealed by the key that was made last, which is kept.
-pub fn seal(alloc: Global, kept: &mut Kept, strings: &[Vec<u8>]) -> Result<String, NoAnswer> {
+pub fn seal(alloc: Global, state: &mut State, strings: &[Vec<u8>]) -> Result<String, NoAnswer> {
     let batches = read_batches(alloc, strings)?;
-    match sealed(alloc, kept.secret()?, batches) {
-        Ok(journal) => kept.keep(alloc, journal),
-        Err(fault) => Ok(format!(in alloc; "{fault:?}")?),
+    match sealed(alloc, state.secret()?, batches) {
+        Ok(journal) => state.keep(alloc, journal),
+        Err(fault) => seal_fault_text(alloc, fault),
+    }
+}
+
+fn seal_fault_text(alloc: Global, fault: SealFault) -> Result<String, NoAnswer> {
+    match fault {
+        SealFault::KeySpent => Ok("KeySpent".to_string(alloc)?),
+        SealFault::Command { index, fault } => {
+            let fault = form_of(alloc, &fault)?;
+            Ok(format!(in alloc; "(Command {index} {fault})")?)
+        }
+        SealFault::Memory => Err(NoAnswer::Memory),
     }
 }
 
@@ -114,7 +140,14 @@ pub fn owned_journal(alloc: Global, strings: &[Vec<u8>]) -> Result<String, NoAns
     };
     match read_owned(alloc, &read_key(key)?, journal, number_of(version)?) {
         Ok(owned) => owned_text(alloc, &owned),
-        Err(fault) => Ok(format!(in alloc; "{fault:?}")?),
+        Err(fault) => bad_entry_text(alloc, fault),
+    }
+}
+
+fn bad_entry_text(alloc: Global, fault: JournalFault) -> Result<String, NoAnswer> {
+    match fault {
+        JournalFault::BadAt { index } => Ok(format!(in alloc; "(BadAt {index})")?),
+        JournalFault::Memory => Err(NoAnswer::Memory),
     }
 }
 
@@ -136,7 +169,7 @@ pub fn taken_journal(alloc: Global, strings: &[Vec<u8>]) -> Result<String, NoAns
     };
     match read_loadable(alloc, &read_key(key)?, journal) {
         Ok(taken) => taken_text(alloc, &taken),
-        Err(fault) => Ok(format!(in alloc; "{fault:?}")?),
+        Err(fault) => bad_entry_text(alloc, fault),
     }
 }
 

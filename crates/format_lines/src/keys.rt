@@ -1,20 +1,20 @@
 //! Calls of keys: the secret key that was made last, and public keys.
 use crate::arguments::{array_of, number_of, set_of, small_number_of};
 use crate::hashing::hex_digest;
-use crate::kept::Kept;
+use crate::state::State;
 use line_pieces::NoAnswer;
-use lms_sign::{OtsType, PublicKey, SecretKey, verify as verifies};
+use lms_sign::{KeyFault, OtsType, PublicKey, SecretKey, SignFault, verify as verifies};
 use std::alloc::Global;
 
 /// The public key of the secret key that is made, which is kept.
-pub fn make(alloc: Global, kept: &mut Kept, strings: &[Vec<u8>]) -> Result<String, NoAnswer> {
+pub fn make(alloc: Global, state: &mut State, strings: &[Vec<u8>]) -> Result<String, NoAnswer> {
     let [height, set, id, seed] = strings else {
         return Err(NoAnswer::NoSuchLine);
     };
     let id = array_of::<16>(id)?;
     let seed = array_of::<32>(seed)?;
-    kept.key = Some(key_of(alloc, id, seed, set_of(set)?, number_of(height)?)?);
-    public(alloc, kept.secret()?)
+    state.key = Some(key_of(alloc, id, seed, set_of(set)?, number_of(height)?)?);
+    public_key_text(alloc, state.secret()?)
 }
 
 /// Keys are made of these heights alone.
@@ -32,18 +32,18 @@ fn key_of(
     }
 }
 
-fn public(alloc: Global, key: &SecretKey) -> Result<String, NoAnswer> {
+fn public_key_text(alloc: Global, key: &SecretKey) -> Result<String, NoAnswer> {
     Ok(hex::encode(alloc, key.public().bytes(alloc)?)?)
 }
 
 /// Keeps a copy of the key in its place, and has its public key.
-pub fn copy(alloc: Global, kept: &mut Kept) -> Result<String, NoAnswer> {
-    kept.key = Some(kept.secret()?.copy(alloc)?);
-    public(alloc, kept.secret()?)
+pub fn copy(alloc: Global, state: &mut State) -> Result<String, NoAnswer> {
+    state.key = Some(state.secret()?.copy(alloc)?);
+    public_key_text(alloc, state.secret()?)
 }
 
 /// A node of the key's tree.
-pub fn node(alloc: Global, kept: &Kept, strings: &[Vec<u8>]) -> Result<String, NoAnswer> {
+pub fn node(alloc: Global, state: &State, strings: &[Vec<u8>]) -> Result<String, NoAnswer> {
     let [number] = strings else {
         return Err(NoAnswer::NoSuchLine);
     };
@@ -52,28 +52,31 @@ pub fn node(alloc: Global, kept: &Kept, strings: &[Vec<u8>]) -> Result<String, N
     if number < 1 || number > 63 {
         return Err(NoAnswer::NoSuchLine);
     }
-    hex_digest(alloc, kept.secret()?.node(number))
+    hex_digest(alloc, state.secret()?.node(number))
 }
 
 /// The key's signature of a message by a leaf, which is kept.
-pub fn sign(alloc: Global, kept: &mut Kept, strings: &[Vec<u8>]) -> Result<String, NoAnswer> {
+pub fn sign(alloc: Global, state: &mut State, strings: &[Vec<u8>]) -> Result<String, NoAnswer> {
     let [leaf, message] = strings else {
         return Err(NoAnswer::NoSuchLine);
     };
-    match kept.secret()?.sign(alloc, number_of(leaf)?, message) {
-        Ok(signature) => kept.keep(alloc, signature),
-        Err(fault) => Ok(format!(in alloc; "{fault:?}")?),
+    match state.secret()?.sign(alloc, number_of(leaf)?, message) {
+        Ok(signature) => state.keep(alloc, signature),
+        Err(SignFault::Leaf) => Ok("Leaf".to_string(alloc)?),
+        Err(SignFault::Memory) => Err(NoAnswer::Memory),
     }
 }
 
-/// A public key's identifier, its number of leaves, the length of its signatures, and its bytes again.
+/// A public key's identifier, its number of leaves, the length of its signatures, and its bytes
+/// again.
 pub fn key(alloc: Global, strings: &[Vec<u8>]) -> Result<String, NoAnswer> {
     let [bytes] = strings else {
         return Err(NoAnswer::NoSuchLine);
     };
     match PublicKey::read(bytes) {
         Ok(key) => key_text(alloc, &key),
-        Err(fault) => Ok(format!(in alloc; "{fault:?}")?),
+        Err(KeyFault::Length) => Ok("Length".to_string(alloc)?),
+        Err(KeyFault::UnknownSet) => Ok("UnknownSet".to_string(alloc)?),
     }
 }
 

@@ -1,4 +1,4 @@
-//! A line: the word of a call, and its byte strings.
+//! What a line asks for: a call, and its byte strings, made of digits and of the bytes kept last.
 use crate::call::{Call, call_of};
 use line_pieces::{NoAnswer, put_piece};
 use std::alloc::Global;

@@ -1,20 +1,24 @@
-//! Answers a call of the crates of digests, signatures and formats for each line of standard input, so that other
-//! implementations can be compared with them.
+//! Answers a call of the crates of digests, signatures and formats for each line of standard input.
 //!
-//! A line is a word and byte strings with a blank between each two; numbers are byte strings too, the highest byte
-//! first. A byte string is pieces joined by `+`: hexadecimal digits, `DIGITS*COUNT` for bytes that stand so often, or
-//! `FROM..TO` for those of the bytes that `keep`, `ots_sign`, `sign` or `seal` had last.
+//! A line is a word and byte strings with a blank between each two; numbers are byte strings too,
+//! the highest byte first. A byte string is pieces joined by `+`: hexadecimal digits,
+//! `DIGITS*COUNT` for bytes that stand so often, or `FROM..TO` for those of the bytes that `keep`,
+//! `ots_sign`, `sign` or `seal` had last.
 //!
-//! - Digests: `digest` of bytes, `hash` of pieces that are added one by one, and `collision` of two strings.
-//! - One-time signatures, of a type: `digit` of bytes, `checksum` of a digest, `ots_public` and `ots_sign` of an
-//!   identifier, a leaf and a seed, and `candidate` of an identifier, a leaf, a message and a signature.
-//! - Keys: `make` of a height, a type, an identifier and a seed has the key that `copy`, `node`, `sign` and `seal` take;
-//!   `key` reads a public key, `leaf` names the leaf of a signature, and `verify` judges it.
-//! - Rows: `value`, `attribute`, `cell`, `row`, `closed` and `whole` are digests; `hide` and `hide_cells` hide the values
-//!   but those of some columns.
-//! - Formats: `catalog`, `record`, `reply` and `proofs` read and write again, `begin` begins the proofs of so many.
-//! - Journals: `slots`, `entries` and `journal` read and write again, `seal` seals batches, `owned` and `taken` read a
-//!   journal under a public key, and `answer` is a store's reply to a query.
+//! - Digests: `digest` of bytes, `hash` of pieces that are added one by one, and `collision` of two
+//!   strings.
+//! - One-time signatures, of a type: `digit` of bytes, `checksum` of a digest, `ots_public` and
+//!   `ots_sign` of an identifier, a leaf and a seed, and `candidate` of an identifier, a leaf, a
+//!   message and a signature.
+//! - Keys: `make` of a height, a type, an identifier and a seed has the key that `copy`, `node`,
+//!   `sign` and `seal` take; `key` reads a public key, `leaf` names the leaf of a signature, and
+//!   `verify` judges it.
+//! - Rows: `value`, `attribute`, `cell`, `row`, `closed` and `whole` are digests; `hide` and
+//!   `hide_cells` hide the values but those of some columns.
+//! - Formats: `catalog`, `record`, `reply` and `proofs` read and write again, `begin` begins the
+//!   proofs of so many.
+//! - Journals: `slots`, `entries` and `journal` read and write again, `seal` seals batches, `owned`
+//!   and `taken` read a journal under a public key, and `answer` is a store's reply to a query.
 #![tactic(auto)]
 
 mod answers;
@@ -22,7 +26,6 @@ mod arguments;
 mod call;
 mod hashing;
 mod journals;
-mod kept;
 mod keys;
 mod line;
 mod one_time;
@@ -30,19 +33,20 @@ mod reading;
 mod records;
 mod replies;
 mod rows;
+mod state;
 
 use answers::answer;
-use kept::Kept;
+use state::State;
 use std::io::{self, BufRead, BufReader};
 
 fn main(rt: HostRuntime) -> io::Result<()> {
-    answer_lines(&rt, &mut Kept::new(rt.alloc()))
+    answer_lines(&rt, &mut State::new(rt.alloc()))
 }
 
-fn answer_lines(rt: &HostRuntime, kept: &mut Kept) -> io::Result<()> {
+fn answer_lines(rt: &HostRuntime, state: &mut State) -> io::Result<()> {
     let alloc = rt.alloc();
     for line in BufReader::new(alloc, rt.reader())?.lines(alloc) {
-        let answer = answer(alloc, kept, &line?)?;
+        let answer = answer(alloc, state, &line?)?;
         println!(rt; "{answer}")?;
     }
     Ok(())

@@ -1,7 +1,7 @@
 //! Calls of one-time signatures.
 use crate::arguments::{array_of, digest_in, number_of, set_of, small_number_of};
 use crate::hashing::hex_digest;
-use crate::kept::Kept;
+use crate::state::State;
 use line_pieces::NoAnswer;
 use lm_ots::{candidate as candidate_of, checksum as checksum_of, coef, public_of, sign_ots};
 use std::alloc::Global;
@@ -41,7 +41,7 @@ pub fn ots_public(alloc: Global, strings: &[Vec<u8>]) -> Result<String, NoAnswer
 }
 
 /// The signature of a message by a leaf, which is kept.
-pub fn ots_sign(alloc: Global, kept: &mut Kept, strings: &[Vec<u8>]) -> Result<String, NoAnswer> {
+pub fn ots_sign(alloc: Global, state: &mut State, strings: &[Vec<u8>]) -> Result<String, NoAnswer> {
     let [set, id, leaf, seed, message] = strings else {
         return Err(NoAnswer::NoSuchLine);
     };
@@ -49,7 +49,7 @@ pub fn ots_sign(alloc: Global, kept: &mut Kept, strings: &[Vec<u8>]) -> Result<S
     let seed = array_of::<32>(seed)?;
     let leaf = small_number_of(leaf)?;
     let signature = sign_ots(alloc, &id, leaf, set_of(set)?, &seed, message)?;
-    kept.keep(alloc, signature)
+    state.keep(alloc, signature)
 }
 
 /// The public key that a signature leads to.

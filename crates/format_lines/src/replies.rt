@@ -15,7 +15,7 @@ use vo_format::{
     PartTree, Reply, begin_proofs, read_proofs, read_reply, write_proofs, write_reply,
 };
 use vo_spec::QueryText;
-use vo_store::reply_by;
+use vo_store::{ReplyFault, reply_by};
 
 /// A reply's version, its signature's length, its number of trees, and its bytes again.
 pub fn reply(alloc: Global, strings: &[Vec<u8>]) -> Result<String, NoAnswer> {
@@ -89,6 +89,8 @@ fn answer_to(
 ) -> Result<String, NoAnswer> {
     match reply_by(alloc, key, journal, query) {
         Ok(reply) => Ok(hex::encode(alloc, reply)?),
-        Err(fault) => Ok(format!(in alloc; "{fault:?}")?),
+        Err(ReplyFault::BadJournal { index }) => Ok(format!(in alloc; "(BadJournal {index})")?),
+        Err(ReplyFault::TooLarge { length }) => Ok(format!(in alloc; "(TooLarge {length})")?),
+        Err(ReplyFault::Memory) => Err(NoAnswer::Memory),
     }
 }

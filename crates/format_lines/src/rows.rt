@@ -5,10 +5,10 @@ use crate::arguments::{column_of, digest_in};
 use crate::hashing::hex_digest;
 use crate::reading::{read_cell, read_row, read_value, read_values};
 use attr_digest::{
-    add_value, attr_digest, cell_digest, hide as hidden, hide_cells as hidden_cells, row_digest,
-    whole_row_digest,
+    add_value, attr_digest, cell_digest, hide as hide_columns, hide_cells as hide_columns_of,
+    row_digest, whole_row_digest,
 };
-use line_pieces::NoAnswer;
+use line_pieces::{NoAnswer, form_of};
 use std::alloc::Global;
 use tagged_hash::Hasher;
 use vo_spec::{Cell, Key, Row, RowPart};
@@ -45,7 +45,7 @@ pub fn row(alloc: Global, strings: &[Vec<u8>]) -> Result<String, NoAnswer> {
 }
 
 /// The digest of a row that is closed to this one.
-pub fn hidden_row(alloc: Global, strings: &[Vec<u8>]) -> Result<String, NoAnswer> {
+pub fn closed_row(alloc: Global, strings: &[Vec<u8>]) -> Result<String, NoAnswer> {
     let [digest] = strings else {
         return Err(NoAnswer::NoSuchLine);
     };
@@ -73,7 +73,7 @@ pub fn hide(alloc: Global, strings: &[Vec<u8>]) -> Result<String, NoAnswer> {
 fn hide_row(alloc: Global, row: &Row, columns: &[u8]) -> Result<String, NoAnswer>
     requires { FitsRow row.now }
 {
-    match hidden(alloc, row, columns)? {
+    match hide_columns(alloc, row, columns)? {
         RowPart::Digest(digest) => hex_digest(alloc, digest),
         RowPart::Cells(cells) => cells_text(alloc, cells.as_slice()),
     }
@@ -85,7 +85,7 @@ pub fn hide_cells(alloc: Global, strings: &[Vec<u8>]) -> Result<String, NoAnswer
         return Err(NoAnswer::NoSuchLine);
     };
     let values = read_values(alloc, values)?;
-    let cells = hidden_cells(alloc, values.as_slice(), columns)?;
+    let cells = hide_columns_of(alloc, values.as_slice(), columns)?;
     cells_text(alloc, cells.as_slice())
 }
 
@@ -106,7 +106,7 @@ fn put_cells(alloc: Global, line: &mut String, cells: &[Cell<'_>]) -> Result<(),
 
 fn cell_text(alloc: Global, cell: &Cell<'_>) -> Result<String, NoAnswer> {
     match cell {
-        Cell::Shown(value) => Ok(format!(in alloc; "{:?}", value.as_ref())?),
+        Cell::Shown(value) => Ok(form_of(alloc, &value.as_ref())?),
         Cell::Hidden(digest) => hex_digest(alloc, *digest),
     }
 }

@@ -16,7 +16,7 @@ pub fn raise(faults: &mut u64) -> Failed
 }
 
 /// What the system answered, an error counted.
-pub fn counted<T>(faults: &mut u64, answer: io::Result<T>) -> Result<T, Failed>
+pub fn count_fault<T>(faults: &mut u64, answer: io::Result<T>) -> Result<T, Failed>
     ensures counts { faults.old ≤ faults.new }
     ensures cause { IsErr result → FaultRose faults.old faults.new }
     ensures ok { IsOk answer → IsOk result }

@@ -1,7 +1,7 @@
 //! One file that is kept through crashes.
 ghost use Rattle.std.specs.Prelude.{None};
 
-use crate::count::counted;
+use crate::count::count_fault;
 use outside::{Disk, Failed};
 use std::alloc::AllocError;
 use std::fs::{File, OpenOptions};
@@ -36,7 +36,7 @@ impl<'r, R: Files<File = File>> JournalFile<'r, R> {
 }
 
 /// The open file. One that is opened here has its name put down.
-fn opened<'f, R: Files<File = File>>(
+fn open_file<'f, R: Files<File = File>>(
     rt: &R,
     folder: &str,
     path: &str,
@@ -62,31 +62,31 @@ impl<R: Files<File = File>> Disk for JournalFile<'_, R> {
     ghost sees = { λ _. tt };
 
     fn len(&mut self) -> Result<u64, Failed> {
-        let answer = opened(self.rt, self.folder, self.path, &mut self.file).and_then(|file| Ok(
+        let answer = open_file(self.rt, self.folder, self.path, &mut self.file).and_then(|file| Ok(
             file.metadata()?.len(),
         ));
-        counted(&mut self.faults, answer)
+        count_fault(&mut self.faults, answer)
     }
 
     fn read(&mut self, at: u64, into: &mut [u8]) -> Result<(), Failed> {
-        let answer = opened(self.rt, self.folder, self.path, &mut self.file).and_then(
+        let answer = open_file(self.rt, self.folder, self.path, &mut self.file).and_then(
             |file| file.read_exact_at(into, at),
         );
-        counted(&mut self.faults, answer)
+        count_fault(&mut self.faults, answer)
     }
 
     fn write_at(&mut self, at: u64, piece: &[u8]) -> Result<(), Failed> {
-        let answer = opened(self.rt, self.folder, self.path, &mut self.file).and_then(
+        let answer = open_file(self.rt, self.folder, self.path, &mut self.file).and_then(
             |file| file.write_all_at(piece, at),
         );
-        counted(&mut self.faults, answer)
+        count_fault(&mut self.faults, answer)
     }
 
     fn sync(&mut self) -> Result<(), Failed> {
-        let answer = opened(self.rt, self.folder, self.path, &mut self.file).and_then(
+        let answer = open_file(self.rt, self.folder, self.path, &mut self.file).and_then(
             |file| file.sync_data(),
         );
-        counted(&mut self.faults, answer)
+        count_fault(&mut self.faults, answer)
     }
 
     /// The system makes room as it is written.

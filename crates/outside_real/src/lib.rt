@@ -1,7 +1,7 @@
 //! The outside as it is: a folder's files, standard output, TCP and one file that is kept.
 //!
-//! Nothing is known of what they hold, so each says only that a call fails where its count of faults
-//! rose. That a file keeps what a sync put down is the system's word.
+//! Nothing is known of what they hold, so each says only that a call fails where its count of
+//! faults rose. That a file keeps what a sync put down is the system's word.
 #![tactic(auto)]
 
 mod count;

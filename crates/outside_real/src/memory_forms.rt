@@ -1,5 +1,6 @@
-//! The forms in memory, each once on its plain path and at a failure that was listed. They are another crate's, which has
-//! no tests of its own, since a crate with tests is proved twice.
+//! The forms in memory, each once on its plain path and at a failure that was listed.
+//!
+//! They are another crate's, which has no tests of its own, since a crate with tests is proved twice.
 use outside::{
     Disk, FailAt, Failed, Failure, Link, MemDisk, MemNet, MemShelf, MemSink, NamedFile, Net, Never,
     PutFault, Shelf, Sink, TakeFault,
@@ -7,7 +8,7 @@ use outside::{
 use std::alloc::{AllocError, Global};
 use std::test::Fail;
 
-fn fails_at(alloc: Global, call: u64, after: usize) -> Result<FailAt, AllocError> {
+fn fail_at(alloc: Global, call: u64, after: usize) -> Result<FailAt, AllocError> {
     Ok(FailAt::new(vec![in alloc; Failure { call, after }]?))
 }
 
@@ -16,8 +17,8 @@ fn bytes(alloc: Global, text: &str) -> Result<Vec<u8>, AllocError> {
 }
 
 #[test]
-fn sinks(rt: HostRuntime) -> Result<(), Fail> {
-    let mut sink = MemSink::new(rt.alloc(), fails_at(rt.alloc(), 1, 2)?);
+fn sink_fails_at_its_call(rt: HostRuntime) -> Result<(), Fail> {
+    let mut sink = MemSink::new(rt.alloc(), fail_at(rt.alloc(), 1, 2)?);
     let put = (sink.put(b"ab"), sink.put(b"cde"), sink.put(b"f"));
     assert_eq!(rt;
         (put, sink.written()),
@@ -27,7 +28,7 @@ fn sinks(rt: HostRuntime) -> Result<(), Fail> {
 }
 
 #[test]
-fn quiet_sinks(rt: HostRuntime) {
+fn sink_never_fails(rt: HostRuntime) {
     let put = MemSink::new(rt.alloc(), Never).put(b"x");
     assert_eq!(rt; put, Ok(()));
 }
@@ -36,11 +37,11 @@ fn shelf_of_a_seed(alloc: Global) -> Result<MemShelf<FailAt>, AllocError> {
     let name = String::from_str(alloc, "seed")?;
     let bytes = bytes(alloc, "123")?;
     let files = vec![in alloc; NamedFile { name, bytes }]?;
-    Ok(MemShelf::new(files, fails_at(alloc, 2, 0)?))
+    Ok(MemShelf::new(files, fail_at(alloc, 2, 0)?))
 }
 
 #[test]
-fn shelves(rt: HostRuntime) -> Result<(), Fail> {
+fn shelf_gives_files_and_faults(rt: HostRuntime) -> Result<(), Fail> {
     let mut shelf = shelf_of_a_seed(rt.alloc())?;
     let taken = shelf.take(rt.alloc(), "seed", 3)?;
     let faults = (
@@ -60,7 +61,7 @@ fn shelves(rt: HostRuntime) -> Result<(), Fail> {
 }
 
 #[test]
-fn comes_in_pieces(rt: HostRuntime) -> Result<(), Fail> {
+fn net_gives_bytes_in_pieces(rt: HostRuntime) -> Result<(), Fail> {
     let coming = vec![in rt.alloc(); bytes(rt.alloc(), "hello")?]?;
     let mut net = MemNet::new(rt.alloc(), coming, Never)?.in_pieces(3);
     let mut buffer = [0u8; 4];
@@ -78,9 +79,9 @@ fn comes_in_pieces(rt: HostRuntime) -> Result<(), Fail> {
 }
 
 #[test]
-fn keeps_what_was_put(rt: HostRuntime) -> Result<(), Fail> {
+fn net_keeps_what_was_put(rt: HostRuntime) -> Result<(), Fail> {
     let coming = vec![in rt.alloc(); bytes(rt.alloc(), "")?]?;
-    let mut net = MemNet::new(rt.alloc(), coming, fails_at(rt.alloc(), 2, 1)?)?;
+    let mut net = MemNet::new(rt.alloc(), coming, fail_at(rt.alloc(), 2, 1)?)?;
     let called = (net.listen("here"), net.next(), net.put(b"zz"));
     let is_sent = net.sent() == b"z".as_slice();
     net.close();
@@ -97,7 +98,7 @@ fn keeps_what_was_put(rt: HostRuntime) -> Result<(), Fail> {
 }
 
 #[test]
-fn disks(rt: HostRuntime) -> Result<(), Fail> {
+fn disk_writes_and_reads(rt: HostRuntime) -> Result<(), Fail> {
     let mut disk = MemDisk::new(rt.alloc(), bytes(rt.alloc(), "abc")?, Never)?;
     disk.reserve(7, 4, 3)?;
     let written = (
@@ -121,8 +122,8 @@ fn disks(rt: HostRuntime) -> Result<(), Fail> {
 }
 
 #[test]
-fn failing_disks(rt: HostRuntime) -> Result<(), Fail> {
-    let failing = fails_at(rt.alloc(), 0, 1)?;
+fn disk_fails_at_its_call(rt: HostRuntime) -> Result<(), Fail> {
+    let failing = fail_at(rt.alloc(), 0, 1)?;
     let mut disk = MemDisk::new(rt.alloc(), bytes(rt.alloc(), "abc")?, failing)?;
     disk.reserve(4, 4, 1)?;
     let written = disk.write_at(0, b"ABCD");

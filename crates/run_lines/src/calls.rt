@@ -1,10 +1,10 @@
 //! What the calls answer.
-use crate::folder::{Attempt, Ended, Folder};
+use crate::folder::{Attempt, Folder, RunEnd};
 use crate::line::{Line, Splice, read_line};
 use line_pieces::NoAnswer;
 use std::alloc::Global;
 use std::io;
-use vo_words::read_words;
+use vo_words::{Request, read_words};
 
 /// The answer to a line.
 pub fn answer(alloc: Global, folder: &mut Folder, line: &str) -> io::Result<String> {
@@ -30,7 +30,41 @@ fn answer_line(alloc: Global, folder: &mut Folder, line: &str) -> Result<String,
 
 /// What the words ask for.
 fn request_text(alloc: Global, words: &[String]) -> Result<String, NoAnswer> {
-    Ok(format!(in alloc; "{:?}", read_words(alloc, words)?)?)
+    match read_words(alloc, words)? {
+        Some(request) => request_form(alloc, request),
+        None => Ok("none".to_string(alloc)?),
+    }
+}
+
+/// The command and its words in quotes, and what its option gives.
+fn request_form(alloc: Global, request: Request<'_>) -> Result<String, NoAnswer> {
+    Ok(match request {
+        Request::Keygen { seed, height } => {
+            format!(in alloc; "(keygen {seed:?} {})", height.number())?
+        }
+        Request::Seal {
+            seed,
+            script,
+            height,
+        } => format!(in alloc; "(seal {seed:?} {script:?} {})", height.number())?,
+        Request::Answer {
+            key,
+            journal,
+            query,
+        } => format!(in alloc; "(answer {key:?} {journal:?} {query:?})")?,
+        Request::Check {
+            key,
+            query,
+            reply,
+            least,
+        } => format!(in alloc; "(check {key:?} {query:?} {reply:?} {least})")?,
+        Request::Audit {
+            key,
+            journal,
+            query,
+            reply,
+        } => format!(in alloc; "(audit {key:?} {journal:?} {query:?} {reply:?})")?,
+    })
 }
 
 /// Keeps a file, and says how long it is.
@@ -68,8 +102,8 @@ fn splice_file(alloc: Global, folder: &Folder, splice: &Splice) -> Result<Vec<u8
 }
 
 fn run_once(alloc: Global, folder: &Folder, attempt: Attempt) -> Result<String, NoAnswer> {
-    let ended = folder.run(alloc, attempt)?;
-    end_text(alloc, &ended)
+    let end = folder.run(alloc, attempt)?;
+    end_text(alloc, &end)
 }
 
 /// Runs the program, and keeps what it writes.
@@ -79,19 +113,19 @@ fn run_and_keep(
     name: String,
     attempt: Attempt,
 ) -> Result<String, NoAnswer> {
-    let ended = folder.run(alloc, attempt)?;
-    let answer = end_text(alloc, &ended)?;
-    folder.keep(name, ended.written)?;
+    let end = folder.run(alloc, attempt)?;
+    let answer = end_text(alloc, &end)?;
+    folder.keep(name, end.written)?;
     Ok(answer)
 }
 
 /// A status, and output as a text in quotes, if it is one, or else in hexadecimal.
-fn end_text(alloc: Global, ended: &Ended) -> Result<String, NoAnswer> {
-    match std::str::from_utf8(&ended.written) {
-        Ok(text) => Ok(format!(in alloc; "{} {text:?}", ended.status)?),
+fn end_text(alloc: Global, end: &RunEnd) -> Result<String, NoAnswer> {
+    match std::str::from_utf8(&end.written) {
+        Ok(text) => Ok(format!(in alloc; "{} {text:?}", end.status)?),
         Err(_) => {
-            let digits = hex::encode(alloc, ended.written.as_slice())?;
-            Ok(format!(in alloc; "{} {digits}", ended.status)?)
+            let digits = hex::encode(alloc, end.written.as_slice())?;
+            Ok(format!(in alloc; "{} {digits}", end.status)?)
         }
     }
 }

@@ -3,17 +3,18 @@ use outside::{FailAt, Failure, MemDisk, MemNet, MemShelf, MemSink, NamedFile, Ne
 use std::alloc::{AllocError, Global};
 use vo_commands::run;
 
-/// The words that the program is run with, and which of its calls of the files and of the output fail.
+/// The words that the program is run with, and which of its calls of the files and of the output
+/// fail.
 #[derive(Drop)]
 pub struct Attempt {
     pub words: Vec<String>,
-    pub taking: Vec<Failure>,
-    pub putting: Vec<Failure>,
+    pub take_failures: Vec<Failure>,
+    pub put_failures: Vec<Failure>,
 }
 
 /// What a run ended with, and what it wrote.
 #[derive(Drop)]
-pub struct Ended {
+pub struct RunEnd {
     pub status: u8,
     pub written: Vec<u8>,
 }
@@ -46,12 +47,12 @@ impl Folder {
         None
     }
 
-    pub fn run(&self, alloc: Global, attempt: Attempt) -> Result<Ended, AllocError> {
+    pub fn run(&self, alloc: Global, attempt: Attempt) -> Result<RunEnd, AllocError> {
         let files = copies(alloc, &self.files)?;
-        let mut shelf = MemShelf::new(files, FailAt::new(attempt.taking));
-        let mut out = MemSink::new(alloc, FailAt::new(attempt.putting));
+        let mut shelf = MemShelf::new(files, FailAt::new(attempt.take_failures));
+        let mut out = MemSink::new(alloc, FailAt::new(attempt.put_failures));
         let status = run_over(alloc, &attempt.words, &mut shelf, &mut out)?;
-        Ok(Ended {
+        Ok(RunEnd {
             status,
             written: Vec::from_slice(alloc, out.written())?,
         })

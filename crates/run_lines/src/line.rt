@@ -39,8 +39,8 @@ fn line_of(alloc: Global, word: &str, pieces: &mut Pieces<'_>) -> Result<Line, N
         "splice" => Line::Splice(take_name(alloc, pieces)?, take_splice(alloc, pieces)?),
         "run" => Line::Run(take_run(alloc, pieces)?),
         "make" => Line::Make(take_name(alloc, pieces)?, take_run(alloc, pieces)?),
-        "fail_files" => Line::Run(take_unread(alloc, pieces)?),
-        "fail_output" => Line::Run(take_unwritten(alloc, pieces)?),
+        "fail_files" => Line::Run(take_run_without_file(alloc, pieces)?),
+        "fail_output" => Line::Run(take_run_with_short_output(alloc, pieces)?),
         "words" => Line::Words(take_words(alloc, pieces)?),
         _ => return Err(NoAnswer::NoSuchLine),
     })
@@ -58,23 +58,23 @@ fn take_splice(alloc: Global, pieces: &mut Pieces<'_>) -> Result<Splice, NoAnswe
 fn take_run(alloc: Global, pieces: &mut Pieces<'_>) -> Result<Attempt, NoAnswer> {
     Ok(Attempt {
         words: take_words(alloc, pieces)?,
-        taking: Vec::new(alloc),
-        putting: Vec::new(alloc),
+        take_failures: Vec::new(alloc),
+        put_failures: Vec::new(alloc),
     })
 }
 
 /// A run that can't read the file that it takes with a number, the first one having 0.
-fn take_unread(alloc: Global, pieces: &mut Pieces<'_>) -> Result<Attempt, NoAnswer> {
+fn take_run_without_file(alloc: Global, pieces: &mut Pieces<'_>) -> Result<Attempt, NoAnswer> {
     let call = take_number(pieces)? as u64;
     let mut attempt = take_run(alloc, pieces)?;
-    attempt.taking.push(Failure { call, after: 0 })?;
+    attempt.take_failures.push(Failure { call, after: 0 })?;
     Ok(attempt)
 }
 
 /// A run whose output breaks off behind so many bytes.
-fn take_unwritten(alloc: Global, pieces: &mut Pieces<'_>) -> Result<Attempt, NoAnswer> {
+fn take_run_with_short_output(alloc: Global, pieces: &mut Pieces<'_>) -> Result<Attempt, NoAnswer> {
     let after = take_number(pieces)?;
     let mut attempt = take_run(alloc, pieces)?;
-    attempt.putting.push(Failure { call: 0, after })?;
+    attempt.put_failures.push(Failure { call: 0, after })?;
     Ok(attempt)
 }

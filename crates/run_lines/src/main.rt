@@ -1,16 +1,16 @@
-//! Runs the program for lines of standard input, over files and output in memory, so that other implementations can be
-//! compared with it.
+//! Runs the program for lines of standard input, over files and output in memory, for comparisons.
 //!
-//! A line is a word and what it is asked of. `keep NAME BYTES` keeps a file, and `splice NAME FROM AT CUT BYTES` one
-//! that is the file FROM with these bytes in the place of CUT others from AT on; both say how long it is, and `clear`
-//! has no files again. `run WORDS` runs the program, its name first, and says the status and the output; `make NAME
-//! WORDS` keeps the output besides, `fail_files CALL WORDS` runs it where the file that it takes with this number, from
-//! 0 on, is not read, and `fail_output AFTER WORDS` where the output breaks off behind so many bytes. `words WORDS` says
-//! what the words ask for.
+//! A line is a word and what it is asked of. `keep NAME BYTES` keeps a file, and `splice NAME FROM
+//! AT CUT BYTES` one that is the file FROM with these bytes in the place of CUT others from AT on;
+//! both say how long it is, and `clear` has no files again. `run WORDS` runs the program, its name
+//! first, and says the status and the output; `make NAME WORDS` keeps the output besides,
+//! `fail_files CALL WORDS` runs it where the file that it takes with this number, from 0 on, is not
+//! read, and `fail_output AFTER WORDS` where the output breaks off behind so many bytes. `words
+//! WORDS` says what the words ask for.
 //!
-//! Bytes are in hexadecimal, in pieces with a blank between; digits of a piece that stands several times are written as
-//! `DIGITS*COUNT`. Each of the words is such a piece. Output is said as a text in quotes, if it is one, or else in
-//! hexadecimal.
+//! Bytes are in hexadecimal, in pieces with a blank between; digits of a piece that stands several
+//! times are written as `DIGITS*COUNT`. Each of the words is such a piece. Output is said as a text
+//! in quotes, if it is one, or else in hexadecimal.
 #![tactic(auto)]
 
 mod calls;

@@ -1,4 +1,4 @@
-//! The pieces of a line, which have a blank between each two: names, numbers, and bytes and words in hexadecimal.
+//! The pieces of a line, with a blank between each two: names, numbers, bytes and words.
 use line_pieces::{NoAnswer, put_piece};
 use std::alloc::Global;
 use std::str::Split;

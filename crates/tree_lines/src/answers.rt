@@ -23,8 +23,8 @@ pub fn tree_digits(alloc: Global, tree: &PartTree<'_>) -> io::Result<String>
 }
 
 /// Whether a part tree is a proof.
-pub fn verdict(alloc: Global, told: Result<bool, ScanFault>) -> io::Result<String> {
-    match told {
+pub fn verdict(alloc: Global, is_proof: Result<bool, ScanFault>) -> io::Result<String> {
+    match is_proof {
         Ok(true) => word(alloc, "yes"),
         Ok(false) => word(alloc, "no"),
         Err(fault) => describe(alloc, &fault),

@@ -1,4 +1,6 @@
-//! Changes as bytes: the kind, the key behind its length, and behind their number the values that an insertion gives,
+//! Changes as bytes.
+//!
+//! The kind, the key behind its length, and behind their number the values that an insertion gives,
 //! or the columns and values that a replacement sets.
 ghost use Rattle.std.specs.Prelude.{All, IfOk};
 ghost use Rattle.vo_spec.specs.Fits.{FitsCells, FitsKey};

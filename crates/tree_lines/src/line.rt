@@ -1,4 +1,4 @@
-//! A line: the word of a call, and its byte strings.
+//! What a line asks for: a call of tables, of a tree or of a part tree, and its byte strings.
 use line_pieces::call_named;
 use std::alloc::Global;
 use std::io;

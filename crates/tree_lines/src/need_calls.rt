@@ -27,13 +27,13 @@ fn scan_part_for(alloc: Global, need: &Need, part: &[u8]) -> io::Result<String> 
 
 /// Whether the part tree is the proof of the needs.
 pub fn judge_needs(alloc: Global, needs: &[u8], part: &[u8]) -> io::Result<String> {
-    match read_both(alloc, needs, part) {
+    match read_needs_and_part(alloc, needs, part) {
         Ok((needs, part)) => verdict(alloc, is_canonical(alloc, &part, &needs)),
         Err(fault) => describe(alloc, &fault),
     }
 }
 
-fn read_both<'b>(
+fn read_needs_and_part<'b>(
     alloc: Global,
     needs: &[u8],
     part: &'b [u8],

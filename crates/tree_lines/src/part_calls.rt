@@ -17,7 +17,7 @@ use vo_format::PartTree;
 
 /// The part tree after a change, or why it isn't changed.
 pub fn change_part(alloc: Global, change: &[u8], part: &[u8]) -> io::Result<String> {
-    match read_both(alloc, change, part) {
+    match read_change_and_part(alloc, change, part) {
         Ok((op, part)) => change_part_by(alloc, &part, &op),
         Err(fault) => describe(alloc, &fault),
     }
@@ -45,7 +45,7 @@ fn part_after<'b>(alloc: Global, part: &PartTree<'b>, op: &Op) -> Result<PartTre
     }
 }
 
-fn read_both<'b>(
+fn read_change_and_part<'b>(
     alloc: Global,
     change: &[u8],
     part: &'b [u8],
@@ -102,7 +102,7 @@ fn part_after_all<'b>(
 
 /// Whether the part tree is the proof of a change.
 pub fn judge_change(alloc: Global, change: &[u8], part: &[u8]) -> io::Result<String> {
-    match read_both(alloc, change, part) {
+    match read_change_and_part(alloc, change, part) {
         Ok((op, part)) => verdict(alloc, is_update_proof(&part, &op)),
         Err(fault) => describe(alloc, &fault),
     }

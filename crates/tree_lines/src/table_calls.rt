@@ -9,7 +9,7 @@ use std::alloc::{AllocError, Global};
 use std::io;
 use stored_tables::StoredTables;
 use table_list::ApplyFault;
-use vo_spec::{Batch, CatalogTable, Command, CommandFault};
+use vo_spec::{Batch, Command, CommandFault};
 
 /// The digest of the table `t` after a batch, or why the batch is refused.
 pub fn apply_batch(alloc: Global, tables: &mut StoredTables, batch: &[u8]) -> io::Result<String> {
@@ -106,24 +106,11 @@ fn proof_of_one(alloc: Global, tables: &StoredTables, commands: &[Command]) -> i
     }
 }
 
-/// The name, the number of rows and the root of each table, as they stay where the tables are shared.
+/// The name, the number of rows and the root of each table, as they stay where the tables are
+/// shared.
 pub fn catalog_of(alloc: Global, tables: &StoredTables) -> io::Result<String> {
     let catalog = tables.share(alloc)?.catalog(alloc)?;
-    describe(alloc, &describe_tables(alloc, catalog.tables.as_slice())?)
-}
-
-fn describe_tables(alloc: Global, tables: &[CatalogTable]) -> io::Result<Vec<String>> {
-    let mut words = Vec::new(alloc);
-    for table in tables {
-        words.push(describe_table(alloc, table)?)?;
-    }
-    Ok(words)
-}
-
-fn describe_table(alloc: Global, table: &CatalogTable) -> io::Result<String> {
-    let name = hex::encode(alloc, table.name.as_bytes())?;
-    let root = digits(alloc, table.root)?;
-    Ok(format!(in alloc; "{name} {} {root}", table.rows)?)
+    describe(alloc, &catalog.tables)
 }
 
 /// The rows of the plain table `t`.

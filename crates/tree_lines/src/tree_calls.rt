@@ -38,8 +38,8 @@ fn count_and_digest(alloc: Global, tree: &Tree) -> io::Result<String> {
     Ok(format!(in alloc; "{} {digest}", tree.row_count())?)
 }
 
-/// The number of rows and the digest of the tree that a change makes, or why there is none, and of the tree itself,
-/// which stays.
+/// The number of rows and the digest of the tree that a change makes, or why there is none, and of
+/// the tree itself, which stays.
 pub fn change_tree(alloc: Global, tables: &StoredTables, change: &[u8]) -> io::Result<String> {
     match read_change(alloc, change) {
         Ok(op) => change_tree_by(alloc, tables, &op),
@@ -51,12 +51,12 @@ fn change_tree_by(alloc: Global, tables: &StoredTables, op: &Op) -> io::Result<S
     requires { FitsOp op.now }
 {
     match tables.find(b"t") {
-        Some(table) => new_and_old(alloc, &table.tree, op),
+        Some(table) => count_new_and_old(alloc, &table.tree, op),
         None => word(alloc, "no table"),
     }
 }
 
-fn new_and_old(alloc: Global, tree: &Tree, op: &Op) -> io::Result<String>
+fn count_new_and_old(alloc: Global, tree: &Tree, op: &Op) -> io::Result<String>
     requires { FitsOp op.now }
 {
     let new = new_count_and_digest(alloc, tree, op)?;

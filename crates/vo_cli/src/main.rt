@@ -4,8 +4,8 @@
 ghost use Rattle.std.specs.Prelude.{◌≡◌, ◌≢◌, map, string_bytes, IfOk, IfErr, IfSome};
 ghost use Rattle.std.specs.IoError.{error_kind};
 ghost use Rattle.outside.specs.FaultRose.{FaultRose};
-ghost use Rattle.vo_words.specs.Asked.{asked_by};
-ghost use Rattle.vo_commands.specs.Dues.{Exactly, Ends, due_to, refused_words};
+ghost use Rattle.vo_words.specs.PlainRequest.{request_in};
+ghost use Rattle.vo_commands.specs.Expected.{Exactly, Ends, expected_of, words_refusal};
 
 use outside::{Disk, Net, Shelf, Sink};
 use outside_real::{FolderFiles, JournalFile, StandardOutput, Tcp};
@@ -48,15 +48,16 @@ fn run_on_words<F: Shelf, D: Disk, N: Net, S: Sink>(
     out: &mut S,
 ) -> u8
     ensures lines { IfOk words (λ words.
-        IfSome (due_to (F.contents files.old) (asked_by (map string_bytes words.items))) (λ due.
-        Ends due (FaultRose (F.faults files.old) (F.faults files.new))
+        IfSome (expected_of (F.contents files.old) (request_in (map string_bytes words.items)))
+        (λ expected.
+        Ends expected (FaultRose (F.faults files.old) (F.faults files.new))
         (FaultRose (S.faults out.old) (S.faults out.new))
         result (S.written out.old) (S.written out.new))) }
     ensures memory { IfErr words (λ error. error_kind error ≡ ErrorKind.OutOfMemory → result ≡ 4) }
     ensures silent { IfErr words (λ error. error_kind error ≡ ErrorKind.OutOfMemory
         → out.new ≡ out.old) }
     ensures no_text { IfErr words (λ error. error_kind error ≢ ErrorKind.OutOfMemory
-        → Ends (Exactly refused_words) (FaultRose (F.faults files.old) (F.faults files.new))
+        → Ends (Exactly words_refusal) (FaultRose (F.faults files.old) (F.faults files.new))
         (FaultRose (S.faults out.old) (S.faults out.new)) result (S.written out.old)
         (S.written out.new)) }
 {

@@ -8,104 +8,104 @@ use Rattle.vo_spec.specs.Conditions.{Query}
 use Rattle.sql_text.specs.Scripts.{IsScript}
 use Rattle.vo_commands.specs.declared.report.Report.{Report}
 use Rattle.vo_commands.specs.declared.report.Stop.{Stop}
-use Rattle.vo_commands.specs.declared.report.Stop.TheVariants.{Says, Outside, Memory}
+use Rattle.vo_commands.specs.declared.report.Stop.TheVariants.{Refused, Outside, Memory}
 use Rattle.vo_commands.specs.Reports.{Answers, GoesOn, ReadsText}
 use Rattle.vo_spec.specs.declared.tables.Batch.{Batch}
 use Rattle.vo_spec.specs.Secret.{Secret}
 use Rattle.vo_commands.specs.Texts.{IsQueryText, IsRefusedQuery, IsRefusedScript}
-use Rattle.vo_commands.specs.Dues.{Due, Exactly, OfQuery, OfScript, with_text, with_seed, seal_said, script_due, seal_due, script_limit, Checks, Audits, Replies, HoldsEach, with_key, with_file, check_due, audit_due, answer_due, reply_limit, journal_limit}
+use Rattle.vo_commands.specs.Expected.{Expected, Exactly, OfQuery, OfScript, with_text, with_seed, seal_output, script_expected, seal_expected, script_limit, Checks, Audits, Replies, HoldsEach, with_key, with_file, check_expected, audit_expected, answer_expected, reply_limit, journal_limit}
 
 -- what was taken of a file answers for the file
-pub of_file : {B : Type 0} (due : (B → Due) → Due) (b : B) (rest : B → Due) (r : Result Report Stop) → ((rest : B → Due) → due rest ≡ rest b) → Answers (rest b) r → Answers (due rest) r
-of_file due b rest r goes a = subst (λ d. Answers d r) (sym (goes rest)) a
+pub of_file : {B : Type 0} (expected : (B → Expected) → Expected) (b : B) (rest : B → Expected) (r : Result Report Stop) → ((rest : B → Expected) → expected rest ≡ rest b) → Answers (rest b) r → Answers (expected rest) r
+of_file expected b rest r goes a = subst (λ d. Answers d r) (sym (goes rest)) a
 
 -- and a stop at a file
-pub of_stop : {A B : Type 0} (view : A → B) (due : (B → Due) → Due) (stop : Stop) (rest : B → Due) → GoesOn view due (Err stop) → Answers (due rest) (Err stop)
-of_stop view due (Says report) rest goes = subst (λ d. Answers d (Err (Says report))) (sym (goes rest)) refl
-of_stop view due Outside rest goes = tt
-of_stop view due Memory rest goes = tt
+pub of_stop : {A B : Type 0} (view : A → B) (expected : (B → Expected) → Expected) (stop : Stop) (rest : B → Expected) → GoesOn view expected (Err stop) → Answers (expected rest) (Err stop)
+of_stop view expected (Refused report) rest goes = subst (λ d. Answers d (Err (Refused report))) (sym (goes rest)) refl
+of_stop view expected Outside rest goes = tt
+of_stop view expected Memory rest goes = tt
 
 -- a text's query answers for the text
-pub of_query : (text : List ℕ) (q : Query) (rest : Query → Due) (r : Result Report Stop) → IsQueryText text q → Answers (rest q) r → Answers (OfQuery text rest) r
+pub of_query : (text : List ℕ) (q : Query) (rest : Query → Expected) (r : Result Report Stop) → IsQueryText text q → Answers (rest q) r → Answers (OfQuery text rest) r
 of_query text q rest (Ok report) is a = inl (q, is, a)
-of_query text q rest (Err (Says report)) is a = inl (q, is, a)
+of_query text q rest (Err (Refused report)) is a = inl (q, is, a)
 of_query text q rest (Err Outside) is a = tt
 of_query text q rest (Err Memory) is a = tt
 
 -- and a stop at a text
-pub of_no_query : {A : Type 0} (view : A → Query) (text : List ℕ) (stop : Stop) (rest : Query → Due) → ReadsText view (IsQueryText text) (IsRefusedQuery text) (Err stop) → Answers (OfQuery text rest) (Err stop)
-of_no_query view text (Says report) rest reads = inr (reads.0, reads.1)
+pub of_no_query : {A : Type 0} (view : A → Query) (text : List ℕ) (stop : Stop) (rest : Query → Expected) → ReadsText view (IsQueryText text) (IsRefusedQuery text) (Err stop) → Answers (OfQuery text rest) (Err stop)
+of_no_query view text (Refused report) rest reads = inr (reads.0, reads.1)
 of_no_query view text Outside rest reads = tt
 of_no_query view text Memory rest reads = tt
 
 abbrev KeyIs : List ℕ → List ℕ → Files → Type 0
-KeyIs name key known = (rest : List ℕ → Due) → with_key known name rest ≡ rest key
+KeyIs name key known = (rest : List ℕ → Expected) → with_key known name rest ≡ rest key
 
 abbrev FileIs : List ℕ → ℕ → List ℕ → Files → Type 0
-FileIs name limit bytes known = (rest : List ℕ → Due) → with_file known name limit rest ≡ rest bytes
+FileIs name limit bytes known = (rest : List ℕ → Expected) → with_file known name limit rest ≡ rest bytes
 
 abbrev FileStops : List ℕ → ℕ → Stop → Files → Type 0
 FileStops name limit stop known = GoesOn {A = List ℕ} (λ bytes. bytes) (with_file known name limit) (Err stop)
 
--- what the rest of the work says of the bytes of a file, or a stop at the file
-pub file_told : (name : List ℕ) (limit : ℕ) (rest : List ℕ → Due) (bytes : List ℕ) (o : Option Files) (r : Result Report Stop) → IfSome o (FileIs name limit bytes)
+-- what the rest of the work answers to the bytes of a file, or a stop at the file
+pub file_known : (name : List ℕ) (limit : ℕ) (rest : List ℕ → Expected) (bytes : List ℕ) (o : Option Files) (r : Result Report Stop) → IfSome o (FileIs name limit bytes)
     → Answers (rest bytes) r → IfSome o (λ known. Answers (with_file known name limit rest) r)
-file_told name limit rest bytes None r f a = tt
-file_told name limit rest bytes (Some known) r f a = of_file (with_file known name limit) bytes rest r f a
+file_known name limit rest bytes None r f a = tt
+file_known name limit rest bytes (Some known) r f a = of_file (with_file known name limit) bytes rest r f a
 
-pub file_stops : (name : List ℕ) (limit : ℕ) (rest : List ℕ → Due) (o : Option Files) (stop : Stop) → IfSome o (FileStops name limit stop)
+pub file_stops : (name : List ℕ) (limit : ℕ) (rest : List ℕ → Expected) (o : Option Files) (stop : Stop) → IfSome o (FileStops name limit stop)
     → IfSome o (λ known. Answers (with_file known name limit rest) (Err stop))
 file_stops name limit rest None stop f = tt
 file_stops name limit rest (Some known) stop f = of_stop (λ bytes. bytes) (with_file known name limit) stop rest f
 
 module _ (name query reply key : List ℕ) (least : ℕ) (q : Query) (is : IsQueryText query q) (r : Result Report Stop) where
-  abbrev Checked : Files → Type 0
-  Checked known = Answers (with_file known reply reply_limit (λ z. Checks key least q z)) r
+  abbrev AnswersCheck : Files → Type 0
+  AnswersCheck known = Answers (with_file known reply reply_limit (λ z. Checks key least q z)) r
 
-  pub check_told : (o p : Option Files) → p ≡ o → IfSome o (KeyIs name key) → IfSome p Checked → IfSome o (λ known. Answers (check_due name query reply least known) r)
-  check_told o p same k a = step o k (subst (λ z. IfSome z Checked) same a)
+  pub check_known : (o p : Option Files) → p ≡ o → IfSome o (KeyIs name key) → IfSome p AnswersCheck → IfSome o (λ known. Answers (check_expected name query reply least known) r)
+  check_known o p same k a = step o k (subst (λ z. IfSome z AnswersCheck) same a)
     where
-      step : (o : Option Files) → IfSome o (KeyIs name key) → IfSome o Checked → IfSome o (λ known. Answers (check_due name query reply least known) r)
+      step : (o : Option Files) → IfSome o (KeyIs name key) → IfSome o AnswersCheck → IfSome o (λ known. Answers (check_expected name query reply least known) r)
       step None k a = tt
       step (Some known) k a =
           of_file (with_key known name) key (λ x. OfQuery query (λ y. with_file known reply reply_limit (λ z. Checks x least y z))) r k
           (of_query query q (λ y. with_file known reply reply_limit (λ z. Checks key least y z)) r is a)
 
--- what the rest of the work says of a text's query, or a stop at the text
-pub query_told : (text : List ℕ) (q : Query) (rest : Files → Query → Due) (o : Option Files) (r : Result Report Stop) → IsQueryText text q
+-- what the rest of the work answers to a text's query, or a stop at the text
+pub query_known : (text : List ℕ) (q : Query) (rest : Files → Query → Expected) (o : Option Files) (r : Result Report Stop) → IsQueryText text q
     → IfSome o (λ known. Answers (rest known q) r) → IfSome o (λ known. Answers (OfQuery text (rest known)) r)
-query_told text q rest None r is a = tt
-query_told text q rest (Some known) r is a = of_query text q (rest known) r is a
+query_known text q rest None r is a = tt
+query_known text q rest (Some known) r is a = of_query text q (rest known) r is a
 
-pub query_stops : {A : Type 0} (view : A → Query) (text : List ℕ) (rest : Files → Query → Due) (o : Option Files) (stop : Stop)
+pub query_stops : {A : Type 0} (view : A → Query) (text : List ℕ) (rest : Files → Query → Expected) (o : Option Files) (stop : Stop)
     → ReadsText view (IsQueryText text) (IsRefusedQuery text) (Err stop) → IfSome o (λ known. Answers (OfQuery text (rest known)) (Err stop))
 query_stops view text rest None stop reads = tt
 query_stops view text rest (Some known) stop reads = of_no_query view text stop (rest known) reads
 
 module _ (name journal query reply key held : List ℕ) (r : Result Report Stop) where
-  abbrev after_journal : Files → List ℕ → List ℕ → Due
+  abbrev after_journal : Files → List ℕ → List ℕ → Expected
   after_journal known x y = OfQuery query (λ z. with_file known reply reply_limit (λ w. Audits x y z w))
 
-  abbrev Audited : Files → Type 0
-  Audited known = Answers (after_journal known key held) r
+  abbrev AnswersAudit : Files → Type 0
+  AnswersAudit known = Answers (after_journal known key held) r
 
-  pub audit_told : (o p s : Option Files) → p ≡ o → s ≡ p → IfSome o (KeyIs name key) → IfSome p (FileIs journal journal_limit held) → IfSome s Audited
-      → IfSome o (λ known. Answers (audit_due name journal query reply known) r)
-  audit_told o p s same also k j a = step o k (subst (λ z. IfSome z (FileIs journal journal_limit held)) same j) (subst (λ z. IfSome z Audited) (also ∙ same) a)
+  pub audit_known : (o p s : Option Files) → p ≡ o → s ≡ p → IfSome o (KeyIs name key) → IfSome p (FileIs journal journal_limit held) → IfSome s AnswersAudit
+      → IfSome o (λ known. Answers (audit_expected name journal query reply known) r)
+  audit_known o p s same also k j a = step o k (subst (λ z. IfSome z (FileIs journal journal_limit held)) same j) (subst (λ z. IfSome z AnswersAudit) (also ∙ same) a)
     where
-      step : (o : Option Files) → IfSome o (KeyIs name key) → IfSome o (FileIs journal journal_limit held) → IfSome o Audited
-          → IfSome o (λ known. Answers (audit_due name journal query reply known) r)
+      step : (o : Option Files) → IfSome o (KeyIs name key) → IfSome o (FileIs journal journal_limit held) → IfSome o AnswersAudit
+          → IfSome o (λ known. Answers (audit_expected name journal query reply known) r)
       step None k j a = tt
       step (Some known) k j a =
           of_file (with_key known name) key (λ x. with_file known journal journal_limit (after_journal known x)) r k
           (of_file (with_file known journal journal_limit) held (after_journal known key) r j a)
 
 module _ (name journal query key held : List ℕ) where
-  pub answer_told : (o p : Option Files) (r : Result Report Stop) → p ≡ o → IfSome o (KeyIs name key) → IfSome p (FileIs journal journal_limit held)
-      → Answers (OfQuery query (λ z. Replies key held z)) r → IfSome o (λ known. Answers (answer_due name journal query known) r)
-  answer_told o p r same k j a = step o k (subst (λ z. IfSome z (FileIs journal journal_limit held)) same j)
+  pub answer_known : (o p : Option Files) (r : Result Report Stop) → p ≡ o → IfSome o (KeyIs name key) → IfSome p (FileIs journal journal_limit held)
+      → Answers (OfQuery query (λ z. Replies key held z)) r → IfSome o (λ known. Answers (answer_expected name journal query known) r)
+  answer_known o p r same k j a = step o k (subst (λ z. IfSome z (FileIs journal journal_limit held)) same j)
     where
-      step : (o : Option Files) → IfSome o (KeyIs name key) → IfSome o (FileIs journal journal_limit held) → IfSome o (λ known. Answers (answer_due name journal query known) r)
+      step : (o : Option Files) → IfSome o (KeyIs name key) → IfSome o (FileIs journal journal_limit held) → IfSome o (λ known. Answers (answer_expected name journal query known) r)
       step None k j = tt
       step (Some known) k j =
           of_file (with_key known name) key (λ x. with_file known journal journal_limit (λ y. OfQuery query (λ z. Replies x y z))) r k
@@ -113,47 +113,47 @@ module _ (name journal query key held : List ℕ) where
 
 -- Scripts.
 
-of_script : (text : List ℕ) (batches : List Batch) (rest : List Batch → Due) (r : Result Report Stop) → IsScript text batches → Answers (rest batches) r → Answers (OfScript text rest) r
+of_script : (text : List ℕ) (batches : List Batch) (rest : List Batch → Expected) (r : Result Report Stop) → IsScript text batches → Answers (rest batches) r → Answers (OfScript text rest) r
 of_script text batches rest (Ok report) is a = inl (batches, is, a)
-of_script text batches rest (Err (Says report)) is a = inl (batches, is, a)
+of_script text batches rest (Err (Refused report)) is a = inl (batches, is, a)
 of_script text batches rest (Err Outside) is a = tt
 of_script text batches rest (Err Memory) is a = tt
 
-of_no_script : {A : Type 0} (view : A → List Batch) (text : List ℕ) (stop : Stop) (rest : List Batch → Due) → ReadsText view (IsScript text) (IsRefusedScript text) (Err stop) → Answers (OfScript text rest) (Err stop)
-of_no_script view text (Says report) rest reads = inr (reads.0, reads.1)
+of_no_script : {A : Type 0} (view : A → List Batch) (text : List ℕ) (stop : Stop) (rest : List Batch → Expected) → ReadsText view (IsScript text) (IsRefusedScript text) (Err stop) → Answers (OfScript text rest) (Err stop)
+of_no_script view text (Refused report) rest reads = inr (reads.0, reads.1)
 of_no_script view text Outside rest reads = tt
 of_no_script view text Memory rest reads = tt
 
 abbrev TextIs : List ℕ → List ℕ → Type 0
-TextIs bytes text = (rest : List ℕ → Due) → with_text rest bytes ≡ rest text
+TextIs bytes text = (rest : List ℕ → Expected) → with_text rest bytes ≡ rest text
 
-pub script_told : (secret : Secret) (bytes text : List ℕ) (batches : List Batch) (r : Result Report Stop) → TextIs bytes text → IsScript text batches
-    → Answers (Exactly (seal_said secret batches)) r → Answers (script_due secret bytes) r
-script_told secret bytes text batches r goes is a =
-    of_file (λ rest. with_text rest bytes) text (λ t. OfScript t (λ b. Exactly (seal_said secret b))) r goes
-    (of_script text batches (λ b. Exactly (seal_said secret b)) r is a)
+pub script_known : (secret : Secret) (bytes text : List ℕ) (batches : List Batch) (r : Result Report Stop) → TextIs bytes text → IsScript text batches
+    → Answers (Exactly (seal_output secret batches)) r → Answers (script_expected secret bytes) r
+script_known secret bytes text batches r goes is a =
+    of_file (λ rest. with_text rest bytes) text (λ t. OfScript t (λ b. Exactly (seal_output secret b))) r goes
+    (of_script text batches (λ b. Exactly (seal_output secret b)) r is a)
 
 pub script_stops : {A : Type 0} (view : A → List Batch) (secret : Secret) (bytes text : List ℕ) (stop : Stop) → TextIs bytes text → ReadsText view (IsScript text) (IsRefusedScript text) (Err stop)
-    → Answers (script_due secret bytes) (Err stop)
+    → Answers (script_expected secret bytes) (Err stop)
 script_stops view secret bytes text stop goes reads =
-    of_file (λ rest. with_text rest bytes) text (λ t. OfScript t (λ b. Exactly (seal_said secret b))) (Err stop) goes
-    (of_no_script view text stop (λ b. Exactly (seal_said secret b)) reads)
+    of_file (λ rest. with_text rest bytes) text (λ t. OfScript t (λ b. Exactly (seal_output secret b))) (Err stop) goes
+    (of_no_script view text stop (λ b. Exactly (seal_output secret b)) reads)
 
-pub text_stops : {A : Type 0} (view : A → List ℕ) (secret : Secret) (bytes : List ℕ) (stop : Stop) → GoesOn view (λ rest. with_text rest bytes) (Err stop) → Answers (script_due secret bytes) (Err stop)
-text_stops view secret bytes stop goes = of_stop view (λ rest. with_text rest bytes) stop (λ t. OfScript t (λ b. Exactly (seal_said secret b))) goes
+pub text_stops : {A : Type 0} (view : A → List ℕ) (secret : Secret) (bytes : List ℕ) (stop : Stop) → GoesOn view (λ rest. with_text rest bytes) (Err stop) → Answers (script_expected secret bytes) (Err stop)
+text_stops view secret bytes stop goes = of_stop view (λ rest. with_text rest bytes) stop (λ t. OfScript t (λ b. Exactly (seal_output secret b))) goes
 
 abbrev SeedIs : List ℕ → ℕ → Secret → Files → Type 0
-SeedIs name height secret known = (rest : Secret → Due) → with_seed known name height rest ≡ rest secret
+SeedIs name height secret known = (rest : Secret → Expected) → with_seed known name height rest ≡ rest secret
 
-pub seal_told : (name script : List ℕ) (height : ℕ) (secret : Secret) (bytes : List ℕ) (o p : Option Files) (r : Result Report Stop) → p ≡ o → IfSome o (SeedIs name height secret)
-    → IfSome p (FileIs script script_limit bytes) → Answers (script_due secret bytes) r → IfSome o (λ known. Answers (seal_due name script height known) r)
-seal_told name script height secret bytes o p r same k f a = step o k (subst (λ z. IfSome z (FileIs script script_limit bytes)) same f)
+pub seal_known : (name script : List ℕ) (height : ℕ) (secret : Secret) (bytes : List ℕ) (o p : Option Files) (r : Result Report Stop) → p ≡ o → IfSome o (SeedIs name height secret)
+    → IfSome p (FileIs script script_limit bytes) → Answers (script_expected secret bytes) r → IfSome o (λ known. Answers (seal_expected name script height known) r)
+seal_known name script height secret bytes o p r same k f a = step o k (subst (λ z. IfSome z (FileIs script script_limit bytes)) same f)
   where
-    step : (o : Option Files) → IfSome o (SeedIs name height secret) → IfSome o (FileIs script script_limit bytes) → IfSome o (λ known. Answers (seal_due name script height known) r)
+    step : (o : Option Files) → IfSome o (SeedIs name height secret) → IfSome o (FileIs script script_limit bytes) → IfSome o (λ known. Answers (seal_expected name script height known) r)
     step None k f = tt
     step (Some known) k f =
-        of_file (with_seed known name height) secret (λ s. with_file known script script_limit (script_due s)) r k
-        (of_file (with_file known script script_limit) bytes (script_due secret) r f a)
+        of_file (with_seed known name height) secret (λ s. with_file known script script_limit (script_expected s)) r k
+        (of_file (with_file known script script_limit) bytes (script_expected secret) r f a)
 
 -- Misses: files that are there cause none.
 
@@ -161,30 +161,30 @@ no_miss : {A : Type 0} (o : Option A) (before after : ℕ) → IsSome o → Coun
 no_miss (Some a) before after there c = c
 no_miss None before after there c = absurd (cc)
 
-abbrev Missed : List ℕ → ℕ → ℕ → Files → Type 0
-Missed name before after known = CountsMiss (is_some (known name)) before after
+abbrev CountsMissAt : List ℕ → ℕ → ℕ → Files → Type 0
+CountsMissAt name before after known = CountsMiss (is_some (known name)) before after
 
-pub two_there : (o p : Option Files) (a b : List ℕ) (x y z : ℕ) → p ≡ o → IfSome o (Missed a x y) → IfSome p (Missed b y z)
+pub two_there : (o p : Option Files) (a b : List ℕ) (x y z : ℕ) → p ≡ o → IfSome o (CountsMissAt a x y) → IfSome p (CountsMissAt b y z)
     → IfSome o (λ known. HoldsEach known (a ∷ b ∷ []) → z ≡ x)
-two_there o p a b x y z same first second = step o first (subst (λ o. IfSome o (Missed b y z)) same second)
+two_there o p a b x y z same first second = step o first (subst (λ o. IfSome o (CountsMissAt b y z)) same second)
   where
-    step : (o : Option Files) → IfSome o (Missed a x y) → IfSome o (Missed b y z) → IfSome o (λ known. HoldsEach known (a ∷ b ∷ []) → z ≡ x)
+    step : (o : Option Files) → IfSome o (CountsMissAt a x y) → IfSome o (CountsMissAt b y z) → IfSome o (λ known. HoldsEach known (a ∷ b ∷ []) → z ≡ x)
     step None first second = tt
     step (Some known) first second = λ there. no_miss (known b) y z there.1.0 second ∙ no_miss (known a) x y there.0 first
 
 abbrev OneThere : List ℕ → ℕ → ℕ → Files → Type 0
 OneThere name before after known = HoldsEach known (name ∷ []) → after ≡ before
 
-pub one_there : (o : Option Files) (a : List ℕ) (x y : ℕ) → IfSome o (Missed a x y) → IfSome o (OneThere a x y)
+pub one_there : (o : Option Files) (a : List ℕ) (x y : ℕ) → IfSome o (CountsMissAt a x y) → IfSome o (OneThere a x y)
 one_there None a x y miss = tt
 one_there (Some known) a x y miss = λ there. no_miss (known a) x y there.0 miss
 
-pub three_there : (o p s : Option Files) (a b c : List ℕ) (x y z w : ℕ) → p ≡ o → s ≡ p → IfSome o (Missed a x y) → IfSome p (Missed b y z) → IfSome s (OneThere c z w)
+pub three_there : (o p s : Option Files) (a b c : List ℕ) (x y z w : ℕ) → p ≡ o → s ≡ p → IfSome o (CountsMissAt a x y) → IfSome p (CountsMissAt b y z) → IfSome s (OneThere c z w)
     → IfSome o (λ known. HoldsEach known (a ∷ b ∷ c ∷ []) → w ≡ x)
 three_there o p s a b c x y z w same also first second third =
-    step o first (subst (λ o. IfSome o (Missed b y z)) same second) (subst (λ o. IfSome o (OneThere c z w)) (also ∙ same) third)
+    step o first (subst (λ o. IfSome o (CountsMissAt b y z)) same second) (subst (λ o. IfSome o (OneThere c z w)) (also ∙ same) third)
   where
-    step : (o : Option Files) → IfSome o (Missed a x y) → IfSome o (Missed b y z) → IfSome o (OneThere c z w)
+    step : (o : Option Files) → IfSome o (CountsMissAt a x y) → IfSome o (CountsMissAt b y z) → IfSome o (OneThere c z w)
         → IfSome o (λ known. HoldsEach known (a ∷ b ∷ c ∷ []) → w ≡ x)
     step None first second third = tt
     step (Some known) first second third = λ there. third there.1.1 ∙ no_miss (known b) y z there.1.0 second ∙ no_miss (known a) x y there.0 first

@@ -9,8 +9,8 @@ use Rattle.vo_spec.specs.Lms.{key_lms, key_ots, IsUnknownSet}
 use Rattle.lms_sign.specs.declared.public_key.KeyFault.{KeyFault}
 use Rattle.lms_sign.specs.declared.public_key.KeyFault.TheVariants.{Length, UnknownSet}
 use Rattle.std.specs.Prelude.{[], ◌∷◌, codes}
-use Rattle.vo_commands.specs.Lines.{Said, refused_input}
-use Rattle.vo_commands.specs.Dues.{Due, Exactly, with_public, with_text, is_public_key}
+use Rattle.vo_commands.specs.Lines.{Output, input_refusal}
+use Rattle.vo_commands.specs.Expected.{Expected, Exactly, with_public, with_text, is_public_key}
 
 abbrev FaultsRight : List ℕ → Result (List ℕ) KeyFault → Type 0
 FaultsRight bytes r = ((r ≡ Err Length) ↔ (length bytes ≢ 56)) × ((r ≡ Err UnknownSet) ↔ IsUnknownSet bytes)
@@ -58,18 +58,18 @@ no_key : (bytes : List ℕ) (f : KeyFault) → FaultsRight bytes (Err f) → is_
 no_key bytes Length right = rw (ne_eqb (length bytes) 56 (right.0.0 refl)) refl
 no_key bytes UnknownSet right = no_key_of_set bytes (right.1.0 refl)
 
-pub key_goes_on : (bytes key : List ℕ) → key ≡ bytes → FaultsRight bytes (Ok key) → (rest : List ℕ → Due) → with_public rest bytes ≡ rest key
+pub key_goes_on : (bytes key : List ℕ) → key ≡ bytes → FaultsRight bytes (Ok key) → (rest : List ℕ → Expected) → with_public rest bytes ≡ rest key
 key_goes_on bytes key same right rest = rw (same, key_of_file bytes key right) refl
 
-pub no_key_refused : (bytes : List ℕ) (f : KeyFault) (said : Said) → FaultsRight bytes (Err f) → said ≡ refused_input (codes "key file" ∷ []) → (rest : List ℕ → Due) → with_public rest bytes ≡ Exactly said
-no_key_refused bytes f said right same rest = rw (same, no_key bytes f right) refl
+pub no_key_refused : (bytes : List ℕ) (f : KeyFault) (output : Output) → FaultsRight bytes (Err f) → output ≡ input_refusal (codes "key file" ∷ []) → (rest : List ℕ → Expected) → with_public rest bytes ≡ Exactly output
+no_key_refused bytes f output right same rest = rw (same, no_key bytes f right) refl
 
-pub text_goes_on : (bytes text : List ℕ) → text ≡ bytes → IsUtf8 bytes → (rest : List ℕ → Due) → with_text rest bytes ≡ rest text
+pub text_goes_on : (bytes text : List ℕ) → text ≡ bytes → IsUtf8 bytes → (rest : List ℕ → Expected) → with_text rest bytes ≡ rest text
 text_goes_on bytes text same utf8 rest = rw (same, is_utf8-from_IsUtf8 bytes utf8) refl
 
-pub no_text_refused : (bytes : List ℕ) (said : Said) → ¬ (IsUtf8 bytes) → said ≡ refused_input (codes "not text" ∷ []) → (rest : List ℕ → Due) → with_text rest bytes ≡ Exactly said
-no_text_refused bytes said broken same rest = step (is_utf8 bytes) refl
+pub no_text_refused : (bytes : List ℕ) (output : Output) → ¬ (IsUtf8 bytes) → output ≡ input_refusal (codes "not text" ∷ []) → (rest : List ℕ → Expected) → with_text rest bytes ≡ Exactly output
+no_text_refused bytes output broken same rest = step (is_utf8 bytes) refl
   where
-    step : (b : Bool) → is_utf8 bytes ≡ b → with_text rest bytes ≡ Exactly said
+    step : (b : Bool) → is_utf8 bytes ≡ b → with_text rest bytes ≡ Exactly output
     step true e = absurd (broken (IsUtf8-from_is_utf8 bytes e))
     step false e = rw (same, e) refl

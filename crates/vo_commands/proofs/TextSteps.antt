@@ -7,9 +7,9 @@ use Rattle.sql_text.specs.Texts.{Accepts}
 use Rattle.sql_text.specs.Fits.{AllFit}
 use Rattle.owner_state.specs.Sealing.{FitEach}
 use Rattle.vo_commands.specs.declared.report.Stop.{Stop}
-use Rattle.vo_commands.specs.declared.report.Stop.TheVariants.{Says, Outside, Memory}
-use Rattle.vo_commands.specs.Lines.{Said, sql_said}
-use Rattle.vo_commands.specs.Reports.{ReadsText, SaysSo, StopsBy}
+use Rattle.vo_commands.specs.declared.report.Stop.TheVariants.{Refused, Outside, Memory}
+use Rattle.vo_commands.specs.Lines.{Output, sql_output}
+use Rattle.vo_commands.specs.Reports.{ReadsText, Prints, StopsWith}
 use Rattle.vo_commands.specs.Texts.{is_want_of_memory}
 
 -- it would have been accepted
@@ -23,20 +23,20 @@ not_accepted view fault.Name v e accepts = accepts
 not_accepted view fault.TooMany v e accepts = accepts
 not_accepted view fault.Memory v e accepts = absurd (cc)
 
-module _ {A B : Type 0} (view : B → A) (Is : A → Type 0) (IsRefused : Said → Type 0) where
-  refused : (said : Said) (stop : Stop) → ((a : A) → Is a → ⊥) → IsRefused said → SaysSo said stop → ReadsText view Is IsRefused (Err stop)
-  refused said (Says report) nothing is s = (nothing, subst IsRefused (sym s) is)
-  refused said Outside nothing is s = absurd s
-  refused said Memory nothing is s = absurd s
+module _ {A B : Type 0} (view : B → A) (Is : A → Type 0) (IsRefused : Output → Type 0) where
+  refused_stop : (output : Output) (stop : Stop) → ((a : A) → Is a → ⊥) → IsRefused output → Prints output stop → ReadsText view Is IsRefused (Err stop)
+  refused_stop output (Refused report) nothing is s = (nothing, subst IsRefused (sym s) is)
+  refused_stop output Outside nothing is s = absurd s
+  refused_stop output Memory nothing is s = absurd s
 
   -- no text is read where there is a fault that is no want of memory
-  pub not_read : (f : SqlFault) (stop : Stop) → (is_want_of_memory f ≡ false → (a : A) → Is a → ⊥) → (is_want_of_memory f ≡ false → IsRefused (sql_said f))
-      → StopsBy (is_want_of_memory f) (sql_said f) stop → ReadsText view Is IsRefused (Err stop)
+  pub not_read : (f : SqlFault) (stop : Stop) → (is_want_of_memory f ≡ false → (a : A) → Is a → ⊥) → (is_want_of_memory f ≡ false → IsRefused (sql_output f))
+      → StopsWith (is_want_of_memory f) (sql_output f) stop → ReadsText view Is IsRefused (Err stop)
   not_read f stop nothing is stops = step (is_want_of_memory f) refl stops
     where
-      step : (b : Bool) → is_want_of_memory f ≡ b → StopsBy b (sql_said f) stop → ReadsText view Is IsRefused (Err stop)
+      step : (b : Bool) → is_want_of_memory f ≡ b → StopsWith b (sql_output f) stop → ReadsText view Is IsRefused (Err stop)
       step true e s = subst (λ z. ReadsText view Is IsRefused (Err z)) (sym s) tt
-      step false e s = refused (sql_said f) stop (nothing e) (is e) s
+      step false e s = refused_stop (sql_output f) stop (nothing e) (is e) s
 
 pub each_fits : (batches : List Batch) → AllFit batches → FitEach batches
 each_fits [] fit = tt

@@ -2,4 +2,4 @@ pub mod Lines
 pub mod Words
 pub mod Texts
 pub mod Reports
-pub mod Dues
+pub mod Expected

@@ -1,4 +1,4 @@
--- What the program says: a status, and lines of text.
+-- The output of the program: a status, and lines of text.
 use Rattle.std.specs.Prelude.{ℕ, List, [], ◌∷◌, ◌++◌, map, flat_map, length, codes, decimal, ◌==◌, if◌then◌else◌, true, false, Result, Ok, Err}
 use Rattle.std.specs.Fmt.{signed_decimal}
 use Rattle.hex.specs.Hex.{encode_lower}
@@ -22,7 +22,7 @@ use Rattle.sql_text.specs.declared.faults.SqlFault.TheVariants as sql
 use Rattle.vo_spec.specs.Records.{record_bytes}
 use Rattle.vo_spec.specs.Results.{ref_title}
 
-pub record Said : Type 0 where
+pub record Output : Type 0 where
   pub status : ℕ
   pub bytes : List ℕ
 
@@ -31,28 +31,28 @@ abbrev pub line : List ℕ → List ℕ
 line text = text ++ 10 ∷ []
 
 -- pieces with a byte between each two
-abbrev pub separated : ℕ → List (List ℕ) → List ℕ
-separated separator [] = []
-separated separator (first ∷ others) = first ++ flat_map (λ piece. separator ∷ piece) others
+abbrev pub with_separator : ℕ → List (List ℕ) → List ℕ
+with_separator separator [] = []
+with_separator separator (first ∷ others) = first ++ flat_map (λ piece. separator ∷ piece) others
 
 -- a line of words, with one space between each two
 abbrev pub words_line : List (List ℕ) → List ℕ
-words_line words = line (separated 32 words)
+words_line words = line (with_separator 32 words)
 
 -- a line of columns, with a comma between each two
 abbrev pub columns_line : List (List ℕ) → List ℕ
-columns_line columns = line (separated 44 columns)
+columns_line columns = line (with_separator 44 columns)
 
 -- with status 0 there is output; with any other status, lines alone
-abbrev pub done : List ℕ → Said
-done bytes = record { status = 0; bytes = bytes }
+abbrev pub success : List ℕ → Output
+success bytes = record { status = 0; bytes = bytes }
 
-abbrev pub refused : ℕ → List (List ℕ) → Said
-refused status words = record { status = status; bytes = words_line (codes "refused:" ∷ words) }
+abbrev pub refusal : ℕ → List (List ℕ) → Output
+refusal status words = record { status = status; bytes = words_line (codes "refused:" ∷ words) }
 
 -- words, key, seed, file size or text refused
-abbrev pub refused_input : List (List ℕ) → Said
-refused_input words = refused 2 words
+abbrev pub input_refusal : List (List ℕ) → Output
+input_refusal words = refusal 2 words
 
 -- Values as they are printed.
 
@@ -75,8 +75,8 @@ wrong_words query.TypeMismatch = codes "kinds differ" ∷ []
 wrong_words query.NotKeyJoin = codes "not a key join" ∷ []
 
 abbrev pub outcome_lines : Outcome → List ℕ
-outcome_lines (Rows header rows) = columns_line header
-    ++ flat_map (λ row. columns_line (map literal row)) rows
+outcome_lines (Rows header rows) =
+    columns_line header ++ flat_map (λ row. columns_line (map literal row)) rows
 outcome_lines (Wrong fault) = words_line (codes "wrong:" ∷ wrong_words fault)
 
 abbrev pub version_line : ℕ → List ℕ
@@ -100,10 +100,10 @@ fault_words check.Missing = codes "missing" ∷ []
 fault_words check.Surplus = codes "surplus" ∷ []
 fault_words check.Memory = []
 
--- Of want of memory nothing is said here: it has a status of its own.
-abbrev pub check_said : Result Answer CheckFault → Said
-check_said (Ok answer) = done (version_line answer.version ++ outcome_lines answer.outcome)
-check_said (Err fault) = refused 1 (fault_words fault)
+-- Want of memory has no lines: it has a status of its own.
+abbrev pub check_output : Result Answer CheckFault → Output
+check_output (Ok answer) = success (version_line answer.version ++ outcome_lines answer.outcome)
+check_output (Err fault) = refusal 1 (fault_words fault)
 
 -- Refusals of texts.
 
@@ -117,37 +117,35 @@ sql_words sql.Name = codes "sql name" ∷ []
 sql_words sql.TooMany = codes "sql too many" ∷ []
 sql_words sql.Memory = []
 
--- of want of memory nothing is said here either
-abbrev pub sql_said : SqlFault → Said
-sql_said fault = refused_input (sql_words fault)
+-- want of memory has no lines here either
+abbrev pub sql_output : SqlFault → Output
+sql_output fault = input_refusal (sql_words fault)
 
 -- Verdicts of `audit`.
 
-abbrev pub verdict_said : Verdict → Said
-verdict_said (Exact version) = done (words_line (codes "exact version" ∷ decimal version ∷ []))
-verdict_said (Unsigned rec signature last) = record {
+abbrev pub verdict_output : Verdict → Output
+verdict_output (Exact version) = success (words_line (codes "exact version" ∷ decimal version ∷ []))
+verdict_output (Unsigned rec signature last) = record {
   status = 6;
   bytes = words_line (codes "unsigned" ∷ []) ++ words_line (encode_lower (record_bytes rec) ∷ [])
       ++ words_line (encode_lower signature ∷ [])
       ++ words_line (codes "journal ends at version" ∷ decimal last ∷ []);
 }
-verdict_said (Collides found) = record {
+verdict_output (Collides found) = record {
   status = 5;
   bytes = words_line (codes "collision" ∷ []) ++ words_line (encode_lower found.0 ∷ [])
       ++ words_line (encode_lower found.1 ∷ []);
 }
 
-abbrev pub bad_journal : ℕ → Said
-bad_journal index = record {
-  status = 7;
-  bytes = words_line (codes "bad journal" ∷ decimal index ∷ []);
-}
+abbrev pub bad_journal : ℕ → Output
+bad_journal index =
+    record { status = 7; bytes = words_line (codes "bad journal" ∷ decimal index ∷ []) }
 
-abbrev pub audit_said : Result Verdict AuditFault → Said
-audit_said (Ok verdict) = verdict_said verdict
-audit_said (Err (audit.BadJournal index)) = bad_journal index
-audit_said (Err (audit.Refused fault)) = refused 1 (fault_words fault)
-audit_said (Err audit.Memory) = refused 1 []
+abbrev pub audit_output : Result Verdict AuditFault → Output
+audit_output (Ok verdict) = verdict_output verdict
+audit_output (Err (audit.BadJournal index)) = bad_journal index
+audit_output (Err (audit.Refused fault)) = refusal 1 (fault_words fault)
+audit_output (Err audit.Memory) = refusal 1 []
 
 -- Refusals of `seal`.
 
@@ -166,8 +164,8 @@ fault_name command.NoColumn = codes "NoColumn"
 fault_name command.NotKey = codes "NotKey"
 fault_name command.BadSet = codes "BadSet"
 
-abbrev pub command_said : ℕ → CommandFault → Said
-command_said index fault = refused 8 (codes "command" ∷ decimal index ∷ fault_name fault ∷ [])
+abbrev pub command_output : ℕ → CommandFault → Output
+command_output index fault = refusal 8 (codes "command" ∷ decimal index ∷ fault_name fault ∷ [])
 
-abbrev pub key_spent : Said
-key_spent = refused 8 (codes "key spent" ∷ [])
+abbrev pub spent_key : Output
+spent_key = refusal 8 (codes "key spent" ∷ [])

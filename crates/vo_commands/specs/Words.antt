@@ -1,8 +1,8 @@
 -- Words of a line as they are printed.
 use Rattle.std.specs.Prelude.{ℕ, List, decimal}
 use Rattle.hex.specs.Hex.{encode_lower}
-use Rattle.vo_commands.specs.declared.printed.Word.{Word}
-use Rattle.vo_commands.specs.declared.printed.Word.TheVariants.{Phrase, Name, Number, Hexadecimal}
+use Rattle.vo_commands.specs.declared.piece.Word.{Word}
+use Rattle.vo_commands.specs.declared.piece.Word.TheVariants.{Phrase, Name, Number, Hexadecimal}
 
 abbrev pub word_text : Word → List ℕ
 word_text (Phrase phrase) = phrase.now

@@ -2,12 +2,12 @@
 ghost use Rattle.std.specs.Prelude.{◌≡◌, ◌≤◌, [], ◌∷◌, IfSome, IsErrOf};
 ghost use Rattle.outside.specs.FaultRose.{FaultRose};
 ghost use Rattle.vo_spec.specs.Conditions.{query_of};
-ghost use Rattle.vo_commands.specs.Dues.{HoldsEach, answer_due, OfQuery, Replies};
+ghost use Rattle.vo_commands.specs.Expected.{HoldsEach, answer_expected, OfQuery, Replies};
 ghost use Rattle.vo_commands.specs.Reports.{Answers};
 
-use crate::audit::JOURNAL_LIMIT;
 use crate::files::{take_file, take_key};
-use crate::printed::Word;
+use crate::limits::JOURNAL_LIMIT;
+use crate::piece::Word;
 use crate::refusals::{bad_entry, refusal};
 use crate::report::{Report, Status, Stop};
 use crate::texts::query_in;
@@ -26,7 +26,7 @@ pub fn answer<F: Shelf>(
     query: &str,
 ) -> Result<Report, Stop>
     ensures known { IfSome (F.contents files.old)
-        (λ known. Answers (answer_due key.now journal.now query.now known) result) }
+        (λ known. Answers (answer_expected key.now journal.now query.now known) result) }
     ensures kept { F.contents files.new ≡ F.contents files.old }
     ensures counts { F.faults files.old ≤ F.faults files.new }
     ensures cause { IsErrOf result Stop.Outside
@@ -46,12 +46,17 @@ fn answer_query(alloc: Global, key: PublicKey, journal: &[u8], query: &str) -> R
     ensures inside { IsErrOf result Stop.Outside → ⊥ }
 {
     match query_in(alloc, query) {
-        Ok(query) => replied(alloc, key, journal, &query),
+        Ok(query) => reply_report(alloc, key, journal, &query),
         Err(stop) => Err(stop),
     }
 }
 
-fn replied(alloc: Global, key: PublicKey, journal: &[u8], query: &QueryText) -> Result<Report, Stop>
+fn reply_report(
+    alloc: Global,
+    key: PublicKey,
+    journal: &[u8],
+    query: &QueryText,
+) -> Result<Report, Stop>
     ensures known { Answers (Replies key journal.now (query_of query.now)) result }
     ensures inside { IsErrOf result Stop.Outside → ⊥ }
 {
@@ -60,10 +65,10 @@ fn replied(alloc: Global, key: PublicKey, journal: &[u8], query: &QueryText) -> 
             status: Status::Done,
             bytes,
         }),
-        Err(ReplyFault::BadJournal { index }) => Err(Stop::Says(bad_entry(alloc, index)?)),
+        Err(ReplyFault::BadJournal { index }) => Err(Stop::Refused(bad_entry(alloc, index)?)),
         Err(ReplyFault::TooLarge { length }) => {
             let words = [Word::Phrase("too large"), Word::Number(length)];
-            Err(Stop::Says(refusal(alloc, Status::RefusedReply, &words)?))
+            Err(Stop::Refused(refusal(alloc, Status::RefusedReply, &words)?))
         }
         Err(ReplyFault::Memory) => Err(Stop::Memory),
     }

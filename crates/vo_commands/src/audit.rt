@@ -1,26 +1,23 @@
-//! `audit`: what an auditor with the owner's journal says of a reply.
+//! `audit`: the verdict of an auditor with the owner's journal on a reply.
 ghost use Rattle.std.specs.Prelude.{◌≡◌, ◌≤◌, [], ◌∷◌, is_some, IfSome, IsErrOf};
 ghost use Rattle.outside.specs.Miss.{CountsMiss};
 ghost use Rattle.outside.specs.FaultRose.{FaultRose};
 ghost use Rattle.vo_spec.specs.Conditions.{query_of};
-ghost use Rattle.vo_commands.specs.Dues.{HoldsEach, audit_due, OfQuery, with_file, reply_limit, Audits};
+ghost use Rattle.vo_commands.specs.Expected.{HoldsEach, audit_expected, OfQuery, with_file, reply_limit, Audits};
 ghost use Rattle.vo_commands.specs.Reports.{Answers};
 
-use crate::check::REPLY_LIMIT;
 use crate::files::{take_file, take_key};
+use crate::limits::{JOURNAL_LIMIT, REPLY_LIMIT};
 use crate::refusals::bad_entry;
-use crate::refused_replies::refused_reply;
+use crate::reply_refusals::reply_refusal;
 use crate::report::{Report, Stop};
 use crate::texts::query_in;
 use crate::verdicts::verdict_report;
 use lms_sign::PublicKey;
 use outside::Shelf;
 use std::alloc::Global;
-use vo_audit::audit as audited;
+use vo_audit::audit as audit_reply;
 use vo_spec::{AuditFault, CheckFault, QueryText};
-
-/// How many bytes of a journal are taken.
-pub const JOURNAL_LIMIT: u64 = 1_073_741_824;
 
 /// The verdict on the reply, or why there is none.
 pub fn audit<F: Shelf>(
@@ -32,7 +29,7 @@ pub fn audit<F: Shelf>(
     reply: &str,
 ) -> Result<Report, Stop>
     ensures known { IfSome (F.contents files.old)
-        (λ known. Answers (audit_due key.now journal.now query.now reply.now known) result) }
+        (λ known. Answers (audit_expected key.now journal.now query.now reply.now known) result) }
     ensures kept { F.contents files.new ≡ F.contents files.old }
     ensures counts { F.faults files.old ≤ F.faults files.new }
     ensures cause { IsErrOf result Stop.Outside
@@ -93,12 +90,12 @@ fn audit_file<F: Shelf>(
         (F.misses files.new)) }
 {
     match take_file(alloc, files, reply, REPLY_LIMIT) {
-        Ok(reply) => judged(alloc, key, journal, query, &reply),
+        Ok(reply) => audit_report(alloc, key, journal, query, &reply),
         Err(stop) => Err(stop),
     }
 }
 
-fn judged(
+fn audit_report(
     alloc: Global,
     key: &PublicKey,
     journal: &[u8],
@@ -108,11 +105,11 @@ fn judged(
     ensures known { Answers (Audits key.now journal.now (query_of query.now) reply.now) result }
     ensures inside { IsErrOf result Stop.Outside → ⊥ }
 {
-    match audited(alloc, key, journal, query, reply) {
+    match audit_reply(alloc, key, journal, query, reply) {
         Ok(verdict) => Ok(verdict_report(alloc, &verdict)?),
-        Err(AuditFault::BadJournal { index }) => Err(Stop::Says(bad_entry(alloc, index)?)),
+        Err(AuditFault::BadJournal { index }) => Err(Stop::Refused(bad_entry(alloc, index)?)),
         Err(AuditFault::Refused(CheckFault::Memory)) => Err(Stop::Memory),
-        Err(AuditFault::Refused(fault)) => Err(Stop::Says(refused_reply(alloc, &fault)?)),
+        Err(AuditFault::Refused(fault)) => Err(Stop::Refused(reply_refusal(alloc, &fault)?)),
         Err(AuditFault::Memory) => Err(Stop::Memory),
     }
 }

@@ -1,14 +1,15 @@
-//! `check`: what a client says of a reply.
+//! `check`: the answer that a client takes from a reply, or why it refuses it.
 ghost use Rattle.std.specs.Prelude.{◌≡◌, ◌≤◌, [], ◌∷◌, is_some, IfSome, IsErrOf};
 ghost use Rattle.outside.specs.Miss.{CountsMiss};
 ghost use Rattle.outside.specs.FaultRose.{FaultRose};
 ghost use Rattle.vo_spec.specs.Conditions.{query_of};
-ghost use Rattle.vo_commands.specs.Dues.{HoldsEach, check_due, with_file, reply_limit, Checks};
+ghost use Rattle.vo_commands.specs.Expected.{HoldsEach, check_expected, with_file, reply_limit, Checks};
 ghost use Rattle.vo_commands.specs.Reports.{Answers};
 
 use crate::answers::answer_report;
 use crate::files::{take_file, take_key};
-use crate::refused_replies::refused_reply;
+use crate::limits::REPLY_LIMIT;
+use crate::reply_refusals::reply_refusal;
 use crate::report::{Report, Stop};
 use crate::texts::query_in;
 use lms_sign::PublicKey;
@@ -17,10 +18,8 @@ use std::alloc::Global;
 use vo_check::Client;
 use vo_spec::{CheckFault, QueryText};
 
-/// How many bytes of a reply are taken: one more than a client accepts.
-pub const REPLY_LIMIT: u64 = 67_108_865;
-
-/// The answer that a client of the key accepts, of no version below `least`, or why it refuses the reply.
+/// The answer that a client of the key accepts, of no version below `least`, or why it refuses the
+/// reply.
 pub fn check<F: Shelf>(
     alloc: Global,
     files: &mut F,
@@ -30,7 +29,7 @@ pub fn check<F: Shelf>(
     least: u64,
 ) -> Result<Report, Stop>
     ensures known { IfSome (F.contents files.old)
-        (λ known. Answers (check_due key.now query.now reply.now least known) result) }
+        (λ known. Answers (check_expected key.now query.now reply.now least known) result) }
     ensures kept { F.contents files.new ≡ F.contents files.old }
     ensures counts { F.faults files.old ≤ F.faults files.new }
     ensures cause { IsErrOf result Stop.Outside
@@ -65,12 +64,12 @@ fn check_file<F: Shelf>(
         (F.misses files.new)) }
 {
     match take_file(alloc, files, reply, REPLY_LIMIT) {
-        Ok(reply) => checked(alloc, key, least, query, &reply),
+        Ok(reply) => check_report(alloc, key, least, query, &reply),
         Err(stop) => Err(stop),
     }
 }
 
-fn checked(
+fn check_report(
     alloc: Global,
     key: PublicKey,
     least: u64,
@@ -84,6 +83,6 @@ fn checked(
     match client.check(alloc, query, reply) {
         Ok(answer) => Ok(answer_report(alloc, &answer)?),
         Err(CheckFault::Memory) => Err(Stop::Memory),
-        Err(fault) => Err(Stop::Says(refused_reply(alloc, &fault)?)),
+        Err(fault) => Err(Stop::Refused(reply_refusal(alloc, &fault)?)),
     }
 }

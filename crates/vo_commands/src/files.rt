@@ -3,10 +3,11 @@ ghost use Rattle.std.specs.Prelude.{◌≡◌, ◌==◌, ℕ, ◌≤◌, length,
 ghost use Rattle.outside.specs.Miss.{CountsMiss};
 ghost use Rattle.outside.specs.FaultRose.{FaultRose};
 ghost use Rattle.vo_words.specs.Height.{number_of};
-ghost use Rattle.vo_commands.specs.Dues.{with_file, with_seed, with_secret, seed_limit, with_key, with_public, is_public_key};
+ghost use Rattle.vo_commands.specs.Expected.{with_file, with_seed, with_secret, seed_limit, with_key, with_public, is_public_key};
 ghost use Rattle.vo_commands.specs.Reports.{GoesOn};
 
-use crate::printed::Word;
+use crate::limits::{KEY_LIMIT, SEED_LIMIT};
+use crate::piece::Word;
 use crate::refusals::refusal;
 use crate::report::{Status, Stop};
 use lms_sign::{OtsType, PublicKey, SecretKey};
@@ -35,7 +36,7 @@ pub fn take_file<F: Shelf>(
         Err(TakeFault::Failed) => Err(Stop::Outside),
         Err(TakeFault::TooLong) => {
             let words = [Word::Phrase("file too long"), Word::Phrase(name)];
-            Err(Stop::Says(refusal(alloc, Status::RefusedInput, &words)?))
+            Err(Stop::Refused(refusal(alloc, Status::RefusedInput, &words)?))
         }
         Err(TakeFault::Memory) => Err(Stop::Memory),
     }
@@ -57,7 +58,7 @@ pub fn take_seed<F: Shelf>(
     ensures misses { IfSome (F.contents files.old)
         (λ known. CountsMiss (is_some (known name.now)) (F.misses files.old) (F.misses files.new)) }
 {
-    let bytes = take_file(alloc, files, name, 48)?;
+    let bytes = take_file(alloc, files, name, SEED_LIMIT)?;
     secret_key(alloc, &bytes, height)
 }
 
@@ -68,7 +69,7 @@ fn secret_key(alloc: Global, bytes: &[u8], height: Height) -> Result<SecretKey, 
 {
     let Some((id, seed)) = parts_of(bytes) else {
         let words = [Word::Phrase("seed file"), Word::Number(bytes.len() as u64)];
-        return Err(Stop::Says(refusal(alloc, Status::RefusedInput, &words)?));
+        return Err(Stop::Refused(refusal(alloc, Status::RefusedInput, &words)?));
     };
     Ok(SecretKey::make(alloc, *id, *seed, OtsType::W8, height.number())?)
 }
@@ -99,7 +100,7 @@ pub fn take_key<F: Shelf>(alloc: Global, files: &mut F, name: &str) -> Result<Pu
     ensures misses { IfSome (F.contents files.old)
         (λ known. CountsMiss (is_some (known name.now)) (F.misses files.old) (F.misses files.new)) }
 {
-    let bytes = take_file(alloc, files, name, 64)?;
+    let bytes = take_file(alloc, files, name, KEY_LIMIT)?;
     public_key(alloc, &bytes)
 }
 
@@ -111,7 +112,7 @@ fn public_key(alloc: Global, bytes: &[u8]) -> Result<PublicKey, Stop>
         Ok(key) => Ok(key),
         Err(_) => {
             let words = [Word::Phrase("key file")];
-            Err(Stop::Says(refusal(alloc, Status::RefusedInput, &words)?))
+            Err(Stop::Refused(refusal(alloc, Status::RefusedInput, &words)?))
         }
     }
 }

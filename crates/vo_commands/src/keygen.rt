@@ -3,7 +3,7 @@ ghost use Rattle.std.specs.Prelude.{◌≡◌, ◌≤◌, is_some, IfSome, IsErr
 ghost use Rattle.outside.specs.Miss.{CountsMiss};
 ghost use Rattle.outside.specs.FaultRose.{FaultRose};
 ghost use Rattle.vo_words.specs.Height.{number_of};
-ghost use Rattle.vo_commands.specs.Dues.{keygen_due};
+ghost use Rattle.vo_commands.specs.Expected.{keygen_expected};
 ghost use Rattle.vo_commands.specs.Reports.{Answers};
 
 use crate::files::take_seed;
@@ -20,7 +20,7 @@ pub fn keygen<F: Shelf>(
     height: Height,
 ) -> Result<Report, Stop>
     ensures known { IfSome (F.contents files.old)
-        (λ known. Answers (keygen_due seed.now (number_of height) known) result) }
+        (λ known. Answers (keygen_expected seed.now (number_of height) known) result) }
     ensures kept { F.contents files.new ≡ F.contents files.old }
     ensures counts { F.faults files.old ≤ F.faults files.new }
     ensures cause { IsErrOf result Stop.Outside

@@ -1,9 +1,9 @@
 //! Lines of text: words or columns, written at the end of what there is.
 ghost use Rattle.std.specs.Prelude.{◌≡◌, ◌∷◌, ◌++◌, map, flat_map, OnOk};
-ghost use Rattle.vo_commands.specs.Lines.{line, separated, words_line, columns_line};
+ghost use Rattle.vo_commands.specs.Lines.{line, with_separator, words_line, columns_line};
 ghost use Rattle.vo_commands.specs.Words.{word_text};
 
-use crate::printed::{Printed, Word};
+use crate::piece::{Piece, Word};
 use std::alloc::{AllocError, Global};
 
 /// A line of words, with one space between each two.
@@ -14,25 +14,25 @@ pub fn push_words(alloc: Global, out: &mut Vec<u8>, words: &[Word<'_>]) -> Resul
 }
 
 /// A line of columns, with a comma between each two.
-pub fn push_columns<P: Printed>(
+pub fn push_columns<P: Piece>(
     alloc: Global,
     out: &mut Vec<u8>,
     columns: &[P],
 ) -> Result<(), AllocError>
     ensures { OnOk result (out.new.items ≡ out.old.items
-        ++ columns_line (map P.printed columns.now)) }
+        ++ columns_line (map P.piece_text columns.now)) }
 {
     push_line(alloc, out, columns, b',')
 }
 
-fn push_line<P: Printed>(
+fn push_line<P: Piece>(
     alloc: Global,
     out: &mut Vec<u8>,
     pieces: &[P],
     separator: u8,
 ) -> Result<(), AllocError>
     ensures { OnOk result (out.new.items ≡ out.old.items
-        ++ line (separated separator (map P.printed pieces.now))) }
+        ++ line (with_separator separator (map P.piece_text pieces.now))) }
 {
     if let Some((first, others)) = pieces.split_first() {
         first.push_to(alloc, out)?;
@@ -42,14 +42,14 @@ fn push_line<P: Printed>(
     Ok(())
 }
 
-fn push_others<P: Printed>(
+fn push_others<P: Piece>(
     alloc: Global,
     out: &mut Vec<u8>,
     others: &[P],
     separator: u8,
 ) -> Result<(), AllocError>
     ensures { OnOk result (out.new.items ≡ out.old.items
-        ++ flat_map (λ piece. separator ∷ piece) (map P.printed others.now)) }
+        ++ flat_map (λ piece. separator ∷ piece) (map P.piece_text others.now)) }
 {
     for piece in others {
         out.push(separator)?;

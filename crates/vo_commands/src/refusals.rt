@@ -1,19 +1,19 @@
 //! Refusals, each in one line that begins with `refused:`.
 ghost use Rattle.std.specs.Prelude.{◌≡◌, [], ◌∷◌, ◌++◌, map, codes, decimal, IfOk, OnOk};
-ghost use Rattle.vo_commands.specs.Lines.{refused, command_said, key_spent, fault_name, bad_journal, words_line};
-ghost use Rattle.vo_commands.specs.Reports.{said_of, status_code};
+ghost use Rattle.vo_commands.specs.Lines.{refusal, command_output, spent_key, fault_name, bad_journal, words_line};
+ghost use Rattle.vo_commands.specs.Reports.{output_of, status_code};
 ghost use Rattle.vo_commands.specs.Words.{word_text};
 
 use crate::lines::push_words;
-use crate::printed::Word;
+use crate::piece::Word;
 use crate::report::{Report, Status};
 use std::alloc::{AllocError, Global};
 use vo_spec::CommandFault;
 
 /// A refusal in one line: these words behind `refused:`.
 pub fn refusal(alloc: Global, status: Status, words: &[Word<'_>]) -> Result<Report, AllocError>
-    ensures { IfOk result (λ report. said_of report
-        ≡ refused (status_code status) (map word_text words.now)) }
+    ensures { IfOk result (λ report. output_of report
+        ≡ refusal (status_code status) (map word_text words.now)) }
 {
     let mut all = Vec::new(alloc);
     all.push(Word::Phrase("refused:"))?;
@@ -24,8 +24,8 @@ pub fn refusal(alloc: Global, status: Status, words: &[Word<'_>]) -> Result<Repo
 }
 
 /// The command of this number in its batch is refused.
-pub fn refused_command(alloc: Global, index: u64, fault: CommandFault) -> Result<Report, AllocError>
-    ensures { IfOk result (λ report. said_of report ≡ command_said index fault) }
+pub fn command_refusal(alloc: Global, index: u64, fault: CommandFault) -> Result<Report, AllocError>
+    ensures { IfOk result (λ report. output_of report ≡ command_output index fault) }
 {
     let words = [
         Word::Phrase("command"),
@@ -37,14 +37,14 @@ pub fn refused_command(alloc: Global, index: u64, fault: CommandFault) -> Result
 
 /// The key has no leaf left for another version.
 pub fn spent_key(alloc: Global) -> Result<Report, AllocError>
-    ensures { IfOk result (λ report. said_of report ≡ key_spent) }
+    ensures { IfOk result (λ report. output_of report ≡ spent_key) }
 {
     refusal(alloc, Status::RefusedCommand, &[Word::Phrase("key spent")])
 }
 
 /// The journal's entry of this number is bad.
 pub fn bad_entry(alloc: Global, index: u64) -> Result<Report, AllocError>
-    ensures { IfOk result (λ report. said_of report ≡ bad_journal index) }
+    ensures { IfOk result (λ report. output_of report ≡ bad_journal index) }
 {
     let mut bytes = Vec::new(alloc);
     push_words(

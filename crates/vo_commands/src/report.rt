@@ -45,12 +45,12 @@ pub struct Report {
     pub bytes: Vec<u8>,
 }
 
-/// Why a command ends before its output is made: it has something to say, the outside failed, or memory
-/// ran out.
+/// Why a command ends before its output is made: it has something to say, the outside failed, or
+/// memory ran out.
 #[derive(Debug, Drop, Error)]
 pub enum Stop {
     #[error("a refusal")]
-    Says(Report),
+    Refused(Report),
     #[error("a fault of the outside")]
     Outside,
     #[error("out of memory")]

@@ -1,25 +1,23 @@
 //! `seal`: the journal of a script's batches.
 ghost use Rattle.std.specs.Prelude.{◌≡◌, ◌≤◌, [], ◌∷◌, IfSome, IsErrOf};
 ghost use Rattle.outside.specs.FaultRose.{FaultRose};
-ghost use Rattle.vo_commands.specs.Dues.{HoldsEach, Exactly, script_due, seal_due, seal_said, with_text};
+ghost use Rattle.vo_commands.specs.Expected.{HoldsEach, Exactly, script_expected, seal_expected, seal_output, with_text};
 ghost use Rattle.vo_commands.specs.Reports.{Answers, GoesOn};
 ghost use Rattle.vo_words.specs.Height.{number_of};
 ghost use Rattle.owner_state.specs.Sealing.{FitEach};
 
 use crate::files::{take_file, take_seed};
-use crate::printed::Word;
-use crate::refusals::{refusal, refused_command, spent_key};
+use crate::limits::SCRIPT_LIMIT;
+use crate::piece::Word;
+use crate::refusals::{command_refusal, refusal, spent_key};
 use crate::report::{Report, Status, Stop};
 use crate::texts::batches_in;
 use lms_sign::SecretKey;
 use outside::Shelf;
-use owner_state::{SealFault, seal as sealed};
+use owner_state::{SealFault, seal as seal_batches};
 use std::alloc::Global;
 use vo_spec::{Batch, List};
 use vo_words::Height;
-
-/// How many bytes of a script are taken.
-const SCRIPT_LIMIT: u64 = 16_777_216;
 
 /// The journal of the script's batches, signed by the key of the seed file.
 pub fn seal<F: Shelf>(
@@ -30,7 +28,7 @@ pub fn seal<F: Shelf>(
     height: Height,
 ) -> Result<Report, Stop>
     ensures known { IfSome (F.contents files.old)
-        (λ known. Answers (seal_due seed.now script.now (number_of height) known) result) }
+        (λ known. Answers (seal_expected seed.now script.now (number_of height) known) result) }
     ensures kept { F.contents files.new ≡ F.contents files.old }
     ensures counts { F.faults files.old ≤ F.faults files.new }
     ensures cause { IsErrOf result Stop.Outside
@@ -41,12 +39,12 @@ pub fn seal<F: Shelf>(
 {
     let key = take_seed(alloc, files, seed, height)?;
     let script = take_file(alloc, files, script, SCRIPT_LIMIT)?;
-    sealed_script(alloc, &key, &script)
+    seal_script(alloc, &key, &script)
 }
 
 /// The journal of the script that the bytes are.
-fn sealed_script(alloc: Global, key: &SecretKey, script: &[u8]) -> Result<Report, Stop>
-    ensures known { Answers (script_due key.now script.now) result }
+fn seal_script(alloc: Global, key: &SecretKey, script: &[u8]) -> Result<Report, Stop>
+    ensures known { Answers (script_expected key.now script.now) result }
     ensures inside { IsErrOf result Stop.Outside → ⊥ }
 {
     let text = match text_in(alloc, script) {
@@ -54,7 +52,7 @@ fn sealed_script(alloc: Global, key: &SecretKey, script: &[u8]) -> Result<Report
         Err(stop) => return Err(stop),
     };
     match batches_in(alloc, text) {
-        Ok(batches) => journal_of(alloc, key, List::from_vec(batches)),
+        Ok(batches) => journal_report(alloc, key, List::from_vec(batches)),
         Err(stop) => Err(stop),
     }
 }
@@ -68,24 +66,24 @@ fn text_in(alloc: Global, bytes: &[u8]) -> Result<&str, Stop>
         Ok(text) => Ok(text),
         Err(_) => {
             let words = [Word::Phrase("not text")];
-            Err(Stop::Says(refusal(alloc, Status::RefusedInput, &words)?))
+            Err(Stop::Refused(refusal(alloc, Status::RefusedInput, &words)?))
         }
     }
 }
 
-fn journal_of(alloc: Global, key: &SecretKey, batches: List<Batch>) -> Result<Report, Stop>
+fn journal_report(alloc: Global, key: &SecretKey, batches: List<Batch>) -> Result<Report, Stop>
     requires { FitEach batches }
-    ensures known { Answers (Exactly (seal_said key.now batches)) result }
+    ensures known { Answers (Exactly (seal_output key.now batches)) result }
     ensures inside { IsErrOf result Stop.Outside → ⊥ }
 {
-    match sealed(alloc, key, batches) {
+    match seal_batches(alloc, key, batches) {
         Ok(bytes) => Ok(Report {
             status: Status::Done,
             bytes,
         }),
-        Err(SealFault::KeySpent) => Err(Stop::Says(spent_key(alloc)?)),
+        Err(SealFault::KeySpent) => Err(Stop::Refused(spent_key(alloc)?)),
         Err(SealFault::Command { index, fault }) => {
-            Err(Stop::Says(refused_command(alloc, index, fault)?))
+            Err(Stop::Refused(command_refusal(alloc, index, fault)?))
         }
         Err(SealFault::Memory) => Err(Stop::Memory),
     }

@@ -8,8 +8,8 @@ ghost use Rattle.sql_text.specs.Scripts.{IsScript};
 ghost use Rattle.vo_commands.specs.Reports.{ReadsText};
 ghost use Rattle.vo_commands.specs.Texts.{IsQueryText, IsRefusedQuery, IsRefusedScript};
 
-use crate::refused_texts::stop_by;
 use crate::report::Stop;
+use crate::text_refusals::stop_after;
 use sql_text::{parse_query, parse_script};
 use std::alloc::Global;
 use vo_spec::{Batch, QueryText};
@@ -20,7 +20,7 @@ pub fn query_in(alloc: Global, text: &str) -> Result<QueryText, Stop>
 {
     match parse_query(alloc, text) {
         Ok(query) => Ok(query),
-        Err(fault) => Err(stop_by(alloc, fault)?),
+        Err(fault) => Err(stop_after(alloc, fault)?),
     }
 }
 
@@ -33,6 +33,6 @@ pub fn batches_in(alloc: Global, text: &str) -> Result<Vec<Batch>, Stop>
 {
     match parse_script(alloc, text) {
         Ok(batches) => Ok(batches),
-        Err(fault) => Err(stop_by(alloc, fault)?),
+        Err(fault) => Err(stop_after(alloc, fault)?),
     }
 }

@@ -1,11 +1,11 @@
-//! What `audit` says of a reply that a client accepts.
+//! What `audit` prints of a reply that a client accepts.
 ghost use Rattle.std.specs.Prelude.{◌≡◌, IfOk};
 ghost use Rattle.vo_spec.specs.declared.checks.Verdict.TheVariants.{Exact, Unsigned, Collides};
-ghost use Rattle.vo_commands.specs.Lines.{verdict_said};
-ghost use Rattle.vo_commands.specs.Reports.{said_of};
+ghost use Rattle.vo_commands.specs.Lines.{verdict_output};
+ghost use Rattle.vo_commands.specs.Reports.{output_of};
 
 use crate::lines::push_words;
-use crate::printed::Word;
+use crate::piece::Word;
 use crate::report::{Report, Status};
 use std::alloc::{AllocError, Global};
 use version_record::record_bytes;
@@ -13,21 +13,21 @@ use vo_spec::{Collision, Record, Verdict};
 
 /// The verdict, in one line or more.
 pub fn verdict_report(alloc: Global, verdict: &Verdict) -> Result<Report, AllocError>
-    ensures { IfOk result (λ report. said_of report ≡ verdict_said verdict.now) }
+    ensures { IfOk result (λ report. output_of report ≡ verdict_output verdict.now) }
 {
     match verdict {
-        Verdict::Exact { version } => exact(alloc, *version),
+        Verdict::Exact { version } => exact_report(alloc, *version),
         Verdict::Unsigned {
             rec,
             signature,
             last,
-        } => unsigned(alloc, rec, signature.as_slice(), *last),
-        Verdict::Collides(found) => collides(alloc, found),
+        } => unsigned_report(alloc, rec, signature.as_slice(), *last),
+        Verdict::Collides(found) => collision_report(alloc, found),
     }
 }
 
-fn exact(alloc: Global, version: u64) -> Result<Report, AllocError>
-    ensures { IfOk result (λ report. said_of report ≡ verdict_said (Exact version)) }
+fn exact_report(alloc: Global, version: u64) -> Result<Report, AllocError>
+    ensures { IfOk result (λ report. output_of report ≡ verdict_output (Exact version)) }
 {
     let mut bytes = Vec::new(alloc);
     let words = [Word::Phrase("exact version"), Word::Number(version)];
@@ -38,9 +38,14 @@ fn exact(alloc: Global, version: u64) -> Result<Report, AllocError>
     })
 }
 
-fn unsigned(alloc: Global, rec: &Record, signature: &[u8], last: u64) -> Result<Report, AllocError>
-    ensures { IfOk result (λ report. said_of report
-        ≡ verdict_said (Unsigned rec.now signature.now last)) }
+fn unsigned_report(
+    alloc: Global,
+    rec: &Record,
+    signature: &[u8],
+    last: u64,
+) -> Result<Report, AllocError>
+    ensures { IfOk result (λ report. output_of report
+        ≡ verdict_output (Unsigned rec.now signature.now last)) }
 {
     let mut bytes = Vec::new(alloc);
     push_words(alloc, &mut bytes, &[Word::Phrase("unsigned")])?;
@@ -54,8 +59,8 @@ fn unsigned(alloc: Global, rec: &Record, signature: &[u8], last: u64) -> Result<
     })
 }
 
-fn collides(alloc: Global, found: &Collision) -> Result<Report, AllocError>
-    ensures { IfOk result (λ report. said_of report ≡ verdict_said (Collides found.now)) }
+fn collision_report(alloc: Global, found: &Collision) -> Result<Report, AllocError>
+    ensures { IfOk result (λ report. output_of report ≡ verdict_output (Collides found.now)) }
 {
     let mut bytes = Vec::new(alloc);
     push_words(alloc, &mut bytes, &[Word::Phrase("collision")])?;

@@ -5,7 +5,7 @@ use Rattle.clap.specs.Words.{App, Text, HasMatchesOf, HasKind, Kinds, kind_of, i
 use Rattle.clap.specs.declared.error.Error.{Error}
 use Rattle.clap.specs.declared.error.kind.ErrorKind.TheVariants.{OutOfMemory}
 use Rattle.clap.specs.declared.parser.matches.ArgMatches.{ArgMatches}
-use Rattle.vo_words.specs.Asked.{Asked, asked_by, asked_if, asked_in}
+use Rattle.vo_words.specs.PlainRequest.{PlainRequest, request_in, request_unless, used_request}
 use Rattle.vo_words.specs.Commands.{program_app}
 
 program-simple : is_simple program_app ≡ true
@@ -17,23 +17,23 @@ unfolding clap_on_literals
 program-free = refl
 
 pub accepted : (app : App) (words : List Text) (m : ArgMatches) → app ≡ program_app → HasMatchesOf app words m
-    → (is_simple_and_free app ≡ true → fault_of app words ≡ []) → asked_in (subcommand_rows_of m) ≡ asked_by words
+    → (is_simple_and_free app ≡ true → fault_of app words ≡ []) → used_request (subcommand_rows_of m) ≡ request_in words
 accepted app words m same has passes =
     let simple : is_simple app ≡ true = rw same program-simple in
     let free : is_simple_and_free app ≡ true = rw same program-free in
-    let asked : asked_in (subcommand_rows_of m) ≡ asked_if (fault_of app words) (asked_in (subcommand_of app words)) =
-    rw (passes free) (ap asked_in (has simple).1) in
-    rw same at asked
+    let request : used_request (subcommand_rows_of m) ≡ request_unless (fault_of app words) (used_request (subcommand_of app words)) =
+    rw (passes free) (ap used_request (has simple).1) in
+    rw same at request
 
-faulty : (e : Error) (faults : Kinds) (asked : Option Asked) → HasKind faults e → kind_of e ≢ OutOfMemory → None ≡ asked_if faults asked
-faulty e [] asked (inl memory) other = absurd (other memory)
-faulty e [] asked (inr among) other = absurd among
-faulty e (fault ∷ faults) asked kind other = refl
+faulty : (e : Error) (faults : Kinds) (request : Option PlainRequest) → HasKind faults e → kind_of e ≢ OutOfMemory → None ≡ request_unless faults request
+faulty e [] request (inl memory) other = absurd (other memory)
+faulty e [] request (inr among) other = absurd among
+faulty e (fault ∷ faults) request kind other = refl
 
 pub refused : (app : App) (words : List Text) (e : Error) → app ≡ program_app
-    → (is_simple_and_free app ≡ true → HasKind (fault_of app words) e) → kind_of e ≢ OutOfMemory → None ≡ asked_by words
+    → (is_simple_and_free app ≡ true → HasKind (fault_of app words) e) → kind_of e ≢ OutOfMemory → None ≡ request_in words
 refused app words e same kinds other =
     let free : is_simple_and_free app ≡ true = rw same program-free in
-    let asked : None ≡ asked_if (fault_of app words) (asked_in (subcommand_of app words)) =
-    faulty e (fault_of app words) (asked_in (subcommand_of app words)) (kinds free) other in
-    rw same at asked
+    let request : None ≡ request_unless (fault_of app words) (used_request (subcommand_of app words)) =
+    faulty e (fault_of app words) (used_request (subcommand_of app words)) (kinds free) other in
+    rw same at request

@@ -15,8 +15,8 @@ abbrev pub command_of : Text → List Rule → App
 command_of name rules = fold with_rule (new_app name) rules
 
 abbrev pub keygen_app : App
-keygen_app = command_of (codes "keygen")
-    (word_rule (codes "seed") ∷ option_rule (codes "height") ∷ [])
+keygen_app =
+    command_of (codes "keygen") (word_rule (codes "seed") ∷ option_rule (codes "height") ∷ [])
 
 abbrev pub seal_app : App
 seal_app = command_of (codes "seal")

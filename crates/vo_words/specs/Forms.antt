@@ -3,10 +3,10 @@ use Rattle.std.specs.Prelude.{map}
 use Rattle.clap.specs.Words.{App, Rule}
 use Rattle.vo_words.specs.Commands.{command_of, word_rule, option_rule}
 use Rattle.vo_words.specs.declared.commands.Form.{Form}
-use Rattle.vo_words.specs.declared.commands.Takes.{Takes}
-use Rattle.vo_words.specs.declared.commands.Takes.TheVariants.{Word, Named}
+use Rattle.vo_words.specs.declared.commands.Argument.{Argument}
+use Rattle.vo_words.specs.declared.commands.Argument.TheVariants.{Word, Named}
 
-abbrev pub rule_for : Takes → Rule
+abbrev pub rule_for : Argument → Rule
 rule_for (Word id) = word_rule id.now
 rule_for (Named id) = option_rule id.now
 

@@ -1,5 +1,5 @@
 pub mod Numbers
-pub mod Asked
+pub mod PlainRequest
 pub mod Commands
 pub mod Height
 pub mod Request

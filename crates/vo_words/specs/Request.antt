@@ -1,13 +1,13 @@
 -- What a request asks for.
-use Rattle.vo_words.specs.Asked.{Asked}
-use Rattle.vo_words.specs.Asked as is
+use Rattle.vo_words.specs.PlainRequest.{PlainRequest}
+use Rattle.vo_words.specs.PlainRequest as is
 use Rattle.vo_words.specs.Height.{number_of}
 use Rattle.vo_words.specs.declared.request.Request.{Request}
 use Rattle.vo_words.specs.declared.request.Request.TheVariants.{Keygen, Seal, Answer, Check, Audit}
 
-abbrev pub asked : Request → Asked
-asked (Keygen seed height) = is.Keygen seed.now (number_of height)
-asked (Seal seed script height) = is.Seal seed.now script.now (number_of height)
-asked (Answer key journal query) = is.Answer key.now journal.now query.now
-asked (Check key query reply least) = is.Check key.now query.now reply.now least
-asked (Audit key journal query reply) = is.Audit key.now journal.now query.now reply.now
+abbrev pub plain_request : Request → PlainRequest
+plain_request (Keygen seed height) = is.Keygen seed.now (number_of height)
+plain_request (Seal seed script height) = is.Seal seed.now script.now (number_of height)
+plain_request (Answer key journal query) = is.Answer key.now journal.now query.now
+plain_request (Check key query reply least) = is.Check key.now query.now reply.now least
+plain_request (Audit key journal query reply) = is.Audit key.now journal.now query.now reply.now

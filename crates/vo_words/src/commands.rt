@@ -11,19 +11,19 @@ use std::alloc::{AllocError, Global};
 /// A command, and what it takes.
 struct Form<'a> {
     name: &'a str,
-    takes: &'a [Takes<'a>],
+    takes: &'a [Argument<'a>],
 }
 
 /// An argument, by its id.
 #[derive(Clone, Copy)]
-enum Takes<'a> {
+enum Argument<'a> {
     /// A word that must be there, in its place.
     Word(&'a str),
     /// An option with a value.
     Named(&'a str),
 }
 
-use Takes::{Named, Word};
+use Argument::{Named, Word};
 
 const FORMS: [Form<'static>; 5] = [
     Form {
@@ -64,8 +64,8 @@ fn add_command<'a>(
     program: Command<'a>,
     form: &Form<'a>,
 ) -> Result<Command<'a>, AllocError>
-    ensures { IfOk result (λ made. app_of made
-        ≡ with_command (app_of program.entry) (app_for form.now)) }
+    ensures { IfOk result (λ made. app_of made ≡ with_command (app_of program.entry)
+        (app_for form.now)) }
 {
     match command(alloc, form) {
         Ok(command) => program.subcommand(command),
@@ -79,12 +79,12 @@ fn command<'a>(alloc: Global, form: &Form<'a>) -> Result<Command<'a>, AllocError
 {
     let mut command = Command::new(alloc, form.name);
     for takes in form.takes {
-        command = command.arg(argument(alloc, *takes))?;
+        command = command.arg(arg_for(alloc, *takes))?;
     }
     Ok(command)
 }
 
-fn argument<'a>(alloc: Global, takes: Takes<'a>) -> Arg<'a>
+fn arg_for<'a>(alloc: Global, takes: Argument<'a>) -> Arg<'a>
     ensures rule { rule_of result ≡ rule_for takes.entry }
     ensures local { result.global ≡ false }
 {

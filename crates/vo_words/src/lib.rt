@@ -1,7 +1,7 @@
 //! The command line: which words ask for what.
 //!
-//! The words are read as `clap` reads a program of one level of commands: options anywhere after the
-//! command, as `--name V` or `--name=V`, each once; `--` ends them, and a lone `-` is a word.
+//! The words are read as `clap` reads a program of one level of commands: options anywhere after
+//! the command, as `--name V` or `--name=V`, each once; `--` ends them, and a lone `-` is a word.
 #![tactic(auto)]
 
 mod commands;

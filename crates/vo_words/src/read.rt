@@ -1,9 +1,9 @@
 //! The words, read by the commands.
 ghost use Rattle.std.specs.Prelude.{◌≡◌, map, option_map, string_bytes, IfOk, IsTrue, ◌↔◌};
 ghost use Rattle.clap.specs.Words.{kind_of, found_of, rows_of, first_of, subcommand_rows_of};
-ghost use Rattle.vo_words.specs.Asked.{asked_by, asked_in, keygen_asked, seal_asked, answer_asked, check_asked, audit_asked, reply_asked, given_height, given_least, height_number};
+ghost use Rattle.vo_words.specs.PlainRequest.{request_in, used_request, keygen_request, seal_request, answer_request, check_request, audit_request, reply_request, given_height, given_least, height_number};
 ghost use Rattle.vo_words.specs.Height.{number_of};
-ghost use Rattle.vo_words.specs.Request.{asked};
+ghost use Rattle.vo_words.specs.Request.{plain_request};
 
 use crate::commands::program;
 use crate::numbers::number_in;
@@ -15,11 +15,11 @@ use std::alloc::{AllocError, Global};
 /// What the words ask for, the program's name first. None are refused words: those that `clap`
 /// refuses or answers with help, and a number that the command doesn't take.
 pub fn read_words<'a>(alloc: Global, words: &'a [String]) -> Result<Option<Request<'a>>, AllocError>
-    ensures { IfOk result (λ request. option_map asked request
-        ≡ asked_by (map string_bytes words.entry.now)) }
+    ensures { IfOk result (λ request. option_map plain_request request
+        ≡ request_in (map string_bytes words.entry.now)) }
 {
     match program(alloc)?.try_get_matches_from(words) {
-        Ok(matches) => Ok(request_in(&matches)),
+        Ok(matches) => Ok(used_request(&matches)),
         Err(error) => {
             if is_of_memory(&error) {
                 return Err(AllocError);
@@ -36,8 +36,8 @@ fn is_of_memory(error: &Error) -> bool
 }
 
 /// What the command that was used asks for.
-fn request_in<'a>(matches: &ArgMatches<'a>) -> Option<Request<'a>>
-    ensures { option_map asked result ≡ asked_in (subcommand_rows_of matches.now) }
+fn used_request<'a>(matches: &ArgMatches<'a>) -> Option<Request<'a>>
+    ensures { option_map plain_request result ≡ used_request (subcommand_rows_of matches.now) }
 {
     let (name, used) = matches.subcommand()?;
     if name == "keygen" {
@@ -51,7 +51,8 @@ fn request_in<'a>(matches: &ArgMatches<'a>) -> Option<Request<'a>>
 
 /// What a command about a query and its reply asks for.
 fn reply_request<'a>(name: &str, used: &ArgMatches<'a>) -> Option<Request<'a>>
-    ensures { option_map asked result ≡ reply_asked name.now (rows_of (found_of used.now)) }
+    ensures { option_map plain_request result
+        ≡ reply_request name.now (rows_of (found_of used.now)) }
 {
     if name == "answer" {
         answer_request(used)
@@ -65,7 +66,7 @@ fn reply_request<'a>(name: &str, used: &ArgMatches<'a>) -> Option<Request<'a>>
 }
 
 fn keygen_request<'a>(used: &ArgMatches<'a>) -> Option<Request<'a>>
-    ensures { option_map asked result ≡ keygen_asked (rows_of (found_of used.now)) }
+    ensures { option_map plain_request result ≡ keygen_request (rows_of (found_of used.now)) }
 {
     let seed = text_of(used, "seed")?;
     let height = height_of(used)?;
@@ -73,7 +74,7 @@ fn keygen_request<'a>(used: &ArgMatches<'a>) -> Option<Request<'a>>
 }
 
 fn seal_request<'a>(used: &ArgMatches<'a>) -> Option<Request<'a>>
-    ensures { option_map asked result ≡ seal_asked (rows_of (found_of used.now)) }
+    ensures { option_map plain_request result ≡ seal_request (rows_of (found_of used.now)) }
 {
     let seed = text_of(used, "seed")?;
     let script = text_of(used, "script")?;
@@ -86,7 +87,7 @@ fn seal_request<'a>(used: &ArgMatches<'a>) -> Option<Request<'a>>
 }
 
 fn answer_request<'a>(used: &ArgMatches<'a>) -> Option<Request<'a>>
-    ensures { option_map asked result ≡ answer_asked (rows_of (found_of used.now)) }
+    ensures { option_map plain_request result ≡ answer_request (rows_of (found_of used.now)) }
 {
     let key = text_of(used, "key")?;
     let journal = text_of(used, "journal")?;
@@ -99,7 +100,7 @@ fn answer_request<'a>(used: &ArgMatches<'a>) -> Option<Request<'a>>
 }
 
 fn check_request<'a>(used: &ArgMatches<'a>) -> Option<Request<'a>>
-    ensures { option_map asked result ≡ check_asked (rows_of (found_of used.now)) }
+    ensures { option_map plain_request result ≡ check_request (rows_of (found_of used.now)) }
 {
     let key = text_of(used, "key")?;
     let query = text_of(used, "query")?;
@@ -114,7 +115,7 @@ fn check_request<'a>(used: &ArgMatches<'a>) -> Option<Request<'a>>
 }
 
 fn audit_request<'a>(used: &ArgMatches<'a>) -> Option<Request<'a>>
-    ensures { option_map asked result ≡ audit_asked (rows_of (found_of used.now)) }
+    ensures { option_map plain_request result ≡ audit_request (rows_of (found_of used.now)) }
 {
     let key = text_of(used, "key")?;
     let journal = text_of(used, "journal")?;

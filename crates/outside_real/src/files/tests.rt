@@ -14,7 +14,7 @@ fn takes_files(rt: HostRuntime) -> Result<(), Fail> {
     }
     let mut files = FolderFiles::new(&rt);
     for bytes in [b"".as_slice(), b"abc".as_slice(), long.as_slice()] {
-        assert!(rt; takes(&rt, &mut files, &name, bytes)?);
+        assert!(rt; is_taken_within_limits(&rt, &mut files, &name, bytes)?);
     }
     fs::remove_file(&rt, name.as_str())?;
     let removed = files.take(rt.alloc(), &name, 3).err();
@@ -23,7 +23,7 @@ fn takes_files(rt: HostRuntime) -> Result<(), Fail> {
 }
 
 /// Whether a file is taken whole by the limits that it keeps, and by no lower one.
-fn takes(
+fn is_taken_within_limits(
     rt: &HostRuntime,
     files: &mut FolderFiles<'_, HostRuntime>,
     name: &str,

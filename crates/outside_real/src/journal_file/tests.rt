@@ -9,17 +9,17 @@ fn keeps_a_file(rt: HostRuntime) -> Result<(), Fail> {
     let folder = format!(in rt.alloc(); "{}", env::temp_dir(&rt)?.display())?;
     let path = format!(in rt.alloc(); "{folder}/kept_by_a_test_of_journal_file")?;
     let _ = fs::remove_file(&rt, path.as_str());
-    assert!(rt; keeps(&mut JournalFile::new(&rt, &folder, &path))?);
+    assert!(rt; can_write_and_read(&mut JournalFile::new(&rt, &folder, &path))?);
     let kept = fs::read(&rt, path.as_str())?;
     assert_eq!(rt; kept.as_slice(), b"abxyz".as_slice());
-    assert!(rt; finds(&mut JournalFile::new(&rt, &folder, &path)));
+    assert!(rt; can_read_again(&mut JournalFile::new(&rt, &folder, &path)));
     let mut elsewhere = JournalFile::new(&rt, "no/such/folder", &path);
     assert_eq!(rt; (elsewhere.len(), elsewhere.faults), (Err(Failed), 1));
     fs::remove_file(&rt, path.as_str())?;
     Ok(())
 }
 
-fn keeps(disk: &mut JournalFile<'_, HostRuntime>) -> Result<bool, Fail> {
+fn can_write_and_read(disk: &mut JournalFile<'_, HostRuntime>) -> Result<bool, Fail> {
     let fresh = disk.len();
     disk.reserve(5, 5, 3)?;
     let written = (
@@ -36,7 +36,7 @@ fn keeps(disk: &mut JournalFile<'_, HostRuntime>) -> Result<bool, Fail> {
 }
 
 /// What was written is there for who opens the file again.
-fn finds(disk: &mut JournalFile<'_, HostRuntime>) -> bool {
+fn can_read_again(disk: &mut JournalFile<'_, HostRuntime>) -> bool {
     let mut bytes = [0u8; 5];
     let found = (disk.len(), disk.read(0, &mut bytes), bytes);
     found == (Ok(5), Ok(()), *b"abxyz")

@@ -8,12 +8,12 @@ use std::test::Fail;
 
 /// An output that keeps what is written, and has room for so many bytes.
 #[derive(Drop)]
-struct Kept {
+struct Recorder {
     bytes: RefCell<Vec<u8>>,
     room: usize,
 }
 
-impl Print for Kept {
+impl Print for Recorder {
     fn print<D: Display + Drop>(&self, _value: D) -> io::Result<()> {
         Err(ErrorKind::Unsupported.into())
     }
@@ -35,7 +35,7 @@ impl Print for Kept {
 #[test]
 fn writes_each_piece_once(rt: HostRuntime) -> Result<(), Fail> {
     let bytes = RefCell::new(Vec::new(rt.alloc()));
-    let kept = Kept { bytes, room: 7 };
+    let kept = Recorder { bytes, room: 7 };
     let mut output = StandardOutput::new(&kept);
     let put = (
         output.put(b"ab\n"),

@@ -8,13 +8,13 @@ use std::test::Fail;
 fn passes_bytes_each_way(rt: HostRuntime) -> Result<(), Fail> {
     let mut server = Tcp::new(&rt);
     let mut client = Tcp::new(&rt);
-    assert!(rt; connects(&rt, &mut server, &mut client)?);
-    assert!(rt; talks(&mut server, &mut client));
+    assert!(rt; can_connect(&rt, &mut server, &mut client)?);
+    assert!(rt; can_exchange_bytes(&mut server, &mut client));
     assert_eq!(rt; (server.faults, client.faults), (0, 0));
     Ok(())
 }
 
-fn connects(
+fn can_connect(
     rt: &HostRuntime,
     server: &mut Tcp<'_, HostRuntime>,
     client: &mut Tcp<'_, HostRuntime>,
@@ -26,25 +26,29 @@ fn connects(
     Ok((listening, connected) == (Ok(()), (Ok(()), Ok(()))))
 }
 
-/// Whether the bytes that are put at one end come at the other, in their order and once, and then the end.
-fn talks(server: &mut Tcp<'_, HostRuntime>, client: &mut Tcp<'_, HostRuntime>) -> bool {
-    let asked = (client.put(b"ask"), got::<3>(server));
-    let known = (
+/// Whether the bytes that are put at one end come at the other, in their order and once, and then
+/// the end.
+fn can_exchange_bytes(
+    server: &mut Tcp<'_, HostRuntime>,
+    client: &mut Tcp<'_, HostRuntime>,
+) -> bool {
+    let asked = (client.put(b"ask"), receive::<3>(server));
+    let sent = (
         server.put(b"known"),
         server.put(b" twice"),
-        got::<10>(client),
+        receive::<10>(client),
     );
-    let thanked = (client.put(b"thanks"), got::<6>(server));
+    let thanked = (client.put(b"thanks"), receive::<6>(server));
     server.close();
     let closed = client.get(&mut [0u8; 4]);
     asked == (Ok(()), Ok(*b"ask"))
-        && known == (Ok(()), Ok(()), Ok(*b"known twice"))
+        && sent == (Ok(()), Ok(()), Ok(*b"known twice"))
         && thanked == (Ok(()), Ok(*b"thanks"))
         && closed == Ok(0)
 }
 
 /// The next bytes, taken four at a time.
-fn got<const N: usize>(tcp: &mut Tcp<'_, HostRuntime>) -> Result<[u8; N], Failed> {
+fn receive<const N: usize>(tcp: &mut Tcp<'_, HostRuntime>) -> Result<[u8; N], Failed> {
     let mut bytes = [0u8; N];
     for piece in bytes.chunks_mut(4) {
         if tcp.get(piece)? != piece.len() {

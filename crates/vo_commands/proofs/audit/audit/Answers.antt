@@ -1,9 +1,9 @@
-use Rattle.vo_commands.proofs.CommandSteps.{audit_told, three_there}
+use Rattle.vo_commands.proofs.CommandSteps.{audit_known, three_there}
 use Rattle.vo_commands.proofs.audit.audit.Goals as goal
 
 pub returns-clause-known : goal.returns-clause-known
 returns-clause-known g c =
-    audit_told c.args.key.now c.args.journal.now c.args.query.now c.args.reply.now _ _ _ _ _ _
+    audit_known c.args.key.now c.args.journal.now c.args.query.now c.args.reply.now _ _ _ _ _ _
     c.in_ok-key.ensures.kept c.in_ok-journal.ensures.kept c.in_ok-key.ensures.known c.in_ok-journal.ensures.known
     (rw c.deref.ensures.value at c.audit_query.ensures.known)
 

@@ -5,7 +5,7 @@ use Rattle.vo_words.proofs.read.read_words.Goals as goal
 
 pub returns-in-Ok : goal.returns-in-Ok
 returns-in-Ok c =
-    c.request_in.ensures
+    c.used_request.ensures
     ∙ accepted _ (map string_bytes c.args.words.now) _ c.in_ok-program.ensures c.in-Ok.ensures.matches c.in-Ok.ensures.kinds
 
 pub returns-else-is_of_memory : goal.returns-else-is_of_memory

@@ -2,7 +2,7 @@
 import random
 import re
 
-import shown
+import forms
 from vo_ref.binding import bind
 from vo_ref.catalog import Catalog, CatalogTable, column_of
 from vo_ref.faults import BadForm, FormFault, Missing
@@ -27,7 +27,7 @@ def value(octets):
         taken = take_value(cursor)
     except FormFault as fault:
         return f"{fault.name} {octets.hex()}"
-    return f"{shown.value(taken)} {value_bytes(taken).hex()} {octets[cursor.at:].hex()}"
+    return f"{forms.value(taken)} {value_bytes(taken).hex()} {octets[cursor.at:].hex()}"
 
 
 def all_values(octets):
@@ -43,23 +43,23 @@ def columns(octets):
     if not 1 <= count <= 32:
         raise BadForm("columns")
     found = [column_of(read_name(cursor), cursor.number(1)) for _ in range(count)]
-    return f"{shown.listed([shown.column(one) for one in found])} {octets[cursor.at:].hex()}"
+    return f"{forms.list_of(map(forms.column, found))} {octets[cursor.at:].hex()}"
 
 
 def key_value(octets):
     if not octets or octets[0] not in KIND_NAMES:
         return "no kind"
-    return shown.value(value_of_key(octets[0], octets[1:]))
+    return forms.value(value_of_key(octets[0], octets[1:]))
 
 
 def batch(octets):
     try:
-        return f"Ok({shown.batch(read_batch(octets))})"
-    except BadForm:
-        return "Err(BadForm)"
+        return forms.batch(read_batch(octets))
+    except BadForm as fault:
+        return fault.name
 
 
-def by_name(work):
+def value_or_fault(work):
     """What a call answers, a fault by its name."""
     try:
         return work()
@@ -70,10 +70,10 @@ def by_name(work):
 OF_BYTES = {
     "read": batch,
     "value": value,
-    "values": lambda octets: by_name(lambda: shown.listed([shown.value(one) for one in all_values(octets)])),
-    "key": lambda octets: by_name(lambda: key_of(take_value(Cursor(octets))).hex()),
-    "key_value": lambda octets: by_name(lambda: key_value(octets)),
-    "columns": lambda octets: by_name(lambda: columns(octets)),
+    "values": lambda octets: value_or_fault(lambda: forms.values(all_values(octets))),
+    "key": lambda octets: value_or_fault(lambda: key_of(take_value(Cursor(octets))).hex()),
+    "key_value": lambda octets: value_or_fault(lambda: key_value(octets)),
+    "columns": lambda octets: value_or_fault(lambda: columns(octets)),
 }
 
 
@@ -103,21 +103,21 @@ def line(word, text, more=b""):
     return f"{word} {text.encode().hex()}" + (f" / {more.hex()}" if more else "")
 
 
-def planned(catalog, text, work):
+def answer_plan(catalog, text, work):
     """What a call answers of the query's plan, or why the query doesn't bind."""
     query_bound = bind(catalog, parse_query(text))
-    return shown.wrong(*query_bound.fault) if query_bound.fault else work(Plan(query_bound))
+    return forms.wrong(*query_bound.fault) if query_bound.fault else work(Plan(query_bound))
 
 
 def trees(plan, _):
     """Whether a table is joined with itself, whether one tree is read, and whose trees are."""
     same = len(plan.names) == 2 and plan.names[0] == plan.names[1]
-    names = ", ".join(shown.name(place[0]) for place in plan.places)
-    return f"{str(same).lower()} {str(len(plan.places) == 1).lower()} [{names}]"
+    names = forms.list_of(forms.octets(place[0]) for place in plan.places)
+    return f"{forms.truth(same)} {forms.truth(len(plan.places) == 1)} {names}"
 
 
 def left_need(plan, _):
-    return shown.need(plan.left_need)
+    return forms.need(plan.left_need)
 
 
 def right_need(plan, octets):
@@ -125,7 +125,7 @@ def right_need(plan, octets):
     row = all_values(octets)
     if plan.query.join is None:
         return "no join"
-    return shown.need(plan.right_need(row[plan.bound.join_left])) if true_all(plan.left_cond, [row]) else "none"
+    return forms.need(plan.right_need(row[plan.bound.join_left])) if true_all(plan.left_cond, [row]) else "none"
 
 
 def read_trees(octets):
@@ -139,19 +139,19 @@ def right_needs(plan, octets):
     """What the rows need that a left tree shows."""
     tree = read_tree(Cursor(octets))
     if plan.query.join is None:
-        return "Ok([])"
+        return "[]"
     rows = [seen_row(plan.schema(0), plan.left_place, *seen)[1] for seen in scan(tree, plan.left_need)]
     needs = [plan.right_need(row[plan.bound.join_left]) for row in rows if true_all(plan.left_cond, [row])]
-    return f"Ok([{', '.join(shown.need(need) for need in needs)}])"
+    return forms.needs(needs)
 
 
-def run_on(plan, octets):
+def run_trees(plan, octets):
     """What trees show for the query."""
     found = read_trees(octets)
-    return f"Ok({shown.ran(run_plan(plan, found))})" if len(found) == len(plan.places) else "other trees"
+    return forms.ran(run_plan(plan, found)) if len(found) == len(plan.places) else "other trees"
 
 
-OF_QUERIES = {"trees": trees, "left_need": left_need, "right_need": right_need, "right_needs": right_needs, "run": run_on}
+OF_QUERIES = {"trees": trees, "left_need": left_need, "right_need": right_need, "right_needs": right_needs, "run": run_trees}
 
 
 def query_pair(catalog, word, text, more=b""):
@@ -159,9 +159,9 @@ def query_pair(catalog, word, text, more=b""):
     def answer(plan):
         try:
             return OF_QUERIES[word](plan, more)
-        except Missing:
-            return "Err(Missing)"
-    return line(word, text, more), by_name(lambda: planned(catalog, text, answer))
+        except Missing as fault:
+            return fault.name
+    return line(word, text, more), value_or_fault(lambda: answer_plan(catalog, text, answer))
 
 
 # -- rows of tools/call_rows
@@ -239,7 +239,7 @@ class World:
         odds = [odd_trees(run, plan) for _ in range(odd)]
         yield proof
         for trees_near in run.sample(changed, min(odd, len(changed))) + odds + [tidied(plan, one) for one in odds]:
-            if trees_near and all(map(is_spelled, trees_near)) and are_typed(plan, trees_near):
+            if trees_near and all(map(has_bytes, trees_near)) and are_typed(plan, trees_near):
                 yield trees_near
 
 
@@ -256,7 +256,7 @@ def odd_trees(run, plan):
     return [OddTrees(run, schema, sample_keys(run, schema.key_kind())).tree(MAIN) for schema in schemas]
 
 
-def is_spelled(tree):
+def has_bytes(tree):
     """Whether the tree has bytes at all."""
     return any(True for _ in safe([("", tree)], tree_bytes))
 

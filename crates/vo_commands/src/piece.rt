@@ -6,16 +6,17 @@ use std::alloc::{AllocError, Global};
 use vo_spec::{Text, Value};
 
 /// A piece of a line.
-pub trait Printed {
+pub trait Piece {
     /// The bytes that it is printed as.
-    ghost printed: { Self → List ℕ };
+    ghost piece_text: { Self → List ℕ };
 
     /// Prints it at the end of `out`.
     fn push_to(&self, alloc: Global, out: &mut Vec<u8>) -> Result<(), AllocError>
-        ensures { OnOk result (out.new.items ≡ out.old.items ++ printed self.now) };
+        ensures { OnOk result (out.new.items ≡ out.old.items ++ piece_text self.now) };
 }
 
-/// A word of a line: a phrase as it is, a name, a number in decimal, bytes in lower-case hexadecimal.
+/// A word of a line: a phrase as it is, a name, a number in decimal, bytes in lower-case
+/// hexadecimal.
 #[derive(Clone, Copy)]
 pub enum Word<'a> {
     Phrase(&'a str),
@@ -24,10 +25,10 @@ pub enum Word<'a> {
     Hexadecimal(&'a [u8]),
 }
 
-impl Printed for Word<'_> {
+impl Piece for Word<'_> {
     ghost use Rattle.vo_commands.specs.Words.{word_text};
 
-    ghost printed = { word_text };
+    ghost piece_text = { word_text };
 
     fn push_to(&self, alloc: Global, out: &mut Vec<u8>) -> Result<(), AllocError> {
         match self {
@@ -41,8 +42,8 @@ impl Printed for Word<'_> {
     }
 }
 
-impl Printed for Text {
-    ghost printed = { λ text. text };
+impl Piece for Text {
+    ghost piece_text = { λ text. text };
 
     fn push_to(&self, _alloc: Global, out: &mut Vec<u8>) -> Result<(), AllocError> {
         out.extend_from_slice(self.as_bytes())
@@ -50,10 +51,10 @@ impl Printed for Text {
 }
 
 /// A value is printed as a literal of the query language.
-impl Printed for Value {
+impl Piece for Value {
     ghost use Rattle.vo_commands.specs.Lines.{literal};
 
-    ghost printed = { literal };
+    ghost piece_text = { literal };
 
     fn push_to(&self, alloc: Global, out: &mut Vec<u8>) -> Result<(), AllocError> {
         match self {

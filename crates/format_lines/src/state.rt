@@ -5,14 +5,14 @@ use std::alloc::Global;
 
 /// The bytes that were kept or made last, and the key that was.
 #[derive(Drop)]
-pub struct Kept {
+pub struct State {
     pub bytes: Vec<u8>,
     pub key: Option<SecretKey>,
 }
 
-impl Kept {
-    pub fn new(alloc: Global) -> Kept {
-        Kept {
+impl State {
+    pub fn new(alloc: Global) -> State {
+        State {
             bytes: Vec::new(alloc),
             key: None,
         }
@@ -32,10 +32,10 @@ impl Kept {
 }
 
 /// Keeps a byte string, and has its length.
-pub fn keep(alloc: Global, kept: &mut Kept, strings: &[Vec<u8>]) -> Result<String, NoAnswer> {
+pub fn keep(alloc: Global, state: &mut State, strings: &[Vec<u8>]) -> Result<String, NoAnswer> {
     let [bytes] = strings else {
         return Err(NoAnswer::NoSuchLine);
     };
-    kept.bytes = Vec::from_slice(alloc, bytes)?;
+    state.bytes = Vec::from_slice(alloc, bytes)?;
     Ok(format!(in alloc; "{}", bytes.len())?)
 }

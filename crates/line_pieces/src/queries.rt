@@ -1,0 +1,100 @@
+//! The written forms of queries, and of what they give.
+use crate::form::{WriteForm, end_form, put_argument, start_form};
+use std::alloc::{AllocError, Global};
+use vo_spec::{Items, Join, List, Outcome, QueryFault, QueryText, Ref, Source, Text, Value};
+
+impl WriteForm for Ref {
+    fn write_form(&self, alloc: Global, out: &mut String) -> Result<(), AllocError> {
+        start_form(out, "ref")?;
+        put_argument(alloc, out, &self.qualifier)?;
+        put_argument(alloc, out, &self.column)?;
+        end_form(out)
+    }
+}
+
+impl WriteForm for Source {
+    fn write_form(&self, alloc: Global, out: &mut String) -> Result<(), AllocError> {
+        start_form(out, "source")?;
+        put_argument(alloc, out, &self.table)?;
+        put_argument(alloc, out, &self.alias)?;
+        end_form(out)
+    }
+}
+
+impl WriteForm for Join {
+    fn write_form(&self, alloc: Global, out: &mut String) -> Result<(), AllocError> {
+        start_form(out, "join")?;
+        put_argument(alloc, out, &self.right)?;
+        put_argument(alloc, out, &self.left_ref)?;
+        put_argument(alloc, out, &self.right_ref)?;
+        end_form(out)
+    }
+}
+
+impl WriteForm for Items {
+    fn write_form(&self, alloc: Global, out: &mut String) -> Result<(), AllocError> {
+        match self {
+            Items::All => Ok(out.push_str("all")?),
+            Items::Refs(refs) => refs.write_form(alloc, out),
+        }
+    }
+}
+
+impl WriteForm for QueryText {
+    fn write_form(&self, alloc: Global, out: &mut String) -> Result<(), AllocError> {
+        start_form(out, "query")?;
+        put_argument(alloc, out, &self.items)?;
+        put_argument(alloc, out, &self.left)?;
+        put_argument(alloc, out, &self.join)?;
+        put_argument(alloc, out, &self.cond)?;
+        end_form(out)
+    }
+}
+
+impl WriteForm for QueryFault {
+    fn write_form(&self, alloc: Global, out: &mut String) -> Result<(), AllocError> {
+        start_form(out, "wrong")?;
+        out.push(' ')?;
+        match self {
+            QueryFault::NoTable(name) => write_fault_of(alloc, out, "NoTable", name)?,
+            QueryFault::NoColumn(name) => write_fault_of(alloc, out, "NoColumn", name)?,
+            QueryFault::Ambiguous(name) => write_fault_of(alloc, out, "Ambiguous", name)?,
+            QueryFault::TypeMismatch => out.push_str("TypeMismatch")?,
+            QueryFault::NotKeyJoin => out.push_str("NotKeyJoin")?,
+        }
+        end_form(out)
+    }
+}
+
+/// Writes a fault and the name that it is of.
+fn write_fault_of<T: WriteForm>(
+    alloc: Global,
+    out: &mut String,
+    word: &str,
+    name: &T,
+) -> Result<(), AllocError> {
+    start_form(out, word)?;
+    put_argument(alloc, out, name)?;
+    end_form(out)
+}
+
+impl WriteForm for Outcome {
+    fn write_form(&self, alloc: Global, out: &mut String) -> Result<(), AllocError> {
+        match self {
+            Outcome::Rows { header, rows } => write_rows(alloc, out, header, rows),
+            Outcome::Wrong(fault) => fault.write_form(alloc, out),
+        }
+    }
+}
+
+fn write_rows(
+    alloc: Global,
+    out: &mut String,
+    header: &List<Text>,
+    rows: &List<List<Value>>,
+) -> Result<(), AllocError> {
+    start_form(out, "rows")?;
+    put_argument(alloc, out, header)?;
+    put_argument(alloc, out, rows)?;
+    end_form(out)
+}

@@ -1,0 +1,217 @@
+-- What a run of the program must print, by its words and by the files that it takes.
+use Rattle.std.specs.Prelude.{◌≡◌, ◌⊎◌, ℕ, Bool, ◌&&◌, ◌==◌, nat_lt, if◌then◌else◌, List, [], ◌∷◌, length, take, drop, codes, decimal, Option, Some, None, option_map, is_some, IsSome, Result}
+use Rattle.std.specs.Option.{option_map_or}
+use Rattle.std.specs.Str.{is_utf8}
+use Rattle.outside.specs.Shelf.{Files}
+use Rattle.outside.specs.Sink.{added}
+use Rattle.vo_spec.specs.declared.signatures.OtsType.TheVariants.{W8}
+use Rattle.vo_spec.specs.declared.tables.Batch.{Batch}
+use Rattle.vo_spec.specs.declared.records.Entry.{Entry}
+use Rattle.vo_spec.specs.declared.checks.Answer.{Answer as Accepted}
+use Rattle.vo_spec.specs.declared.checks.CheckFault.{CheckFault}
+use Rattle.vo_spec.specs.declared.checks.Verdict.{Verdict}
+use Rattle.vo_spec.specs.declared.checks.AuditFault.{AuditFault}
+use Rattle.vo_spec.specs.LmsSets.{leaves_of}
+use Rattle.vo_spec.specs.Lms.{key_lms, key_ots}
+use Rattle.vo_spec.specs.Secret.{Secret, secret_of, public_of_secret, lms_of_height}
+use Rattle.vo_spec.specs.Conditions.{Query}
+use Rattle.vo_spec.specs.Journals.{journal_bytes}
+use Rattle.vo_spec.specs.Replies.{Reply, reply_bytes, max_reply}
+use Rattle.vo_spec.specs.Honest.{sealed, reply_of}
+use Rattle.vo_spec.specs.Owners.{IsLoadable, IsUnloadableAt}
+use Rattle.vo_spec.specs.Checks.{CheckOf}
+use Rattle.vo_spec.specs.Audits.{AuditOf}
+use Rattle.owner_state.specs.declared.sealing.SealFault.{SealFault}
+use Rattle.owner_state.specs.declared.sealing.SealFault.TheVariants as seal
+use Rattle.owner_state.specs.Sealing.{commands_of, seal_fault}
+use Rattle.vo_words.specs.PlainRequest.{PlainRequest, Keygen, Seal, Answer, Check, Audit}
+use Rattle.sql_text.specs.Scripts.{IsScript}
+use Rattle.vo_commands.specs.Lines.{Output, line, success, refusal, input_refusal, check_output, audit_output, bad_journal, command_output, spent_key}
+use Rattle.vo_commands.specs.Texts.{IsQueryText, IsRefusedQuery, IsRefusedScript}
+
+-- These lines; or what is expected of the query or the script that a text is; or what a relation
+-- allows: the reply to a query by a journal, and what a client or an auditor answers to one.
+pub data Expected : Type 0 where
+  Exactly : (output : Output) → Expected
+  OfQuery : (text : List ℕ) (rest : Query → Expected) → Expected
+  OfScript : (text : List ℕ) (rest : List Batch → Expected) → Expected
+  Replies : (key journal : List ℕ) (q : Query) → Expected
+  Checks : (key : List ℕ) (least : ℕ) (q : Query) (reply : List ℕ) → Expected
+  Audits : (key journal : List ℕ) (q : Query) (reply : List ℕ) → Expected
+
+-- the reply of a store, where it isn't over the limit
+abbrev pub reply_output : List ℕ → Output
+reply_output bytes =
+    if nat_lt max_reply (length bytes)
+    then refusal 1 (codes "too large" ∷ decimal (length bytes) ∷ []) else success bytes
+
+-- A store loads the journal's entries, or they fail at one.
+abbrev pub IsStoreOutput : List ℕ → List ℕ → Query → Output → Type 0
+IsStoreOutput key journal q output =
+    ((index : ℕ) × IsUnloadableAt key journal index × (output ≡ bad_journal index))
+    ⊎ ((es : List Entry) × (r : Reply) × IsLoadable key journal es × (reply_of q es ≡ Some r)
+    × (output ≡ reply_output (reply_bytes r)))
+
+abbrev pub Allows : Expected → Output → Type 0
+Allows (Exactly expected) output = output ≡ expected
+Allows (OfQuery text rest) output =
+    ((q : Query) × IsQueryText text q × Allows (rest q) output)
+    ⊎ (((q : Query) → IsQueryText text q → ⊥) × IsRefusedQuery text output)
+Allows (OfScript text rest) output =
+    ((batches : List Batch) × IsScript text batches × Allows (rest batches) output)
+    ⊎ (((batches : List Batch) → IsScript text batches → ⊥) × IsRefusedScript text output)
+Allows (Replies key journal q) output = IsStoreOutput key journal q output
+Allows (Checks key least q reply) output =
+    (answer : Result Accepted CheckFault) × CheckOf key least q reply answer
+    × (output ≡ check_output answer)
+Allows (Audits key journal q reply) output =
+    (answer : Result Verdict AuditFault) × AuditOf key journal q reply answer
+    × (output ≡ audit_output answer)
+
+-- the outside failed
+abbrev pub outside_failure : Output
+outside_failure = record { status = 3; bytes = line (codes "fault: outside") }
+
+abbrev pub words_refusal : Output
+words_refusal = input_refusal (codes "words" ∷ [])
+
+-- the rest of the work on a file; an absent one fails, and one over its limit is refused
+abbrev pub with_contents : Option (List ℕ) → List ℕ → ℕ → (List ℕ → Expected) → Expected
+with_contents None name limit rest = Exactly outside_failure
+with_contents (Some bytes) name limit rest =
+    if nat_lt limit (length bytes) then Exactly (input_refusal (codes "file too long" ∷ name ∷ []))
+    else rest bytes
+
+abbrev pub with_file : Files → List ℕ → ℕ → (List ℕ → Expected) → Expected
+with_file files name limit rest = with_contents (files name) name limit rest
+
+-- a seed file: the identifier and the seed, 48 bytes
+abbrev pub seed_limit : ℕ
+seed_limit = 48
+
+abbrev pub secret_in : List ℕ → ℕ → Secret
+secret_in bytes height =
+    secret_of (take 16 bytes) (take 32 (drop 16 bytes)) W8 (lms_of_height height)
+
+abbrev pub with_secret : ℕ → (Secret → Expected) → List ℕ → Expected
+with_secret height rest bytes =
+    if length bytes == seed_limit then rest (secret_in bytes height)
+    else Exactly (input_refusal (codes "seed file" ∷ decimal (length bytes) ∷ []))
+
+abbrev pub with_seed : Files → List ℕ → ℕ → (Secret → Expected) → Expected
+with_seed files seed height rest = with_file files seed seed_limit (with_secret height rest)
+
+abbrev pub keygen_expected : List ℕ → ℕ → Files → Expected
+keygen_expected seed height files =
+    with_seed files seed height (λ secret. Exactly (success (public_of_secret secret)))
+
+-- a key file: the 56 bytes of a public key of known sets
+abbrev pub key_limit : ℕ
+key_limit = 64
+
+abbrev pub is_public_key : List ℕ → Bool
+is_public_key bytes = length bytes == 56 && is_some (key_lms bytes) && is_some (key_ots bytes)
+
+abbrev pub with_public : (List ℕ → Expected) → List ℕ → Expected
+with_public rest bytes =
+    if is_public_key bytes then rest bytes else Exactly (input_refusal (codes "key file" ∷ []))
+
+abbrev pub with_key : Files → List ℕ → (List ℕ → Expected) → Expected
+with_key files key rest = with_file files key key_limit (with_public rest)
+
+-- how many bytes scripts, journals and replies may have; a reply that is longer is refused by the
+-- client
+abbrev pub script_limit : ℕ
+script_limit = 16777216
+
+abbrev pub journal_limit : ℕ
+journal_limit = 1073741824
+
+abbrev pub reply_limit : ℕ
+reply_limit = 67108865
+
+abbrev pub with_text : (List ℕ → Expected) → List ℕ → Expected
+with_text rest bytes =
+    if is_utf8 bytes then rest bytes else Exactly (input_refusal (codes "not text" ∷ []))
+
+-- the journal of a script's batches, or the first refusal
+abbrev pub sealed_output : Option SealFault → List ℕ → Output
+sealed_output None journal = success journal
+sealed_output (Some seal.KeySpent) journal = spent_key
+sealed_output (Some (seal.Command index fault)) journal = command_output index fault
+sealed_output (Some seal.Memory) journal = refusal 8 []
+
+abbrev pub seal_output : Secret → List Batch → Output
+seal_output secret batches =
+    sealed_output (seal_fault (leaves_of secret.lms) ([] ∷ []) (commands_of batches))
+    (journal_bytes (sealed secret (commands_of batches)))
+
+-- of a script's bytes
+abbrev pub script_expected : Secret → List ℕ → Expected
+script_expected secret =
+    with_text (λ text. OfScript text (λ batches. Exactly (seal_output secret batches)))
+
+-- What each command comes to, the files in the order of its words and a query at its place.
+
+abbrev pub seal_expected : List ℕ → List ℕ → ℕ → Files → Expected
+seal_expected seed script height files =
+    with_seed files seed height (λ secret. with_file files script script_limit
+    (script_expected secret))
+
+abbrev pub answer_expected : List ℕ → List ℕ → List ℕ → Files → Expected
+answer_expected key journal query files =
+    with_key files key (λ k. with_file files journal journal_limit
+    (λ j. OfQuery query (λ q. Replies k j q)))
+
+abbrev pub check_expected : List ℕ → List ℕ → List ℕ → ℕ → Files → Expected
+check_expected key query reply least files =
+    with_key files key
+    (λ k. OfQuery query (λ q. with_file files reply reply_limit (λ r. Checks k least q r)))
+
+abbrev pub audit_expected : List ℕ → List ℕ → List ℕ → List ℕ → Files → Expected
+audit_expected key journal query reply files =
+    with_key files key (λ k. with_file files journal journal_limit (λ j. OfQuery query (λ q.
+    with_file files reply reply_limit (λ r. Audits k j q r))))
+
+abbrev pub command_expected : PlainRequest → Files → Expected
+command_expected (Keygen seed height) = keygen_expected seed height
+command_expected (Seal seed script height) = seal_expected seed script height
+command_expected (Answer key journal query) = answer_expected key journal query
+command_expected (Check key query reply least) = check_expected key query reply least
+command_expected (Audit key journal query reply) = audit_expected key journal query reply
+
+-- what is expected of the words, where the files are known
+abbrev pub expected_of : Option Files → Option PlainRequest → Option Expected
+expected_of files None = Some (Exactly words_refusal)
+expected_of files (Some request) = option_map (command_expected request) files
+
+-- What is written after an end with this output: all of it was put; or the output failed, and a
+-- front of it was; or memory ran out, and nothing was.
+abbrev pub Writes : Output → Type 0 → ℕ → Option (List ℕ) → Option (List ℕ) → Type 0
+Writes output out_rose status before after =
+    ((status ≡ output.status) × (after ≡ added before output.bytes))
+    ⊎ ((status ≡ 3) × out_rose × ((n : ℕ) × (after ≡ added before (take n output.bytes))))
+    ⊎ ((status ≡ 4) × (after ≡ before))
+
+-- A run ends with an expected output, or the outside failed, or memory ran out.
+abbrev pub Ends : Expected → Type 0 → Type 0 → ℕ → Option (List ℕ) → Option (List ℕ) → Type 0
+Ends expected outside_rose out_rose status before after =
+    ((status ≡ 4) × (after ≡ before))
+    ⊎ ((output : Output) × Allows expected output × Writes output out_rose status before after)
+    ⊎ (outside_rose × Writes outside_failure out_rose status before after)
+
+-- the files that the words name
+abbrev pub files_of_request : PlainRequest → List (List ℕ)
+files_of_request (Keygen seed height) = seed ∷ []
+files_of_request (Seal seed script height) = seed ∷ script ∷ []
+files_of_request (Answer key journal query) = key ∷ journal ∷ []
+files_of_request (Check key query reply least) = key ∷ reply ∷ []
+files_of_request (Audit key journal query reply) = key ∷ journal ∷ reply ∷ []
+
+abbrev pub file_words : Option PlainRequest → List (List ℕ)
+file_words request = option_map_or files_of_request request []
+
+-- each of these is there
+abbrev pub HoldsEach : Files → List (List ℕ) → Type 0
+HoldsEach files [] = Unit {0}
+HoldsEach files (name ∷ names) = IsSome (files name) × HoldsEach files names

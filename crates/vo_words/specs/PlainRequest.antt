@@ -1,0 +1,87 @@
+-- What words ask for, as contracts see it.
+use Rattle.std.specs.Prelude.{ℕ, List, [], ◌∷◌, Option, Some, None, option_map, option_and_then, codes, if◌then◌else◌}
+use Rattle.std.specs.Option.{option_map_or}
+use Rattle.std.specs.Str.{bytes_eq}
+use Rattle.clap.specs.Words.{Row, Text, first_of, fault_of, subcommand_of}
+use Rattle.clap.specs.Kinds.{Kinds}
+use Rattle.vo_words.specs.Commands.{program_app}
+use Rattle.vo_words.specs.Numbers.{written_number}
+
+-- a command and its words, files by their names
+pub data PlainRequest : Type 0 where
+  Keygen : (seed : Text) (height : ℕ) → PlainRequest
+  Seal : (seed script : Text) (height : ℕ) → PlainRequest
+  Answer : (key journal query : Text) → PlainRequest
+  Check : (key query reply : Text) (least : ℕ) → PlainRequest
+  Audit : (key journal query reply : Text) → PlainRequest
+
+-- a height is 5 or 10, in digits
+abbrev pub height_number : Text → Option ℕ
+height_number text =
+    if bytes_eq text (codes "5") then Some 5
+    else (if bytes_eq text (codes "10") then Some 10 else None)
+
+-- 5 where none is given
+abbrev pub given_height : List Row → Option ℕ
+given_height rows = option_map_or height_number (first_of (codes "height") rows) (Some 5)
+
+-- a version is written in digits, and 0 where none is given
+abbrev pub given_least : List Row → Option ℕ
+given_least rows = option_map_or written_number (first_of (codes "least") rows) (Some 0)
+
+-- the rest, with the word of that name
+abbrev pub with_word : Text → List Row → (Text → Option PlainRequest) → Option PlainRequest
+with_word id rows rest = option_and_then rest (first_of id rows)
+
+abbrev pub keygen_request : List Row → Option PlainRequest
+keygen_request rows =
+    with_word (codes "seed") rows (λ seed. option_map (Keygen seed) (given_height rows))
+
+abbrev pub seal_request : List Row → Option PlainRequest
+seal_request rows =
+    with_word (codes "seed") rows (λ seed. with_word (codes "script") rows (λ script.
+    option_map (Seal seed script) (given_height rows)))
+
+abbrev pub answer_request : List Row → Option PlainRequest
+answer_request rows =
+    with_word (codes "key") rows (λ key. with_word (codes "journal") rows (λ journal.
+    with_word (codes "query") rows (λ query. Some (Answer key journal query))))
+
+abbrev pub check_request : List Row → Option PlainRequest
+check_request rows = with_word (codes "key") rows (λ key. with_word (codes "query") rows (λ query.
+    with_word (codes "reply") rows (λ reply. option_map (Check key query reply)
+    (given_least rows))))
+
+abbrev pub audit_request : List Row → Option PlainRequest
+audit_request rows =
+    with_word (codes "key") rows (λ key. with_word (codes "journal") rows (λ journal.
+    with_word (codes "query") rows (λ query. with_word (codes "reply") rows (λ reply.
+    Some (Audit key journal query reply)))))
+
+-- what a command about a query and its reply asks for
+abbrev pub reply_request : Text → List Row → Option PlainRequest
+reply_request name rows =
+    if bytes_eq name (codes "answer") then answer_request rows
+    else (if bytes_eq name (codes "check") then check_request rows
+    else (if bytes_eq name (codes "audit") then audit_request rows
+    else None))
+
+-- what a command asks for, by its name and its words
+abbrev pub command_request : Text → List Row → Option PlainRequest
+command_request name rows =
+    if bytes_eq name (codes "keygen") then keygen_request rows
+    else (if bytes_eq name (codes "seal") then seal_request rows
+    else reply_request name rows)
+
+abbrev pub used_request : Option (Text × List Row) → Option PlainRequest
+used_request used = option_and_then (λ used. command_request used.0 used.1) used
+
+-- nothing, where the words have a fault
+abbrev pub request_unless : Kinds → Option PlainRequest → Option PlainRequest
+request_unless [] request = request
+request_unless (fault ∷ faults) request = None
+
+-- what the words ask for, the program's name first; none are refused words
+abbrev pub request_in : List Text → Option PlainRequest
+request_in words =
+    request_unless (fault_of program_app words) (used_request (subcommand_of program_app words))
