@@ -4,7 +4,7 @@ use Rattle.vo_spec.specs.declared.trees.UpdateFault.{UpdateFault}
 use Rattle.vo_spec.specs.declared.trees.UpdateFault.TheVariants.{DuplicateKey, NoRow, Missing, Memory}
 use Rattle.vo_spec.specs.Firsts.{and_then}
 use Rattle.vo_spec.specs.Inserts.{result_map}
-use Rattle.btree.specs.Agreeing.{AgreesWithTree}
+use Rattle.btree.specs.Agreement.{AgreesWithTree}
 
 pub agrees_then : {A B : Type 0} (R : A → A → Type 0) (S : B → B → Type 0) (f g : A → Result B UpdateFault)
     (r s : Result A UpdateFault) → ((x y : A) → R x y → AgreesWithTree S (f x) (g y))

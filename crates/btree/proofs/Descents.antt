@@ -7,7 +7,7 @@ use Rattle.vo_spec.specs.Parts.{Part, Parts, inner, more, Family}
 use Rattle.vo_spec.specs.Inserts.{Insertion, one, two, result_map, after_child, put_insertion, split_inner, grow, grow_in}
 use Rattle.vo_spec.specs.Removes.{edited_by, edited_in}
 use Rattle.btree.specs.Nodes.{Kid, parts_from, new_kid}
-use Rattle.btree.specs.Placing.{splice, split, node_of}
+use Rattle.btree.specs.Splices.{splice, split, node_of}
 use Rattle.btree.proofs.OkResults.{map_map}
 
 pub place_keys : {K : Type 0} (key_of : K → List ℕ) (key : List ℕ) (ks : List K) → position_or_len (λ k. key_lt key (key_of k)) ks ≡ position_or_len (key_lt key) (map key_of ks)

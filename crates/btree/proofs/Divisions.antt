@@ -9,11 +9,11 @@ use Rattle.vo_spec.specs.Inserts.{Insertion, one, first_key, take_parts, drop_pa
 use Rattle.btree.specs.declared.node.Contents.{Contents}
 use Rattle.btree.specs.declared.node.Contents.TheVariants.{Inner}
 use Rattle.btree.specs.declared.siblings.Siblings.{Siblings}
-use Rattle.btree.specs.declared.split.Halves.{Halves}
-use Rattle.btree.specs.Nodes.{Kid, parts_from, new_kid, contents_of, HasNodes, IsInsertion}
-use Rattle.btree.specs.Placing.{divide_at, splice, node_of, CanDivide, AreCut}
+use Rattle.btree.specs.declared.split.Division.{Division}
+use Rattle.btree.specs.Nodes.{Kid, parts_from, new_kid, contents_of, HasNodes, AreSiblings}
+use Rattle.btree.specs.Splices.{divide_at, splice, node_of, CanDivide, AreDivided}
 use Rattle.btree.specs.Shapes.{size_of, IsLinked, IsWithin}
-use Rattle.btree.proofs.Listed.{count_parts, take_parts_from, drop_parts_from, map_spliced}
+use Rattle.btree.proofs.ChildLists.{count_parts, take_parts_from, drop_parts_from, map_spliced}
 
 module _ {K F N E M : Type 0} (key : K → List ℕ) (entry : F → E) (kid : N → Kid E M) where
   pub counted : (ns : List N) → count (parts_from (map kid ns)) ≡ length ns
@@ -57,7 +57,7 @@ module _ {K F N E M : Type 0} (key : K → List ℕ) (entry : F → E) (kid : N 
     pub leaf_divided : (at : ℕ) (es left right : List F) (first : F) (separator : K) (l r : N) (s : Siblings K N)
         → 0 < length right → left ≡ take at es → right ≡ drop at es → first ≡ get_or right 0 first → key separator ≡ family.key (entry first)
         → kid l ≡ new_kid family (leaf (map entry left)) → kid r ≡ new_kid family (leaf (map entry right)) → HasNodes s (separator ∷ []) (l ∷ r ∷ [])
-        → IsInsertion family key kid s (divide_at family at (leaf (map entry es)))
+        → AreSiblings family key kid s (divide_at family at (leaf (map entry es)))
     leaf_divided at es left right first separator l r s some is_left is_right is_first is_key is_l is_r has = record {
       keys = ap (map key) has.keys ∙ ap (λ x. x ∷ []) (is_key ∙ sym (ap (first_key family) (drop-map entry at es ∙ ap (map entry) (sym is_right)) ∙ first_is right first some is_first));
       nodes = ap (map kid) has.are
@@ -76,12 +76,12 @@ module _ {K F N E M : Type 0} (key : K → List ℕ) (entry : F → E) (kid : N 
         let ends : get_or ss (at - 1) [] ∷ [] ≡ k ∷ [] = sym (drop_at (take (at - 1) ss) (get_or ss (at - 1) [] ∷ []) (at - 1) first) ∙ ap (drop (at - 1)) (sym last ∙ e) ∙ drop_at front (k ∷ []) (at - 1) front_is in
         (sym (take_at (take (at - 1) ss) (get_or ss (at - 1) [] ∷ []) (at - 1) first) ∙ ap (take (at - 1)) (sym last ∙ e) ∙ take_at front (k ∷ []) (at - 1) front_is, cc)
 
-    pub inner_divided : (at : ℕ) (ss : List K) (ns : List N) (h : Halves K N) (l r : N) (s : Siblings K N)
-        → 0 < at → at ≤ length ss → AreCut at h ss ns
+    pub inner_divided : (at : ℕ) (ss : List K) (ns : List N) (h : Division K N) (l r : N) (s : Siblings K N)
+        → 0 < at → at ≤ length ss → AreDivided at h ss ns
         → kid l ≡ new_kid family (inner (map key h.before.items) (parts_from (map kid h.left.items)))
         → kid r ≡ new_kid family (inner (map key h.after.items) (parts_from (map kid h.right.items)))
         → HasNodes s (h.separator ∷ []) (l ∷ r ∷ [])
-        → IsInsertion family key kid s (divide_at family at (inner (map key ss) (parts_from (map kid ns))))
+        → AreSiblings family key kid s (divide_at family at (inner (map key ss) (parts_from (map kid ns))))
     inner_divided at ss ns h l r s some many cut is_l is_r has =
         let keys = length-map ss key in
         let k = keys_cut at (map key ss) (map key h.before.items) (key h.separator) some (omega arith) (take-map key at ss ∙ ap (map key) cut.first_keys ∙ map-append key h.before.items (h.separator ∷ [])) in
@@ -95,10 +95,10 @@ module _ {K F N E M : Type 0} (key : K → List ℕ) (entry : F → E) (kid : N 
 
     -- what has come in the place of some children
     pub put_parts_from : (from to : ℕ) (ss keys : List K) (ns nodes : List N) (s : Siblings K N) (g : Insertion E M)
-        → keys ≡ take from ss ++ s.separators.items ++ drop to ss → nodes ≡ take from ns ++ s.nodes.items ++ drop (to + 1) ns → IsInsertion family key kid s g
+        → keys ≡ take from ss ++ s.separators.items ++ drop to ss → nodes ≡ take from ns ++ s.nodes.items ++ drop (to + 1) ns → AreSiblings family key kid s g
         → inner (map key keys) (parts_from (map kid nodes)) ≡ node_of (splice family from to (map key ss) (map kid ns) g)
     put_parts_from from to ss keys ns nodes s g is_keys is_nodes insertion =
         rw (is_keys, is_nodes, map_spliced key ss s.separators.items from to, map_spliced kid ns s.nodes.items from (to + 1), insertion.keys, insertion.nodes) refl
 
-    pub one_insertion : (c : Part E M) (n : N) (s : Siblings K N) → kid n ≡ new_kid family c → HasNodes s [] (n ∷ []) → IsInsertion family key kid s (one c)
+    pub one_insertion : (c : Part E M) (n : N) (s : Siblings K N) → kid n ≡ new_kid family c → HasNodes s [] (n ∷ []) → AreSiblings family key kid s (one c)
     one_insertion c n s is has = record { keys = ap (map key) has.keys; nodes = ap (map kid) has.are ∙ ap (λ x. x ∷ []) is }

@@ -6,10 +6,10 @@ use Rattle.vo_spec.specs.declared.trees.UpdateFault.{UpdateFault}
 use Rattle.vo_spec.specs.declared.trees.UpdateFault.TheVariants.{NoRow}
 use Rattle.vo_spec.specs.Parts.{leaf, Family}
 use Rattle.vo_spec.specs.Removes.{shrink, edited_by}
-use Rattle.btree.specs.Finding.{found}
+use Rattle.btree.specs.Lookup.{found}
 use Rattle.btree.proofs.FirstEntries.{first_place, leaf_shrinks, no_row, leaf_edited, no_row_edited}
 use Rattle.btree.proofs.FoundEntries.{leaf_found, no_row_found}
-use Rattle.btree.proofs.Listed.{map_spliced, map_put}
+use Rattle.btree.proofs.ChildLists.{map_spliced, map_put}
 
 module _ {F E M : Type 0} (family : Family E M) (key : F → List ℕ) (entry : F → E) (keyed : (f : F) → key f ≡ family.key (entry f)) (k : List ℕ) (fs : List F) (place : ℕ) (at : place ≡ position_or_len (λ f. bytes_eq (key f) k) fs) where
   there_is : (gs : List F) → position_or_len (λ f. bytes_eq (key f) k) gs ≡ first_place family k (map entry gs)

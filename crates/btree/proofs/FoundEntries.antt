@@ -10,7 +10,7 @@ use Rattle.vo_spec.specs.Fits.{FitsBy, FitsEach}
 use Rattle.vo_spec.specs.Parts.{Part, Parts, stub, leaf, inner, none, more, Family}
 use Rattle.vo_spec.specs.Inserts.{result_map, goes_here}
 use Rattle.vo_spec.specs.Removes.{edit_entry, edited_by, edited_in}
-use Rattle.btree.specs.Finding.{found_entry, found, found_in}
+use Rattle.btree.specs.Lookup.{found_entry, found, found_in}
 use Rattle.btree.specs.Nodes.{Kid, parts_from}
 use Rattle.btree.proofs.FirstEntries.{first_place}
 use Rattle.btree.proofs.OkResults.{ok_same, cond_ok}

@@ -5,7 +5,7 @@ use Rattle.vo_spec.specs.declared.trees.UpdateFault.TheVariants.{DuplicateKey}
 use Rattle.vo_spec.specs.Values.{key_lt}
 use Rattle.vo_spec.specs.Parts.{Part, Parts, stub, leaf, inner, none, more, Family, count, PrunesBy, PrunesEach}
 use Rattle.vo_spec.specs.Inserts.{Insertion, one, two, Children, min_fill, result_map, goes_here, take_parts, drop_parts, after_child, has_key, put_entry, first_key, split_leaf, split_inner, put_insertion, grow, grow_in, root_of, inserted_by}
-use Rattle.btree.specs.Agreeing.{AgreesWithTree}
+use Rattle.btree.specs.Agreement.{AgreesWithTree}
 use Rattle.btree.specs.Pruning.{KeepsKeys, KeepsAnnotations}
 use Rattle.btree.specs.Pruning as pruning
 use Rattle.btree.proofs.AgreeingResults.{agrees_map, agrees_cond}
@@ -68,12 +68,12 @@ module _ {E M : Type 0} (family : Family E M) (EntryPrunes : E → E → Type 0)
     split_leaf_prunes : (es fs : List E) → Zip es fs
         → InsertionPrunes (split_leaf family es) (split_leaf family fs)
     split_leaf_prunes es fs z =
-        subst (λ n. InsertionPrunes (split_leaf family es) (halves (nat_le n 16) fs)) (zip_length EntryPrunes es fs z) (step (nat_le (length es) 16))
+        subst (λ n. InsertionPrunes (split_leaf family es) (division (nat_le n 16) fs)) (zip_length EntryPrunes es fs z) (step (nat_le (length es) 16))
       where
-        halves : Bool → List E → Insertion E M
-        halves b xs = cond b (one (leaf xs)) (two (leaf (take min_fill xs)) (first_key family (drop min_fill xs)) (leaf (drop min_fill xs)))
+        division : Bool → List E → Insertion E M
+        division b xs = cond b (one (leaf xs)) (two (leaf (take min_fill xs)) (first_key family (drop min_fill xs)) (leaf (drop min_fill xs)))
 
-        step : (b : Bool) → InsertionPrunes (halves b es) (halves b fs)
+        step : (b : Bool) → InsertionPrunes (division b es) (division b fs)
         step true = z
         step false = (
           zip_take EntryPrunes min_fill es fs z,
@@ -84,12 +84,12 @@ module _ {E M : Type 0} (family : Family E M) (EntryPrunes : E → E → Type 0)
     split_inner_prunes : (c d : Children E M) → ChildrenPrune c d
         → InsertionPrunes (split_inner family c) (split_inner family d)
     split_inner_prunes c d z =
-        subst (λ n. InsertionPrunes (split_inner family c) (halves (nat_le n 16) d)) (each_count family EntryPrunes c.parts d.parts z.1) (step (nat_le (count c.parts) 16))
+        subst (λ n. InsertionPrunes (split_inner family c) (division (nat_le n 16) d)) (each_count family EntryPrunes c.parts d.parts z.1) (step (nat_le (count c.parts) 16))
       where
-        halves : Bool → Children E M → Insertion E M
-        halves b x = cond b (one (inner x.separators x.parts)) (two (inner (take 7 x.separators) (take_parts min_fill x.parts)) (get_or x.separators 7 []) (inner (drop min_fill x.separators) (drop_parts min_fill x.parts)))
+        division : Bool → Children E M → Insertion E M
+        division b x = cond b (one (inner x.separators x.parts)) (two (inner (take 7 x.separators) (take_parts min_fill x.parts)) (get_or x.separators 7 []) (inner (drop min_fill x.separators) (drop_parts min_fill x.parts)))
 
-        step : (b : Bool) → InsertionPrunes (halves b c) (halves b d)
+        step : (b : Bool) → InsertionPrunes (division b c) (division b d)
         step true = z
         step false = (
           (ap (take 7) z.0, each_take family EntryPrunes min_fill c.parts d.parts z.1),

@@ -7,10 +7,10 @@ use Rattle.vo_spec.specs.Values.{key_lt}
 use Rattle.vo_spec.specs.Parts.{Part, leaf, inner, levels, levels_in, Family}
 use Rattle.vo_spec.specs.Inserts.{Insertion, one, two, has_key, put_entry, split_leaf, grow, root_of}
 use Rattle.btree.specs.declared.siblings.Siblings.{Siblings}
-use Rattle.btree.specs.Nodes.{Kid, parts_from, new_kid, IsInsertion}
-use Rattle.btree.specs.Placing.{splice, split, node_of}
+use Rattle.btree.specs.Nodes.{Kid, parts_from, new_kid, AreSiblings}
+use Rattle.btree.specs.Splices.{splice, split, node_of}
 use Rattle.btree.specs.Shapes.{size_of, IsLinked, IsShaped, AreShaped}
-use Rattle.btree.proofs.Listed.{child_falls, child_shaped, kid_at, map_put}
+use Rattle.btree.proofs.ChildLists.{child_falls, child_shaped, kid_at, map_put}
 use Rattle.btree.proofs.Splits.{placed}
 
 module _ {F E M : Type 0} (family : Family E M) (key : F → List ℕ) (entry : F → E) (keyed : (f : F) → key f ≡ family.key (entry f)) where
@@ -82,10 +82,10 @@ module _ {E M : Type 0} (family : Family E M) where
 
   -- the root that is made of one node or of two
   module _ {K N : Type 0} (key : K → List ℕ) (kid : N → Kid E M) where
-    pub root_one : (s : Siblings K N) (n : N) (g : Insertion E M) → s.nodes.items ≡ n ∷ [] → IsInsertion family key kid s g → (kid n).1 ≡ root_of family g
+    pub root_one : (s : Siblings K N) (n : N) (g : Insertion E M) → s.nodes.items ≡ n ∷ [] → AreSiblings family key kid s g → (kid n).1 ≡ root_of family g
     root_one s n (one t) is insertion = let e : kid n ∷ [] ≡ new_kid family t ∷ [] = sym (ap (map kid) is) ∙ insertion.nodes in ap (λ (ks : List (Kid E M)). (get_or ks 0 (kid n)).1) e
     root_one s n (two left k right) is insertion = let e : kid n ∷ [] ≡ new_kid family left ∷ new_kid family right ∷ [] = sym (ap (map kid) is) ∙ insertion.nodes in absurd (omega (arith, ap length e))
 
-    pub root_two : (s : Siblings K N) (n : N) (g : Insertion E M) → (length s.nodes.items ≡ 1 → ⊥) → kid n ≡ new_kid family (inner (map key s.separators.items) (parts_from (map kid s.nodes.items))) → IsInsertion family key kid s g → (kid n).1 ≡ root_of family g
+    pub root_two : (s : Siblings K N) (n : N) (g : Insertion E M) → (length s.nodes.items ≡ 1 → ⊥) → kid n ≡ new_kid family (inner (map key s.separators.items) (parts_from (map kid s.nodes.items))) → AreSiblings family key kid s g → (kid n).1 ≡ root_of family g
     root_two s n (one t) more is insertion = absurd (more (omega (arith, ap length insertion.nodes, length-map s.nodes.items kid)))
     root_two s n (two left k right) more is insertion = ap (λ (x : Kid E M). x.1) is ∙ rw (insertion.keys, insertion.nodes) refl

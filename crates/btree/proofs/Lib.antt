@@ -1,5 +1,5 @@
 pub mod AgreeingResults
-pub mod Answered
+pub mod OkAnswers
 pub mod Descents
 pub mod Divisions
 pub mod FirstEntries
@@ -9,7 +9,7 @@ pub mod InsertLimits
 pub mod InsertPrunes
 pub mod InsertedEntries
 pub mod Insertions
-pub mod Listed
+pub mod ChildLists
 pub mod Merges
 pub mod OkResults
 pub mod Positions

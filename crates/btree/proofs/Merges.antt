@@ -7,7 +7,7 @@ use Rattle.vo_spec.specs.Fits.{max_fill}
 use Rattle.vo_spec.specs.Inserts.{min_fill, result_map, Insertion, one, two, first_key, take_parts, drop_parts}
 use Rattle.vo_spec.specs.Removes.{joined_parts, with_left, with_right}
 use Rattle.btree.specs.Nodes.{Kid, parts_from}
-use Rattle.btree.specs.Placing.{merge_nodes, divide_at, CanDivide, divide_merged}
+use Rattle.btree.specs.Splices.{merge_nodes, divide_at, CanDivide, divide_merged}
 use Rattle.btree.specs.Shapes.{size_of, IsLinked, IsWithin, IsShaped}
 
 -- Lists of entries, separators and children.

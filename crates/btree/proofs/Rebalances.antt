@@ -13,7 +13,7 @@ use Rattle.vo_spec.specs.Removes.{is_underfull, with_left, with_right, settled_r
 use Rattle.btree.specs.declared.node.Contents.{Contents}
 use Rattle.btree.specs.declared.node.Contents.TheVariants.{Leaf, Inner}
 use Rattle.btree.specs.Nodes.{Kid, parts_from, new_kid, contents_of}
-use Rattle.btree.specs.Placing.{merge_nodes, open_node, divide_merged, splice, rebalance_with_sibling, rebalance_at, node_of}
+use Rattle.btree.specs.Splices.{merge_nodes, open_node, divide_merged, splice, rebalance_with_sibling, rebalance_at, node_of}
 use Rattle.btree.specs.Shapes.{size_of, IsLinked, IsWithin}
 use Rattle.btree.proofs.Merges.{merge_parts_from, with_left_joined, with_right_joined}
 use Rattle.btree.proofs.Splits.{placed}

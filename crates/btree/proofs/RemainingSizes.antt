@@ -11,11 +11,11 @@ use Rattle.vo_spec.specs.Parts.{Part, Parts, stub, leaf, inner, none, more, Fami
 use Rattle.vo_spec.specs.Inserts.{min_fill, result_map, has_key, one, two, Children, after_child, put_insertion}
 use Rattle.vo_spec.specs.Removes.{is_underfull, without_entry, with_left, with_right, settle_first, settle_next, shrink, shrink_in, shrink_after}
 use Rattle.btree.specs.Nodes.{Kid, parts_from}
-use Rattle.btree.specs.Placing.{node_of}
+use Rattle.btree.specs.Splices.{node_of}
 use Rattle.btree.specs.Shapes.{size_of}
 use Rattle.btree.specs.Steps.{sibling_of, count_of_merged, size_if_alike, count_rebalanced, count_remaining, is_underfull_count, remaining_by, opens_sibling_by}
 use Rattle.btree.proofs.OkResults.{map_map}
-use Rattle.btree.proofs.Listed.{count_parts, kid_at}
+use Rattle.btree.proofs.ChildLists.{count_parts, kid_at}
 
 -- children without what their parent holds beside them
 abbrev pub trees_of : {E M : Type 0} → List (Kid E M) → List (Part E M)

@@ -8,7 +8,7 @@ use Rattle.vo_spec.specs.Parts.{Part, inner, Family}
 use Rattle.vo_spec.specs.Inserts.{Insertion, one, two, result_map, after_child, put_insertion}
 use Rattle.vo_spec.specs.Removes.{is_underfull, with_left, with_right, settle_first, settle_next, shrink, shrink_in, shrink_after}
 use Rattle.btree.specs.Nodes.{Kid, parts_from}
-use Rattle.btree.specs.Placing.{node_of, splice, rebalance_with_sibling, rebalance_at}
+use Rattle.btree.specs.Splices.{node_of, splice, rebalance_with_sibling, rebalance_at}
 use Rattle.btree.proofs.OkResults.{map_map}
 use Rattle.btree.proofs.Descents.{map_same, spliced_next}
 

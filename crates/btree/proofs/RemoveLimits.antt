@@ -10,7 +10,7 @@ use Rattle.vo_spec.specs.Parts.{Part, Parts, stub, leaf, inner, none, more, Fami
 use Rattle.vo_spec.specs.Fits.{FitsKey, FitsBy, FitsEach}
 use Rattle.vo_spec.specs.Inserts.{Insertion, one, two, Children, result_map, take_parts, drop_parts, after_child, first_key, has_key, put_insertion}
 use Rattle.vo_spec.specs.Removes.{joined_parts, is_underfull, settled_root, without_entry, with_left, with_right, settle_first, settle_next, shrink, shrink_in, shrink_after, removed_by}
-use Rattle.btree.specs.Placing.{node_of}
+use Rattle.btree.specs.Splices.{node_of}
 use Rattle.btree.proofs.OkResults.{ok_same, map_ok, then_ok, cond_ok}
 use Rattle.btree.proofs.InsertLimits.{FitsInsertion, first_fits, take_count, drop_count, take_fits, drop_fits}
 

@@ -5,7 +5,7 @@ use Rattle.vo_spec.specs.declared.trees.UpdateFault.TheVariants.{NoRow}
 use Rattle.vo_spec.specs.Parts.{Part, Parts, stub, leaf, inner, none, more, Family, count, PrunesBy, PrunesEach}
 use Rattle.vo_spec.specs.Inserts.{Insertion, one, two, Children, result_map, goes_here, take_parts, drop_parts, after_child, has_key, first_key, put_insertion}
 use Rattle.vo_spec.specs.Removes.{joined_parts, is_underfull, settled_root, without_entry, with_left, with_right, settle_first, settle_next, shrink, shrink_in, shrink_after, removed_by}
-use Rattle.btree.specs.Agreeing.{AgreesWithTree}
+use Rattle.btree.specs.Agreement.{AgreesWithTree}
 use Rattle.btree.specs.Pruning.{KeepsKeys, KeepsAnnotations}
 use Rattle.btree.specs.Pruning as pruning
 use Rattle.btree.proofs.AgreeingResults.{agrees_map, agrees_then, agrees_cond}

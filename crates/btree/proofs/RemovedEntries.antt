@@ -6,7 +6,7 @@ use Rattle.vo_spec.specs.declared.trees.UpdateFault.TheVariants.{NoRow}
 use Rattle.vo_spec.specs.Parts.{Part, Parts, stub, leaf, inner, none, more, Family, count, entries, entries_in}
 use Rattle.vo_spec.specs.Inserts.{min_fill, Insertion, one, two, Children, has_key, first_key, take_parts, drop_parts, after_child, put_insertion}
 use Rattle.vo_spec.specs.Removes.{joined_parts, is_underfull, settled_root, without_entry, with_left, with_right, settle_first, settle_next, shrink, shrink_in, shrink_after, removed_by}
-use Rattle.btree.specs.Placing.{node_of}
+use Rattle.btree.specs.Splices.{node_of}
 use Rattle.btree.proofs.OkResults.{ok_same, map_ok, then_ok, cond_ok}
 use Rattle.btree.proofs.InsertedEntries.{Puts, entries_of, after_others, before_others, take_drop_parts, put_insertion_entries, puts_count, all_fixed, fixed_all}
 

@@ -5,7 +5,7 @@ use Rattle.vo_spec.specs.declared.trees.UpdateFault.{UpdateFault}
 use Rattle.vo_spec.specs.Parts.{Part, Parts, stub, leaf, inner, none, more, Family, PrunesBy, PrunesEach}
 use Rattle.vo_spec.specs.Inserts.{result_map, goes_here}
 use Rattle.vo_spec.specs.Removes.{edit_entry, edited_by, edited_in}
-use Rattle.btree.specs.Agreeing.{AgreesWithTree}
+use Rattle.btree.specs.Agreement.{AgreesWithTree}
 use Rattle.btree.specs.Pruning.{KeepsKeys, KeepsAnnotations}
 use Rattle.btree.specs.Pruning as pruning
 use Rattle.btree.proofs.AgreeingResults.{agrees_map, agrees_cond, agrees_weaker}

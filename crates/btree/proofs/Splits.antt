@@ -5,9 +5,9 @@ use Rattle.std.proofs.lemmas.Bool.Decides.{nat_tests}
 use Rattle.vo_spec.specs.Parts.{Part, stub, leaf, inner, count, Family}
 use Rattle.vo_spec.specs.Inserts.{Insertion, one, two, Children}
 use Rattle.btree.specs.Nodes.{Kid, kids_of, keys_of}
-use Rattle.btree.specs.Placing.{splice, split, divide_at, CanDivide}
+use Rattle.btree.specs.Splices.{splice, split, divide_at, CanDivide}
 use Rattle.btree.specs.Shapes.{size_of, IsLinked, IsWithin}
-use Rattle.btree.proofs.Listed.{count_parts}
+use Rattle.btree.proofs.ChildLists.{count_parts}
 
 above : (n : ℕ) → 16 < n → nat_le n 16 ≡ false
 above n h = grind (arith, nat_tests)

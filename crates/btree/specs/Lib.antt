@@ -1,8 +1,8 @@
-pub mod Agreeing
+pub mod Agreement
 pub mod Answers
-pub mod Finding
+pub mod Lookup
 pub mod Nodes
-pub mod Placing
+pub mod Splices
 pub mod Pruning
 pub mod Shapes
 pub mod Steps

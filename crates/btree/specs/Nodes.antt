@@ -55,7 +55,7 @@ pub record HasNodes {K N : Type 0} (siblings : Siblings K N) (separators : List 
   pub are : siblings.nodes.items ≡ nodes
 
 -- one node, or two with the separator between them, as they are seen
-pub record IsInsertion {K N E M : Type 0} (family : Family E M) (key : K → List ℕ)
+pub record AreSiblings {K N E M : Type 0} (family : Family E M) (key : K → List ℕ)
     (kid : N → Kid E M) (siblings : Siblings K N) (insertion : Insertion E M) : Type 0 where
   pub keys : map key siblings.separators.items ≡ keys_of insertion
   pub nodes : map kid siblings.nodes.items ≡ kids_of family insertion

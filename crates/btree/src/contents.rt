@@ -2,8 +2,8 @@
 //! places.
 ghost use Rattle.std.specs.Prelude.{◌≡◌, ◌≤◌, ◌<◌, length, map, IfOk};
 ghost use Rattle.vo_spec.specs.Inserts.{Insertion};
-ghost use Rattle.btree.specs.Nodes.{contents_of, IsInsertion};
-ghost use Rattle.btree.specs.Placing.{node_of, splice};
+ghost use Rattle.btree.specs.Nodes.{contents_of, AreSiblings};
+ghost use Rattle.btree.specs.Splices.{node_of, splice};
 ghost use Rattle.btree.specs.Shapes.{size_of};
 
 use crate::lists::replace_range;
@@ -35,7 +35,7 @@ pub fn put_siblings<N: TreeNode>(
     requires keys { to ≤ length separators.now }
     requires children { to < length children.now }
     ensures { IfOk result (λ contents. (insertion : Insertion N.Plain N.Annotation)
-        → IsInsertion N.family N.Key.key N.kid siblings insertion
+        → AreSiblings N.family N.Key.key N.kid siblings insertion
         → contents_of N.Key.key N.entry N.kid contents
         ≡ node_of (splice N.family from to (map N.Key.key separators.now)
         (map N.kid children.now) insertion)) }

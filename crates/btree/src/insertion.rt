@@ -4,12 +4,12 @@ ghost use Rattle.vo_spec.specs.Parts.{leaf, inner};
 ghost use Rattle.vo_spec.specs.Fits.{max_fill};
 ghost use Rattle.vo_spec.specs.Inserts.{Insertion, grow, inserted_by, root_of as root_of_insertion};
 ghost use Rattle.btree.specs.Answers.{Answers};
-ghost use Rattle.btree.specs.Nodes.{parts_from, IsInsertion};
+ghost use Rattle.btree.specs.Nodes.{parts_from, AreSiblings};
 ghost use Rattle.btree.specs.Shapes.{IsShaped, AreShaped};
 
 use crate::contents::put_siblings;
-use crate::keyed::{Keyed, has_key, position_above};
-use crate::lists::{only, with_item};
+use crate::keyed_item::{KeyedItem, has_key, position_above};
+use crate::lists::{single_item, with_item};
 use crate::node::{Contents, NodeView, TreeNode};
 use crate::siblings::Siblings;
 use crate::split::split;
@@ -36,7 +36,7 @@ fn insert_below<N: TreeNode>(
     entry: N::Entry,
 ) -> Result<Siblings<N::Key, N>, UpdateFault>
     requires { IsShaped (N.seen tree.now) }
-    ensures { Answers (IsInsertion N.family N.Key.key N.kid) result
+    ensures { Answers (AreSiblings N.family N.Key.key N.kid) result
         (grow N.family (N.entry entry) (N.seen tree.now)) }
 {
     match N::open(tree) {
@@ -55,7 +55,7 @@ fn insert_in_leaf<N: TreeNode>(
     entry: N::Entry,
 ) -> Result<Siblings<N::Key, N>, UpdateFault>
     requires { length entries.now ≤ max_fill }
-    ensures { Answers (IsInsertion N.family N.Key.key N.kid) result
+    ensures { Answers (AreSiblings N.family N.Key.key N.kid) result
         (grow N.family (N.entry entry) (leaf (map N.entry entries.now))) }
 {
     if has_key(entries, entry.key_bytes()) {
@@ -77,7 +77,7 @@ fn insert_in_child<N: TreeNode>(
     requires most { length children.now ≤ max_fill }
     requires between { length separators.now + 1 ≡ length children.now }
     requires shaped { AreShaped (parts_from (map N.kid children.now)) }
-    ensures { Answers (IsInsertion N.family N.Key.key N.kid) result
+    ensures { Answers (AreSiblings N.family N.Key.key N.kid) result
         (grow N.family (N.entry entry)
         (inner (map N.Key.key separators.now) (parts_from (map N.kid children.now)))) }
 {
@@ -97,11 +97,11 @@ fn root_of<N: TreeNode>(alloc: Global, siblings: Siblings<N::Key, N>) -> Result<
     requires most { length siblings.nodes.items ≤ 2 }
     requires between { length siblings.separators.items + 1 ≡ length siblings.nodes.items }
     ensures { IfOk result (λ root. (insertion : Insertion N.Plain N.Annotation)
-        → IsInsertion N.family N.Key.key N.kid siblings insertion
+        → AreSiblings N.family N.Key.key N.kid siblings insertion
         → (N.kid root).1 ≡ root_of_insertion N.family insertion) }
 {
     if siblings.nodes.len() == 1 {
-        return Ok(only(siblings.nodes));
+        return Ok(single_item(siblings.nodes));
     }
     N::close(
         alloc,

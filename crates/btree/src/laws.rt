@@ -4,7 +4,7 @@ ghost use Rattle.vo_spec.specs.declared.trees.UpdateFault.{UpdateFault};
 ghost use Rattle.vo_spec.specs.Parts.{Part, Family, PrunesBy};
 ghost use Rattle.vo_spec.specs.Inserts.{inserted_by};
 ghost use Rattle.vo_spec.specs.Removes.{removed_by, edited_by};
-ghost use Rattle.btree.specs.Agreeing.{AgreesWithTree};
+ghost use Rattle.btree.specs.Agreement.{AgreesWithTree};
 ghost use Rattle.btree.specs.Pruning.{KeepsKeys, KeepsAnnotations};
 
 /// A family of trees, and what it is that one of its entries prunes another.

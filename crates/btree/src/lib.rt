@@ -4,7 +4,7 @@
 
 mod contents;
 mod insertion;
-mod keyed;
+mod keyed_item;
 mod laws;
 mod limits;
 mod lists;
@@ -21,7 +21,7 @@ mod steps;
 mod try_clone;
 
 pub use insertion::insert;
-pub use keyed::{Keyed, has_key, position_above, position_of};
+pub use keyed_item::{KeyedItem, has_key, position_above, position_of};
 pub use laws::{PruningFamily, insertions_agree, removals_agree, replacements_agree};
 pub use limits::{MAX_FILL, MIN_FILL};
 pub use node::{Contents, NodeView, TreeNode};

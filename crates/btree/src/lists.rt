@@ -73,7 +73,7 @@ pub fn append<T: Drop>(first: Vec<T>, second: Vec<T>) -> Result<Vec<T>, AllocErr
 }
 
 /// The item of a list of one.
-pub fn only<T: Drop>(items: Vec<T>) -> T
+pub fn single_item<T: Drop>(items: Vec<T>) -> T
     requires { length items.items ≡ 1 }
     ensures { items.items ≡ result ∷ [] }
 {

@@ -3,7 +3,7 @@ ghost use Rattle.std.specs.Prelude.{◌≡◌, ◌∷◌, ◌++◌, map, IfOk};
 ghost use Rattle.vo_spec.specs.Parts.{stub};
 ghost use Rattle.btree.specs.Answers.{Answers};
 ghost use Rattle.btree.specs.Nodes.{contents_of, IsContents};
-ghost use Rattle.btree.specs.Placing.{merge_nodes, open_node};
+ghost use Rattle.btree.specs.Splices.{merge_nodes, open_node};
 
 use crate::lists::append;
 use crate::node::{Contents, NodeView, TreeNode};

@@ -4,7 +4,7 @@ ghost use Rattle.vo_spec.specs.Parts.{Part, Family};
 ghost use Rattle.btree.specs.Nodes.{Kid, view_of, contents_of, new_kid};
 ghost use Rattle.btree.specs.Shapes.{IsWithin};
 
-use crate::keyed::Keyed;
+use crate::keyed_item::KeyedItem;
 use crate::try_clone::TryClone;
 use std::alloc::{AllocError, Global};
 use vo_spec::Digest;
@@ -37,10 +37,10 @@ pub trait TreeNode: TryClone + Sized + Drop {
     type Tree;
 
     /// A separator.
-    type Key: TryClone + Keyed + Drop;
+    type Key: TryClone + KeyedItem + Drop;
 
     /// An entry of a leaf.
-    type Entry: TryClone + Keyed + Drop;
+    type Entry: TryClone + KeyedItem + Drop;
 
     ghost Plain: { Type 0 };
 

@@ -4,8 +4,8 @@ ghost use Rattle.vo_spec.specs.Fits.{max_fill};
 ghost use Rattle.vo_spec.specs.Inserts.{min_fill, result_map};
 ghost use Rattle.vo_spec.specs.Removes.{with_left as even_with_left, with_right as even_with_right};
 ghost use Rattle.btree.specs.Answers.{Answers};
-ghost use Rattle.btree.specs.Nodes.{parts_from, contents_of, IsContents, IsInsertion};
-ghost use Rattle.btree.specs.Placing.{node_of, rebalance_at, rebalance_with_sibling, divide_merged, CanDivide};
+ghost use Rattle.btree.specs.Nodes.{parts_from, contents_of, IsContents, AreSiblings};
+ghost use Rattle.btree.specs.Splices.{node_of, rebalance_at, rebalance_with_sibling, divide_merged, CanDivide};
 ghost use Rattle.btree.specs.Shapes.{size_of, IsShaped, AreShaped, IsLinked, IsWithin};
 
 use crate::contents::{fill_of, put_siblings};
@@ -14,6 +14,7 @@ use crate::merge::{clone_contents, merge};
 use crate::node::{Contents, TreeNode};
 use crate::siblings::Siblings;
 use crate::split::divide;
+use crate::steps::sibling_of;
 use std::alloc::{AllocError, Global};
 use vo_spec::UpdateFault;
 
@@ -40,10 +41,11 @@ pub fn rebalance<N: TreeNode>(
     if fill_of::<N>(&child) >= MIN_FILL {
         return Ok(put_child(alloc, separators, children, place, child)?);
     }
-    if place == 0 {
+    let sibling = sibling_of(place);
+    if sibling > place {
         return rebalance_first(alloc, separators, children, child);
     }
-    rebalance_next(alloc, separators, children, place - 1, child)
+    rebalance_next(alloc, separators, children, sibling, child)
 }
 
 /// The node with one of these contents in the place of the child of this number.
@@ -132,7 +134,7 @@ fn rebalance_with_left<N: TreeNode>(
     requires shaped { IsShaped (N.seen left.now) }
     requires loose { IsWithin 1 (contents_of N.Key.key N.entry N.kid node) }
     requires underfull { size_of (contents_of N.Key.key N.entry N.kid node) < min_fill }
-    ensures { Answers (IsInsertion N.family N.Key.key N.kid) result
+    ensures { Answers (AreSiblings N.family N.Key.key N.kid) result
         (even_with_left N.family (N.seen left.now) (N.Key.key separator.now)
         (contents_of N.Key.key N.entry N.kid node)) }
 {
@@ -152,7 +154,7 @@ fn rebalance_with_right<N: TreeNode>(
     requires shaped { IsShaped (N.seen right.now) }
     requires loose { IsWithin 1 (contents_of N.Key.key N.entry N.kid node) }
     requires underfull { size_of (contents_of N.Key.key N.entry N.kid node) < min_fill }
-    ensures { Answers (IsInsertion N.family N.Key.key N.kid) result
+    ensures { Answers (AreSiblings N.family N.Key.key N.kid) result
         (even_with_right N.family (contents_of N.Key.key N.entry N.kid node)
         (N.Key.key separator.now) (N.seen right.now)) }
 {
@@ -177,7 +179,7 @@ fn divide_where_more<N: TreeNode>(
     requires first { at ≤ max_fill }
     requires last { size_of (contents_of N.Key.key N.entry N.kid all) ≤ at + max_fill }
     ensures { IfOk result (λ siblings.
-        IsInsertion N.family N.Key.key N.kid siblings
+        AreSiblings N.family N.Key.key N.kid siblings
         (divide_merged N.family sibling at (contents_of N.Key.key N.entry N.kid all))) }
 {
     if sibling <= MIN_FILL {

@@ -7,8 +7,8 @@ ghost use Rattle.btree.specs.Answers.{Answers};
 ghost use Rattle.btree.specs.Nodes.{parts_from, contents_of, IsContents};
 ghost use Rattle.btree.specs.Shapes.{IsShaped, AreShaped, IsWithin};
 
-use crate::keyed::{position_above, position_of};
-use crate::lists::{only, replace_range};
+use crate::keyed_item::{position_above, position_of};
+use crate::lists::{replace_range, single_item};
 use crate::node::{Contents, NodeView, TreeNode};
 use crate::rebalance::rebalance;
 use std::alloc::{AllocError, Global};
@@ -124,7 +124,7 @@ fn root_of_inner<N: TreeNode>(
         (parts_from (map N.kid children.items)))) }
 {
     if children.len() == 1 {
-        return Ok(only(children));
+        return Ok(single_item(children));
     }
     N::close(
         alloc,

@@ -7,7 +7,7 @@ ghost use Rattle.btree.specs.Answers.{Answers};
 ghost use Rattle.btree.specs.Nodes.{parts_from, IsNewKid};
 ghost use Rattle.btree.specs.Shapes.{IsShaped, AreShaped};
 
-use crate::keyed::{position_above, position_of};
+use crate::keyed_item::{position_above, position_of};
 use crate::lists::with_item;
 use crate::node::{Contents, NodeView, TreeNode};
 use crate::try_clone::try_clone_all;

@@ -1,7 +1,7 @@
 //! Entries of parts of trees of rows, once more: the copies own their keys and values.
 ghost use Rattle.std.specs.Prelude.{◌≡◌, IfOk};
 
-use crate::keyed::Keyed;
+use crate::keyed_item::KeyedItem;
 use crate::try_clone::{TryClone, try_clone_all};
 use std::alloc::{AllocError, Global};
 use vo_spec::{Cell, CellValue, Key, KeyPart, List, PartEntry, RowPart};
@@ -44,7 +44,7 @@ impl TryClone for PartEntry<'_> {
     }
 }
 
-impl Keyed for KeyPart<'_> {
+impl KeyedItem for KeyPart<'_> {
     ghost key = { λ separator. separator };
 
     fn key_bytes(&self) -> &[u8] {
@@ -52,7 +52,7 @@ impl Keyed for KeyPart<'_> {
     }
 }
 
-impl Keyed for PartEntry<'_> {
+impl KeyedItem for PartEntry<'_> {
     ghost key = { λ entry. entry.key };
 
     fn key_bytes(&self) -> &[u8] {

@@ -3,11 +3,11 @@ ghost use Rattle.std.specs.Prelude.{◌≡◌, ◌≤◌, ◌+◌, length, map};
 ghost use Rattle.vo_spec.specs.Parts.{leaf, inner};
 ghost use Rattle.vo_spec.specs.Fits.{max_fill};
 ghost use Rattle.btree.specs.Answers.{Answers};
-ghost use Rattle.btree.specs.Finding.{found};
+ghost use Rattle.btree.specs.Lookup.{found};
 ghost use Rattle.btree.specs.Nodes.{parts_from};
 ghost use Rattle.btree.specs.Shapes.{IsShaped, AreShaped};
 
-use crate::keyed::{position_above, position_of};
+use crate::keyed_item::{position_above, position_of};
 use crate::node::{NodeView, TreeNode};
 use vo_spec::UpdateFault;
 

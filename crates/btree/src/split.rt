@@ -2,8 +2,8 @@
 ghost use Rattle.std.specs.Prelude.{◌≡◌, ◌≤◌, ◌<◌, ◌+◌, length, map, IfOk};
 ghost use Rattle.vo_spec.specs.Parts.{leaf, inner};
 ghost use Rattle.vo_spec.specs.Fits.{max_fill};
-ghost use Rattle.btree.specs.Nodes.{contents_of, parts_from, new_kid, IsInsertion};
-ghost use Rattle.btree.specs.Placing.{split as split_of, divide_at, CanDivide, AreCut};
+ghost use Rattle.btree.specs.Nodes.{contents_of, parts_from, new_kid, AreSiblings};
+ghost use Rattle.btree.specs.Splices.{split as split_of, divide_at, CanDivide, AreDivided};
 ghost use Rattle.btree.specs.Shapes.{size_of, IsLinked};
 
 use crate::contents::fill_of;
@@ -20,7 +20,7 @@ pub fn split<N: TreeNode>(
     requires linked { IsLinked 2 (contents_of N.Key.key N.entry N.kid contents) }
     requires most { size_of (contents_of N.Key.key N.entry N.kid contents) ≤ max_fill + 1 }
     ensures { IfOk result (λ siblings.
-        IsInsertion N.family N.Key.key N.kid siblings
+        AreSiblings N.family N.Key.key N.kid siblings
         (split_of N.family (contents_of N.Key.key N.entry N.kid contents))) }
 {
     if fill_of::<N>(&contents) <= MAX_FILL {
@@ -40,7 +40,7 @@ pub fn divide<N: TreeNode>(
     requires first { at ≤ max_fill }
     requires last { size_of (contents_of N.Key.key N.entry N.kid contents) ≤ at + max_fill }
     ensures { IfOk result (λ siblings.
-        IsInsertion N.family N.Key.key N.kid siblings
+        AreSiblings N.family N.Key.key N.kid siblings
         (divide_at N.family at (contents_of N.Key.key N.entry N.kid contents))) }
 {
     match contents {
@@ -61,7 +61,7 @@ fn divide_leaf<N: TreeNode>(
     requires first { at ≤ max_fill }
     requires last { length entries.items ≤ at + max_fill }
     ensures { IfOk result (λ siblings.
-        IsInsertion N.family N.Key.key N.kid siblings
+        AreSiblings N.family N.Key.key N.kid siblings
         (divide_at N.family at (leaf (map N.entry entries.items)))) }
 {
     let mut left = entries;
@@ -83,14 +83,14 @@ fn divide_inner<N: TreeNode>(
     requires first { at ≤ max_fill }
     requires last { length children.items ≤ at + max_fill }
     requires between { length separators.items + 1 ≡ length children.items }
-    ensures { IfOk result (λ siblings. IsInsertion N.family N.Key.key N.kid siblings
+    ensures { IfOk result (λ siblings. AreSiblings N.family N.Key.key N.kid siblings
         (divide_at N.family at (inner (map N.Key.key separators.items)
         (parts_from (map N.kid children.items))))) }
 {
-    let halves = cut(separators, children, at)?;
-    let left = close_inner(alloc, halves.before, halves.left)?;
-    let right = close_inner(alloc, halves.after, halves.right)?;
-    Siblings::two(alloc, left, halves.separator, right)
+    let division = divide_lists(separators, children, at)?;
+    let left = close_inner(alloc, division.before, division.left)?;
+    let right = close_inner(alloc, division.after, division.right)?;
+    Siblings::two(alloc, left, division.separator, right)
 }
 
 fn close_inner<N: TreeNode>(
@@ -116,7 +116,7 @@ fn close_inner<N: TreeNode>(
 
 /// What goes left, the separator between, and what goes right.
 #[derive(Drop)]
-pub struct Halves<K, N> {
+pub struct Division<K, N> {
     pub before: Vec<K>,
     pub left: Vec<N>,
     pub separator: K,
@@ -125,22 +125,22 @@ pub struct Halves<K, N> {
 }
 
 /// So many of the children go left, and as many separators, of which the last goes between.
-fn cut<K: Drop, N: Drop>(
+fn divide_lists<K: Drop, N: Drop>(
     separators: Vec<K>,
     children: Vec<N>,
     at: usize,
-) -> Result<Halves<K, N>, AllocError>
+) -> Result<Division<K, N>, AllocError>
     requires some { 0 < at }
     requires keys { at ≤ length separators.items }
     requires children { at ≤ length children.items }
-    ensures { IfOk result (λ halves. AreCut at halves separators.items children.items) }
+    ensures { IfOk result (λ division. AreDivided at division separators.items children.items) }
 {
     let mut left = children;
     let right = left.split_off(at)?;
     let mut before = separators;
     let after = before.split_off(at)?;
     match before.pop() {
-        Some(separator) => Ok(Halves {
+        Some(separator) => Ok(Division {
             before,
             left,
             separator,

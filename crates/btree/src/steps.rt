@@ -7,7 +7,7 @@ ghost use Rattle.btree.specs.Nodes.{parts_from};
 ghost use Rattle.btree.specs.Shapes.{size_of};
 ghost use Rattle.btree.specs.Steps.{sibling_of as sibling_number, size_if_alike as alike_size, count_remaining, remaining_by, opens_sibling_by};
 
-use crate::keyed::{Keyed, has_key, position_above};
+use crate::keyed_item::{KeyedItem, has_key, position_above};
 use crate::limits::MIN_FILL;
 use crate::node::{NodeView, TreeNode};
 use vo_spec::UpdateFault;
@@ -22,7 +22,7 @@ pub struct Step {
 }
 
 /// The step of a change that leaves no node underfull.
-pub fn search_step<K: Keyed>(separators: &[K], key: &[u8]) -> Step
+pub fn search_step<K: KeyedItem>(separators: &[K], key: &[u8]) -> Step
     ensures child { result.child ≡ position_or_len
         (λ separator. is_less key.now (K.key separator)) separators.now }
     ensures within { result.child ≤ length separators.now }
@@ -119,13 +119,13 @@ fn remaining_children<N: TreeNode>(
     }
     let child = children[place].tree();
     match remaining::<N>(child, key) {
-        Ok(left) => remaining_beside(children, place, child, left),
+        Ok(left) => remaining_with_sibling(children, place, child, left),
         Err(fault) => Err(fault),
     }
 }
 
 /// How many children remain when this one, of this number, has so many entries or children left.
-fn remaining_beside<N: TreeNode>(
+fn remaining_with_sibling<N: TreeNode>(
     children: &[N],
     place: usize,
     child: &N::Tree,
@@ -151,12 +151,14 @@ pub fn sibling_of(place: usize) -> usize
     ensures value { result ≡ sibling_number place }
     ensures within { result ≤ place + 1 }
     ensures before { 0 < place → result < place }
+    ensures first { place < result → place ≡ 0 }
+    ensures next { result ≤ place → place ≡ result + 1 }
 {
     if place == 0 { 1 } else { place - 1 }
 }
 
 /// How many entries or children the sibling has, if it is of the child's kind.
-#[tactic(auto, using(crate::proofs::Listed::count_parts))]
+#[tactic(auto, using(crate::proofs::ChildLists::count_parts))]
 fn size_if_alike<N: TreeNode>(child: &N::Tree, sibling: &N::Tree) -> Option<usize>
     ensures { result ≡ alike_size (N.seen child.now) (N.seen sibling.now) }
 {

@@ -2,7 +2,7 @@
 ghost use Rattle.std.specs.Prelude.{◌≡◌};
 ghost use Rattle.vo_spec.specs.Bytes.{u32_bytes as bytes_of};
 
-use btree::{Keyed, TryClone};
+use btree::{KeyedItem, TryClone};
 use std::alloc::{AllocError, Global};
 use vo_spec::u32_bytes;
 
@@ -35,7 +35,7 @@ impl TryClone for NumberKey {
     }
 }
 
-impl Keyed for NumberKey {
+impl KeyedItem for NumberKey {
     ghost key = { λ key. key.bytes };
 
     fn key_bytes(&self) -> &[u8] {
@@ -49,7 +49,7 @@ impl TryClone for Entry {
     }
 }
 
-impl Keyed for Entry {
+impl KeyedItem for Entry {
     ghost key = { λ entry. entry.key.bytes };
 
     fn key_bytes(&self) -> &[u8] {

@@ -1,6 +1,6 @@
 //! Counted trees that the work on trees grows and shrinks.
 use crate::{Entry, Node, NumberKey, Subtree};
-use btree::{Contents, Keyed, TreeNode, find, insert, remove, set};
+use btree::{Contents, KeyedItem, TreeNode, find, insert, remove, set};
 use std::alloc::{AllocError, Global};
 use std::test::Fail;
 use vo_spec::{Digest, UpdateFault};

@@ -11,7 +11,7 @@ use Rattle.vo_spec.specs.Fits.{FitsPart, FitsEach, FitsEntry}
 use Rattle.mb_tree.specs.declared.parts.PartTree.{PartTree}
 use Rattle.mb_tree.specs.View.{part_of, parts_of}
 use Rattle.mb_tree.specs.Writing.{leaf_layout, inner_layout}
-use Rattle.mb_tree.proofs.BranchLaws.{count_open_parts, child_bytes_open_parts}
+use Rattle.mb_tree.proofs.SubtreeLaws.{count_open_parts, child_bytes_open_parts}
 use Rattle.mb_tree.proofs.PartLaws.{count_parts_of, child_bytes_parts_of}
 
 pub whole_leaf : (rows : List Row) → leaf_layout (λ row. entry_bytes (whole_entry row)) rows ≡ preimage (leaf (map whole_entry rows))

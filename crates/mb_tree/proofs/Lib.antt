@@ -1,5 +1,5 @@
 pub mod PartLaws
-pub mod BranchLaws
+pub mod SubtreeLaws
 pub mod RowLaws
 pub mod NodeLaws
 pub mod OpenNodes

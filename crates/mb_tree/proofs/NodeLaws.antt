@@ -5,10 +5,10 @@ use Rattle.std.specs.declared.alloc.Global.{Global}
 use Rattle.vo_spec.specs.Parts.{inner, count}
 use Rattle.vo_spec.specs.Trees.{RowTree, open_parts}
 use Rattle.vo_spec.specs.Fits.{FitsPart, max_fill}
-use Rattle.mb_tree.specs.declared.branches.Node.{Node}
-use Rattle.mb_tree.specs.declared.branches.Node.TheVariants.{Inner}
+use Rattle.mb_tree.specs.declared.subtrees.Node.{Node}
+use Rattle.mb_tree.specs.declared.subtrees.Node.TheVariants.{Inner}
 use Rattle.mb_tree.specs.Whole.{whole_of}
-use Rattle.mb_tree.proofs.BranchLaws.{count_open_parts}
+use Rattle.mb_tree.proofs.SubtreeLaws.{count_open_parts}
 
 pub node_most : (n : Node) (t : RowTree) (ss : Vec (List ℕ) Global) (ts : Vec RowTree Global) (xs : List RowTree)
     → whole_of n ≡ t → n ≡ Inner ss ts → xs ≡ ts.items → FitsPart t → length xs ≤ max_fill

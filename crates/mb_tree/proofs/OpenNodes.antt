@@ -12,9 +12,9 @@ use Rattle.btree.specs.declared.node.Contents.{Contents}
 use Rattle.btree.specs.declared.node.Contents.TheVariants.{Inner as InnerContents}
 use Rattle.btree.specs.Nodes.{Kid, parts_from, new_kid}
 use Rattle.btree.specs.Shapes.{IsWithin}
-use Rattle.btree.proofs.Listed.{count_parts}
-use Rattle.mb_tree.specs.declared.branches.Node.{Node}
-use Rattle.mb_tree.specs.declared.branches.Node.TheVariants.{Inner}
+use Rattle.btree.proofs.ChildLists.{count_parts}
+use Rattle.mb_tree.specs.declared.subtrees.Node.{Node}
+use Rattle.mb_tree.specs.declared.subtrees.Node.TheVariants.{Inner}
 use Rattle.mb_tree.specs.declared.parts.PartTree.{PartTree}
 use Rattle.mb_tree.specs.declared.parts.PartTree.TheVariants.{Inner as InnerPart}
 use Rattle.mb_tree.specs.Whole.{whole_of, whole_kid, whole_contents}

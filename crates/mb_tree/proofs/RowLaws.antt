@@ -8,8 +8,9 @@ use Rattle.vo_spec.specs.declared.values.Row.{Row}
 use Rattle.vo_spec.specs.Cells.{whole_cells, whole_entry}
 use Rattle.vo_spec.specs.Parts.{leaf, inner, entries, entries_in, levels, levels_in}
 use Rattle.vo_spec.specs.Trees.{RowTree, open_parts}
-use Rattle.mb_tree.specs.declared.branches.Node.{Node}
-use Rattle.mb_tree.specs.declared.branches.Node.TheVariants.{Inner}
+use Rattle.mb_tree.specs.declared.subtrees.Node.{Node}
+use Rattle.mb_tree.specs.declared.subtrees.Node.TheVariants.{Inner}
+use Rattle.mb_tree.specs.Standing.{IsWhole}
 use Rattle.mb_tree.specs.Whole.{whole_of}
 use Rattle.vo_spec.specs.Standing.{Represents, shown_values, row_in, rows_in}
 
@@ -35,12 +36,15 @@ node_rows n t ss ts whole is =
     ap rows_in (sym whole) ∙ ap (λ m. rows_in (whole_of m)) is ∙ rows_in_inner ss.items ts.items
 
 -- a child has fewer levels than its parent
-pub branch_falls : (ts : List RowTree) (i : ℕ) (t : RowTree) → i < length ts → t ≡ get_or ts i t → levels t ≤ levels_in (open_parts ts)
-branch_falls [] i t lt is = absurd (omega arith)
-branch_falls (u ∷ us) zero t lt is = let e = ap (λ r. levels r) is in omega arith
-branch_falls (u ∷ us) (suc i) t lt is =
-    let h : levels t ≤ levels_in (open_parts us) = branch_falls us i t (omega arith) is in omega arith
+pub subtree_falls : (ts : List RowTree) (i : ℕ) (t : RowTree) → i < length ts → t ≡ get_or ts i t → levels t ≤ levels_in (open_parts ts)
+subtree_falls [] i t lt is = absurd (omega arith)
+subtree_falls (u ∷ us) zero t lt is = let e = ap (λ r. levels r) is in omega arith
+subtree_falls (u ∷ us) (suc i) t lt is =
+    let h : levels t ≤ levels_in (open_parts us) = subtree_falls us i t (omega arith) is in omega arith
 
 -- a leaf without entries is the tree of no rows
 pub nothing_stands : Represents (leaf []) []
 nothing_stands = record { tree = record { height = 0; shape = (refl, omega arith, omega arith, tt); rising = tt }; rows_are = refl }
+
+pub nothing_whole : IsWhole (leaf []) 0
+nothing_whole = record { tree = nothing_stands.tree; shown = refl; counted = refl }

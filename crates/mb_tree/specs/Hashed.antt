@@ -11,6 +11,6 @@ pub record IsHashed (values : List Value) (digest : List ℕ) : Type 0 where
   pub hashed : digest ≡ row_digest (whole_row values)
 
 -- a node's digest
-pub record IsBranch (hash : List ℕ) (t : RowTree) : Type 0 where
+pub record IsSubtree (hash : List ℕ) (t : RowTree) : Type 0 where
   pub fits : FitsPart t
   pub hashed : hash ≡ digest t

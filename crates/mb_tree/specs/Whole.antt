@@ -7,8 +7,8 @@ use Rattle.vo_spec.specs.Trees.{RowTree, open_parts}
 use Rattle.vo_spec.specs.declared.values.Row.{Row}
 use Rattle.btree.specs.declared.node.Contents.{Contents}
 use Rattle.btree.specs.Nodes.{Kid, contents_of}
-use Rattle.mb_tree.specs.declared.branches.Node.{Node}
-use Rattle.mb_tree.specs.declared.branches.Node.TheVariants.{Leaf, Inner}
+use Rattle.mb_tree.specs.declared.subtrees.Node.{Node}
+use Rattle.mb_tree.specs.declared.subtrees.Node.TheVariants.{Leaf, Inner}
 
 abbrev pub whole_of : Node → RowTree
 whole_of (Leaf es) = leaf (map whole_entry es.items)

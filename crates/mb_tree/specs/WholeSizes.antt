@@ -2,9 +2,9 @@
 use Rattle.std.specs.Prelude.{◌+◌, ◌≤◌, List, [], ◌∷◌}
 use Rattle.std.proofs.Common.{arith}
 use denote.Param.Weighed.{most}
-use Rattle.mb_tree.specs.declared.branches.Node.{Node}
-use Rattle.mb_tree.specs.declared.branches.Node.TheVariants.{Leaf, Inner}
-use Rattle.mb_tree.specs.declared.branches.Branch.TheDeep.{deep-Node}
+use Rattle.mb_tree.specs.declared.subtrees.Node.{Node}
+use Rattle.mb_tree.specs.declared.subtrees.Node.TheVariants.{Leaf, Inner}
+use Rattle.mb_tree.specs.declared.subtrees.Subtree.TheDeep.{deep-Node}
 use Rattle.vo_spec.specs.Parts.{levels, levels_in}
 use Rattle.vo_spec.specs.Trees.{RowTree, open_parts}
 use Rattle.mb_tree.specs.Whole.{whole_of}

@@ -1,8 +1,6 @@
 //! Merkle B-trees, whole and in part.
 #![tactic(auto)]
 
-mod branch_node;
-mod branches;
 mod entries;
 mod hashing;
 mod layout;
@@ -14,14 +12,16 @@ mod parts;
 mod preimage_writer;
 mod preimages;
 mod rows;
+mod subtree_node;
+mod subtrees;
 mod tree;
 mod tree_key;
 mod whole_items;
 
-pub use branches::{Branch, Node};
 pub use entries::{HashedCells, TreeEntry};
 pub use lending::lend_keys;
-pub use parts::{Nodes, PartTree};
+pub use parts::{Children, PartTree};
+pub use subtrees::{Node, Subtree};
 pub use tree::Tree;
 pub use tree_key::TreeKey;
 pub use vo_spec::{Agreement, KeyPart, PartEntry, ScanFault, Twins, UpdateFault};

@@ -7,7 +7,7 @@ ghost use Rattle.btree.specs.Shapes.{IsWithin};
 ghost use Rattle.mb_tree.specs.declared.parts.PartTree.TheVariants.{Leaf, Inner};
 ghost use Rattle.mb_tree.specs.View.{part_of, parts_of, part_contents, part_kid};
 
-use crate::parts::{Nodes, PartTree};
+use crate::parts::{Children, PartTree};
 use btree::{Contents, NodeView, TreeNode, TryClone, try_clone_all};
 use std::alloc::{AllocError, Global};
 use vo_spec::{KeyPart, List, PartEntry};
@@ -46,7 +46,7 @@ fn clone_leaf<'b>(alloc: Global, entries: &[PartEntry<'b>]) -> Result<PartTree<'
 fn inner_with<'b>(
     alloc: Global,
     separators: &[KeyPart<'b>],
-    children: Nodes<'b>,
+    children: Children<'b>,
 ) -> Result<PartTree<'b>, AllocError>
     ensures { IfOk result (λ node. node ≡ Inner separators.now children.entry) }
 {
@@ -58,14 +58,14 @@ fn inner_with<'b>(
 }
 
 #[cycle(clone_tree)]
-fn clone_children<'b>(alloc: Global, children: &[PartTree<'b>]) -> Result<Nodes<'b>, AllocError>
+fn clone_children<'b>(alloc: Global, children: &[PartTree<'b>]) -> Result<Children<'b>, AllocError>
     ensures { IfOk result (λ copies. copies ≡ parts_of children.now) }
 {
     let mut copies = Vec::with_capacity(alloc, children.len())?;
     for child in children {
         copies.push(clone_tree(alloc, child)?)?;
     }
-    Ok(Nodes::from_vec(copies))
+    Ok(Children::from_vec(copies))
 }
 
 impl<'b> TreeNode for PartTree<'b> {
@@ -120,7 +120,7 @@ impl<'b> TreeNode for PartTree<'b> {
                 children,
             } => Ok(PartTree::Inner {
                 separators: List::from_vec(separators),
-                children: Nodes::from_vec(children),
+                children: Children::from_vec(children),
             }),
         }
     }

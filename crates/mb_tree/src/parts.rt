@@ -14,18 +14,18 @@ pub enum PartTree<'b> {
     Leaf(List<PartEntry<'b>>),
     Inner {
         separators: List<KeyPart<'b>>,
-        children: Nodes<'b>,
+        children: Children<'b>,
     },
 }
 
 /// The children of a node, which contracts see as parts of trees.
 #[cycle(part)]
 #[derive(Drop)]
-pub struct Nodes<'b> {
+pub struct Children<'b> {
     items: Vec<PartTree<'b>>,
 }
 
-impl<'b> Model for Nodes<'b> {
+impl<'b> Model for Children<'b> {
     ghost use Rattle.vo_spec.specs.Trees.{RowTrees};
     ghost use Rattle.mb_tree.specs.Codes.{coded_trees};
 
@@ -36,21 +36,21 @@ impl<'b> Model for Nodes<'b> {
     ghost use Rattle.vo_spec.specs.Parts.{levels_in};
     ghost use Rattle.mb_tree.specs.View.{parts_of};
 
-    ghost view = { λ nodes. parts_of nodes.items.items };
+    ghost view = { λ children. parts_of children.items.items };
 
     ghost size = { levels_in };
 
     ghost use Rattle.std.proofs.Common.{arith};
-    ghost use Rattle.mb_tree.specs.Sizes.{nodes_fall};
+    ghost use Rattle.mb_tree.specs.Sizes.{children_fall};
 
-    ghost size_decreases = { λ nodes h. omega (arith, nodes_fall nodes.items.items) };
+    ghost size_decreases = { λ children h. omega (arith, children_fall children.items.items) };
 }
 
-impl<'b> Nodes<'b> {
-    pub fn from_vec(items: Vec<PartTree<'b>>) -> Nodes<'b>
+impl<'b> Children<'b> {
+    pub fn from_vec(items: Vec<PartTree<'b>>) -> Children<'b>
         ensures { result ≡ parts_of items.entry.items }
     {
-        Nodes { items }
+        Children { items }
     }
 
     pub fn as_slice(&self) -> &[PartTree<'b>]

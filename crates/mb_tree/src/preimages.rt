@@ -5,9 +5,9 @@ ghost use Rattle.vo_spec.specs.Fits.{FitsPart, max_fill};
 ghost use Rattle.mb_tree.specs.View.{part_of};
 ghost use Rattle.mb_tree.specs.Writing.{leaf_layout, inner_layout};
 
-use crate::branches::{Branch, Node};
 use crate::layout::{NodeItem, write_inner, write_leaf};
 use crate::parts::PartTree;
+use crate::subtrees::{Node, Subtree};
 use std::alloc::{AllocError, Global};
 
 impl PartTree<'_> {
@@ -28,8 +28,8 @@ impl PartTree<'_> {
     }
 }
 
-impl Branch {
-    /// The bytes whose digest is that of the branch.
+impl Subtree {
+    /// The bytes whose digest is that of the subtree.
     #[tactic(auto, using(crate::proofs::Layouts::whole_leaf, crate::proofs::Layouts::whole_inner))]
     pub fn preimage(&self, alloc: Global) -> Result<Vec<u8>, AllocError>
         ensures { IfOk result (λ bytes. bytes.items ≡ preimage self.now) }

@@ -3,25 +3,25 @@ ghost use Rattle.std.specs.Prelude.{◌≡◌, ◌++◌, OnOk, IfOk, flat_map};
 ghost use Rattle.vo_spec.specs.Trees.{open_parts};
 ghost use Rattle.vo_spec.specs.Standing.{rows_in};
 
-use crate::branches::{Branch, Node};
 use crate::entries::TreeEntry;
+use crate::subtrees::{Node, Subtree};
 use std::alloc::{AllocError, Global};
 use vo_spec::{Row, copy_values};
 
-/// Puts the branch's rows at the end of others.
+/// Puts the subtree's rows at the end of others.
 #[cycle(push_rows)]
 #[tactic(auto, using(crate::proofs::RowLaws::rows_in_leaf, crate::proofs::RowLaws::rows_in_inner))]
-pub fn push_rows(alloc: Global, branch: &Branch, rows: &mut Vec<Row>) -> Result<(), AllocError>
-    ensures { OnOk result (rows.new.items ≡ rows.old.items ++ rows_in branch.now) }
+pub fn push_rows(alloc: Global, subtree: &Subtree, rows: &mut Vec<Row>) -> Result<(), AllocError>
+    ensures { OnOk result (rows.new.items ≡ rows.old.items ++ rows_in subtree.now) }
 {
-    match branch.node() {
+    match subtree.node() {
         Node::Leaf(entries) => push_entries(alloc, entries, rows),
         Node::Inner { children, .. } => push_children(alloc, children, rows),
     }
 }
 
 #[cycle(push_rows)]
-fn push_children(alloc: Global, children: &[Branch], rows: &mut Vec<Row>) -> Result<(), AllocError>
+fn push_children(alloc: Global, children: &[Subtree], rows: &mut Vec<Row>) -> Result<(), AllocError>
     ensures { OnOk result (rows.new.items ≡ rows.old.items ++ flat_map rows_in children.now) }
 {
     for child in children {

@@ -6,16 +6,16 @@ ghost use Rattle.vo_spec.specs.Trees.{digest};
 ghost use Rattle.vo_spec.specs.Standing.{IsShown, Represents, rows_in};
 ghost use Rattle.mb_tree.specs.Standing.{IsWhole};
 
-use crate::branches::Branch;
 use crate::rows::push_rows;
+use crate::subtrees::Subtree;
 use std::alloc::{AllocError, Global};
 use std::marker::Model;
 use vo_spec::{Digest, List, Row};
 
-/// A Merkle B-tree of rows: contracts see its nodes.
+/// A Merkle B-tree of rows, of the shape of such trees and with its keys rising: contracts see its nodes.
 #[derive(Drop)]
 pub struct Tree {
-    root: Branch,
+    root: Subtree,
     rows: u64,
 }
 
@@ -35,25 +35,24 @@ impl Model for Tree {
 
 impl Tree {
     /// The tree of no rows.
-    #[tactic(auto, using(crate::proofs::RowLaws::nothing_stands))]
+    #[tactic(auto, using(crate::proofs::RowLaws::nothing_stands, crate::proofs::RowLaws::nothing_whole))]
     pub fn new(alloc: Global) -> Result<Tree, AllocError>
         ensures value { IfOk result (λ tree. tree ≡ leaf []) }
         ensures stands { IfOk result (λ tree. Represents tree []) }
     {
-        let root = Branch::leaf(alloc, Vec::new(alloc))?;
+        let root = Subtree::leaf(alloc, Vec::new(alloc))?;
         Ok(Tree { root, rows: 0 })
     }
 
-    /// The tree with this root, which has so many rows. Of the nodes' shape it asks nothing: who changes a
-    /// tree says what becomes of it.
-    pub fn of_root(root: Branch, rows: u64) -> Tree
+    /// The tree with this root, which has so many rows.
+    pub fn of_root(root: Subtree, rows: u64) -> Tree
         requires { IsWhole root rows }
         ensures { result ≡ root }
     {
         Tree { root, rows }
     }
 
-    pub fn root(&self) -> &Branch
+    pub fn root(&self) -> &Subtree
         ensures value { result.now ≡ self.now }
         ensures fits { FitsPart self.now }
     {

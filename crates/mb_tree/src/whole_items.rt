@@ -4,10 +4,10 @@ ghost use Rattle.vo_spec.specs.Cells.{entry_bytes, whole_entry};
 ghost use Rattle.vo_spec.specs.Trees.{digest};
 ghost use Rattle.vo_spec.specs.Fits.{FitsKey, FitsPart, FitsRow};
 
-use crate::branches::Branch;
 use crate::entries::TreeEntry;
 use crate::layout::{NodeItem, write_key};
 use crate::preimage_writer::PreimageWriter;
+use crate::subtrees::Subtree;
 use crate::tree_key::TreeKey;
 
 impl NodeItem for TreeEntry {
@@ -33,7 +33,7 @@ impl NodeItem for TreeKey {
     }
 }
 
-impl NodeItem for Branch {
+impl NodeItem for Subtree {
     ghost bytes = { digest };
 
     ghost Fits = { FitsPart };

@@ -15,7 +15,7 @@ use Rattle.vo_spec.specs.Fits.{FitsPart, FitsEach, FitsEntry, FitsRow}
 use Rattle.vo_spec.specs.Inserts.{inserted}
 use Rattle.vo_spec.specs.Removes.{removed, replaced, set_row}
 use Rattle.btree.specs.Answers.{Answers}
-use Rattle.btree.specs.Finding.{found}
+use Rattle.btree.specs.Lookup.{found}
 use Rattle.btree.specs.Nodes.{Kid, IsNewKid}
 use Rattle.btree.specs.Shapes.{IsShaped, AreShaped}
 use Rattle.btree.proofs.FoundEntries.{found_edited}
@@ -23,7 +23,7 @@ use Rattle.mb_tree.specs.declared.parts.PartTree.{PartTree}
 use Rattle.mb_tree.specs.Whole.{whole_kid}
 use Rattle.mb_tree.specs.View.{part_of, part_kid}
 use Rattle.mb_update.specs.declared.ops.SetCell.{SetCell}
-use Rattle.mb_update.specs.Changing.{ChangesTo, set_entry}
+use Rattle.mb_update.specs.ChangeResults.{ChangesTo, set_entry}
 use Rattle.mb_update.specs.Sets.{change_of, FitsSets}
 use Rattle.mb_update.proofs.RowLimits.{inserted_fits, removed_fits, replaced_fits}
 

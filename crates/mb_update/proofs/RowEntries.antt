@@ -1,20 +1,22 @@
 -- Changes of a tree of so many rows, with every cell shown, give such trees.
-use Rattle.std.proofs.Common.{◌≡◌, ℕ, ◌+◌, ◌-◌, ◌≤◌, List, [], ◌∷◌, length, map, Result, Ok, refl, sym, ap, ◌∙◌, arith, slice_set}
+use Rattle.std.proofs.Common.{◌≡◌, ℕ, ◌+◌, ◌-◌, ◌≤◌, List, [], ◌∷◌, length, map, Result, Ok, refl, sym, ap, ◌∙◌, subst, arith, slice_set}
 use Rattle.std.proofs.lemmas.List.{map-set}
 use Rattle.vo_spec.specs.declared.values.Value.{Value}
 use Rattle.vo_spec.specs.declared.values.Row.{Row}
 use Rattle.vo_spec.specs.declared.cells.Cell.TheVariants.{Shown}
 use Rattle.vo_spec.specs.declared.cells.PartEntry.{PartEntry}
 use Rattle.vo_spec.specs.declared.trees.UpdateFault.{UpdateFault}
-use Rattle.vo_spec.specs.Tables.{CellChange, changed_cells}
+use Rattle.vo_spec.specs.Tables.{CellChange, changed_cells, changed_row, without_row}
 use Rattle.vo_spec.specs.Cells.{whole_cells, whole_entry}
 use Rattle.vo_spec.specs.Parts.{entries}
 use Rattle.vo_spec.specs.Trees.{RowTree, row_family, key_in}
 use Rattle.vo_spec.specs.Inserts.{inserted}
 use Rattle.vo_spec.specs.Removes.{set_cells, set_row, removed, replaced}
-use Rattle.vo_spec.specs.Standing.{row_in, shown_values}
+use Rattle.vo_spec.specs.Standing.{row_in, rows_in, shown_values, IsTree, Represents}
+use Rattle.vo_laws.specs.Changing.{Inserts, Changes}
+use Rattle.vo_laws.proofs.StandingTrees.{inserted_stands, removed_stands, replaced_stands}
 use Rattle.mb_tree.specs.Standing.{IsWhole}
-use Rattle.mb_update.specs.Changing.{set_entry}
+use Rattle.mb_update.specs.ChangeResults.{set_entry, GivesTree}
 use Rattle.mb_update.specs.Sets.{changed_by}
 use Rattle.btree.proofs.OkResults.{ok_same}
 use Rattle.btree.proofs.InsertedEntries.{puts_count, puts_fixed, inserted_puts}
@@ -39,13 +41,33 @@ whole_again row = ap (λ vs. whole_entry (record { key = row.key; cells = vs }))
 all_shown : (t : RowTree) (n : ℕ) → IsWhole t n → map shown_again (entries t) ≡ entries t
 all_shown t n w = sym (map_map (entries t)) ∙ sym w.shown
 
-whole_of_shown : (t : RowTree) (n : ℕ) → map shown_again (entries t) ≡ entries t → n ≡ length (entries t) → IsWhole t n
-whole_of_shown t n shown counted = record { shown = sym shown ∙ sym (map_map (entries t)); counted = counted }
+whole_of_shown : (t : RowTree) (n : ℕ) → IsTree row_family t → map shown_again (entries t) ≡ entries t → n ≡ length (entries t) → IsWhole t n
+whole_of_shown t n tree shown counted = record { tree = tree; shown = sym shown ∙ sym (map_map (entries t)); counted = counted }
+
+-- The rows that a whole tree stands for, and the trees that changes of it give.
+
+stands : (t : RowTree) (n : ℕ) → IsWhole t n → Represents t (rows_in t)
+stands t n w = record { tree = w.tree; rows_are = w.shown }
+
+inserted_tree : (row : Row) (t u : RowTree) (n : ℕ) → IsWhole t n → inserted (whole_entry row) t ≡ Ok u → IsTree row_family u
+inserted_tree row t u n w h =
+    let P : Result RowTree UpdateFault → Type 0 = λ r. Inserts row (rows_in t) r in
+    (subst P h (inserted_stands row t (rows_in t) (stands t n w))).1.tree
+
+removed_tree : (key : List ℕ) (t u : RowTree) (n : ℕ) → IsWhole t n → removed key t ≡ Ok u → IsTree row_family u
+removed_tree key t u n w h =
+    let P : Result RowTree UpdateFault → Type 0 = λ r. Changes key (rows_in t) (without_row key (rows_in t)) r in
+    (subst P h (removed_stands key t (rows_in t) (stands t n w))).1.tree
+
+pub replaced_tree : (key : List ℕ) (changes : List CellChange) (t u : RowTree) (n : ℕ) → IsWhole t n → replaced key changes t ≡ Ok u → IsTree row_family u
+replaced_tree key changes t u n w h =
+    let P : Result RowTree UpdateFault → Type 0 = λ r. Changes key (rows_in t) (map (changed_row key changes) (rows_in t)) r in
+    (subst P h (replaced_stands key changes t (rows_in t) (stands t n w))).1.tree
 
 pub inserted_whole : (row : Row) (t u : RowTree) (n : ℕ) → IsWhole t n → inserted (whole_entry row) t ≡ Ok u → IsWhole u (n + 1)
 inserted_whole row t u n w h =
     let puts = inserted_puts row_family (whole_entry row) t u h in
-    whole_of_shown u (n + 1)
+    whole_of_shown u (n + 1) (inserted_tree row t u n w h)
     (puts_fixed shown_again (whole_entry row) (entries t) (entries u) puts (whole_again row) (all_shown t n w))
     (omega (arith, w.counted, puts_count (whole_entry row) (entries t) (entries u) puts))
 
@@ -59,7 +81,7 @@ removed_whole key t u n w h =
     let count = takes_count key_in key (entries t) (entries u) takes in
     record {
       some = omega (arith, w.counted);
-      whole = whole_of_shown u (n - 1)
+      whole = whole_of_shown u (n - 1) (removed_tree key t u n w h)
           (takes_fixed key_in key shown_again (entries t) (entries u) takes (all_shown t n w))
           (omega (arith, w.counted));
     }
@@ -84,16 +106,16 @@ pub replaced_whole : (key : List ℕ) (changes : List CellChange) (t u : RowTree
 replaced_whole key changes t u n w h =
     let edits = edited_edits row_family (set_row changes) key t u h in
     let count = edits_count key_in (set_row changes) key (entries t) (entries u) edits in
-    whole_of_shown u n
+    whole_of_shown u n (replaced_tree key changes t u n w h)
     (edits_fixed key_in (set_row changes) key shown_again (entries t) (entries u) edits (set_shown changes) (all_shown t n w))
     (omega (arith, w.counted))
 
 -- another row in the place of one
-pub exchanged_whole : (key : List ℕ) (row : Row) (t u : RowTree) (n : ℕ) → IsWhole t n → set_entry key (whole_entry row) t ≡ Ok u → IsWhole u n
-exchanged_whole key row t u n w h =
+pub exchanged_whole : (key : List ℕ) (row : Row) (t u : RowTree) (n : ℕ) → IsWhole t n → GivesTree key (whole_entry row) t → set_entry key (whole_entry row) t ≡ Ok u → IsWhole u n
+exchanged_whole key row t u n w gives h =
     let edit : PartEntry → Result PartEntry UpdateFault = λ _. Ok (whole_entry row) in
     let edits = edited_edits row_family edit key t u h in
     let count = edits_count key_in edit key (entries t) (entries u) edits in
-    whole_of_shown u n
+    whole_of_shown u n (gives u h)
     (edits_fixed key_in edit key shown_again (entries t) (entries u) edits (λ e f shown is. ap shown_again (sym (ok_same (whole_entry row) f is)) ∙ whole_again row ∙ ok_same (whole_entry row) f is) (all_shown t n w))
     (omega (arith, w.counted))

@@ -12,8 +12,8 @@ use Rattle.vo_spec.specs.Cells.{whole_cells, whole_entry, CellsPrune, RowPrunes,
 use Rattle.vo_spec.specs.Trees.{RowTree, row_family, Prunes}
 use Rattle.vo_spec.specs.Inserts.{inserted}
 use Rattle.vo_spec.specs.Removes.{set_cells, set_row, removed, replaced}
-use Rattle.btree.specs.Agreeing.{AgreesWithTree}
-use Rattle.mb_update.specs.Changing.{GoesOnPruning}
+use Rattle.btree.specs.Agreement.{AgreesWithTree}
+use Rattle.mb_update.specs.ChangeResults.{GoesOnPruning}
 use Rattle.btree.specs.Pruning.{KeepsKeys, KeepsAnnotations}
 use Rattle.btree.proofs.InsertPrunes as inserts
 use Rattle.btree.proofs.RemovePrunes as removes

@@ -1,2 +1,2 @@
-pub mod Changing
+pub mod ChangeResults
 pub mod Sets

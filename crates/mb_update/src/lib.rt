@@ -1,7 +1,7 @@
 //! Changes of trees of rows, whole and in part.
 #![tactic(auto)]
 
-mod agreeing;
+mod agreement;
 mod ops;
 mod part_rows;
 mod part_updates;
@@ -9,7 +9,7 @@ mod tree_rows;
 mod tree_updates;
 mod updates;
 
-pub use agreeing::{insertions_agree, removals_agree, replacements_agree};
+pub use agreement::{insertions_agree, removals_agree, replacements_agree};
 pub use ops::{Op, SetCell};
 pub use tree_updates::insert_row;
 pub use updates::Updates;

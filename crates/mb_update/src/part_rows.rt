@@ -3,7 +3,7 @@ ghost use Rattle.std.specs.Prelude.{◌≡◌, ◌++◌, map, slice_set, IfOk, O
 ghost use Rattle.vo_spec.specs.declared.cells.Cell.TheVariants.{Shown};
 ghost use Rattle.vo_spec.specs.Cells.{whole_cells, whole_entry};
 ghost use Rattle.vo_spec.specs.Removes.{set_row, set_cells};
-ghost use Rattle.mb_update.specs.Changing.{ChangesTo};
+ghost use Rattle.mb_update.specs.ChangeResults.{ChangesTo};
 ghost use Rattle.mb_update.specs.Sets.{change_of};
 
 use crate::ops::SetCell;

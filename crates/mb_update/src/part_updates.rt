@@ -5,7 +5,7 @@ ghost use Rattle.vo_spec.specs.Fits.{FitsPart, FitsRow};
 ghost use Rattle.vo_spec.specs.Inserts.{inserted};
 ghost use Rattle.vo_spec.specs.Removes.{removed, replaced};
 ghost use Rattle.mb_tree.specs.View.{part_of};
-ghost use Rattle.mb_update.specs.Changing.{ChangesTo};
+ghost use Rattle.mb_update.specs.ChangeResults.{ChangesTo};
 ghost use Rattle.mb_update.specs.Sets.{change_of, FitsSets};
 
 use crate::ops::SetCell;

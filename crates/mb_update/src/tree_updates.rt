@@ -5,14 +5,15 @@ ghost use Rattle.vo_spec.specs.Fits.{FitsRow};
 ghost use Rattle.vo_spec.specs.Inserts.{inserted};
 ghost use Rattle.vo_spec.specs.Parts.{entries};
 ghost use Rattle.vo_spec.specs.Removes.{removed, replaced};
-ghost use Rattle.mb_update.specs.Changing.{ChangesTo, set_entry};
+ghost use Rattle.mb_tree.specs.Standing.{IsWhole};
+ghost use Rattle.mb_update.specs.ChangeResults.{ChangesTo, GivesTree, set_entry};
 ghost use Rattle.mb_update.specs.Sets.{change_of, FitsSets};
 
 use crate::ops::SetCell;
 use crate::tree_rows::entry_with;
 use crate::updates::Updates;
 use btree::{find, insert, remove, set};
-use mb_tree::{Branch, Tree, TreeEntry};
+use mb_tree::{Subtree, Tree, TreeEntry};
 use std::alloc::Global;
 use vo_spec::{Key, Row, UpdateFault};
 
@@ -32,7 +33,7 @@ fn insert_entry(alloc: Global, tree: &Tree, entry: TreeEntry) -> Result<Tree, Up
     ensures { ChangesTo (λ t. t) result (inserted (whole_entry entry) tree.now) }
 {
     let rows = tree.row_count();
-    match insert::<Branch>(alloc, tree.root(), entry) {
+    match insert::<Subtree>(alloc, tree.root(), entry) {
         Ok(root) => Ok(Tree::of_root(root, rows + 1)),
         Err(fault) => Err(fault),
     }
@@ -48,21 +49,29 @@ fn replace_cells(
     requires { FitsSets sets.now }
     ensures { ChangesTo (λ t. t) result (replaced key.now (map change_of sets.now) tree.now) }
 {
-    match find::<Branch>(tree.root(), key) {
+    let rows = tree.row_count();
+    match find::<Subtree>(tree.root(), key) {
         Ok(old) => {
             let entry = entry_with(alloc, old, sets)?;
-            set_entry(alloc, tree, key, entry)
+            set_entry(alloc, tree, rows, key, entry)
         },
         Err(fault) => Err(fault),
     }
 }
 
-/// The tree with this in the place of the entry of the key, which it has.
-fn set_entry(alloc: Global, tree: &Tree, key: &[u8], entry: TreeEntry) -> Result<Tree, UpdateFault>
+/// The tree of so many rows with this in the place of the entry of the key, which it has.
+fn set_entry(
+    alloc: Global,
+    tree: &Tree,
+    rows: u64,
+    key: &[u8],
+    entry: TreeEntry,
+) -> Result<Tree, UpdateFault>
+    requires whole { IsWhole tree.now rows }
+    requires gives { GivesTree key.now (whole_entry entry) tree.now }
     ensures { ChangesTo (λ t. t) result (set_entry key.now (whole_entry entry) tree.now) }
 {
-    let rows = tree.row_count();
-    match set::<Branch>(alloc, tree.root(), key, entry) {
+    match set::<Subtree>(alloc, tree.root(), key, entry) {
         Ok(root) => Ok(Tree::of_root(root, rows)),
         Err(fault) => Err(fault),
     }
@@ -73,7 +82,7 @@ fn remove_row(alloc: Global, tree: &Tree, key: &[u8]) -> Result<Tree, UpdateFaul
     ensures { ChangesTo (λ t. t) result (removed key.now tree.now) }
 {
     let rows = tree.row_count();
-    match remove::<Branch>(alloc, tree.root(), key) {
+    match remove::<Subtree>(alloc, tree.root(), key) {
         Ok(root) => Ok(Tree::of_root(root, rows - 1)),
         Err(fault) => Err(fault),
     }

@@ -11,7 +11,7 @@ use Rattle.vo_spec.specs.Pruned.{at_root, descend, needed_columns, is_any}
 use Rattle.vo_spec.specs.Standing.{is_from, is_before}
 use Rattle.vo_laws.proofs.KeyOrder.{key_lt_back, key_le_le, key_lt_le, key_lt_lt}
 use Rattle.vo_laws.proofs.SeenLaws.{empty_has_none}
-use Rattle.range_proof.specs.Visiting.{Suffice, later, sooner}
+use Rattle.range_proof.specs.ActiveNeeds.{CoverKeys, max_lower, min_upper}
 
 -- needs that don't have the key name nothing of it
 named_kept : (stays : Need → Bool) (key : List ℕ) → ((need : Need) → stays need ≡ false → in_interval need.interval key ≡ false)
@@ -30,8 +30,8 @@ named_kept stays key f (n ∷ ns) = step (stays n) refl (named_kept stays key f 
     step false e rest = rw (f n e) rest
 
 -- at the root, where needs without keys are left out
-pub suffice_in : (needs : List Need) → Suffice needs (at_root needs) None None
-suffice_in needs some key e =
+pub cover_at_root : (needs : List Need) → CoverKeys needs (at_root needs) None None
+cover_at_root needs some key e =
     named_kept (λ need. not (is_empty_interval need.interval)) key
     (λ need left_out. empty_has_none need.interval key (not-false (is_empty_interval need.interval) left_out)) needs
 
@@ -63,19 +63,19 @@ passed lower upper key from before need e = elim (and_cases (ends_above need.int
 
 -- The narrower of two separators lets pass what both do.
 
-later_parts : (a b : Option (List ℕ)) (key : List ℕ) → is_from (later a b) key ≡ true → (is_from a key ≡ true) × (is_from b key ≡ true)
-later_parts None b key e = (refl, e)
-later_parts (Some a) None key e = (e, refl)
-later_parts (Some a) (Some b) key e = step (key_lt a b) refl e
+max_lower_parts : (a b : Option (List ℕ)) (key : List ℕ) → is_from (max_lower a b) key ≡ true → (is_from a key ≡ true) × (is_from b key ≡ true)
+max_lower_parts None b key e = (refl, e)
+max_lower_parts (Some a) None key e = (e, refl)
+max_lower_parts (Some a) (Some b) key e = step (key_lt a b) refl e
   where
     step : (less : Bool) → key_lt a b ≡ less → is_from (cond less (Some b) (Some a)) key ≡ true → (is_from (Some a) key ≡ true) × (is_from (Some b) key ≡ true)
     step true f g = (not_from_false (key_lt key a) (key_le_le a b key (key_lt_back a b f) (not-true (key_lt key b) g)), g)
     step false f g = (g, not_from_false (key_lt key b) (key_le_le b a key f (not-true (key_lt key a) g)))
 
-sooner_parts : (a b : Option (List ℕ)) (key : List ℕ) → is_before (sooner a b) key ≡ true → (is_before a key ≡ true) × (is_before b key ≡ true)
-sooner_parts None b key e = (refl, e)
-sooner_parts (Some a) None key e = (e, refl)
-sooner_parts (Some a) (Some b) key e = step (key_lt b a) refl e
+min_upper_parts : (a b : Option (List ℕ)) (key : List ℕ) → is_before (min_upper a b) key ≡ true → (is_before a key ≡ true) × (is_before b key ≡ true)
+min_upper_parts None b key e = (refl, e)
+min_upper_parts (Some a) None key e = (e, refl)
+min_upper_parts (Some a) (Some b) key e = step (key_lt b a) refl e
   where
     step : (less : Bool) → key_lt b a ≡ less → is_before (cond less (Some b) (Some a)) key ≡ true → (is_before (Some a) key ≡ true) × (is_before (Some b) key ≡ true)
     step true f g = (key_lt_lt key b a g f, g)
@@ -87,14 +87,14 @@ any_before stays [] e = e
 any_before stays (x ∷ xs) e = refl
 
 -- at a child, where those are left out that don't go on to it
-pub suffice_on : (all going : List Need) (from to lower upper : Option (List ℕ)) → Suffice all going from to
-    → Suffice all (descend going lower upper) (later from lower) (sooner to upper)
-suffice_on all going from to lower upper s some key e =
-    let ends = and_parts (is_from (later from lower) key) (is_before (sooner to upper) key) e in
-    let above = later_parts from lower key ends.0 in
-    let below = sooner_parts to upper key ends.1 in
-    named_kept (λ need. visits need.interval lower upper) key (passed lower upper key above.1 below.1) going
-    ∙ s (any_before (λ need. visits need.interval lower upper) going some) key (and_from (is_from from key) (is_before to key) above.0 below.0)
+pub cover_below : (all active : List Need) (from to lower upper : Option (List ℕ)) → CoverKeys all active from to
+    → CoverKeys all (descend active lower upper) (max_lower from lower) (min_upper to upper)
+cover_below all active from to lower upper s some key e =
+    let ends = and_parts (is_from (max_lower from lower) key) (is_before (min_upper to upper) key) e in
+    let above = max_lower_parts from lower key ends.0 in
+    let below = min_upper_parts to upper key ends.1 in
+    named_kept (λ need. visits need.interval lower upper) key (passed lower upper key above.1 below.1) active
+    ∙ s (any_before (λ need. visits need.interval lower upper) active some) key (and_from (is_from from key) (is_before to key) above.0 below.0)
 
 -- of a need alone
 pub goes_alone : (need : Need) (lower upper : Option (List ℕ)) → visits need.interval lower upper ≡ true → descend (need ∷ []) lower upper ≡ need ∷ []

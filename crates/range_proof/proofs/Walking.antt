@@ -30,8 +30,8 @@ pub onto_none : (ts : List RowTree) → onto ts none ≡ open_parts ts
 onto_none [] = refl
 onto_none (t ∷ ts) = ap (λ qs. more tt t qs) (onto_none ts)
 
-branch_at : (cs : List RowTree) (i : ℕ) (c : RowTree) → i < length cs → c ≡ get_or cs i c → open_parts (drop i cs) ≡ more tt c (open_parts (drop (i + 1) cs))
-branch_at cs i c lt is = ap open_parts (drop_more cs i c lt) ∙ ap (λ q. more tt q (open_parts (drop (i + 1) cs))) (sym is)
+subtree_at : (cs : List RowTree) (i : ℕ) (c : RowTree) → i < length cs → c ≡ get_or cs i c → open_parts (drop i cs) ≡ more tt c (open_parts (drop (i + 1) cs))
+subtree_at cs i c lt is = ap open_parts (drop_more cs i c lt) ∙ ap (λ q. more tt q (open_parts (drop (i + 1) cs))) (sym is)
 
 module _ {S : Type 0} (walk : Walk PartEntry S) (s : S) (lower : Option (List ℕ)) (ss : List (List ℕ)) (i : ℕ) where
   abbrev upper : Option (List ℕ)
@@ -42,9 +42,9 @@ module _ {S : Type 0} (walk : Walk PartEntry S) (s : S) (lower : Option (List �
       → onto front (pruned_in walk row_family s lower (drop i ss) (open_parts (drop i cs))) ≡ all
       → onto (front ++ p ∷ []) (pruned_in walk row_family (walk.past s lower (slice_get ss i)) (slice_get ss i) (drop (i + 1) ss) (open_parts (drop (i + 1) cs))) ≡ all
   prune_step cs c front p all lt is made e =
-      let later = pruned_in walk row_family (walk.past s lower upper) upper (drop (i + 1) ss) (open_parts (drop (i + 1) cs)) in
-      let here : pruned_in walk row_family s lower (drop i ss) (open_parts (drop i cs)) ≡ more tt (pruned_by walk row_family (walk.onward s lower upper) c) later = rw (branch_at cs i c lt is, first_at ss i, rest_at ss i) refl in
-      onto_push front p later ∙ ap (λ q. onto front (more tt q later)) made ∙ ap (onto front) (sym here) ∙ e
+      let max_lower = pruned_in walk row_family (walk.past s lower upper) upper (drop (i + 1) ss) (open_parts (drop (i + 1) cs)) in
+      let here : pruned_in walk row_family s lower (drop i ss) (open_parts (drop i cs)) ≡ more tt (pruned_by walk row_family (walk.onward s lower upper) c) max_lower = rw (subtree_at cs i c lt is, first_at ss i, rest_at ss i) refl in
+      onto_push front p max_lower ∙ ap (λ q. onto front (more tt q max_lower)) made ∙ ap (onto front) (sym here) ∙ e
 
   pub prune_end : (cs : List RowTree) (front : List RowTree) (all : RowTrees) → length cs ≤ i
       → onto front (pruned_in walk row_family s lower (drop i ss) (open_parts (drop i cs))) ≡ all → open_parts front ≡ all
@@ -89,24 +89,24 @@ judge_on Missing a b c d h f = f h
 judge_on Memory a b c d h f = tt
 
 -- where no need goes on, nothing is open
-pub pruned_none : (needs going : List Need) (t : RowTree) → is_any going ≡ false → pruned_by (walk_for needs) row_family going t ≡ stub (digest t)
+pub pruned_none : (needs active : List Need) (t : RowTree) → is_any active ≡ false → pruned_by (walk_for needs) row_family active t ≡ stub (digest t)
 pruned_none needs [] (stub d) e = refl
 pruned_none needs [] (leaf es) e = refl
 pruned_none needs [] (inner ss ps) e = refl
 pruned_none needs (n ∷ ns) t e = absurd (cc)
 
 -- a list lends some need exactly where it has a length
-none_in : (going : List (Bor Need)) → length going ≡ 0 → is_any (map lent_need going) ≡ false
+none_in : (active : List (Bor Need)) → length active ≡ 0 → is_any (map lent_need active) ≡ false
 none_in [] e = refl
 none_in (need ∷ needs) e = absurd (cc)
 
-some_in : (going : List (Bor Need)) → (length going ≡ 0 → ⊥) → is_any (map lent_need going) ≡ true
+some_in : (active : List (Bor Need)) → (length active ≡ 0 → ⊥) → is_any (map lent_need active) ≡ true
 some_in [] e = absurd (e refl)
 some_in (need ∷ needs) e = refl
 
-module _ {Z : Type 0} (going : Vec (Bor Need) Z) where
-  pub none_lent : (going.len == 0) ≡ true → is_any (map lent_need going.items) ≡ false
-  none_lent e = none_in going.items (sym going.ok.0 ∙ eqb-true going.len 0 e)
+module _ {Z : Type 0} (active : Vec (Bor Need) Z) where
+  pub none_lent : (active.len == 0) ≡ true → is_any (map lent_need active.items) ≡ false
+  none_lent e = none_in active.items (sym active.ok.0 ∙ eqb-true active.len 0 e)
 
-  pub some_lent : (going.len == 0) ≡ false → is_any (map lent_need going.items) ≡ true
-  some_lent e = some_in going.items (λ none. eqb-false going.len 0 e (going.ok.0 ∙ none))
+  pub some_lent : (active.len == 0) ≡ false → is_any (map lent_need active.items) ≡ true
+  some_lent e = some_in active.items (λ none. eqb-false active.len 0 e (active.ok.0 ∙ none))

@@ -1,4 +1,4 @@
 pub mod Finding
 pub mod Lending
 pub mod Judging
-pub mod Visiting
+pub mod ActiveNeeds

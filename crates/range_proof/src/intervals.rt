@@ -13,7 +13,7 @@ ghost use Rattle.vo_spec.specs.Scans.{
   visits as does_visit,
 };
 ghost use Rattle.vo_spec.specs.Standing.{is_between as does_stand_between, is_from as is_at_or_above, is_before as is_under};
-ghost use Rattle.range_proof.specs.Visiting.{later as later_of, sooner as sooner_of};
+ghost use Rattle.range_proof.specs.ActiveNeeds.{max_lower as max_lower_of, min_upper as min_upper_of};
 
 use vo_spec::{Bound, Interval};
 
@@ -143,8 +143,8 @@ fn is_before(upper: Option<&[u8]>, key: &[u8]) -> bool
 }
 
 /// The greater of two lower separators; a missing one is below all.
-pub fn later<'k>(first: Option<&'k [u8]>, second: Option<&'k [u8]>) -> Option<&'k [u8]>
-    ensures { option_copied result ≡ later_of (option_copied first.entry)
+pub fn max_lower<'k>(first: Option<&'k [u8]>, second: Option<&'k [u8]>) -> Option<&'k [u8]>
+    ensures { option_copied result ≡ max_lower_of (option_copied first.entry)
         (option_copied second.entry) }
 {
     match (first, second) {
@@ -155,8 +155,8 @@ pub fn later<'k>(first: Option<&'k [u8]>, second: Option<&'k [u8]>) -> Option<&'
 }
 
 /// The smaller of two upper separators; a missing one is above all.
-pub fn sooner<'k>(first: Option<&'k [u8]>, second: Option<&'k [u8]>) -> Option<&'k [u8]>
-    ensures { option_copied result ≡ sooner_of (option_copied first.entry)
+pub fn min_upper<'k>(first: Option<&'k [u8]>, second: Option<&'k [u8]>) -> Option<&'k [u8]>
+    ensures { option_copied result ≡ min_upper_of (option_copied first.entry)
         (option_copied second.entry) }
 {
     match (first, second) {

@@ -5,10 +5,10 @@ ghost use Rattle.vo_spec.specs.Pruned.{is_missing, has_surplus, is_missing_by, i
 ghost use Rattle.mb_tree.specs.View.{part_of, parts_of};
 ghost use Rattle.range_proof.specs.Judging.{JudgesOrMissing};
 
-use crate::going::lend_needs;
+use crate::active_needs::ActiveNeeds;
 use crate::naming::{hides_any, row_has_surplus};
+use crate::need_lists::lend_needs;
 use crate::scanning::separator_at;
-use crate::visitors::Visitors;
 use mb_tree::PartTree;
 use std::alloc::Global;
 use vo_spec::{KeyPart, Need, PartEntry, ScanFault};
@@ -20,8 +20,8 @@ pub fn is_canonical(alloc: Global, tree: &PartTree<'_>, needs: &[Need]) -> Resul
         (not (has_surplus needs.now (part_of tree.now))) }
 {
     let all = lend_needs(alloc, needs)?;
-    let visitors = Visitors::of_root(alloc, &all)?;
-    match judge_node(alloc, tree, &visitors) {
+    let active = ActiveNeeds::at_root(alloc, &all)?;
+    match judge_node(alloc, tree, &active) {
         Ok(surplus) => Ok(!surplus),
         Err(fault) => Err(fault),
     }
@@ -31,29 +31,29 @@ pub fn is_canonical(alloc: Global, tree: &PartTree<'_>, needs: &[Need]) -> Resul
 fn judge_node<'k>(
     alloc: Global,
     tree: &'k PartTree<'_>,
-    visitors: &Visitors<'_, 'k>,
+    needs: &ActiveNeeds<'_, 'k>,
 ) -> Result<bool, ScanFault>
-    ensures { let walk = walk_for visitors.now.all in let s = visitors.now.going in
+    ensures { let walk = walk_for needs.now.all in let s = needs.now.active in
         JudgesOrMissing result (is_missing_by walk s (part_of tree.now))
         (has_surplus_by walk s (part_of tree.now)) }
 {
     match tree {
         PartTree::Stub(_) => {
-            if visitors.is_empty() {
+            if needs.is_empty() {
                 Ok(false)
             } else {
                 Err(ScanFault::Missing)
             }
         },
-        PartTree::Leaf(entries) => match judge_entries(alloc, entries.as_slice(), visitors) {
-            Ok(surplus) => Ok(visitors.is_empty() || surplus),
+        PartTree::Leaf(entries) => match judge_entries(alloc, entries.as_slice(), needs) {
+            Ok(surplus) => Ok(needs.is_empty() || surplus),
             Err(fault) => Err(fault),
         },
         PartTree::Inner {
             separators,
             children,
-        } => match judge_children(alloc, separators.as_slice(), children.as_slice(), visitors) {
-            Ok(surplus) => Ok(visitors.is_empty() || surplus),
+        } => match judge_children(alloc, separators.as_slice(), children.as_slice(), needs) {
+            Ok(surplus) => Ok(needs.is_empty() || surplus),
             Err(fault) => Err(fault),
         },
     }
@@ -64,9 +64,9 @@ fn judge_children<'k>(
     alloc: Global,
     separators: &'k [KeyPart<'_>],
     children: &'k [PartTree<'_>],
-    visitors: &Visitors<'_, 'k>,
+    needs: &ActiveNeeds<'_, 'k>,
 ) -> Result<bool, ScanFault>
-    ensures { let walk = walk_for visitors.now.all in let s = visitors.now.going in
+    ensures { let walk = walk_for needs.now.all in let s = needs.now.active in
         JudgesOrMissing result (is_missing_in walk s None separators.now (parts_of children.now))
         (has_surplus_in walk s None separators.now (parts_of children.now)) }
 {
@@ -74,8 +74,8 @@ fn judge_children<'k>(
     let mut lower = None;
     for (place, child) in children.iter().enumerate() {
         let upper = separator_at(separators, place);
-        let onward = visitors.onward(alloc, lower, upper)?;
-        match judge_node(alloc, child, &onward) {
+        let below = needs.descend(alloc, lower, upper)?;
+        match judge_node(alloc, child, &below) {
             Ok(more) => surplus = surplus || more,
             Err(fault) => return Err(fault),
         }
@@ -87,14 +87,14 @@ fn judge_children<'k>(
 fn judge_entries(
     alloc: Global,
     entries: &[PartEntry<'_>],
-    visitors: &Visitors<'_, '_>,
+    needs: &ActiveNeeds<'_, '_>,
 ) -> Result<bool, ScanFault>
-    ensures { let walk = walk_for visitors.now.all in JudgesOrMissing result
+    ensures { let walk = walk_for needs.now.all in JudgesOrMissing result
         (list_any walk.lacks entries.now) (list_any walk.exceeds entries.now) }
 {
     let mut surplus = false;
     for entry in entries {
-        let columns = visitors.needed_columns(alloc, entry.key.as_bytes())?;
+        let columns = needs.named_columns(alloc, entry.key.as_bytes())?;
         if hides_any(&columns, &entry.row) {
             return Err(ScanFault::Missing);
         }

@@ -1,15 +1,15 @@
 //! Scans of trees for intervals of keys, and the proofs that such scans need.
 #![tactic(auto)]
 
-mod following;
-mod going;
+mod active_needs;
 mod intervals;
 mod judging;
 mod naming;
+mod need_lists;
 mod nodes;
+mod prune_for_one;
 mod pruning;
 mod scanning;
-mod visitors;
 
 pub use judging::is_canonical;
 pub use pruning::prune;

@@ -15,7 +15,7 @@ use std::alloc::{AllocError, Global};
 use vo_spec::{Cell, Need, RowPart};
 
 /// The columns that the needs name whose intervals have the key.
-pub fn needed_columns(alloc: Global, needs: &[&Need], key: &[u8]) -> Result<Vec<u8>, AllocError>
+pub fn named_columns(alloc: Global, needs: &[&Need], key: &[u8]) -> Result<Vec<u8>, AllocError>
     ensures { IfOk result (λ columns. columns.items ≡ named_by (map lent_need needs.now) key.now) }
 {
     let mut columns = Vec::new(alloc);
@@ -45,11 +45,11 @@ pub fn row_has_surplus(columns: &[u8], row: &RowPart<'_>) -> bool
 {
     match row {
         RowPart::Digest(_) => false,
-        RowPart::Cells(cells) => columns.is_empty() || shows_surplus(columns, cells.as_slice()),
+        RowPart::Cells(cells) => columns.is_empty() || shows_unneeded(columns, cells.as_slice()),
     }
 }
 
-fn shows_surplus(columns: &[u8], cells: &[Cell<'_>]) -> bool
+fn shows_unneeded(columns: &[u8], cells: &[Cell<'_>]) -> bool
     ensures { result ≡ does_show columns.now 0 cells.now }
 {
     for (column, cell) in cells.iter().enumerate() {

@@ -6,9 +6,9 @@ ghost use Rattle.vo_spec.specs.Parts.{inner};
 ghost use Rattle.vo_spec.specs.Pruned.{shown_entry};
 ghost use Rattle.mb_tree.specs.View.{part_of};
 
-use crate::visitors::Visitors;
+use crate::active_needs::ActiveNeeds;
 use attr_digest::hide_cells;
-use mb_tree::{Nodes, PartTree, TreeEntry, TreeKey, lend_keys};
+use mb_tree::{Children, PartTree, TreeEntry, TreeKey, lend_keys};
 use std::alloc::{AllocError, Global};
 use vo_spec::{KeyPart, List, PartEntry, RowPart};
 
@@ -16,7 +16,7 @@ use vo_spec::{KeyPart, List, PartEntry, RowPart};
 pub fn inner_part<'b>(
     alloc: Global,
     separators: &'b [TreeKey],
-    children: Nodes<'b>,
+    children: Children<'b>,
 ) -> Result<PartTree<'b>, AllocError>
     ensures { IfOk result (λ part. part_of part ≡ inner separators.now children.entry) }
 {
@@ -41,14 +41,14 @@ pub fn separator_at(separators: &[TreeKey], place: usize) -> Option<&[u8]>
 pub fn prune_entries<'b>(
     alloc: Global,
     entries: &'b [TreeEntry],
-    visitors: &Visitors<'_, '_>,
+    needs: &ActiveNeeds<'_, '_>,
 ) -> Result<List<PartEntry<'b>>, AllocError>
     ensures { IfOk result (λ shown. shown
-        ≡ map (shown_entry visitors.now.all) (map whole_entry entries.now)) }
+        ≡ map (shown_entry needs.now.all) (map whole_entry entries.now)) }
 {
     let mut shown = Vec::with_capacity(alloc, entries.len())?;
     for entry in entries {
-        shown.push(prune_entry(alloc, entry, visitors)?)?;
+        shown.push(prune_entry(alloc, entry, needs)?)?;
     }
     Ok(List::from_vec(shown))
 }
@@ -56,13 +56,13 @@ pub fn prune_entries<'b>(
 fn prune_entry<'b>(
     alloc: Global,
     entry: &'b TreeEntry,
-    visitors: &Visitors<'_, '_>,
+    needs: &ActiveNeeds<'_, '_>,
 ) -> Result<PartEntry<'b>, AllocError>
-    ensures { IfOk result (λ shown. shown ≡ shown_entry visitors.now.all (whole_entry entry.now)) }
+    ensures { IfOk result (λ shown. shown ≡ shown_entry needs.now.all (whole_entry entry.now)) }
 {
     let key = KeyPart::lent(entry.key().as_bytes());
     let cells = entry.cells();
-    let columns = visitors.needed_columns(alloc, entry.key().as_bytes())?;
+    let columns = needs.named_columns(alloc, entry.key().as_bytes())?;
     if columns.is_empty() {
         let row = RowPart::Digest(cells.digest());
         return Ok(PartEntry { key, row });

@@ -4,11 +4,11 @@ ghost use Rattle.vo_spec.specs.Trees.{row_family, open_parts};
 ghost use Rattle.vo_spec.specs.Pruned.{pruned, pruned_by, pruned_in, walk_for, is_any};
 ghost use Rattle.mb_tree.specs.View.{part_of};
 
-use crate::following::follow_children;
-use crate::going::lend_needs;
+use crate::active_needs::ActiveNeeds;
+use crate::need_lists::lend_needs;
 use crate::nodes::{inner_part, prune_entries, separator_at};
-use crate::visitors::Visitors;
-use mb_tree::{Branch, Node, Nodes, PartTree, Tree, TreeKey};
+use crate::prune_for_one::prune_children_for_one;
+use mb_tree::{Children, Node, PartTree, Subtree, Tree, TreeKey};
 use std::alloc::{AllocError, Global};
 use vo_spec::Need;
 
@@ -17,50 +17,50 @@ pub fn prune<'b>(alloc: Global, tree: &'b Tree, needs: &[Need]) -> Result<PartTr
     ensures { IfOk result (λ part. part_of part ≡ pruned needs.now tree.now) }
 {
     let all = lend_needs(alloc, needs)?;
-    let visitors = Visitors::of_root(alloc, &all)?;
-    if visitors.is_empty() {
+    let active = ActiveNeeds::at_root(alloc, &all)?;
+    if active.is_empty() {
         return Ok(PartTree::Stub(tree.root().node_digest()));
     }
-    open_branch(alloc, tree.root(), &visitors)
+    open_subtree(alloc, tree.root(), &active)
 }
 
 #[cycle(prune)]
-fn open_branch<'b>(
+fn open_subtree<'b>(
     alloc: Global,
-    branch: &'b Branch,
-    visitors: &Visitors<'_, 'b>,
+    subtree: &'b Subtree,
+    needs: &ActiveNeeds<'_, 'b>,
 ) -> Result<PartTree<'b>, AllocError>
-    requires { is_any visitors.now.going ≡ true }
+    requires { is_any needs.now.active ≡ true }
     ensures { IfOk result (λ part. part_of part
-        ≡ pruned_by (walk_for visitors.now.all) row_family visitors.now.going branch.now) }
+        ≡ pruned_by (walk_for needs.now.all) row_family needs.now.active subtree.now) }
 {
-    match branch.node() {
-        Node::Leaf(entries) => Ok(PartTree::Leaf(prune_entries(alloc, entries, visitors)?)),
+    match subtree.node() {
+        Node::Leaf(entries) => Ok(PartTree::Leaf(prune_entries(alloc, entries, needs)?)),
         Node::Inner {
             separators,
             children,
         } => {
-            let children = prune_children(alloc, separators, children, visitors)?;
+            let children = prune_children(alloc, separators, children, needs)?;
             inner_part(alloc, separators, children)
         },
     }
 }
 
-/// The node's children. Most nodes far from the root have one visitor alone, which needs no lists.
+/// The node's children. Most nodes far from the root have one active need alone, which needs no lists.
 #[cycle(prune)]
 fn prune_children<'b>(
     alloc: Global,
     separators: &'b [TreeKey],
-    children: &'b [Branch],
-    visitors: &Visitors<'_, 'b>,
-) -> Result<Nodes<'b>, AllocError>
+    children: &'b [Subtree],
+    needs: &ActiveNeeds<'_, 'b>,
+) -> Result<Children<'b>, AllocError>
     ensures { IfOk result (λ parts. parts
-        ≡ pruned_in (walk_for visitors.now.all) row_family visitors.now.going None separators.now
+        ≡ pruned_in (walk_for needs.now.all) row_family needs.now.active None separators.now
         (open_parts children.now)) }
 {
-    match visitors.only() {
-        Some(need) => follow_children(alloc, separators, children, visitors, need),
-        None => prune_each(alloc, separators, children, visitors),
+    match needs.single_need() {
+        Some(need) => prune_children_for_one(alloc, separators, children, needs, need),
+        None => prune_each(alloc, separators, children, needs),
     }
 }
 
@@ -68,26 +68,26 @@ fn prune_children<'b>(
 fn prune_each<'b>(
     alloc: Global,
     separators: &'b [TreeKey],
-    children: &'b [Branch],
-    visitors: &Visitors<'_, 'b>,
-) -> Result<Nodes<'b>, AllocError>
+    children: &'b [Subtree],
+    needs: &ActiveNeeds<'_, 'b>,
+) -> Result<Children<'b>, AllocError>
     ensures { IfOk result (λ parts. parts
-        ≡ pruned_in (walk_for visitors.now.all) row_family visitors.now.going None separators.now
+        ≡ pruned_in (walk_for needs.now.all) row_family needs.now.active None separators.now
         (open_parts children.now)) }
 {
     let mut parts = Vec::with_capacity(alloc, children.len())?;
     let mut lower = None;
     for (place, child) in children.iter().enumerate() {
         let upper = separator_at(separators, place);
-        let mut going = Vec::new(alloc);
-        visitors.put_going_on(&mut going, lower, upper)?;
-        if going.is_empty() {
+        let mut active = Vec::new(alloc);
+        needs.push_active(&mut active, lower, upper)?;
+        if active.is_empty() {
             parts.push(PartTree::Stub(child.node_digest()))?;
         } else {
-            let onward = visitors.at_child(going, lower, upper);
-            parts.push(open_branch(alloc, child, &onward)?)?;
+            let below = needs.at_child(active, lower, upper);
+            parts.push(open_subtree(alloc, child, &below)?)?;
         }
         lower = upper;
     }
-    Ok(Nodes::from_vec(parts))
+    Ok(Children::from_vec(parts))
 }

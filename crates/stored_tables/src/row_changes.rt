@@ -11,7 +11,7 @@ ghost use Rattle.vo_spec.specs.Trees.{RowTree};
 ghost use Rattle.vo_spec.specs.Fits.{FitsRow};
 ghost use Rattle.vo_spec.specs.Parts.{entries};
 ghost use Rattle.vo_spec.specs.Honest.{row_refusal};
-ghost use Rattle.mb_update.specs.Changing.{ChangesTo};
+ghost use Rattle.mb_update.specs.ChangeResults.{ChangesTo};
 ghost use Rattle.mb_update.specs.Sets.{change_of};
 ghost use Rattle.table_list.specs.Changes.{Returns};
 ghost use Rattle.stored_tables.specs.View.{stored_of};

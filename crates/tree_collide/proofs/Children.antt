@@ -8,10 +8,10 @@ use Rattle.mb_tree.specs.View.{part_of, parts_of}
 use Rattle.vo_spec.specs.declared.values.Row.{Row}
 use Rattle.vo_spec.specs.declared.cells.PartEntry.{PartEntry}
 use Rattle.vo_spec.specs.Cells.{whole_entry, EntryPrunes}
-use Rattle.mb_tree.specs.declared.branches.Node.{Node}
-use Rattle.mb_tree.specs.declared.branches.Node.TheVariants as node
+use Rattle.mb_tree.specs.declared.subtrees.Node.{Node}
+use Rattle.mb_tree.specs.declared.subtrees.Node.TheVariants as node
 use Rattle.mb_tree.specs.Whole.{whole_of}
-use Rattle.tree_collide.specs.Agreeing.{HoldsOrCollides, SameEntries, SameNodes, is_open}
+use Rattle.tree_collide.specs.Agreements.{HoldsOrCollides, SameEntries, SameNodes, is_open}
 use Rattle.tree_collide.specs.Preimages.{OfStrings, ArePreimages, NodesIn}
 
 pub entry_count : (es : List PartEntry) (rows : List Row) → SameEntries es (map whole_entry rows) → length es ≡ length rows

@@ -11,7 +11,7 @@ use Rattle.vo_spec.specs.Bytes.{string}
 use Rattle.vo_spec.specs.Cells.{cell_digest, cell_digests, row_bytes, row_digest, entry_bytes, attribute_bytes, CellPrunes, CellsPrune, RowPrunes, EntryPrunes}
 use Rattle.vo_spec.specs.Parts.{stub, leaf, inner, none, more, count, child_bytes, leaf_bytes, inner_bytes, PrunesEach}
 use Rattle.vo_spec.specs.Trees.{RowTree, RowTrees, digest, preimage, row_family, Prunes}
-use Rattle.tree_collide.specs.Agreeing.{is_open}
+use Rattle.tree_collide.specs.Agreements.{is_open}
 
 cell_kept : (n : ℕ) (c d : Cell) → CellPrunes n c d → cell_digest n c ≡ cell_digest n d
 cell_kept n (Hidden h) d p = p

@@ -14,7 +14,7 @@ use Rattle.vo_spec.specs.Parts.{stub, leaf, inner, none, more, count, child_byte
 use Rattle.vo_spec.specs.Trees.{RowTree, RowTrees, digest, preimage, row_family}
 use Rattle.vo_spec.specs.Fits.{FitsCell, FitsRowPart, FitsEntry, FitsKey, FitsPart, FitsEach}
 use Rattle.row_bytes.proofs.ValueLaws.{u16_again, u16_length, one_value}
-use Rattle.tree_collide.specs.Agreeing.{SameCells, SameEntries, SameNodes, IsLike, is_open}
+use Rattle.tree_collide.specs.Agreements.{SameCells, SameEntries, SameNodes, IsLike, is_open}
 
 -- fronts of one length
 split_same : (a b x y : List ℕ) → length a ≡ length b → a ++ x ≡ b ++ y → (a ≡ b) × (x ≡ y)

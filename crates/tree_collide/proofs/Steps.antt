@@ -10,7 +10,7 @@ use Rattle.vo_spec.specs.declared.cells.Cell.TheVariants.{Shown}
 use Rattle.vo_spec.specs.Values.{FitsValue}
 use Rattle.vo_spec.specs.Cells.{cell_digest, row_digest, whole_cells, whole_row, whole_entry, CellPrunes, CellsPrune, RowPrunes, EntryPrunes}
 use Rattle.vo_spec.specs.Fits.{FitsCell, FitsCells}
-use Rattle.tree_collide.specs.Agreeing.{SameCells, SameEntries, HoldsOrCollides}
+use Rattle.tree_collide.specs.Agreements.{SameCells, SameEntries, HoldsOrCollides}
 use Rattle.tree_collide.specs.Preimages.{OfStrings, AttributesOf, AttributesIn, RowsOf, RowsIn}
 
 pub whole_fit : (vs : List Value) → FitsCells vs → All FitsCell (whole_cells vs)

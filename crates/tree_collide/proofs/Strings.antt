@@ -4,7 +4,7 @@ use Rattle.vo_spec.specs.declared.cells.Cell.{Cell}
 use Rattle.vo_spec.specs.declared.cells.RowPart.TheVariants.{Cells}
 use Rattle.vo_spec.specs.Cells.{row_bytes}
 use Rattle.vo_spec.specs.Trees.{RowTree, preimage}
-use Rattle.tree_collide.specs.Agreeing.{HoldsOrCollides, is_open}
+use Rattle.tree_collide.specs.Agreements.{HoldsOrCollides, is_open}
 use Rattle.tree_collide.specs.Preimages.{OfStrings, AttributesIn, RowsOf, BelowNodes, ArePreimages}
 
 abbrev Found : Type 0

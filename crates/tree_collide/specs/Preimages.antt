@@ -8,7 +8,7 @@ use Rattle.vo_spec.specs.declared.cells.PartEntry.{PartEntry}
 use Rattle.vo_spec.specs.Cells.{attribute_bytes, row_bytes}
 use Rattle.vo_spec.specs.Parts.{leaf, inner, more}
 use Rattle.vo_spec.specs.Trees.{RowTree, RowTrees, preimage}
-use Rattle.tree_collide.specs.Agreeing.{is_open}
+use Rattle.tree_collide.specs.Agreements.{is_open}
 
 -- a fact about two byte strings, one of each tree
 abbrev pub OfStrings : Type 1

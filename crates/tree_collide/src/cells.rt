@@ -6,16 +6,16 @@ ghost use Rattle.vo_spec.specs.Lent.{value_of};
 ghost use Rattle.vo_spec.specs.Values.{FitsValue};
 ghost use Rattle.vo_spec.specs.Cells.{attribute_bytes, cell_digest, whole_cells, CellPrunes, CellsPrune};
 ghost use Rattle.vo_spec.specs.Fits.{FitsCell, max_cells};
-ghost use Rattle.tree_collide.specs.Agreeing.{HoldsOrCollides, SameCells};
+ghost use Rattle.tree_collide.specs.Agreements.{HoldsOrCollides, SameCells};
 ghost use Rattle.tree_collide.specs.Preimages.{AttributesOf, AttributesIn};
 
-use crate::comparing::compare;
+use crate::comparison::compare;
 use row_bytes::put_value;
 use std::alloc::{AllocError, Global};
 use vo_spec::{Cell, Collision, Value, ValueRef};
 
-/// Whether the cells are these values with some of them hidden.
-pub fn agree_cells(
+/// None where the cells are these values with some of them hidden, else a collision of what they hash.
+pub fn collision_of_cells(
     alloc: Global,
     cells: &[Cell<'_>],
     values: &[Value],
@@ -30,7 +30,7 @@ pub fn agree_cells(
         (AttributesIn 0 cells.now (whole_cells values.now))) }
 {
     for (column, cell) in cells.iter().enumerate() {
-        let found = agree_cell(alloc, column as u8, cell, &values[column])?;
+        let found = collision_of_cell(alloc, column as u8, cell, &values[column])?;
         if found.is_some() {
             return Ok(found);
         }
@@ -38,7 +38,7 @@ pub fn agree_cells(
     Ok(None)
 }
 
-fn agree_cell(
+fn collision_of_cell(
     alloc: Global,
     column: u8,
     cell: &Cell<'_>,
@@ -53,11 +53,11 @@ fn agree_cell(
 {
     match cell {
         Cell::Hidden(_) => Ok(None),
-        Cell::Shown(held) => agree_value(alloc, column, held.as_ref(), value),
+        Cell::Shown(held) => collision_of_shown(alloc, column, held.as_ref(), value),
     }
 }
 
-fn agree_value(
+fn collision_of_shown(
     alloc: Global,
     column: u8,
     shown: ValueRef<'_>,
@@ -71,11 +71,11 @@ fn agree_value(
         (AttributesOf column (Shown (value_of shown.entry)) (Shown value.now))) }
 {
     let own = shown.to_value(alloc)?;
-    agree_values(alloc, column, &own, value)
+    collision_of_value(alloc, column, &own, value)
 }
 
 #[tactic(auto, using(crate::proofs::Reading::attribute_same))]
-fn agree_values(
+fn collision_of_value(
     alloc: Global,
     column: u8,
     shown: &Value,

@@ -3,16 +3,17 @@ ghost use Rattle.std.specs.Prelude.{◌≡◌, length, map, IfOk, All};
 ghost use Rattle.std.specs.List.{AllZip};
 ghost use Rattle.vo_spec.specs.Cells.{whole_entry, EntryPrunes};
 ghost use Rattle.vo_spec.specs.Fits.{FitsEntry};
-ghost use Rattle.tree_collide.specs.Agreeing.{HoldsOrCollides, SameEntries};
+ghost use Rattle.tree_collide.specs.Agreements.{HoldsOrCollides, SameEntries};
 ghost use Rattle.tree_collide.specs.Preimages.{RowsIn};
 
-use crate::rows::agree_row;
+use crate::rows::collision_of_row;
 use mb_tree::TreeEntry;
 use std::alloc::{AllocError, Global};
 use vo_spec::{Collision, PartEntry};
 
-/// Whether the entries are those of the tree with some of their rows or cells replaced by digests.
-pub fn agree_entries(
+/// None where the entries are those of the tree with some of their rows or cells replaced by digests, else
+/// a collision of what they hash.
+pub fn collision_of_entries(
     alloc: Global,
     parts: &[PartEntry<'_>],
     entries: &[TreeEntry],
@@ -25,7 +26,7 @@ pub fn agree_entries(
         (RowsIn parts.now (map whole_entry entries.now))) }
 {
     for (place, part) in parts.iter().enumerate() {
-        let found = agree_row(alloc, &part.row, entries[place].cells())?;
+        let found = collision_of_row(alloc, &part.row, entries[place].cells())?;
         if found.is_some() {
             return Ok(found);
         }

@@ -2,7 +2,7 @@
 #![tactic(auto)]
 
 mod cells;
-mod comparing;
+mod comparison;
 mod entries;
 mod nodes;
 mod rows;

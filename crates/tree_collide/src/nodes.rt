@@ -6,12 +6,12 @@ ghost use Rattle.vo_spec.specs.Trees.{digest, Prunes, row_family, open_parts};
 ghost use Rattle.vo_spec.specs.Fits.{FitsPart, FitsEach, FitsEntry};
 ghost use Rattle.mb_tree.specs.View.{part_of, parts_of};
 ghost use Rattle.mb_tree.specs.Whole.{whole_of};
-ghost use Rattle.tree_collide.specs.Agreeing.{HoldsOrCollides, HoldsOrFound, FoundAre, IsLike, SameNodes, is_open};
+ghost use Rattle.tree_collide.specs.Agreements.{HoldsOrCollides, HoldsOrFound, FoundAre, IsLike, SameNodes, is_open};
 ghost use Rattle.tree_collide.specs.Preimages.{ArePreimages, BelowNodes, NodesIn};
 
-use crate::comparing::compare;
-use crate::entries::agree_entries;
-use mb_tree::{Branch, Node, PartTree, Tree};
+use crate::comparison::compare;
+use crate::entries::collision_of_entries;
+use mb_tree::{Node, PartTree, Subtree, Tree};
 use std::alloc::{AllocError, Global};
 use vo_spec::{Agreement, Collision};
 
@@ -25,55 +25,55 @@ pub fn agree(alloc: Global, part: &PartTree<'_>, tree: &Tree) -> Result<Agreemen
     ensures strings { IfOk result (λ agreement.
         FoundAre agreement (ArePreimages (part_of part.now) tree.now)) }
 {
-    match agree_branch(alloc, part, tree.root())? {
+    match collision_of_subtree(alloc, part, tree.root())? {
         None => Ok(Agreement::Prunes),
         Some(found) => Ok(Agreement::Collides(found)),
     }
 }
 
 #[cycle(agree)]
-fn agree_branch(
+fn collision_of_subtree(
     alloc: Global,
     part: &PartTree<'_>,
-    branch: &Branch,
+    subtree: &Subtree,
 ) -> Result<Option<Collision>, AllocError>
     requires fits { FitsPart (part_of part.now) }
-    requires same { digest (part_of part.now) ≡ digest branch.now }
-    ensures { IfOk result (λ found. HoldsOrCollides found (Prunes (part_of part.now) branch.now)
-        (ArePreimages (part_of part.now) branch.now)) }
+    requires same { digest (part_of part.now) ≡ digest subtree.now }
+    ensures { IfOk result (λ found. HoldsOrCollides found (Prunes (part_of part.now) subtree.now)
+        (ArePreimages (part_of part.now) subtree.now)) }
 {
     match part {
         PartTree::Stub(_) => Ok(None),
-        PartTree::Leaf(_) => agree_node(alloc, part, branch),
-        PartTree::Inner { .. } => agree_node(alloc, part, branch),
+        PartTree::Leaf(_) => collision_of_node(alloc, part, subtree),
+        PartTree::Inner { .. } => collision_of_node(alloc, part, subtree),
     }
 }
 
 #[cycle(agree)]
 #[tactic(auto, using(crate::proofs::Reading::like, crate::proofs::Keeping::preimage_kept, crate::proofs::Keeping::open_hash, crate::proofs::Children::node_open, crate::proofs::Strings::node_strings, crate::proofs::Strings::of_below))]
-fn agree_node(
+fn collision_of_node(
     alloc: Global,
     part: &PartTree<'_>,
-    branch: &Branch,
+    subtree: &Subtree,
 ) -> Result<Option<Collision>, AllocError>
     requires open { is_open (part_of part.now) ≡ true }
     requires fits { FitsPart (part_of part.now) }
-    requires same { digest (part_of part.now) ≡ digest branch.now }
-    ensures { IfOk result (λ found. HoldsOrCollides found (Prunes (part_of part.now) branch.now)
-        (ArePreimages (part_of part.now) branch.now)) }
+    requires same { digest (part_of part.now) ≡ digest subtree.now }
+    ensures { IfOk result (λ found. HoldsOrCollides found (Prunes (part_of part.now) subtree.now)
+        (ArePreimages (part_of part.now) subtree.now)) }
 {
-    let node = branch.node();
+    let node = subtree.node();
     let first = part.preimage(alloc)?;
-    let second = branch.preimage(alloc)?;
+    let second = subtree.preimage(alloc)?;
     match compare(first, second) {
         Some(found) => Ok(Some(found)),
-        None => agree_open(alloc, part, node),
+        None => collision_below(alloc, part, node),
     }
 }
 
 #[cycle(agree)]
 #[tactic(auto, using(crate::proofs::Children::entry_count, crate::proofs::Children::child_count))]
-fn agree_open(
+fn collision_below(
     alloc: Global,
     part: &PartTree<'_>,
     node: &Node,
@@ -86,34 +86,34 @@ fn agree_open(
 {
     match (part, node) {
         (PartTree::Leaf(parts), Node::Leaf(entries)) => {
-            agree_entries(alloc, parts.as_slice(), entries)
+            collision_of_entries(alloc, parts.as_slice(), entries)
         },
         (
             PartTree::Inner { children, .. },
             Node::Inner {
-                children: branches,
+                children: subtrees,
                 ..
             },
-        ) => { agree_children(alloc, children.as_slice(), branches) },
+        ) => { collision_of_children(alloc, children.as_slice(), subtrees) },
         _ => unreachable!(),
     }
 }
 
 #[cycle(agree)]
-fn agree_children(
+fn collision_of_children(
     alloc: Global,
     parts: &[PartTree<'_>],
-    branches: &[Branch],
+    subtrees: &[Subtree],
 ) -> Result<Option<Collision>, AllocError>
-    requires count { length parts.now ≡ length branches.now }
+    requires count { length parts.now ≡ length subtrees.now }
     requires fit { FitsEach FitsEntry (parts_of parts.now) }
-    requires same { SameNodes (parts_of parts.now) (open_parts branches.now) }
+    requires same { SameNodes (parts_of parts.now) (open_parts subtrees.now) }
     ensures { IfOk result (λ found.
-        let ps = parts_of parts.now in let ts = open_parts branches.now in
+        let ps = parts_of parts.now in let ts = open_parts subtrees.now in
         HoldsOrCollides found (PrunesEach row_family EntryPrunes ps ts) (NodesIn ps ts)) }
 {
     for (place, part) in parts.iter().enumerate() {
-        let found = agree_branch(alloc, part, &branches[place])?;
+        let found = collision_of_subtree(alloc, part, &subtrees[place])?;
         if found.is_some() {
             return Ok(found);
         }

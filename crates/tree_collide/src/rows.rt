@@ -4,18 +4,19 @@ ghost use Rattle.vo_spec.specs.declared.cells.RowPart.TheVariants.{Cells};
 ghost use Rattle.vo_spec.specs.Sha256.{sha256};
 ghost use Rattle.vo_spec.specs.Cells.{row_bytes as row_bytes_of, row_digest, whole_cells, whole_row, CellsPrune, RowPrunes};
 ghost use Rattle.vo_spec.specs.Fits.{FitsCell, FitsCells, FitsRowPart, max_cells};
-ghost use Rattle.tree_collide.specs.Agreeing.{HoldsOrCollides};
+ghost use Rattle.tree_collide.specs.Agreements.{HoldsOrCollides};
 ghost use Rattle.tree_collide.specs.Preimages.{RowsOf};
 
-use crate::cells::agree_cells;
-use crate::comparing::compare;
+use crate::cells::collision_of_cells;
+use crate::comparison::compare;
 use attr_digest::{attr_digest, cell_digest};
 use mb_tree::HashedCells;
 use std::alloc::{AllocError, Global};
 use vo_spec::{Cell, Collision, RowPart, Value};
 
-/// Whether the part is the row with some of its cells, or itself, replaced by their digests.
-pub fn agree_row(
+/// None where the part is the row with some of its cells, or itself, replaced by their digests, else a
+/// collision of what the two hash.
+pub fn collision_of_row(
     alloc: Global,
     part: &RowPart<'_>,
     cells: &HashedCells,
@@ -27,12 +28,12 @@ pub fn agree_row(
 {
     match part {
         RowPart::Digest(_) => Ok(None),
-        RowPart::Cells(parts) => agree_open(alloc, parts.as_slice(), cells.values()),
+        RowPart::Cells(parts) => collision_of_open_row(alloc, parts.as_slice(), cells.values()),
     }
 }
 
 #[tactic(auto, using(crate::proofs::Reading::row_same, crate::proofs::Keeping::row_bytes_kept, crate::proofs::Steps::whole_fit, crate::proofs::Steps::same_count, crate::proofs::Strings::row_strings, crate::proofs::Strings::of_attributes))]
-fn agree_open(
+fn collision_of_open_row(
     alloc: Global,
     parts: &[Cell<'_>],
     values: &[Value],
@@ -50,7 +51,7 @@ fn agree_open(
     let second = values_preimage(alloc, values)?;
     match compare(first, second) {
         Some(found) => Ok(Some(found)),
-        None => agree_cells(alloc, parts, values),
+        None => collision_of_cells(alloc, parts, values),
     }
 }
 

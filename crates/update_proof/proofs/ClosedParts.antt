@@ -11,7 +11,7 @@ use Rattle.vo_spec.specs.Parts.{stub, leaf, inner, none, more, PrunesEach}
 use Rattle.vo_spec.specs.Trees.{RowTree, RowTrees, row_family, digest, Prunes}
 use Rattle.vo_spec.specs.Inserts.{stands_as_cells, closed_entry}
 use Rattle.vo_spec.specs.Removes.{hidden_cells, hidden_row, closed_parts}
-use Rattle.update_proof.specs.Closing.{is_open, any_open, shows_cells, is_shown, shows_any}
+use Rattle.update_proof.specs.OpenParts.{is_open, any_open, shows_cells, is_shown, shows_any}
 
 abbrev pub Zip : List PartEntry → List PartEntry → Type 0
 Zip = AllZip EntryPrunes

@@ -8,7 +8,7 @@ use Rattle.vo_spec.specs.Parts.{stub, leaf, inner, none, more}
 use Rattle.vo_spec.specs.Trees.{RowTree, RowTrees, open_parts}
 use Rattle.vo_spec.specs.Pruned.{is_missing_by, is_missing_in, has_surplus_by, has_surplus_in}
 use Rattle.vo_spec.specs.Inserts.{walk_to, insert_is_missing, insert_has_surplus}
-use Rattle.update_proof.specs.Closing.{is_open, outside, beside, shows_cells}
+use Rattle.update_proof.specs.OpenParts.{is_open, is_open_outside, opens_other, shows_cells}
 use Rattle.mb_tree.specs.declared.parts.PartTree.{PartTree}
 use Rattle.mb_tree.specs.View.{part_of, parts_of}
 
@@ -60,21 +60,21 @@ module _ (key : List ℕ) where
   missing_step false i j s ss t ts c next lt is on =
       ap (λ x. x || is_missing_in (walk_to key) true (Some s) ss (open_parts ts)) (missing_none key t) ∙ on (omega arith) (is ∙ ap (λ n. get_or (t ∷ ts) n c) next)
 
-  pub path_misses : (lower : Option (List ℕ)) (ss : List (List ℕ)) (ts : List RowTree) (c : RowTree)
+  pub path_is_missing : (lower : Option (List ℕ)) (ss : List (List ℕ)) (ts : List RowTree) (c : RowTree)
       → position_or_len (key_lt key) ss < length ts → c ≡ get_or ts (position_or_len (key_lt key) ss) c
       → is_missing_in (walk_to key) true lower ss (open_parts ts) ≡ is_missing_by (walk_to key) true c
-  path_misses lower ss [] c lt is = absurd (omega arith)
-  path_misses lower [] (t ∷ ts) c lt is =
+  path_is_missing lower ss [] c lt is = absurd (omega arith)
+  path_is_missing lower [] (t ∷ ts) c lt is =
       ap (λ x. is_missing_by (walk_to key) true t || x) (each_missing_none key None [] (open_parts ts)) ∙ or_false (is_missing_by (walk_to key) true t) ∙ ap (is_missing_by (walk_to key) true) (sym is)
-  path_misses lower (s ∷ ss) (t ∷ ts) c lt is =
+  path_is_missing lower (s ∷ ss) (t ∷ ts) c lt is =
       let i = position_or_len (key_lt key) ss in
-      missing_step (key_lt key s) i (1 + i) s ss t ts c (omega arith) lt is (λ within here. path_misses (Some s) ss ts c within here)
+      missing_step (key_lt key s) i (1 + i) s ss t ts c (omega arith) lt is (λ within here. path_is_missing (Some s) ss ts c within here)
 
   surplus_step : (b : Bool) (i j : ℕ) (s : List ℕ) (ss : List (List ℕ)) (t : RowTree) (ts : List RowTree) (c : RowTree)
       → j ≡ suc i → cond (not b) j 0 < length (t ∷ ts) → c ≡ get_or (t ∷ ts) (cond (not b) j 0) c
-      → (i < length ts → c ≡ get_or ts i c → has_surplus_in (walk_to key) true (Some s) ss (open_parts ts) ≡ has_surplus_by (walk_to key) true c || beside i ts)
+      → (i < length ts → c ≡ get_or ts i c → has_surplus_in (walk_to key) true (Some s) ss (open_parts ts) ≡ has_surplus_by (walk_to key) true c || opens_other i ts)
       → has_surplus_by (walk_to key) b t || has_surplus_in (walk_to key) (not b) (Some s) ss (open_parts ts)
-      ≡ has_surplus_by (walk_to key) true c || beside (cond (not b) j 0) (t ∷ ts)
+      ≡ has_surplus_by (walk_to key) true c || opens_other (cond (not b) j 0) (t ∷ ts)
   surplus_step true i j s ss t ts c next lt is on =
       ap (λ x. has_surplus_by (walk_to key) true t || x) (each_surplus key (Some s) ss ts) ∙ ap (λ u. has_surplus_by (walk_to key) true u || list_any is_open ts) (sym is)
   surplus_step false i j s ss t ts c next lt is on =
@@ -85,7 +85,7 @@ module _ (key : List ℕ) where
 
   pub path_surplus : (lower : Option (List ℕ)) (ss : List (List ℕ)) (ts : List RowTree) (c : RowTree)
       → position_or_len (key_lt key) ss < length ts → c ≡ get_or ts (position_or_len (key_lt key) ss) c
-      → has_surplus_in (walk_to key) true lower ss (open_parts ts) ≡ has_surplus_by (walk_to key) true c || beside (position_or_len (key_lt key) ss) ts
+      → has_surplus_in (walk_to key) true lower ss (open_parts ts) ≡ has_surplus_by (walk_to key) true c || opens_other (position_or_len (key_lt key) ss) ts
   path_surplus lower ss [] c lt is = absurd (omega arith)
   path_surplus lower [] (t ∷ ts) c lt is =
       ap (λ x. has_surplus_by (walk_to key) true t || x) (each_surplus key None [] ts) ∙ ap (λ u. has_surplus_by (walk_to key) true u || list_any is_open ts) (sym is)
@@ -135,12 +135,12 @@ or_else false c h = refl
 
 -- what is open before these children and after them
 module _ (ps : List PartTree) (i j : ℕ) where
-  pub outside_before : (b : Bool) → b ≡ list_any is_open (map part_of (take i ps)) → b ≡ true → b ≡ outside i j (map part_of ps)
+  pub outside_before : (b : Bool) → b ≡ list_any is_open (map part_of (take i ps)) → b ≡ true → b ≡ is_open_outside i j (map part_of ps)
   outside_before b before h =
       or_then b (list_any is_open (drop j (map part_of ps))) h
       ∙ ap (λ x. x || list_any is_open (drop j (map part_of ps))) (before ∙ ap (list_any is_open) (sym (take-map part_of i ps)))
 
-  pub outside_after : (b c : Bool) → b ≡ list_any is_open (map part_of (take i ps)) → b ≡ false → c ≡ list_any is_open (map part_of (drop j ps)) → c ≡ outside i j (map part_of ps)
+  pub outside_after : (b c : Bool) → b ≡ list_any is_open (map part_of (take i ps)) → b ≡ false → c ≡ list_any is_open (map part_of (drop j ps)) → c ≡ is_open_outside i j (map part_of ps)
   outside_after b c before h after =
       or_else b c h
       ∙ ap (λ x. x || c) (before ∙ ap (list_any is_open) (sym (take-map part_of i ps)))

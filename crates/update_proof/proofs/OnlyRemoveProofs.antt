@@ -9,11 +9,11 @@ use Rattle.vo_spec.specs.Trees.{RowTree, RowTrees, digest, row_family, Prunes}
 use Rattle.vo_spec.specs.Inserts.{one, Children, result_map, goes_here, after_child, put_insertion}
 use Rattle.vo_spec.specs.Removes.{is_underfull, with_left, with_right, settle_first, settle_next, shrink, shrink_in, shrink_after, closed_parts, becomes_underfull, opened_sibling_if, sibling_first, remove_proof, remove_proof_in, remove_proof_after}
 use Rattle.vo_spec.specs.Cells.{EntryPrunes}
-use Rattle.btree.specs.Agreeing.{AgreesWithTree}
-use Rattle.btree.specs.Placing.{node_of}
+use Rattle.btree.specs.Agreement.{AgreesWithTree}
+use Rattle.btree.specs.Splices.{node_of}
 use Rattle.btree.specs.Pruning.{OpenPrunes, KeepsKeys, KeepsAnnotations}
 use Rattle.btree.proofs.RemovePrunes.{as_underfull, shrink_agrees}
-use Rattle.update_proof.specs.Closing.{is_open, any_open}
+use Rattle.update_proof.specs.OpenParts.{is_open, any_open}
 use Rattle.update_proof.specs.Proving.{lacks, remove_is_missing, sibling_surplus, first_surplus, remove_has_surplus, remove_has_surplus_in, remove_has_surplus_after}
 use Rattle.update_proof.proofs.ReplacementPaths.{lacks_map}
 use Rattle.update_proof.proofs.ClosedParts.{Each, neither, entries_closed, part_closed, all_closed}

@@ -8,7 +8,7 @@ use Rattle.vo_spec.specs.Parts.{stub, leaf, inner, none, more}
 use Rattle.vo_spec.specs.Trees.{RowTree, RowTrees, digest, row_family, Prunes}
 use Rattle.vo_spec.specs.Inserts.{result_map, goes_here, closed_entry}
 use Rattle.vo_spec.specs.Removes.{set_row, edit_entry, edited_by, edited_in, opened_row, hidden_row, closed_parts, path_to, path_in, replace_proof}
-use Rattle.update_proof.specs.Closing.{is_open, any_open, shows_cells, shows_any}
+use Rattle.update_proof.specs.OpenParts.{is_open, any_open, shows_cells, shows_any}
 use Rattle.update_proof.specs.Proving.{lacks, replace_is_missing, rows_surplus, replace_has_surplus, replace_has_surplus_in}
 use Rattle.update_proof.proofs.ReplacementPaths.{lacks_map}
 use Rattle.update_proof.proofs.ClosedParts.{Zip, Each, neither, entry_closed, entries_closed, entry_hidden, part_closed, all_closed}

@@ -14,7 +14,7 @@ use Rattle.btree.proofs.RemainingSizes.{shrunk_alike}
 use Rattle.update_proof.specs.declared.change.Change.{Change}
 use Rattle.update_proof.specs.declared.change.Change.TheVariants.{Insertion, Replacement, Removal}
 use Rattle.update_proof.specs.Changes.{opens_sibling_in, change_proof, opened_along}
-use Rattle.update_proof.specs.Closing.{closed_tree}
+use Rattle.update_proof.specs.OpenParts.{closed_tree}
 
 pub all_closed : (ts : List RowTree) → closed_parts (open_parts ts) ≡ open_parts (map closed_tree ts)
 all_closed [] = refl

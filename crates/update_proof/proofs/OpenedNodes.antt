@@ -6,11 +6,11 @@ use Rattle.vo_spec.specs.Parts.{inner, count, levels, levels_in}
 use Rattle.vo_spec.specs.Trees.{RowTree, open_parts}
 use Rattle.vo_spec.specs.Fits.{FitsPart}
 use Rattle.vo_spec.specs.Removes.{opened_sibling}
-use Rattle.mb_tree.specs.declared.branches.Node.{Node}
-use Rattle.mb_tree.specs.declared.branches.Node.TheVariants.{Inner}
+use Rattle.mb_tree.specs.declared.subtrees.Node.{Node}
+use Rattle.mb_tree.specs.declared.subtrees.Node.TheVariants.{Inner}
 use Rattle.mb_tree.specs.Whole.{whole_of}
-use Rattle.mb_tree.proofs.BranchLaws.{count_open_parts}
-use Rattle.update_proof.specs.Closing.{closed_tree}
+use Rattle.mb_tree.proofs.SubtreeLaws.{count_open_parts}
+use Rattle.update_proof.specs.OpenParts.{closed_tree}
 use Rattle.update_proof.proofs.OpenedChildren.{all_closed}
 
 pub record Limits (t : RowTree) (ss : List (List ℕ)) (ts : List RowTree) : Type 0 where

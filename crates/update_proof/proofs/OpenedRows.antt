@@ -10,7 +10,7 @@ use Rattle.vo_spec.specs.Cells.{whole_cells, whole_entry, cell_digest}
 use Rattle.vo_spec.specs.Inserts.{closed_entry}
 use Rattle.vo_spec.specs.Pruned.{shown_cells}
 use Rattle.vo_spec.specs.Removes.{opened_row, hidden_cells}
-use Rattle.update_proof.specs.Closing.{opened_entry}
+use Rattle.update_proof.specs.OpenParts.{opened_entry}
 
 abbrev first_place : List ℕ → List PartEntry → ℕ
 first_place key = position_or_len (λ e. bytes_eq e.key key)

@@ -4,7 +4,7 @@ use Rattle.std.specs.List.{list_any, position_or_len}
 use Rattle.vo_spec.specs.Values.{key_lt}
 use Rattle.vo_spec.specs.Trees.{RowTree, open_parts}
 use Rattle.vo_spec.specs.Removes.{becomes_underfull}
-use Rattle.update_proof.specs.Closing.{is_open, any_open, beside}
+use Rattle.update_proof.specs.OpenParts.{is_open, any_open, opens_other}
 use Rattle.update_proof.specs.Proving.{opened_sibling_surplus, sibling_surplus, first_surplus, remove_has_surplus, remove_has_surplus_in, remove_has_surplus_after}
 use Rattle.update_proof.specs.Changes.{child_at, surplus_along}
 use Rattle.update_proof.proofs.InsertionPaths.{or_false, swapped}
@@ -88,14 +88,14 @@ after_quiet (suc i) left (t ∷ ts) lt =
     ∙ joined_left (is_open left) (is_open t) (list_any is_open (take i ts)) (list_any is_open (drop (i + 1) ts))
     ∙ rw (add-one i, add-one (suc i)) refl
 
-pub quiet_beside : (i : ℕ) (ts : List RowTree) → i < length ts → around false i ts ≡ beside i ts
+pub quiet_beside : (i : ℕ) (ts : List RowTree) → i < length ts → around false i ts ≡ opens_other i ts
 quiet_beside i [] lt = absurd (omega arith)
 quiet_beside zero (t ∷ []) lt = refl
 quiet_beside zero (t ∷ q ∷ qs) lt = ap (λ x. is_open q || x) (any_open_list qs)
 quiet_beside (suc i) (t ∷ ts) lt = after_quiet i t ts (omega arith) ∙ rw (add-one i, add-one (suc i)) refl
 
 -- where it is alone
-pub only_beside : (looks : Bool) (ts : List RowTree) (place : ℕ) → length ts ≡ 1 → place < length ts → around looks place ts ≡ beside place ts
+pub only_beside : (looks : Bool) (ts : List RowTree) (place : ℕ) → length ts ≡ 1 → place < length ts → around looks place ts ≡ opens_other place ts
 only_beside looks [] place single lt = absurd (omega arith)
 only_beside looks (t ∷ q ∷ ts) place single lt = absurd (omega arith)
 only_beside looks (t ∷ []) zero single lt = refl

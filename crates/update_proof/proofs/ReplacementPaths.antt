@@ -11,7 +11,7 @@ use Rattle.vo_spec.specs.Parts.{leaf, inner, more}
 use Rattle.vo_spec.specs.Trees.{RowTree, RowTrees, row_family, open_parts}
 use Rattle.vo_spec.specs.Inserts.{result_map}
 use Rattle.vo_spec.specs.Removes.{set_row, edit_entry, edited_by, edited_in}
-use Rattle.update_proof.specs.Closing.{is_open, any_open, beside, shows_cells, shows_any}
+use Rattle.update_proof.specs.OpenParts.{is_open, any_open, opens_other, shows_cells, shows_any}
 use Rattle.update_proof.specs.Proving.{lacks, replace_is_missing, rows_surplus, replace_has_surplus, replace_has_surplus_in}
 use Rattle.update_proof.proofs.InsertionPaths.{swapped}
 
@@ -65,8 +65,8 @@ module _ (key : List ℕ) where
 
 module _ (key : List ℕ) where
   surplus_step : (b : Bool) (i j : ℕ) (ss : List (List ℕ)) (t : RowTree) (ts : List RowTree) (c : RowTree) → j ≡ suc i → cond (not b) j 0 < suc (length ts) → c ≡ get_or (t ∷ ts) (cond (not b) j 0) c
-      → (i < length ts → c ≡ get_or ts i c → replace_has_surplus_in key ss (open_parts ts) ≡ replace_has_surplus key c || beside i ts)
-      → cond b (replace_has_surplus key t || any_open (open_parts ts)) (is_open t || replace_has_surplus_in key ss (open_parts ts)) ≡ replace_has_surplus key c || beside (cond (not b) j 0) (t ∷ ts)
+      → (i < length ts → c ≡ get_or ts i c → replace_has_surplus_in key ss (open_parts ts) ≡ replace_has_surplus key c || opens_other i ts)
+      → cond b (replace_has_surplus key t || any_open (open_parts ts)) (is_open t || replace_has_surplus_in key ss (open_parts ts)) ≡ replace_has_surplus key c || opens_other (cond (not b) j 0) (t ∷ ts)
   surplus_step true i j ss t ts c next lt is on =
       ap (λ x. replace_has_surplus key t || x) (any_open_list ts) ∙ ap (λ u. replace_has_surplus key u || list_any is_open ts) (sym is)
   surplus_step false i j ss t ts c next lt is on =
@@ -75,7 +75,7 @@ module _ (key : List ℕ) where
       ∙ rw (next, add-one i, add-one (suc i)) refl
 
   pub surplus_at : (ss : List (List ℕ)) (ts : List RowTree) (c : RowTree) → position_or_len (key_lt key) ss < length ts → c ≡ get_or ts (position_or_len (key_lt key) ss) c
-      → replace_has_surplus_in key ss (open_parts ts) ≡ replace_has_surplus key c || beside (position_or_len (key_lt key) ss) ts
+      → replace_has_surplus_in key ss (open_parts ts) ≡ replace_has_surplus key c || opens_other (position_or_len (key_lt key) ss) ts
   surplus_at ss [] c lt is = absurd (omega arith)
   surplus_at [] (t ∷ ts) c lt is = ap (λ x. replace_has_surplus key t || x) (any_open_list ts) ∙ ap (λ u. replace_has_surplus key u || list_any is_open ts) (sym is)
   surplus_at (s ∷ ss) (t ∷ ts) c lt is =
@@ -111,9 +111,9 @@ module _ (key : List ℕ) where
       let i = position_or_len (key_lt key) ss in
       missing_step (key_lt key s) i (1 + i) ss t ts c (omega arith) lt is (λ within here. missing_at ss ts c within here)
 
-  pub path_misses : (ss : List (List ℕ)) (ts : List RowTree) (c : RowTree) → position_or_len (key_lt key) ss < length ts → c ≡ get_or ts (position_or_len (key_lt key) ss) c
+  pub path_is_missing : (ss : List (List ℕ)) (ts : List RowTree) (c : RowTree) → position_or_len (key_lt key) ss < length ts → c ≡ get_or ts (position_or_len (key_lt key) ss) c
       → replace_is_missing key (inner ss (open_parts ts)) ≡ replace_is_missing key c
-  path_misses ss ts c lt is = lacks_map (inner ss) (edited_in row_family (set_row []) key ss (open_parts ts)) ∙ missing_at ss ts c lt is
+  path_is_missing ss ts c lt is = lacks_map (inner ss) (edited_in row_family (set_row []) key ss (open_parts ts)) ∙ missing_at ss ts c lt is
 
   lost_step : (b : Bool) (n i j : ℕ) (f : RowTrees → RowTrees) (here rest : Result RowTrees UpdateFault) → j ≡ suc i → suc n ≤ cond (not b) j 0 → (n ≤ i → lacks rest ≡ true) → lacks (cond b here (result_map f rest)) ≡ true
   lost_step true n i j f here rest next past on = absurd (omega arith)

@@ -10,17 +10,17 @@ use Rattle.mb_tree.specs.declared.parts.PartTree.{PartTree}
 use Rattle.mb_tree.specs.View.{part_of, parts_of}
 use Rattle.update_proof.specs.declared.change.Change.{Change}
 use Rattle.update_proof.specs.declared.change.Change.TheVariants.{Insertion, Replacement, Removal}
-use Rattle.update_proof.specs.Changes.{opens_sibling_in, change_has_surplus, path_misses, surplus_along}
-use Rattle.update_proof.specs.Closing.{is_open, beside}
+use Rattle.update_proof.specs.Changes.{opens_sibling_in, change_has_surplus, path_is_missing, surplus_along}
+use Rattle.update_proof.specs.OpenParts.{is_open, opens_other}
 use Rattle.update_proof.specs.Proving.{remove_has_surplus}
-use Rattle.update_proof.proofs.InsertionPaths.{path_surplus, pathless_surplus, path_misses as insertion_missing, pathless_missing}
-use Rattle.update_proof.proofs.ReplacementPaths.{surplus_at, past_beyond, path_misses as replacement_missing, path_lost}
+use Rattle.update_proof.proofs.InsertionPaths.{path_surplus, pathless_surplus, path_is_missing as insertion_missing, pathless_missing}
+use Rattle.update_proof.proofs.ReplacementPaths.{surplus_at, past_beyond, path_is_missing as replacement_missing, path_lost}
 use Rattle.update_proof.proofs.RemovalPaths.{around, surplus_at as removal_surplus, past_beyond as removal_past, quiet_beside, only_beside, underfull_with_sibling}
 use Rattle.update_proof.proofs.OpenedChildren.{same_underfull}
 
 -- around a child, with its sibling's node open or not
 
-only_along : (i : ℕ) (ts : List RowTree) → length ts ≡ 1 → i < length ts → beside i ts ≡ surplus_along i true ts
+only_along : (i : ℕ) (ts : List RowTree) → length ts ≡ 1 → i < length ts → opens_other i ts ≡ surplus_along i true ts
 only_along i [] single lt = absurd (omega arith)
 only_along zero (t ∷ []) single lt = refl
 only_along (suc i) (t ∷ []) single lt = absurd (omega arith)
@@ -47,7 +47,7 @@ module _ (key : List ℕ) (ss : List (List ℕ)) (ps : List PartTree) (place : �
       by Replacement = sym (past_beyond key ss (map part_of ps) all)
       by Removal = sym (removal_past key ss (map part_of ps) all)
 
-  pub past_missing : (with_row : Bool) → length ps ≤ place → with_row ≡ path_misses with_row key (inner ss (parts_of ps))
+  pub past_missing : (with_row : Bool) → length ps ≤ place → with_row ≡ path_is_missing with_row key (inner ss (parts_of ps))
   past_missing true past = let counted = length-map ps part_of in path_lost key ss (map part_of ps) (omega arith)
   past_missing false past = let counted = length-map ps part_of in sym (pathless_missing key None ss (map part_of ps) (omega arith))
 
@@ -61,15 +61,15 @@ module _ (key : List ℕ) (ss : List (List ℕ)) (ps : List PartTree) (place : �
     here : part_of p ≡ get_or (map part_of ps) (position_or_len (key_lt key) ss) (part_of p)
     here = ap part_of is ∙ sym (get_or-map part_of ps place p (part_of p) lt) ∙ ap (λ n. get_or (map part_of ps) n (part_of p)) at
 
-    pub path_missing : (with_row : Bool) → path_misses with_row key (part_of p) ≡ path_misses with_row key (inner ss (parts_of ps))
+    pub path_missing : (with_row : Bool) → path_is_missing with_row key (part_of p) ≡ path_is_missing with_row key (inner ss (parts_of ps))
     path_missing true = sym (replacement_missing key ss (map part_of ps) (part_of p) within here)
     path_missing false = sym (insertion_missing key None ss (map part_of ps) (part_of p) within here)
 
     pub child_surplus : (change : Change) → change_has_surplus change key (part_of p) || surplus_along place (opens_sibling_in row_family change key (part_of p)) (map part_of ps) ≡ change_has_surplus change key (inner ss (parts_of ps))
     child_surplus Insertion =
-        ap (λ n. change_has_surplus Insertion key (part_of p) || beside n (map part_of ps)) at ∙ sym (path_surplus key None ss (map part_of ps) (part_of p) within here)
+        ap (λ n. change_has_surplus Insertion key (part_of p) || opens_other n (map part_of ps)) at ∙ sym (path_surplus key None ss (map part_of ps) (part_of p) within here)
     child_surplus Replacement =
-        ap (λ n. change_has_surplus Replacement key (part_of p) || beside n (map part_of ps)) at ∙ sym (surplus_at key ss (map part_of ps) (part_of p) within here)
+        ap (λ n. change_has_surplus Replacement key (part_of p) || opens_other n (map part_of ps)) at ∙ sym (surplus_at key ss (map part_of ps) (part_of p) within here)
     child_surplus Removal =
         ap (λ b. remove_has_surplus key (part_of p) || surplus_along place b (map part_of ps)) (sym (same_underfull key (part_of p)))
         ∙ ap (λ n. remove_has_surplus key (part_of p) || surplus_along n (becomes_underfull key (part_of p)) (map part_of ps)) at

@@ -11,7 +11,7 @@ use Rattle.mb_update.specs.declared.ops.Op.{Op}
 use Rattle.mb_update.specs.declared.ops.Op.TheVariants.{Insert, Replace, Remove}
 use Rattle.update_proof.specs.declared.change.Change.{Change}
 use Rattle.update_proof.specs.declared.change.Change.TheVariants.{Insertion, Replacement, Removal}
-use Rattle.update_proof.specs.Closing.{closed_tree, outside, shows_cells}
+use Rattle.update_proof.specs.OpenParts.{closed_tree, is_open_outside, shows_cells}
 use Rattle.update_proof.specs.Proving.{opened_sibling_surplus, replace_is_missing, remove_is_missing, rows_surplus, replace_has_surplus, remove_has_surplus}
 
 abbrev pub change_in : Op → Change
@@ -46,10 +46,12 @@ change_proof Insertion = insert_proof
 change_proof Replacement = replace_proof
 change_proof Removal = remove_proof
 
--- the children closed, but for the one of this number, in whose place this stands, and for the node of its sibling if that is opened
+-- the children closed, but for the one of this number, in whose place this stands, and for the node of
+-- its sibling if that is opened
 abbrev pub opened_along : ℕ → Bool → RowTree → List RowTree → List RowTree
 opened_along i opens p ts =
-    if opens then slice_set (slice_set (map closed_tree ts) i p) (sibling_of i)
+    if opens
+    then slice_set (slice_set (map closed_tree ts) i p) (sibling_of i)
     (opened_sibling (child_at (sibling_of i) ts))
     else slice_set (map closed_tree ts) i p
 
@@ -61,16 +63,16 @@ change_is_missing Replacement = replace_is_missing
 change_is_missing Removal = remove_is_missing
 
 -- the path to a key, or also the key's row
-abbrev pub path_misses : Bool → List ℕ → RowTree → Bool
-path_misses true = replace_is_missing
-path_misses false = insert_is_missing
+abbrev pub path_is_missing : Bool → List ℕ → RowTree → Bool
+path_is_missing true = replace_is_missing
+path_is_missing false = insert_is_missing
 
 -- What a part has that the change doesn't look at.
 
-abbrev pub rows_go_beyond : Change → List ℕ → List PartEntry → Bool
-rows_go_beyond Insertion key es = list_any shows_cells es
-rows_go_beyond Replacement key es = rows_surplus key es
-rows_go_beyond Removal key es = list_any shows_cells es
+abbrev pub any_row_surplus : Change → List ℕ → List PartEntry → Bool
+any_row_surplus Insertion key es = list_any shows_cells es
+any_row_surplus Replacement key es = rows_surplus key es
+any_row_surplus Removal key es = list_any shows_cells es
 
 abbrev pub change_has_surplus : Change → List ℕ → RowTree → Bool
 change_has_surplus Insertion = insert_has_surplus
@@ -81,4 +83,5 @@ change_has_surplus Removal = remove_has_surplus
 abbrev pub surplus_along : ℕ → Bool → List RowTree → Bool
 surplus_along i opens ts =
     if opens then opened_sibling_surplus (child_at (sibling_of i) ts)
-    || outside (i - 1) (i - 1 + 2) ts else outside i (i + 1) ts
+    || is_open_outside (i - 1) (i - 1 + 2) ts
+    else is_open_outside i (i + 1) ts

@@ -1,3 +1,3 @@
 pub mod Changes
-pub mod Closing
+pub mod OpenParts
 pub mod Proving

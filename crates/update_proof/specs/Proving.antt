@@ -10,8 +10,8 @@ use Rattle.mb_update.specs.declared.ops.Op.TheVariants.{Insert, Replace, Remove}
 pub use Rattle.vo_laws.specs.UpdateProofs.{lacks, replace_is_missing, rows_surplus, replace_has_surplus, replace_has_surplus_in, remove_is_missing, opened_sibling_surplus, sibling_surplus, first_surplus, remove_has_surplus, remove_has_surplus_in, remove_has_surplus_after}
 
 -- Missing where something is, else the answer
-abbrev pub told : Bool → Bool → Result Bool ScanFault
-told missing answer = if missing then Err Missing else Ok answer
+abbrev pub missing_or : Bool → Bool → Result Bool ScanFault
+missing_or missing answer = if missing then Err Missing else Ok answer
 
 -- What a tree has open in the proof of a change.
 abbrev pub update_proof : Op → RowTree → RowTree

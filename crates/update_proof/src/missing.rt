@@ -2,7 +2,7 @@
 ghost use Rattle.std.specs.Prelude.{◌≡◌, length, map};
 ghost use Rattle.vo_spec.specs.Parts.{leaf, inner};
 ghost use Rattle.mb_tree.specs.View.{part_of, parts_of};
-ghost use Rattle.update_proof.specs.Changes.{change_is_missing, path_misses};
+ghost use Rattle.update_proof.specs.Changes.{change_is_missing, path_is_missing};
 ghost use Rattle.update_proof.specs.Proving.{remove_is_missing, replace_is_missing};
 
 use crate::change::Change;
@@ -34,7 +34,7 @@ fn lacks_siblings(tree: &PartTree<'_>, key: &[u8]) -> bool
 /// Whether the path to the key isn't open, or the key's row, where that is asked for too.
 #[cycle(lacks_path)]
 fn lacks_path(tree: &PartTree<'_>, key: &[u8], with_row: bool) -> bool
-    ensures { result ≡ path_misses with_row key.now (part_of tree.now) }
+    ensures { result ≡ path_is_missing with_row key.now (part_of tree.now) }
 {
     match tree {
         PartTree::Stub(_) => true,
@@ -53,7 +53,8 @@ fn lacks_path_below(
     key: &[u8],
     with_row: bool,
 ) -> bool
-    ensures { result ≡ path_misses with_row key.now (inner separators.now (parts_of children.now)) }
+    ensures { result ≡ path_is_missing with_row key.now
+        (inner separators.now (parts_of children.now)) }
 {
     let place = position_above(separators, key);
     if place >= children.len() {

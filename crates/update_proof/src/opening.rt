@@ -9,10 +9,10 @@ ghost use Rattle.update_proof.specs.Changes.{change_proof, opened_along};
 ghost use Rattle.update_proof.specs.Proving.{update_proof};
 
 use crate::change::{Change, change_of, key_of, step_of};
-use crate::closing::{close_branches, open_node};
 use crate::opening_rows::open_rows;
+use crate::stubs::{hash_subtrees, open_node};
 use btree::{Step, sibling_of};
-use mb_tree::{Branch, Node, Nodes, PartTree, Tree, TreeKey, lend_keys};
+use mb_tree::{Children, Node, PartTree, Subtree, Tree, TreeKey, lend_keys};
 use mb_update::Op;
 use std::alloc::{AllocError, Global};
 
@@ -56,17 +56,17 @@ pub fn remove_proof<'b>(
     open_along(alloc, tree.root(), key, Change::Removal)
 }
 
-/// The branch with the path to the key's leaf open, and the siblings of the nodes that are left underfull.
+/// The subtree with the path to the key's leaf open, and the siblings of the nodes that are left underfull.
 #[cycle(open_along)]
 fn open_along<'b>(
     alloc: Global,
-    branch: &'b Branch,
+    subtree: &'b Subtree,
     key: &[u8],
     change: Change,
 ) -> Result<PartTree<'b>, AllocError>
-    ensures { IfOk result (λ part. part_of part ≡ change_proof change key.now branch.now) }
+    ensures { IfOk result (λ part. part_of part ≡ change_proof change key.now subtree.now) }
 {
-    match branch.node() {
+    match subtree.node() {
         Node::Leaf(entries) => Ok(PartTree::Leaf(open_rows(alloc, entries, key, change)?)),
         Node::Inner {
             separators,
@@ -86,10 +86,10 @@ fn open_along<'b>(
 fn open_children<'b>(
     alloc: Global,
     separators: &[TreeKey],
-    children: &'b [Branch],
+    children: &'b [Subtree],
     key: &[u8],
     change: Change,
-) -> Result<Nodes<'b>, AllocError>
+) -> Result<Children<'b>, AllocError>
     requires least { 2 ≤ length children.now }
     requires between { length separators.now + 1 ≡ length children.now }
     ensures { IfOk result (λ parts. inner separators.now parts
@@ -97,30 +97,30 @@ fn open_children<'b>(
 {
     let step = step_of(change, separators, children, key);
     let part = open_along(alloc, &children[step.child], key, change)?;
-    open_beside(alloc, children, step, part)
+    open_sibling(alloc, children, step, part)
 }
 
 /// The part in the place of the step's child, the node of its sibling if it is opened, and the other
 /// children closed.
-fn open_beside<'b>(
+fn open_sibling<'b>(
     alloc: Global,
-    children: &'b [Branch],
+    children: &'b [Subtree],
     step: Step,
     part: PartTree<'b>,
-) -> Result<Nodes<'b>, AllocError>
+) -> Result<Children<'b>, AllocError>
     requires at { step.child < length children.now }
     requires least { 2 ≤ length children.now }
     ensures { IfOk result (λ parts. parts
         ≡ open_parts (opened_along step.child step.opens_sibling
         (part_of part.entry) children.now)) }
 {
-    let parts = with_part(close_branches(alloc, children)?, step.child, part);
+    let parts = with_part(hash_subtrees(alloc, children)?, step.child, part);
     if !step.opens_sibling {
-        return Ok(Nodes::from_vec(parts));
+        return Ok(Children::from_vec(parts));
     }
     let sibling = sibling_of(step.child);
     let node = open_node(alloc, &children[sibling])?;
-    Ok(Nodes::from_vec(with_part(parts, sibling, node)))
+    Ok(Children::from_vec(with_part(parts, sibling, node)))
 }
 
 /// The parts with this in the place of the one of this number.

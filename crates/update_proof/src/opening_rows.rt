@@ -3,10 +3,10 @@ ghost use Rattle.std.specs.Prelude.{◌≡◌, map, IfOk};
 ghost use Rattle.vo_spec.specs.Cells.{whole_entry};
 ghost use Rattle.vo_spec.specs.Removes.{opened_row};
 ghost use Rattle.update_proof.specs.Changes.{rows_in_proof};
-ghost use Rattle.update_proof.specs.Closing.{opened_entry};
+ghost use Rattle.update_proof.specs.OpenParts.{opened_entry};
 
 use crate::change::Change;
-use crate::closing::close_entries;
+use crate::stubs::hash_entries;
 use attr_digest::hide_cells;
 use btree::position_of;
 use mb_tree::TreeEntry;
@@ -24,7 +24,7 @@ pub fn open_rows<'b>(
         ≡ rows_in_proof change key.now (map whole_entry entries.now)) }
 {
     match change {
-        Change::Insertion | Change::Removal => close_entries(alloc, entries),
+        Change::Insertion | Change::Removal => hash_entries(alloc, entries),
         Change::Replacement => open_row(alloc, entries, key),
     }
 }
@@ -38,7 +38,7 @@ fn open_row<'b>(
     ensures { IfOk result (λ rows. rows ≡ opened_row key.now (map whole_entry entries.now)) }
 {
     let place = position_of(entries, key);
-    let closed = close_entries(alloc, entries)?;
+    let closed = hash_entries(alloc, entries)?;
     if place >= entries.len() {
         return Ok(closed);
     }

@@ -4,8 +4,8 @@ ghost use Rattle.std.specs.List.{list_any};
 ghost use Rattle.vo_spec.specs.Parts.{inner};
 ghost use Rattle.mb_tree.specs.View.{part_of, parts_of};
 ghost use Rattle.update_proof.specs.Changes.{change_has_surplus, surplus_along};
-ghost use Rattle.update_proof.specs.Closing.{is_open, outside};
-ghost use Rattle.update_proof.specs.Proving.{opened_sibling_surplus, told, update_is_missing, update_has_surplus};
+ghost use Rattle.update_proof.specs.OpenParts.{is_open, is_open_outside};
+ghost use Rattle.update_proof.specs.Proving.{opened_sibling_surplus, missing_or, update_is_missing, update_has_surplus};
 
 use crate::change::{Change, change_of, key_of, step_of};
 use crate::missing::is_missing;
@@ -18,7 +18,7 @@ use vo_spec::{KeyPart, ScanFault};
 /// Whether the part is the proof of the change, as far as it alone can tell: with nothing missing, true
 /// exactly where nothing is open that the change doesn't look at. It takes no memory.
 pub fn is_update_proof(tree: &PartTree<'_>, op: &Op) -> Result<bool, ScanFault>
-    ensures { result ≡ told (update_is_missing op.now (part_of tree.now))
+    ensures { result ≡ missing_or (update_is_missing op.now (part_of tree.now))
         (not (update_has_surplus op.now (part_of tree.now))) }
 {
     let key = key_of(op);
@@ -58,11 +58,11 @@ fn children_have_surplus<'b>(
     if step.child >= children.len() {
         return any_open(children);
     }
-    has_surplus(&children[step.child], key, change) || has_surplus_beside(children, step)
+    has_surplus(&children[step.child], key, change) || has_sibling_surplus(children, step)
 }
 
 /// Whether more is open beside the step's child than its sibling's node, if that is opened.
-fn has_surplus_beside(children: &[PartTree<'_>], step: Step) -> bool
+fn has_sibling_surplus(children: &[PartTree<'_>], step: Step) -> bool
     requires { step.child < length children.now }
     ensures { result ≡ surplus_along step.child step.opens_sibling (map part_of children.now) }
 {
@@ -78,7 +78,7 @@ fn has_surplus_beside(children: &[PartTree<'_>], step: Step) -> bool
 fn open_outside(children: &[PartTree<'_>], from: usize, to: usize) -> bool
     requires start { from ≤ length children.now }
     requires end { to ≤ length children.now }
-    ensures { result ≡ outside from to (map part_of children.now) }
+    ensures { result ≡ is_open_outside from to (map part_of children.now) }
 {
     any_open(&children[..from]) || any_open(&children[to..])
 }

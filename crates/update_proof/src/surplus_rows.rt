@@ -1,8 +1,8 @@
 //! What rows show of which a change doesn't look at.
 ghost use Rattle.std.specs.Prelude.{◌≡◌, ◌<◌, ◌+◌, ◌||◌, length, take, drop};
 ghost use Rattle.std.specs.List.{list_any};
-ghost use Rattle.update_proof.specs.Changes.{rows_go_beyond};
-ghost use Rattle.update_proof.specs.Closing.{is_shown, shows_any, shows_cells};
+ghost use Rattle.update_proof.specs.Changes.{any_row_surplus};
+ghost use Rattle.update_proof.specs.OpenParts.{is_shown, shows_any, shows_cells};
 ghost use Rattle.update_proof.specs.Proving.{rows_surplus};
 
 use crate::change::Change;
@@ -11,7 +11,7 @@ use vo_spec::{Cell, PartEntry, RowPart};
 
 /// Whether a row of the leaf shows more than its digest, or that of a replacement more than its cells'.
 pub fn rows_have_surplus(entries: &[PartEntry<'_>], key: &[u8], change: Change) -> bool
-    ensures { result ≡ rows_go_beyond change key.now entries.now }
+    ensures { result ≡ any_row_surplus change key.now entries.now }
 {
     match change {
         Change::Insertion | Change::Removal => any_cells(entries),
@@ -27,11 +27,11 @@ fn others_have_surplus(entries: &[PartEntry<'_>], key: &[u8]) -> bool
     if place >= entries.len() {
         return any_cells(entries);
     }
-    shows_cell(&entries[place].row) || cells_beside(entries, place)
+    shows_cell(&entries[place].row) || others_stand_as_cells(entries, place)
 }
 
 /// Whether another row than that of this number stands as cells.
-fn cells_beside(entries: &[PartEntry<'_>], place: usize) -> bool
+fn others_stand_as_cells(entries: &[PartEntry<'_>], place: usize) -> bool
     requires { place < length entries.now }
     ensures { result ≡ list_any shows_cells (take place entries.now)
         || list_any shows_cells (drop (place + 1) entries.now) }

@@ -18,7 +18,7 @@ use Rattle.batch_format.proofs.ReaderLaws.{Took, IsReader, some_is, bound, took_
 use Rattle.version_record.proofs.RecordLaws.{bytes_read}
 use Rattle.mb_tree.specs.declared.parts.PartTree.{PartTree}
 use Rattle.mb_tree.specs.View.{part_of}
-use Rattle.mb_tree.proofs.BranchLaws.{count_open_parts}
+use Rattle.mb_tree.proofs.SubtreeLaws.{count_open_parts}
 use Rattle.vo_format.specs.Reading.{entry_at, key_at, leaf_at, inner_at, inner_node, node_at, tree_at}
 use Rattle.vo_format.proofs.Fields.{one_byte, counts_read, keys_read, behind_byte, tagged_found, tagged_again, pick}
 use Rattle.vo_format.proofs.EntryLaws.{entries_read}

@@ -13,7 +13,7 @@ ghost use Rattle.vo_format.specs.Reading.{entry_at, inner_at, key_at, leaf_at, n
 ghost use Rattle.vo_format.specs.View.{trees_of};
 
 use crate::entry_reading::{take_count, take_digest, take_entry, take_key};
-use mb_tree::{Nodes, PartTree};
+use mb_tree::{Children, PartTree};
 use row_bytes::{Cursor, ReadFault};
 use std::alloc::Global;
 use vo_spec::{KeyPart, List, PartEntry};
@@ -135,7 +135,7 @@ fn take_inner<'b>(
     match each_child(alloc, cursor, levels, count) {
         Ok(children) => Ok(PartTree::Inner {
             separators,
-            children: Nodes::from_vec(children),
+            children: Children::from_vec(children),
         }),
         Err(fault) => Err(fault),
     }

@@ -4,9 +4,9 @@ use Rattle.btree.proofs.removal.remove_in_leaf.Goals as goal
 
 pub returns-then-place-entries-clause-value : goal.returns-then-place-entries-clause-value
 returns-then-place-entries-clause-value g c =
-    none_to_remove g.N.TreeNode.family g.N.Entry.Keyed.key g.N.TreeNode.entry g.met.N.TreeNode.entry_key c.args.key.now c.args.entries.now c.position_of-place.result c.position_of-place.ensures.place c.if-place-entries.true
+    none_to_remove g.N.TreeNode.family g.N.Entry.KeyedItem.key g.N.TreeNode.entry g.met.N.TreeNode.entry_key c.args.key.now c.args.entries.now c.position_of-place.result c.position_of-place.ensures.place c.if-place-entries.true
 
 pub returns-clause-value : goal.returns-clause-value
 returns-clause-value g c =
-    rw (removed_from_leaf g.N.TreeNode.family g.N.Entry.Keyed.key g.N.TreeNode.entry g.met.N.TreeNode.entry_key c.args.key.now c.args.entries.now c.position_of-place.result c.position_of-place.ensures.place c.in_ok-others.others.items c.if-place-entries.false
+    rw (removed_from_leaf g.N.TreeNode.family g.N.Entry.KeyedItem.key g.N.TreeNode.entry g.met.N.TreeNode.entry_key c.args.key.now c.args.entries.now c.position_of-place.result c.position_of-place.ensures.place c.in_ok-others.others.items c.if-place-entries.false
     (c.in_ok-others.ensures ∙ ap (λ l. take c.position_of-place.result c.args.entries.now ++ l ++ drop (c.position_of-place.result + 1) c.args.entries.now) c.new.ensures.items)) refl

@@ -3,8 +3,8 @@ use Rattle.btree.proofs.removal.root_of.Goals as goal
 
 pub root_of_inner-requires-clause-most : goal.root_of_inner-requires-clause-most
 root_of_inner-requires-clause-most g c =
-    (counts g.N.TreeNode.family g.N.Key.Keyed.key g.N.TreeNode.entry g.N.TreeNode.kid 1 c.args.contents c.in-Inner.separators c.in-Inner.children c.in-Inner.is c.requires).most
+    (counts g.N.TreeNode.family g.N.Key.KeyedItem.key g.N.TreeNode.entry g.N.TreeNode.kid 1 c.args.contents c.in-Inner.separators c.in-Inner.children c.in-Inner.is c.requires).most
 
 pub root_of_inner-requires-clause-between : goal.root_of_inner-requires-clause-between
 root_of_inner-requires-clause-between g c =
-    (counts g.N.TreeNode.family g.N.Key.Keyed.key g.N.TreeNode.entry g.N.TreeNode.kid 1 c.args.contents c.in-Inner.separators c.in-Inner.children c.in-Inner.is c.requires).between
+    (counts g.N.TreeNode.family g.N.Key.KeyedItem.key g.N.TreeNode.entry g.N.TreeNode.kid 1 c.args.contents c.in-Inner.separators c.in-Inner.children c.in-Inner.is c.requires).between

@@ -3,12 +3,12 @@ use Rattle.btree.proofs.split.divide.Goals as goal
 
 pub divide_inner-requires-clause-within : goal.divide_inner-requires-clause-within
 divide_inner-requires-clause-within g c =
-    (divides_inner g.N.Key.Keyed.key g.N.TreeNode.entry g.N.TreeNode.kid c.args.at c.args.contents c.in-Inner.separators c.in-Inner.children c.in-Inner.is c.requires.linked c.requires.two c.requires.last).within
+    (divides_inner g.N.Key.KeyedItem.key g.N.TreeNode.entry g.N.TreeNode.kid c.args.at c.args.contents c.in-Inner.separators c.in-Inner.children c.in-Inner.is c.requires.linked c.requires.two c.requires.last).within
 
 pub divide_inner-requires-clause-last : goal.divide_inner-requires-clause-last
 divide_inner-requires-clause-last g c =
-    (divides_inner g.N.Key.Keyed.key g.N.TreeNode.entry g.N.TreeNode.kid c.args.at c.args.contents c.in-Inner.separators c.in-Inner.children c.in-Inner.is c.requires.linked c.requires.two c.requires.last).last
+    (divides_inner g.N.Key.KeyedItem.key g.N.TreeNode.entry g.N.TreeNode.kid c.args.at c.args.contents c.in-Inner.separators c.in-Inner.children c.in-Inner.is c.requires.linked c.requires.two c.requires.last).last
 
 pub divide_inner-requires-clause-between : goal.divide_inner-requires-clause-between
 divide_inner-requires-clause-between g c =
-    (divides_inner g.N.Key.Keyed.key g.N.TreeNode.entry g.N.TreeNode.kid c.args.at c.args.contents c.in-Inner.separators c.in-Inner.children c.in-Inner.is c.requires.linked c.requires.two c.requires.last).between
+    (divides_inner g.N.Key.KeyedItem.key g.N.TreeNode.entry g.N.TreeNode.kid c.args.at c.args.contents c.in-Inner.separators c.in-Inner.children c.in-Inner.is c.requires.linked c.requires.two c.requires.last).between

@@ -8,5 +8,5 @@ returns g c =
     let some : 0 < c.args.at = omega (arith, c.requires.least) in
     let many : c.args.at ≤ length c.args.separators.items = omega (arith, c.requires.within, c.requires.between) in
     IfOk-weaker c.two.result _ _
-    (λ s has. inner_divided g.N.Key.Keyed.key g.N.TreeNode.entry g.N.TreeNode.kid g.N.TreeNode.family c.args.at c.args.separators.items c.args.children.items c.in_ok-halves.halves c.in_ok-left.left c.in_ok-right.right s
-    some many c.in_ok-halves.ensures c.in_ok-left.ensures c.in_ok-right.ensures has) c.two.ensures
+    (λ s has. inner_divided g.N.Key.KeyedItem.key g.N.TreeNode.entry g.N.TreeNode.kid g.N.TreeNode.family c.args.at c.args.separators.items c.args.children.items c.in_ok-division.division c.in_ok-left.left c.in_ok-right.right s
+    some many c.in_ok-division.ensures c.in_ok-left.ensures c.in_ok-right.ensures has) c.two.ensures

@@ -3,7 +3,7 @@ use Rattle.std.proofs.lemmas.List.{length-map}
 use Rattle.vo_spec.specs.Parts.{count}
 use Rattle.btree.specs.Nodes.{parts_from}
 use Rattle.btree.specs.Shapes.{size_of}
-use Rattle.btree.proofs.Listed.{count_parts}
+use Rattle.btree.proofs.ChildLists.{count_parts}
 use Rattle.btree.proofs.steps.fill_of.Goals as goal
 
 pub returns-in-Inner : goal.returns-in-Inner

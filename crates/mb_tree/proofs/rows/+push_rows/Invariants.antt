@@ -5,7 +5,7 @@ use Rattle.vo_spec.specs.Standing.{rows_in}
 use Rattle.mb_tree.proofs.rows.+push_rows.Given as goal
 
 abbrev pub decreases-push_rows : goal.decreases-push_rows
-decreases-push_rows l = 2 * levels l.branch.now
+decreases-push_rows l = 2 * levels l.subtree.now
 
 abbrev pub decreases-push_children : goal.decreases-push_children
 decreases-push_children l = 2 * levels_in (open_parts l.children.now) + 1

@@ -14,7 +14,7 @@ decreases-judge_children l = 2 * levels_in (parts_of l.children.now) + 1
 -- no child so far misses anything, and what is told of them goes for all with those to come
 abbrev pub invariant-judge_children-loop-place : goal.invariant-judge_children-loop-place
 invariant-judge_children-loop-place l =
-    (is_missing_in (walk_for l.visitors.all) l.visitors.going (option_copied l.lower) (drop l.place l.separators) (parts_of (drop l.place l.children))
-    ≡ is_missing_in (walk_for l.visitors.all) l.visitors.going None l.separators (parts_of l.children))
-    × (l.surplus || has_surplus_in (walk_for l.visitors.all) l.visitors.going (option_copied l.lower) (drop l.place l.separators) (parts_of (drop l.place l.children))
-    ≡ has_surplus_in (walk_for l.visitors.all) l.visitors.going None l.separators (parts_of l.children))
+    (is_missing_in (walk_for l.needs.all) l.needs.active (option_copied l.lower) (drop l.place l.separators) (parts_of (drop l.place l.children))
+    ≡ is_missing_in (walk_for l.needs.all) l.needs.active None l.separators (parts_of l.children))
+    × (l.surplus || has_surplus_in (walk_for l.needs.all) l.needs.active (option_copied l.lower) (drop l.place l.separators) (parts_of (drop l.place l.children))
+    ≡ has_surplus_in (walk_for l.needs.all) l.needs.active None l.separators (parts_of l.children))

@@ -6,5 +6,5 @@ use Rattle.range_proof.proofs.judging.judge_entries.Given as goal
 -- no entry so far hides what is named, and what is told of them goes for all with those to come
 abbrev pub invariant-loop-entry : goal.invariant-loop-entry
 invariant-loop-entry l =
-    (list_any (walk_for l.visitors.all).lacks (drop l.entry-index l.entries) ≡ list_any (walk_for l.visitors.all).lacks l.entries)
-    × (l.surplus || list_any (walk_for l.visitors.all).exceeds (drop l.entry-index l.entries) ≡ list_any (walk_for l.visitors.all).exceeds l.entries)
+    (list_any (walk_for l.needs.all).lacks (drop l.entry-index l.entries) ≡ list_any (walk_for l.needs.all).lacks l.entries)
+    × (l.surplus || list_any (walk_for l.needs.all).exceeds (drop l.entry-index l.entries) ≡ list_any (walk_for l.needs.all).exceeds l.entries)

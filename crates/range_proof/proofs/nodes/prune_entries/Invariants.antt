@@ -5,4 +5,4 @@ use Rattle.range_proof.proofs.nodes.prune_entries.Given as goal
 
 -- the entries so far
 abbrev pub invariant-loop-entry : goal.invariant-loop-entry
-invariant-loop-entry l = l.shown.items ≡ map (shown_entry l.visitors.all) (map whole_entry (take l.entry-index l.entries))
+invariant-loop-entry l = l.shown.items ≡ map (shown_entry l.needs.all) (map whole_entry (take l.entry-index l.entries))

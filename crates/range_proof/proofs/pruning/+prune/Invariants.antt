@@ -7,8 +7,8 @@ use Rattle.mb_tree.specs.View.{part_of}
 use Rattle.range_proof.proofs.Walking.{onto}
 use Rattle.range_proof.proofs.pruning.+prune.Given as goal
 
-abbrev pub decreases-open_branch : goal.decreases-open_branch
-decreases-open_branch l = 3 * levels l.branch.now
+abbrev pub decreases-open_subtree : goal.decreases-open_subtree
+decreases-open_subtree l = 3 * levels l.subtree.now
 
 abbrev pub decreases-prune_children : goal.decreases-prune_children
 decreases-prune_children l = 3 * levels_in (open_parts l.children.now) + 2
@@ -20,5 +20,5 @@ decreases-prune_each l = 3 * levels_in (open_parts l.children.now) + 1
 abbrev pub invariant-prune_each-loop-place : goal.invariant-prune_each-loop-place
 invariant-prune_each-loop-place l =
     onto (map part_of l.parts.items)
-    (pruned_in (walk_for l.visitors.all) row_family l.visitors.going (option_copied l.lower) (drop l.place l.separators) (open_parts (drop l.place l.children)))
-    ≡ pruned_in (walk_for l.visitors.all) row_family l.visitors.going None l.separators (open_parts l.children)
+    (pruned_in (walk_for l.needs.all) row_family l.needs.active (option_copied l.lower) (drop l.place l.separators) (open_parts (drop l.place l.children)))
+    ≡ pruned_in (walk_for l.needs.all) row_family l.needs.active None l.separators (open_parts l.children)

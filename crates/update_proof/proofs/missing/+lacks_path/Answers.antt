@@ -2,7 +2,7 @@ use Rattle.std.proofs.Common.{◌≡◌, ◌≤◌, false, sym, ap, ◌∙◌, a
 use Rattle.vo_spec.specs.Parts.{leaf, levels, levels_in}
 use Rattle.mb_tree.specs.View.{part_of, parts_of}
 use Rattle.mb_tree.proofs.PartLaws.{child_falls}
-use Rattle.update_proof.specs.Changes.{path_misses}
+use Rattle.update_proof.specs.Changes.{path_is_missing}
 use Rattle.update_proof.proofs.InsertionPaths.{none_lacks}
 use Rattle.update_proof.proofs.SurplusChildren.{past_missing, path_missing}
 use Rattle.update_proof.proofs.missing.+lacks_path.Goals as goal
@@ -11,8 +11,8 @@ pub lacks_path-returns-else-with_row : goal.lacks_path-returns-else-with_row
 lacks_path-returns-else-with_row t c =
     c.if-with_row.false
     ∙ sym (none_lacks c.in-Leaf.entries)
-    ∙ ap (λ b. path_misses b c.args.key.now (leaf c.in-Leaf.entries)) (sym c.if-with_row.false)
-    ∙ ap (λ p. path_misses c.args.with_row c.args.key.now (part_of p)) (sym c.in-Leaf.is)
+    ∙ ap (λ b. path_is_missing b c.args.key.now (leaf c.in-Leaf.entries)) (sym c.if-with_row.false)
+    ∙ ap (λ p. path_is_missing c.args.with_row c.args.key.now (part_of p)) (sym c.in-Leaf.is)
 
 pub lacks_path_below-returns-then-place-children : goal.lacks_path_below-returns-then-place-children
 lacks_path_below-returns-then-place-children t c =

@@ -31,8 +31,8 @@ pub children_have_surplus-returns-else-has_surplus : goal.children_have_surplus-
 children_have_surplus-returns-else-has_surplus t c =
     let p = c.index-children-step.result in
     let opens = c.step_of-step.ensures.opens_sibling p c.if-step-children.false c.index-children-step.is in
-    or_else c.has_surplus.result c.has_surplus_beside.result c.if-has_surplus.false
-    ∙ ap (λ b. c.has_surplus.result || b) c.has_surplus_beside.ensures
+    or_else c.has_surplus.result c.has_sibling_surplus.result c.if-has_surplus.false
+    ∙ ap (λ b. c.has_surplus.result || b) c.has_sibling_surplus.ensures
     ∙ ap (λ b. b || surplus_along c.step_of-step.result.child c.step_of-step.result.opens_sibling (map part_of c.args.children.now)) c.has_surplus.ensures
     ∙ ap (λ b. change_has_surplus c.args.change c.args.key.now (part_of p) || surplus_along c.step_of-step.result.child b (map part_of c.args.children.now)) opens
     ∙ child_surplus c.args.key.now c.args.separators.now c.args.children.now c.step_of-step.result.child c.step_of-step.ensures.child p c.if-step-children.false c.index-children-step.is c.args.change

@@ -1,7 +1,7 @@
 use Rattle.std.proofs.Common.{◌≡◌, map, drop}
 use Rattle.std.specs.List.{list_any}
 use Rattle.mb_tree.specs.View.{part_of}
-use Rattle.update_proof.specs.Closing.{is_open}
+use Rattle.update_proof.specs.OpenParts.{is_open}
 use Rattle.update_proof.proofs.surplus.any_open.Given as goal
 
 -- no tree so far is open

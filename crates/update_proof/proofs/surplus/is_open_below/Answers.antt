@@ -1,6 +1,6 @@
 use Rattle.std.proofs.Common.{map, sym, ap, ◌∙◌}
 use Rattle.mb_tree.specs.View.{part_of}
-use Rattle.update_proof.specs.Closing.{any_open}
+use Rattle.update_proof.specs.OpenParts.{any_open}
 use Rattle.update_proof.specs.Proving.{opened_sibling_surplus}
 use Rattle.update_proof.proofs.ReplacementPaths.{any_open_list}
 use Rattle.update_proof.proofs.surplus.is_open_below.Goals as goal

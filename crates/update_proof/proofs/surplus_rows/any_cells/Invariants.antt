@@ -1,6 +1,6 @@
 use Rattle.std.proofs.Common.{◌≡◌, drop}
 use Rattle.std.specs.List.{list_any}
-use Rattle.update_proof.specs.Closing.{shows_cells}
+use Rattle.update_proof.specs.OpenParts.{shows_cells}
 use Rattle.update_proof.proofs.surplus_rows.any_cells.Given as goal
 
 -- no row so far stands as cells

@@ -1,6 +1,6 @@
 use Rattle.std.proofs.Common.{◌≡◌, drop}
 use Rattle.std.specs.List.{list_any}
-use Rattle.update_proof.specs.Closing.{is_shown}
+use Rattle.update_proof.specs.OpenParts.{is_shown}
 use Rattle.update_proof.proofs.surplus_rows.any_shown.Given as goal
 
 -- no cell so far is shown

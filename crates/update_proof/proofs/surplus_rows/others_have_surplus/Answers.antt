@@ -1,7 +1,7 @@
 use Rattle.std.proofs.Common.{◌≡◌, ◌+◌, ◌||◌, take, drop, bytes_eq, refl, sym, ap, ◌∙◌, arith, get_or}
 use Rattle.std.specs.List.{list_any, position_or_len}
 use Rattle.vo_spec.specs.declared.cells.PartEntry.{PartEntry}
-use Rattle.update_proof.specs.Closing.{shows_any, shows_cells}
+use Rattle.update_proof.specs.OpenParts.{shows_any, shows_cells}
 use Rattle.update_proof.proofs.InsertionPaths.{or_then, or_else}
 use Rattle.update_proof.proofs.ReplacementPaths.{rows_none, rows_placed}
 use Rattle.update_proof.proofs.surplus_rows.others_have_surplus.Goals as goal
@@ -23,7 +23,7 @@ pub returns-else-shows_cell : goal.returns-else-shows_cell
 returns-else-shows_cell c =
     let es = c.args.entries.now in
     let place = c.position_of-place.result in
-    or_else c.shows_cell.result c.cells_beside.result c.if-shows_cell.false
-    ∙ ap (λ b. c.shows_cell.result || b) c.cells_beside.ensures
+    or_else c.shows_cell.result c.others_stand_as_cells.result c.if-shows_cell.false
+    ∙ ap (λ b. c.shows_cell.result || b) c.others_stand_as_cells.ensures
     ∙ ap (λ b. b || (list_any shows_cells (take place es) || list_any shows_cells (drop (place + 1) es))) (c.shows_cell.ensures ∙ ap (λ (e : PartEntry). shows_any e.row) (sym c.index-entries-place.is))
     ∙ rows_placed c.args.key.now es place c.position_of-place.ensures.place c.index-entries-place.result c.if-place-entries.false c.index-entries-place.is

@@ -2,7 +2,7 @@ use Rattle.std.proofs.Common.{subst}
 use Rattle.vo_spec.specs.declared.cells.PartEntry.{PartEntry}
 use Rattle.vo_spec.specs.Inserts.{inserted}
 use Rattle.mb_tree.specs.View.{part_of}
-use Rattle.mb_update.specs.Changing.{ChangesTo}
+use Rattle.mb_update.specs.ChangeResults.{ChangesTo}
 use Rattle.mb_update.proofs.Changes.{insert_keeps}
 use Rattle.mb_update.proofs.part_updates.PartTreeUpdates.insert.Goals as goal
 

@@ -1,5 +1,0 @@
-use Rattle.mb_update.proofs.RowPruning.{removed_agrees}
-use Rattle.mb_update.proofs.agreeing.removals_agree.Goals as goal
-
-pub returns : goal.returns
-returns c = removed_agrees

@@ -1,5 +1,0 @@
-use Rattle.mb_update.proofs.RowPruning.{replaced_agrees}
-use Rattle.mb_update.proofs.agreeing.replacements_agree.Goals as goal
-
-pub returns : goal.returns
-returns c = λ key changes. replaced_agrees changes key

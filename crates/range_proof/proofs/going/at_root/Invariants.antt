@@ -1,8 +1,0 @@
-use Rattle.std.proofs.Common.{◌≡◌, map, take}
-use Rattle.vo_spec.specs.Pruned.{at_root}
-use Rattle.range_proof.specs.Lending.{lent_need}
-use Rattle.range_proof.proofs.going.at_root.Given as goal
-
--- those of the needs so far
-abbrev pub invariant-loop-need : goal.invariant-loop-need
-invariant-loop-need l = map lent_need l.going.items ≡ at_root (map lent_need (take l.need-index l.needs))

@@ -1,7 +1,0 @@
-use Rattle.update_proof.proofs.OnlyInsertProofs.{only_insert_proof}
-use Rattle.update_proof.proofs.OnlyReplaceProofs.{only_replace_proof}
-use Rattle.update_proof.proofs.OnlyRemoveProofs.{only_remove_proof}
-use Rattle.update_proof.proofs.alone.proofs_are_alone.Goals as goal
-
-pub returns : goal.returns
-returns c = record { insertion = only_insert_proof; replacement = only_replace_proof; removal = only_remove_proof }
