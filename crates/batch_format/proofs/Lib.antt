@@ -1,3 +1,4 @@
 pub mod ReaderLaws
 pub mod BatchLaws
 pub mod Fitting
+pub mod Fronts

@@ -74,8 +74,8 @@ command_at (byte ∷ bytes) =
     else None
 
 unfoldable pub commands_at : Reader (List Command)
-commands_at bytes = u16_at bytes >>= λ count. if nat_le count.0 max_commands
-    then times command_at count.0 count.1 else None
+commands_at bytes = u16_at bytes >>=
+    λ count. if nat_le count.0 max_commands then times command_at count.0 count.1 else None
 
 -- the batch that all the bytes are
 unfoldable pub batch_of : List ℕ → Option (List Command)

@@ -1,1 +1,2 @@
 pub mod BatchReading
+pub mod Writing

@@ -12,110 +12,133 @@ use vo_spec::{Batch, Command, List, Name, SetPart, Value};
 
 #[tactic(auto, unfolding(crate::specs::BatchReading::any_value_at))]
 fn take_any_value(alloc: Global, cursor: &mut Cursor<'_>) -> Result<Value, ReadFault>
-    ensures { FoundOr (λ value. value) result cursor.new (any_value_at cursor.old) }
+    ensures { FoundOr (λ value. value) result cursor.old cursor.new (any_value_at cursor.old) }
 {
-    match take_value(cursor) {
-        Ok(value) => Ok(own_value(alloc, value)?),
-        Err(_) => Err(ReadFault::BadForm),
-    }
+    let mut ahead = cursor.copy();
+    let value = take_value(&mut ahead).or(Err(ReadFault::BadForm))?;
+    let value = own_value(alloc, value)?;
+    *cursor = ahead;
+    Ok(value)
 }
 
 fn take_name(alloc: Global, cursor: &mut Cursor<'_>) -> Result<Name, ReadFault>
-    ensures { FoundOr (λ name. name) result cursor.new (a_name_at cursor.old) }
+    ensures { FoundOr (λ name. name) result cursor.old cursor.new (a_name_at cursor.old) }
 {
-    let name = cursor.take_name().ok_or(ReadFault::BadForm)?;
-    Ok(Name::from_vec(Vec::from_slice(alloc, name)?))
+    let mut ahead = cursor.copy();
+    let name = ahead.take_name().ok_or(ReadFault::BadForm)?;
+    let name = Name::from_vec(Vec::from_slice(alloc, name)?);
+    *cursor = ahead;
+    Ok(name)
 }
 
 #[tactic(auto, unfolding(crate::specs::BatchReading::set_at))]
 fn take_set(alloc: Global, cursor: &mut Cursor<'_>) -> Result<SetPart, ReadFault>
-    ensures { FoundOr (λ part. part) result cursor.new (set_at cursor.old) }
+    ensures { FoundOr (λ part. part) result cursor.old cursor.new (set_at cursor.old) }
 {
-    let column = take_name(alloc, cursor)?;
-    let value = take_any_value(alloc, cursor)?;
+    let mut ahead = cursor.copy();
+    let column = take_name(alloc, &mut ahead)?;
+    let value = take_any_value(alloc, &mut ahead)?;
+    *cursor = ahead;
     Ok(SetPart { column, value })
 }
 
 fn each_value(alloc: Global, cursor: &mut Cursor<'_>, count: u8) -> Result<Vec<Value>, ReadFault>
-    ensures { FoundOr (λ values. values.items) result cursor.new
+    ensures { FoundOr (λ values. values.items) result cursor.old cursor.new
         (times any_value_at count cursor.old) }
 {
+    let mut ahead = cursor.copy();
     let mut values = Vec::new(alloc);
     for _ in 0..count {
-        match take_any_value(alloc, cursor) {
+        match take_any_value(alloc, &mut ahead) {
             Ok(value) => values.push(value)?,
             Err(fault) => return Err(fault),
         }
     }
+    *cursor = ahead;
     Ok(values)
 }
 
 fn each_set(alloc: Global, cursor: &mut Cursor<'_>, count: u8) -> Result<Vec<SetPart>, ReadFault>
-    ensures { FoundOr (λ sets. sets.items) result cursor.new (times set_at count cursor.old) }
+    ensures { FoundOr (λ sets. sets.items) result cursor.old cursor.new
+        (times set_at count cursor.old) }
 {
+    let mut ahead = cursor.copy();
     let mut sets = Vec::new(alloc);
     for _ in 0..count {
-        match take_set(alloc, cursor) {
+        match take_set(alloc, &mut ahead) {
             Ok(part) => sets.push(part)?,
             Err(fault) => return Err(fault),
         }
     }
+    *cursor = ahead;
     Ok(sets)
 }
 
 #[tactic(auto, unfolding(crate::specs::BatchReading::values_at))]
 fn take_values(alloc: Global, cursor: &mut Cursor<'_>) -> Result<List<Value>, ReadFault>
-    ensures { FoundOr (λ values. values) result cursor.new (values_at cursor.old) }
+    ensures { FoundOr (λ values. values) result cursor.old cursor.new (values_at cursor.old) }
 {
-    let count = take_count(cursor).ok_or(ReadFault::BadForm)?;
-    let values = each_value(alloc, cursor, count)?;
+    let mut ahead = cursor.copy();
+    let count = take_count(&mut ahead).ok_or(ReadFault::BadForm)?;
+    let values = each_value(alloc, &mut ahead, count)?;
+    *cursor = ahead;
     Ok(List::from_vec(values))
 }
 
 #[tactic(auto, unfolding(crate::specs::BatchReading::sets_at))]
 fn take_sets(alloc: Global, cursor: &mut Cursor<'_>) -> Result<List<SetPart>, ReadFault>
-    ensures { FoundOr (λ sets. sets) result cursor.new (sets_at cursor.old) }
+    ensures { FoundOr (λ sets. sets) result cursor.old cursor.new (sets_at cursor.old) }
 {
-    let count = take_count(cursor).ok_or(ReadFault::BadForm)?;
-    let sets = each_set(alloc, cursor, count)?;
+    let mut ahead = cursor.copy();
+    let count = take_count(&mut ahead).ok_or(ReadFault::BadForm)?;
+    let sets = each_set(alloc, &mut ahead, count)?;
+    *cursor = ahead;
     Ok(List::from_vec(sets))
 }
 
 #[tactic(auto, unfolding(crate::specs::BatchReading::create_at))]
 fn take_create(alloc: Global, cursor: &mut Cursor<'_>) -> Result<Command, ReadFault>
-    ensures { FoundOr (λ command. command) result cursor.new (create_at cursor.old) }
+    ensures { FoundOr (λ command. command) result cursor.old cursor.new (create_at cursor.old) }
 {
-    let name = take_name(alloc, cursor)?;
-    let columns = take_columns(alloc, cursor)?;
-    let key = take_name(alloc, cursor)?;
+    let mut ahead = cursor.copy();
+    let name = take_name(alloc, &mut ahead)?;
+    let columns = take_columns(alloc, &mut ahead)?;
+    let key = take_name(alloc, &mut ahead)?;
+    *cursor = ahead;
     Ok(Command::Create { name, columns, key })
 }
 
 #[tactic(auto, unfolding(crate::specs::BatchReading::drop_at))]
 fn take_drop(alloc: Global, cursor: &mut Cursor<'_>) -> Result<Command, ReadFault>
-    ensures { FoundOr (λ command. command) result cursor.new (drop_at cursor.old) }
+    ensures { FoundOr (λ command. command) result cursor.old cursor.new (drop_at cursor.old) }
 {
-    let name = take_name(alloc, cursor)?;
+    let mut ahead = cursor.copy();
+    let name = take_name(alloc, &mut ahead)?;
+    *cursor = ahead;
     Ok(Command::Drop { name })
 }
 
 #[tactic(auto, unfolding(crate::specs::BatchReading::insert_at))]
 fn take_insert(alloc: Global, cursor: &mut Cursor<'_>) -> Result<Command, ReadFault>
-    ensures { FoundOr (λ command. command) result cursor.new (insert_at cursor.old) }
+    ensures { FoundOr (λ command. command) result cursor.old cursor.new (insert_at cursor.old) }
 {
-    let name = take_name(alloc, cursor)?;
-    let values = take_values(alloc, cursor)?;
+    let mut ahead = cursor.copy();
+    let name = take_name(alloc, &mut ahead)?;
+    let values = take_values(alloc, &mut ahead)?;
+    *cursor = ahead;
     Ok(Command::Insert { name, values })
 }
 
 #[tactic(auto, unfolding(crate::specs::BatchReading::update_at))]
 fn take_update(alloc: Global, cursor: &mut Cursor<'_>) -> Result<Command, ReadFault>
-    ensures { FoundOr (λ command. command) result cursor.new (update_at cursor.old) }
+    ensures { FoundOr (λ command. command) result cursor.old cursor.new (update_at cursor.old) }
 {
-    let name = take_name(alloc, cursor)?;
-    let sets = take_sets(alloc, cursor)?;
-    let column = take_name(alloc, cursor)?;
-    let value = take_any_value(alloc, cursor)?;
+    let mut ahead = cursor.copy();
+    let name = take_name(alloc, &mut ahead)?;
+    let sets = take_sets(alloc, &mut ahead)?;
+    let column = take_name(alloc, &mut ahead)?;
+    let value = take_any_value(alloc, &mut ahead)?;
+    *cursor = ahead;
     Ok(Command::Update {
         name,
         sets,
@@ -126,11 +149,13 @@ fn take_update(alloc: Global, cursor: &mut Cursor<'_>) -> Result<Command, ReadFa
 
 #[tactic(auto, unfolding(crate::specs::BatchReading::delete_at))]
 fn take_delete(alloc: Global, cursor: &mut Cursor<'_>) -> Result<Command, ReadFault>
-    ensures { FoundOr (λ command. command) result cursor.new (delete_at cursor.old) }
+    ensures { FoundOr (λ command. command) result cursor.old cursor.new (delete_at cursor.old) }
 {
-    let name = take_name(alloc, cursor)?;
-    let column = take_name(alloc, cursor)?;
-    let value = take_any_value(alloc, cursor)?;
+    let mut ahead = cursor.copy();
+    let name = take_name(alloc, &mut ahead)?;
+    let column = take_name(alloc, &mut ahead)?;
+    let value = take_any_value(alloc, &mut ahead)?;
+    *cursor = ahead;
     Ok(Command::Delete {
         name,
         column,
@@ -140,16 +165,19 @@ fn take_delete(alloc: Global, cursor: &mut Cursor<'_>) -> Result<Command, ReadFa
 
 #[tactic(auto, unfolding(crate::specs::BatchReading::command_at, row_bytes::specs::Reading::byte_at))]
 fn take_command(alloc: Global, cursor: &mut Cursor<'_>) -> Result<Command, ReadFault>
-    ensures { FoundOr (λ command. command) result cursor.new (command_at cursor.old) }
+    ensures { FoundOr (λ command. command) result cursor.old cursor.new (command_at cursor.old) }
 {
-    match cursor.take_byte() {
-        Some(1) => take_create(alloc, cursor),
-        Some(2) => take_drop(alloc, cursor),
-        Some(3) => take_insert(alloc, cursor),
-        Some(4) => take_update(alloc, cursor),
-        Some(5) => take_delete(alloc, cursor),
+    let mut ahead = cursor.copy();
+    let command = match ahead.take_byte() {
+        Some(1) => take_create(alloc, &mut ahead),
+        Some(2) => take_drop(alloc, &mut ahead),
+        Some(3) => take_insert(alloc, &mut ahead),
+        Some(4) => take_update(alloc, &mut ahead),
+        Some(5) => take_delete(alloc, &mut ahead),
         _ => Err(ReadFault::BadForm),
-    }
+    }?;
+    *cursor = ahead;
+    Ok(command)
 }
 
 fn each_command(
@@ -157,28 +185,34 @@ fn each_command(
     cursor: &mut Cursor<'_>,
     count: u16,
 ) -> Result<Vec<Command>, ReadFault>
-    ensures { FoundOr (λ commands. commands.items) result cursor.new
+    ensures { FoundOr (λ commands. commands.items) result cursor.old cursor.new
         (times command_at count cursor.old) }
 {
+    let mut ahead = cursor.copy();
     let mut commands = Vec::new(alloc);
     for _ in 0..count {
-        match take_command(alloc, cursor) {
+        match take_command(alloc, &mut ahead) {
             Ok(command) => commands.push(command)?,
             Err(fault) => return Err(fault),
         }
     }
+    *cursor = ahead;
     Ok(commands)
 }
 
 #[tactic(auto, unfolding(crate::specs::BatchReading::commands_at))]
 fn take_commands(alloc: Global, cursor: &mut Cursor<'_>) -> Result<Vec<Command>, ReadFault>
-    ensures { FoundOr (λ commands. commands.items) result cursor.new (commands_at cursor.old) }
+    ensures { FoundOr (λ commands. commands.items) result cursor.old cursor.new
+        (commands_at cursor.old) }
 {
-    let count = cursor.take_u16().ok_or(ReadFault::BadForm)?;
+    let mut ahead = cursor.copy();
+    let count = ahead.take_u16().ok_or(ReadFault::BadForm)?;
     if count > 1000 {
         return Err(ReadFault::BadForm);
     }
-    each_command(alloc, cursor, count)
+    let commands = each_command(alloc, &mut ahead, count)?;
+    *cursor = ahead;
+    Ok(commands)
 }
 
 #[tactic(auto, unfolding(crate::specs::BatchReading::batch_of))]

@@ -1,25 +1,30 @@
 //! Writing batches.
-ghost use Rattle.std.specs.Prelude.{◌≡◌, ◌++◌, ◌≤◌, length, IfOk, OnOk};
+ghost use Rattle.std.specs.Prelude.{◌≡◌, ◌++◌, ◌≤◌, length, IfOk, OnOk, OnErr};
 ghost use Rattle.std.specs.List.{AllByRecursion};
 ghost use Rattle.vo_spec.specs.Values.{value_bytes, FitsValue};
 ghost use Rattle.vo_spec.specs.Batches.{counted, set_bytes, command_bytes, batch_bytes, FitCounted, FitsSet, FitsCommand, max_commands};
+ghost use Rattle.batch_format.specs.Writing.{StaysInFront};
 
 use crate::columns::{put_columns, put_name};
 use row_bytes::put_value;
 use std::alloc::{AllocError, Global};
 use vo_spec::{Batch, Command, SetPart, Value, u16_bytes};
 
+#[tactic(auto, using(crate::proofs::Fronts::stays_itself, crate::proofs::Fronts::stays_before, crate::proofs::Fronts::stays_behind))]
 fn put_set(out: &mut Vec<u8>, part: &SetPart) -> Result<(), AllocError>
     requires { FitsSet part.now }
-    ensures { OnOk result (out.new.items ≡ out.old.items ++ set_bytes part.now) }
+    ensures ok { OnOk result (out.new.items ≡ out.old.items ++ set_bytes part.now) }
+    ensures err { OnErr result (StaysInFront out.old.items out.new.items) }
 {
     put_name(out, &part.column)?;
     put_value(out, &part.value)
 }
 
+#[tactic(auto, using(crate::proofs::Fronts::stays_itself, crate::proofs::Fronts::stays_before, crate::proofs::Fronts::stays_behind))]
 fn put_values(out: &mut Vec<u8>, values: &[Value]) -> Result<(), AllocError>
     requires { FitCounted FitsValue values.now }
-    ensures { OnOk result (out.new.items ≡ out.old.items ++ counted value_bytes values.now) }
+    ensures ok { OnOk result (out.new.items ≡ out.old.items ++ counted value_bytes values.now) }
+    ensures err { OnErr result (StaysInFront out.old.items out.new.items) }
 {
     out.push(values.len() as u8)?;
     for value in values {
@@ -28,9 +33,11 @@ fn put_values(out: &mut Vec<u8>, values: &[Value]) -> Result<(), AllocError>
     Ok(())
 }
 
+#[tactic(auto, using(crate::proofs::Fronts::stays_itself, crate::proofs::Fronts::stays_before, crate::proofs::Fronts::stays_behind))]
 fn put_sets(out: &mut Vec<u8>, sets: &[SetPart]) -> Result<(), AllocError>
     requires { FitCounted FitsSet sets.now }
-    ensures { OnOk result (out.new.items ≡ out.old.items ++ counted set_bytes sets.now) }
+    ensures ok { OnOk result (out.new.items ≡ out.old.items ++ counted set_bytes sets.now) }
+    ensures err { OnErr result (StaysInFront out.old.items out.new.items) }
 {
     out.push(sets.len() as u8)?;
     for part in sets {
@@ -39,10 +46,11 @@ fn put_sets(out: &mut Vec<u8>, sets: &[SetPart]) -> Result<(), AllocError>
     Ok(())
 }
 
-#[tactic(auto, unfolding(vo_spec::specs::Batches::command_bytes, vo_spec::specs::Batches::FitsCommand))]
+#[tactic(auto, unfolding(vo_spec::specs::Batches::command_bytes, vo_spec::specs::Batches::FitsCommand), using(crate::proofs::Fronts::stays_itself, crate::proofs::Fronts::stays_before, crate::proofs::Fronts::stays_behind))]
 fn put_command(out: &mut Vec<u8>, command: &Command) -> Result<(), AllocError>
     requires { FitsCommand command.now }
-    ensures { OnOk result (out.new.items ≡ out.old.items ++ command_bytes command.now) }
+    ensures ok { OnOk result (out.new.items ≡ out.old.items ++ command_bytes command.now) }
+    ensures err { OnErr result (StaysInFront out.old.items out.new.items) }
 {
     match command {
         Command::Create { name, columns, key } => {

@@ -7,7 +7,7 @@ use batch_format::read_batch;
 use line_pieces::{describe, word};
 use row_bytes::{
     Cursor, FormFault, Value, ValueRef, copy_onto, copy_values, key_of, own_value, put_value,
-    take_columns, take_kind, take_value, value_of_key,
+    read_key, take_columns, take_kind, take_value,
 };
 use std::alloc::Global;
 use std::io;
@@ -95,7 +95,7 @@ fn key_value(alloc: Global, bytes: &[u8]) -> io::Result<String> {
     let Some(kind) = take_kind(&mut cursor) else {
         return word(alloc, "no kind");
     };
-    match value_of_key(kind, cursor.rest()) {
+    match read_key(kind, cursor.rest()) {
         Ok(value) => describe(alloc, &value),
         Err(fault) => describe(alloc, &fault),
     }

@@ -3,8 +3,8 @@ use Rattle.std.specs.Prelude.{◌≡◌, ℕ, ◌+◌, ◌-◌, ◌<◌, ◌≤�
 use Rattle.std.specs.List.{list_any}
 use Rattle.outside.specs.declared.room.Room.{Room}
 
--- a call that changed what a crash may leave: a write of count bytes from a place on, which may have
--- failed, or a sync that put these contents down
+-- a call that changed what a crash may leave: a write of count bytes from a place on, which may
+-- have failed, or a sync that put these contents down
 pub data Call : Type 0 where
   Wrote : (place count : ℕ) → Call
   Synced : (contents : List ℕ) → Call
@@ -31,8 +31,8 @@ gap place piece seen = cond (length piece == 0) 0 (place - length seen)
 -- these bytes with the piece written over them
 abbrev pub overwritten : ℕ → List ℕ → List ℕ → List ℕ
 overwritten place piece seen =
-    (take place seen ++ replicate (gap place piece seen) 0) ++ piece
-    ++ drop (place + length piece) seen
+    (take place seen ++ replicate (gap place piece seen) 0)
+    ++ piece ++ drop (place + length piece) seen
 
 -- the room that a call which writes so many bytes leaves
 abbrev pub less : ℕ → Room → Room
@@ -47,8 +47,8 @@ write_leaving place count seen drive = record drive {
 }
 
 abbrev pub write_on : ℕ → List ℕ → DiskModel → DiskModel
-write_on place piece drive = write_leaving place (length piece)
-    (overwritten place piece drive.seen) drive
+write_on place piece drive =
+    write_leaving place (length piece) (overwritten place piece drive.seen) drive
 
 abbrev pub sync_now : DiskModel → DiskModel
 sync_now drive = record drive {
@@ -89,8 +89,8 @@ down_after down (Synced contents) = record { contents = contents; ranges = [] }
 
 -- a moment is the number of calls before it
 abbrev pub crashed_at : DiskModel → ℕ → Down
-crashed_at drive moment = fold down_after (record { contents = drive.first; ranges = [] })
-    (take moment drive.calls)
+crashed_at drive moment =
+    fold down_after (record { contents = drive.first; ranges = [] }) (take moment drive.calls)
 
 abbrev pub now : DiskModel → ℕ
 now drive = length drive.calls
@@ -111,8 +111,8 @@ abbrev pub furthest : ℕ → List (ℕ × ℕ) → ℕ
 furthest end [] = end
 furthest end (range ∷ ranges) = max (range_end range) (furthest end ranges)
 
--- a crash may leave these bytes: what was down keeps its bytes but where a write was begun, and past
--- the old end up to the furthest written place there may be any
+-- a crash may leave these bytes: what was down keeps its bytes but where a write was begun, and
+-- past the old end up to the furthest written place there may be any
 pub record IsImage (down : Down) (image : List ℕ) : Type 0 where
   pub no_shorter : length down.contents ≤ length image
   pub no_longer : length image ≤ furthest (length down.contents) down.ranges

@@ -11,7 +11,8 @@ due_of plan = failure_at plan.calls plan.failures.items
 abbrev pub new_plan : Vec Failure → FailAt
 new_plan failures = record { failures = failures; calls = 0; count = 0 }
 
--- one more call, and one more failure if it was to fail; both numbers stand still at the end of 64 bits
+-- one more call, and one more failure if it was to fail; both numbers stand still at the end of
+-- 64 bits
 abbrev pub next_plan : FailAt → FailAt
 next_plan plan = record plan {
   calls = min (plan.calls + 1) (2 ^ 64 - 1);

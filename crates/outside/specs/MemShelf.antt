@@ -16,5 +16,6 @@ plan_of shelf = shelf.failures
 -- the bytes of the first file of that name
 abbrev pub file_at : List NamedFile → List ℕ → Option (List ℕ)
 file_at [] name = None
-file_at (file ∷ files) name = cond (pointwise nat_eq (string_bytes file.name) name)
-    (Some file.bytes.items) (file_at files name)
+file_at (file ∷ files) name =
+    cond (pointwise nat_eq (string_bytes file.name) name) (Some file.bytes.items)
+    (file_at files name)

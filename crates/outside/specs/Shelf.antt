@@ -8,7 +8,8 @@ use Rattle.outside.specs.declared.faults.TakeFault.TheVariants.{Failed, TooLong,
 abbrev pub Files : Type 0
 Files = List ℕ → Option (List ℕ)
 
--- what a take may answer, by the file that is there: too long only where it is, and an absent one fails
+-- what a take may answer, by the file that is there: too long only where it is, and an absent one
+-- fails
 abbrev pub Takes : Option (List ℕ) → ℕ → Result (Vec ℕ) TakeFault → Type 0
 Takes (Some bytes) limit (Ok taken) = taken.items ≡ bytes
 Takes (Some bytes) limit (Err TooLong) = limit < length bytes

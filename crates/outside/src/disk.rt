@@ -52,8 +52,8 @@ pub trait Disk {
     /// Makes room for contents up to `end`, and for `calls` calls of `len`, `read`, `write_at` and `sync`
     /// that write `bytes` bytes in all.
     fn reserve(&mut self, end: u64, bytes: u64, calls: u64) -> Result<(), AllocError>
-        ensures ok { OnOk result (IfSome (drive self.new)
-            (λ drive. HasRoom end bytes calls drive.room)) }
+        ensures ok { OnOk result
+            (IfSome (drive self.new) (λ drive. HasRoom end bytes calls drive.room)) }
         ensures only { (room : Room) × (drive self.new ≡ with_room room (drive self.old)) }
         ensures no_less { IfSome (drive self.old)
             (λ old. IfSome (drive self.new) (λ new. NoLess old.room new.room)) }

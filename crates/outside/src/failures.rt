@@ -41,7 +41,8 @@ impl Failures for Never {
     }
 }
 
-/// A call that is to fail: its number, the first call having 0, and how many bytes it passes on first.
+/// A call that is to fail: its number, the first call having 0, and how many bytes it passes on
+/// first.
 #[derive(Clone, Copy, Debug, PartialEq, Eq)]
 pub struct Failure {
     pub call: u64,

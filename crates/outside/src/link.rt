@@ -21,8 +21,8 @@ pub trait Link {
     /// empty is the end. What the buffer holds after a fault is open.
     fn get(&mut self, into: &mut [u8]) -> Result<usize, Failed>
         ensures some { IfOk result (λ n. n ≤ length into.old) }
-        ensures taken { IfOk result (λ n. IfSome (wire self.old)
-            (λ wire. Gets n wire.coming into.old into.new)) }
+        ensures taken { IfOk result
+            (λ n. IfSome (wire self.old) (λ wire. Gets n wire.coming into.old into.new)) }
         ensures ok { IfOk result (λ n. wire self.new ≡ got n (wire self.old)) }
         ensures err { OnErr result (wire self.new ≡ wire self.old) }
         ensures down { IfSome (wire self.old) (λ wire. wire.stands ≡ false → IsErr result) }

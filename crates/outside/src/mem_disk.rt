@@ -4,6 +4,7 @@ ghost use Rattle.std.specs.List.{list_all};
 ghost use Rattle.outside.specs.declared.room.Room.{Room};
 ghost use Rattle.outside.specs.Done.{seen_after, is_within};
 ghost use Rattle.outside.specs.DiskModel.{HasRoom, NoLess, fresh, now, overwritten, write_on, write_leaving, sync_now};
+ghost use Rattle.outside.specs.Failure.{front_of};
 ghost use Rattle.outside.specs.FaultRose.{FaultRose};
 
 use crate::disk::Disk;
@@ -112,8 +113,8 @@ impl<P: Failures> Disk for MemDisk<P> {
         ensures len { IfOk result (λ n. n ≡ length (drive_of self.old).seen) }
         ensures kept { drive_of self.new ≡ drive_of self.old }
         ensures counts { P.count (plan_of self.old) ≤ P.count (plan_of self.new) }
-        ensures cause { IsErr result → FaultRose (P.count (plan_of self.old))
-            (P.count (plan_of self.new)) }
+        ensures cause { IsErr result
+            → FaultRose (P.count (plan_of self.old)) (P.count (plan_of self.new)) }
 
         ensures due { IsErr result ↔ IsSome (P.due (plan_of self.old)) }
         ensures plan { plan_of self.new ≡ P.after (plan_of self.old) }
@@ -126,12 +127,12 @@ impl<P: Failures> Disk for MemDisk<P> {
 
     fn read(&mut self, at: u64, into: &mut [u8]) -> Result<(), Failed>
         requires { at + length into.old ≤ length (drive_of self.old).seen }
-        ensures read { OnOk result (into.new
-            ≡ take (length into.old) (drop at (drive_of self.old).seen)) }
+        ensures read { OnOk result
+            (into.new ≡ take (length into.old) (drop at (drive_of self.old).seen)) }
         ensures kept { drive_of self.new ≡ drive_of self.old }
         ensures counts { P.count (plan_of self.old) ≤ P.count (plan_of self.new) }
-        ensures cause { IsErr result → FaultRose (P.count (plan_of self.old))
-            (P.count (plan_of self.new)) }
+        ensures cause { IsErr result
+            → FaultRose (P.count (plan_of self.old)) (P.count (plan_of self.new)) }
 
         ensures due { IsErr result ↔ IsSome (P.due (plan_of self.old)) }
         ensures plan { plan_of self.new ≡ P.after (plan_of self.old) }
@@ -150,9 +151,13 @@ impl<P: Failures> Disk for MemDisk<P> {
         ensures err { OnErr result ((seen : List ℕ)
             × (drive_of self.new ≡ write_leaving at (length piece.now) seen (drive_of self.old))) }
         ensures counts { P.count (plan_of self.old) ≤ P.count (plan_of self.new) }
-        ensures cause { IsErr result → FaultRose (P.count (plan_of self.old))
-            (P.count (plan_of self.new)) }
+        ensures cause { IsErr result
+            → FaultRose (P.count (plan_of self.old)) (P.count (plan_of self.new)) }
 
+        // A write that is to fail writes the front that its plan says.
+        ensures front { OnErr result (drive_of self.new ≡ write_leaving at (length piece.now)
+            (overwritten at (front_of (P.due (plan_of self.old)) piece.now)
+            (drive_of self.old).seen) (drive_of self.old)) }
         ensures due { IsErr result ↔ IsSome (P.due (plan_of self.old)) }
         ensures plan { plan_of self.new ≡ P.after (plan_of self.old) }
     {
@@ -175,8 +180,8 @@ impl<P: Failures> Disk for MemDisk<P> {
         ensures ok { OnOk result (drive_of self.new ≡ sync_now (drive_of self.old)) }
         ensures err { OnErr result (drive_of self.new ≡ drive_of self.old) }
         ensures counts { P.count (plan_of self.old) ≤ P.count (plan_of self.new) }
-        ensures cause { IsErr result → FaultRose (P.count (plan_of self.old))
-            (P.count (plan_of self.new)) }
+        ensures cause { IsErr result
+            → FaultRose (P.count (plan_of self.old)) (P.count (plan_of self.new)) }
 
         ensures due { IsErr result ↔ IsSome (P.due (plan_of self.old)) }
         ensures plan { plan_of self.new ≡ P.after (plan_of self.old) }

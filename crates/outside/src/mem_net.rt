@@ -1,6 +1,7 @@
 //! Connections that are kept in memory.
-ghost use Rattle.std.specs.Prelude.{◌≡◌, ℕ, ◌+◌, ◌<◌, ◌≤◌, ◌↔◌, cond, Some, true, false, [], map, length, take, vec_len, vec_capacity, IsSome, IsTrue, IfOk, OnOk, OnErr, IsErr, IsErrOf};
+ghost use Rattle.std.specs.Prelude.{◌≡◌, ℕ, ◌+◌, ◌<◌, ◌≤◌, ◌↔◌, ◌-◌, ◌^◌, min, cond, Some, true, false, [], map, length, take, vec_len, vec_capacity, IsSome, IsTrue, IfOk, OnOk, OnErr, IsErr, IsErrOf};
 ghost use Rattle.std.specs.VecDeque.{deque_len};
+ghost use Rattle.outside.specs.Failure.{PutsFront, front_of};
 ghost use Rattle.outside.specs.Miss.{CountsMiss};
 ghost use Rattle.outside.specs.FaultRose.{FaultRose};
 ghost use Rattle.outside.specs.ConnectionModel.{Gets, take_from, send_on, shut, open_next, has_next};
@@ -38,9 +39,11 @@ impl<P: Failures> MemNet<P> {
 
     /// Takes the room for all that the connections need but the bytes put on them.
     pub fn new(alloc: Global, connections: Vec<Vec<u8>>, failures: P) -> Result<Self, AllocError>
-        ensures wire { IfOk result (λ net. wire_of net
-            ≡ waiting (map (λ bytes. bytes.items) connections.items)) }
+        ensures wire { IfOk result
+            (λ net. wire_of net ≡ waiting (map (λ bytes. bytes.items) connections.items)) }
         ensures misses { IfOk result (λ net. misses_of net ≡ 0) }
+        // One `get` takes all that comes and has a place.
+        ensures most { IfOk result (λ net. most_of net ≡ 2 ^ 64 - 1) }
         ensures plan { IfOk result (λ net. plan_of net ≡ failures) }
     {
         let past = Vec::with_capacity(alloc, connections.len())?;
@@ -90,8 +93,8 @@ impl<P: Failures> MemNet<P> {
         ensures err { OnErr result (wire_of self.new ≡ wire_of self.old) }
         ensures none { (wire_of self.old).queue ≡ [] → IsErr result }
 
-        ensures counts { P.count (plan_of self.old) + misses_of self.old ≤ P.count
-            (plan_of self.new) + misses_of self.new }
+        ensures counts { P.count (plan_of self.old) + misses_of self.old
+            ≤ P.count (plan_of self.new) + misses_of self.new }
         ensures cause { IsErr result
             → FaultRose (P.count (plan_of self.old) + misses_of self.old)
             (P.count (plan_of self.new) + misses_of self.new) }
@@ -122,7 +125,7 @@ impl<P: Failures> MemNet<P> {
 }
 
 impl<P: Failures> Link for MemNet<P> {
-    ghost use Rattle.outside.specs.MemNet.{wire_of, misses_of, most_of, plan_of};
+    ghost use Rattle.outside.specs.MemNet.{wire_of, room_of, misses_of, most_of, plan_of};
 
     ghost wire = { λ net. Some (wire_of net) };
 
@@ -132,14 +135,15 @@ impl<P: Failures> Link for MemNet<P> {
 
     fn get(&mut self, into: &mut [u8]) -> Result<usize, Failed>
         ensures some { IfOk result (λ n. n ≤ length into.old) }
-        ensures piece { IfOk result (λ n. n ≤ most_of self.old) }
+        ensures count { IfOk result (λ n. n
+            ≡ min (min (length (wire_of self.old).coming) (length into.old)) (most_of self.old)) }
         ensures taken { IfOk result (λ n. Gets n (wire_of self.old).coming into.old into.new) }
         ensures ok { IfOk result (λ n. wire_of self.new ≡ take_from n (wire_of self.old)) }
         ensures err { OnErr result (wire_of self.new ≡ wire_of self.old) }
         ensures down { (wire_of self.old).stands ≡ false → IsErr result }
 
-        ensures counts { P.count (plan_of self.old) + misses_of self.old ≤ P.count
-            (plan_of self.new) + misses_of self.new }
+        ensures counts { P.count (plan_of self.old) + misses_of self.old
+            ≤ P.count (plan_of self.new) + misses_of self.new }
         ensures cause { IsErr result
             → FaultRose (P.count (plan_of self.old) + misses_of self.old)
             (P.count (plan_of self.new) + misses_of self.new) }
@@ -174,14 +178,18 @@ impl<P: Failures> Link for MemNet<P> {
         ensures down { (wire_of self.old).stands ≡ false → IsErrOf result PutFault.Failed }
         ensures unheard { (wire_of self.old).stands ≡ false → wire_of self.new ≡ wire_of self.old }
 
-        ensures counts { P.count (plan_of self.old) + misses_of self.old ≤ P.count
-            (plan_of self.new) + misses_of self.new }
+        ensures counts { P.count (plan_of self.old) + misses_of self.old
+            ≤ P.count (plan_of self.new) + misses_of self.new }
         ensures cause { IsErrOf result PutFault.Failed
             → FaultRose (P.count (plan_of self.old) + misses_of self.old)
             (P.count (plan_of self.new) + misses_of self.new) }
         ensures misses { CountsMiss (wire_of self.old).stands (misses_of self.old)
             (misses_of self.new) }
 
+        // Of a piece that fails as much is put as its failure says.
+        ensures front { (wire_of self.old).stands ≡ true → IsErrOf result PutFault.Failed
+            → PutsFront (front_of (P.due (plan_of self.old)) piece.now) (room_of self.old)
+            (wire_of self.old).sent (wire_of self.new).sent }
         ensures due { (wire_of self.old).stands ≡ true
             → (IsErrOf result PutFault.Failed ↔ IsSome (P.due (plan_of self.old))) }
         ensures most { most_of self.new ≡ most_of self.old }
@@ -214,8 +222,8 @@ impl<P: Failures> Net for MemNet<P> {
         ensures err { OnErr result (wire_of self.new ≡ wire_of self.old) }
         ensures none { (wire_of self.old).queue ≡ [] → IsErr result }
 
-        ensures counts { P.count (plan_of self.old) + misses_of self.old ≤ P.count
-            (plan_of self.new) + misses_of self.new }
+        ensures counts { P.count (plan_of self.old) + misses_of self.old
+            ≤ P.count (plan_of self.new) + misses_of self.new }
         ensures cause { IsErr result
             → FaultRose (P.count (plan_of self.old) + misses_of self.old)
             (P.count (plan_of self.new) + misses_of self.new) }
@@ -233,8 +241,8 @@ impl<P: Failures> Net for MemNet<P> {
     fn listen(&mut self, _addr: &str) -> Result<(), Failed>
         ensures kept { wire_of self.new ≡ wire_of self.old }
 
-        ensures counts { P.count (plan_of self.old) + misses_of self.old ≤ P.count
-            (plan_of self.new) + misses_of self.new }
+        ensures counts { P.count (plan_of self.old) + misses_of self.old
+            ≤ P.count (plan_of self.new) + misses_of self.new }
         ensures cause { IsErr result
             → FaultRose (P.count (plan_of self.old) + misses_of self.old)
             (P.count (plan_of self.new) + misses_of self.new) }
@@ -255,8 +263,8 @@ impl<P: Failures> Net for MemNet<P> {
         ensures err { OnErr result (wire_of self.new ≡ wire_of self.old) }
         ensures none { (wire_of self.old).queue ≡ [] → IsErr result }
 
-        ensures counts { P.count (plan_of self.old) + misses_of self.old ≤ P.count
-            (plan_of self.new) + misses_of self.new }
+        ensures counts { P.count (plan_of self.old) + misses_of self.old
+            ≤ P.count (plan_of self.new) + misses_of self.new }
         ensures cause { IsErr result
             → FaultRose (P.count (plan_of self.old) + misses_of self.old)
             (P.count (plan_of self.new) + misses_of self.new) }

@@ -58,8 +58,8 @@ impl<P: Failures> Shelf for MemShelf<P> {
         ensures fits { IfOk result (λ taken. length taken.items ≤ limit) }
         ensures kept { files_of self.new ≡ files_of self.old }
 
-        ensures counts { P.count (plan_of self.old) + misses_of self.old ≤ P.count
-            (plan_of self.new) + misses_of self.new }
+        ensures counts { P.count (plan_of self.old) + misses_of self.old
+            ≤ P.count (plan_of self.new) + misses_of self.new }
         ensures cause { IsErrOf result TakeFault.Failed
             → FaultRose (P.count (plan_of self.old) + misses_of self.old)
             (P.count (plan_of self.new) + misses_of self.new) }

@@ -1,5 +1,6 @@
 //! Output that is kept in memory.
 ghost use Rattle.std.specs.Prelude.{◌≡◌, ℕ, ◌≤◌, ◌↔◌, Some, [], ◌++◌, take, IsSome, OnOk, IsErrOf};
+ghost use Rattle.outside.specs.Failure.{PutsFront, front_of};
 ghost use Rattle.outside.specs.FaultRose.{FaultRose};
 
 use crate::failures::Failures;
@@ -35,7 +36,7 @@ impl<P: Failures> MemSink<P> {
 }
 
 impl<P: Failures> Sink for MemSink<P> {
-    ghost use Rattle.outside.specs.MemSink.{written_of, plan_of};
+    ghost use Rattle.outside.specs.MemSink.{written_of, room_of, plan_of};
 
     ghost written = { λ sink. Some (written_of sink) };
 
@@ -52,6 +53,10 @@ impl<P: Failures> Sink for MemSink<P> {
         ensures cause { IsErrOf result PutFault.Failed
             → FaultRose (P.count (plan_of self.old)) (P.count (plan_of self.new)) }
 
+        // Of a piece that fails as much is put as its failure says.
+        ensures front { IsErrOf result PutFault.Failed
+            → PutsFront (front_of (P.due (plan_of self.old)) piece.now) (room_of self.old)
+            (written_of self.old) (written_of self.new) }
         ensures due { IsErrOf result PutFault.Failed ↔ IsSome (P.due (plan_of self.old)) }
         ensures plan { plan_of self.new ≡ P.after (plan_of self.old) }
     {

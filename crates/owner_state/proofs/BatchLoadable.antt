@@ -7,11 +7,9 @@ use Rattle.vo_spec.specs.Bytes.{IsBytes}
 use Rattle.vo_spec.specs.Batches.{IsBatch}
 use Rattle.row_bytes.specs.declared.read_fault.ReadFault.{ReadFault}
 use Rattle.row_bytes.specs.declared.read_fault.ReadFault.TheVariants.{BadForm, Memory}
-use Rattle.row_bytes.specs.Fields.{block_at, FoundOr}
 use Rattle.batch_format.specs.BatchReading.{batch_of, BatchRead}
 use Rattle.batch_format.proofs.ReaderLaws.{no_some}
 use Rattle.batch_format.proofs.BatchLaws.{batch_found, batch_again}
-use Rattle.owner_state.specs.Reading.{batch_at}
 
 -- something, or nothing
 pub some_or_none : {A : Type 0} (o : Option A) → (o ≡ None) ⊎ ((x : A) × (o ≡ Some x))
@@ -27,10 +25,3 @@ batch_is_read text (Err BadForm) fits found only =
       | inr x ↦ absurd (no_some x.0 (sym (only x.0 (batch_found text x.0 fits x.1))))
     ]
 batch_is_read text (Err Memory) fits found only = tt
-
-pub batch_taken : (bytes text rest : List ℕ) (r : Result Batch ReadFault) → block_at bytes ≡ Some (text, rest) → BatchRead r (batch_of text)
-    → FoundOr (λ (batch : Batch). batch.commands) r rest (batch_at bytes)
-unfolding batch_at
-batch_taken bytes text rest (Ok batch) e read = rw (e, read) refl
-batch_taken bytes text rest (Err BadForm) e read = rw (e, read) refl
-batch_taken bytes text rest (Err Memory) e read = tt

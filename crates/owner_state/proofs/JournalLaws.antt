@@ -41,9 +41,10 @@ shorter rest e new fits read =
     omega (arith, ap length f.0.parts, length-append (slot e) new, slot_long e)
 
 -- what a call took that found a slot
-pub slot_taken : (r : Option Entry) (e : Entry) (new : List ℕ) (read : Option (Entry × List ℕ)) → Found (λ (e : Entry). e) r new read → r ≡ Some e → read ≡ Some (e, new)
-slot_taken None e new read found is = absurd (no_some e is)
-slot_taken (Some x) e new read found is = found ∙ ap (λ (y : Entry). Some (y, new)) (some_is x e is)
+pub slot_taken : (r : Option Entry) (e : Entry) (old new : List ℕ) (read : Option (Entry × List ℕ))
+    → Found (λ (e : Entry). e) r old new read → r ≡ Some e → read ≡ Some (e, new)
+slot_taken None e old new read found is = absurd (no_some e is)
+slot_taken (Some x) e old new read found is = found ∙ ap (λ (y : Entry). Some (y, new)) (some_is x e is)
 
 -- Bytes have one reading.
 

@@ -13,12 +13,15 @@ use vo_spec::{Batch, Entry, List, MAX_PROOFS, MAX_SIGNATURE};
 /// The entry of the slot that comes next, if that slot is open and its entry whole.
 #[tactic(auto, unfolding(crate::specs::Reading::slot_at, row_bytes::specs::Reading::byte_at))]
 pub fn take_slot(alloc: Global, cursor: &mut Cursor<'_>) -> Result<Entry, ReadFault>
-    ensures { FoundOr (λ entry. entry) result cursor.new (slot_at cursor.old) }
+    ensures { FoundOr (λ entry. entry) result cursor.old cursor.new (slot_at cursor.old) }
 {
-    match cursor.take_byte() {
+    let mut ahead = cursor.copy();
+    match ahead.take_byte() {
         Some(1) => {
-            let block = cursor.take_block().ok_or(ReadFault::BadForm)?;
-            read_entry(alloc, block)
+            let block = ahead.take_block().ok_or(ReadFault::BadForm)?;
+            let entry = read_entry(alloc, block)?;
+            *cursor = ahead;
+            Ok(entry)
         }
         _ => Err(ReadFault::BadForm),
     }
@@ -39,13 +42,15 @@ fn read_entry(alloc: Global, bytes: &[u8]) -> Result<Entry, ReadFault>
 
 #[tactic(auto, unfolding(crate::specs::Reading::entry_at))]
 fn take_entry(alloc: Global, cursor: &mut Cursor<'_>) -> Result<Entry, ReadFault>
-    ensures { FoundOr (λ entry. entry) result cursor.new (entry_at cursor.old) }
+    ensures { FoundOr (λ entry. entry) result cursor.old cursor.new (entry_at cursor.old) }
 {
-    cursor.take_word(b"VOE1").ok_or(ReadFault::BadForm)?;
-    let batch = take_batch(alloc, cursor)?;
-    let proofs = take_limited(alloc, cursor, MAX_PROOFS)?;
-    let rec = take_record(cursor).ok_or(ReadFault::BadForm)?;
-    let signature = take_limited(alloc, cursor, MAX_SIGNATURE)?;
+    let mut ahead = cursor.copy();
+    ahead.take_word(b"VOE1").ok_or(ReadFault::BadForm)?;
+    let batch = take_batch(alloc, &mut ahead)?;
+    let proofs = take_limited(alloc, &mut ahead, MAX_PROOFS)?;
+    let rec = take_record(&mut ahead).ok_or(ReadFault::BadForm)?;
+    let signature = take_limited(alloc, &mut ahead, MAX_SIGNATURE)?;
+    *cursor = ahead;
     Ok(Entry {
         batch,
         proofs,
@@ -56,12 +61,13 @@ fn take_entry(alloc: Global, cursor: &mut Cursor<'_>) -> Result<Entry, ReadFault
 
 #[tactic(auto, unfolding(crate::specs::Reading::batch_at))]
 fn take_batch(alloc: Global, cursor: &mut Cursor<'_>) -> Result<Batch, ReadFault>
-    ensures { FoundOr (λ batch. batch.commands) result cursor.new (batch_at cursor.old) }
+    ensures { FoundOr (λ batch. batch.commands) result cursor.old cursor.new (batch_at cursor.old) }
 {
-    match cursor.take_block() {
-        Some(block) => batch_of(alloc, block),
-        None => Err(ReadFault::BadForm),
-    }
+    let mut ahead = cursor.copy();
+    let block = ahead.take_block().ok_or(ReadFault::BadForm)?;
+    let batch = batch_of(alloc, block)?;
+    *cursor = ahead;
+    Ok(batch)
 }
 
 fn batch_of(alloc: Global, bytes: &[u8]) -> Result<Batch, ReadFault>
@@ -73,11 +79,14 @@ fn batch_of(alloc: Global, bytes: &[u8]) -> Result<Batch, ReadFault>
 /// Bytes behind their length, at most so many.
 #[tactic(auto, unfolding(crate::specs::Reading::limited_at))]
 fn take_limited(alloc: Global, cursor: &mut Cursor<'_>, most: usize) -> Result<List<u8>, ReadFault>
-    ensures { FoundOr (λ bytes. bytes) result cursor.new (limited_at most cursor.old) }
+    ensures { FoundOr (λ bytes. bytes) result cursor.old cursor.new (limited_at most cursor.old) }
 {
-    let block = cursor.take_block().ok_or(ReadFault::BadForm)?;
+    let mut ahead = cursor.copy();
+    let block = ahead.take_block().ok_or(ReadFault::BadForm)?;
     if block.len() > most {
         return Err(ReadFault::BadForm);
     }
-    Ok(List::from_vec(Vec::from_slice(alloc, block)?))
+    let bytes = Vec::from_slice(alloc, block)?;
+    *cursor = ahead;
+    Ok(List::from_vec(bytes))
 }

@@ -68,7 +68,8 @@ fn read_front(alloc: Global, bytes: &[u8]) -> Result<Front<'_>, AllocError>
 
 /// The entry of the slot that comes next, if one does.
 fn next_slot(alloc: Global, cursor: &mut Cursor<'_>) -> Result<Option<Entry>, AllocError>
-    ensures { IfOk result (λ entry. Found (λ entry. entry) entry cursor.new (slot_at cursor.old)) }
+    ensures { IfOk result (λ entry. Found (λ entry. entry) entry cursor.old cursor.new
+        (slot_at cursor.old)) }
 {
     match take_slot(alloc, cursor) {
         Ok(entry) => Ok(Some(entry)),

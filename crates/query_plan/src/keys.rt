@@ -30,7 +30,7 @@ fn int_of_key(key: &[u8]) -> ValueRef<'_>
         byte_at(key, 6),
         byte_at(key, 7),
     ];
-    match row_bytes::value_of_key(Kind::Int, &bytes) {
+    match row_bytes::read_key(Kind::Int, &bytes) {
         Ok(ValueRef::Int(number)) => ValueRef::Int(number),
         Ok(_) | Err(_) => ValueRef::Int(0),
     }

@@ -1,5 +1,4 @@
 pub mod Utf8
 pub mod Readers
 pub mod ValueLaws
-pub mod KeyLaws
 pub mod Rounds

@@ -1,5 +1,5 @@
 -- Reading so many things in a row, one after another.
-use Rattle.std.proofs.Common.{◌≡◌, ℕ, zero, suc, ◌+◌, ◌-◌, ◌<◌, List, [], ◌∷◌, ◌++◌, Option, Some, None, Result, Ok, Err, refl, sym, ap, ◌∙◌, append_assoc, append-nil, arith}
+use Rattle.std.proofs.Common.{◌≡◌, ℕ, suc, ◌+◌, ◌-◌, ◌<◌, List, [], ◌∷◌, ◌++◌, Option, Some, None, Err, refl, sym, ap, ◌∙◌, append_assoc, append-nil, arith}
 use Rattle.row_bytes.specs.declared.read_fault.ReadFault.{ReadFault}
 use Rattle.row_bytes.specs.declared.read_fault.ReadFault.TheVariants.{BadForm, Memory}
 use Rattle.row_bytes.specs.Fields.{◌>>=◌, times, with_front, FoundOr}
@@ -38,8 +38,11 @@ module _ {A : Type 0} (read : List ℕ → Option (A × List ℕ)) where
       let more : count - counter ≡ suc (count - (counter + 1)) = omega arith in
       rw more (ap (with_front front) (none_more (count - (counter + 1)) bytes e))
 
-  pub times_fails : {X Y : Type 0} (view : X → A) (views : Y → List A) (fault : ReadFault) (front : List A) (count counter : ℕ) (bytes left : List ℕ)
-      (all : Option (List A × List ℕ)) → counter < count → FoundOr view (Err fault) left (read bytes)
-      → with_front front (times read (count - counter) bytes) ≡ all → FoundOr views (Err fault) left all
-  times_fails view views BadForm front count counter bytes left all lt e is = sym is ∙ times_stops front count counter bytes lt e
-  times_fails view views Memory front count counter bytes left all lt e is = _
+  -- one of them that isn't read stops them all, and nothing was taken
+  pub times_fails : {X Y : Type 0} (view : X → A) (views : Y → List A) (fault : ReadFault) (front : List A)
+      (count counter : ℕ) (bytes left start : List ℕ) (all : Option (List A × List ℕ)) → counter < count
+      → FoundOr view (Err fault) bytes left (read bytes)
+      → with_front front (times read (count - counter) bytes) ≡ all → FoundOr views (Err fault) start start all
+  times_fails view views BadForm front count counter bytes left start all lt e is =
+      (sym is ∙ times_stops front count counter bytes lt e.0, refl)
+  times_fails view views Memory front count counter bytes left start all lt e is = refl

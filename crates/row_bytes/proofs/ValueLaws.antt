@@ -1,11 +1,11 @@
 -- A value that is read is spelled so, and what is spelled so is read.
-use Rattle.std.proofs.Common.{◌≡◌, ℕ, zero, suc, ◌+◌, ◌-◌, ◌^◌, ◌<◌, ◌≤◌, Bool, true, false, not, cond, eqb, ltb, nat_le, List, [], ◌∷◌, ◌++◌, length, get_or, take, drop, Option, Some, None, Result, Ok, Err, refl, sym, ap, subst, ◌∙◌, append_assoc, arith, inl, inr}
+use Rattle.std.proofs.Common.{◌≡◌, ℕ, zero, suc, ◌^◌, ◌<◌, ◌≤◌, Bool, true, false, not, eqb, ltb, nat_le, List, [], ◌∷◌, ◌++◌, length, take, drop, Option, Some, None, Result, Ok, Err, refl, sym, ap, subst, ◌∙◌, append_assoc, arith, inl, inr}
 use Rattle.std.specs.Prelude.{ℤ, ◌&&◌, IsTrue, FitsSigned, IfOk, IsOkAnd}
 use Rattle.std.specs.Borrow.{Bor}
-use Rattle.std.specs.Int.{w16, w64, from_be_bytes, to_be_bytes, cast_signed, cast_unsigned, from_bool}
+use Rattle.std.specs.Int.{w64, cast_signed, cast_unsigned, from_bool}
 use Rattle.std.specs.List.{list_all}
 use Rattle.std.specs.Str.{is_utf8}
-use Rattle.std.proofs.lemmas.Bool.{cases_lt, ltb-false, le-ltb, eqb-true, leb-true, le-leb}
+use Rattle.std.proofs.lemmas.Bool.{ltb-false, le-ltb, eqb-true, leb-true, le-leb}
 use Rattle.std.proofs.lemmas.Int.{ints, of_z-to_z, to_z-of_z}
 use Rattle.std.proofs.lemmas.Nat.{be_bytes_2, be_bytes_8, from_be_bytes-to_be_bytes_2, from_be_bytes-to_be_bytes_8}
 use Rattle.std.proofs.lemmas.List.{take_at, drop_at, take-append-drop, length-append, length-take}
@@ -20,7 +20,7 @@ use Rattle.vo_spec.specs.declared.cells.ValueRef.{ValueRef}
 use Rattle.vo_spec.specs.Lent.{value_of}
 use Rattle.row_bytes.specs.Taking.{Read}
 use Rattle.row_bytes.specs.Reading.{int_at, text_at, bool_at, value_at, text_fault}
-use Rattle.row_bytes.proofs.Readers.{IsBytes-take, IsBytes-drop, IsBytes-rest, guard_ok, chosen}
+use Rattle.row_bytes.proofs.Readers.{IsBytes-take, IsBytes-rest, guard_ok, chosen}
 
 -- what a reader of values took: the bytes are its spelling and the rest, and it fits
 pub record Encodes (bytes : List ℕ) (v : Value) (rest : List ℕ) : Type 0 where

@@ -1,5 +1,5 @@
--- Fields of byte formats: what reading gives of strings and names behind their lengths, and of so many
--- things in a row.
+-- Fields of byte formats: what reading gives of strings and names behind their lengths, and of so
+-- many things in a row; and what a call that reads leaves.
 use Rattle.std.specs.Prelude.{◌≡◌, ℕ, zero, suc, Bool, ◌&&◌, ◌==◌, nat_le, List, [], ◌∷◌, ◌++◌, length, if◌then◌else◌, Option, Some, None, Result, Ok, Err, bytes_eq}
 use Rattle.vo_spec.specs.declared.values.Kind.{Kind}
 use Rattle.vo_spec.specs.declared.values.Kind.TheVariants as kind
@@ -20,17 +20,19 @@ None >>= next = None
 abbrev pub where_true : {A : Type 0} → Bool → A → Option A
 where_true test value = if test then Some value else None
 
--- A call took what reading gives, and left the bytes behind it; or reading gives nothing.
-abbrev pub Found : {X A : Type 0} → (X → A) → Option X → List ℕ → Option (A × List ℕ) → Type 0
-Found view None new read = read ≡ None
-Found view (Some x) new read = read ≡ Some (view x, new)
+-- A call took from the old bytes what reading gives, and left the new ones; or reading gives
+-- nothing, and nothing was taken.
+abbrev pub Found : {X A : Type 0} → (X → A) → Option X → List ℕ → List ℕ → Option (A × List ℕ)
+    → Type 0
+Found view None old new read = (read ≡ None) × (new ≡ old)
+Found view (Some x) old new read = read ≡ Some (view x, new)
 
--- the same of a call that takes memory
-abbrev pub FoundOr : {X A : Type 0} → (X → A) → Result X ReadFault → List ℕ
+-- the same of a call that takes memory: where that runs out, nothing was taken either
+abbrev pub FoundOr : {X A : Type 0} → (X → A) → Result X ReadFault → List ℕ → List ℕ
     → Option (A × List ℕ) → Type 0
-FoundOr view (Ok x) new read = read ≡ Some (view x, new)
-FoundOr view (Err BadForm) new read = read ≡ None
-FoundOr view (Err Memory) new read = Unit {0}
+FoundOr view (Ok x) old new read = read ≡ Some (view x, new)
+FoundOr view (Err BadForm) old new read = (read ≡ None) × (new ≡ old)
+FoundOr view (Err Memory) old new read = new ≡ old
 
 -- things in front of those that are read
 abbrev pub with_front : {A : Type 0} → List A → Option (List A × List ℕ) → Option (List A × List ℕ)
@@ -53,16 +55,15 @@ name_at bytes = short_string_at bytes >>= λ name. where_true (is_name name.0) n
 
 -- these very bytes
 unfoldable pub word_at : List ℕ → List ℕ → Option (List ℕ × List ℕ)
-word_at word bytes = bytes_at (length word) bytes >>= λ found. where_true
-    (bytes_eq found.0 word) found
+word_at word bytes =
+    bytes_at (length word) bytes >>= λ found. where_true (bytes_eq found.0 word) found
 
 -- so many in a row, each as this reads it
 abbrev pub times : {A : Type 0} → (List ℕ → Option (A × List ℕ)) → ℕ → List ℕ
     → Option (List A × List ℕ)
 times read zero bytes = Some ([], bytes)
-times read (suc count) bytes =
-    read bytes >>= λ first. times read count first.1 >>= λ others. Some
-    (first.0 ∷ others.0, others.1)
+times read (suc count) bytes = read bytes >>= λ first. times read count first.1 >>=
+    λ others. Some (first.0 ∷ others.0, others.1)
 
 -- what is read of all the bytes, with none left
 abbrev pub whole : {A : Type 0} → Option (A × List ℕ) → Option A
@@ -84,13 +85,13 @@ kind_at bytes = byte_at bytes >>= λ byte. kind_of_byte byte.0 >>= λ k. Some (k
 
 -- a name, and the byte of a kind
 unfoldable pub column_at : List ℕ → Option (Column × List ℕ)
-column_at bytes = name_at bytes >>= λ name. kind_at name.1 >>= λ k. Some
-    (record { name = name.0; kind = k.0 }, k.1)
+column_at bytes = name_at bytes >>= λ name. kind_at name.1 >>=
+    λ k. Some (record { name = name.0; kind = k.0 }, k.1)
 
 -- a byte that says how many there are, 1 to 32
 unfoldable pub count_at : List ℕ → Option (ℕ × List ℕ)
-count_at bytes = byte_at bytes >>= λ count. where_true
-    (nat_le 1 count.0 && nat_le count.0 max_columns) count
+count_at bytes = byte_at bytes >>=
+    λ count. where_true (nat_le 1 count.0 && nat_le count.0 max_columns) count
 
 unfoldable pub columns_at : List ℕ → Option (List Column × List ℕ)
 columns_at bytes = count_at bytes >>= λ count. times column_at count.0 count.1

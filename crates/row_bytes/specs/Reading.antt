@@ -1,5 +1,5 @@
 -- Reading from the front of bytes: what stands there, and the bytes after it.
-use Rattle.std.specs.Prelude.{◌≡◌, ℕ, ◌+◌, Bool, not, ◌==◌, nat_lt, nat_le, if◌then◌else◌, List, [], ◌∷◌, length, take, drop, Option, Some, None, option_map, Result, Ok, Err}
+use Rattle.std.specs.Prelude.{ℕ, not, ◌==◌, nat_lt, nat_le, if◌then◌else◌, List, [], ◌∷◌, length, take, drop, Option, Some, None, Result, Ok, Err}
 use Rattle.std.specs.Int.{w64, cast_signed}
 use Rattle.std.specs.List.{list_all}
 use Rattle.std.specs.Str.{is_utf8}
@@ -9,21 +9,13 @@ use Rattle.vo_spec.specs.declared.values.Kind.{Kind}
 use Rattle.vo_spec.specs.declared.values.Kind.TheVariants as kind
 use Rattle.vo_spec.specs.Firsts.{first_of, unless}
 use Rattle.vo_spec.specs.Bytes.{u16_of, u32_of, u64_of}
-use Rattle.vo_spec.specs.Values.{value_of_key}
 use Rattle.row_bytes.specs.declared.fault.FormFault.{FormFault}
 use Rattle.row_bytes.specs.declared.fault.FormFault.TheVariants.{Short, Tag, Length, NotUtf8, Control}
 
--- A call took from the old bytes what reading gives, and left the new ones; or reading gives nothing, and the
--- bytes stay.
-abbrev pub Taken : {X A : Type 0} → (X → A) → Option X → List ℕ → List ℕ
-    → Option (A × List ℕ) → Type 0
-Taken view None old new read = (read ≡ None) × (new ≡ old)
-Taken view (Some x) old new read = read ≡ Some (view x, new)
-
 -- so many bytes
 unfoldable pub bytes_at : ℕ → List ℕ → Option (List ℕ × List ℕ)
-bytes_at count bytes = if nat_lt (length bytes) count then None
-    else Some (take count bytes, drop count bytes)
+bytes_at count bytes =
+    if nat_lt (length bytes) count then None else Some (take count bytes, drop count bytes)
 
 unfoldable pub byte_at : List ℕ → Option (ℕ × List ℕ)
 byte_at [] = None
@@ -31,8 +23,8 @@ byte_at (byte ∷ bytes) = Some (byte, bytes)
 
 -- the number that the first bytes spell, so many of them
 abbrev pub number_at : ℕ → (List ℕ → ℕ) → List ℕ → Option (ℕ × List ℕ)
-number_at count number bytes = if nat_lt (length bytes) count then None
-    else Some (number (take count bytes), drop count bytes)
+number_at count number bytes =
+    if nat_lt (length bytes) count then None else Some (number (take count bytes), drop count bytes)
 
 unfoldable pub u16_at : List ℕ → Option (ℕ × List ℕ)
 u16_at bytes = number_at 2 u16_of bytes
@@ -54,7 +46,8 @@ text_fault most text = first_of
     ∷ [])
 
 unfoldable pub int_at : List ℕ → Result (Value × List ℕ) FormFault
-int_at bytes = if nat_lt (length bytes) 8 then Err Short
+int_at bytes =
+    if nat_lt (length bytes) 8 then Err Short
     else Ok (Int (cast_signed w64 (u64_of (take 8 bytes))), drop 8 bytes)
 
 -- a text behind its length

@@ -6,16 +6,16 @@ use Rattle.vo_spec.specs.declared.cells.ValueRef.{ValueRef}
 use Rattle.vo_spec.specs.Lent.{value_of}
 use Rattle.row_bytes.specs.declared.fault.FormFault.{FormFault}
 
--- A call took from the old bytes the value that reading gives, and left the new ones; or it answers the fault, and the
--- bytes stay.
-abbrev pub TakenOr : Result ValueRef FormFault → List ℕ → List ℕ
-    → Result (Value × List ℕ) FormFault → Type 0
+-- A call took from the old bytes the value that reading gives, and left the new ones; or it answers
+-- the fault, and nothing was taken.
+abbrev pub TakenOr : Result ValueRef FormFault → List ℕ → List ℕ → Result (Value × List ℕ) FormFault
+    → Type 0
 TakenOr (Ok v) old new read = read ≡ Ok (value_of v, new)
 TakenOr (Err fault) old new read = (read ≡ Err fault) × (new ≡ old)
 
 -- the same, with the bytes that are left in the answer
-abbrev pub Read : Result (ValueRef × Bor (List ℕ)) FormFault
-    → Result (Value × List ℕ) FormFault → Type 0
+abbrev pub Read : Result (ValueRef × Bor (List ℕ)) FormFault → Result (Value × List ℕ) FormFault
+    → Type 0
 Read (Ok x) read = read ≡ Ok (value_of x.0, x.1.now)
 Read (Err fault) read = read ≡ Err fault
 

@@ -1,18 +1,16 @@
 //! Taking the columns of a table.
 ghost use Rattle.std.specs.Prelude.{◌≡◌};
-ghost use Rattle.row_bytes.specs.Fields.{Found, FoundOr, kind_at, column_at, count_at, columns_at, times};
+ghost use Rattle.row_bytes.specs.Fields.{Found, FoundOr, kind_of_byte, kind_at, column_at, count_at, columns_at, times};
 
 use crate::cursor::Cursor;
 use crate::read_fault::ReadFault;
 use std::alloc::Global;
 use vo_spec::{Column, Kind, List, Name};
 
-/// The kind that a byte stands for.
-#[tactic(auto, unfolding(crate::specs::Fields::kind_at))]
-pub fn take_kind(cursor: &mut Cursor<'_>) -> Option<Kind>
-    ensures { Found (λ kind. kind) result cursor.new (kind_at cursor.old) }
+fn kind_of_byte(byte: u8) -> Option<Kind>
+    ensures { result ≡ kind_of_byte byte }
 {
-    match cursor.take_byte()? {
+    match byte {
         1 => Some(Kind::Int),
         2 => Some(Kind::Text),
         3 => Some(Kind::Bool),
@@ -20,49 +18,67 @@ pub fn take_kind(cursor: &mut Cursor<'_>) -> Option<Kind>
     }
 }
 
+/// The kind that the next byte stands for.
+#[tactic(auto, unfolding(crate::specs::Fields::kind_at))]
+pub fn take_kind(cursor: &mut Cursor<'_>) -> Option<Kind>
+    ensures { Found (λ kind. kind) result cursor.old cursor.new (kind_at cursor.old) }
+{
+    let mut ahead = cursor.copy();
+    let kind = kind_of_byte(ahead.take_byte()?)?;
+    *cursor = ahead;
+    Some(kind)
+}
+
 /// How many things of a list come next: 1 to 32.
 #[tactic(auto, unfolding(crate::specs::Fields::count_at))]
 pub fn take_count(cursor: &mut Cursor<'_>) -> Option<u8>
-    ensures { Found (λ count. count) result cursor.new (count_at cursor.old) }
+    ensures { Found (λ count. count) result cursor.old cursor.new (count_at cursor.old) }
 {
-    let count = cursor.take_byte()?;
-    if 1 <= count && count <= 32 {
-        Some(count)
-    } else {
-        None
+    let mut ahead = cursor.copy();
+    let count = ahead.take_byte()?;
+    if count < 1 || 32 < count {
+        return None;
     }
+    *cursor = ahead;
+    Some(count)
 }
 
 #[tactic(auto, unfolding(crate::specs::Fields::column_at))]
 fn take_column(alloc: Global, cursor: &mut Cursor<'_>) -> Result<Column, ReadFault>
-    ensures { FoundOr (λ column. column) result cursor.new (column_at cursor.old) }
+    ensures { FoundOr (λ column. column) result cursor.old cursor.new (column_at cursor.old) }
 {
-    let name = cursor.take_name().ok_or(ReadFault::BadForm)?;
-    let kind = take_kind(cursor).ok_or(ReadFault::BadForm)?;
+    let mut ahead = cursor.copy();
+    let name = ahead.take_name().ok_or(ReadFault::BadForm)?;
+    let kind = take_kind(&mut ahead).ok_or(ReadFault::BadForm)?;
     let name = Name::from_vec(Vec::from_slice(alloc, name)?);
+    *cursor = ahead;
     Ok(Column { name, kind })
 }
 
 /// A list of 1 to 32 columns.
 #[tactic(auto, unfolding(crate::specs::Fields::columns_at))]
 pub fn take_columns(alloc: Global, cursor: &mut Cursor<'_>) -> Result<List<Column>, ReadFault>
-    ensures { FoundOr (λ columns. columns) result cursor.new (columns_at cursor.old) }
+    ensures { FoundOr (λ columns. columns) result cursor.old cursor.new (columns_at cursor.old) }
 {
-    let count = take_count(cursor).ok_or(ReadFault::BadForm)?;
-    let columns = take_each(alloc, cursor, count)?;
+    let mut ahead = cursor.copy();
+    let count = take_count(&mut ahead).ok_or(ReadFault::BadForm)?;
+    let columns = take_each(alloc, &mut ahead, count)?;
+    *cursor = ahead;
     Ok(List::from_vec(columns))
 }
 
 fn take_each(alloc: Global, cursor: &mut Cursor<'_>, count: u8) -> Result<Vec<Column>, ReadFault>
-    ensures { FoundOr (λ columns. columns.items) result cursor.new
+    ensures { FoundOr (λ columns. columns.items) result cursor.old cursor.new
         (times column_at count cursor.old) }
 {
+    let mut ahead = cursor.copy();
     let mut columns = Vec::new(alloc);
     for _ in 0..count {
-        match take_column(alloc, cursor) {
+        match take_column(alloc, &mut ahead) {
             Ok(column) => columns.push(column)?,
             Err(fault) => return Err(fault),
         }
     }
+    *cursor = ahead;
     Ok(columns)
 }

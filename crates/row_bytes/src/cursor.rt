@@ -1,11 +1,12 @@
 //! A place in a byte string, from which what stands there is taken.
 ghost use Rattle.std.specs.Prelude.{◌≡◌, ◌↔◌, [], IsTrue};
-ghost use Rattle.row_bytes.specs.Reading.{Taken, byte_at, bytes_at, u16_at, u32_at, u64_at};
+ghost use Rattle.row_bytes.specs.Reading.{byte_at, bytes_at, u16_at, u32_at, u64_at};
+ghost use Rattle.row_bytes.specs.Fields.{Found};
 
 use std::marker::Model;
 
-/// What is left of a byte string. Contracts see it as these bytes. A call that finds too few of them takes
-/// none.
+/// What is left of a byte string. Contracts see it as these bytes. A call that fails has taken
+/// nothing: one that takes several things goes ahead on a copy.
 #[derive(Debug, Drop)]
 pub struct Cursor<'b> {
     rest: &'b [u8],
@@ -33,6 +34,13 @@ impl<'b> Cursor<'b> {
         self.rest
     }
 
+    /// Another cursor at this place.
+    pub fn copy(&self) -> Cursor<'b>
+        ensures { result ≡ self.now }
+    {
+        Cursor { rest: self.rest }
+    }
+
     pub fn is_empty(&self) -> bool
         ensures { IsTrue result ↔ (self.now ≡ []) }
     {
@@ -42,7 +50,7 @@ impl<'b> Cursor<'b> {
     /// The next bytes, so many of them.
     #[tactic(auto, unfolding(crate::specs::Reading::bytes_at))]
     pub fn take_bytes(&mut self, count: usize) -> Option<&'b [u8]>
-        ensures { Taken (λ bytes. bytes.now) result self.old self.new (bytes_at count self.old) }
+        ensures { Found (λ bytes. bytes.now) result self.old self.new (bytes_at count self.old) }
     {
         let (front, rest) = self.rest.split_at_checked(count)?;
         self.rest = rest;
@@ -52,7 +60,7 @@ impl<'b> Cursor<'b> {
     /// The next `N` bytes.
     #[tactic(auto, unfolding(crate::specs::Reading::bytes_at))]
     pub fn take_chunk<const N: usize>(&mut self) -> Option<&'b [u8; N]>
-        ensures { Taken (λ chunk. chunk.now) result self.old self.new (bytes_at N self.old) }
+        ensures { Found (λ chunk. chunk.now) result self.old self.new (bytes_at N self.old) }
     {
         let (front, rest) = self.rest.split_first_chunk::<N>()?;
         self.rest = rest;
@@ -61,7 +69,7 @@ impl<'b> Cursor<'b> {
 
     #[tactic(auto, unfolding(crate::specs::Reading::byte_at))]
     pub fn take_byte(&mut self) -> Option<u8>
-        ensures { Taken (λ byte. byte) result self.old self.new (byte_at self.old) }
+        ensures { Found (λ byte. byte) result self.old self.new (byte_at self.old) }
     {
         let (first, rest) = self.rest.split_first()?;
         self.rest = rest;
@@ -70,7 +78,7 @@ impl<'b> Cursor<'b> {
 
     #[tactic(auto, unfolding(crate::specs::Reading::u16_at, vo_spec::specs::Bytes::u16_of))]
     pub fn take_u16(&mut self) -> Option<u16>
-        ensures { Taken (λ number. number) result self.old self.new (u16_at self.old) }
+        ensures { Found (λ number. number) result self.old self.new (u16_at self.old) }
     {
         let (front, rest) = self.rest.split_first_chunk::<2>()?;
         self.rest = rest;
@@ -79,7 +87,7 @@ impl<'b> Cursor<'b> {
 
     #[tactic(auto, unfolding(crate::specs::Reading::u32_at, vo_spec::specs::Bytes::u32_of))]
     pub fn take_u32(&mut self) -> Option<u32>
-        ensures { Taken (λ number. number) result self.old self.new (u32_at self.old) }
+        ensures { Found (λ number. number) result self.old self.new (u32_at self.old) }
     {
         let (front, rest) = self.rest.split_first_chunk::<4>()?;
         self.rest = rest;
@@ -88,7 +96,7 @@ impl<'b> Cursor<'b> {
 
     #[tactic(auto, unfolding(crate::specs::Reading::u64_at, vo_spec::specs::Bytes::u64_of))]
     pub fn take_u64(&mut self) -> Option<u64>
-        ensures { Taken (λ number. number) result self.old self.new (u64_at self.old) }
+        ensures { Found (λ number. number) result self.old self.new (u64_at self.old) }
     {
         let (front, rest) = self.rest.split_first_chunk::<8>()?;
         self.rest = rest;

@@ -11,50 +11,70 @@ impl<'b> Cursor<'b> {
     /// Bytes behind their length of one byte.
     #[tactic(auto, unfolding(crate::specs::Fields::short_string_at))]
     pub fn take_short_string(&mut self) -> Option<&'b [u8]>
-        ensures { Found (λ bytes. bytes.now) result self.new (short_string_at self.old) }
+        ensures { Found (λ bytes. bytes.now) result self.old self.new (short_string_at self.old) }
     {
-        let count = self.take_byte()?;
-        self.take_bytes(count as usize)
+        let mut ahead = self.copy();
+        let count = ahead.take_byte()?;
+        let bytes = ahead.take_bytes(count as usize)?;
+        *self = ahead;
+        Some(bytes)
     }
 
     /// Bytes behind their length of two bytes.
     #[tactic(auto, unfolding(crate::specs::Fields::string_at))]
     pub fn take_string(&mut self) -> Option<&'b [u8]>
-        ensures { Found (λ bytes. bytes.now) result self.new (string_at self.old) }
+        ensures { Found (λ bytes. bytes.now) result self.old self.new (string_at self.old) }
     {
-        let count = self.take_u16()?;
-        self.take_bytes(count as usize)
+        let mut ahead = self.copy();
+        let count = ahead.take_u16()?;
+        let bytes = ahead.take_bytes(count as usize)?;
+        *self = ahead;
+        Some(bytes)
     }
 
     /// Bytes behind their length of four bytes.
     #[tactic(auto, unfolding(crate::specs::Fields::block_at))]
     pub fn take_block(&mut self) -> Option<&'b [u8]>
-        ensures { Found (λ bytes. bytes.now) result self.new (block_at self.old) }
+        ensures { Found (λ bytes. bytes.now) result self.old self.new (block_at self.old) }
     {
-        let count = self.take_u32()?;
-        self.take_bytes(count as usize)
+        let mut ahead = self.copy();
+        let count = ahead.take_u32()?;
+        let bytes = ahead.take_bytes(count as usize)?;
+        *self = ahead;
+        Some(bytes)
     }
 
     /// The bytes of a name behind their length.
     #[tactic(auto, unfolding(crate::specs::Fields::name_at))]
     pub fn take_name(&mut self) -> Option<&'b [u8]>
-        ensures { Found (λ bytes. bytes.now) result self.new (name_at self.old) }
+        ensures { Found (λ bytes. bytes.now) result self.old self.new (name_at self.old) }
     {
-        let name = self.take_short_string()?;
-        if is_name(name) { Some(name) } else { None }
+        let mut ahead = self.copy();
+        let name = ahead.take_short_string()?;
+        if !is_name(name) {
+            return None;
+        }
+        *self = ahead;
+        Some(name)
     }
 
     /// These very bytes.
     #[tactic(auto, unfolding(crate::specs::Fields::word_at))]
     pub fn take_word(&mut self, word: &[u8]) -> Option<&'b [u8]>
-        ensures { Found (λ bytes. bytes.now) result self.new (word_at word.now self.old) }
+        ensures { Found (λ bytes. bytes.now) result self.old self.new (word_at word.now self.old) }
     {
-        let found = self.take_bytes(word.len())?;
-        if found == word { Some(found) } else { None }
+        let mut ahead = self.copy();
+        let found = ahead.take_bytes(word.len())?;
+        if found != word {
+            return None;
+        }
+        *self = ahead;
+        Some(found)
     }
 }
 
-/// Whether the bytes are a name: 1 to 63 small letters, digits and `_`, of which the first is no digit.
+/// Whether the bytes are a name: 1 to 63 small letters, digits and `_`, of which the first is no
+/// digit.
 pub fn is_name(bytes: &[u8]) -> bool
     ensures { result ≡ is_name bytes.now }
 {

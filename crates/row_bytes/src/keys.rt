@@ -1,13 +1,10 @@
 //! The keys of values, and the values of keys.
-ghost use Rattle.std.specs.Prelude.{◌≡◌, ◌≢◌, ◌^◌, pos, ◌+ℤ◌, ◌-ℤ◌, List, ℕ, IfOk};
+ghost use Rattle.std.specs.Prelude.{◌≡◌, ◌^◌, pos, ◌+ℤ◌, ◌-ℤ◌, IfOk};
 ghost use Rattle.std.specs.Int.{w64, cast_unsigned};
-ghost use Rattle.vo_spec.specs.declared.values.Kind.{Kind as KeyKind};
-ghost use Rattle.vo_spec.specs.declared.values.Value.{Value as Plain};
 ghost use Rattle.vo_spec.specs.Firsts.{unless};
-ghost use Rattle.vo_spec.specs.Values.{kind_of, key_of, value_of_key, FitsValue};
+ghost use Rattle.vo_spec.specs.Values.{key_of, value_of_key};
 ghost use Rattle.row_bytes.specs.Reading.{key_fault};
 ghost use Rattle.row_bytes.specs.Taking.{Lends};
-ghost use Rattle.vo_spec.specs.Bytes.{IsBytes};
 
 use crate::fault::FormFault;
 use crate::text::text_fault;
@@ -70,8 +67,8 @@ fn text_of_key(key: &[u8]) -> Result<ValueRef<'_>, FormFault>
     }
 }
 
-/// The value of this kind whose key it is, its text lent.
-pub fn value_of_key(kind: Kind, key: &[u8]) -> Result<ValueRef<'_>, FormFault>
+/// The value of this kind whose key it is, its text lent, or what is wrong with the key.
+pub fn read_key(kind: Kind, key: &[u8]) -> Result<ValueRef<'_>, FormFault>
     ensures { Lends result (unless (key_fault kind key.now) (value_of_key kind key.now)) }
 {
     match kind {
@@ -80,11 +77,3 @@ pub fn value_of_key(kind: Kind, key: &[u8]) -> Result<ValueRef<'_>, FormFault>
         Kind::Bool => Err(FormFault::Tag),
     }
 }
-
-/// A value has one key, and a key one value.
-pub fn one_key()
-    ensures value { (v : Plain) → FitsValue v → kind_of v ≢ Kind.Bool
-        → value_of_key (kind_of v) (key_of v) ≡ v }
-    ensures key { (kind : KeyKind) (key : List ℕ) → IsBytes key → key_fault kind key ≡ None
-        → key_of (value_of_key kind key) ≡ key }
-{}

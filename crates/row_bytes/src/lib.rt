@@ -1,4 +1,4 @@
-//! Values, keys and rows as bytes, and intervals of keys.
+//! Values and keys as bytes, both ways, and the cursor that all readers of bytes use.
 #![tactic(auto)]
 
 mod columns;
@@ -17,7 +17,7 @@ pub use copies::{copy_onto, copy_values, own_value};
 pub use cursor::Cursor;
 pub use fault::FormFault;
 pub use fields::is_name;
-pub use keys::{key_of, value_of_key};
+pub use keys::{key_of, read_key};
 pub use read_fault::ReadFault;
 pub use reading::take_value;
 pub use vo_spec::{Bound, Interval, Key, Kind, List, Name, Row, Text, Value, ValueRef};

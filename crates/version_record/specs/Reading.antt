@@ -17,10 +17,10 @@ use Rattle.row_bytes.specs.Fields.{◌>>=◌, where_true, word_at, name_at, colu
 -- Records.
 
 unfoldable pub record_at : List ℕ → Option (Record × List ℕ)
-record_at bytes = word_at (codes "VREC") bytes >>= λ magic. bytes_at 16 magic.1 >>= λ id. u64_at
-    id.1 >>= λ version.
-    bytes_at 32 version.1 >>= λ catalog. Some
-    (record { id = id.0; version = version.0; catalog = catalog.0 }, catalog.1)
+record_at bytes =
+    word_at (codes "VREC") bytes >>= λ magic. bytes_at 16 magic.1 >>= λ id.
+    u64_at id.1 >>= λ version. bytes_at 32 version.1 >>= λ catalog.
+    Some (record { id = id.0; version = version.0; catalog = catalog.0 }, catalog.1)
 
 -- Catalogs.
 
@@ -36,8 +36,8 @@ schema_at bytes = columns_at bytes >>= λ columns. byte_at columns.1 >>= λ key.
     (record { columns = columns.0; key = key.0 }, key.1)
 
 unfoldable pub catalog_table_at : List ℕ → Option (CatalogTable × List ℕ)
-catalog_table_at bytes = name_at bytes >>= λ name. schema_at name.1 >>= λ schema. u64_at schema.1
-    >>= λ rows.
+catalog_table_at bytes =
+    name_at bytes >>= λ name. schema_at name.1 >>= λ schema. u64_at schema.1 >>= λ rows.
     bytes_at 32 rows.1 >>= λ root.
     where_true (nat_lt rows.0 (2 ^ 32))
     (record { name = name.0; schema = schema.0; rows = rows.0; root = root.0 }, root.1)
@@ -46,8 +46,8 @@ abbrev pub names_of : List CatalogTable → List (List ℕ)
 names_of tables = map (λ (t : CatalogTable). t.name) tables
 
 unfoldable pub catalog_at : List ℕ → Option (Catalog × List ℕ)
-catalog_at bytes = u16_at bytes >>= λ count. where_true (nat_le count.0 max_tables) count
-    >>= λ count.
+catalog_at bytes =
+    u16_at bytes >>= λ count. where_true (nat_le count.0 max_tables) count >>= λ count.
     times catalog_table_at count.0 count.1 >>= λ tables.
     where_true (are_rising (names_of tables.0)) (record { tables = tables.0 }, tables.1)
 

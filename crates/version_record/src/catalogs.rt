@@ -1,11 +1,12 @@
 //! Catalogs as bytes, and their digests.
-ghost use Rattle.std.specs.Prelude.{◌≡◌, ◌++◌, flat_map, IfOk, OnOk, Some};
+ghost use Rattle.std.specs.Prelude.{◌≡◌, ◌++◌, flat_map, IfOk, OnOk, OnErr, Some};
 ghost use Rattle.std.specs.List.{AllByRecursion};
 ghost use Rattle.vo_spec.specs.declared.records.Catalog.{Catalog as Plain};
 ghost use Rattle.vo_spec.specs.Records.{IsCatalog, FitsCatalog, FitsCatalogTable, are_rising, catalog_bytes, catalog_digest, catalog_table_bytes};
 ghost use Rattle.vo_spec.specs.Values.{key_lt};
 ghost use Rattle.row_bytes.specs.Fields.{FoundOr, times, whole};
 ghost use Rattle.version_record.specs.Reading.{CatalogRead, catalog_at, catalog_table_at, names_of};
+ghost use Rattle.batch_format.specs.Writing.{StaysInFront};
 
 use crate::tables::{put_table, take_table};
 use row_bytes::{Cursor, ReadFault};
@@ -23,11 +24,12 @@ pub fn catalog_bytes(alloc: Global, catalog: &Catalog) -> Result<Vec<u8>, AllocE
     Ok(bytes)
 }
 
-/// Puts the bytes of a catalog at the end.
-#[tactic(auto, unfolding(vo_spec::specs::Records::catalog_bytes))]
+/// Puts the bytes of a catalog at the end. Where memory runs out, what was there stays in front.
+#[tactic(auto, unfolding(vo_spec::specs::Records::catalog_bytes), using(batch_format::proofs::Fronts::stays_itself, batch_format::proofs::Fronts::stays_before, batch_format::proofs::Fronts::stays_behind))]
 pub fn put_catalog(out: &mut Vec<u8>, catalog: &Catalog) -> Result<(), AllocError>
     requires { FitsCatalog catalog.now }
-    ensures { OnOk result (out.new.items ≡ out.old.items ++ catalog_bytes catalog.now) }
+    ensures ok { OnOk result (out.new.items ≡ out.old.items ++ catalog_bytes catalog.now) }
+    ensures err { OnErr result (StaysInFront out.old.items out.new.items) }
 {
     let tables = catalog.tables.as_slice();
     out.extend_from_slice(&u16_bytes(tables.len() as u16))?;
@@ -47,10 +49,12 @@ pub fn catalog_digest(alloc: Global, catalog: &Catalog) -> Result<Digest, AllocE
     Ok(hasher.end())
 }
 
+#[tactic(auto, using(batch_format::proofs::Fronts::stays_itself, batch_format::proofs::Fronts::stays_before, batch_format::proofs::Fronts::stays_behind))]
 fn put_tables(out: &mut Vec<u8>, tables: &[CatalogTable]) -> Result<(), AllocError>
     requires { AllByRecursion FitsCatalogTable tables.now }
-    ensures { OnOk result (out.new.items ≡ out.old.items
+    ensures ok { OnOk result (out.new.items ≡ out.old.items
         ++ flat_map catalog_table_bytes tables.now) }
+    ensures err { OnErr result (StaysInFront out.old.items out.new.items) }
 {
     for table in tables {
         put_table(out, table)?;
@@ -61,16 +65,18 @@ fn put_tables(out: &mut Vec<u8>, tables: &[CatalogTable]) -> Result<(), AllocErr
 /// The catalog that comes next.
 #[tactic(auto, unfolding(crate::specs::Reading::catalog_at))]
 pub fn take_catalog(alloc: Global, cursor: &mut Cursor<'_>) -> Result<Catalog, ReadFault>
-    ensures { FoundOr (λ catalog. catalog) result cursor.new (catalog_at cursor.old) }
+    ensures { FoundOr (λ catalog. catalog) result cursor.old cursor.new (catalog_at cursor.old) }
 {
-    let count = cursor.take_u16().ok_or(ReadFault::BadForm)?;
+    let mut ahead = cursor.copy();
+    let count = ahead.take_u16().ok_or(ReadFault::BadForm)?;
     if count > 64 {
         return Err(ReadFault::BadForm);
     }
-    let tables = take_tables(alloc, cursor, count)?;
+    let tables = take_tables(alloc, &mut ahead, count)?;
     if !are_rising(&tables) {
         return Err(ReadFault::BadForm);
     }
+    *cursor = ahead;
     Ok(Catalog {
         tables: List::from_vec(tables),
     })
@@ -105,16 +111,18 @@ fn take_tables(
     cursor: &mut Cursor<'_>,
     count: u16,
 ) -> Result<Vec<CatalogTable>, ReadFault>
-    ensures { FoundOr (λ tables. tables.items) result cursor.new
+    ensures { FoundOr (λ tables. tables.items) result cursor.old cursor.new
         (times catalog_table_at count cursor.old) }
 {
+    let mut ahead = cursor.copy();
     let mut tables = Vec::new(alloc);
     for _ in 0..count {
-        match take_table(alloc, cursor) {
+        match take_table(alloc, &mut ahead) {
             Ok(table) => tables.push(table)?,
             Err(fault) => return Err(fault),
         }
     }
+    *cursor = ahead;
     Ok(tables)
 }
 

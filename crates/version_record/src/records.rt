@@ -33,12 +33,14 @@ fn put_chunk<const N: usize>(bytes: &mut [u8; 60], at: usize, piece: &[u8; N])
 /// The record that comes next.
 #[tactic(auto, unfolding(crate::specs::Reading::record_at))]
 pub fn take_record(cursor: &mut Cursor<'_>) -> Option<Record>
-    ensures { Found (λ rec. rec) result cursor.new (record_at cursor.old) }
+    ensures { Found (λ rec. rec) result cursor.old cursor.new (record_at cursor.old) }
 {
-    cursor.take_word(b"VREC")?;
-    let id = cursor.take_chunk::<16>()?;
-    let version = cursor.take_u64()?;
-    let catalog = cursor.take_chunk::<32>()?;
+    let mut ahead = cursor.copy();
+    ahead.take_word(b"VREC")?;
+    let id = ahead.take_chunk::<16>()?;
+    let version = ahead.take_u64()?;
+    let catalog = ahead.take_chunk::<32>()?;
+    *cursor = ahead;
     Some(Record {
         id: *id,
         version,

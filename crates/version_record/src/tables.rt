@@ -1,8 +1,9 @@
 //! What a catalog says of one table.
-ghost use Rattle.std.specs.Prelude.{◌≡◌, ◌++◌, OnOk};
+ghost use Rattle.std.specs.Prelude.{◌≡◌, ◌++◌, OnOk, OnErr};
 ghost use Rattle.vo_spec.specs.Records.{FitsCatalogTable, catalog_table_bytes};
 ghost use Rattle.row_bytes.specs.Fields.{FoundOr};
 ghost use Rattle.version_record.specs.Reading.{schema_at, catalog_table_at, is_schema};
+ghost use Rattle.batch_format.specs.Writing.{StaysInFront};
 
 use batch_format::{put_columns, put_name};
 use row_bytes::{Cursor, ReadFault, take_columns};
@@ -13,17 +14,20 @@ use vo_spec::{CatalogTable, Digest, Kind, Name, Schema, u64_bytes};
 /// What the catalog says of the table that comes next.
 #[tactic(auto, unfolding(crate::specs::Reading::catalog_table_at))]
 pub fn take_table(alloc: Global, cursor: &mut Cursor<'_>) -> Result<CatalogTable, ReadFault>
-    ensures { FoundOr (λ table. table) result cursor.new (catalog_table_at cursor.old) }
+    ensures { FoundOr (λ table. table) result cursor.old cursor.new (catalog_table_at cursor.old) }
 {
-    let name = cursor.take_name().ok_or(ReadFault::BadForm)?;
-    let schema = take_schema(alloc, cursor)?;
-    let rows = cursor.take_u64().ok_or(ReadFault::BadForm)?;
-    let root = cursor.take_chunk::<32>().ok_or(ReadFault::BadForm)?;
+    let mut ahead = cursor.copy();
+    let name = ahead.take_name().ok_or(ReadFault::BadForm)?;
+    let schema = take_schema(alloc, &mut ahead)?;
+    let rows = ahead.take_u64().ok_or(ReadFault::BadForm)?;
+    let root = ahead.take_chunk::<32>().ok_or(ReadFault::BadForm)?;
     if rows >= 1 << 32 {
         return Err(ReadFault::BadForm);
     }
+    let name = Name::from_vec(Vec::from_slice(alloc, name)?);
+    *cursor = ahead;
     Ok(CatalogTable {
-        name: Name::from_vec(Vec::from_slice(alloc, name)?),
+        name,
         schema,
         rows,
         root: Digest::new(*root),
@@ -32,16 +36,17 @@ pub fn take_table(alloc: Global, cursor: &mut Cursor<'_>) -> Result<CatalogTable
 
 #[tactic(auto, unfolding(crate::specs::Reading::schema_at))]
 fn take_schema(alloc: Global, cursor: &mut Cursor<'_>) -> Result<Schema, ReadFault>
-    ensures { FoundOr (λ schema. schema) result cursor.new (schema_at cursor.old) }
+    ensures { FoundOr (λ schema. schema) result cursor.old cursor.new (schema_at cursor.old) }
 {
-    let columns = take_columns(alloc, cursor)?;
-    let key = cursor.take_byte().ok_or(ReadFault::BadForm)?;
+    let mut ahead = cursor.copy();
+    let columns = take_columns(alloc, &mut ahead)?;
+    let key = ahead.take_byte().ok_or(ReadFault::BadForm)?;
     let schema = Schema { columns, key };
-    if is_schema(&schema) {
-        Ok(schema)
-    } else {
-        Err(ReadFault::BadForm)
+    if !is_schema(&schema) {
+        return Err(ReadFault::BadForm);
     }
+    *cursor = ahead;
+    Ok(schema)
 }
 
 /// Columns of different names, one of them the key, which is no BOOLEAN.
@@ -54,9 +59,11 @@ fn is_schema(schema: &Schema) -> bool
 }
 
 /// Puts what the catalog says of a table at the end.
+#[tactic(auto, using(batch_format::proofs::Fronts::stays_itself, batch_format::proofs::Fronts::stays_before, batch_format::proofs::Fronts::stays_behind))]
 pub fn put_table(out: &mut Vec<u8>, table: &CatalogTable) -> Result<(), AllocError>
     requires { FitsCatalogTable table.now }
-    ensures { OnOk result (out.new.items ≡ out.old.items ++ catalog_table_bytes table.now) }
+    ensures ok { OnOk result (out.new.items ≡ out.old.items ++ catalog_table_bytes table.now) }
+    ensures err { OnErr result (StaysInFront out.old.items out.new.items) }
 {
     put_name(out, &table.name)?;
     put_columns(out, table.schema.columns.as_slice())?;

@@ -8,7 +8,7 @@ ghost use Rattle.vo_spec.specs.Checks.{is_key_of, key_kind, shows_kind, cells_fi
 ghost use Rattle.mb_tree.specs.View.{part_of, parts_of};
 
 use mb_tree::PartTree;
-use row_bytes::value_of_key;
+use row_bytes::read_key;
 use table_list::{kind_at, same_kind};
 use vo_spec::{Cell, Column, Kind, PartEntry, RowPart, Schema, ValueRef};
 
@@ -58,7 +58,7 @@ fn key_kind(schema: &Schema) -> Kind
 fn is_key_of(kind: Kind, key: &[u8]) -> bool
     ensures { result ≡ is_key_of kind key.now }
 {
-    value_of_key(kind, key).is_ok()
+    read_key(kind, key).is_ok()
 }
 
 fn row_fits(schema: &Schema, row: &RowPart<'_>) -> bool

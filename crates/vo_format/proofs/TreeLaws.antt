@@ -181,11 +181,11 @@ trees_read = record { found = tree_found; again = tree_again }
 
 -- What the call ensures.
 
-pub is_tree : (bytes rest : List ℕ) (r : Result PartTree ReadFault) → IsBytes bytes → FoundOr part_of r rest (tree_at max_levels bytes)
+pub is_tree : (bytes rest : List ℕ) (r : Result PartTree ReadFault) → IsBytes bytes → FoundOr part_of r bytes rest (tree_at max_levels bytes)
     → IfOk r (λ tree. FitsTree (part_of tree) × (bytes ≡ tree_bytes (part_of tree) ++ rest))
 is_tree bytes rest (Ok tree) fits read = let f = tree_found bytes (part_of tree) rest fits read in (f.1, f.0.parts)
 is_tree bytes rest (Err fault) fits read = tt
 
-pub tree_is_read : (bytes left : List ℕ) (r : Result PartTree ReadFault) (tree : RowTree) (rest : List ℕ) → FoundOr part_of r left (tree_at max_levels bytes)
-    → FitsTree tree → bytes ≡ tree_bytes tree ++ rest → FoundOr part_of r left (Some (tree, rest))
-tree_is_read bytes left r tree rest read fits e = subst (FoundOr part_of r left) (ap (tree_at max_levels) e ∙ tree_again tree rest fits) read
+pub tree_is_read : (bytes left : List ℕ) (r : Result PartTree ReadFault) (tree : RowTree) (rest : List ℕ) → FoundOr part_of r bytes left (tree_at max_levels bytes)
+    → FitsTree tree → bytes ≡ tree_bytes tree ++ rest → FoundOr part_of r bytes left (Some (tree, rest))
+tree_is_read bytes left r tree rest read fits e = subst (FoundOr part_of r bytes left) (ap (tree_at max_levels) e ∙ tree_again tree rest fits) read

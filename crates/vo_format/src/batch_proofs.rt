@@ -18,14 +18,21 @@ use vo_spec::{MAX_PROOFS, u16_bytes};
 
 #[tactic(auto, unfolding(crate::specs::Reading::proofs_at))]
 fn take_proofs<'b>(alloc: Global, cursor: &mut Cursor<'b>) -> Result<Vec<PartTree<'b>>, ReadFault>
-    ensures { FoundOr trees_of result cursor.new (proofs_at cursor.old) }
+    ensures { FoundOr trees_of result cursor.old cursor.new (proofs_at cursor.old) }
 {
-    cursor.take_word(b"VOU1").ok_or(ReadFault::BadForm)?;
-    let count = cursor.take_u16().ok_or(ReadFault::BadForm)?;
+    let mut ahead = cursor.copy();
+    ahead.take_word(b"VOU1").ok_or(ReadFault::BadForm)?;
+    let count = ahead.take_u16().ok_or(ReadFault::BadForm)?;
     if count > 1000 {
         return Err(ReadFault::BadForm);
     }
-    take_trees(alloc, cursor, count)
+    match take_trees(alloc, &mut ahead, count) {
+        Ok(trees) => {
+            *cursor = ahead;
+            Ok(trees)
+        }
+        Err(why) => Err(why),
+    }
 }
 
 #[tactic(auto, unfolding(crate::specs::Reading::proofs_of))]

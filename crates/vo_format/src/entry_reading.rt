@@ -9,23 +9,25 @@ ghost use Rattle.vo_format.specs.Reading.{cell_at, cells_at, count_within, entry
 
 use row_bytes::{Cursor, ReadFault, take_value};
 use std::alloc::Global;
-use vo_spec::{Cell, CellValue, Digest, KeyPart, List, MAX_KEY, PartEntry, RowPart};
+use vo_spec::{Cell, CellValue, Digest, KeyPart, List, PartEntry, RowPart};
 
 /// How many things come next, within these limits.
 pub fn take_count(cursor: &mut Cursor<'_>, least: u8, most: u8) -> Option<u8>
-    ensures { Found (λ count. count) result cursor.new (count_within least most cursor.old) }
+    ensures { Found (λ count. count) result cursor.old cursor.new
+        (count_within least most cursor.old) }
 {
-    let count = cursor.take_byte()?;
-    if least <= count && count <= most {
-        Some(count)
-    } else {
-        None
+    let mut ahead = cursor.copy();
+    let count = ahead.take_byte()?;
+    if count < least || most < count {
+        return None;
     }
+    *cursor = ahead;
+    Some(count)
 }
 
 /// The digest that comes next.
 pub fn take_digest(cursor: &mut Cursor<'_>) -> Option<Digest>
-    ensures { Found (λ digest. digest) result cursor.new (bytes_at 32 cursor.old) }
+    ensures { Found (λ digest. digest) result cursor.old cursor.new (bytes_at 32 cursor.old) }
 {
     let bytes = cursor.take_chunk::<32>()?;
     Some(Digest::new(*bytes))
@@ -34,19 +36,21 @@ pub fn take_digest(cursor: &mut Cursor<'_>) -> Option<Digest>
 /// The key or separator that comes next, lent.
 #[tactic(auto, unfolding(crate::specs::Reading::key_at))]
 pub fn take_key<'b>(cursor: &mut Cursor<'b>) -> Option<KeyPart<'b>>
-    ensures { Found (λ key. key) result cursor.new (key_at cursor.old) }
+    ensures { Found (λ key. key) result cursor.old cursor.new (key_at cursor.old) }
 {
-    let key = cursor.take_string()?;
-    if key.len() <= MAX_KEY {
-        Some(KeyPart::lent(key))
-    } else {
-        None
+    let mut ahead = cursor.copy();
+    let key = ahead.take_string()?;
+    if key.len() > 255 {
+        return None;
     }
+    *cursor = ahead;
+    Some(KeyPart::lent(key))
 }
 
 #[tactic(auto, unfolding(batch_format::specs::BatchReading::any_value_at))]
 fn take_shown<'b>(cursor: &mut Cursor<'b>) -> Option<Cell<'b>>
-    ensures { Found (λ cell. cell) result cursor.new (one Shown any_value_at cursor.old) }
+    ensures { Found (λ cell. cell) result cursor.old cursor.new
+        (one Shown any_value_at cursor.old) }
 {
     match take_value(cursor) {
         Ok(value) => Some(Cell::Shown(CellValue::lent(value))),
@@ -56,13 +60,16 @@ fn take_shown<'b>(cursor: &mut Cursor<'b>) -> Option<Cell<'b>>
 
 #[tactic(auto, unfolding(crate::specs::Reading::cell_at, row_bytes::specs::Reading::byte_at))]
 fn take_cell<'b>(cursor: &mut Cursor<'b>) -> Option<Cell<'b>>
-    ensures { Found (λ cell. cell) result cursor.new (cell_at cursor.old) }
+    ensures { Found (λ cell. cell) result cursor.old cursor.new (cell_at cursor.old) }
 {
-    match cursor.take_byte()? {
-        0 => Some(Cell::Hidden(take_digest(cursor)?)),
-        1 => take_shown(cursor),
-        _ => None,
-    }
+    let mut ahead = cursor.copy();
+    let cell = match ahead.take_byte()? {
+        0 => Cell::Hidden(take_digest(&mut ahead)?),
+        1 => take_shown(&mut ahead)?,
+        _ => return None,
+    };
+    *cursor = ahead;
+    Some(cell)
 }
 
 fn each_cell<'b>(
@@ -70,31 +77,39 @@ fn each_cell<'b>(
     cursor: &mut Cursor<'b>,
     count: u8,
 ) -> Result<Vec<Cell<'b>>, ReadFault>
-    ensures { FoundOr (λ cells. cells.items) result cursor.new (times cell_at count cursor.old) }
+    ensures { FoundOr (λ cells. cells.items) result cursor.old cursor.new
+        (times cell_at count cursor.old) }
 {
+    let mut ahead = cursor.copy();
     let mut cells = Vec::new(alloc);
     for _ in 0..count {
-        match take_cell(cursor) {
+        match take_cell(&mut ahead) {
             Some(cell) => cells.push(cell)?,
             None => return Err(ReadFault::BadForm),
         }
     }
+    *cursor = ahead;
     Ok(cells)
 }
 
 #[tactic(auto, unfolding(crate::specs::Reading::cells_at))]
 fn take_cells<'b>(alloc: Global, cursor: &mut Cursor<'b>) -> Result<RowPart<'b>, ReadFault>
-    ensures { FoundOr (λ row. row) result cursor.new (one Cells cells_at cursor.old) }
+    ensures { FoundOr (λ row. row) result cursor.old cursor.new (one Cells cells_at cursor.old) }
 {
-    let count = take_count(cursor, 0, 31).ok_or(ReadFault::BadForm)?;
-    match each_cell(alloc, cursor, count) {
-        Ok(cells) => Ok(RowPart::Cells(List::from_vec(cells))),
+    let mut ahead = cursor.copy();
+    let count = take_count(&mut ahead, 0, 31).ok_or(ReadFault::BadForm)?;
+    match each_cell(alloc, &mut ahead, count) {
+        Ok(cells) => {
+            *cursor = ahead;
+            Ok(RowPart::Cells(List::from_vec(cells)))
+        }
         Err(fault) => Err(fault),
     }
 }
 
 fn take_closed<'b>(cursor: &mut Cursor<'b>) -> Result<RowPart<'b>, ReadFault>
-    ensures { FoundOr (λ row. row) result cursor.new (one Closed (bytes_at 32) cursor.old) }
+    ensures { FoundOr (λ row. row) result cursor.old cursor.new
+        (one Closed (bytes_at 32) cursor.old) }
 {
     match take_digest(cursor) {
         Some(digest) => Ok(RowPart::Digest(digest)),
@@ -104,23 +119,35 @@ fn take_closed<'b>(cursor: &mut Cursor<'b>) -> Result<RowPart<'b>, ReadFault>
 
 #[tactic(auto, unfolding(crate::specs::Reading::row_at, row_bytes::specs::Reading::byte_at))]
 fn take_row<'b>(alloc: Global, cursor: &mut Cursor<'b>) -> Result<RowPart<'b>, ReadFault>
-    ensures { FoundOr (λ row. row) result cursor.new (row_at cursor.old) }
+    ensures { FoundOr (λ row. row) result cursor.old cursor.new (row_at cursor.old) }
 {
-    match cursor.take_byte() {
-        Some(0) => take_closed(cursor),
-        Some(1) => take_cells(alloc, cursor),
+    let mut ahead = cursor.copy();
+    let row = match ahead.take_byte() {
+        Some(0) => take_closed(&mut ahead),
+        Some(1) => take_cells(alloc, &mut ahead),
         _ => Err(ReadFault::BadForm),
+    };
+    match row {
+        Ok(row) => {
+            *cursor = ahead;
+            Ok(row)
+        }
+        Err(fault) => Err(fault),
     }
 }
 
 /// The entry that comes next.
 #[tactic(auto, unfolding(crate::specs::Reading::entry_at))]
 pub fn take_entry<'b>(alloc: Global, cursor: &mut Cursor<'b>) -> Result<PartEntry<'b>, ReadFault>
-    ensures { FoundOr (λ entry. entry) result cursor.new (entry_at cursor.old) }
+    ensures { FoundOr (λ entry. entry) result cursor.old cursor.new (entry_at cursor.old) }
 {
-    let key = take_key(cursor).ok_or(ReadFault::BadForm)?;
-    match take_row(alloc, cursor) {
-        Ok(row) => Ok(PartEntry { key, row }),
+    let mut ahead = cursor.copy();
+    let key = take_key(&mut ahead).ok_or(ReadFault::BadForm)?;
+    match take_row(alloc, &mut ahead) {
+        Ok(row) => {
+            *cursor = ahead;
+            Ok(PartEntry { key, row })
+        }
         Err(fault) => Err(fault),
     }
 }

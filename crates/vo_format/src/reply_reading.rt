@@ -12,27 +12,33 @@ use mb_tree::PartTree;
 use row_bytes::{Cursor, ReadFault};
 use std::alloc::Global;
 use version_record::{catalog_in, take_record};
-use vo_spec::{Catalog, MAX_SIGNATURE};
+use vo_spec::Catalog;
 
 #[tactic(auto, unfolding(crate::specs::Reading::signature_at))]
 fn take_signature<'b>(cursor: &mut Cursor<'b>) -> Option<&'b [u8]>
-    ensures { Found (λ signature. signature.now) result cursor.new (signature_at cursor.old) }
+    ensures { Found (λ signature. signature.now) result cursor.old cursor.new
+        (signature_at cursor.old) }
 {
-    let signature = cursor.take_block()?;
-    if signature.len() <= MAX_SIGNATURE {
-        Some(signature)
-    } else {
-        None
+    let mut ahead = cursor.copy();
+    let signature = ahead.take_block()?;
+    if signature.len() > 65536 {
+        return None;
     }
+    *cursor = ahead;
+    Some(signature)
 }
 
 /// The catalog behind its length. Nothing is left over inside.
 #[tactic(auto, unfolding(crate::specs::Reading::catalog_block_at))]
 fn take_catalog_block(alloc: Global, cursor: &mut Cursor<'_>) -> Result<Catalog, ReadFault>
-    ensures { FoundOr (λ catalog. catalog) result cursor.new (catalog_block_at cursor.old) }
+    ensures { FoundOr (λ catalog. catalog) result cursor.old cursor.new
+        (catalog_block_at cursor.old) }
 {
-    let block = cursor.take_block().ok_or(ReadFault::BadForm)?;
-    catalog_in(alloc, block)
+    let mut ahead = cursor.copy();
+    let block = ahead.take_block().ok_or(ReadFault::BadForm)?;
+    let catalog = catalog_in(alloc, block)?;
+    *cursor = ahead;
+    Ok(catalog)
 }
 
 #[tactic(auto, unfolding(crate::specs::Reading::counted_trees_at))]
@@ -40,27 +46,38 @@ fn take_counted_trees<'b>(
     alloc: Global,
     cursor: &mut Cursor<'b>,
 ) -> Result<Vec<PartTree<'b>>, ReadFault>
-    ensures { FoundOr trees_of result cursor.new (counted_trees_at cursor.old) }
+    ensures { FoundOr trees_of result cursor.old cursor.new (counted_trees_at cursor.old) }
 {
-    let count = cursor.take_byte().ok_or(ReadFault::BadForm)?;
-    take_trees(alloc, cursor, u16::from(count))
+    let mut ahead = cursor.copy();
+    let count = ahead.take_byte().ok_or(ReadFault::BadForm)?;
+    match take_trees(alloc, &mut ahead, u16::from(count)) {
+        Ok(trees) => {
+            *cursor = ahead;
+            Ok(trees)
+        }
+        Err(fault) => Err(fault),
+    }
 }
 
 #[tactic(auto, unfolding(crate::specs::Reading::reply_at))]
 fn take_reply<'b>(alloc: Global, cursor: &mut Cursor<'b>) -> Result<Reply<'b>, ReadFault>
-    ensures { FoundOr reply_of result cursor.new (reply_at cursor.old) }
+    ensures { FoundOr reply_of result cursor.old cursor.new (reply_at cursor.old) }
 {
-    cursor.take_word(b"VOR1").ok_or(ReadFault::BadForm)?;
-    let rec = take_record(cursor).ok_or(ReadFault::BadForm)?;
-    let signature = take_signature(cursor).ok_or(ReadFault::BadForm)?;
-    let catalog = take_catalog_block(alloc, cursor)?;
-    match take_counted_trees(alloc, cursor) {
-        Ok(trees) => Ok(Reply {
-            rec,
-            signature,
-            catalog,
-            trees,
-        }),
+    let mut ahead = cursor.copy();
+    ahead.take_word(b"VOR1").ok_or(ReadFault::BadForm)?;
+    let rec = take_record(&mut ahead).ok_or(ReadFault::BadForm)?;
+    let signature = take_signature(&mut ahead).ok_or(ReadFault::BadForm)?;
+    let catalog = take_catalog_block(alloc, &mut ahead)?;
+    match take_counted_trees(alloc, &mut ahead) {
+        Ok(trees) => {
+            *cursor = ahead;
+            Ok(Reply {
+                rec,
+                signature,
+                catalog,
+                trees,
+            })
+        }
         Err(fault) => Err(fault),
     }
 }

@@ -30,10 +30,10 @@ pub fn take_tree<'b>(alloc: Global, cursor: &mut Cursor<'b>) -> Result<PartTree<
     // What is spelled so is taken, unless memory runs out.
     ensures only { (tree : RowTree) (rest : List ℕ) → FitsTree tree
         → cursor.old ≡ tree_bytes tree ++ rest
-        → FoundOr part_of result cursor.new (Some (tree, rest)) }
+        → FoundOr part_of result cursor.old cursor.new (Some (tree, rest)) }
 
     // What reading gives, unless memory runs out.
-    ensures exact { FoundOr part_of result cursor.new (tree_at max_levels cursor.old) }
+    ensures exact { FoundOr part_of result cursor.old cursor.new (tree_at max_levels cursor.old) }
 {
     are_bytes(cursor.rest());
     take_levels(alloc, cursor, MAX_LEVELS)
@@ -53,7 +53,7 @@ fn take_levels<'b>(
     cursor: &mut Cursor<'b>,
     levels: u8,
 ) -> Result<PartTree<'b>, ReadFault>
-    ensures { FoundOr part_of result cursor.new (tree_at levels cursor.old) }
+    ensures { FoundOr part_of result cursor.old cursor.new (tree_at levels cursor.old) }
 {
     if levels == 0 {
         return Err(ReadFault::BadForm);
@@ -69,18 +69,26 @@ fn take_node<'b>(
     cursor: &mut Cursor<'b>,
     levels: u8,
 ) -> Result<PartTree<'b>, ReadFault>
-    ensures { FoundOr part_of result cursor.new (node_at (tree_at levels) cursor.old) }
+    ensures { FoundOr part_of result cursor.old cursor.new (node_at (tree_at levels) cursor.old) }
 {
-    match cursor.take_byte() {
-        Some(0) => take_stub(cursor),
-        Some(1) => take_leaf(alloc, cursor),
-        Some(2) => take_inner(alloc, cursor, levels),
+    let mut ahead = cursor.copy();
+    let node = match ahead.take_byte() {
+        Some(0) => take_stub(&mut ahead),
+        Some(1) => take_leaf(alloc, &mut ahead),
+        Some(2) => take_inner(alloc, &mut ahead, levels),
         _ => Err(ReadFault::BadForm),
+    };
+    match node {
+        Ok(node) => {
+            *cursor = ahead;
+            Ok(node)
+        }
+        Err(fault) => Err(fault),
     }
 }
 
 fn take_stub<'b>(cursor: &mut Cursor<'b>) -> Result<PartTree<'b>, ReadFault>
-    ensures { FoundOr part_of result cursor.new (one stub (bytes_at 32) cursor.old) }
+    ensures { FoundOr part_of result cursor.old cursor.new (one stub (bytes_at 32) cursor.old) }
 {
     match take_digest(cursor) {
         Some(digest) => Ok(PartTree::Stub(digest)),
@@ -90,11 +98,15 @@ fn take_stub<'b>(cursor: &mut Cursor<'b>) -> Result<PartTree<'b>, ReadFault>
 
 #[tactic(auto, unfolding(crate::specs::Reading::leaf_at))]
 fn take_leaf<'b>(alloc: Global, cursor: &mut Cursor<'b>) -> Result<PartTree<'b>, ReadFault>
-    ensures { FoundOr part_of result cursor.new (leaf_at cursor.old) }
+    ensures { FoundOr part_of result cursor.old cursor.new (leaf_at cursor.old) }
 {
-    let count = take_count(cursor, 0, 16).ok_or(ReadFault::BadForm)?;
-    match each_entry(alloc, cursor, count) {
-        Ok(entries) => Ok(PartTree::Leaf(List::from_vec(entries))),
+    let mut ahead = cursor.copy();
+    let count = take_count(&mut ahead, 0, 16).ok_or(ReadFault::BadForm)?;
+    match each_entry(alloc, &mut ahead, count) {
+        Ok(entries) => {
+            *cursor = ahead;
+            Ok(PartTree::Leaf(List::from_vec(entries)))
+        }
         Err(fault) => Err(fault),
     }
 }
@@ -104,16 +116,18 @@ fn each_entry<'b>(
     cursor: &mut Cursor<'b>,
     count: u8,
 ) -> Result<Vec<PartEntry<'b>>, ReadFault>
-    ensures { FoundOr (λ entries. entries.items) result cursor.new
+    ensures { FoundOr (λ entries. entries.items) result cursor.old cursor.new
         (times entry_at count cursor.old) }
 {
+    let mut ahead = cursor.copy();
     let mut entries = Vec::new(alloc);
     for _ in 0..count {
-        match take_entry(alloc, cursor) {
+        match take_entry(alloc, &mut ahead) {
             Ok(entry) => entries.push(entry)?,
             Err(fault) => return Err(fault),
         }
     }
+    *cursor = ahead;
     Ok(entries)
 }
 
@@ -125,18 +139,22 @@ fn take_inner<'b>(
     cursor: &mut Cursor<'b>,
     levels: u8,
 ) -> Result<PartTree<'b>, ReadFault>
-    ensures { FoundOr part_of result cursor.new (inner_at (tree_at levels) cursor.old) }
+    ensures { FoundOr part_of result cursor.old cursor.new (inner_at (tree_at levels) cursor.old) }
 {
-    let count = take_count(cursor, 2, 16).ok_or(ReadFault::BadForm)?;
-    let separators = match each_key(alloc, cursor, count - 1) {
+    let mut ahead = cursor.copy();
+    let count = take_count(&mut ahead, 2, 16).ok_or(ReadFault::BadForm)?;
+    let separators = match each_key(alloc, &mut ahead, count - 1) {
         Ok(separators) => List::from_vec(separators),
         Err(fault) => return Err(fault),
     };
-    match each_child(alloc, cursor, levels, count) {
-        Ok(children) => Ok(PartTree::Inner {
-            separators,
-            children: Children::from_vec(children),
-        }),
+    match each_child(alloc, &mut ahead, levels, count) {
+        Ok(children) => {
+            *cursor = ahead;
+            Ok(PartTree::Inner {
+                separators,
+                children: Children::from_vec(children),
+            })
+        }
         Err(fault) => Err(fault),
     }
 }
@@ -146,15 +164,18 @@ fn each_key<'b>(
     cursor: &mut Cursor<'b>,
     count: u8,
 ) -> Result<Vec<KeyPart<'b>>, ReadFault>
-    ensures { FoundOr (λ keys. keys.items) result cursor.new (times key_at count cursor.old) }
+    ensures { FoundOr (λ keys. keys.items) result cursor.old cursor.new
+        (times key_at count cursor.old) }
 {
+    let mut ahead = cursor.copy();
     let mut keys = Vec::new(alloc);
     for _ in 0..count {
-        match take_key(cursor) {
+        match take_key(&mut ahead) {
             Some(key) => keys.push(key)?,
             None => return Err(ReadFault::BadForm),
         }
     }
+    *cursor = ahead;
     Ok(keys)
 }
 
@@ -165,15 +186,18 @@ fn each_child<'b>(
     levels: u8,
     count: u8,
 ) -> Result<Vec<PartTree<'b>>, ReadFault>
-    ensures { FoundOr trees_of result cursor.new (times (tree_at levels) count cursor.old) }
+    ensures { FoundOr trees_of result cursor.old cursor.new
+        (times (tree_at levels) count cursor.old) }
 {
+    let mut ahead = cursor.copy();
     let mut children = Vec::new(alloc);
     for _ in 0..count {
-        match take_levels(alloc, cursor, levels) {
+        match take_levels(alloc, &mut ahead, levels) {
             Ok(child) => children.push(child)?,
             Err(fault) => return Err(fault),
         }
     }
+    *cursor = ahead;
     Ok(children)
 }
 
@@ -183,14 +207,17 @@ pub fn take_trees<'b>(
     cursor: &mut Cursor<'b>,
     count: u16,
 ) -> Result<Vec<PartTree<'b>>, ReadFault>
-    ensures { FoundOr trees_of result cursor.new (times (tree_at max_levels) count cursor.old) }
+    ensures { FoundOr trees_of result cursor.old cursor.new
+        (times (tree_at max_levels) count cursor.old) }
 {
+    let mut ahead = cursor.copy();
     let mut trees = Vec::new(alloc);
     for _ in 0..count {
-        match take_tree(alloc, cursor) {
+        match take_tree(alloc, &mut ahead) {
             Ok(tree) => trees.push(tree)?,
             Err(fault) => return Err(fault),
         }
     }
+    *cursor = ahead;
     Ok(trees)
 }

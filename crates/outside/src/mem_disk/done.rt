@@ -2,7 +2,8 @@
 
 #[derive(Clone, Copy, Debug, PartialEq, Eq)]
 pub enum Done {
-    /// So many bytes, which stand in the log from a place on, were written, and so many more were to be.
+    /// So many bytes, which stand in the log from a place on, were written, and so many more were
+    /// to be.
     Write {
         at: u64,
         from: usize,

@@ -8,10 +8,10 @@ use Rattle.batch_format.proofs.reading.each_command.Goals as goal
 pub returns-in-Err : goal.returns-in-Err
 returns-in-Err c =
     let more : c.loop.counter < c.args.count = omega arith in
-    times_fails command_at (λ x. x) (λ (xs : Vec Command). xs.items) c.in-Err.fault c.loop.commands.items c.args.count c.loop.counter c.loop.cursor c.take_command.new.cursor _ more c.in-Err.ensures c.loop.invariant
+    times_fails command_at (λ x. x) (λ (xs : Vec Command). xs.items) c.in-Err.fault c.loop.commands.items c.args.count c.loop.counter c.loop.ahead c.take_command.new.cursor _ _ more c.in-Err.ensures c.loop.invariant
 
 pub loop-preserved : goal.loop-preserved
 loop-preserved c =
     let more : c.loop.counter < c.args.count = omega arith in
     rw c.in_ok-push-in-Ok.ensures.items
-    (times_step command_at c.loop.commands.items c.args.count c.loop.counter c.loop.cursor c.in-Ok.command c.take_command.new.cursor more c.in-Ok.ensures ∙ c.loop.invariant)
+    (times_step command_at c.loop.commands.items c.args.count c.loop.counter c.loop.ahead c.in-Ok.command c.take_command.new.cursor more c.in-Ok.ensures ∙ c.loop.invariant)

@@ -5,4 +5,4 @@ use Rattle.batch_format.proofs.reading.each_set.Given as goal
 
 -- those so far and those that are left are all of them
 abbrev pub invariant-loop : goal.invariant-loop
-invariant-loop l = with_front l.sets.items (times set_at (l.count - l.counter) l.cursor) ≡ times set_at l.fn.count l.fn.cursor
+invariant-loop l = with_front l.sets.items (times set_at (l.count - l.counter) l.ahead) ≡ times set_at l.fn.count l.fn.cursor

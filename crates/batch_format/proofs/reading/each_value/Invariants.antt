@@ -5,4 +5,4 @@ use Rattle.batch_format.proofs.reading.each_value.Given as goal
 
 -- those so far and those that are left are all of them
 abbrev pub invariant-loop : goal.invariant-loop
-invariant-loop l = with_front l.values.items (times any_value_at (l.count - l.counter) l.cursor) ≡ times any_value_at l.fn.count l.fn.cursor
+invariant-loop l = with_front l.values.items (times any_value_at (l.count - l.counter) l.ahead) ≡ times any_value_at l.fn.count l.fn.cursor

@@ -12,7 +12,7 @@ slots-smaller c =
     let old = c.slots.rest.now in
     let new = c.rest-rest.result.now in
     let read : slot_at old ≡ Some (c.in-Some.entry, new) =
-    ap slot_at (sym c.new-cursor.ensures) ∙ slot_taken c.in_ok-entry.field-0 c.in-Some.entry new (slot_at c.new-cursor.result) (rw c.rest-rest.ensures c.in_ok-entry.ensures) c.in-Some.is in
+    ap slot_at (sym c.new-cursor.ensures) ∙ slot_taken c.in_ok-entry.field-0 c.in-Some.entry c.new-cursor.result new (slot_at c.new-cursor.result) (rw c.rest-rest.ensures c.in_ok-entry.ensures) c.in-Some.is in
     let bytes : IsBytes old = IsBytes-after (flat_map slot c.slots.entries.items) old c.args.bytes.now c.slots.invariant.1 (λ i. omega (arith, c.type_inv.bytes i)) in
     shorter old c.in-Some.entry new bytes read
 
@@ -21,7 +21,7 @@ slots-preserved c =
     let old = c.slots.rest.now in
     let new = c.rest-rest.result.now in
     let read : slot_at old ≡ Some (c.in-Some.entry, new) =
-    ap slot_at (sym c.new-cursor.ensures) ∙ slot_taken c.in_ok-entry.field-0 c.in-Some.entry new (slot_at c.new-cursor.result) (rw c.rest-rest.ensures c.in_ok-entry.ensures) c.in-Some.is in
+    ap slot_at (sym c.new-cursor.ensures) ∙ slot_taken c.in_ok-entry.field-0 c.in-Some.entry c.new-cursor.result new (slot_at c.new-cursor.result) (rw c.rest-rest.ensures c.in_ok-entry.ensures) c.in-Some.is in
     let bytes : IsBytes old = IsBytes-after (flat_map slot c.slots.entries.items) old c.args.bytes.now c.slots.invariant.1 (λ i. omega (arith, c.type_inv.bytes i)) in
     rw c.in_ok-push-in-Some.ensures.items
     (one_more c.args.bytes.now c.slots.entries.items old c.in-Some.entry new bytes c.slots.invariant read)

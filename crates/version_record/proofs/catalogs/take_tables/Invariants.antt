@@ -6,4 +6,4 @@ use Rattle.version_record.proofs.catalogs.take_tables.Given as goal
 -- the tables so far and those that are left are all of them
 abbrev pub invariant-loop : goal.invariant-loop
 invariant-loop l =
-    with_front l.tables.items (times catalog_table_at (l.count - l.counter) l.cursor) ≡ times catalog_table_at l.fn.count l.fn.cursor
+    with_front l.tables.items (times catalog_table_at (l.count - l.counter) l.ahead) ≡ times catalog_table_at l.fn.count l.fn.cursor

@@ -1,4 +1,4 @@
-use Rattle.std.proofs.Common.{◌≡◌, ℕ, ◌<◌, sym, ap, subst, ◌∙◌, arith}
+use Rattle.std.proofs.Common.{◌≡◌, ℕ, ◌<◌, refl, sym, ap, subst, ◌∙◌, arith}
 use Rattle.mb_tree.specs.View.{part_of}
 use Rattle.row_bytes.proofs.Rounds.{times_fails}
 use Rattle.row_bytes.specs.Fields.{FoundOr}
@@ -10,20 +10,20 @@ use Rattle.vo_format.proofs.tree_reading.+take_levels.Goals as goal
 pub each_child-returns-in-Err : goal.each_child-returns-in-Err
 each_child-returns-in-Err t c =
     let more : c.loop.counter < c.args.count = omega arith in
-    times_fails (tree_at c.args.levels) part_of trees_of c.in-Err.fault (trees_of c.loop.children) c.args.count c.loop.counter c.loop.cursor c.take_levels.new.cursor _ more c.in-Err.ensures c.loop.invariant
+    times_fails (tree_at c.args.levels) part_of trees_of c.in-Err.fault (trees_of c.loop.children) c.args.count c.loop.counter c.loop.ahead c.take_levels.new.cursor _ _ more c.in-Err.ensures c.loop.invariant
 
 pub each_child-loop-preserved : goal.each_child-loop-preserved
 each_child-loop-preserved t c =
     let more : c.loop.counter < c.args.count = omega arith in
     rw c.in_ok-push-in-Ok.ensures.items
-    (one_more_tree c.args.levels c.loop.children.items c.args.count c.loop.counter c.loop.cursor c.in-Ok.child c.take_levels.new.cursor _ more c.in-Ok.ensures c.loop.invariant)
+    (one_more_tree c.args.levels c.loop.children.items c.args.count c.loop.counter c.loop.ahead c.in-Ok.child c.take_levels.new.cursor _ more c.in-Ok.ensures c.loop.invariant)
 
 pub take_levels-returns-then-levels-eq0 : goal.take_levels-returns-then-levels-eq0
 take_levels-returns-then-levels-eq0 t c =
     let none_left : c.args.levels ≡ 0 = omega arith in
-    ap (λ (n : ℕ). tree_at n c.args.cursor.now) none_left ∙ no_level c.args.cursor.now
+    (ap (λ (n : ℕ). tree_at n c.args.cursor.now) none_left ∙ no_level c.args.cursor.now, refl)
 
 pub take_levels-returns : goal.take_levels-returns
 take_levels-returns t c =
     let some_left : 0 < c.args.levels = omega arith in
-    subst (FoundOr part_of c.take_node.result c.take_node.new.cursor) (sym (level_at c.args.levels c.args.cursor.now some_left)) c.take_node.ensures
+    subst (FoundOr part_of c.take_node.result c.args.cursor.now c.take_node.new.cursor) (sym (level_at c.args.levels c.args.cursor.now some_left)) c.take_node.ensures

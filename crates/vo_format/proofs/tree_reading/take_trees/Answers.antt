@@ -10,10 +10,10 @@ use Rattle.vo_format.proofs.tree_reading.take_trees.Goals as goal
 pub returns-in-Err : goal.returns-in-Err
 returns-in-Err c =
     let more : c.loop.counter < c.args.count = omega arith in
-    times_fails (tree_at max_levels) part_of trees_of c.in-Err.fault (trees_of c.loop.trees) c.args.count c.loop.counter c.loop.cursor c.take_tree.new.cursor _ more c.in-Err.ensures.exact c.loop.invariant
+    times_fails (tree_at max_levels) part_of trees_of c.in-Err.fault (trees_of c.loop.trees) c.args.count c.loop.counter c.loop.ahead c.take_tree.new.cursor _ _ more c.in-Err.ensures.exact c.loop.invariant
 
 pub loop-preserved : goal.loop-preserved
 loop-preserved c =
     let more : c.loop.counter < c.args.count = omega arith in
     rw c.in_ok-push-in-Ok.ensures.items
-    (one_more_tree max_levels c.loop.trees.items c.args.count c.loop.counter c.loop.cursor c.in-Ok.tree c.take_tree.new.cursor _ more c.in-Ok.ensures.exact c.loop.invariant)
+    (one_more_tree max_levels c.loop.trees.items c.args.count c.loop.counter c.loop.ahead c.in-Ok.tree c.take_tree.new.cursor _ more c.in-Ok.ensures.exact c.loop.invariant)
