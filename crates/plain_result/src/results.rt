@@ -1,5 +1,5 @@
 //! The result of a query on plain tables: it is bound to them, and its rows are those that it shows of theirs.
-ghost use Rattle.std.specs.Prelude.{◌≡◌, [], map, filter, flat_map, option_map, IfOk};
+ghost use Rattle.std.specs.Prelude.{◌≡◌, ◌++◌, [], map, filter, flat_map, option_map, IfOk, OnOk};
 ghost use Rattle.std.specs.Option.{option_map_or};
 ghost use Rattle.vo_spec.specs.declared.queries.Outcome.TheVariants.{Rows};
 ghost use Rattle.vo_spec.specs.Conditions.{query_of};
@@ -16,11 +16,31 @@ ghost use Rattle.plain_result.specs.RowViews.{view_of_row, meets, right_row_view
 use crate::table_rows::TableRow;
 use crate::tables::{TableSlice, row_views_of};
 use query_plan::{
-    BindFault, Conjunct, LeftRow, Query, all_hold, bind, conjuncts_of, header, push_answers,
+    BindFault, Conjunct, LeftRow, Query, all_hold, bind, conjuncts_of, header, push_alone,
+    push_pairs,
 };
 use std::alloc::{AllocError, Global};
 use table_list::Tables;
 use vo_spec::{List, Outcome, QueryText, Table, Value};
+
+/// Puts what the query shows of a left row at the end: alone, or in a join beside each right row.
+fn push_answers(
+    alloc: Global,
+    query: &Query<'_>,
+    late: &[Conjunct<'_, '_>],
+    left: &TableRow<'_>,
+    rights: &[TableRow<'_>],
+    out: &mut Vec<List<Value>>,
+) -> Result<(), AllocError>
+    ensures { OnOk result (out.new.items ≡ out.old.items
+        ++ left_answers (query_seen query.now) (map conjunct_seen late.now)
+        (option_map join_seen query.now.join) (map view_of_row rights.now) (view_of_row left.now)) }
+{
+    match query.join {
+        None => push_alone(alloc, query, late, left, out),
+        Some(_) => push_pairs(alloc, query, late, left, rights, out),
+    }
+}
 
 /// What the query shows of those left rows that meet the left condition, in a join each beside the right rows.
 fn rows_of(

@@ -1,5 +1,5 @@
 -- What a bound query shows of rows of its sources, by the conjuncts that are asked of them.
-use Rattle.std.specs.Prelude.{Bool, true, ◌&&◌, if◌then◌else◌, List, [], ◌∷◌, map, filter, flat_map, Option, Some, None}
+use Rattle.std.specs.Prelude.{◌≡◌, Bool, true, ◌&&◌, if◌then◌else◌, List, [], ◌∷◌, ◌++◌, map, filter, flat_map, Option, Some, None}
 use Rattle.std.specs.Ordering.{is_eq}
 use Rattle.vo_spec.specs.declared.values.Value.{Value}
 use Rattle.vo_spec.specs.declared.tables.Table.{Table}
@@ -8,6 +8,10 @@ use Rattle.vo_spec.specs.Results.{ColumnPlace, RowView, place_value, row_views_a
 use Rattle.query_plan.specs.BoundConditions.{BoundCondition, all_hold}
 use Rattle.query_plan.specs.BoundQueries.{BoundQuery}
 use Rattle.query_plan.specs.Plans.{QueryPlan, meets_left}
+
+-- these items, and what came behind them
+abbrev pub BeginsWith : {A : Type 0} → List A → List A → Type 0
+BeginsWith {A} front items = (more : List A) × (items ≡ front ++ more)
 
 -- whether ON's columns are equal
 abbrev pub are_joined : (ColumnPlace → Value) → Option (ColumnPlace × ColumnPlace) → Bool

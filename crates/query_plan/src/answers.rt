@@ -1,9 +1,9 @@
 //! The rows that a bound query shows of rows of its sources, whoever saw these.
-ghost use Rattle.std.specs.Prelude.{◌≡◌, ◌++◌, [], ◌∷◌, map, flat_map, option_map, IfOk, OnOk};
+ghost use Rattle.std.specs.Prelude.{◌≡◌, ◌++◌, [], ◌∷◌, map, option_map, IfOk, OnOk, OnErr};
 ghost use Rattle.vo_spec.specs.Results.{place_value};
 ghost use Rattle.query_binding.specs.Sided.{place_seen};
 ghost use Rattle.query_plan.specs.BoundViews.{conjunct_seen, join_seen, query_seen};
-ghost use Rattle.query_plan.specs.Answers.{are_joined, answer_at, pair_answers, left_answers};
+ghost use Rattle.query_plan.specs.Answers.{BeginsWith, are_joined, answer_at, pair_answers};
 
 use crate::bound_cond::Conjunct;
 use crate::bound_query::{BoundJoin, Query};
@@ -48,8 +48,9 @@ fn push_answer<V: PlaceValues>(
     rows: &V,
     out: &mut Vec<List<Value>>,
 ) -> Result<(), AllocError>
-    ensures { OnOk result (out.new.items ≡ out.old.items
+    ensures done { OnOk result (out.new.items ≡ out.old.items
         ++ answer_at (query_seen query.now) (map conjunct_seen late.now) (V.values rows.now)) }
+    ensures kept { OnErr result (out.new.items ≡ out.old.items) }
 {
     if are_joined(rows, &query.join) && all_hold(late, rows) {
         out.push(project(alloc, rows, &query.output)?)?;
@@ -65,9 +66,10 @@ pub fn push_alone<L: RowView>(
     left: &L,
     out: &mut Vec<List<Value>>,
 ) -> Result<(), AllocError>
-    ensures { OnOk result (out.new.items ≡ out.old.items
+    ensures done { OnOk result (out.new.items ≡ out.old.items
         ++ answer_at (query_seen query.now) (map conjunct_seen late.now)
         (place_value (L.row_view left.now ∷ []))) }
+    ensures kept { OnErr result (out.new.items ≡ out.old.items) }
 {
     push_answer(alloc, query, late, &LeftRow { left }, out)
 }
@@ -80,9 +82,10 @@ fn push_pair<'r, L: RowView, R: RowView>(
     right: &'r R,
     out: &mut Vec<List<Value>>,
 ) -> Result<(), AllocError>
-    ensures { OnOk result (out.new.items ≡ out.old.items
+    ensures done { OnOk result (out.new.items ≡ out.old.items
         ++ answer_at (query_seen query.now) (map conjunct_seen late.now)
         (place_value (L.row_view left.now ∷ R.row_view right.now ∷ []))) }
+    ensures kept { OnErr result (out.new.items ≡ out.old.items) }
 {
     push_answer(alloc, query, late, &RowPair { left, right }, out)
 }
@@ -96,33 +99,14 @@ pub fn push_pairs<L: RowView, R: RowView>(
     rights: &[R],
     out: &mut Vec<List<Value>>,
 ) -> Result<(), AllocError>
-    ensures { OnOk result (out.new.items ≡ out.old.items
+    ensures done { OnOk result (out.new.items ≡ out.old.items
         ++ pair_answers (query_seen query.now) (map conjunct_seen late.now)
         (map R.row_view rights.now)
         (L.row_view left.now)) }
+    ensures begun { OnErr result (BeginsWith out.old.items out.new.items) }
 {
     for right in rights {
         push_pair(alloc, query, late, &*left, right, out)?;
     }
     Ok(())
-}
-
-/// Puts what the query shows of a left row at the end of the answer: alone, or in a join beside its right
-/// rows.
-pub fn push_answers<L: RowView, R: RowView>(
-    alloc: Global,
-    query: &Query<'_>,
-    late: &[Conjunct<'_, '_>],
-    left: &L,
-    rights: &[R],
-    out: &mut Vec<List<Value>>,
-) -> Result<(), AllocError>
-    ensures { OnOk result (out.new.items ≡ out.old.items
-        ++ left_answers (query_seen query.now) (map conjunct_seen late.now)
-        (option_map join_seen query.now.join) (map R.row_view rights.now) (L.row_view left.now)) }
-{
-    match query.join {
-        None => push_alone(alloc, query, late, left, out),
-        Some(_) => push_pairs(alloc, query, late, left, rights, out),
-    }
 }

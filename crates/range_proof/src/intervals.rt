@@ -15,12 +15,13 @@ ghost use Rattle.vo_spec.specs.Scans.{
 ghost use Rattle.vo_spec.specs.Standing.{is_between as does_stand_between, is_from as is_at_or_above, is_before as is_under};
 ghost use Rattle.range_proof.specs.ActiveNeeds.{max_lower as max_lower_of, min_upper as min_upper_of};
 
+use crate::key_order::compare_keys;
 use vo_spec::{Bound, Interval};
 
 fn key_lt(a: &[u8], b: &[u8]) -> bool
     ensures { result ≡ is_less a.now b.now }
 {
-    a.cmp(b).is_lt()
+    compare_keys(a, b).is_lt()
 }
 
 /// Whether the key is in the interval.

@@ -4,6 +4,7 @@
 mod active_needs;
 mod intervals;
 mod judging;
+mod key_order;
 mod naming;
 mod need_lists;
 mod nodes;

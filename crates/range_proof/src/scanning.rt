@@ -7,7 +7,7 @@ ghost use Rattle.vo_spec.specs.Scans.{seen, seen_in, seen_in_each, seen_entries,
 ghost use Rattle.mb_tree.specs.View.{part_of, parts_of};
 ghost use Rattle.range_proof.specs.Finding.{FindsOrMissing, Appends, value_seen};
 
-use crate::intervals::{in_interval, is_empty_interval, visits};
+use crate::intervals::{in_interval, is_empty_interval, visits_from};
 use mb_tree::PartTree;
 use std::alloc::{AllocError, Global};
 use vo_spec::{
@@ -64,14 +64,16 @@ fn scan_children(
     ensures { Appends result rows.old.items rows.new.items
         (seen_in_each need.now None separators.now (parts_of children.now)) }
 {
+    let mut is_past = false;
     let mut lower = None;
     for (place, child) in children.iter().enumerate() {
         let upper = separator_at(separators, place);
-        if visits(&need.interval, lower, upper) {
+        if visits_from(is_past, &need.interval, lower, upper) {
             match scan_node(alloc, child, need, rows) {
                 Ok(()) => {},
                 Err(fault) => return Err(fault),
             }
+            is_past = true;
         }
         lower = upper;
     }

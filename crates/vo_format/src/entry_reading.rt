@@ -81,7 +81,7 @@ fn each_cell<'b>(
         (times cell_at count cursor.old) }
 {
     let mut ahead = cursor.copy();
-    let mut cells = Vec::new(alloc);
+    let mut cells = Vec::with_capacity(alloc, usize::from(count))?;
     for _ in 0..count {
         match take_cell(&mut ahead) {
             Some(cell) => cells.push(cell)?,

@@ -120,7 +120,7 @@ fn each_entry<'b>(
         (times entry_at count cursor.old) }
 {
     let mut ahead = cursor.copy();
-    let mut entries = Vec::new(alloc);
+    let mut entries = Vec::with_capacity(alloc, usize::from(count))?;
     for _ in 0..count {
         match take_entry(alloc, &mut ahead) {
             Ok(entry) => entries.push(entry)?,
@@ -168,7 +168,7 @@ fn each_key<'b>(
         (times key_at count cursor.old) }
 {
     let mut ahead = cursor.copy();
-    let mut keys = Vec::new(alloc);
+    let mut keys = Vec::with_capacity(alloc, usize::from(count))?;
     for _ in 0..count {
         match take_key(&mut ahead) {
             Some(key) => keys.push(key)?,
@@ -190,7 +190,7 @@ fn each_child<'b>(
         (times (tree_at levels) count cursor.old) }
 {
     let mut ahead = cursor.copy();
-    let mut children = Vec::new(alloc);
+    let mut children = Vec::with_capacity(alloc, usize::from(count))?;
     for _ in 0..count {
         match take_levels(alloc, &mut ahead, levels) {
             Ok(child) => children.push(child)?,

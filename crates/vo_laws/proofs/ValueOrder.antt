@@ -91,7 +91,7 @@ pub number_length : (n : ℕ) → length (u64_bytes n) ≡ 8
 unfolding u64_bytes
 number_length n = refl
 
-numbers_in_order : (a b : ℕ) → a < 2 ^ 64 → b < 2 ^ 64 → slice_cmp nat_cmp (u64_bytes a) (u64_bytes b) ≡ nat_cmp a b
+pub numbers_in_order : (a b : ℕ) → a < 2 ^ 64 → b < 2 ^ 64 → slice_cmp nat_cmp (u64_bytes a) (u64_bytes b) ≡ nat_cmp a b
 numbers_in_order a b la lb =
     in_order 0 (u64_bytes a) (u64_bytes b) (number_bytes a) (number_bytes b) (number_length a ∙ sym (number_length b))
     ∙ ap (λ x. nat_cmp x (encoded 0 (u64_bytes b))) (number_encoded a la) ∙ ap (λ y. nat_cmp a y) (number_encoded b lb)

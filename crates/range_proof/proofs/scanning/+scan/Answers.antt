@@ -6,7 +6,7 @@ use Rattle.mb_tree.specs.View.{part_of, parts_of}
 use Rattle.mb_tree.proofs.PartLaws.{child_falls}
 use Rattle.range_proof.proofs.Steps.{step_visited, step_passed, step_missing, fault_on}
 use Rattle.range_proof.proofs.scanning.+scan.Goals as goal
-use Rattle.range_proof.proofs.scanning.+scan.Goals.{scan_children-then-visits+in-Ok, scan_children-else-visits}
+use Rattle.range_proof.proofs.scanning.+scan.Goals.{scan_children-then-visits_from+in-Ok, scan_children-else-visits_from}
 
 pub scan_children-scan_node-requires : goal.scan_children-scan_node-requires
 scan_children-scan_node-requires t c =
@@ -25,12 +25,12 @@ pub scan_children-loop-place-preserved : goal.scan_children-loop-place-preserved
 scan_children-loop-place-preserved t c =
     let ss = c.args.separators.now in
     let need = c.args.need.now in
-    elim c.if-visits.branch [
-      | scan_children-then-visits+in-Ok w ↦
+    elim c.if-visits_from.branch [
+      | scan_children-then-visits_from+in-Ok w ↦
           let visited : visits need.interval (option_copied c.loop-place.lower) (slice_get ss c.loop-place.place) ≡ true = cc in
           rw (w.rows-is, w.lower-is, c.separator_at-upper.ensures)
           (step_visited need _ ss _ _ _ _ _ _ c.loop-place-test.true c.index-children-place.is visited w.in-Ok.ensures c.loop-place.invariant)
-      | scan_children-else-visits w ↦
+      | scan_children-else-visits_from w ↦
           let passed : visits need.interval (option_copied c.loop-place.lower) (slice_get ss c.loop-place.place) ≡ false = cc in
           rw (w.rows-is, w.lower-is, c.separator_at-upper.ensures)
           (step_passed need _ ss _ _ _ _ _ c.loop-place-test.true c.index-children-place.is passed c.loop-place.invariant)
