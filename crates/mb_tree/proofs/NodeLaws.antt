@@ -19,3 +19,8 @@ node_most n t ss ts xs whole is children fits =
     let f = subst P e fits in
     let most : count (open_parts xs) ≤ max_fill = f.1 in
     omega (arith, count_open_parts xs)
+
+pub node_inner : (n : Node) (t : RowTree) (ss : Vec (List ℕ) Global) (ts : Vec RowTree Global) (keys : List (List ℕ)) (xs : List RowTree)
+    → whole_of n ≡ t → n ≡ Inner ss ts → keys ≡ ss.items → xs ≡ ts.items → t ≡ inner keys (open_parts xs)
+node_inner n t ss ts keys xs whole is separators children =
+    sym whole ∙ ap whole_of is ∙ ap (λ l. inner ss.items (open_parts l)) (sym children) ∙ ap (λ k. inner k (open_parts xs)) (sym separators)

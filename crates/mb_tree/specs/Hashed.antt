@@ -1,5 +1,5 @@
 -- What the nodes of whole trees keep beside what they are.
-use Rattle.std.specs.Prelude.{◌≡◌, ℕ, List}
+use Rattle.std.specs.Prelude.{◌≡◌, ℕ, List, Option, IfSome}
 use Rattle.vo_spec.specs.declared.values.Value.{Value}
 use Rattle.vo_spec.specs.Cells.{row_digest, whole_row}
 use Rattle.vo_spec.specs.Trees.{RowTree, digest}
@@ -10,7 +10,7 @@ pub record IsHashed (values : List Value) (digest : List ℕ) : Type 0 where
   pub fits : FitsCells values
   pub hashed : digest ≡ row_digest (whole_row values)
 
--- a node's digest
-pub record IsSubtree (hash : List ℕ) (t : RowTree) : Type 0 where
+-- a node's digest, where it is kept
+pub record IsSubtree (hash : Option (List ℕ)) (t : RowTree) : Type 0 where
   pub fits : FitsPart t
-  pub hashed : hash ≡ digest t
+  pub hashed : IfSome hash (λ h. h ≡ digest t)

@@ -3,6 +3,7 @@
 
 mod entries;
 mod hashing;
+mod items_fit;
 mod layout;
 mod lending;
 mod part_digest;

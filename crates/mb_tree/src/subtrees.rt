@@ -4,21 +4,27 @@ ghost use Rattle.vo_spec.specs.Cells.{whole_entry};
 ghost use Rattle.vo_spec.specs.Parts.{leaf, inner};
 ghost use Rattle.vo_spec.specs.Trees.{digest, open_parts};
 ghost use Rattle.vo_spec.specs.Fits.{FitsPart, max_fill};
+ghost use Rattle.mb_tree.specs.Whole.{whole_of};
 
 use crate::entries::TreeEntry;
-use crate::hashing::{inner_digest, leaf_digest};
+use crate::hashing::leaf_digest;
+use crate::items_fit::{keys_fit, rows_fit, subtrees_fit};
+use crate::layout::write_inner_head;
 use crate::tree_key::TreeKey;
+use btree::try_clone_all;
 use std::alloc::{AllocError, Global};
 use std::marker::Model;
 use std::rc::Rc;
+use tagged_hash::Hasher;
 use vo_spec::Digest;
 
-/// A node and all below it, with its digest. Trees share the subtrees that they have in common. Contracts
-/// see it as a tree, as they see parts of trees.
+/// A node and all below it. Trees share the subtrees that they have in common. Contracts see it as a tree, as
+/// they see parts of trees. Its digest is kept once it is worked, so that a node which the next change
+/// replaces need not be hashed.
 #[cycle(subtree)]
 #[derive(Drop)]
 pub struct Subtree {
-    digest: Digest,
+    digest: Option<Digest>,
     node: Rc<Node>,
 }
 
@@ -57,17 +63,15 @@ impl Model for Subtree {
 }
 
 impl Subtree {
-    ghost use Rattle.mb_tree.specs.Whole.{whole_of};
-
     /// A leaf of these entries.
     #[tactic(auto, using(crate::proofs::SubtreeLaws::rows_fit))]
     pub fn leaf(alloc: Global, entries: Vec<TreeEntry>) -> Result<Subtree, AllocError>
         requires { length entries.items ≤ max_fill }
         ensures { IfOk result (λ subtree. subtree ≡ leaf (map whole_entry entries.items)) }
     {
-        let digest = leaf_digest(&entries);
+        rows_fit(&entries);
         Ok(Subtree {
-            digest,
+            digest: None,
             node: Rc::new(alloc, Node::Leaf(entries))?,
         })
     }
@@ -85,9 +89,10 @@ impl Subtree {
         ensures { IfOk result (λ subtree. subtree
             ≡ inner separators.items (open_parts children.items)) }
     {
-        let digest = inner_digest(&separators, &children);
+        keys_fit(&separators);
+        subtrees_fit(&children);
         Ok(Subtree {
-            digest,
+            digest: None,
             node: Rc::new(
                 alloc,
                 Node::Inner {
@@ -108,12 +113,44 @@ impl Subtree {
         })
     }
 
-    /// The digest of the subtree. It takes no memory and no work.
+    /// The digest of the subtree. It takes no memory, and no work where it is kept.
+    #[cycle(subtree_digest)]
     pub fn node_digest(&self) -> Digest
         ensures value { result ≡ digest self.now }
         ensures fits { FitsPart self.now }
     {
-        self.digest
+        match self.digest {
+            Some(digest) => digest,
+            None => digest_of_node(self.node()),
+        }
+    }
+
+    /// The same subtree, with its digest kept.
+    fn keep_digest(self) -> Subtree
+        ensures { result ≡ self }
+    {
+        let digest = self.node_digest();
+        Subtree {
+            digest: Some(digest),
+            node: self.node,
+        }
+    }
+
+    /// The same subtree, with the digests of all its nodes kept, each of which is hashed once.
+    #[cycle(keep_digests)]
+    pub fn with_digests(&self, alloc: Global) -> Result<Subtree, AllocError>
+        ensures { IfOk result (λ subtree. subtree ≡ self.now) }
+    {
+        if self.digest.is_some() {
+            return self.share();
+        }
+        match self.node() {
+            Node::Leaf(_) => Ok(self.share()?.keep_digest()),
+            Node::Inner {
+                separators,
+                children,
+            } => inner_with_digests(alloc, separators, children),
+        }
     }
 
     /// The node without what is below it.
@@ -123,4 +160,61 @@ impl Subtree {
     {
         self.node.as_ref()
     }
+}
+
+#[tactic(auto, using(crate::proofs::Layouts::whole_leaf))]
+#[cycle(subtree_digest)]
+fn digest_of_node(node: &Node) -> Digest
+    requires { FitsPart (whole_of node.now) }
+    ensures { result ≡ digest (whole_of node.now) }
+{
+    match node {
+        Node::Leaf(entries) => leaf_digest(entries),
+        Node::Inner {
+            separators,
+            children,
+        } => inner_digest(separators, children),
+    }
+}
+
+// Adds the children's digests itself: it is in one cycle with `node_digest`, of which a call
+// through `NodeItem` could not be a part.
+#[tactic(auto, using(crate::proofs::SubtreeLaws::count_open_parts, crate::proofs::SubtreeLaws::child_bytes_open_parts))]
+#[cycle(subtree_digest)]
+fn inner_digest(separators: &[TreeKey], children: &[Subtree]) -> Digest
+    requires { length children.now ≤ max_fill }
+    ensures { result ≡ digest (inner separators.now (open_parts children.now)) }
+{
+    let mut hasher = Hasher::new();
+    let Ok(()) = write_inner_head(&mut hasher, separators, children.len());
+    for child in children {
+        hasher.add(child.node_digest().as_bytes());
+    }
+    hasher.end()
+}
+
+#[tactic(auto, using(crate::proofs::SubtreeLaws::count_open_parts))]
+#[cycle(keep_digests)]
+fn inner_with_digests(
+    alloc: Global,
+    separators: &[TreeKey],
+    children: &[Subtree],
+) -> Result<Subtree, AllocError>
+    requires { FitsPart (inner separators.now (open_parts children.now)) }
+    ensures { IfOk result (λ subtree. subtree ≡ inner separators.now (open_parts children.now)) }
+{
+    let children = children_with_digests(alloc, children)?;
+    let separators = try_clone_all(alloc, separators)?;
+    Ok(Subtree::inner(alloc, separators, children)?.keep_digest())
+}
+
+#[cycle(keep_digests)]
+fn children_with_digests(alloc: Global, children: &[Subtree]) -> Result<Vec<Subtree>, AllocError>
+    ensures { IfOk result (λ same. same.items ≡ children.now) }
+{
+    let mut same = Vec::with_capacity(alloc, children.len())?;
+    for child in children {
+        same.push(child.with_digests(alloc)?)?;
+    }
+    Ok(same)
 }

@@ -78,7 +78,17 @@ impl Tree {
         Ok(List::from_vec(rows))
     }
 
-    /// The digest of the tree. It takes no memory and no work.
+    /// The same tree, with the digests of all its nodes kept, so that none is hashed again.
+    pub fn with_digests(&self, alloc: Global) -> Result<Tree, AllocError>
+        ensures { IfOk result (λ tree. tree ≡ self.now) }
+    {
+        Ok(Tree {
+            root: self.root.with_digests(alloc)?,
+            rows: self.rows,
+        })
+    }
+
+    /// The digest of the tree. It takes no memory, and no work where it is kept.
     pub fn node_digest(&self) -> Digest
         ensures { result ≡ digest self.now }
     {

@@ -10,7 +10,7 @@ use Rattle.mb_tree.specs.View.{part_of}
 use Rattle.stored_tables.specs.declared.table.StoredTable.{StoredTable}
 
 abbrev pub stored_of : StoredTable → Stored
-stored_of s = record { name = s.name; schema = s.schema; tree = s.tree }
+stored_of s = record { name = s.name.value; schema = s.schema.value; tree = s.tree }
 
 abbrev pub lent_stored : Bor StoredTable → Stored
 lent_stored s = stored_of s.now

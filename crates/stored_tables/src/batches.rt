@@ -12,6 +12,7 @@ ghost use Rattle.vo_laws.proofs.CommandLaws.{FitTables};
 ghost use Rattle.stored_tables.specs.Working.{work_from};
 ghost use Rattle.stored_tables.specs.Plain.{GivesPlain};
 
+use crate::hashing::hash_tables;
 use crate::sharing::replace_range;
 use crate::table::StoredTable;
 use crate::working::worked;
@@ -32,7 +33,8 @@ pub(crate) fn shared(
     Ok(replace_range(alloc, tables, 0, 0, &[])?)
 }
 
-/// The tables after a list of commands.
+/// The tables after a list of commands. Their nodes are hashed when all are done: what a later command
+/// replaces never is.
 fn worked_in_turn(
     alloc: Global,
     tables: &[Rc<StoredTable>],
@@ -56,7 +58,7 @@ fn worked_in_turn(
             Err(ApplyFault::Memory) => return Err(BatchFault::Memory),
         }
     }
-    Ok(new)
+    Ok(hash_tables(alloc, &new, None)?)
 }
 
 /// The tables after a batch, and what that says of the plain tables for which they stand.

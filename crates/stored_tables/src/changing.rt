@@ -10,7 +10,7 @@ use crate::table::StoredTable;
 use mb_tree::Tree;
 use std::alloc::{AllocError, Global};
 use std::rc::Rc;
-use table_list::{column_number, copy_columns, copy_schema};
+use table_list::{column_number, copy_columns};
 use vo_spec::{Column, Name, Schema};
 
 /// The table that a CREATE makes.
@@ -25,11 +25,14 @@ pub(crate) fn new_table(
 {
     let number = column_number(columns, key.as_bytes()) as u8;
     Ok(StoredTable {
-        name: name.copy(alloc)?,
-        schema: Schema {
-            columns: copy_columns(alloc, columns)?,
-            key: number,
-        },
+        name: Rc::new(alloc, name.copy(alloc)?)?,
+        schema: Rc::new(
+            alloc,
+            Schema {
+                columns: copy_columns(alloc, columns)?,
+                key: number,
+            },
+        )?,
         tree: Tree::new(alloc)?,
     })
 }

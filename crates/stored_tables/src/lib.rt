@@ -5,6 +5,7 @@ mod batches;
 mod catalogs;
 mod changing;
 mod command_proofs;
+mod hashing;
 mod placing;
 mod plain;
 mod refusing;

@@ -57,7 +57,7 @@ pub(crate) fn table_of<'t>(tables: &'t [Rc<StoredTable>], name: &[u8]) -> Option
 }
 
 fn is_before(table: &StoredTable, other: &StoredTable) -> bool
-    ensures { result ≡ key_lt table.now.name other.now.name }
+    ensures { result ≡ key_lt table.now.name.value other.now.name.value }
 {
     table.name.as_bytes().cmp(other.name.as_bytes()).is_lt()
 }

@@ -23,7 +23,7 @@ use mb_tree::Tree;
 use mb_update::{SetCell, UpdateFault, Updates, insert_row};
 use std::alloc::{AllocError, Global};
 use std::slice;
-use table_list::{ApplyFault, cell_number, column_number, copy_schema, key_at, row_of};
+use table_list::{ApplyFault, cell_number, column_number, key_at, row_of};
 use vo_spec::{Command, CommandFault, Key, Schema, SetPart, Value};
 
 /// The key of one value.
@@ -45,8 +45,8 @@ fn with_tree(
 {
     match change {
         Ok(tree) => Ok(StoredTable {
-            name: table.name.copy(alloc)?,
-            schema: copy_schema(alloc, &table.schema)?,
+            name: table.name.clone()?,
+            schema: table.schema.clone()?,
             tree,
         }),
         Err(UpdateFault::DuplicateKey) => Err(ApplyFault::Refused(CommandFault::DuplicateKey)),
@@ -58,7 +58,7 @@ fn with_tree(
 }
 
 fn with_row(alloc: Global, table: &StoredTable, values: &[Value]) -> Result<StoredTable, ApplyFault>
-    requires fits { FitsRow (row_from table.now.schema values.now) }
+    requires fits { FitsRow (row_from table.now.schema.value values.now) }
     requires room { length (entries table.now.tree) < 2 ^ 32 - 1 }
     ensures { Returns stored_of result (table_after (Insert [] values.now) (stored_of table.now)) }
 {
@@ -90,7 +90,7 @@ fn with_cells(
     value: &Value,
 ) -> Result<StoredTable, ApplyFault>
     requires fits { AllByRecursion FitsSet sets.now }
-    requires columns { length table.now.schema.columns ≤ 32 }
+    requires columns { length table.now.schema.value.columns ≤ 32 }
     ensures { Returns stored_of result
         (table_after (Update [] sets.now [] value.now) (stored_of table.now)) }
 {

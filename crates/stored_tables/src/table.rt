@@ -5,14 +5,15 @@ ghost use Rattle.table_list.specs.TableHeaders.{table_header_seen};
 ghost use Rattle.stored_tables.specs.View.{stored_of};
 
 use mb_tree::Tree;
+use std::rc::Rc;
 use table_list::TableHeaderRef;
 use vo_spec::{Name, Schema};
 
-/// A table of rows, which its tree has.
+/// A table of rows, which its tree has. Its name and schema are shared by all that changes make of it.
 #[derive(Drop)]
 pub struct StoredTable {
-    pub name: Name,
-    pub schema: Schema,
+    pub name: Rc<Name>,
+    pub schema: Rc<Schema>,
     pub tree: Tree,
 }
 

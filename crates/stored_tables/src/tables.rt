@@ -17,6 +17,7 @@ ghost use Rattle.stored_tables.specs.Plain.{GivesPlain};
 use crate::batches::{shared, worked_batch};
 use crate::catalogs::catalog_tables;
 use crate::command_proofs::proof_of;
+use crate::hashing::hash_tables;
 use crate::placing::table_of;
 use crate::plain::plain_tables;
 use crate::refusing::fault_of;
@@ -26,7 +27,7 @@ use mb_tree::PartTree;
 use std::alloc::{AllocError, Global};
 use std::marker::Model;
 use std::rc::Rc;
-use table_list::{ApplyFault, BatchFault};
+use table_list::{ApplyFault, BatchFault, command_name};
 use vo_spec::{Batch, Catalog, Command, CommandFault, List, Table};
 
 /// Tables, each as its whole tree, which contracts see as the list of them. Tables before and after a
@@ -106,7 +107,10 @@ impl StoredTables {
         ensures { Returns (λ new. new) result (work command.now self.now) }
     {
         let tables = worked(alloc, self.tables.as_slice(), command)?;
-        Ok(StoredTables { tables })
+        let name = command_name(command);
+        Ok(StoredTables {
+            tables: hash_tables(alloc, &tables, Some(name))?,
+        })
     }
 
     /// Applies the commands of a batch, all or none. A refused batch leaves the tables, and so does want of

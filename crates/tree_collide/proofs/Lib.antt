@@ -3,3 +3,4 @@ pub mod Keeping
 pub mod Steps
 pub mod Children
 pub mod Strings
+pub mod PruningLaws

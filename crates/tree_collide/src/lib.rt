@@ -5,6 +5,7 @@ mod cells;
 mod comparison;
 mod entries;
 mod nodes;
+mod pruning;
 mod rows;
 
 pub use nodes::agree;

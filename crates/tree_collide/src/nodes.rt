@@ -11,6 +11,7 @@ ghost use Rattle.tree_collide.specs.Preimages.{ArePreimages, BelowNodes, NodesIn
 
 use crate::comparison::compare;
 use crate::entries::collision_of_entries;
+use crate::pruning::prunes;
 use mb_tree::{Node, PartTree, Subtree, Tree};
 use std::alloc::{AllocError, Global};
 use vo_spec::{Agreement, Collision};
@@ -25,6 +26,9 @@ pub fn agree(alloc: Global, part: &PartTree<'_>, tree: &Tree) -> Result<Agreemen
     ensures strings { IfOk result (λ agreement.
         FoundAre agreement (ArePreimages (part_of part.now) tree.now)) }
 {
+    if prunes(part, tree.root()) {
+        return Ok(Agreement::Prunes);
+    }
     match collision_of_subtree(alloc, part, tree.root())? {
         None => Ok(Agreement::Prunes),
         Some(found) => Ok(Agreement::Collides(found)),

@@ -1,0 +1,18 @@
+use Rattle.std.proofs.Common.{◌≡◌, ◌≤◌, ap, subst, arith}
+use Rattle.vo_spec.specs.Parts.{levels, levels_in}
+use Rattle.vo_spec.specs.Trees.{RowTree, open_parts}
+use Rattle.vo_spec.specs.Fits.{FitsPart}
+use Rattle.mb_tree.proofs.NodeLaws.{node_inner}
+use Rattle.mb_tree.proofs.RowLaws.{subtree_falls}
+use Rattle.mb_tree.proofs.subtrees.+keep_digests.Goals as goal
+
+pub Subtree::with_digests-inner_with_digests-requires : goal.Subtree::with_digests-inner_with_digests-requires
+Subtree::with_digests-inner_with_digests-requires t c =
+    let is = node_inner _ _ _ _ _ _ c.node.ensures.value c.in-Inner.is c.deref.ensures.value c.deref-in-Inner.ensures.value in
+    let fewer = ap (λ t. levels t) is in
+    (omega arith, subst (λ (t : RowTree). FitsPart t) is c.node.ensures.fits)
+
+pub children_with_digests-with_digests-requires : goal.children_with_digests-with_digests-requires
+children_with_digests-with_digests-requires t c =
+    let falls : levels c.child-item.result ≤ levels_in (open_parts c.args.children.now) = subtree_falls _ _ _ c.loop-child-test.true c.child-item.is in
+    (omega arith, tt)

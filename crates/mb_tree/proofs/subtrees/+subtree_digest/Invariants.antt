@@ -1,0 +1,20 @@
+use Rattle.std.proofs.Common.{◌+◌, ◌*◌, ◌++◌, length, take, flat_map}
+use Rattle.vo_spec.specs.Parts.{levels, levels_in, inner_head}
+use Rattle.vo_spec.specs.Trees.{digest, row_family, open_parts}
+use Rattle.tagged_hash.specs.Holding.{HoldsBytes}
+use Rattle.mb_tree.specs.Whole.{whole_of}
+use Rattle.mb_tree.proofs.subtrees.+subtree_digest.Given as goal
+
+abbrev pub decreases-Subtree::node_digest : goal.decreases-Subtree::node_digest
+decreases-Subtree::node_digest l = 3 * levels l.self.now + 2
+
+abbrev pub decreases-digest_of_node : goal.decreases-digest_of_node
+decreases-digest_of_node l = 3 * levels (whole_of l.node.now) + 1
+
+abbrev pub decreases-inner_digest : goal.decreases-inner_digest
+decreases-inner_digest l = 3 * levels_in (open_parts l.children.now) + 3
+
+-- the separators are hashed, and the digests of the children so far
+abbrev pub invariant-inner_digest-loop-child : goal.invariant-inner_digest-loop-child
+invariant-inner_digest-loop-child l =
+    HoldsBytes l.hasher (inner_head row_family l.separators (length l.children) ++ flat_map digest (take l.child-index l.children))
