@@ -1,0 +1,40 @@
+-- What a command on rows changes in the tree of its table.
+use Rattle.std.specs.Prelude.{ℕ, ◌+◌, ◌-◌, List, map, Option, Some, None, Result}
+use Rattle.vo_spec.specs.declared.tables.Schema.{Schema}
+use Rattle.vo_spec.specs.declared.tables.Command.{Command}
+use Rattle.vo_spec.specs.declared.tables.Command.TheVariants.{Create, Drop, Insert, Update, Delete}
+use Rattle.vo_spec.specs.declared.trees.UpdateFault.{UpdateFault}
+use Rattle.vo_spec.specs.Values.{key_of}
+use Rattle.vo_spec.specs.Cells.{whole_entry}
+use Rattle.vo_spec.specs.Tables.{CellChange, cell_changes, row_of}
+use Rattle.vo_spec.specs.Trees.{RowTree}
+use Rattle.vo_spec.specs.Inserts.{inserted}
+use Rattle.vo_spec.specs.Removes.{removed, replaced}
+use Rattle.mb_update.specs.declared.ops.Op.{Op}
+use Rattle.mb_update.specs.declared.ops.Op.TheVariants.{Insert as PutRow, Replace, Remove}
+use Rattle.mb_update.specs.declared.ops.SetCell.{SetCell}
+use Rattle.mb_update.specs.Sets.{change_of}
+
+abbrev pub set_cell : CellChange → SetCell
+set_cell change = record { column = change.column; value = change.value }
+
+-- the change; CREATE and DROP are none
+abbrev pub operation : Schema → Command → Option Op
+operation schema (Create name columns key) = None
+operation schema (Drop name) = None
+operation schema (Insert name values) = Some (PutRow (row_of schema values))
+operation schema (Update name sets column value) =
+    Some (Replace (key_of value) (map set_cell (cell_changes schema sets)))
+operation schema (Delete name column value) = Some (Remove (key_of value))
+
+-- the tree after a change, or why there is none
+abbrev pub changed_tree : Op → RowTree → Result RowTree UpdateFault
+changed_tree (PutRow row) = inserted (whole_entry row)
+changed_tree (Replace key sets) = replaced key (map change_of sets)
+changed_tree (Remove key) = removed key
+
+-- how many rows a table has after a change that was not refused
+abbrev pub changed_count : Op → ℕ → ℕ
+changed_count (PutRow row) count = count + 1
+changed_count (Replace key sets) count = count
+changed_count (Remove key) count = count - 1

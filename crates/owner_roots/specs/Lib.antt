@@ -1,0 +1,5 @@
+pub mod Changes
+pub mod Forms
+pub mod Next
+pub mod Working
+pub mod Seen

@@ -1,0 +1,16 @@
+//! The roots that an owner without its tables holds, and how it follows a batch by the proofs of its commands.
+#![tactic(auto)]
+
+mod changes;
+mod commands;
+mod copies;
+mod forms;
+mod owner_fault;
+mod places;
+mod root_changes;
+mod roots;
+mod row_commands;
+
+pub use owner_fault::OwnerFault;
+pub use roots::Roots;
+pub use vo_spec::{Batch, Catalog, CatalogTable, Command, CommandFault, Digest};
