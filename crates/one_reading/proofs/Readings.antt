@@ -17,7 +17,7 @@ use Rattle.round_trips.proofs.Entries.{there}
 pub one_reply : (bytes : List ℕ) (a b : Reply) → IsReply bytes a → IsReply bytes b → a ≡ b
 one_reply bytes a b first second =
     ap (λ (read : Reply × List ℕ). read.0) (some_is (a, []) (b, [])
-    (sym (reply_again a [] first.fits) ∙ ap (λ (t : List ℕ). reply_at (t ++ [])) (sym first.spelled ∙ second.spelled) ∙ reply_again b [] second.fits))
+    (sym (reply_again a [] first.fits) ∙ ap (λ (t : List ℕ). reply_at (t ++ [])) (sym first.encoded ∙ second.encoded) ∙ reply_again b [] second.fits))
 
 pub one_owned : (key bytes : List ℕ) (xs es : List Entry) → IsOwned key bytes xs → IsOwned key bytes es → xs ≡ es
 unfolding IsOwned

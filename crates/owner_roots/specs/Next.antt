@@ -18,7 +18,7 @@ use Rattle.vo_spec.specs.Replies.{AreProofs}
 use Rattle.vo_spec.specs.Honest.{row_refusal}
 use Rattle.table_list.specs.TableHeaders.{command_name}
 use Rattle.mb_update.specs.declared.ops.Op.{Op}
-use Rattle.update_proof.specs.Proving.{update_misses, update_goes_beyond}
+use Rattle.update_proof.specs.Proving.{update_is_missing, update_has_surplus}
 use Rattle.owner_roots.specs.declared.owner_fault.OwnerFault.{OwnerFault}
 use Rattle.owner_roots.specs.declared.owner_fault.OwnerFault.TheVariants as fault
 use Rattle.owner_roots.specs.declared.roots.Roots.{Roots}
@@ -55,8 +55,8 @@ abbrev pub proof_fault : ℕ → CatalogTable → Op → RowTree → Option Owne
 proof_fault index t op p = first_of
     ((not (has_form t.schema p), fault.ProofForm index)
     ∷ (not (bytes_eq t.root (digest p)), fault.ProofRoot index t.root (digest p))
-    ∷ (update_misses op p, fault.ProofMissing index)
-    ∷ (update_goes_beyond op p, fault.ProofSurplus index)
+    ∷ (update_is_missing op p, fault.ProofMissing index)
+    ∷ (update_has_surplus op p, fault.ProofSurplus index)
     ∷ [])
 
 -- the table with the root and the row count that a change gives

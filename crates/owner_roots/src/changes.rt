@@ -7,7 +7,7 @@ ghost use Rattle.vo_spec.specs.Values.{key_of};
 ghost use Rattle.vo_spec.specs.Tables.{cell_changes};
 ghost use Rattle.mb_tree.specs.View.{part_of};
 ghost use Rattle.mb_update.specs.declared.ops.Op.TheVariants.{Replace};
-ghost use Rattle.mb_update.specs.Changing.{ChangesTo};
+ghost use Rattle.mb_update.specs.ChangeResults.{ChangesTo};
 ghost use Rattle.owner_roots.specs.Changes.{changed_count, changed_tree, operation, set_cell};
 ghost use Rattle.owner_roots.specs.Working.{FitsOp, IsReady};
 

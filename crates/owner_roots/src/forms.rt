@@ -7,7 +7,7 @@ ghost use Rattle.mb_tree.specs.View.{part_of, parts_of};
 ghost use Rattle.owner_roots.specs.Forms.{entry_has_form, has_cell_count, has_form};
 
 use mb_tree::PartTree;
-use row_bytes::value_of_key;
+use row_bytes::read_key;
 use table_list::kind_at;
 use vo_spec::{Kind, PartEntry, RowPart, Schema};
 
@@ -57,7 +57,7 @@ fn key_kind(schema: &Schema) -> Kind
 fn is_key_of(kind: Kind, key: &[u8]) -> bool
     ensures { result ≡ is_key_of kind key.now }
 {
-    value_of_key(kind, key).is_ok()
+    read_key(kind, key).is_ok()
 }
 
 fn has_cell_count(schema: &Schema, row: &RowPart<'_>) -> bool

@@ -18,7 +18,7 @@ some_or_none (Some x) = inr (x, refl)
 
 pub batch_is_read : (text : List ℕ) (r : Result Batch ReadFault) → IsBytes text → IfOk r (λ batch. IsBatch text batch.commands)
     → ((cs : List Command) → IsBatch text cs → BatchRead r (Some cs)) → BatchRead r (batch_of text)
-batch_is_read text (Ok batch) fits found only = ap batch_of found.spelled ∙ batch_again batch.commands found.fits
+batch_is_read text (Ok batch) fits found only = ap batch_of found.encoded ∙ batch_again batch.commands found.fits
 batch_is_read text (Err BadForm) fits found only =
     elim (some_or_none (batch_of text)) [
       | inl e ↦ e

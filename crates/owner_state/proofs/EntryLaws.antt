@@ -1,4 +1,4 @@
--- An entry that is read is spelled so, and what is spelled so is read; slots too.
+-- An entry that is read is encoded so, and what is encoded so is read; slots too.
 use Rattle.std.proofs.Common.{◌≡◌, ℕ, ◌+◌, ◌≤◌, eqb, List, [], ◌∷◌, ◌++◌, length, Option, Some, None, codes, refl, sym, ap, subst, ◌∙◌, append_assoc, append-nil, arith, inl, inr}
 use Rattle.std.proofs.lemmas.Bool.{eqb-true}
 use Rattle.std.proofs.lemmas.List.{length-append}
@@ -22,7 +22,7 @@ use Rattle.owner_state.proofs.BlockLaws.{IsShort, HasAtMost, IsWholeReader, u32_
 
 whole_batches : IsWholeReader batch_of batch_bytes FitsBatch
 whole_batches = record {
-  found = λ bytes cs fits e. let is = batch_found bytes cs fits e in (is.spelled, is.fits);
+  found = λ bytes cs fits e. let is = batch_found bytes cs fits e in (is.encoded, is.fits);
   again = batch_again;
   short = λ cs fits. omega (arith, fits.size);
 }

@@ -1,14 +1,13 @@
 -- Sealing version 0, which has no commands.
-use Rattle.std.proofs.Common.{◌≡◌, ℕ, ◌<◌, List, [], ◌++◌, Result, Ok, Err, refl, sym, ap, ◌∙◌, subst, lit<, arith}
+use Rattle.std.proofs.Common.{◌≡◌, ℕ, ◌<◌, List, [], ◌++◌, Result, Ok, Err, refl, sym, ap, ◌∙◌, subst, arith}
 use Rattle.std.specs.Prelude.{IfErr, IfOk}
-use Rattle.vo_spec.specs.declared.signatures.LmsType.{LmsType}
-use Rattle.vo_spec.specs.declared.signatures.LmsType.TheVariants.{H5, H10, H15, H20, H25}
 use Rattle.vo_spec.specs.declared.tables.Command.{Command}
 use Rattle.vo_spec.specs.Lms.{leaf_count}
 use Rattle.vo_spec.specs.LmsSets.{leaves_of}
 use Rattle.vo_spec.specs.Secret.{Secret, public_of_secret, tree_node}
 use Rattle.vo_spec.specs.Journals.{slot}
 use Rattle.vo_spec.specs.Honest.{Stored}
+use Rattle.round_trips.proofs.Sealed.{some_leaf}
 use Rattle.lms_sign.proofs.Keys.{leaf_count-public_bytes}
 use Rattle.owner_state.specs.declared.next_version.Sealed.{Sealed}
 use Rattle.owner_state.specs.declared.sealing.SealFault.{SealFault}
@@ -20,13 +19,6 @@ use Rattle.owner_state.specs.Sealed.{Seals}
 pub leaves_told : (secret : Secret) → leaf_count (public_of_secret secret) ≡ leaves_of secret.lms
 unfolding public_of_secret
 leaves_told secret = leaf_count-public_bytes secret.lms secret.ots secret.id (tree_node secret 1)
-
-pub some_leaf : (lms : LmsType) → 0 < leaves_of lms
-some_leaf H5 = lit< tt
-some_leaf H10 = lit< tt
-some_leaf H15 = lit< tt
-some_leaf H20 = lit< tt
-some_leaf H25 = lit< tt
 
 pub record IsFirst (secret : Secret) (result : Result Sealed SealFault) : Type 0 where
   pub tables : IfOk result (λ (first : Sealed). first.tables ≡ [])

@@ -1,5 +1,5 @@
 -- What is sealed: a journal of the key's owner, and one that a store takes.
-use Rattle.std.proofs.Common.{◌≡◌, ℕ, ◌+◌, ◌<◌, Bool, true, false, cond, leb, List, [], ◌∷◌, ◌++◌, length, Option, Some, None, Result, Ok, Err, refl, subst, inl, inr, arith}
+use Rattle.std.proofs.Common.{◌≡◌, ℕ, ◌+◌, ◌<◌, Bool, true, false, cond, leb, List, [], ◌∷◌, ◌++◌, length, Option, Some, None, Result, Ok, Err, refl, sym, subst, inl, inr, arith}
 use Rattle.std.specs.Prelude.{IsOk, IsTrue}
 use Rattle.std.specs.List.{AllByRecursion}
 use Rattle.std.proofs.lemmas.Bool.Decides.{leb_tells}
@@ -7,18 +7,23 @@ use Rattle.std.proofs.lemmas.List.{length-append}
 use Rattle.vo_spec.specs.declared.tables.Command.{Command}
 use Rattle.vo_spec.specs.declared.tables.CommandFault.{CommandFault}
 use Rattle.vo_spec.specs.declared.tables.Table.{Table}
+use Rattle.vo_spec.specs.declared.tables.Batch.{Batch}
 use Rattle.vo_spec.specs.Batches.{FitsBatch}
 use Rattle.vo_spec.specs.Tables.{apply_batch, tables_after}
 use Rattle.vo_spec.specs.LmsSets.{leaves_of}
 use Rattle.vo_spec.specs.Lms.{leaf_of, lms_valid}
 use Rattle.vo_spec.specs.Secret.{Secret, public_of_secret, lms_signature}
+use Rattle.vo_spec.specs.Honest.{sealed}
+use Rattle.vo_spec.specs.Journals.{journal_bytes}
+use Rattle.vo_spec.specs.Owners.{IsLoadable, IsOwned}
 use Rattle.vo_laws.specs.Sealing.{AreAcceptedAfter, SignsValidly}
 use Rattle.vo_laws.proofs.StepLaws.{no_tables_before}
 use Rattle.round_trips.specs.Trips.{AreSealable}
 use Rattle.owner_state.specs.declared.sealing.SealFault.{SealFault}
 use Rattle.owner_state.specs.declared.sealing.SealFault.TheVariants.{KeySpent}
-use Rattle.owner_state.specs.Sealing.{or_later, seal_fault}
-use Rattle.owner_state.proofs.FirstVersion.{some_leaf}
+use Rattle.owner_state.specs.Sealing.{commands_of, or_later, seal_fault, FitEach}
+use Rattle.owner_state.proofs.SealSteps.{each_fits}
+use Rattle.round_trips.proofs.Sealed.{loaded, owned, some_leaf}
 
 -- Batches that no fault keeps from being sealed.
 
@@ -65,3 +70,15 @@ pub sealable : (secret : Secret) (batches : List (List Command)) → SignsValidl
 sealable secret batches signs fit e =
     let n = no_fault (leaves_of secret.lms) [] batches (some_leaf secret.lms) e in
     record { signs = signs; fit = fit; accepted = n.0; few = omega (arith, n.1) }
+
+-- and a journal of it is one of the key's owner, and one that a store takes
+pub sealed_journal : (secret : Secret) (batches : List Batch) (bytes : List ℕ) → SignsValidly secret → FitEach batches
+    → seal_fault (leaves_of secret.lms) ([] ∷ []) (commands_of batches) ≡ None → bytes ≡ journal_bytes (sealed secret (commands_of batches))
+    → IsOwned (public_of_secret secret) bytes (sealed secret (commands_of batches)) × IsLoadable (public_of_secret secret) bytes (sealed secret (commands_of batches))
+sealed_journal secret batches bytes signs fit e is =
+    let key = public_of_secret secret in
+    let es = sealed secret (commands_of batches) in
+    let done = sealable secret (commands_of batches) signs (each_fits batches fit) e in (
+      subst (λ (text : List ℕ). IsOwned key text es) (sym is) (owned secret (commands_of batches) done),
+      subst (λ (text : List ℕ). IsLoadable key text es) (sym is) (loaded secret (commands_of batches) done),
+    )

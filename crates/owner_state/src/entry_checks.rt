@@ -14,7 +14,7 @@ use stored_tables::{BatchFault, StoredTables};
 use vo_spec::{Batch, Entry};
 
 /// The tables behind an entry of no matter which batch, if its record is that of these tables as this version.
-pub(crate) fn recorded(
+pub(crate) fn check_record(
     alloc: Global,
     key: &PublicKey,
     version: u64,
@@ -32,7 +32,7 @@ pub(crate) fn recorded(
 }
 
 /// The tables behind an entry that a store takes as this version.
-pub(crate) fn taken_on(
+pub(crate) fn check_store_entry(
     alloc: Global,
     key: &PublicKey,
     version: u64,
@@ -44,14 +44,14 @@ pub(crate) fn taken_on(
         GivesTreesIf (IsLoadableOn key.now version tables entry.now)
         (after_work tables entry.now.batch.commands) after) }
 {
-    match after_batch(alloc, tables, &entry.batch)? {
-        Some(after) => recorded(alloc, key, version, after, entry),
+    match tables_behind(alloc, tables, &entry.batch)? {
+        Some(after) => check_record(alloc, key, version, after, entry),
         None => Ok(None),
     }
 }
 
 /// The tables behind a batch, if it is accepted.
-fn after_batch(
+fn tables_behind(
     alloc: Global,
     mut tables: StoredTables,
     batch: &Batch,
@@ -69,7 +69,7 @@ fn after_batch(
 }
 
 /// The tables behind an entry that an owner has written as this version.
-pub(crate) fn honest_on(
+pub(crate) fn check_owner_entry(
     alloc: Global,
     key: &PublicKey,
     version: u64,
@@ -82,14 +82,14 @@ pub(crate) fn honest_on(
         GivesTreesIf (IsHonestOn key.now version tables entry.now)
         (after_work tables entry.now.batch.commands) after) }
 {
-    match proved_on(alloc, tables, entry)? {
-        Some(after) => recorded(alloc, key, version, after, entry),
+    match check_proofs(alloc, tables, entry)? {
+        Some(after) => check_record(alloc, key, version, after, entry),
         None => Ok(None),
     }
 }
 
 /// The tables behind an entry that an owner has written as version 0, which has no commands.
-pub(crate) fn honest_first(
+pub(crate) fn check_first_entry(
     alloc: Global,
     key: &PublicKey,
     tables: StoredTables,
@@ -104,11 +104,11 @@ pub(crate) fn honest_first(
     if !entry.batch.commands.is_empty() {
         return Ok(None);
     }
-    honest_on(alloc, key, 0, tables, entry)
+    check_owner_entry(alloc, key, 0, tables, entry)
 }
 
 /// The tables behind an entry's batch, if it is accepted and the entry has its proofs.
-fn proved_on(
+fn check_proofs(
     alloc: Global,
     tables: StoredTables,
     entry: &Entry,

@@ -9,7 +9,7 @@ use std::alloc::{AllocError, Global};
 use version_record::record_bytes;
 use vo_spec::{Entry, u32_bytes};
 
-/// The one spelling of an entry.
+/// The one encoding of an entry.
 pub fn entry_bytes(alloc: Global, entry: &Entry) -> Result<Vec<u8>, AllocError>
     requires { FitsEntry entry.now }
     ensures { IfOk result (λ bytes. bytes.items ≡ entry_bytes entry.now) }

@@ -6,7 +6,7 @@ ghost use Rattle.vo_spec.specs.Honest.{honest_trees};
 ghost use Rattle.vo_spec.specs.Owners.{AreOwned, AreLoadable};
 ghost use Rattle.owner_state.specs.Walking.{GivesTreesIf, StopsAt};
 
-use crate::entry_checks::{honest_first, honest_on, recorded, taken_on};
+use crate::entry_checks::{check_first_entry, check_owner_entry, check_record, check_store_entry};
 use crate::journals::JournalFault;
 use lms_sign::PublicKey;
 use std::alloc::{AllocError, Global};
@@ -28,7 +28,7 @@ pub(crate) fn walk_taken(
 {
     let mut tables = StoredTables::new(alloc);
     for (index, entry) in entries.iter().enumerate() {
-        match taken_behind(alloc, key, &entries[..index], tables, entry)? {
+        match check_next_of_store(alloc, key, &entries[..index], tables, entry)? {
             Some(after) => tables = after,
             None => {
                 let index = index as u64;
@@ -40,7 +40,7 @@ pub(crate) fn walk_taken(
 }
 
 /// The tables behind an entry, if a store takes it behind those before.
-fn taken_behind(
+fn check_next_of_store(
     alloc: Global,
     key: &PublicKey,
     earlier: &[Entry],
@@ -56,9 +56,9 @@ fn taken_behind(
         (honest_trees (batches_of (drop 1 (earlier.now ++ entry.now ∷ [])))) after) }
 {
     if earlier.is_empty() {
-        recorded(alloc, key, 0, tables, entry)
+        check_record(alloc, key, 0, tables, entry)
     } else {
-        taken_on(alloc, key, earlier.len() as u64, tables, entry)
+        check_store_entry(alloc, key, earlier.len() as u64, tables, entry)
     }
 }
 
@@ -82,7 +82,7 @@ pub(crate) fn walk_owned(
     let mut tables = StoredTables::new(alloc);
     let mut kept = None;
     for (index, entry) in entries.iter().enumerate() {
-        match owned_behind(alloc, key, &entries[..index], tables, entry)? {
+        match check_next_of_owner(alloc, key, &entries[..index], tables, entry)? {
             Some(after) => tables = after,
             None => {
                 let index = index as u64;
@@ -97,7 +97,7 @@ pub(crate) fn walk_owned(
 }
 
 /// The tables behind an entry, if the owner has written it behind those before.
-fn owned_behind(
+fn check_next_of_owner(
     alloc: Global,
     key: &PublicKey,
     earlier: &[Entry],
@@ -113,8 +113,8 @@ fn owned_behind(
         (honest_trees (batches_of (earlier.now ++ entry.now ∷ []))) after) }
 {
     if earlier.is_empty() {
-        honest_first(alloc, key, tables, entry)
+        check_first_entry(alloc, key, tables, entry)
     } else {
-        honest_on(alloc, key, earlier.len() as u64, tables, entry)
+        check_owner_entry(alloc, key, earlier.len() as u64, tables, entry)
     }
 }

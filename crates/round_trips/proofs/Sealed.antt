@@ -21,7 +21,8 @@ use Rattle.round_trips.specs.Trips.{AreSealable}
 
 -- A key that signs validly.
 
-some_leaf : (lms : LmsType) → 0 < leaves_of lms
+-- each height has leaves
+pub some_leaf : (lms : LmsType) → 0 < leaves_of lms
 some_leaf H5 = lit< tt
 some_leaf H10 = lit< tt
 some_leaf H15 = lit< tt

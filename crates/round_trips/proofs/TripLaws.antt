@@ -62,7 +62,7 @@ exact es q r answer held right = (held, right, refl)
 pub read : (secret : Secret) (batches : List (List Command)) (q : Query) (r : Reply) → AreSealable secret batches → IsHonestReply secret batches q r
     → IsReply (reply_bytes r) r
 read secret batches q r all honest =
-    record { fits = within_limits secret batches q r all.fit (reply_after secret batches q r all honest.0); spelled = refl }
+    record { fits = within_limits secret batches q r all.fit (reply_after secret batches q r all honest.0); encoded = refl }
 
 pub checked : (secret : Secret) (batches : List (List Command)) (least : ℕ) (q : Query) (r : Reply) → AreSealable secret batches → FitsQuery q
     → IsHonestReply secret batches q r → least ≤ length batches → CheckOf (public_of_secret secret) least q (reply_bytes r) (Ok (plain_answer batches q))

@@ -34,7 +34,7 @@ fn can_exchange_bytes(
 ) -> bool {
     let asked = (client.put(b"ask"), receive::<3>(server));
     let sent = (
-        server.put(b"known"),
+        server.put(b"told"),
         server.put(b" twice"),
         receive::<10>(client),
     );
@@ -42,7 +42,7 @@ fn can_exchange_bytes(
     server.close();
     let closed = client.get(&mut [0u8; 4]);
     asked == (Ok(()), Ok(*b"ask"))
-        && sent == (Ok(()), Ok(()), Ok(*b"known twice"))
+        && sent == (Ok(()), Ok(()), Ok(*b"told twice"))
         && thanked == (Ok(()), Ok(*b"thanks"))
         && closed == Ok(0)
 }

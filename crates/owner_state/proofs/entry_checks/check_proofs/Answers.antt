@@ -7,7 +7,7 @@ use Rattle.table_list.specs.declared.fault.BatchFault.TheVariants.{Command as Re
 use Rattle.stored_tables.specs.Working.{work_from}
 use Rattle.owner_state.specs.declared.batch_working.AfterBatch.{AfterBatch}
 use Rattle.owner_state.proofs.WorkTurns.{told, work_accepted, work_done, work_left, work_refused}
-use Rattle.owner_state.proofs.entry_checks.proved_on.Goals as goal
+use Rattle.owner_state.proofs.entry_checks.check_proofs.Goals as goal
 
 pub returns-then-eq : goal.returns-then-eq
 returns-then-eq c =

@@ -2,7 +2,7 @@ use Rattle.std.proofs.Common.{◌≡◌}
 use Rattle.table_list.specs.declared.fault.BatchFault.TheVariants.{Command}
 use Rattle.stored_tables.specs.Working.{work_from}
 use Rattle.owner_state.proofs.WorkTurns.{told, work_refused}
-use Rattle.owner_state.proofs.entry_checks.after_batch.Goals as goal
+use Rattle.owner_state.proofs.entry_checks.tables_behind.Goals as goal
 
 pub returns-in-Err-Command : goal.returns-in-Err-Command
 returns-in-Err-Command c =

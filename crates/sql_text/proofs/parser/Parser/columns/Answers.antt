@@ -54,9 +54,9 @@ returns-clause-value c =
     ∙ sym c.parts.invariant.2
     ∙ stops (λ x. x) (closed column k.Comma) refl (Some (32 - length c.parts.list.items)) c.parts.self.levels c.parts.list.items (left_of c.parts.self) (sym c.sees.ensures ∙ c.parts-test.false) ∙ ap (λ z. (Ok z, left_of c.parts.self)) (map-id c.parts.list.items)
 
-pub returns-then-len-eq-COLUMNS_MAX-clause-value : goal.returns-then-len-eq-COLUMNS_MAX-clause-value
+pub returns-then-len-eq-MAX_COLUMNS-clause-value : goal.returns-then-len-eq-MAX_COLUMNS-clause-value
 unfolding closed ended column name
-returns-then-len-eq-COLUMNS_MAX-clause-value c =
+returns-then-len-eq-MAX_COLUMNS-clause-value c =
     let all : length c.parts.list.items ≡ 32 = omega (arith, c.parts.list.ok.0) in
     begun_in (λ x. x) (Some 31) (closed column k.Comma) (closed column k.Comma) c.args.self.now.levels c.column.new.self.levels (left_of c.args.self.now) (left_of c.column.new.self) c.new.result.items c.column.result c.in_ok-list.list
     c.column.ensures.levels c.column.ensures.value c.new.ensures.items c.in_ok-list.ensures

@@ -53,9 +53,9 @@ returns-clause-value c =
     ∙ sym c.parts.invariant.2
     ∙ stops (λ x. x) (closed command k.Semicolon) refl (Some (1000 - length c.parts.list.items)) c.parts.self.levels c.parts.list.items (left_of c.parts.self) (sym c.sees_command.ensures ∙ c.parts-test.false) ∙ ap (λ z. (Ok z, left_of c.parts.self)) (map-id c.parts.list.items)
 
-pub returns-then-len-eq-COMMANDS_MAX-clause-value : goal.returns-then-len-eq-COMMANDS_MAX-clause-value
+pub returns-then-len-eq-MAX_COMMANDS-clause-value : goal.returns-then-len-eq-MAX_COMMANDS-clause-value
 unfolding closed ended command create drop_table insert update delete before
-returns-then-len-eq-COMMANDS_MAX-clause-value c =
+returns-then-len-eq-MAX_COMMANDS-clause-value c =
     let all : length c.parts.list.items ≡ 1000 = omega (arith, c.parts.list.ok.0) in
     begun_in (λ x. x) (Some 999) (closed command k.Semicolon) (closed command k.Semicolon) c.args.self.now.levels c.closed_command.new.self.levels (left_of c.args.self.now) (left_of c.closed_command.new.self) c.new.result.items c.closed_command.result c.in_ok-list.list
     c.closed_command.ensures.levels c.closed_command.ensures.value c.new.ensures.items c.in_ok-list.ensures

@@ -53,9 +53,9 @@ returns-clause-value c =
     ∙ sym c.parts.invariant.2
     ∙ stops (λ x. x) (before k.Comma literal) refl (Some (32 - length c.parts.list.items)) c.parts.self.levels c.parts.list.items (left_of c.parts.self) (sym c.sees.ensures ∙ c.parts-test.false) ∙ ap (λ z. (Ok z, left_of c.parts.self)) (map-id c.parts.list.items)
 
-pub returns-then-len-eq-COLUMNS_MAX-clause-value : goal.returns-then-len-eq-COLUMNS_MAX-clause-value
+pub returns-then-len-eq-MAX_COLUMNS-clause-value : goal.returns-then-len-eq-MAX_COLUMNS-clause-value
 unfolding before listed
-returns-then-len-eq-COLUMNS_MAX-clause-value c =
+returns-then-len-eq-MAX_COLUMNS-clause-value c =
     let all : length c.parts.list.items ≡ 32 = omega (arith, c.parts.list.ok.0) in
     begun_in (λ x. x) (Some 31) (literal) (before k.Comma literal) c.args.self.now.levels c.literal.new.self.levels (left_of c.args.self.now) (left_of c.literal.new.self) c.new.result.items c.literal.result c.in_ok-list.list
     c.literal.ensures.levels c.literal.ensures.value c.new.ensures.items c.in_ok-list.ensures
