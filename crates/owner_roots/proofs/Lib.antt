@@ -3,6 +3,7 @@ mod ChangeLaws
 mod CommandSteps
 mod CreatedTables
 mod NextLaws
+pub mod OwnedLaws
 mod PlaceLaws
 mod ReadyLaws
 mod RootLaws

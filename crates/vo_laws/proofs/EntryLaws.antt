@@ -1,4 +1,4 @@
--- Journals of an owner, and those that a store takes: they grow entry by entry, and each entry holds the record
+-- Journals that a store takes: they grow entry by entry, and each entry holds the record
 -- of the honest trees of its version.
 use Rattle.std.proofs.Common.{◌≡◌, ℕ, zero, suc, ◌+◌, ◌<◌, List, [], ◌∷◌, ◌++◌, Option, Some, None, length, take, drop, refl, sym, ap, ◌∙◌, subst, append_assoc, append-nil, arith}
 use Rattle.std.specs.Prelude.{◌↔◌, slice_get, option_map}
@@ -10,7 +10,7 @@ use Rattle.vo_spec.specs.declared.records.Entry.{Entry}
 use Rattle.vo_spec.specs.Batches.{FitsBatch}
 use Rattle.vo_spec.specs.Journals.{FitsEntry, Holds, batches_of, tables_at}
 use Rattle.vo_spec.specs.Honest.{RepresentTables, honest_trees, honest_record}
-use Rattle.vo_spec.specs.Owners.{IsSigned, IsLoadableEntry, IsHonestEntry, AreOwnedAfter, AreOwned, AreLoadableAfter, AreLoadable}
+use Rattle.vo_spec.specs.Owners.{IsSigned, IsLoadableEntry, AreLoadableAfter, AreLoadable}
 use Rattle.vo_laws.proofs.TreeFits.{each_loadable, each_dropped}
 use Rattle.vo_laws.proofs.StandingLaws.{stands}
 use Rattle.vo_laws.proofs.StepLaws.{no_trees_before}
@@ -42,17 +42,6 @@ module _ (key : List ℕ) where
   abbrev LoadableEntry : List (List Command) → Entry → Type 0
   LoadableEntry = IsLoadableEntry key
 
-  abbrev HonestEntry : List (List Command) → Entry → Type 0
-  HonestEntry = IsHonestEntry key
-
-  owned_to : (earlier : List (List Command)) (es : List Entry) → AreOwnedAfter key earlier es → After HonestEntry earlier es
-  owned_to earlier [] all = tt
-  owned_to earlier (e ∷ es) all = (all.0, owned_to (earlier ++ e.batch.commands ∷ []) es all.1)
-
-  owned_from : (earlier : List (List Command)) (es : List Entry) → After HonestEntry earlier es → AreOwnedAfter key earlier es
-  owned_from earlier [] all = tt
-  owned_from earlier (e ∷ es) all = (all.0, owned_from (earlier ++ e.batch.commands ∷ []) es all.1)
-
   taken_to : (earlier : List (List Command)) (es : List Entry) → AreLoadableAfter key earlier es → After LoadableEntry earlier es
   taken_to earlier [] all = tt
   taken_to earlier (e ∷ es) all = (all.0, taken_to (earlier ++ e.batch.commands ∷ []) es all.1)
@@ -60,53 +49,6 @@ module _ (key : List ℕ) where
   taken_from : (earlier : List (List Command)) (es : List Entry) → After LoadableEntry earlier es → AreLoadableAfter key earlier es
   taken_from earlier [] all = tt
   taken_from earlier (e ∷ es) all = (all.0, taken_from (earlier ++ e.batch.commands ∷ []) es all.1)
-
-  owned_loadable_after : (earlier : List (List Command)) (es : List Entry) → AreOwnedAfter key earlier es → AreLoadableAfter key earlier es
-  owned_loadable_after earlier [] all = tt
-  owned_loadable_after earlier (e ∷ es) all = (all.0.taken, owned_loadable_after (earlier ++ e.batch.commands ∷ []) es all.1)
-
-  -- An owner's entries.
-
-  pub owned_first : (e : Entry) → AreOwned key (e ∷ []) ↔ ((e.batch.commands ≡ []) × IsHonestEntry key [] e)
-  unfolding AreOwned
-  owned_first e = (λ all. (all.0, all.1.0), λ is. (is.0, (is.1, tt)))
-
-  pub owned_grows : (es : List Entry) (e : Entry) → 0 < length es → AreOwned key (es ++ e ∷ []) ↔ (AreOwned key es × IsHonestEntry key (batches_of es) e)
-  unfolding AreOwned
-  owned_grows [] e some = absurd (omega arith)
-  owned_grows (f ∷ es) e some = (
-    λ all. let p = after_parts HonestEntry [] (f ∷ es) e (owned_to [] (f ∷ es ++ e ∷ []) all.1) in ((all.0, owned_from [] (f ∷ es) p.0), p.1),
-    λ both. (both.0.0, owned_from [] (f ∷ es ++ e ∷ []) (after_insertion HonestEntry [] (f ∷ es) e (owned_to [] (f ∷ es) both.0.1) both.1)),
-  )
-
-  pub owned_front : (n : ℕ) (es : List Entry) → AreOwned key es → AreOwned key (take n es)
-  unfolding AreOwned
-  owned_front zero es all = tt
-  owned_front (suc n) [] all = tt
-  owned_front (suc n) (e ∷ es) all = (all.0, owned_from [] (e ∷ take n es) (after_front HonestEntry (suc n) [] (e ∷ es) (owned_to [] (e ∷ es) all.1)))
-
-  after_at : (earlier : List (List Command)) (es : List Entry) (v : ℕ) (e : Entry) → AreOwnedAfter key earlier es → slice_get es v ≡ Some e
-      → IsHonestEntry key (earlier ++ batches_of (take v es)) e
-  after_at earlier [] v e all found = absurd (cc)
-  after_at earlier (f ∷ es) zero e all found =
-      let same : f ≡ e = cc in
-      subst (HonestEntry (earlier ++ [])) same (subst (λ bs. IsHonestEntry key bs f) (sym (append-nil earlier)) all.0)
-  after_at earlier (f ∷ es) (suc v) e all found =
-      subst (λ bs. IsHonestEntry key bs e) (append_assoc earlier (f.batch.commands ∷ []) (batches_of (take v es))) (after_at (earlier ++ f.batch.commands ∷ []) es v e all.1 found)
-
-  pub owned_entry : (es : List Entry) (v : ℕ) (e : Entry) → AreOwned key es → slice_get es v ≡ Some e → IsHonestEntry key (batches_of (take v es)) e
-  unfolding AreOwned
-  owned_entry [] v e all found = absurd (cc)
-  owned_entry (f ∷ es) v e all found = after_at [] (f ∷ es) v e all.1 found
-
-  pub owned_are_loadable : (es : List Entry) → AreOwned key es → AreLoadable key es
-  unfolding AreOwned AreLoadable
-  owned_are_loadable [] all = tt
-  owned_are_loadable (e ∷ es) all = (
-    all.1.0.taken.record_is ∙ ap (λ bs. honest_record key 0 (honest_trees (bs ∷ []))) all.0 ∙ ap (honest_record key 0) (no_trees_before []),
-    all.1.0.taken.signed,
-    subst (λ bs. AreLoadableAfter key (bs ∷ []) es) all.0 (owned_loadable_after (e.batch.commands ∷ []) es all.1.1),
-  )
 
   -- The entries that a store takes.
 

@@ -1,4 +1,4 @@
--- What an owner seals: its entries fit their bytes, and are those of an owner where their signatures are valid.
+-- What an owner seals: its entries fit their bytes, and a store takes them where their signatures are valid.
 use Rattle.std.proofs.Common.{◌≡◌, ℕ, ◌+◌, ◌^◌, ◌<◌, ◌≤◌, List, [], ◌∷◌, ◌++◌, Option, Some, None, length, refl, sym, ap, ◌∙◌, subst, append_assoc, arith}
 use Rattle.std.specs.Prelude.{IsOk}
 use Rattle.std.specs.List.{AllByRecursion}
@@ -19,11 +19,11 @@ use Rattle.vo_spec.specs.Secret.{Secret, tree_node, public_of_secret}
 use Rattle.vo_spec.specs.Records.{record_bytes}
 use Rattle.vo_spec.specs.Journals.{max_signature, FitsEntry, batches_of}
 use Rattle.vo_spec.specs.Honest.{honest_trees, honest_record, sealed_entry, sealed_after, sealed}
-use Rattle.vo_spec.specs.Owners.{IsSigned, IsHonestEntry, AreOwnedAfter, AreOwned}
+use Rattle.vo_spec.specs.Owners.{IsSigned, IsLoadableEntry, AreLoadableAfter, AreLoadable}
 use Rattle.vo_laws.specs.Sealing.{AreAcceptedAfter, SignsValidly}
 use Rattle.vo_laws.proofs.StoredFits.{record_fits}
 use Rattle.vo_laws.proofs.ProofSizes.{honest_proofs_fit}
-use Rattle.vo_laws.proofs.StepLaws.{no_tables_before, no_commands_fit}
+use Rattle.vo_laws.proofs.StepLaws.{no_tables_before, no_trees_before, no_commands_fit}
 use Rattle.vo_laws.proofs.ListLaws.{each_both}
 
 -- Signatures are short enough for a journal.
@@ -86,16 +86,13 @@ sealed_entry_fits secret earlier batch sixteen fits batch_fits few short = recor
   signature = short;
 }
 
--- Entries are those of an owner.
+-- A store takes the entries.
 
-pub sealed_entry_is_honest : (secret : Secret) (earlier : List (List Command)) (batch : List Command)
+pub sealed_entry_is_loadable : (secret : Secret) (earlier : List (List Command)) (batch : List Command)
     → IsOk (apply_batch batch (tables_after earlier)) → IsSigned (public_of_secret secret) (sealed_entry secret earlier batch).rec (sealed_entry secret earlier batch).signature
-    → IsHonestEntry (public_of_secret secret) earlier (sealed_entry secret earlier batch)
+    → IsLoadableEntry (public_of_secret secret) earlier (sealed_entry secret earlier batch)
 unfolding sealed_entry
-sealed_entry_is_honest secret earlier batch accepted signed = record {
-  taken = record { accepted = accepted; record_is = refl; signed = signed };
-  proofs_are = refl;
-}
+sealed_entry_is_loadable secret earlier batch accepted signed = record { accepted = accepted; record_is = refl; signed = signed }
 
 abbrev pub Signed : Secret → Entry → Type 0
 Signed secret e = IsSigned (public_of_secret secret) e.rec e.signature
@@ -104,13 +101,13 @@ commands_are : (secret : Secret) (earlier : List (List Command)) (batch : List C
 unfolding sealed_entry
 commands_are secret earlier batch = refl
 
-owned_after : (secret : Secret) (earlier batches : List (List Command)) → AreAcceptedAfter earlier batches
-    → AllByRecursion (Signed secret) (sealed_after secret earlier batches) → AreOwnedAfter (public_of_secret secret) earlier (sealed_after secret earlier batches)
-owned_after secret earlier [] accepted signed = tt
-owned_after secret earlier (batch ∷ batches) accepted signed = (
-  sealed_entry_is_honest secret earlier batch accepted.0 signed.0,
-  subst (λ b. AreOwnedAfter (public_of_secret secret) (earlier ++ b ∷ []) (sealed_after secret (earlier ++ batch ∷ []) batches)) (sym (commands_are secret earlier batch))
-      (owned_after secret (earlier ++ batch ∷ []) batches accepted.1 signed.1),
+loadable_after : (secret : Secret) (earlier batches : List (List Command)) → AreAcceptedAfter earlier batches
+    → AllByRecursion (Signed secret) (sealed_after secret earlier batches) → AreLoadableAfter (public_of_secret secret) earlier (sealed_after secret earlier batches)
+loadable_after secret earlier [] accepted signed = tt
+loadable_after secret earlier (batch ∷ batches) accepted signed = (
+  sealed_entry_is_loadable secret earlier batch accepted.0 signed.0,
+  subst (λ b. AreLoadableAfter (public_of_secret secret) (earlier ++ b ∷ []) (sealed_after secret (earlier ++ batch ∷ []) batches)) (sym (commands_are secret earlier batch))
+      (loadable_after secret (earlier ++ batch ∷ []) batches accepted.1 signed.1),
 )
 
 -- batches that are accepted are so behind a batch of no commands too
@@ -121,11 +118,15 @@ accepted_behind earlier (batch ∷ batches) accepted = (
   accepted_behind (earlier ++ batch ∷ []) batches accepted.1,
 )
 
-pub sealed_are_owned : (secret : Secret) (batches : List (List Command)) → AreAcceptedAfter [] batches
-    → AllByRecursion (λ (e : Entry). IsSigned (public_of_secret secret) e.rec e.signature) (sealed secret batches) → AreOwned (public_of_secret secret) (sealed secret batches)
-unfolding sealed AreOwned
-sealed_are_owned secret batches accepted signed =
-    (commands_are secret [] [], owned_after secret [] ([] ∷ batches) (refl, accepted_behind [] batches accepted) signed)
+first_record : (secret : Secret) → (sealed_entry secret [] []).rec ≡ honest_record (public_of_secret secret) 0 (honest_trees [])
+unfolding sealed_entry
+first_record secret = ap (honest_record (public_of_secret secret) 0) (no_trees_before [])
+
+pub sealed_are_loadable : (secret : Secret) (batches : List (List Command)) → AreAcceptedAfter [] batches
+    → AllByRecursion (λ (e : Entry). IsSigned (public_of_secret secret) e.rec e.signature) (sealed secret batches) → AreLoadable (public_of_secret secret) (sealed secret batches)
+unfolding sealed AreLoadable
+sealed_are_loadable secret batches accepted signed =
+    (first_record secret, signed.0, loadable_after secret ([] ∷ []) batches (accepted_behind [] batches accepted) signed.1)
 
 entry_signed : (secret : Secret) (earlier : List (List Command)) (batch : List Command) → SignsValidly secret → length earlier < leaves_of secret.lms → Signed secret (sealed_entry secret earlier batch)
 unfolding sealed_entry honest_record

@@ -8,7 +8,7 @@ ghost use Rattle.vo_spec.specs.declared.tables.Command.{Command};
 ghost use Rattle.vo_spec.specs.declared.tables.CommandFault.{CommandFault};
 ghost use Rattle.vo_spec.specs.Batches.{FitsBatch};
 ghost use Rattle.vo_spec.specs.Fits.{FitsTree};
-ghost use Rattle.vo_spec.specs.Owners.{IsSigned, IsLoadableEntry, IsHonestEntry, AreOwned, AreLoadable};
+ghost use Rattle.vo_spec.specs.Owners.{IsSigned, IsLoadableEntry, AreLoadable};
 ghost use Rattle.vo_spec.specs.Tables.{apply_batch, after_batch, tables_after};
 ghost use Rattle.vo_spec.specs.LmsSets.{leaves_of};
 ghost use Rattle.vo_spec.specs.Lms.{key_signature_len};
@@ -59,9 +59,9 @@ pub fn honest_proofs_fit()
         → FitsBatch batch → FitsProofs (honest_proofs batch (honest_trees earlier)) }
 {}
 
-/// What an owner seals fits its bytes, as long as the signature is no longer than a key's are; and it is a
-/// journal of that owner, where its batches are accepted one after the other and its records are signed.
-pub fn sealed_journals_are_owned()
+/// What an owner seals fits its bytes, as long as the signature is no longer than a key's are; and a store takes
+/// it, where its batches are accepted one after the other and its records are signed.
+pub fn sealed_entries_are_loadable()
     ensures signatures_short { (key : List ℕ) → key_signature_len key ≤ max_signature }
     ensures entry_fits { (secret : Secret) (earlier : List (List Command)) (batch : List Command)
         → length secret.id ≡ 16
@@ -74,16 +74,16 @@ pub fn sealed_journals_are_owned()
         → length batches < 2 ^ 64 → AllByRecursion
         (λ (e : Entry). length e.signature ≤ max_signature) (sealed secret batches)
         → AllByRecursion FitsEntry (sealed secret batches) }
-    ensures entry_is_honest { (secret : Secret) (earlier : List (List Command))
+    ensures entry_is_loadable { (secret : Secret) (earlier : List (List Command))
         (batch : List Command)
         → IsOk (apply_batch batch (tables_after earlier))
         → IsSigned (public_of_secret secret) (sealed_entry secret earlier batch).rec
         (sealed_entry secret earlier batch).signature
-        → IsHonestEntry (public_of_secret secret) earlier (sealed_entry secret earlier batch) }
-    ensures owned { (secret : Secret) (batches : List (List Command)) → AreAcceptedAfter [] batches
+        → IsLoadableEntry (public_of_secret secret) earlier (sealed_entry secret earlier batch) }
+    ensures loadable { (secret : Secret) (batches : List (List Command)) → AreAcceptedAfter [] batches
         → AllByRecursion (λ (e : Entry). IsSigned (public_of_secret secret) e.rec e.signature)
         (sealed secret batches)
-        → AreOwned (public_of_secret secret) (sealed secret batches) }
+        → AreLoadable (public_of_secret secret) (sealed secret batches) }
     ensures signed { (secret : Secret) (batches : List (List Command)) → SignsValidly secret
         → length batches < leaves_of secret.lms
         → AllByRecursion (λ (e : Entry). IsSigned (public_of_secret secret) e.rec e.signature)
@@ -95,18 +95,8 @@ pub fn sealed_journals_are_owned()
         → batches_of (sealed secret batches) ≡ [] ∷ batches }
 {}
 
-/// Journals grow entry by entry, an owner's and those that a store takes; what stands before an entry is such
-/// a journal too; and a store takes what an owner has written.
+/// Journals that a store takes grow entry by entry, and what stands before an entry is such a journal too.
 pub fn journals_grow_by_entries()
-    ensures owned_first { (key : List ℕ) (e : Entry) → AreOwned key (e ∷ [])
-        ↔ ((e.batch.commands ≡ []) × IsHonestEntry key [] e) }
-    ensures owned_grows { (key : List ℕ) (es : List Entry) (e : Entry) → 0 < length es
-        → AreOwned key (es ++ e ∷ []) ↔ (AreOwned key es × IsHonestEntry key (batches_of es) e) }
-    ensures owned_front { (key : List ℕ) (n : ℕ) (es : List Entry) → AreOwned key es
-        → AreOwned key (take n es) }
-    ensures owned_entry { (key : List ℕ) (es : List Entry) (version : ℕ) (e : Entry)
-        → AreOwned key es → slice_get es version ≡ Some e
-        → IsHonestEntry key (batches_of (take version es)) e }
     ensures taken_first { (key : List ℕ) (e : Entry)
         → AreLoadable key (e ∷ []) ↔ ((e.rec ≡ honest_record key 0 (honest_trees []))
         × IsSigned key e.rec e.signature) }
@@ -115,8 +105,6 @@ pub fn journals_grow_by_entries()
         ↔ (AreLoadable key es × IsLoadableEntry key ([] ∷ batches_of (drop 1 es)) e) }
     ensures taken_front { (key : List ℕ) (n : ℕ) (es : List Entry) → AreLoadable key es
         → AreLoadable key (take n es) }
-    ensures owned_are_loadable { (key : List ℕ) (es : List Entry) → AreOwned key es
-        → AreLoadable key es }
 {}
 
 /// Each entry that a store takes holds the record of the honest trees after the batches of its version, signed;

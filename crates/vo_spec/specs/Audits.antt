@@ -12,7 +12,7 @@ use Rattle.vo_spec.specs.Results.{result}
 use Rattle.vo_spec.specs.Journals.{Holds, tables_at, last_version}
 use Rattle.vo_spec.specs.Replies.{Reply, IsReply}
 use Rattle.vo_spec.specs.Checks.{CheckOf}
-use Rattle.vo_spec.specs.Owners.{IsOwned, IsBadAt}
+use Rattle.vo_spec.specs.Owners.{IsJournalOf, FailsAt}
 
 -- The journal does not hold the record; or it does, and the outcome is the query's result on the tables of
 -- that version; or neither, and here are two different byte strings with one digest.
@@ -27,12 +27,14 @@ IsVerdict es q r answer (Collide found) =
     × Collides found.0 found.1
 
 -- What an audit says of these bytes as the reply to this query, by these bytes as the journal of this key's
--- owner. Want of memory is no answer of this.
-unfoldable pub AuditOf : List ℕ → List ℕ → Query → List ℕ → Result Verdict AuditFault → Type 0
-AuditOf key journal q bytes (Err (BadJournal index)) = IsBadAt key journal index
-AuditOf key journal q bytes (Err (Refused fault)) = (es : List Entry) × IsOwned key journal es
-    × CheckOf key 0 q bytes (Err fault)
-AuditOf key journal q bytes (Err Memory) = ⊥
-AuditOf key journal q bytes (Ok verdict) = (es : List Entry) × IsOwned key journal es
+-- owner, entries of whom are of this sort. Want of memory is no answer of this.
+unfoldable pub AuditOf : (List Entry → Type 0) → List ℕ → List ℕ → Query → List ℕ
+    → Result Verdict AuditFault → Type 0
+AuditOf AreOwned key journal q bytes (Err (BadJournal index)) = FailsAt AreOwned journal index
+AuditOf AreOwned key journal q bytes (Err (Refused fault)) =
+    (es : List Entry) × IsJournalOf AreOwned journal es × CheckOf key 0 q bytes (Err fault)
+AuditOf AreOwned key journal q bytes (Err Memory) = ⊥
+AuditOf AreOwned key journal q bytes (Ok verdict) =
+    (es : List Entry) × IsJournalOf AreOwned journal es
     × (r : Reply) × IsReply bytes r × (answer : Answer) × CheckOf key 0 q bytes (Ok answer)
     × IsVerdict es q r answer verdict

@@ -1,5 +1,5 @@
--- Which journals an owner has written, and which a store takes: each entry signed by the leaf of its version,
--- and its record that of the honest trees.
+-- Which journals a store takes: each entry signed by the leaf of its version, and its record that of the honest
+-- trees. And where bytes fail to be the journal of a sort of entries, this one or another.
 use Rattle.std.specs.Prelude.{◌≡◌, ℕ, ◌<◌, List, [], ◌∷◌, ◌++◌, length, Some, IsOk, IsTrue}
 use Rattle.vo_spec.specs.declared.tables.Command.{Command}
 use Rattle.vo_spec.specs.declared.records.Record.{Record}
@@ -8,8 +8,7 @@ use Rattle.vo_spec.specs.Tables.{apply_batch, tables_after}
 use Rattle.vo_spec.specs.Lms.{leaf_of, lms_valid}
 use Rattle.vo_spec.specs.Records.{record_bytes}
 use Rattle.vo_spec.specs.Journals.{Begins, IsJournal}
-use Rattle.vo_spec.specs.Replies.{proofs_bytes}
-use Rattle.vo_spec.specs.Honest.{honest_trees, honest_proofs, honest_record}
+use Rattle.vo_spec.specs.Honest.{honest_trees, honest_record}
 
 -- the record is signed under the key by the leaf of its version
 pub record IsSigned (key : List ℕ) (rec : Record) (signature : List ℕ) : Type 0 where
@@ -22,21 +21,6 @@ pub record IsLoadableEntry (key : List ℕ) (earlier : List (List Command)) (e :
   pub record_is : e.rec ≡ honest_record key (length earlier)
       (honest_trees (earlier ++ e.batch.commands ∷ []))
   pub signed : IsSigned key e.rec e.signature
-
--- and with the proofs of its batch
-pub record IsHonestEntry (key : List ℕ) (earlier : List (List Command)) (e : Entry) : Type 0 where
-  pub taken : IsLoadableEntry key earlier e
-  pub proofs_are : e.proofs ≡ proofs_bytes (honest_proofs e.batch.commands (honest_trees earlier))
-
-abbrev pub AreOwnedAfter : List ℕ → List (List Command) → List Entry → Type 0
-AreOwnedAfter key earlier [] = Unit {0}
-AreOwnedAfter key earlier (e ∷ es) = IsHonestEntry key earlier e
-    × AreOwnedAfter key (earlier ++ e.batch.commands ∷ []) es
-
--- Entries from version 0 on that an owner of this key has written. Version 0 has no commands.
-unfoldable pub AreOwned : List ℕ → List Entry → Type 0
-AreOwned key [] = Unit {0}
-AreOwned key (e ∷ es) = (e.batch.commands ≡ []) × AreOwnedAfter key [] (e ∷ es)
 
 abbrev pub AreLoadableAfter : List ℕ → List (List Command) → List Entry → Type 0
 AreLoadableAfter key earlier [] = Unit {0}
@@ -60,13 +44,6 @@ abbrev pub FailsAt : (List Entry → Type 0) → List ℕ → ℕ → Type 0
 FailsAt Are bytes index = (es : List Entry) × Begins bytes es × Are es × (length es ≡ index)
     × (IsJournalOf Are bytes es → ⊥)
     × ((e : Entry) → Begins bytes (es ++ e ∷ []) → Are (es ++ e ∷ []) → ⊥)
-
--- the journal of an owner of this key, and where bytes fail to be one
-unfoldable pub IsOwned : List ℕ → List ℕ → List Entry → Type 0
-IsOwned key = IsJournalOf (AreOwned key)
-
-unfoldable pub IsBadAt : List ℕ → List ℕ → ℕ → Type 0
-IsBadAt key = FailsAt (AreOwned key)
 
 -- a journal that a store of this key takes, and where bytes fail to be one
 unfoldable pub IsLoadable : List ℕ → List ℕ → List Entry → Type 0
