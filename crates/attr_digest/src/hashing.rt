@@ -85,9 +85,20 @@ fn cells_digest(cells: &[Cell<'_>]) -> Digest
     let mut hasher = Hasher::new();
     hasher.add(&[2, cells.len() as u8]);
     for (column, cell) in cells.iter().enumerate() {
-        hasher.add(cell_digest(column as u8, cell).as_bytes());
+        add_digest(&mut hasher, column as u8, cell);
     }
     hasher.end()
+}
+
+/// Adds the cell's digest to what is hashed. That of a hidden one is not copied for it.
+fn add_digest(hasher: &mut Hasher, column: u8, cell: &Cell<'_>)
+    requires { FitsCell cell.now }
+    ensures { Adds hasher.old hasher.new (cell_digest_of column cell.now) }
+{
+    match cell {
+        Cell::Shown(value) => hasher.add(attr_digest(column, value.as_ref()).as_bytes()),
+        Cell::Hidden(digest) => hasher.add(digest.as_bytes()),
+    }
 }
 
 /// The digest of the cell in this column, numbered as for `attr_digest`.

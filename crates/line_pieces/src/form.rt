@@ -3,7 +3,7 @@
 //! As `(insert 0x74 [(int 3)])`: byte strings in hexadecimal, lists in brackets. A field that is
 //! renamed leaves an answer as it is.
 use std::alloc::{AllocError, Global};
-use vo_spec::List;
+use vo_spec::{List, SharedList};
 
 /// What has a written form.
 pub trait WriteForm {
@@ -75,6 +75,12 @@ impl<T: WriteForm> WriteForm for Vec<T> {
 }
 
 impl<T: WriteForm> WriteForm for List<T> {
+    fn write_form(&self, alloc: Global, out: &mut String) -> Result<(), AllocError> {
+        write_items(alloc, out, self.as_slice())
+    }
+}
+
+impl<T: WriteForm + Drop> WriteForm for SharedList<T> {
     fn write_form(&self, alloc: Global, out: &mut String) -> Result<(), AllocError> {
         write_items(alloc, out, self.as_slice())
     }

@@ -1,25 +1,48 @@
 //! Left rows with the right rows that a tree shows for them.
 ghost use Rattle.std.specs.Prelude.{◌≡◌, ◌++◌, [], ◌∷◌, map, OnOk};
 ghost use Rattle.vo_spec.specs.Results.{schema_at};
+ghost use Rattle.vo_spec.specs.Needs.{seen_row_view};
 ghost use Rattle.mb_tree.specs.View.{part_of};
 ghost use Rattle.query_binding.specs.Sided.{bound_sources_seen};
 ghost use Rattle.query_plan.specs.BoundViews.{join_seen};
+ghost use Rattle.query_plan.specs.Answers.{pair_answers};
 ghost use Rattle.query_plan.specs.PlanViews.{plan_seen};
 ghost use Rattle.plan_run.specs.RowViews.{row_view_seen};
 ghost use Rattle.plan_run.specs.Running.{ShowsPairs, AddsPairs};
 
-use crate::row_views::{SeenRowView, row_views_of};
+use crate::row_views::SeenRowView;
 use crate::shown::Shown;
 use mb_tree::PartTree;
-use query_plan::{BoundJoin, Plan, push_pairs, right_need};
+use query_plan::{BoundJoin, Plan, push_pair, right_need};
 use range_proof::scan;
 use std::alloc::{AllocError, Global};
-use vo_spec::{Need, ScanFault, Schema};
+use vo_spec::{List, Need, ScanFault, Schema, SeenRow, Value};
 
 fn push_need(needs: &mut Vec<Need>, need: Need) -> Result<(), AllocError>
     ensures { OnOk result (needs.new.items ≡ needs.old.items ++ need ∷ []) }
 {
     needs.push(need)?;
+    Ok(())
+}
+
+/// Puts what the query shows of the left row beside each row that was seen for it at the end of the answer.
+fn push_rights(
+    alloc: Global,
+    plan: &Plan<'_, '_>,
+    schema: &Schema,
+    left: &SeenRowView<'_>,
+    seen: &[SeenRow],
+    rows: &mut Vec<List<Value>>,
+) -> Result<(), AllocError>
+    ensures { OnOk result (rows.new.items ≡ rows.old.items
+        ++ pair_answers (plan_seen plan.now).query (plan_seen plan.now).late
+        (map (seen_row_view schema.now plan.now.right_cells) seen.now) (row_view_seen left.now)) }
+{
+    let cells = plan.right_cells.as_slice();
+    for row in seen {
+        let right = SeenRowView { schema, cells, row };
+        push_pair(alloc, plan.query, &plan.late, left, &right, rows)?;
+    }
     Ok(())
 }
 
@@ -40,13 +63,12 @@ fn push_left(
     let need = right_need(alloc, plan, join, left)?;
     match scan(alloc, tree, &need) {
         Ok(seen) => {
-            let rights = row_views_of(alloc, schema, plan.right_cells.as_slice(), seen.as_slice())?;
-            push_pairs(
+            push_rights(
                 alloc,
-                plan.query,
-                &plan.late,
+                plan,
+                schema,
                 left,
-                &rights,
+                seen.as_slice(),
                 &mut shown.rows,
             )?;
             push_need(&mut shown.needs, need)?;

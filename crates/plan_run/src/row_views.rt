@@ -1,13 +1,11 @@
 //! Rows that a scan gave, as the value of each column.
-ghost use Rattle.std.specs.Prelude.{◌≡◌, ◌==◌, ℕ, map, IfOk};
+ghost use Rattle.std.specs.Prelude.{◌≡◌, ◌==◌, ℕ};
 ghost use Rattle.std.specs.List.{position_or_len};
 ghost use Rattle.vo_spec.specs.declared.values.Value.{Value as Plain};
 ghost use Rattle.vo_spec.specs.Lent.{value_of};
 ghost use Rattle.vo_spec.specs.Needs.{seen_row_view};
-ghost use Rattle.plan_run.specs.RowViews.{row_view_seen};
 
 use query_plan::{RowView, value_at, value_of_key};
-use std::alloc::{AllocError, Global};
 use table_list::{cell_number, kind_at};
 use vo_spec::{Schema, SeenRow, ValueRef};
 
@@ -46,21 +44,4 @@ fn place_of(cells: &[u8], cell: usize) -> usize
         place += 1;
     }
     place
-}
-
-/// The rows that were seen for a need, as lines.
-pub(crate) fn row_views_of<'r>(
-    alloc: Global,
-    schema: &'r Schema,
-    cells: &'r [u8],
-    seen: &'r [SeenRow],
-) -> Result<Vec<SeenRowView<'r>>, AllocError>
-    ensures { IfOk result (λ row_views. map row_view_seen row_views.items
-        ≡ map (seen_row_view schema.now cells.now) seen.now) }
-{
-    let mut row_views = Vec::with_capacity(alloc, seen.len())?;
-    for row in seen {
-        row_views.push(SeenRowView { schema, cells, row })?;
-    }
-    Ok(row_views)
 }

@@ -74,7 +74,8 @@ pub fn push_alone<L: RowView>(
     push_answer(alloc, query, late, &LeftRow { left }, out)
 }
 
-fn push_pair<'r, L: RowView, R: RowView>(
+/// Puts what the query shows of a left row beside a right row at the end of the answer.
+pub fn push_pair<'r, L: RowView, R: RowView>(
     alloc: Global,
     query: &Query<'_>,
     late: &[Conjunct<'_, '_>],

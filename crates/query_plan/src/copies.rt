@@ -2,7 +2,7 @@
 ghost use Rattle.std.specs.Prelude.{◌≡◌, IfOk};
 
 use std::alloc::{AllocError, Global};
-use vo_spec::{Bound, Interval, List, Need};
+use vo_spec::{Bound, Interval, Need};
 
 fn copy_bound(alloc: Global, bound: &Bound) -> Result<Bound, AllocError>
     ensures { IfOk result (λ copy. copy ≡ bound.now) }
@@ -22,17 +22,11 @@ fn copy_interval(alloc: Global, interval: &Interval) -> Result<Interval, AllocEr
     Ok(Interval { low, high })
 }
 
-pub(crate) fn copy_cells(alloc: Global, cells: &[u8]) -> Result<List<u8>, AllocError>
-    ensures { IfOk result (λ copy. copy ≡ cells.now) }
-{
-    Ok(List::from_vec(Vec::from_slice(alloc, cells)?))
-}
-
 /// The same need once more.
 pub fn copy_need(alloc: Global, need: &Need) -> Result<Need, AllocError>
     ensures { IfOk result (λ copy. copy ≡ need.now) }
 {
     let interval = copy_interval(alloc, &need.interval)?;
-    let columns = copy_cells(alloc, need.columns.as_slice())?;
+    let columns = need.columns.share()?;
     Ok(Need { interval, columns })
 }

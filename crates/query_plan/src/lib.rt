@@ -21,7 +21,7 @@ mod truths;
 mod used;
 mod value_order;
 
-pub use answers::{push_alone, push_pairs};
+pub use answers::{push_alone, push_pair, push_pairs};
 pub use binding::bind;
 pub use bound_cond::{BoundCond, BoundOperand, Conjunct};
 pub use bound_query::{BoundJoin, Query};

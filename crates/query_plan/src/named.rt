@@ -15,7 +15,7 @@ use crate::bound_query::{BoundJoin, Query};
 use query_binding::ColumnPlace;
 use std::alloc::{AllocError, Global};
 use table_list::cell_number;
-use vo_spec::{Items, List, Schema};
+use vo_spec::{Items, Schema};
 
 fn is_at(at: ColumnPlace, place: ColumnPlace) -> bool
     ensures { result ≡ is_at (place_seen at) (place_seen place) }
@@ -110,14 +110,14 @@ pub(crate) fn named_cells(
     alloc: Global,
     query: &Query<'_>,
     bound_source: usize,
-) -> Result<List<u8>, AllocError>
+) -> Result<Vec<u8>, AllocError>
     requires { length (schema_at (bound_sources_seen query.now.bound_sources) bound_source).columns
         ≤ max_columns }
-    ensures { IfOk result (λ cells. cells ≡ bound_cells (query_seen query.now) bound_source) }
+    ensures { IfOk result (λ cells. cells.items ≡ bound_cells (query_seen query.now) bound_source) }
 {
     match query.bound_sources.schema_at(bound_source) {
         Some(schema) => cells_of(alloc, query, bound_source, schema),
-        None => Ok(List::new(alloc)),
+        None => Ok(Vec::new(alloc)),
     }
 }
 
@@ -126,9 +126,9 @@ fn cells_of(
     query: &Query<'_>,
     bound_source: usize,
     schema: &Schema,
-) -> Result<List<u8>, AllocError>
+) -> Result<Vec<u8>, AllocError>
     requires { length schema.now.columns ≤ max_columns }
-    ensures { IfOk result (λ cells. cells
+    ensures { IfOk result (λ cells. cells.items
         ≡ cells_of (query_seen query.now) bound_source schema.now) }
 {
     let key = schema.key as usize;
@@ -145,5 +145,5 @@ fn cells_of(
             cells.push(cell_number(key, column) as u8)?;
         }
     }
-    Ok(List::from_vec(cells))
+    Ok(cells)
 }

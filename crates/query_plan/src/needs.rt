@@ -9,7 +9,6 @@ ghost use Rattle.query_plan.specs.Plans.{left_column, right_need_of, meets_left}
 ghost use Rattle.query_plan.specs.PlanViews.{plan_seen};
 
 use crate::bound_query::BoundJoin;
-use crate::copies::copy_cells;
 use crate::intervals::keys_that;
 use crate::plans::Plan;
 use crate::row_views::RowView;
@@ -71,6 +70,6 @@ pub fn right_need<L: RowView>(
 {
     let value = join_value(alloc, join, left)?;
     let interval = keys_that(alloc, Cmp::Eq, &value)?;
-    let columns = copy_cells(alloc, plan.right_cells.as_slice())?;
+    let columns = plan.right_cells.share()?;
     Ok(Need { interval, columns })
 }

@@ -18,7 +18,7 @@ use crate::left_interval::interval_of;
 use crate::named::named_cells;
 use crate::plans::Plan;
 use std::alloc::{AllocError, Global};
-use vo_spec::{Interval, Need};
+use vo_spec::{Interval, Need, SharedList};
 
 fn left_interval(
     alloc: Global,
@@ -42,7 +42,7 @@ fn left_need(alloc: Global, query: &Query<'_>) -> Result<Need, AllocError>
 {
     let key = query.bound_sources.left.schema.key as usize;
     let interval = left_interval(alloc, key, &query.condition)?;
-    let columns = named_cells(alloc, query, 0)?;
+    let columns = SharedList::new(alloc, named_cells(alloc, query, 0)?)?;
     Ok(Need { interval, columns })
 }
 
@@ -55,7 +55,7 @@ pub fn plan<'p, 'q>(alloc: Global, query: &'p Query<'q>) -> Result<Plan<'p, 'q>,
     ensures { IfOk result (λ plan. plan_seen plan ≡ plan_of (query_seen query.now)) }
 {
     let left_need = left_need(alloc, query)?;
-    let right_cells = named_cells(alloc, query, 1)?;
+    let right_cells = SharedList::new(alloc, named_cells(alloc, query, 1)?)?;
     let left = conjuncts_of(alloc, &query.condition, true)?;
     let late = conjuncts_of(alloc, &query.condition, false)?;
     Ok(Plan {

@@ -1,7 +1,7 @@
 //! Plans of queries.
 use crate::bound_cond::Conjunct;
 use crate::bound_query::Query;
-use vo_spec::{List, Need};
+use vo_spec::{Need, SharedList};
 
 /// A query with what it needs of the left tree, and which cells of the right one.
 #[derive(Drop)]
@@ -9,7 +9,7 @@ pub struct Plan<'p, 'q> {
     pub query: &'p Query<'q>,
     pub left_need: Need,
     /// The cells that each need of the right tree names.
-    pub right_cells: List<u8>,
+    pub right_cells: SharedList<u8>,
     /// The left condition: the conjuncts on left columns alone.
     pub left: Vec<Conjunct<'p, 'q>>,
     /// The late condition: the other conjuncts.

@@ -4,7 +4,7 @@
 //! one, its key behind the length; and the columns behind their number.
 use row_bytes::{Cursor, ReadFault};
 use std::alloc::Global;
-use vo_spec::{Bound, Interval, Key, List, Need};
+use vo_spec::{Bound, Interval, Key, Need, SharedList};
 
 /// The need that all the bytes are.
 pub fn read_need(alloc: Global, bytes: &[u8]) -> Result<Need, ReadFault> {
@@ -42,10 +42,10 @@ fn take_interval(alloc: Global, cursor: &mut Cursor<'_>) -> Result<Interval, Rea
     Ok(Interval { low, high })
 }
 
-fn take_columns(alloc: Global, cursor: &mut Cursor<'_>) -> Result<List<u8>, ReadFault> {
+fn take_columns(alloc: Global, cursor: &mut Cursor<'_>) -> Result<SharedList<u8>, ReadFault> {
     let count = cursor.take_byte().ok_or(ReadFault::BadForm)?;
     let columns = cursor.take_bytes(count as usize).ok_or(ReadFault::BadForm)?;
-    Ok(List::from_vec(Vec::from_slice(alloc, columns)?))
+    Ok(SharedList::new(alloc, Vec::from_slice(alloc, columns)?)?)
 }
 
 fn take_bound(alloc: Global, cursor: &mut Cursor<'_>) -> Result<Bound, ReadFault> {

@@ -26,6 +26,8 @@ pub fn take_count(cursor: &mut Cursor<'_>, least: u8, most: u8) -> Option<u8>
 }
 
 /// The digest that comes next.
+// Inlined, as the calls below that hand a digest, a cell or an entry on: it is then written where it stays.
+#[inline(always)]
 pub fn take_digest(cursor: &mut Cursor<'_>) -> Option<Digest>
     ensures { Found (λ digest. digest) result cursor.old cursor.new (bytes_at 32 cursor.old) }
 {
@@ -47,6 +49,7 @@ pub fn take_key<'b>(cursor: &mut Cursor<'b>) -> Option<KeyPart<'b>>
     Some(KeyPart::lent(key))
 }
 
+#[inline(always)]
 #[tactic(auto, unfolding(batch_format::specs::BatchReading::any_value_at))]
 fn take_shown<'b>(cursor: &mut Cursor<'b>) -> Option<Cell<'b>>
     ensures { Found (λ cell. cell) result cursor.old cursor.new
@@ -58,6 +61,7 @@ fn take_shown<'b>(cursor: &mut Cursor<'b>) -> Option<Cell<'b>>
     }
 }
 
+#[inline(always)]
 #[tactic(auto, unfolding(crate::specs::Reading::cell_at, row_bytes::specs::Reading::byte_at))]
 fn take_cell<'b>(cursor: &mut Cursor<'b>) -> Option<Cell<'b>>
     ensures { Found (λ cell. cell) result cursor.old cursor.new (cell_at cursor.old) }
@@ -107,6 +111,7 @@ fn take_cells<'b>(alloc: Global, cursor: &mut Cursor<'b>) -> Result<RowPart<'b>,
     }
 }
 
+#[inline(always)]
 fn take_closed<'b>(cursor: &mut Cursor<'b>) -> Result<RowPart<'b>, ReadFault>
     ensures { FoundOr (λ row. row) result cursor.old cursor.new
         (one Closed (bytes_at 32) cursor.old) }
@@ -117,6 +122,7 @@ fn take_closed<'b>(cursor: &mut Cursor<'b>) -> Result<RowPart<'b>, ReadFault>
     }
 }
 
+#[inline(always)]
 #[tactic(auto, unfolding(crate::specs::Reading::row_at, row_bytes::specs::Reading::byte_at))]
 fn take_row<'b>(alloc: Global, cursor: &mut Cursor<'b>) -> Result<RowPart<'b>, ReadFault>
     ensures { FoundOr (λ row. row) result cursor.old cursor.new (row_at cursor.old) }
@@ -137,6 +143,7 @@ fn take_row<'b>(alloc: Global, cursor: &mut Cursor<'b>) -> Result<RowPart<'b>, R
 }
 
 /// The entry that comes next.
+#[inline(always)]
 #[tactic(auto, unfolding(crate::specs::Reading::entry_at))]
 pub fn take_entry<'b>(alloc: Global, cursor: &mut Cursor<'b>) -> Result<PartEntry<'b>, ReadFault>
     ensures { FoundOr (λ entry. entry) result cursor.old cursor.new (entry_at cursor.old) }

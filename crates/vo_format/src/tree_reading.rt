@@ -87,6 +87,7 @@ fn take_node<'b>(
     }
 }
 
+#[inline(always)]
 fn take_stub<'b>(cursor: &mut Cursor<'b>) -> Result<PartTree<'b>, ReadFault>
     ensures { FoundOr part_of result cursor.old cursor.new (one stub (bytes_at 32) cursor.old) }
 {

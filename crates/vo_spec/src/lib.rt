@@ -31,7 +31,7 @@ pub use limits::{
     MAX_CELLS, MAX_COLUMNS, MAX_COMMANDS, MAX_FILL, MAX_KEY, MAX_LEVELS, MAX_NAME, MAX_PROOFS,
     MAX_REPLY, MAX_ROWS, MAX_SIGNATURE, MAX_TABLES, MAX_TEXT, MIN_FILL,
 };
-pub use lists::List;
+pub use lists::{List, SharedList};
 pub use needs::{Need, SeenRow};
 pub use numbers::{u16_bytes, u32_bytes, u64_bytes};
 pub use queries::{Cmp, Cond, Items, Join, Operand, Outcome, QueryFault, QueryText, Ref, Source};

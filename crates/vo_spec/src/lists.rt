@@ -1,9 +1,10 @@
-//! A list that contracts see as the list of its items, however it is kept in memory.
-ghost use Rattle.std.specs.Prelude.{◌≡◌, ◌<◌, ◌↔◌, [], ◌∷◌, ◌++◌, length, IsTrue, OnSome, OnOk, OnErr, slice_get};
+//! Lists that contracts see as the lists of their items, however they are kept in memory.
+ghost use Rattle.std.specs.Prelude.{◌≡◌, ◌<◌, ◌↔◌, [], ◌∷◌, ◌++◌, length, IsTrue, IfOk, OnSome, OnOk, OnErr, slice_get};
 ghost use Rattle.std.specs.Option.{option_copied};
 
 use std::alloc::{AllocError, Global};
 use std::marker::Model;
+use std::rc::Rc;
 
 /// A list of any length. Making one of a `Vec`, and giving the `Vec` back, takes no memory.
 #[derive(Debug, Drop)]
@@ -79,5 +80,47 @@ impl<T: Drop> List<T> {
     {
         self.items.push(item)?;
         Ok(())
+    }
+}
+
+/// A list that several hold, each as its own.
+#[derive(Debug, Drop)]
+pub struct SharedList<T> {
+    items: Rc<Vec<T>>,
+}
+
+impl<T> Model for SharedList<T> {
+    ghost use Rattle.std.specs.Prelude.{List};
+    ghost use Rattle.std.specs.Coded.{coded_list};
+
+    ghost Value = { List T };
+
+    ghost coded = { coded_list T.code };
+
+    ghost view = { λ list. list.items.value.items };
+}
+
+impl<T: Drop> SharedList<T> {
+    pub fn new(alloc: Global, items: Vec<T>) -> Result<SharedList<T>, AllocError>
+        ensures { IfOk result (λ list. list ≡ items.items) }
+    {
+        Ok(SharedList {
+            items: Rc::new(alloc, items)?,
+        })
+    }
+
+    pub fn as_slice(&self) -> &[T]
+        ensures { result.now ≡ self.now }
+    {
+        self.items.as_ref().as_slice()
+    }
+
+    /// The same list for another holder, which takes no memory.
+    pub fn share(&self) -> Result<SharedList<T>, AllocError>
+        ensures { IfOk result (λ list. list ≡ self.now) }
+    {
+        Ok(SharedList {
+            items: self.items.clone()?,
+        })
     }
 }

@@ -1,6 +1,6 @@
 //! What a query needs of a tree, and what a scan of the tree gives for it.
 use crate::keys::{Interval, Key};
-use crate::lists::List;
+use crate::lists::{List, SharedList};
 use crate::values::Value;
 
 /// The rows of an interval of keys, with the columns that are named. Columns have their numbers among
@@ -8,7 +8,7 @@ use crate::values::Value;
 #[derive(Debug, Drop)]
 pub struct Need {
     pub interval: Interval,
-    pub columns: List<u8>,
+    pub columns: SharedList<u8>,
 }
 
 /// A row that a scan gives: its key, and the values of the need's columns in the need's order.
