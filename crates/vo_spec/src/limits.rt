@@ -24,6 +24,9 @@ pub const MAX_ROWS: u64 = 4_294_967_295;
 /// Commands of a batch.
 pub const MAX_COMMANDS: usize = 1_000;
 
+/// Bytes of a batch.
+pub const MAX_BATCH_BYTES: usize = 1_048_576;
+
 /// Entries or children of a node.
 pub const MAX_FILL: usize = 16;
 
