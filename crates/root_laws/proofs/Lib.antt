@@ -1,0 +1,9 @@
+mod TablePlaces
+mod TableForms
+mod TableSteps
+mod ProvedChanges
+mod CommandSteps
+mod BatchSteps
+mod Standing
+mod TakenTrees
+mod Readings

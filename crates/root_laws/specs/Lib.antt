@@ -1,0 +1,2 @@
+pub mod HonestRoots
+pub mod Following
