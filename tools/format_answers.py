@@ -267,6 +267,8 @@ class Calls:
         try:
             owner = replay(self.made, read_entries(journal))
             step = owner.step(read_batch(batch), proofs)
+        except EntriesFault as fault:
+            return damage_form(fault)
         except EntryFault as fault:
             return forms.form("Entry", str(fault.index))
         except OwnerFault as fault:
@@ -277,11 +279,16 @@ class Calls:
     def replay(self, journal):
         try:
             return roots_text(replay(self.made, read_entries(journal)).roots)
+        except EntriesFault as fault:
+            return damage_form(fault)
         except EntryFault as fault:
             return forms.form("Entry", str(fault.index))
 
     def owned_entries(self, key, journal):
-        return str(owned(lms.PublicKey.read(key), read_entries(journal)))
+        try:
+            return str(owned(lms.PublicKey.read(key), read_entries(journal)))
+        except EntriesFault as fault:
+            return damage_form(fault)
 
     def answer(self, key, query, journal):
         try:

@@ -1,22 +1,22 @@
 //! Calls of an owner that holds roots alone.
 ghost use Rattle.std.specs.Prelude.{IfOk};
-ghost use Rattle.std.specs.List.{AllByRecursion};
 ghost use Rattle.vo_spec.specs.Batches.{FitsBatch};
-ghost use Rattle.vo_spec.specs.Journals.{FitsEntry};
 ghost use Rattle.vo_spec.specs.Records.{FitsCatalog};
 
 use crate::arguments::number_of;
+use crate::journals::damage_text;
 use crate::keys::read_key;
 use crate::records::catalog_text;
 use crate::state::State;
 use batch_format::read_batch;
 use line_pieces::{NoAnswer, form_of};
+use lms_sign::SecretKey;
 use owner_state::{
-    Entry, Owner, OwnerFault, ReplayFault, Roots, entry_bytes, owned, read_entries, replay,
+    Owner, OwnerFault, ReplayFault, Roots, entry_bytes, owned, read_entries, replay,
 };
 use std::alloc::Global;
 use version_record::read_catalog;
-use vo_spec::{Batch, Catalog, Digest, List};
+use vo_spec::{Batch, Catalog, Digest};
 
 /// The entry of version 0 by the key that was made last.
 pub fn start(alloc: Global, state: &State) -> Result<String, NoAnswer> {
@@ -100,12 +100,39 @@ pub fn step(alloc: Global, state: &State, strings: &[Vec<u8>]) -> Result<String,
     let [journal, batch, proofs] = strings else {
         return Err(NoAnswer::NoSuchLine);
     };
-    let entries = entries_in(alloc, journal)?;
-    let mut owner = match replay(alloc, state.secret()?, entries.as_slice()) {
-        Ok(owner) => owner,
-        Err(fault) => return replay_fault_text(alloc, fault),
+    let batch = batch_in(alloc, batch)?;
+    match owner_behind(alloc, state.secret()?, journal)? {
+        Ok(owner) => step_text(alloc, owner, &batch, proofs),
+        Err(text) => Ok(text),
+    }
+}
+
+/// The owner of the key behind a journal, or what is said of the journal.
+fn owner_behind(
+    alloc: Global,
+    key: &SecretKey,
+    journal: &[u8],
+) -> Result<Result<Owner, String>, NoAnswer> {
+    let entries = match read_entries(alloc, journal) {
+        Ok(entries) => entries,
+        Err(fault) => return Ok(Err(damage_text(alloc, fault)?)),
     };
-    match owner.step(alloc, &batch_in(alloc, batch)?, proofs) {
+    match replay(alloc, key, entries.as_slice()) {
+        Ok(owner) => Ok(Ok(owner)),
+        Err(ReplayFault::Entry { index }) => Ok(Err(format!(in alloc; "(Entry {index})")?)),
+        Err(ReplayFault::Memory) => Err(NoAnswer::Memory),
+    }
+}
+
+fn step_text(
+    alloc: Global,
+    mut owner: Owner,
+    batch: &Batch,
+    proofs: &[u8],
+) -> Result<String, NoAnswer>
+    requires { FitsBatch batch.now.commands }
+{
+    match owner.step(alloc, batch, proofs) {
         Ok(step) => {
             let entry = hex::encode(alloc, entry_bytes(alloc, &step.entry)?)?;
             owner.advance(step);
@@ -116,31 +143,14 @@ pub fn step(alloc: Global, state: &State, strings: &[Vec<u8>]) -> Result<String,
     }
 }
 
-fn entries_in(alloc: Global, journal: &[u8]) -> Result<List<Entry>, NoAnswer>
-    ensures { IfOk result (λ entries. AllByRecursion FitsEntry entries) }
-{
-    match read_entries(alloc, journal) {
-        Ok(entries) => Ok(entries),
-        Err(_) => Err(NoAnswer::NoSuchLine),
-    }
-}
-
-fn replay_fault_text(alloc: Global, fault: ReplayFault) -> Result<String, NoAnswer> {
-    match fault {
-        ReplayFault::Entry { index } => Ok(format!(in alloc; "(Entry {index})")?),
-        ReplayFault::Memory => Err(NoAnswer::Memory),
-    }
-}
-
 /// The roots of the owner of the key that was made last behind a journal.
 pub fn replayed(alloc: Global, state: &State, strings: &[Vec<u8>]) -> Result<String, NoAnswer> {
     let [journal] = strings else {
         return Err(NoAnswer::NoSuchLine);
     };
-    let entries = entries_in(alloc, journal)?;
-    match replay(alloc, state.secret()?, entries.as_slice()) {
+    match owner_behind(alloc, state.secret()?, journal)? {
         Ok(owner) => roots_text(alloc, owner.roots()),
-        Err(fault) => replay_fault_text(alloc, fault),
+        Err(text) => Ok(text),
     }
 }
 
@@ -149,7 +159,11 @@ pub fn owned_entries(alloc: Global, strings: &[Vec<u8>]) -> Result<String, NoAns
     let [key, journal] = strings else {
         return Err(NoAnswer::NoSuchLine);
     };
-    let entries = entries_in(alloc, journal)?;
-    let count = owned(alloc, &read_key(key)?, entries.as_slice())?;
-    Ok(format!(in alloc; "{count}")?)
+    match read_entries(alloc, journal) {
+        Ok(entries) => {
+            let count = owned(alloc, &read_key(key)?, entries.as_slice())?;
+            Ok(format!(in alloc; "{count}")?)
+        }
+        Err(fault) => damage_text(alloc, fault),
+    }
 }
