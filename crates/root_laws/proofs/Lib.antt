@@ -2,8 +2,8 @@ mod TablePlaces
 mod TableForms
 mod TableSteps
 mod ProvedChanges
-mod CommandSteps
-mod BatchSteps
-mod Standing
-mod TakenTrees
-mod Readings
+pub mod CommandSteps
+pub mod BatchSteps
+pub mod Standing
+pub mod TakenTrees
+pub mod OneReading
