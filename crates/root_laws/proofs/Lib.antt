@@ -6,4 +6,4 @@ pub mod CommandSteps
 pub mod BatchSteps
 pub mod Standing
 pub mod TakenTrees
-pub mod OneReading
+pub mod OneAnswer

@@ -1,4 +1,4 @@
-use Rattle.root_laws.proofs.OneReading.{one_list, one_answer}
+use Rattle.root_laws.proofs.OneAnswer.{one_list, one_answer}
 use Rattle.root_laws.proofs.readings.proofs_have_one_reading.Goals as goal
 
 pub returns : goal.returns
