@@ -15,7 +15,7 @@ use crate::tree_writing::put_trees;
 use mb_tree::PartTree;
 use row_bytes::{Cursor, ReadFault};
 use std::alloc::{AllocError, Global};
-use vo_spec::{MAX_PROOFS, u16_bytes};
+use vo_spec::{MAX_COMMANDS, MAX_PROOFS, u16_bytes};
 
 #[tactic(auto, unfolding(crate::specs::Reading::proofs_at))]
 fn take_proofs<'b>(alloc: Global, cursor: &mut Cursor<'b>) -> Result<Vec<PartTree<'b>>, ReadFault>
@@ -24,16 +24,12 @@ fn take_proofs<'b>(alloc: Global, cursor: &mut Cursor<'b>) -> Result<Vec<PartTre
     let mut ahead = cursor.copy();
     ahead.take_word(b"VOU1").ok_or(ReadFault::BadForm)?;
     let count = ahead.take_u16().ok_or(ReadFault::BadForm)?;
-    if count > 1000 {
+    if usize::from(count) > MAX_COMMANDS {
         return Err(ReadFault::BadForm);
     }
-    match take_trees(alloc, &mut ahead, count) {
-        Ok(trees) => {
-            *cursor = ahead;
-            Ok(trees)
-        }
-        Err(why) => Err(why),
-    }
+    let trees = take_trees(alloc, &mut ahead, count)?;
+    *cursor = ahead;
+    Ok(trees)
 }
 
 #[tactic(auto, unfolding(crate::specs::Reading::proofs_of))]
@@ -44,15 +40,11 @@ fn proofs_in<'b>(alloc: Global, bytes: &'b [u8]) -> Result<Vec<PartTree<'b>>, Re
         return Err(ReadFault::BadForm);
     }
     let mut cursor = Cursor::new(bytes);
-    match take_proofs(alloc, &mut cursor) {
-        Ok(trees) => {
-            if cursor.is_empty() {
-                Ok(trees)
-            } else {
-                Err(ReadFault::BadForm)
-            }
-        }
-        Err(fault) => Err(fault),
+    let trees = take_proofs(alloc, &mut cursor)?;
+    if cursor.is_empty() {
+        Ok(trees)
+    } else {
+        Err(ReadFault::BadForm)
     }
 }
 

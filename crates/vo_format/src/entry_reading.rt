@@ -9,7 +9,7 @@ ghost use Rattle.vo_format.specs.Reading.{cell_at, cells_at, count_within, entry
 
 use row_bytes::{Cursor, ReadFault, take_value};
 use std::alloc::Global;
-use vo_spec::{Cell, CellValue, Digest, KeyPart, List, PartEntry, RowPart};
+use vo_spec::{Cell, CellValue, Digest, KeyPart, List, MAX_CELLS, MAX_KEY, PartEntry, RowPart};
 
 /// How many things come next, within these limits.
 pub fn take_count(cursor: &mut Cursor<'_>, least: u8, most: u8) -> Option<u8>
@@ -42,7 +42,7 @@ pub fn take_key<'b>(cursor: &mut Cursor<'b>) -> Option<KeyPart<'b>>
 {
     let mut ahead = cursor.copy();
     let key = ahead.take_string()?;
-    if key.len() > 255 {
+    if key.len() > MAX_KEY {
         return None;
     }
     *cursor = ahead;
@@ -85,18 +85,13 @@ fn push_cell<'b>(cursor: &mut Cursor<'b>, cells: &mut Vec<Cell<'b>>) -> Result<(
         (one (λ cell. cells.old.items ++ cell ∷ []) cell_at cursor.old) }
 {
     let mut ahead = cursor.copy();
-    let done = match ahead.take_byte() {
-        Some(0) => push_hidden(&mut ahead, cells),
-        Some(1) => push_shown(&mut ahead, cells),
-        _ => Err(ReadFault::BadForm),
-    };
-    match done {
-        Ok(()) => {
-            *cursor = ahead;
-            Ok(())
-        }
-        Err(fault) => Err(fault),
+    match ahead.take_byte() {
+        Some(0) => push_hidden(&mut ahead, cells)?,
+        Some(1) => push_shown(&mut ahead, cells)?,
+        _ => return Err(ReadFault::BadForm),
     }
+    *cursor = ahead;
+    Ok(())
 }
 
 fn each_cell<'b>(
@@ -124,14 +119,10 @@ fn take_cells<'b>(alloc: Global, cursor: &mut Cursor<'b>) -> Result<RowPart<'b>,
     ensures { FoundOr (λ row. row) result cursor.old cursor.new (one Cells cells_at cursor.old) }
 {
     let mut ahead = cursor.copy();
-    let count = take_count(&mut ahead, 0, 31).ok_or(ReadFault::BadForm)?;
-    match each_cell(alloc, &mut ahead, count) {
-        Ok(cells) => {
-            *cursor = ahead;
-            Ok(RowPart::Cells(List::from_vec(cells)))
-        }
-        Err(fault) => Err(fault),
-    }
+    let count = take_count(&mut ahead, 0, MAX_CELLS as u8).ok_or(ReadFault::BadForm)?;
+    let cells = each_cell(alloc, &mut ahead, count)?;
+    *cursor = ahead;
+    Ok(RowPart::Cells(List::from_vec(cells)))
 }
 
 #[inline(always)]
@@ -152,17 +143,12 @@ fn take_row<'b>(alloc: Global, cursor: &mut Cursor<'b>) -> Result<RowPart<'b>, R
 {
     let mut ahead = cursor.copy();
     let row = match ahead.take_byte() {
-        Some(0) => take_closed(&mut ahead),
-        Some(1) => take_cells(alloc, &mut ahead),
-        _ => Err(ReadFault::BadForm),
+        Some(0) => take_closed(&mut ahead)?,
+        Some(1) => take_cells(alloc, &mut ahead)?,
+        _ => return Err(ReadFault::BadForm),
     };
-    match row {
-        Ok(row) => {
-            *cursor = ahead;
-            Ok(row)
-        }
-        Err(fault) => Err(fault),
-    }
+    *cursor = ahead;
+    Ok(row)
 }
 
 /// The entry that comes next.
@@ -173,11 +159,7 @@ pub fn take_entry<'b>(alloc: Global, cursor: &mut Cursor<'b>) -> Result<PartEntr
 {
     let mut ahead = cursor.copy();
     let key = take_key(&mut ahead).ok_or(ReadFault::BadForm)?;
-    match take_row(alloc, &mut ahead) {
-        Ok(row) => {
-            *cursor = ahead;
-            Ok(PartEntry { key, row })
-        }
-        Err(fault) => Err(fault),
-    }
+    let row = take_row(alloc, &mut ahead)?;
+    *cursor = ahead;
+    Ok(PartEntry { key, row })
 }
