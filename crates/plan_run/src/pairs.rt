@@ -61,21 +61,17 @@ fn push_left(
         (row_view_seen left.now) (part_of tree.now) }
 {
     let need = right_need(alloc, plan, join, left)?;
-    match scan(alloc, tree, &need) {
-        Ok(seen) => {
-            push_rights(
-                alloc,
-                plan,
-                schema,
-                left,
-                seen.as_slice(),
-                &mut shown.rows,
-            )?;
-            push_need(&mut shown.needs, need)?;
-            Ok(())
-        },
-        Err(fault) => Err(fault),
-    }
+    let seen = scan(alloc, tree, &need)?;
+    push_rights(
+        alloc,
+        plan,
+        schema,
+        left,
+        seen.as_slice(),
+        &mut shown.rows,
+    )?;
+    push_need(&mut shown.needs, need)?;
+    Ok(())
 }
 
 /// What the tree shows for these left rows, and what they need of it.
