@@ -1,20 +1,28 @@
 -- Reading so many things in a row, each straight behind those that were read before it.
-use Rattle.std.proofs.Common.{◌≡◌, ℕ, ◌+◌, ◌-◌, ◌<◌, List, [], ◌∷◌, ◌++◌, Option, Some, None, Err, refl}
+use Rattle.std.proofs.Common.{◌≡◌, ℕ, ◌+◌, ◌-◌, ◌<◌, List, [], ◌∷◌, ◌++◌, Option, Some, None, Err, refl, ap}
 use Rattle.row_bytes.specs.declared.read_fault.ReadFault.{ReadFault}
 use Rattle.row_bytes.specs.declared.read_fault.ReadFault.TheVariants.{BadForm, Memory}
 use Rattle.row_bytes.specs.Fields.{◌>>=◌, times, with_front, FoundOr}
 use Rattle.row_bytes.proofs.Rounds.{times_step, times_fails}
 use Rattle.batch_format.specs.BatchReading.{one}
 
+-- what was read, behind others
+abbrev put : {A : Type 0} → List A → A × List ℕ → List A × List ℕ
+put front x = (front ++ x.0 ∷ [], x.1)
+
+abbrev behind : {A : Type 0} → List A → A × List ℕ → Option (List A × List ℕ)
+behind front x = Some (put front x)
+
 module _ {A : Type 0} (read : List ℕ → Option (A × List ℕ)) where
   step_of : (front more : List A) (count counter : ℕ) (bytes rest : List ℕ) (found : Option (A × List ℕ))
       → read bytes ≡ found → counter < count
-      → (found >>= λ x. Some (front ++ x.0 ∷ [], x.1)) ≡ Some (more, rest)
+      → (found >>= behind front) ≡ Some (more, rest)
       → with_front more (times read (count - (counter + 1)) rest) ≡ with_front front (times read (count - counter) bytes)
   step_of front more count counter bytes rest None is lt e = cc
   step_of front more count counter bytes rest (Some x) is lt e =
-      let items : front ++ x.0 ∷ [] ≡ more = cc in
-      let left : x.1 ≡ rest = cc in
+      let pair : put front x ≡ (more, rest) = cc in
+      let items : front ++ x.0 ∷ [] ≡ more = ap (λ (p : List A × List ℕ). p.0) pair in
+      let left : x.1 ≡ rest = ap (λ (p : List A × List ℕ). p.1) pair in
       rw (← items, ← left) (times_step read front count counter bytes x.0 x.1 lt is)
 
   pub push_step : (front more : List A) (count counter : ℕ) (bytes rest : List ℕ) → counter < count
@@ -22,7 +30,7 @@ module _ {A : Type 0} (read : List ℕ → Option (A × List ℕ)) where
       → with_front more (times read (count - (counter + 1)) rest) ≡ with_front front (times read (count - counter) bytes)
   push_step front more count counter bytes rest lt e = step_of front more count counter bytes rest (read bytes) refl lt e
 
-  none_read : (front : List A) (found : Option (A × List ℕ)) → (found >>= λ x. Some (front ++ x.0 ∷ [], x.1)) ≡ None → found ≡ None
+  none_read : (front : List A) (found : Option (A × List ℕ)) → (found >>= behind front) ≡ None → found ≡ None
   none_read front None e = refl
   none_read front (Some x) e = cc
 

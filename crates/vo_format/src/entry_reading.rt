@@ -56,8 +56,8 @@ fn push_hidden<'b>(cursor: &mut Cursor<'b>, cells: &mut Vec<Cell<'b>>) -> Result
         (one (λ digest. cells.old.items ++ Hidden digest ∷ []) (bytes_at 32) cursor.old) }
 {
     let mut ahead = cursor.copy();
-    let digest = take_digest(&mut ahead).ok_or(ReadFault::BadForm)?;
-    cells.push(Cell::Hidden(digest))?;
+    let digest = ahead.take_chunk::<32>().ok_or(ReadFault::BadForm)?;
+    cells.push(Cell::Hidden(Digest::new(*digest)))?;
     *cursor = ahead;
     Ok(())
 }
