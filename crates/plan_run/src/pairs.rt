@@ -26,12 +26,12 @@ fn push_need(needs: &mut Vec<Need>, need: Need) -> Result<(), AllocError>
 }
 
 /// Puts what the query shows of the left row beside each row that was seen for it at the end of the answer.
-fn push_rights(
+fn push_rights<'r>(
     alloc: Global,
-    plan: &Plan<'_, '_>,
-    schema: &Schema,
+    plan: &'r Plan<'_, '_>,
+    schema: &'r Schema,
     left: &SeenRowView<'_>,
-    seen: &[SeenRow],
+    seen: &'r [SeenRow],
     rows: &mut Vec<List<Value>>,
 ) -> Result<(), AllocError>
     ensures { OnOk result (rows.new.items ≡ rows.old.items
@@ -41,7 +41,7 @@ fn push_rights(
     let cells = plan.right_cells.as_slice();
     for row in seen {
         let right = SeenRowView { schema, cells, row };
-        push_pair(alloc, plan.query, &plan.late, left, &right, rows)?;
+        push_pair(alloc, plan.query, &plan.late, &*left, &right, rows)?;
     }
     Ok(())
 }
