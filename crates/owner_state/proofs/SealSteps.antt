@@ -232,8 +232,15 @@ next_is batches n batch there is =
 
 -- What an owner at the roots of the tables makes of an accepted batch by its honest proofs.
 
-abbrev given_step : Step → Result Step OwnerFault
-given_step step = Ok step
+honest_leads : (version : ℕ) (stored after : List Stored) (batch : List Command) → IsReady batch stored → work_all batch stored ≡ Ok after
+    → NextOf (honest_roots version stored) batch (proofs_bytes (honest_proofs batch stored)) (Ok (honest_roots (version + 1) after))
+unfolding NextOf
+honest_leads version stored after batch r done =
+    inr (
+      honest_proofs batch stored,
+      record { fits = r.proofs; encoded = refl },
+      sym (batch_proved version batch stored r.fits.each r.standing ∙ accepted_roots version batch stored after done),
+    )
 
 pub honest_step : (secret : Secret) (version : ℕ) (stored after : List Stored) (batch : List Command) (answer : Result Step OwnerFault) → IsReady batch stored
     → work_all batch stored ≡ Ok after → version + 1 < leaves_of secret.lms
@@ -244,12 +251,5 @@ honest_step secret version stored after batch answer r done left (inr is) known 
     one_step secret (honest_roots version stored) batch (proofs_bytes (honest_proofs batch stored)) answer
     (Ok (step_to secret batch (proofs_bytes (honest_proofs batch stored)) (honest_roots (version + 1) after))) is
     (step_made secret (honest_roots version stored) batch (proofs_bytes (honest_proofs batch stored)) (honest_roots (version + 1) after)
-    (step_to secret batch (proofs_bytes (honest_proofs batch stored)) (honest_roots (version + 1) after)) left leads refl)
-  where
-    leads : NextOf (honest_roots version stored) batch (proofs_bytes (honest_proofs batch stored)) (Ok (honest_roots (version + 1) after))
-    unfolding NextOf
-    leads = inr (
-      honest_proofs batch stored,
-      record { fits = r.proofs; encoded = refl },
-      sym (batch_proved version batch stored r.fits.each r.standing ∙ accepted_roots version batch stored after done),
-    )
+    (step_to secret batch (proofs_bytes (honest_proofs batch stored)) (honest_roots (version + 1) after)) left
+    (honest_leads version stored after batch r done) refl)
