@@ -1,4 +1,4 @@
-use Rattle.std.proofs.Common.{◌<◌, ◌∙◌, List, arith}
+use Rattle.std.proofs.Common.{◌<◌, ◌∙◌, arith}
 use Rattle.std.specs.Global.{Vec}
 use Rattle.vo_spec.specs.declared.cells.Cell.{Cell}
 use Rattle.vo_format.specs.Reading.{cell_at}
