@@ -3,11 +3,11 @@ ghost use Rattle.std.specs.Prelude.{◌≡◌, ◌++◌, List, Some, IfOk, OnOk,
 ghost use Rattle.vo_spec.specs.Bytes.{u16_bytes};
 ghost use Rattle.vo_spec.specs.Trees.{RowTree};
 ghost use Rattle.vo_spec.specs.Replies.{AreProofs, FitsProofs, proofs_bytes};
-ghost use Rattle.row_bytes.specs.Fields.{FoundOr};
+ghost use Rattle.row_bytes.specs.Fields.{FoundOr, ReadsAs};
 ghost use Rattle.row_bytes.specs.declared.read_fault.ReadFault.TheVariants.{BadForm};
 ghost use Rattle.mb_tree.specs.View.{part_of};
 ghost use Rattle.vo_format.specs.Reading.{proofs_at, proofs_of};
-ghost use Rattle.vo_format.specs.View.{ReadsAs, trees_of};
+ghost use Rattle.vo_format.specs.View.{trees_of};
 ghost use Rattle.batch_format.specs.Writing.{StaysInFront};
 
 use crate::tree_reading::take_trees;

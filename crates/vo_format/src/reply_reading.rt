@@ -1,10 +1,10 @@
 //! Reading replies.
 ghost use Rattle.std.specs.Prelude.{◌≡◌, Some, IfOk, Err};
 ghost use Rattle.vo_spec.specs.Replies.{IsReply, IsNoReply, Reply as Plain};
-ghost use Rattle.row_bytes.specs.Fields.{Found, FoundOr, whole};
+ghost use Rattle.row_bytes.specs.Fields.{Found, FoundOr, ReadsAs, whole};
 ghost use Rattle.row_bytes.specs.declared.read_fault.ReadFault.TheVariants.{BadForm};
 ghost use Rattle.vo_format.specs.Reading.{signature_at, catalog_block_at, counted_trees_at, reply_at};
-ghost use Rattle.vo_format.specs.View.{ReadsAs, reply_of, trees_of};
+ghost use Rattle.vo_format.specs.View.{reply_of, trees_of};
 
 use crate::reply::Reply;
 use crate::tree_reading::take_trees;
