@@ -1,5 +1,5 @@
 -- Steps of an owner, and what is left of their answers.
-use Rattle.std.proofs.Common.{◌≡◌, ℕ, ◌+◌, ◌-◌, ◌<◌, ◌≤◌, leb, List, [], Some, Result, Ok, Err, length, inl, inr, refl, sym, ap, ◌∙◌, subst, arith}
+use Rattle.std.proofs.Common.{◌≡◌, ℕ, ◌+◌, ◌-◌, ◌<◌, ◌≤◌, Bool, true, false, leb, List, [], Some, Result, Ok, Err, length, inl, inr, refl, sym, ap, ◌∙◌, subst, arith}
 use Rattle.std.specs.Prelude.{◌⊎◌, IsTrue}
 use Rattle.std.specs.Result.{result_map_both}
 use Rattle.std.proofs.lemmas.Bool.{le-leb}
@@ -18,7 +18,7 @@ use Rattle.owner_roots.specs.declared.owner_fault.OwnerFault.{OwnerFault}
 use Rattle.owner_roots.specs.declared.owner_fault.OwnerFault.TheVariants as fault
 use Rattle.owner_roots.specs.declared.roots.Roots.{Roots}
 use Rattle.owner_roots.specs.Next.{NextOf}
-use Rattle.owner_roots.specs.Owners.{IsSignedFor, record_of_roots}
+use Rattle.owner_roots.specs.Owners.{IsNextEntry, IsSignedFor, record_of_roots}
 use Rattle.owner_roots.proofs.OwnedLaws.{next_version}
 use Rattle.root_laws.proofs.OneAnswer.{one_answer}
 use Rattle.owner_state.specs.declared.steps.Step.{Step}
@@ -117,10 +117,10 @@ pub record IsMade (secret : Secret) (roots : Roots) (batch : List Command) (proo
   pub next : NextOf roots batch proofs (Ok step.roots)
   pub entry : step.entry ≡ signed_entry secret step.roots batch proofs
 
-abbrev given_step : Step → Result Step OwnerFault
+abbrev pub given_step : Step → Result Step OwnerFault
 given_step step = Ok step
 
-step_is : (a b : Step) → given_step a ≡ given_step b → a ≡ b
+pub step_is : (a b : Step) → given_step a ≡ given_step b → a ≡ b
 step_is a b e = cc
 
 pub step_parts : (secret : Secret) (roots : Roots) (batch : List Command) (proofs : List ℕ) (step : Step) → StepOf secret roots batch proofs (Ok step) → IsMade secret roots batch proofs step
@@ -169,3 +169,32 @@ spent_exactly count own version leaves some same number = (
       ]),
   (λ spent. le-leb (count - 1) own (omega (arith, spent, same, number, some))),
 )
+
+-- a key that isn't spent has a leaf left
+pub left_over : (spent : Bool) (leaves version : ℕ) → (leaves ≤ version + 1 → IsTrue spent) → spent ≡ false → version + 1 < leaves
+left_over spent leaves version told is_not =
+    elim (leb_tells leaves (version + 1)) [
+      | inl t ↦ let yes : spent ≡ true = told t.1 in absurd (cc)
+      | inr t ↦ t.1
+    ]
+
+-- The entry of a step is the next one.
+pub next_of_step : (secret : Secret) (before : Roots) (batch : List Command) (proofs : List ℕ) (after : Roots) (e : Entry) → e ≡ signed_entry secret after batch proofs
+    → NextOf before batch proofs (Ok after) → IsSignedFor (public_of_secret secret) after e → IsNextEntry (public_of_secret secret) before e after
+unfolding signed_entry
+next_of_step secret before batch proofs after e is next signed = record {
+  next = subst (λ (x : Entry). NextOf before x.batch.commands x.proofs (Ok after)) (sym is) next;
+  signed = signed;
+}
+
+-- What a call gives of a step.
+
+pub step_given_by : (secret : Secret) (roots : Roots) (batch : List Command) (proofs : List ℕ) (answer : Result Step OwnerFault) (step : Step) → answer ≡ Ok step
+    → Steps secret roots batch proofs answer → StepOf secret roots batch proofs (Ok step)
+step_given_by secret roots batch proofs answer step is (inl none) = absurd (cc)
+step_given_by secret roots batch proofs answer step is (inr found) = subst (StepOf secret roots batch proofs) is found
+
+pub step_refused_by : (secret : Secret) (roots : Roots) (batch : List Command) (proofs : List ℕ) (answer : Result Step OwnerFault) (why : OwnerFault) → answer ≡ Err why
+    → Steps secret roots batch proofs answer → (why ≡ fault.Memory) ⊎ StepOf secret roots batch proofs (Err why)
+step_refused_by secret roots batch proofs answer why is (inl none) = inl (cc)
+step_refused_by secret roots batch proofs answer why is (inr found) = inr (subst (StepOf secret roots batch proofs) is found)
