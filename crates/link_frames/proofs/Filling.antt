@@ -41,7 +41,7 @@ pub misses_stay : (k : ℕ) (first wire : Option ConnectionModel) (old now later
     → StaysWhereItStands first old later
 misses_stay k first wire old now later known stay misses = λ w is stands.
     let counts : CountsMiss w.stands now later =
-        subst (λ (o : Option ConnectionModel). IfSome o (λ (w : ConnectionModel). CountsMiss w.stands now later)) (known w is) misses in
+    subst (λ (o : Option ConnectionModel). IfSome o (λ (w : ConnectionModel). CountsMiss w.stands now later)) (known w is) misses in
     let same : later ≡ now = subst (λ (b : Bool). CountsMiss b now later) stands counts in
     same ∙ stay w is stands
 
@@ -68,14 +68,14 @@ put_behind : (filled n : ℕ) (coming old now piece : List ℕ) → filled ≤ l
 put_behind filled n coming old now piece within is came =
     let front : length (take filled coming) ≡ filled = length-take-le filled coming within in
     let first : take filled now ≡ take filled coming =
-        ap (take filled) is ∙ take_at (take filled coming) (drop filled old) filled front in
+    ap (take filled) is ∙ take_at (take filled coming) (drop filled old) filled front in
     let rest : drop filled now ≡ drop filled old =
-        ap (drop filled) is ∙ drop_at (take filled coming) (drop filled old) filled front in
+    ap (drop filled) is ∙ drop_at (take filled coming) (drop filled old) filled front in
     let past : drop (length now - filled) (drop filled now) ≡ [] =
-        drop_all (length now - filled) (drop filled now) (omega (arith, length-drop filled now)) in
+    drop_all (length now - filled) (drop filled now) (omega (arith, length-drop filled now)) in
     let piece_is : piece ≡ take n (drop filled coming) ++ drop (filled + n) old =
-        came ∙ ap (λ (ys : List ℕ). take n (drop filled coming) ++ drop n ys) rest
-        ∙ ap (λ (ys : List ℕ). take n (drop filled coming) ++ ys) (drop-drop n filled old) in
+    came ∙ ap (λ (ys : List ℕ). take n (drop filled coming) ++ drop n ys) rest
+    ∙ ap (λ (ys : List ℕ). take n (drop filled coming) ++ ys) (drop-drop n filled old) in
     ap (λ (ys : List ℕ). take filled now ++ (piece ++ ys)) past
     ∙ ap (λ (ys : List ℕ). take filled now ++ ys) (append-nil piece)
     ∙ ap (λ (ys : List ℕ). ys ++ piece) first
@@ -90,11 +90,13 @@ pub filled_more : (filled n : ℕ) (old now rest piece : List ℕ) (before : Con
     → FilledTo (filled + n) old (put_mid filled (length now - filled) now piece) before later
 filled_more filled n old now rest piece before wire later is h g l =
     let gets : Gets n (drop filled before.coming) (drop filled now) piece =
-        subst (λ (bytes : List ℕ). Gets n (drop filled before.coming) bytes piece) is
-        (gets_at filled n rest piece before wire h.2 g) in
-    let left : n ≤ length before.coming - filled = omega (arith, gets.fits, length-drop filled before.coming) in
-    (omega (arith, h.0), put_behind filled n before.coming old now piece h.0 h.1 gets.filled,
-    got_at filled n before wire later h.2 l)
+    subst (λ (bytes : List ℕ). Gets n (drop filled before.coming) bytes piece) is
+    (gets_at filled n rest piece before wire h.2 g) in
+    let left : n ≤ length before.coming - filled = omega (arith, gets.fits, length-drop filled before.coming) in (
+      omega (arith, h.0),
+      put_behind filled n before.coming old now piece h.0 h.1 gets.filled,
+      got_at filled n before wire later h.2 l,
+    )
 
 -- the buffer is filled so far
 pub record IsFilling (filled : ℕ) (old now : List ℕ) (first wire : Option ConnectionModel)
@@ -112,16 +114,16 @@ pub filled_end : (E : Type 0) (filled n : ℕ) (old now rest piece : List ℕ) (
     → Fills {E = E} old (put_mid filled (length now - filled) now piece) (Ok filled) before later
 filled_end E filled n old now rest piece before wire later zero_ room same is h g l =
     let gets : Gets n (drop filled before.coming) (drop filled now) piece =
-        subst (λ (bytes : List ℕ). Gets n (drop filled before.coming) bytes piece) is
-        (gets_at filled n rest piece before wire h.2 g) in
+    subst (λ (bytes : List ℕ). Gets n (drop filled before.coming) bytes piece) is
+    (gets_at filled n rest piece before wire h.2 g) in
     let some : 0 < length (drop filled now) = omega (arith, length-drop filled now) in
     let none : drop filled before.coming ≡ [] = (gets.end some).0 zero_ in
     let all : length before.coming - filled ≡ 0 = sym (length-drop filled before.coming) ∙ ap length none in
     let nothing : filled + n ≡ filled = omega arith in
     let new : List ℕ = put_mid filled (length now - filled) now piece in
     let more : FilledTo filled old new before later =
-        subst (λ (k : ℕ). FilledTo k old new before later) nothing
-        (filled_more filled n old now rest piece before wire later is h g l) in
+    subst (λ (k : ℕ). FilledTo k old new before later) nothing
+    (filled_more filled n old now rest piece before wire later is h g l) in
     (omega (arith, h.0), more.1, more.2)
 
 -- how far the buffer is filled by one call more
@@ -129,7 +131,7 @@ pub filled_within : (filled n : ℕ) (now : List ℕ) → filled ≤ length now
     → n ≤ length (take (length now - filled) (drop filled now)) → filled + n ≤ length now
 filled_within filled n now within fits =
     let rest : length (take (length now - filled) (drop filled now)) ≤ length now - filled =
-        omega (arith, length-take (length now - filled) (drop filled now)) in
+    omega (arith, length-take (length now - filled) (drop filled now)) in
     omega arith
 
 -- a fault, after some bytes
@@ -153,7 +155,7 @@ pub one_piece : (n : ℕ) (old now room piece : List ℕ) (before : ConnectionMo
 one_piece n old now room piece before wire later is g l added =
     let gets : Gets n before.coming room piece = gets_at 0 n room piece before wire is g in
     let front : take n piece ≡ take n before.coming =
-        ap (take n) gets.filled ∙ take_at (take n before.coming) (drop n room) n (length-take-le n before.coming gets.fits) in
+    ap (take n) gets.filled ∙ take_at (take n before.coming) (drop n room) n (length-take-le n before.coming gets.fits) in
     (gets.fits, added ∙ ap (λ (ys : List ℕ). old ++ ys) front, gets.end, l ∙ ap (got n) is)
 
 -- the first n bytes of what comes were added
@@ -171,12 +173,13 @@ pub handed_more : (handed n room : ℕ) (old now new : List ℕ) (before : Conne
     → HandedTo (handed + n) old new before later
 handed_more handed n room old now new before wire later h known =
     let g : Gathered room now new (Ok n) (take_from handed before) later = known (take_from handed before) h.2 in
-    let left : n ≤ length before.coming - handed = omega (arith, g.0, length-drop handed before.coming) in
-    (omega (arith, h.0),
-    g.1 ∙ ap (λ (ys : List ℕ). ys ++ take n (drop handed before.coming)) h.1
-    ∙ append_assoc old (take handed before.coming) (take n (drop handed before.coming))
-    ∙ ap (λ (ys : List ℕ). old ++ ys) (take_more handed n before.coming),
-    took_later handed n before later g.3)
+    let left : n ≤ length before.coming - handed = omega (arith, g.0, length-drop handed before.coming) in (
+      omega (arith, h.0),
+      g.1 ∙ ap (λ (ys : List ℕ). ys ++ take n (drop handed before.coming)) h.1
+          ∙ append_assoc old (take handed before.coming) (take n (drop handed before.coming))
+          ∙ ap (λ (ys : List ℕ). old ++ ys) (take_more handed n before.coming),
+      took_later handed n before later g.3,
+    )
 
 -- pieces were handed on so far
 pub record IsHanding (handed count : ℕ) (old now : List ℕ) (first wire : Option ConnectionModel)
@@ -198,8 +201,8 @@ handed_end handed n count room old now new before wire later zero_ some wide h k
     let all : length before.coming - handed ≡ 0 = sym (length-drop handed before.coming) ∙ ap length none in
     let nothing : handed + n ≡ handed = omega arith in
     let more : HandedTo handed old new before later =
-        subst (λ (k : ℕ). HandedTo k old new before later) nothing
-        (handed_more handed n room old now new before wire later h known) in
+    subst (λ (k : ℕ). HandedTo k old new before later) nothing
+    (handed_more handed n room old now new before wire later h known) in
     (omega (arith, h.0), more.1, more.2)
 
 -- a fault, after some bytes

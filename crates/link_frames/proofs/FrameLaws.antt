@@ -71,8 +71,8 @@ behind_length-cons awaits n code rest =
 with_body-append : (k : FrameKind) (body rest : List ℕ) → with_body k (length body) (body ++ rest) ≡ Whole k body
 with_body-append k body rest =
     let enough : ltb (length (body ++ rest)) (length body) ≡ false =
-        let all : length (body ++ rest) ≡ length body + length rest = length-append body rest in
-        grind (arith, nat_tests) in
+    let all : length (body ++ rest) ≡ length body + length rest = length-append body rest in
+    grind (arith, nat_tests) in
     rw (enough, take_at body rest (length body) refl) refl
 
 allowed : (awaits : Awaits) (k : FrameKind) (n : ℕ) (bytes : List ℕ) → IsTrue (may_come awaits k)
@@ -87,8 +87,12 @@ pub read_back : (awaits : Awaits) (k : FrameKind) (body rest : List ℕ) → IsT
 read_back awaits k body rest may fits =
     let n : ℕ = length body + 1 in
     let short : n < 2 ^ 32 = below_limit k (length body) fits in
-    rw (append_assoc (u32_bytes n) (code_of k ∷ body) rest,
-    first_frame-append awaits (u32_bytes n) (code_of k ∷ body ++ rest) (length-u32 n),
-    u32_of-u32_bytes n short, behind_length-cons awaits (length body) (code_of k) (body ++ rest),
-    kind_of-code_of k, allowed awaits k (length body) (body ++ rest) may fits)
+    rw (
+      append_assoc (u32_bytes n) (code_of k ∷ body) rest,
+      first_frame-append awaits (u32_bytes n) (code_of k ∷ body ++ rest) (length-u32 n),
+      u32_of-u32_bytes n short,
+      behind_length-cons awaits (length body) (code_of k) (body ++ rest),
+      kind_of-code_of k,
+      allowed awaits k (length body) (body ++ rest) may fits,
+    )
     (with_body-append k body rest)

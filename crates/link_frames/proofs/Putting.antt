@@ -40,9 +40,11 @@ first_front a b before after h =
 -- all of the first of two pieces, and a front of the second
 pub second_front : (a b : List ℕ) (before mid after : Option ConnectionModel) → mid ≡ sent_on a before
     → PutsFrontOf b mid after → PutsFrontOf (a ++ b) before after
-second_front a b before mid after whole h =
-    (length a + h.0, h.1 ∙ ap (sent_on (take h.0 b)) whole ∙ sent_sent a (take h.0 b) before
-    ∙ ap (λ (piece : List ℕ). sent_on piece before) (sym (take-append-add a b h.0)))
+second_front a b before mid after whole h = (
+  length a + h.0,
+  h.1 ∙ ap (sent_on (take h.0 b)) whole ∙ sent_sent a (take h.0 b) before
+      ∙ ap (λ (piece : List ℕ). sent_on piece before) (sym (take-append-add a b h.0)),
+)
 
 -- a connection that stood stands after a put
 pub stands_sent : (piece : List ℕ) (before after : Option ConnectionModel) → after ≡ sent_on piece before
@@ -116,6 +118,8 @@ pub put_err : (kind : FrameKind) (bytes items : List ℕ) (before : ConnectionMo
     (wire later : Option ConnectionModel) → bytes ≡ items → wire ≡ Some before
     → PutsFrontOf (frame_bytes kind bytes) wire later
     → (n : ℕ) × (later ≡ Some (send_on (take n (frame_bytes kind items)) before))
-put_err kind bytes items before wire later same is put =
-    (put.0, put.1 ∙ ap (sent_on (take put.0 (frame_bytes kind bytes))) is
-    ∙ ap (λ (b : List ℕ). Some (send_on (take put.0 (frame_bytes kind b)) before)) same)
+put_err kind bytes items before wire later same is put = (
+  put.0,
+  put.1 ∙ ap (sent_on (take put.0 (frame_bytes kind bytes))) is
+      ∙ ap (λ (b : List ℕ). Some (send_on (take put.0 (frame_bytes kind b)) before)) same,
+)

@@ -58,7 +58,7 @@ pub head_unknown : (awaits : Awaits) (size code : ℕ) (bytes : List ℕ) → 0 
 head_unknown awaits size code bytes some none =
     let same : size - 1 + 1 ≡ size = omega arith in
     let bad : with_kind awaits (kind_of code) (size - 1) bytes ≡ Bad (size - 1 + 1) 5 =
-        ap (λ (k : Option FrameKind). with_kind awaits k (size - 1) bytes) none in
+    ap (λ (k : Option FrameKind). with_kind awaits k (size - 1) bytes) none in
     (refl, bad ∙ ap (λ (n : ℕ). Bad n 5) same)
 
 chosen : {A : Type 0} (b c : Bool) (x y : A) → b ≡ c → cond b x y ≡ cond c x y
@@ -71,8 +71,8 @@ pub head_refused : (awaits : Awaits) (size code : ℕ) (kind : FrameKind) (bytes
 head_refused awaits size code kind bytes some is refused =
     let same : size - 1 + 1 ≡ size = omega arith in
     let bad : with_kind awaits (kind_of code) (size - 1) bytes ≡ Bad (size - 1 + 1) 5 =
-        ap (λ (k : Option FrameKind). with_kind awaits k (size - 1) bytes) is
-        ∙ chosen _ false (with_body kind (size - 1) bytes) (Bad (size - 1 + 1) 5) refused in
+    ap (λ (k : Option FrameKind). with_kind awaits k (size - 1) bytes) is
+    ∙ chosen _ false (with_body kind (size - 1) bytes) (Bad (size - 1 + 1) 5) refused in
     (refl, bad ∙ ap (λ (n : ℕ). Bad n 5) same)
 
 -- a frame that may come
@@ -152,8 +152,8 @@ kind_read E awaits size n code old new result w wire some one taken is h known =
     let new_is : new ≡ take 1 w.coming ++ drop 1 old = subst (λ (k : ℕ). new ≡ take k w.coming ++ drop k old) n_one h.1 in
     let byte : get_or new 0 0 ≡ get_or w.coming 0 0 = first_byte new w.coming (drop 1 old) more new_is in
     let head : behind_length awaits size w.coming ≡ with_kind awaits (kind_of code) (size - 1) (drop 1 w.coming) =
-        behind_length-some awaits size w.coming some more
-        ∙ ap (λ (c : ℕ). with_kind awaits (kind_of c) (size - 1) (drop 1 w.coming)) (sym byte ∙ sym is) in
+    behind_length-some awaits size w.coming some more
+    ∙ ap (λ (c : ℕ). with_kind awaits (kind_of c) (size - 1) (drop 1 w.coming)) (sym byte ∙ sym is) in
     let took : Took 1 w wire = subst (λ (k : ℕ). Took k w wire) n_one h.2 in
     subst (λ (c : Coming). ReadsHead 4 c result w wire) (sym head)
     (head_result (with_kind awaits (kind_of code) (size - 1) (drop 1 w.coming)) size result w wire took (known (drop 1 w.coming)))
@@ -201,11 +201,11 @@ length_read E awaits number old new result w wire later four is h known =
     let more : 4 ≤ length w.coming = omega (arith, h.0) in
     let rest : drop 4 old ≡ [] = drop_all 4 old (omega arith) in
     let new_is : new ≡ take 4 w.coming =
-        h.1 ∙ ap (λ (ys : List ℕ). take 4 w.coming ++ ys) rest ∙ append-nil (take 4 w.coming) in
+    h.1 ∙ ap (λ (ys : List ℕ). take 4 w.coming ++ ys) rest ∙ append-nil (take 4 w.coming) in
     let word : number ≡ u32_of (take 4 w.coming) = is ∙ word_is new ∙ ap u32_of new_is in
     let head : first_frame awaits w.coming ≡ behind_length awaits number (drop 4 w.coming) =
-        first_frame-some awaits w.coming more
-        ∙ ap (λ (n : ℕ). behind_length awaits n (drop 4 w.coming)) (sym word) in
+    first_frame-some awaits w.coming more
+    ∙ ap (λ (n : ℕ). behind_length awaits n (drop 4 w.coming)) (sym word) in
     subst (λ (c : Coming). ReadsHead 0 c result w later) (sym head)
     (head_later 4 (behind_length awaits number (drop 4 w.coming)) result w later (known (take_from 4 w) h.2))
 
@@ -244,7 +244,7 @@ head_then_body head first result w wire later h known =
     let five : h.0 ≡ 5 = omega (arith, h.1) in
     let took : Took 5 w wire = subst (λ (k : ℕ). Took k w wire) five h.3 in
     let first_is : first ≡ with_body head.kind head.length (drop 5 w.coming) =
-        subst (λ (k : ℕ). first ≡ with_body head.kind head.length (drop k w.coming)) five h.2 in
+    subst (λ (k : ℕ). first ≡ with_body head.kind head.length (drop k w.coming)) five h.2 in
     subst (λ (c : Coming). Reads 0 c result w later) (sym first_is)
     (frame_later 5 (with_body head.kind head.length (drop 5 w.coming)) result w later (known (take_from 5 w) took))
 

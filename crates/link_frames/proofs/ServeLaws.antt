@@ -24,16 +24,21 @@ last_state-append s (x ∷ xs) ys = last_state-append x xs ys
 stops-behind : {S : Type 0} (es : List (Event S)) (xs : List S) (script : Script S End) (old s new : S)
     (before mid after : ConnectionModel) → IsDone es xs before mid → s ≡ last_state old xs
     → StopsIn script s new mid after → StopsIn (behind es script) old new before after
-stops-behind es xs script old s new before mid after d is h =
-    (xs ++ h.0, h.1 ∙ ap (λ t. last_state t h.0) is ∙ sym (last_state-append old xs h.0),
-    stops-append es script.events xs h.0 before mid after d h.2)
+stops-behind es xs script old s new before mid after d is h = (
+  xs ++ h.0,
+  h.1 ∙ ap (λ t. last_state t h.0) is ∙ sym (last_state-append old xs h.0),
+  stops-append es script.events xs h.0 before mid after d h.2,
+)
 
 ends-behind : {S : Type 0} (es : List (Event S)) (xs : List S) (script : Script S End) (end : End) (old s new : S)
     (before mid after : ConnectionModel) → IsDone es xs before mid → s ≡ last_state old xs
     → EndsWith script end s new mid after → EndsWith (behind es script) end old new before after
-ends-behind es xs script end old s new before mid after d is h =
-    (h.0, xs ++ h.1, h.2 ∙ ap (λ t. last_state t h.1) is ∙ sym (last_state-append old xs h.1),
-    done-append es script.events xs h.1 before mid after d h.3)
+ends-behind es xs script end old s new before mid after d is h = (
+  h.0,
+  xs ++ h.1,
+  h.2 ∙ ap (λ t. last_state t h.1) is ∙ sym (last_state-append old xs h.1),
+  done-append es script.events xs h.1 before mid after d h.3,
+)
 
 pub serves-behind : {S : Type 0} (es : List (Event S)) (xs : List S) (script : Script S End) (end : End)
     (old s new : S) (before mid after : ConnectionModel) → IsDone es xs before mid → s ≡ last_state old xs
@@ -57,11 +62,19 @@ serves-behind es xs script (end.Cut got) old s new before mid after d is h =
 ends_there : {S : Type 0} (n count : ℕ) (end : End) (old new : S) (before : ConnectionModel)
     (wire : Option ConnectionModel) → n ≡ count → new ≡ old → Took n before wire
     → (after : ConnectionModel) × (wire ≡ Some after) × EndsWith (ends_after count end) end old new before after
-ends_there n count end old new before wire all same t =
-    (take_from n before, t, (refl, [], same, record {
+ends_there n count end old new before wire all same t = (
+  take_from n before,
+  t,
+  (
+    refl,
+    [],
+    same,
+    record {
       others_are = refl;
       wire_is = ap (λ (k : ℕ). take_from k before) all;
-    }))
+    },
+  ),
+)
 
 -- the taking of a request stopped
 stops_taking : {S : Type 0} (next : Next S) (old new : S) (kind : FrameKind) (body : List ℕ)
@@ -160,7 +173,7 @@ pub goes_next : {S : Type 0} (next : Next S) (s new : S) (kind : FrameKind) (bod
     → IfSome made (λ (f : Frame). new ≡ next s kind body) → new ≡ next s kind items
 goes_next next s new kind body items made answer is same h =
     let there : new ≡ next s kind body =
-        subst (λ (o : Option Frame). IfSome o (λ (f : Frame). new ≡ next s kind body)) is h in
+    subst (λ (o : Option Frame). IfSome o (λ (f : Frame). new ≡ next s kind body)) is h in
     there ∙ ap (next s kind) same
 
 -- memory ran out before there was an answer
@@ -189,10 +202,23 @@ stops_putting : {S : Type 0} (next : Next S) (old new : S) (kind : FrameKind) (b
     → (after : ConnectionModel) × (wire ≡ Some after)
     × StopsIn (with_reply next old kind body (Some answer) rest) old new start after
 stops_putting next old new kind body answer rest start before wire goes h taken =
-    let front : List ℕ = take h.0 (frame_bytes answer.0 answer.1) in
-    (send_on front before, h.1, (next old kind body ∷ [], goes,
-    inr (next old kind body ∷ [], refl, inr ([], refl,
-    inl (refl, (h.0, ap (send_on front) taken))))))
+    let front : List ℕ = take h.0 (frame_bytes answer.0 answer.1) in (
+      send_on front before,
+      h.1,
+      (
+        next old kind body ∷ [],
+        goes,
+        inr (
+          next old kind body ∷ [],
+          refl,
+          inr (
+            [],
+            refl,
+            inl (refl, (h.0, ap (send_on front) taken)),
+          ),
+        ),
+      ),
+    )
 
 -- there was an answer, which was put, or the putting stopped
 pub puts_answer : {S : Type 0} (reply : Reply S) (next : Next S) (kind : FrameKind) (body : List ℕ)
@@ -258,11 +284,11 @@ serves_more {S} reply next left old now new before wire later done h one =
     let events : List (Event S) = Takes (5 + length body) ∷ Does after ∷ Puts (frame_bytes answer.0 answer.1) ∷ [] in
     let rest : FrameKind → List ℕ → Script S End = λ k b. served reply next left (next now k b) (drop (5 + length b) h.mid.coming) in
     let first : with_first reply next now (first_frame Request h.mid.coming) rest ≡ with_reply next now kind body (reply now kind body) (rest kind body) =
-        ap (λ (c : Coming). with_first reply next now c rest) o.2 in
+    ap (λ (c : Coming). with_first reply next now c rest) o.2 in
     let replied : with_reply next now kind body (reply now kind body) (rest kind body) ≡ behind events (rest kind body) =
-        ap (λ (a : Option (FrameKind × List ℕ)). with_reply next now kind body a (rest kind body)) o.3.1 in
+    ap (λ (a : Option (FrameKind × List ℕ)). with_reply next now kind body a (rest kind body)) o.3.1 in
     let script : served reply next (suc left) now h.mid.coming ≡ behind events (served reply next left after mid.coming) =
-        served-suc reply next left now h.mid.coming ∙ first ∙ replied in
+    served-suc reply next left now h.mid.coming ∙ first ∙ replied in
     let result : IsServedTo reply next left old after before later = record {
       mid = mid;
       events = h.events ++ events;
@@ -286,9 +312,12 @@ serves_to_end {S} reply next left end old now new before wire later h one =
     let script : Script S End = with_first reply next now (first_frame Request h.mid.coming) rest in
     let o : ServesKnown script end now new h.mid later = one h.mid h.wire_is rest in
     let whole : served reply next max_turns old before.coming ≡ behind h.events script =
-        h.script_is ∙ ap (behind h.events) (served-suc reply next left now h.mid.coming) in
-    (o.0, o.1, subst (λ (s : Script S End). Serves s end old new before o.0) (sym whole)
-    (serves-behind h.events h.states script end old now new before h.mid o.0 h.done h.now_is o.2))
+    h.script_is ∙ ap (behind h.events) (served-suc reply next left now h.mid.coming) in (
+      o.0,
+      o.1,
+      subst (λ (s : Script S End). Serves s end old new before o.0) (sym whole)
+          (serves-behind h.events h.states script end old now new before h.mid o.0 h.done h.now_is o.2),
+    )
 
 served-zero : {S : Type 0} (reply : Reply S) (next : Next S) (s : S) (coming : List ℕ)
     → served reply next 0 s coming ≡ record { events = []; value = end.Turns }
@@ -303,10 +332,13 @@ serves_all_turns {S} reply next old now before wire h =
     let none : served reply next 0 now h.mid.coming ≡ record { events = []; value = end.Turns } = served-zero reply next now h.mid.coming in
     let script : Script S End = record { events = []; value = end.Turns } in
     let whole : served reply next max_turns old before.coming ≡ behind h.events script =
-        h.script_is ∙ ap (behind h.events) none in
-    (h.mid, h.wire_is, subst (λ (s : Script S End). Serves s end.Turns old now before h.mid) (sym whole)
-    (serves-behind h.events h.states script end.Turns old now now before h.mid h.mid h.done h.now_is
-    (refl, [], refl, record { others_are = refl; wire_is = refl })))
+    h.script_is ∙ ap (behind h.events) none in (
+      h.mid,
+      h.wire_is,
+      subst (λ (s : Script S End). Serves s end.Turns old now before h.mid) (sym whole)
+          (serves-behind h.events h.states script end.Turns old now now before h.mid h.mid h.done h.now_is
+          (refl, [], refl, record { others_are = refl; wire_is = refl })),
+    )
 
 -- so many requests were answered
 pub record IsServing {S : Type 0} (reply : Reply S) (next : Next S) (turn : ℕ) (old now : S)
@@ -370,7 +402,7 @@ serving_more reply next turn old now new first wire later old_faults faults late
       left = left;
       turns_are = omega (arith, h.turns_are, left_is);
       known = λ before is. serves_more reply next left old now new before wire later done
-        (subst (λ (k : ℕ). IsServedTo reply next k old now before wire) left_is (h.known before is)) one;
+          (subst (λ (k : ℕ). IsServedTo reply next k old now before wire) left_is (h.known before is)) one;
       counts = omega (arith, h.counts, counts);
       stays = serving_stays reply next turn old now first wire old_faults faults old_misses misses later_misses h stays;
     }

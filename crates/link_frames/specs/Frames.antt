@@ -54,7 +54,7 @@ is_length kind.Proofs n = nat_le n max_proofs
 is_length kind.Installed n = n == 8
 is_length kind.Refusal n = n == 1
 
--- whether a frame of this kind may come where this is awaited: an answer, or in most places a refusal
+-- whether a frame of this kind may come where this is awaited: an answer, or mostly a refusal
 abbrev pub may_come : Awaits → FrameKind → Bool
 may_come awaits.Request kind.Query = true
 may_come awaits.Request kind.Status = true
@@ -75,9 +75,9 @@ may_come _ _ = false
 abbrev pub frame_bytes : FrameKind → List ℕ → List ℕ
 frame_bytes kind body = u32_bytes (length body + 1) ++ code_of kind ∷ body
 
--- What comes first on a connection: a whole frame; nothing, since it ends; the beginning of a frame, of
--- so many bytes; or what can't be the beginning of one that is awaited, and after how many bytes that
--- shows.
+-- What comes first on a connection: a whole frame; nothing, since it ends; the beginning of a frame,
+-- of so many bytes; or what can't be the beginning of one that is awaited, and after how many bytes
+-- that shows.
 pub data Coming : Type 0 where
   Whole : (kind : FrameKind) (body : List ℕ) → Coming
   Ended : Coming

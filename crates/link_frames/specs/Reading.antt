@@ -29,7 +29,7 @@ Fills old new (Ok n) before after =
     × (new ≡ take n before.coming ++ drop n old) × Took n before after
 Fills old new (Err fault) before after = TookSome before after
 
--- of what comes, as many bytes as fit into the room are put behind what was gathered; none are the end
+-- of what comes, bytes that fit into the room are put behind what was gathered; none are the end
 abbrev pub Gathered : ℕ → List ℕ → List ℕ → Result ℕ Interrupted → ConnectionModel
     → Option ConnectionModel → Type 0
 Gathered room old new (Ok n) before after =
@@ -57,8 +57,8 @@ Misses first no_frame.Memory = Unit {0}
 abbrev pub TookRest : ℕ → Coming → ConnectionModel → Option ConnectionModel → Type 0
 TookRest k first before after = (n : ℕ) × (k + n ≡ span first) × Took n before after
 
--- the same of a read without a frame, but that it took some bytes where the link failed or memory ran
--- out
+-- the same of a read without a frame, but that it took some bytes where the link failed or memory
+-- ran out
 abbrev pub TookRestOrSome : ℕ → Coming → NoFrame → ConnectionModel → Option ConnectionModel → Type 0
 TookRestOrSome k first no_frame.LinkFault before after = TookSome before after
 TookRestOrSome k first no_frame.Memory before after = TookSome before after
@@ -87,8 +87,8 @@ IsHeadOf first length bytes (Ok head) = first ≡ with_body head.kind head.lengt
 IsHeadOf first length bytes (Err fault) =
     (fault ≡ no_frame.BadFrame length) × (first ≡ Bad length 5)
 
--- of a frame and its answer: a front of the frame was put and nothing taken, or all of it was put, and
--- some bytes were taken then
+-- of a frame and its answer: a front of the frame was put and nothing taken, or all of it was put,
+-- and some bytes were taken then
 abbrev pub IsHalfAsked : List ℕ → ConnectionModel → Option ConnectionModel → Type 0
 IsHalfAsked frame before after =
     ((n : ℕ) × (after ≡ Some (send_on (take n frame) before)))

@@ -48,7 +48,8 @@ pub record IsDone {X : Type 0} (events : List (Event X)) (done : List X)
   pub wire_is : after ≡ wire_after events before
 
 -- The events were done up to one in the midst of which it stopped, and this besides; or all were.
-abbrev pub Stops : {X : Type 0} → List (Event X) → List X → ConnectionModel → ConnectionModel → Type 0
+abbrev pub Stops : {X : Type 0} → List (Event X) → List X → ConnectionModel → ConnectionModel
+    → Type 0
 Stops [] done before after = (done ≡ []) × (after ≡ before)
 Stops (event ∷ events) done before after =
     ((done ≡ []) × IsBegun event before after)

@@ -14,7 +14,7 @@ use Rattle.link_frames.specs.Scripts.{Puts, Takes, Does, Script, behind, IsDone,
 unfoldable pub max_turns : ℕ
 max_turns = 1048576
 
--- the kind and the body of the answer to a request in a state; none where the body is none of its kind
+-- the kind and the body of the answer to a request; none where the body is none of its kind
 abbrev pub Reply : Type 0 → Type 0
 Reply S = S → FrameKind → List ℕ → Option (FrameKind × List ℕ)
 
@@ -58,7 +58,8 @@ last_state state [] = state
 last_state state (later ∷ states) = last_state later states
 
 -- the script was done up to an event in the midst of which it stopped, or to its end
-abbrev pub StopsIn : {S : Type 0} → Script S End → S → S → ConnectionModel → ConnectionModel → Type 0
+abbrev pub StopsIn : {S : Type 0} → Script S End → S → S → ConnectionModel → ConnectionModel
+    → Type 0
 StopsIn script old new before after =
     (states : List _) × (new ≡ last_state old states) × Stops script.events states before after
 
@@ -69,8 +70,8 @@ EndsWith script end old new before after =
     (script.value ≡ end) × (states : List _) × (new ≡ last_state old states)
     × IsDone script.events states before after
 
--- A run of the script that ended so: it was stopped where the link failed or memory ran out, else it
--- was done.
+-- A run of the script that ended so: it was stopped where the link failed or memory ran out, else
+-- it was done.
 abbrev pub Serves : {S : Type 0} → Script S End → End → S → S → ConnectionModel → ConnectionModel
     → Type 0
 Serves script end.LinkFault old new before after = StopsIn script old new before after
@@ -102,8 +103,8 @@ PutsAnswer frame (Err end.Memory) before wire =
 PutsAnswer frame (Err _) before wire = ⊥
 
 -- a request was answered in this state: the answer was put, and the state is the next
-abbrev pub IsAnswered : {S : Type 0} → Reply S → Next S → FrameKind → List ℕ → S → S → ConnectionModel
-    → Option ConnectionModel → Type 0
+abbrev pub IsAnswered : {S : Type 0} → Reply S → Next S → FrameKind → List ℕ → S → S
+    → ConnectionModel → Option ConnectionModel → Type 0
 IsAnswered reply next kind body old new before wire =
     (answer : FrameKind × List ℕ) × (reply old kind body ≡ Some answer)
     × (new ≡ next old kind body)

@@ -13,8 +13,8 @@ use crate::read::read_frame;
 use outside::{Link, PutFault};
 use std::alloc::Global;
 
-/// Puts a frame of this kind, and reads the frame that comes then. Nothing is read before all of it was
-/// put.
+/// Puts a frame of this kind, and reads the frame that comes then. Nothing is read before all of it
+/// was put.
 pub fn ask<L: Link>(
     alloc: Global,
     link: &mut L,

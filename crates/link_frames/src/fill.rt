@@ -6,8 +6,8 @@ ghost use Rattle.link_frames.specs.Reading.{Fills, StaysWhereItStands};
 
 use outside::{Failed, Link};
 
-/// Takes the next bytes into the front of `into`, and tells how many: all that have a place there, or
-/// all that are left on the link.
+/// Takes the next bytes into the front of `into`, and tells how many: all that have a place there,
+/// or all that are left on the link.
 pub fn fill<L: Link>(link: &mut L, into: &mut [u8]) -> Result<usize, Failed>
     ensures known { (before : ConnectionModel) → L.wire link.old ≡ Some before
         → Fills into.old into.new result before (L.wire link.new) }

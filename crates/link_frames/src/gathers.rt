@@ -37,7 +37,8 @@ pub fn hand_on<L: Link, G: Gathers>(
     count: usize,
 ) -> Result<usize, Interrupted>
     ensures known { (before : ConnectionModel) → L.wire link.old ≡ Some before
-        → HandsOn count (G.gathered into.old) (G.gathered into.new) result before (L.wire link.new) }
+        → HandsOn count (G.gathered into.old) (G.gathered into.new) result before
+        (L.wire link.new) }
     ensures fits { IfOk result (λ n. n ≤ count) }
     ensures grows { IfOk result
         (λ n. length (G.gathered into.new) ≡ length (G.gathered into.old) + n) }

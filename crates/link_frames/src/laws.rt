@@ -9,5 +9,4 @@ pub fn frames_read_back()
     ensures { (awaits : Awaits) (kind : FrameKind) (body rest : List ℕ)
         → IsTrue (may_come awaits kind) → IsTrue (is_length kind (length body))
         → first_frame awaits (frame_bytes kind body ++ rest) ≡ Whole kind body }
-{
-}
+{}

@@ -1,8 +1,8 @@
 //! Frames over a connection: what clients, owners and stores say to one another.
 //!
 //! A frame is a length, a kind and a body. They are put whole and read in whatever pieces the link
-//! gives; a store's side serves a connection, request by request, over a trait for what answers them
-//! (`Answers`), and the other side puts one request and reads its answer (`ask`).
+//! gives. A store's side serves a connection, request by request, over a trait for what answers
+//! them (`Answers`); the other side puts one request and reads its answer (`ask`).
 #![tactic(auto)]
 
 mod answers;

@@ -11,11 +11,12 @@ use crate::head::HEAD;
 use outside::{Link, PutFault};
 use vo_spec::u32_bytes;
 
-/// Puts a frame: first what comes before the body, then the body as it is. A fault or want of memory
-/// leaves a front of it there.
+/// Puts a frame: first what comes before the body, then the body as it is. A fault or want of
+/// memory leaves a front of it there.
 pub fn put_frame<L: Link>(link: &mut L, kind: FrameKind, body: &[u8]) -> Result<(), PutFault>
     requires { length body.now + 1 < 2 ^ 32 }
-    ensures ok { OnOk result (L.wire link.new ≡ sent_on (frame_bytes kind body.now) (L.wire link.old)) }
+    ensures ok { OnOk result
+        (L.wire link.new ≡ sent_on (frame_bytes kind body.now) (L.wire link.old)) }
     ensures err { IsErr result → ((n : ℕ)
         × (L.wire link.new ≡ sent_on (take n (frame_bytes kind body.now)) (L.wire link.old))) }
 

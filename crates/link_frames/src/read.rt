@@ -13,8 +13,8 @@ use crate::interrupted::Interrupted;
 use outside::Link;
 use std::alloc::Global;
 
-/// Reads the next frame, in whatever pieces the link gives it. One that may not come here is refused
-/// before its body is read.
+/// Reads the next frame, in whatever pieces the link gives it. One that may not come here is
+/// refused before its body is read.
 pub fn read_frame<L: Link>(alloc: Global, link: &mut L, awaits: Awaits) -> Result<Frame, NoFrame>
     ensures known { (before : ConnectionModel) → L.wire link.old ≡ Some before
         → Reads 0 (first_frame awaits before.coming) result before (L.wire link.new) }
@@ -45,7 +45,10 @@ pub fn read_body<L: Link>(alloc: Global, link: &mut L, head: FrameHead) -> Resul
     let mut body = Vec::new(alloc);
     match hand_on(link, &mut body, head.length) {
         Ok(came) if came < head.length => Err(NoFrame::Cut { got: HEAD + came }),
-        Ok(_) => Ok(Frame { kind: head.kind, body }),
+        Ok(_) => Ok(Frame {
+            kind: head.kind,
+            body,
+        }),
         Err(Interrupted::LinkFault) => Err(NoFrame::LinkFault),
         Err(Interrupted::Memory) => Err(NoFrame::Memory),
     }

@@ -19,8 +19,8 @@ use std::alloc::Global;
 /// How many requests of one connection are answered at most.
 pub const MAX_TURNS: u32 = 1_048_576;
 
-/// Answers the requests that come, one after the other, until the link ends or a frame comes that is no
-/// request.
+/// Answers the requests that come, one after the other, until the link ends or a frame comes that is
+/// no request.
 pub fn serve_link<A: Answers, L: Link>(alloc: Global, store: &mut A, link: &mut L) -> End
     ensures known { (before : ConnectionModel) → L.wire link.old ≡ Some before
         → ServesKnown (served A.reply A.next max_turns (A.state store.old) before.coming) result
@@ -40,17 +40,14 @@ pub fn serve_link<A: Answers, L: Link>(alloc: Global, store: &mut A, link: &mut 
 }
 
 /// Answers the next request, or tells how the serving ends.
-fn serve_request<A: Answers, L: Link>(
-    alloc: Global,
-    store: &mut A,
-    link: &mut L,
-) -> Result<(), End>
+fn serve_request<A: Answers, L: Link>(alloc: Global, store: &mut A, link: &mut L) -> Result<(), End>
     ensures known { (before : ConnectionModel) → L.wire link.old ≡ Some before
         → ServesOne A.reply A.next (first_frame Request before.coming) result (A.state store.old)
         (A.state store.new) before (L.wire link.new) }
 
     ensures counts { L.faults link.old ≤ L.faults link.new }
-    ensures cause { IsErrOf result End.LinkFault → FaultRose (L.faults link.old) (L.faults link.new) }
+    ensures cause { IsErrOf result End.LinkFault
+        → FaultRose (L.faults link.old) (L.faults link.new) }
     ensures misses { StaysWhereItStands (L.wire link.old) (L.misses link.old) (L.misses link.new) }
 {
     match read_frame(alloc, link, Awaits::Request) {
@@ -72,12 +69,15 @@ fn answer_request<A: Answers, L: Link>(
         (A.state store.old) (A.state store.new) before (L.wire link.new) }
 
     ensures counts { L.faults link.old ≤ L.faults link.new }
-    ensures cause { IsErrOf result End.LinkFault → FaultRose (L.faults link.old) (L.faults link.new) }
+    ensures cause { IsErrOf result End.LinkFault
+        → FaultRose (L.faults link.old) (L.faults link.new) }
     ensures misses { StaysWhereItStands (L.wire link.old) (L.misses link.old) (L.misses link.new) }
 {
     match store.answer(alloc, request.kind, &request.body) {
         Ok(Some(answer)) => put_answer(link, &answer),
-        Ok(None) => Err(End::BadFrame { length: request.body.len() as u32 + 1 }),
+        Ok(None) => Err(End::BadFrame {
+            length: request.body.len() as u32 + 1,
+        }),
         Err(_) => Err(End::Memory),
     }
 }
@@ -90,7 +90,8 @@ fn put_answer<L: Link>(link: &mut L, answer: &Frame) -> Result<(), End>
         (L.wire link.new) }
 
     ensures counts { L.faults link.old ≤ L.faults link.new }
-    ensures cause { IsErrOf result End.LinkFault → FaultRose (L.faults link.old) (L.faults link.new) }
+    ensures cause { IsErrOf result End.LinkFault
+        → FaultRose (L.faults link.old) (L.faults link.new) }
     ensures misses { StaysWhereItStands (L.wire link.old) (L.misses link.old) (L.misses link.new) }
 {
     match put_frame(link, answer.kind, &answer.body) {

@@ -34,12 +34,12 @@ returns-in-0-clause-misses g c =
 pub loop-filled-preserved : goal.loop-filled-preserved
 loop-filled-preserved g c =
     let within : c.loop-filled.filled + c.in_ok-count.count ≤ length c.loop-filled.into =
-        filled_within c.loop-filled.filled c.in_ok-count.count c.loop-filled.into (omega arith) c.in_ok-count.ensures.some in
+    filled_within c.loop-filled.filled c.in_ok-count.count c.loop-filled.into (omega arith) c.in_ok-count.ensures.some in
     record {
       within = omega arith;
       known = λ before is. filled_more c.loop-filled.filled c.in_ok-count.count c.args.into.now c.loop-filled.into _ c.get.new.into
-        before _ _ (take_rest c.loop-filled.into c.loop-filled.filled) (c.loop-filled.invariant.known before is)
-        c.in_ok-count.ensures.taken c.in_ok-count.ensures.ok;
+          before _ _ (take_rest c.loop-filled.into c.loop-filled.filled) (c.loop-filled.invariant.known before is)
+          c.in_ok-count.ensures.taken c.in_ok-count.ensures.ok;
       counts = omega (arith, c.get.ensures.counts);
       stays = misses_stay c.loop-filled.filled _ _ _ _ _ (λ before is. (c.loop-filled.invariant.known before is).2) c.loop-filled.invariant.stays c.get.ensures.misses;
     }

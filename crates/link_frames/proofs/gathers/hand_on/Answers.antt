@@ -45,9 +45,9 @@ loop-handed-preserved g c =
       within = omega (arith, length-take c.min-room.result c.loop-handed.piece, c.min-room.ensures, c.in_ok-came.ensures.fits);
       grows = omega (arith, c.in_ok-came.ensures.grows, c.loop-handed.invariant.grows);
       known = λ before is. handed_more c.loop-handed.handed c.in_ok-came.came (length (take c.min-room.result c.loop-handed.piece))
-        (g.G.Gathers.gathered c.args.into.now) (g.G.Gathers.gathered c.loop-handed.into) (g.G.Gathers.gathered c.hand_piece.new.into)
-        before (g.L.Link.wire c.loop-handed.link) (g.L.Link.wire c.hand_piece.new.link)
-        (c.loop-handed.invariant.known before is) c.in_ok-came.ensures.known;
+          (g.G.Gathers.gathered c.args.into.now) (g.G.Gathers.gathered c.loop-handed.into) (g.G.Gathers.gathered c.hand_piece.new.into)
+          before (g.L.Link.wire c.loop-handed.link) (g.L.Link.wire c.hand_piece.new.link)
+          (c.loop-handed.invariant.known before is) c.in_ok-came.ensures.known;
       counts = omega (arith, c.hand_piece.ensures.counts);
       stays = stays_on _ _ _ _ _ (λ before is. (take_from c.loop-handed.handed before, (c.loop-handed.invariant.known before is).2, refl)) c.loop-handed.invariant.stays c.hand_piece.ensures.misses;
     }
