@@ -58,15 +58,20 @@ module _ (key : List ℕ) where
   pub owned_begins_empty : (n : ℕ) (es : List Entry) → AreOwned key (take (n + 1) es) → BeginsEmpty es
   owned_begins_empty n es owned = begins_empty n es (subst (λ (k : ℕ). AreOwned key (take k es)) (add-one n) owned)
 
+  all_begin_empty : (es : List Entry) → AreOwned key es → BeginsEmpty es
+  unfolding AreOwned AreOwnedTo
+  all_begin_empty [] owned = tt
+  all_begin_empty (e ∷ es) owned = owned.1.0.commands
+
   pub kept_tables : (v : ℕ) (es : List Entry) (kept : Option (List Stored)) → AreOwned key es
       → IfSome kept (λ (ss : List Stored). ss ≡ honest_trees (batches_of (take (v + 1) es))) → IfSome kept (λ (ss : List Stored). ss ≡ trees_at v es)
   kept_tables v es None owned is = tt
-  kept_tables v es (Some ss) owned is = is ∙ trees_of v es (empty es owned)
-    where
-      empty : (fs : List Entry) → AreOwned key fs → BeginsEmpty fs
-      unfolding AreOwned AreOwnedTo
-      empty [] o = tt
-      empty (f ∷ fs) o = o.1.0.commands
+  kept_tables v es (Some ss) owned is = is ∙ trees_of v es (all_begin_empty es owned)
+
+  not_at_first : (n : ℕ) (es : List Entry) (roots : Roots) → AreOwnedTo key (take n es) roots → 0 < n
+  unfolding AreOwnedTo
+  not_at_first zero es roots owned = absurd owned
+  not_at_first (suc n) es roots owned = omega arith
 
   -- So far.
 
@@ -164,12 +169,7 @@ module _ (key : List ℕ) where
         }
 
     later : (roots : Roots) → AreOwnedTo key (take n es) roots → 0 < n
-    later roots owned_so = step n owned_so
-      where
-        step : (k : ℕ) → AreOwnedTo key (take k es) roots → 0 < k
-        unfolding AreOwnedTo
-        step zero o = absurd o
-        step (suc k) o = omega arith
+    later roots owned_so = not_at_first n es roots owned_so
 
     departed : (o : Option Roots) → before ≡ o → IsBehind key (take n es) o → LeadsTo key o e after → AreHonestRoots n es o
         → after.catalog ≢ catalog_of (after_work stored e.batch.commands) → DepartsAt es n stored

@@ -1,22 +1,32 @@
 -- Steps of an owner, and what is left of their answers.
-use Rattle.std.proofs.Common.{◌≡◌, ℕ, ◌+◌, ◌<◌, ◌≤◌, List, [], Result, Ok, Err, length, inl, inr, refl, sym, ap, ◌∙◌, subst, arith, lit≤}
-use Rattle.std.specs.Prelude.{◌⊎◌, ◌≢◌}
+use Rattle.std.proofs.Common.{◌≡◌, ℕ, ◌+◌, ◌-◌, ◌<◌, ◌≤◌, Bool, true, false, leb, List, [], Some, Result, Ok, Err, length, inl, inr, refl, sym, ap, ◌∙◌, subst, arith}
+use Rattle.std.specs.Prelude.{◌⊎◌, IsTrue}
 use Rattle.std.specs.Result.{result_map_both}
+use Rattle.std.proofs.lemmas.Bool.{le-leb}
+use Rattle.std.proofs.lemmas.Bool.Decides.{leb_tells}
 use Rattle.vo_spec.specs.declared.tables.Command.{Command}
+use Rattle.vo_spec.specs.declared.records.Record.{Record}
 use Rattle.vo_spec.specs.declared.records.Entry.{Entry}
+use Rattle.vo_spec.specs.Bytes.{u16_bytes}
 use Rattle.vo_spec.specs.LmsSets.{leaves_of}
 use Rattle.vo_spec.specs.Journals.{max_proofs}
 use Rattle.vo_spec.specs.Replies.{proofs_bytes}
-use Rattle.vo_spec.specs.Secret.{Secret, public_of_secret}
+use Rattle.vo_spec.specs.Lms.{leaf_of, lms_valid}
+use Rattle.vo_spec.specs.Records.{record_bytes}
+use Rattle.vo_spec.specs.Secret.{Secret, public_of_secret, lms_signature}
 use Rattle.owner_roots.specs.declared.owner_fault.OwnerFault.{OwnerFault}
 use Rattle.owner_roots.specs.declared.owner_fault.OwnerFault.TheVariants as fault
 use Rattle.owner_roots.specs.declared.roots.Roots.{Roots}
 use Rattle.owner_roots.specs.Next.{NextOf}
-use Rattle.owner_roots.specs.Owners.{IsNextEntry, IsSignedFor}
+use Rattle.owner_roots.specs.Owners.{IsNextEntry, IsSignedFor, record_of_roots}
 use Rattle.owner_roots.proofs.OwnedLaws.{next_version}
 use Rattle.root_laws.proofs.OneAnswer.{one_answer}
 use Rattle.owner_state.specs.declared.steps.Step.{Step}
 use Rattle.owner_state.specs.Stepping.{IsStepTo, StepOf, signed_entry, step_to}
+
+abbrev pub made_entry : List Command → List ℕ → Record → List ℕ → Entry
+made_entry commands proofs rec signature =
+    record { batch = record { commands = commands }; proofs = proofs; rec = rec; signature = signature }
 
 -- What a call gives of the next roots.
 
@@ -40,13 +50,13 @@ proofs_fit before batch proofs after (inl none) = absurd (cc)
 proofs_fit before batch proofs after (inr found) = subst (λ (bytes : List ℕ). length bytes ≤ max_proofs) (sym found.1.encoded) found.1.fits.size
 
 pub no_proofs_fit : length (proofs_bytes []) ≤ max_proofs
-unfolding proofs_bytes
-no_proofs_fit = lit≤ tt
+unfolding proofs_bytes u16_bytes
+no_proofs_fit = omega arith
 
 -- nothing leads on to two answers
 pub never_both : (before : Roots) (batch : List Command) (proofs : List ℕ) (why : OwnerFault) (after : Roots) → NextOf before batch proofs (Err why) → NextOf before batch proofs (Ok after) → ⊥
-never_both before batch proofs why after no yes =
-    let same = one_answer before batch proofs (Err why) (Ok after) no yes in
+never_both before batch proofs why after refusal found =
+    let same = one_answer before batch proofs (Err why) (Ok after) refusal found in
     absurd (cc)
 
 abbrev given_roots : Roots → Result Roots OwnerFault
@@ -57,6 +67,25 @@ ok_is a b e = cc
 
 pub same_roots : (before : Roots) (batch : List Command) (proofs : List ℕ) (a b : Roots) → NextOf before batch proofs (Ok a) → NextOf before batch proofs (Ok b) → a ≡ b
 same_roots before batch proofs a b first second = ok_is a b (one_answer before batch proofs (Ok a) (Ok b) first second)
+
+-- Entries.
+
+pub signed_is : (secret : Secret) (roots : Roots) (batch : List Command) (proofs given_proofs : List ℕ) (rec : Record) (signature : List ℕ)
+    → rec ≡ record_of_roots (public_of_secret secret) roots → given_proofs ≡ proofs → signature ≡ lms_signature secret roots.version (record_bytes rec)
+    → made_entry batch given_proofs rec signature ≡ signed_entry secret roots batch proofs
+unfolding signed_entry
+signed_is secret roots batch proofs given_proofs rec signature r p s =
+    ap (λ (x : List ℕ). made_entry batch x rec signature) p
+    ∙ ap (made_entry batch proofs rec) (s ∙ ap (λ (x : Record). lms_signature secret roots.version (record_bytes x)) r)
+    ∙ ap (λ (x : Record). made_entry batch proofs x (lms_signature secret roots.version (record_bytes (record_of_roots (public_of_secret secret) roots)))) r
+
+pub signed_for : (key : List ℕ) (roots : Roots) (e : Entry) → e.rec ≡ record_of_roots key roots → leaf_of key e.signature ≡ Some roots.version
+    → IsTrue (lms_valid key (record_bytes e.rec) e.signature) → IsSignedFor key roots e
+unfolding record_of_roots
+signed_for key roots e is leaf valid = record {
+  record_is = is;
+  signed = record { leaf = leaf ∙ ap (λ (r : Record). Some r.version) (sym is); valid = valid };
+}
 
 -- Steps.
 
@@ -88,10 +117,10 @@ pub record IsMade (secret : Secret) (roots : Roots) (batch : List Command) (proo
   pub next : NextOf roots batch proofs (Ok step.roots)
   pub entry : step.entry ≡ signed_entry secret step.roots batch proofs
 
-abbrev given_step : Step → Result Step OwnerFault
+abbrev pub given_step : Step → Result Step OwnerFault
 given_step step = Ok step
 
-step_is : (a b : Step) → given_step a ≡ given_step b → a ≡ b
+pub step_is : (a b : Step) → given_step a ≡ given_step b → a ≡ b
 step_is a b e = cc
 
 pub step_parts : (secret : Secret) (roots : Roots) (batch : List Command) (proofs : List ℕ) (step : Step) → StepOf secret roots batch proofs (Ok step) → IsMade secret roots batch proofs step
@@ -122,9 +151,50 @@ one_step secret roots batch proofs a b (inr x) (inr y) =
 -- the roots of a step that was taken are the only ones
 pub step_never_both : (secret : Secret) (roots : Roots) (batch : List Command) (proofs : List ℕ) (why : OwnerFault) (step : Step) → StepOf secret roots batch proofs (Err why)
     → StepOf secret roots batch proofs (Ok step) → ⊥
-step_never_both secret roots batch proofs why step no yes =
-    let same = one_step secret roots batch proofs (Err why) (Ok step) no yes in
+step_never_both secret roots batch proofs why step refusal found =
+    let same = one_step secret roots batch proofs (Err why) (Ok step) refusal found in
     absurd (cc)
 
 pub same_step : (secret : Secret) (roots : Roots) (batch : List Command) (proofs : List ℕ) (a b : Step) → StepOf secret roots batch proofs (Ok a) → StepOf secret roots batch proofs (Ok b) → a ≡ b
 same_step secret roots batch proofs a b first second = step_is a b (one_step secret roots batch proofs (Ok a) (Ok b) first second)
+
+-- A key is spent exactly where it has no leaf for another version.
+pub spent_exactly : (count own version leaves : ℕ) → 0 < leaves → count ≡ leaves → own ≡ version
+    → (IsTrue (leb (count - 1) own) → leaves ≤ version + 1) × (leaves ≤ version + 1 → IsTrue (leb (count - 1) own))
+spent_exactly count own version leaves some same number = (
+  (λ yes.
+      elim (leb_tells (count - 1) own) [
+        | inl t ↦ omega (arith, t.1, same, number, some)
+        | inr t ↦ let other = t.0 in absurd (cc)
+      ]),
+  (λ spent. le-leb (count - 1) own (omega (arith, spent, same, number, some))),
+)
+
+-- a key that isn't spent has a leaf left
+pub left_over : (spent : Bool) (leaves version : ℕ) → (leaves ≤ version + 1 → IsTrue spent) → spent ≡ false → version + 1 < leaves
+left_over spent leaves version told is_not =
+    elim (leb_tells leaves (version + 1)) [
+      | inl t ↦ let yes : spent ≡ true = told t.1 in absurd (cc)
+      | inr t ↦ t.1
+    ]
+
+-- The entry of a step is the next one.
+pub next_of_step : (secret : Secret) (before : Roots) (batch : List Command) (proofs : List ℕ) (after : Roots) (e : Entry) → e ≡ signed_entry secret after batch proofs
+    → NextOf before batch proofs (Ok after) → IsSignedFor (public_of_secret secret) after e → IsNextEntry (public_of_secret secret) before e after
+unfolding signed_entry
+next_of_step secret before batch proofs after e is next signed = record {
+  next = subst (λ (x : Entry). NextOf before x.batch.commands x.proofs (Ok after)) (sym is) next;
+  signed = signed;
+}
+
+-- What a call gives of a step.
+
+pub step_given_by : (secret : Secret) (roots : Roots) (batch : List Command) (proofs : List ℕ) (answer : Result Step OwnerFault) (step : Step) → answer ≡ Ok step
+    → Steps secret roots batch proofs answer → StepOf secret roots batch proofs (Ok step)
+step_given_by secret roots batch proofs answer step is (inl none) = absurd (cc)
+step_given_by secret roots batch proofs answer step is (inr found) = subst (StepOf secret roots batch proofs) is found
+
+pub step_refused_by : (secret : Secret) (roots : Roots) (batch : List Command) (proofs : List ℕ) (answer : Result Step OwnerFault) (why : OwnerFault) → answer ≡ Err why
+    → Steps secret roots batch proofs answer → (why ≡ fault.Memory) ⊎ StepOf secret roots batch proofs (Err why)
+step_refused_by secret roots batch proofs answer why is (inl none) = inl (cc)
+step_refused_by secret roots batch proofs answer why is (inr found) = inr (subst (StepOf secret roots batch proofs) is found)

@@ -73,7 +73,7 @@ module _ (secret : Secret) (before : Roots) (e : Entry) where
       other (ap (λ (x : Entry). x.rec) entry, ap (λ (x : Entry). x.signature) entry)
 
   pub step_not_given : (why : OwnerFault) → StepOf secret before e.batch.commands e.proofs (Err why) → GivesStepAs secret before e None
-  step_not_given why no = λ after there. step_never_both secret before e.batch.commands e.proofs why (with_entry e after) no there
+  step_not_given why refusal = λ after there. step_never_both secret before e.batch.commands e.proofs why (with_entry e after) refusal there
 
 -- Entries in turn.
 
@@ -111,8 +111,8 @@ module _ (secret : Secret) where
   no_first_step es first is other = record { so_far = λ some. absurd (omega (arith, some)); not_on = never es other }
     where
       never : (fs : List Entry) → (take 1 fs ≡ first ∷ [] → ⊥) → (behind : Roots) → AreStepsTo secret (take (0 + 1) fs) behind → ⊥
-      never [] no behind all = all
-      never (f ∷ fs) no behind all = no (ap (λ (x : Entry). x ∷ []) (all.0 ∙ sym is))
+      never [] others behind all = all
+      never (f ∷ fs) others behind all = others (ap (λ (x : Entry). x ∷ []) (all.0 ∙ sym is))
 
   pub step_more : (es : List Entry) (before : Roots) (e : Entry) (after : Roots) → 0 < length es → AreStepsTo secret es before → IsStepTo secret before e after
       → AreStepsTo secret (es ++ e ∷ []) after

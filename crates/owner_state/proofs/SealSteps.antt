@@ -31,6 +31,7 @@ use Rattle.stored_tables.specs.Standing.{IsStanding}
 use Rattle.stored_tables.proofs.WorkLaws.{gives_plain}
 use Rattle.owner_roots.specs.declared.owner_fault.OwnerFault.{OwnerFault}
 use Rattle.owner_roots.specs.declared.owner_fault.OwnerFault.TheVariants as owner
+use Rattle.owner_roots.specs.declared.roots.Roots.{Roots}
 use Rattle.owner_roots.specs.Next.{NextOf}
 use Rattle.root_laws.proofs.BatchSteps.{accepted_roots, batch_proved}
 use Rattle.root_laws.proofs.Standing.{honest_standing}
@@ -39,6 +40,7 @@ use Rattle.owner_state.specs.declared.sealing.SealFault.{SealFault}
 use Rattle.owner_state.specs.declared.sealing.SealFault.TheVariants.{KeySpent, Command as Refused, Memory}
 use Rattle.owner_roots.specs.Owners.{honest_roots, record_of_roots}
 use Rattle.owner_state.specs.declared.steps.Step.{Step}
+use Rattle.owner_state.specs.Held.{Held}
 use Rattle.owner_state.specs.Stepping.{signed_entry, step_to}
 use Rattle.owner_state.specs.Standing.{entry_on}
 use Rattle.owner_state.specs.Sealing.{FitEach, commands_of, or_later, seal_fault}
@@ -232,8 +234,15 @@ next_is batches n batch there is =
 
 -- What an owner at the roots of the tables makes of an accepted batch by its honest proofs.
 
-abbrev given_step : Step → Result Step OwnerFault
-given_step step = Ok step
+honest_leads : (version : ℕ) (stored after : List Stored) (batch : List Command) → IsReady batch stored → work_all batch stored ≡ Ok after
+    → NextOf (honest_roots version stored) batch (proofs_bytes (honest_proofs batch stored)) (Ok (honest_roots (version + 1) after))
+unfolding NextOf
+honest_leads version stored after batch r done =
+    inr (
+      honest_proofs batch stored,
+      record { fits = r.proofs; encoded = refl },
+      sym (batch_proved version batch stored r.fits.each r.standing ∙ accepted_roots version batch stored after done),
+    )
 
 pub honest_step : (secret : Secret) (version : ℕ) (stored after : List Stored) (batch : List Command) (answer : Result Step OwnerFault) → IsReady batch stored
     → work_all batch stored ≡ Ok after → version + 1 < leaves_of secret.lms
@@ -244,12 +253,22 @@ honest_step secret version stored after batch answer r done left (inr is) known 
     one_step secret (honest_roots version stored) batch (proofs_bytes (honest_proofs batch stored)) answer
     (Ok (step_to secret batch (proofs_bytes (honest_proofs batch stored)) (honest_roots (version + 1) after))) is
     (step_made secret (honest_roots version stored) batch (proofs_bytes (honest_proofs batch stored)) (honest_roots (version + 1) after)
-    (step_to secret batch (proofs_bytes (honest_proofs batch stored)) (honest_roots (version + 1) after)) left leads refl)
-  where
-    leads : NextOf (honest_roots version stored) batch (proofs_bytes (honest_proofs batch stored)) (Ok (honest_roots (version + 1) after))
-    unfolding NextOf
-    leads = inr (
-      honest_proofs batch stored,
-      record { fits = r.proofs; encoded = refl },
-      sym (batch_proved version batch stored r.fits.each r.standing ∙ accepted_roots version batch stored after done),
-    )
+    (step_to secret batch (proofs_bytes (honest_proofs batch stored)) (honest_roots (version + 1) after)) left
+    (honest_leads version stored after batch r done) refl)
+
+-- So an owner that stands there goes on to the roots of the tables behind the batch.
+pub sealed_step : (before : Held) (stored after : List Stored) (batch : List Command) (proofs : List ℕ) (answer : Result Step OwnerFault)
+    → before.roots ≡ honest_roots before.roots.version stored → IsReady batch stored → work_all batch stored ≡ Ok after
+    → proofs ≡ proofs_bytes (honest_proofs batch stored) → before.roots.version + 1 < leaves_of before.key.lms
+    → Steps before.key before.roots batch proofs answer → answer ≢ Err owner.Memory
+    → answer ≡ Ok (step_to before.key batch (proofs_bytes (honest_proofs batch stored)) (honest_roots (before.roots.version + 1) after))
+sealed_step before stored after batch proofs answer at r done is left steps known =
+    honest_step before.key before.roots.version stored after batch answer r done left
+    (subst (λ (roots : Roots). Steps before.key roots batch (proofs_bytes (honest_proofs batch stored)) answer) at
+    (subst (λ (bytes : List ℕ). Steps before.key before.roots batch bytes answer) is steps)) known
+
+pub entry_behind : (secret : Secret) (version : ℕ) (stored after : List Stored) (batch : List Command) → work_all batch stored ≡ Ok after
+    → signed_entry secret (honest_roots version after) batch (proofs_bytes (honest_proofs batch stored)) ≡ entry_on secret version stored batch
+unfolding entry_on
+entry_behind secret version stored after batch done =
+    ap (λ (ss : List Stored). signed_entry secret (honest_roots version ss) batch (proofs_bytes (honest_proofs batch stored))) (work_left batch stored after done)

@@ -1,5 +1,5 @@
 -- One entry more of an owner's journal.
-use Rattle.std.specs.Prelude.{◌≡◌, ℕ, ◌+◌, ◌<◌, ◌^◌, List, [], Option, Some, None}
+use Rattle.std.specs.Prelude.{◌≡◌, ℕ, List, [], Option, Some, None}
 use Rattle.vo_spec.specs.declared.records.Entry.{Entry}
 use Rattle.vo_spec.specs.Records.{FitsCatalog}
 use Rattle.owner_roots.specs.declared.roots.Roots.{Roots}
@@ -15,10 +15,10 @@ abbrev pub LeadsTo : List ℕ → Option Roots → Entry → Roots → Type 0
 LeadsTo key None e after = IsFirstEntry key e × (first_roots ≡ after)
 LeadsTo key (Some before) e after = IsNextEntry key before e after
 
--- roots that another batch can follow
-abbrev pub CanLead : Option Roots → Type 0
-CanLead None = Unit {0}
-CanLead (Some roots) = FitsCatalog roots.catalog × (roots.version + 1 < 2 ^ 64)
+-- their catalog is within its limits
+abbrev pub FitBehind : Option Roots → Type 0
+FitBehind None = Unit {0}
+FitBehind (Some roots) = FitsCatalog roots.catalog
 
 -- where the entry leads to, or nothing, where it leads nowhere
 abbrev pub Leads : List ℕ → Option Roots → Entry → Option Roots → Type 0

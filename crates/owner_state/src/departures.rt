@@ -36,7 +36,8 @@ fn tables_after(
 {
     let mut after = tables.share(alloc)?;
     match after.apply_batch(alloc, batch) {
-        Ok(()) | Err(BatchFault::Command { .. }) => Ok(after),
+        Ok(()) => Ok(after),
+        Err(BatchFault::Command { .. }) => Ok(after),
         Err(BatchFault::Memory) => Err(AllocError),
     }
 }

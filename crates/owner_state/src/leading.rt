@@ -1,12 +1,14 @@
 //! Whether an entry leads an owner's journal on, and to which roots.
 ghost use Rattle.std.specs.Prelude.{◌≡◌, None, Some, IfOk};
-ghost use Rattle.vo_spec.specs.Batches.{FitsBatch};
-ghost use Rattle.owner_state.specs.Owning.{CanLead, Leads};
+ghost use Rattle.vo_spec.specs.Journals.{FitsEntry};
+ghost use Rattle.vo_spec.specs.Records.{FitsCatalog};
+ghost use Rattle.owner_state.specs.Owning.{FitBehind, Leads};
 
+use crate::owner_faults::is_want_of_memory;
 use crate::recording::is_signed_for;
 use crate::version_zero::{first_roots, no_proofs};
 use lms_sign::PublicKey;
-use owner_roots::{OwnerFault, Roots};
+use owner_roots::Roots;
 use std::alloc::{AllocError, Global};
 use vo_spec::Entry;
 
@@ -39,10 +41,14 @@ fn lead_on(
     before: &Roots,
     entry: &Entry,
 ) -> Result<Option<Roots>, AllocError>
-    requires before { CanLead (Some before.now) }
-    requires fits { FitsBatch entry.now.batch.commands }
+    requires before { FitsCatalog before.now.catalog }
+    requires fits { FitsEntry entry.now }
     ensures { IfOk result (λ after. Leads key.now (Some before.now) entry.now after) }
 {
+    // no version follows the last that a record can have
+    if before.version == u64::MAX {
+        return Ok(None);
+    }
     match before.next(alloc, &entry.batch, entry.proofs.as_slice()) {
         Ok(after) => {
             if is_signed_for(alloc, key, &after, entry)? {
@@ -51,8 +57,12 @@ fn lead_on(
                 Ok(None)
             }
         }
-        Err(OwnerFault::Memory) => Err(AllocError),
-        Err(_) => Ok(None),
+        Err(fault) => {
+            if is_want_of_memory(&fault) {
+                return Err(AllocError);
+            }
+            Ok(None)
+        }
     }
 }
 
@@ -63,8 +73,8 @@ pub(crate) fn lead(
     before: &Option<Roots>,
     entry: &Entry,
 ) -> Result<Option<Roots>, AllocError>
-    requires before { CanLead before.now }
-    requires fits { FitsBatch entry.now.batch.commands }
+    requires before { FitBehind before.now }
+    requires fits { FitsEntry entry.now }
     ensures { IfOk result (λ after. Leads key.now before.now entry.now after) }
 {
     match before {

@@ -16,6 +16,7 @@ mod leading;
 mod next_version;
 mod owned_entries;
 mod owner;
+mod owner_faults;
 mod recording;
 mod replaying;
 mod sealing;

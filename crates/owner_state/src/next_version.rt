@@ -11,8 +11,8 @@ ghost use Rattle.owner_state.specs.Sealed.{IsAt, Seals};
 use crate::batch_working::{AfterBatch, worked};
 use crate::journal_writing::put_slot;
 use crate::owner::Owner;
+use crate::owner_faults::is_want_of_memory;
 use crate::sealing::SealFault;
-use owner_roots::OwnerFault;
 use std::alloc::Global;
 use stored_tables::{BatchFault, StoredTables};
 use vo_spec::Batch;
@@ -63,7 +63,11 @@ pub(crate) fn seal_next(
                 slots,
             })
         }
-        Err(OwnerFault::Memory) => Err(SealFault::Memory),
-        Err(_) => unreachable!(),
+        Err(fault) => {
+            if is_want_of_memory(&fault) {
+                return Err(SealFault::Memory);
+            }
+            unreachable!()
+        }
     }
 }

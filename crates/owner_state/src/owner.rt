@@ -1,12 +1,11 @@
 //! An owner that holds its key and roots, and no tables.
-ghost use Rattle.vo_spec.specs.Records.{FitsCatalog};
-
 use crate::entry_signing::sign_entry;
 use crate::steps::Step;
 use crate::version_zero::{first_roots, no_proofs};
 use lms_sign::SecretKey;
 use owner_roots::Roots;
 use std::alloc::{AllocError, Global};
+use std::marker::Model;
 use vo_spec::{Batch, Entry, List};
 
 /// An owner: the key that it signs with, and the roots behind the last entry that it took for its own.
@@ -14,7 +13,17 @@ use vo_spec::{Batch, Entry, List};
 pub struct Owner {
     pub(crate) key: SecretKey,
     pub(crate) roots: Roots,
-    pub ghost fits: { FitsCatalog roots.catalog },
+}
+
+impl Model for Owner {
+    ghost use Rattle.vo_spec.specs.Records.{FitsCatalog};
+    ghost use Rattle.owner_state.specs.Held.{Held};
+
+    ghost Value = { Held };
+
+    ghost view = { λ owner. record { key = owner.key; roots = owner.roots } };
+
+    ghost invariant = { λ owner. FitsCatalog owner.roots.catalog };
 }
 
 impl Owner {
@@ -43,6 +52,14 @@ impl Owner {
         let entry = sign_entry(alloc, key, &roots, batch, proofs)?;
         let key = key.copy(alloc)?;
         Ok((Owner { key, roots }, entry))
+    }
+
+    /// The roots behind the last entry.
+    pub fn roots(&self) -> &Roots
+        ensures roots { result.now ≡ self.now.roots }
+        ensures fits { FitsCatalog result.now.catalog }
+    {
+        &self.roots
     }
 
     /// Whether the key has no leaf left for another version.

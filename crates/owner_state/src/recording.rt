@@ -12,10 +12,21 @@ use owner_roots::Roots;
 use std::alloc::{AllocError, Global};
 use stored_tables::StoredTables;
 use version_record::{catalog_digest, record_bytes};
-use vo_spec::{Catalog, Entry, Record};
+use vo_spec::{Catalog, Digest, Entry, Record};
+
+fn record_with(id: [u8; 16], version: u64, catalog: Digest) -> Record
+    ensures value { result ≡ record { id = id; version = version; catalog = catalog } }
+    ensures fits { FitsRecord result }
+{
+    Record {
+        id,
+        version,
+        catalog,
+    }
+}
 
 /// The record of the catalog as this version.
-fn record_with(
+fn record_of_catalog(
     alloc: Global,
     key: &PublicKey,
     version: u64,
@@ -26,11 +37,8 @@ fn record_with(
         id = key_id key.now; version = version; catalog = catalog_digest catalog.now }) }
     ensures fits { IfOk result (λ rec. FitsRecord rec) }
 {
-    Ok(Record {
-        id: *key.id(),
-        version,
-        catalog: catalog_digest(alloc, catalog)?,
-    })
+    let digest = catalog_digest(alloc, catalog)?;
+    Ok(record_with(*key.id(), version, digest))
 }
 
 /// The record of these tables as this version.
@@ -44,7 +52,7 @@ fn record_of(
     ensures { IfOk result (λ rec. rec ≡ honest_record key.now version tables.now) }
 {
     let catalog = tables.catalog(alloc)?;
-    record_with(alloc, key, version, &catalog)
+    record_of_catalog(alloc, key, version, &catalog)
 }
 
 /// The record of these roots.
@@ -58,7 +66,7 @@ pub(crate) fn record_of_roots(
     ensures value { IfOk result (λ rec. rec ≡ record_of_roots key.now roots.now) }
     ensures fits { IfOk result (λ rec. FitsRecord rec) }
 {
-    record_with(alloc, key, roots.version, &roots.catalog)
+    record_of_catalog(alloc, key, roots.version, &roots.catalog)
 }
 
 /// Whether the entry's record is that of these tables as this version, signed by the version's leaf.

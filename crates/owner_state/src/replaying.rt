@@ -7,9 +7,9 @@ ghost use Rattle.owner_state.specs.Stepping.{AreStepsTo, IsNoStepAt};
 ghost use Rattle.owner_state.specs.Replaying.{GivesStepAs};
 
 use crate::owner::Owner;
+use crate::owner_faults::is_want_of_memory;
 use crate::steps::Step;
 use lms_sign::SecretKey;
-use owner_roots::OwnerFault;
 use std::alloc::{AllocError, Global};
 use thiserror::Error;
 use vo_spec::Entry;
@@ -94,7 +94,11 @@ fn step_as(alloc: Global, owner: &Owner, entry: &Entry) -> Result<Option<Step>, 
                 Ok(None)
             }
         }
-        Err(OwnerFault::Memory) => Err(AllocError),
-        Err(_) => Ok(None),
+        Err(fault) => {
+            if is_want_of_memory(&fault) {
+                return Err(AllocError);
+            }
+            Ok(None)
+        }
     }
 }

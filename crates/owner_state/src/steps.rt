@@ -35,7 +35,10 @@ impl Owner {
         if self.is_spent() {
             return Err(OwnerFault::KeySpent);
         }
-        let roots = self.roots.next(alloc, batch, proofs)?;
+        let roots = match self.roots.next(alloc, batch, proofs) {
+            Ok(roots) => roots,
+            Err(fault) => return Err(fault),
+        };
         let batch = copy_batch(alloc, batch)?;
         let proofs = Vec::from_slice(alloc, proofs)?;
         let entry = sign_entry(alloc, &self.key, &roots, batch, proofs)?;

@@ -1,6 +1,5 @@
 use Rattle.std.proofs.Common.{take}
-use Rattle.owner_state.specs.Owning.{IsBehind}
-use Rattle.owner_state.proofs.LeadLaws.{FitBehind}
+use Rattle.owner_state.specs.Owning.{FitBehind, IsBehind}
 use Rattle.owner_state.proofs.owned_entries.owned.Given as goal
 
 -- these are the roots behind the entries so far

@@ -2,8 +2,7 @@ use Rattle.std.proofs.Common.{◌≡◌, ◌+◌, ◌<◌, take}
 use Rattle.std.specs.Prelude.{IfSome, IsSome}
 use Rattle.vo_spec.specs.Journals.{batches_of}
 use Rattle.vo_spec.specs.Honest.{honest_trees}
-use Rattle.owner_state.specs.Owning.{IsBehind}
-use Rattle.owner_state.proofs.LeadLaws.{FitBehind}
+use Rattle.owner_state.specs.Owning.{FitBehind, IsBehind}
 use Rattle.owner_state.proofs.DepartLaws.{DepartsSoFar}
 use Rattle.owner_state.proofs.walks.walk_owned.Given as goal
 
