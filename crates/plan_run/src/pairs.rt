@@ -62,14 +62,7 @@ fn push_left(
 {
     let need = right_need(alloc, plan, join, left)?;
     let seen = scan(alloc, tree, &need)?;
-    push_rights(
-        alloc,
-        plan,
-        schema,
-        left,
-        seen.as_slice(),
-        &mut shown.rows,
-    )?;
+    push_rights(alloc, plan, schema, left, seen.as_slice(), &mut shown.rows)?;
     push_need(&mut shown.needs, need)?;
     Ok(())
 }
