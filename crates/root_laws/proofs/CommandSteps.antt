@@ -1,6 +1,6 @@
 -- One command by parts of trees, beside the same command on the trees.
-use Rattle.std.proofs.Common.{◌≡◌, ℕ, Bool, true, false, cond, not, List, [], ◌∷◌, ◌++◌, Option, Some, None, Result, Ok, Err, map, take, drop, inl, inr, refl, sym, ap, ◌∙◌, subst}
-use Rattle.std.specs.Prelude.{bytes_eq, find, filter, option_map, IfSome}
+use Rattle.std.proofs.Common.{◌≡◌, ℕ, Bool, true, false, cond, List, [], ◌∷◌, ◌++◌, Option, Some, None, Result, Ok, Err, map, take, drop, inl, inr, refl, sym, ap, ◌∙◌, subst}
+use Rattle.std.specs.Prelude.{bytes_eq, find, option_map, IfSome}
 use Rattle.std.specs.Option.{option_map_or}
 use Rattle.std.specs.Result.{IsErrAnd}
 use Rattle.std.specs.List.{AllByRecursion}
@@ -12,7 +12,6 @@ use Rattle.vo_spec.specs.declared.tables.Table.{Table}
 use Rattle.vo_spec.specs.declared.tables.Command.{Command}
 use Rattle.vo_spec.specs.declared.tables.Command.TheVariants.{Create, Drop, Insert, Update, Delete}
 use Rattle.vo_spec.specs.declared.tables.CommandFault.{CommandFault}
-use Rattle.vo_spec.specs.declared.tables.CommandFault.TheVariants.{NoTable}
 use Rattle.vo_spec.specs.declared.records.CatalogTable.{CatalogTable}
 use Rattle.vo_spec.specs.Firsts.{unless, and_then}
 use Rattle.vo_spec.specs.Values.{key_of}

@@ -1,12 +1,11 @@
 -- A table's root by a part of its tree: as the change of the tree makes it, or the part is refused as a proof.
-use Rattle.std.proofs.Common.{◌≡◌, ◌⊎◌, ℕ, suc, ◌+◌, ◌-◌, Bool, true, false, cond, not, List, [], ◌∷◌, Option, Some, None, Result, Ok, Err, map, length, inl, inr, refl, sym, ap, ◌∙◌, subst, arith}
+use Rattle.std.proofs.Common.{◌≡◌, ℕ, Bool, true, false, cond, not, List, ◌∷◌, Option, Some, None, Result, Ok, Err, map, length, inl, inr, refl, sym, ap, ◌∙◌, subst, arith}
 use Rattle.std.specs.Prelude.{bytes_eq}
-use Rattle.std.specs.Result.{result_map_both, IsErrAnd}
+use Rattle.std.specs.Result.{result_map_both}
 use Rattle.std.proofs.lemmas.List.{length-map}
 use Rattle.std.proofs.lemmas.Slice.Eq.{bytes_eq-Decides}
 use Rattle.vo_spec.specs.declared.values.Row.{Row}
 use Rattle.vo_spec.specs.declared.tables.Table.{Table}
-use Rattle.vo_spec.specs.declared.records.CatalogTable.{CatalogTable}
 use Rattle.vo_spec.specs.declared.trees.UpdateFault.{UpdateFault}
 use Rattle.vo_spec.specs.declared.trees.UpdateFault.TheVariants.{DuplicateKey, NoRow, Missing, Memory}
 use Rattle.vo_spec.specs.Firsts.{and_then, unless}
@@ -14,8 +13,6 @@ use Rattle.vo_spec.specs.Tables.{changed_row, put_row}
 use Rattle.vo_spec.specs.Cells.{whole_entry}
 use Rattle.vo_spec.specs.Parts.{entries}
 use Rattle.vo_spec.specs.Trees.{RowTree, row_family, digest, Prunes}
-use Rattle.vo_spec.specs.Inserts.{inserted}
-use Rattle.vo_spec.specs.Removes.{replaced, removed}
 use Rattle.vo_spec.specs.Standing.{Represents}
 use Rattle.vo_spec.specs.Honest.{Stored, RepresentsTable, row_refusal}
 use Rattle.vo_laws.specs.Changing.{Changes, Inserts}
@@ -41,7 +38,7 @@ use Rattle.owner_roots.specs.declared.owner_fault.OwnerFault.TheVariants as faul
 use Rattle.owner_roots.specs.Changes.{changed_tree, changed_count}
 use Rattle.owner_roots.specs.Forms.{has_form}
 use Rattle.owner_roots.specs.Next.{with_root, proof_fault, table_by_change, table_after}
-use Rattle.root_laws.specs.Following.{IsProofFault, IsOrRefusesProof}
+use Rattle.root_laws.specs.Following.{IsOrRefusesProof}
 use Rattle.root_laws.proofs.TableForms.{part_has_form}
 use Rattle.root_laws.proofs.TableSteps.{table_by_tree}
 

@@ -1,5 +1,5 @@
 -- Honest trees stand for tables within their limits, and their proofs are read as they are.
-use Rattle.std.proofs.Common.{◌≡◌, ℕ, List, refl, sym, inr}
+use Rattle.std.proofs.Common.{ℕ, List, refl, sym, inr}
 use Rattle.std.specs.List.{AllByRecursion}
 use Rattle.vo_spec.specs.declared.tables.Command.{Command}
 use Rattle.vo_spec.specs.Batches.{FitsBatch}

@@ -8,7 +8,7 @@ use Rattle.vo_spec.specs.declared.tables.Command.TheVariants.{Create, Drop, Inse
 use Rattle.vo_spec.specs.declared.tables.CommandFault.{CommandFault}
 use Rattle.vo_spec.specs.declared.records.CatalogTable.{CatalogTable}
 use Rattle.vo_spec.specs.Firsts.{unless, and_then}
-use Rattle.vo_spec.specs.Tables.{TableHeader, Tests, on_table, insert_tests, update_tests, delete_tests, refusal}
+use Rattle.vo_spec.specs.Tables.{insert_tests, update_tests, delete_tests, refusal}
 use Rattle.vo_spec.specs.Trees.{RowTree, digest}
 use Rattle.vo_spec.specs.Honest.{Stored, stored_table_header, catalog_of, table_of}
 use Rattle.mb_update.specs.declared.ops.Op.{Op}

@@ -1,5 +1,5 @@
-use Rattle.std.proofs.Common.{refl, sym, ◌∙◌, inr}
-use Rattle.vo_spec.specs.Honest.{honest_proofs, honest_trees}
+use Rattle.std.proofs.Common.{◌∙◌}
+use Rattle.vo_spec.specs.Honest.{honest_trees}
 use Rattle.vo_spec.specs.Tables.{tables_after}
 use Rattle.vo_laws.proofs.StandingLaws.{stands}
 use Rattle.root_laws.proofs.BatchSteps.{batch_proved, accepted_roots, refused_roots, plainly_refused}

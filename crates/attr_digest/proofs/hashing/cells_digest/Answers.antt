@@ -1,4 +1,4 @@
-use Rattle.std.proofs.Common.{◌≡◌, ◌+◌, ◌*◌, ◌≤◌, ◌++◌, ◌∷◌, ◌∙◌, length, refl, ap, arith}
+use Rattle.std.proofs.Common.{◌≡◌, ◌+◌, ◌*◌, ◌≤◌, ◌++◌, ◌∙◌, length, refl, ap, arith}
 use Rattle.std.proofs.lemmas.Slice.{take-put_mid}
 use Rattle.attr_digest.proofs.Digests.{cell_digests_more}
 use Rattle.attr_digest.proofs.hashing.cells_digest.Goals as goal

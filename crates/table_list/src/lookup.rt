@@ -1,4 +1,4 @@
-//! Tables by their names.
+//! The plain table of a name, and the name that a command has.
 ghost use Rattle.std.specs.Prelude.{◌≡◌, option_map};
 ghost use Rattle.vo_spec.specs.Tables.{table_header_of, table_named};
 ghost use Rattle.table_list.specs.TableHeaders.{command_name, table_header_seen};

@@ -11,7 +11,7 @@ pub enum ParseError {
 
 impl From<AllocError> for ParseError {
     ghost use Rattle.std.specs.Prelude.{◌≡◌};
-    ghost use Rattle.sql_text.specs.declared.halt.ParseError.TheVariants.{Memory};
+    ghost use Rattle.sql_text.specs.declared.parse_error.ParseError.TheVariants.{Memory};
 
     ghost from_gives = { λ _ halt. halt ≡ Memory };
 
@@ -22,7 +22,7 @@ impl From<AllocError> for ParseError {
 
 impl<T: Drop> From<AllocFailed<T>> for ParseError {
     ghost use Rattle.std.specs.Prelude.{◌≡◌};
-    ghost use Rattle.sql_text.specs.declared.halt.ParseError.TheVariants.{Memory};
+    ghost use Rattle.sql_text.specs.declared.parse_error.ParseError.TheVariants.{Memory};
 
     ghost from_gives = { λ _ halt. halt ≡ Memory };
 

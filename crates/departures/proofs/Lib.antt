@@ -1,0 +1,3 @@
+mod DepartureLaws
+mod EvidenceLaws
+mod LeftCommands
