@@ -1,7 +1,7 @@
 -- The honest trees beside an owner's entries, and where the roots depart from them.
 use Rattle.std.proofs.Math.Seq.{take-nil}
-use Rattle.std.proofs.Common.{◌≡◌, ℕ, zero, suc, ◌+◌, ◌-◌, ◌<◌, ◌≤◌, add-one, List, [], ◌∷◌, ◌++◌, Option, Some, None, Ok, length, take, drop, refl, sym, ap, ◌∙◌, subst, inl, inr, arith}
-use Rattle.std.specs.Prelude.{◌≢◌, ◌⊎◌, slice_get, IfSome}
+use Rattle.std.proofs.Common.{◌≡◌, ℕ, zero, suc, ◌+◌, ◌-◌, ◌<◌, ◌≤◌, add-one, List, [], ◌∷◌, ◌++◌, Option, Some, None, Ok, length, take, refl, sym, ap, ◌∙◌, subst, inl, inr, arith}
+use Rattle.std.specs.Prelude.{◌≢◌, slice_get, IfSome}
 use Rattle.std.proofs.lemmas.Bool.Decides.{leb_tells}
 use Rattle.std.proofs.lemmas.List.{length-append, length-take-le, map-append}
 use Rattle.vo_spec.specs.declared.tables.Command.{Command}
@@ -12,7 +12,7 @@ use Rattle.vo_spec.specs.Honest.{Stored, after_work, catalog_of, honest_record, 
 use Rattle.vo_laws.proofs.StepLaws.{no_trees_before, trees_follow}
 use Rattle.owner_roots.specs.declared.roots.Roots.{Roots}
 use Rattle.owner_roots.specs.Next.{NextOf}
-use Rattle.owner_roots.specs.Owners.{AreOwned, AreOwnedTo, IsFirstEntry, IsNextEntry, IsSignedFor, first_roots, honest_roots, record_of_roots}
+use Rattle.owner_roots.specs.Owners.{AreOwned, AreOwnedTo, IsNextEntry, IsSignedFor, honest_roots, record_of_roots}
 use Rattle.owner_roots.proofs.OwnedLaws.{version}
 use Rattle.owner_state.specs.declared.departures.Departure.{Departure}
 use Rattle.owner_state.specs.Departed.{DepartsNext}
@@ -182,8 +182,7 @@ module _ (key : List ℕ) where
     departs_next (Some d) now same so = subst (λ (x : Option Departure). DepartsSoFar es (n + 1) (Some after) x) (sym same) so
     departs_next None None same so = honest_so_far so.0 (honest_now same)
     departs_next None (Some d) other so =
-        let at : DepartsAt es n stored = departed before refl turn.behind turn.leads so.1 other.2 in
-        (
+        let at : DepartsAt es n stored = departed before refl turn.behind turn.leads so.1 other.2 in (
           subst (λ (k : ℕ). AreHonestBelow key k es) (sym other.0) so.0,
           subst (λ (k : ℕ). DepartsAt es k d.tables) (sym other.0) (subst (DepartsAt es n) (sym other.1) at),
         )

@@ -1,11 +1,10 @@
 -- Version 0, with which an owner starts.
-use Rattle.std.proofs.Common.{◌≡◌, ℕ, List, [], refl, sym, ap, ◌∙◌, arith}
+use Rattle.std.proofs.Common.{◌≡◌, ℕ, List, [], refl, ap}
 use Rattle.vo_spec.specs.declared.records.Entry.{Entry}
 use Rattle.vo_spec.specs.Lms.{leaf_count}
 use Rattle.vo_spec.specs.LmsSets.{leaves_of}
 use Rattle.vo_spec.specs.Secret.{Secret, public_of_secret, tree_node}
 use Rattle.lms_sign.proofs.Keys.{leaf_count-public_bytes}
-use Rattle.owner_roots.specs.declared.roots.Roots.{Roots}
 use Rattle.owner_roots.specs.Owners.{IsFirstEntry, IsSignedFor, first_roots}
 use Rattle.owner_state.specs.Stepping.{first_entry, signed_entry}
 use Rattle.owner_state.specs.Standing.{entry_on}

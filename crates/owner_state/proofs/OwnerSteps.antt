@@ -19,10 +19,9 @@ use Rattle.owner_roots.specs.declared.owner_fault.OwnerFault.TheVariants as faul
 use Rattle.owner_roots.specs.declared.roots.Roots.{Roots}
 use Rattle.owner_roots.specs.Next.{NextOf}
 use Rattle.owner_roots.specs.Owners.{IsNextEntry, IsSignedFor, record_of_roots}
-use Rattle.owner_roots.proofs.OwnedLaws.{next_version}
 use Rattle.root_laws.proofs.OneAnswer.{one_answer}
 use Rattle.owner_state.specs.declared.steps.Step.{Step}
-use Rattle.owner_state.specs.Stepping.{IsStepTo, StepOf, signed_entry, step_to}
+use Rattle.owner_state.specs.Stepping.{StepOf, signed_entry, step_to}
 
 abbrev pub made_entry : List Command → List ℕ → Record → List ℕ → Entry
 made_entry commands proofs rec signature =

@@ -1,7 +1,5 @@
 -- Entries as the steps of an owner.
-use Rattle.std.proofs.Common.{◌≡◌, ℕ, zero, suc, ◌+◌, ◌<◌, List, [], ◌∷◌, ◌++◌, Option, Some, None, Result, Ok, Err, length, take, refl, sym, ap, ◌∙◌, subst, inl, inr, arith}
-use Rattle.std.specs.Prelude.{◌⊎◌}
-use Rattle.vo_spec.specs.declared.tables.Batch.{Batch}
+use Rattle.std.proofs.Common.{◌≡◌, ℕ, ◌+◌, ◌<◌, List, [], ◌∷◌, ◌++◌, Some, None, Ok, Err, length, take, refl, sym, ap, ◌∙◌, subst, arith}
 use Rattle.vo_spec.specs.declared.tables.Command.{Command}
 use Rattle.vo_spec.specs.declared.records.Record.{Record}
 use Rattle.vo_spec.specs.declared.records.Entry.{Entry}
@@ -13,7 +11,7 @@ use Rattle.owner_roots.specs.Owners.{IsNextEntry, first_roots}
 use Rattle.owner_state.specs.declared.steps.Step.{Step}
 use Rattle.owner_state.specs.Replaying.{GivesStepAs}
 use Rattle.owner_state.specs.Stepping.{AreSteps, AreStepsTo, IsNoStepAt, IsStepTo, StepOf, first_entry, signed_entry}
-use Rattle.owner_state.proofs.OwnerSteps.{Steps, same_step, step_never_both, step_parts}
+use Rattle.owner_state.proofs.OwnerSteps.{same_step, step_never_both, step_parts}
 
 -- Entries by their parts.
 

@@ -42,11 +42,7 @@ fn tables_after(
     }
 }
 
-fn has_catalog(
-    alloc: Global,
-    tables: &StoredTables,
-    catalog: &Catalog,
-) -> Result<bool, AllocError>
+fn has_catalog(alloc: Global, tables: &StoredTables, catalog: &Catalog) -> Result<bool, AllocError>
     requires { FitsCatalog catalog.now }
     ensures { IfOk result (λ has. IsTrue has ↔ (catalog.now ≡ catalog_of tables.now)) }
 {

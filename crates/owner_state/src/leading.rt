@@ -13,11 +13,7 @@ use std::alloc::{AllocError, Global};
 use vo_spec::Entry;
 
 /// The roots behind an entry that begins a journal, if it is one of an owner of the key.
-fn lead_first(
-    alloc: Global,
-    key: &PublicKey,
-    entry: &Entry,
-) -> Result<Option<Roots>, AllocError>
+fn lead_first(alloc: Global, key: &PublicKey, entry: &Entry) -> Result<Option<Roots>, AllocError>
     ensures { IfOk result (λ after. Leads key.now None entry.now after) }
 {
     if !entry.batch.commands.is_empty() {

@@ -26,11 +26,7 @@ pub(crate) struct Sealed {
 }
 
 /// The versions with another one, of the batch: what the owner makes of it by its honest proofs.
-pub(crate) fn seal_next(
-    alloc: Global,
-    before: Sealed,
-    batch: &Batch,
-) -> Result<Sealed, SealFault>
+pub(crate) fn seal_next(alloc: Global, before: Sealed, batch: &Batch) -> Result<Sealed, SealFault>
     requires owner { IsAt before.owner.key before.owner.roots.version before }
     requires standing { IsStanding before.tables }
     requires fits { FitsBatch batch.now.commands }

@@ -34,7 +34,10 @@ fn record_of_catalog(
 ) -> Result<Record, AllocError>
     requires { FitsCatalog catalog.now }
     ensures value { IfOk result (λ rec. rec ≡ record {
-        id = key_id key.now; version = version; catalog = catalog_digest catalog.now }) }
+      id = key_id key.now;
+      version = version;
+      catalog = catalog_digest catalog.now;
+    }) }
     ensures fits { IfOk result (λ rec. FitsRecord rec) }
 {
     let digest = catalog_digest(alloc, catalog)?;

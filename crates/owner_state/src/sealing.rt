@@ -69,11 +69,7 @@ pub fn seal(alloc: Global, key: &SecretKey, batches: List<Batch>) -> Result<Vec<
     }
 }
 
-fn seal_each(
-    alloc: Global,
-    key: &SecretKey,
-    batches: &[Batch],
-) -> Result<Vec<u8>, SealFault>
+fn seal_each(alloc: Global, key: &SecretKey, batches: &[Batch]) -> Result<Vec<u8>, SealFault>
     requires { FitEach batches.now }
     ensures slots { IfOk result (λ slots. slots.items
         ≡ flat_map slot (sealed key.now (commands_of batches.now))) }

@@ -1,4 +1,4 @@
-use Rattle.std.proofs.Common.{rules, ◌≡◌, List, sym, ap, ◌∙◌, subst, true}
+use Rattle.std.proofs.Common.{rules, ◌≡◌, sym, ap, ◌∙◌}
 use Rattle.vo_spec.specs.Records.{catalog_bytes}
 use Rattle.vo_laws.proofs.CatalogEncoding.{catalog_told}
 use Rattle.owner_state.proofs.departures.has_catalog.Goals as goal

@@ -1,4 +1,4 @@
-use Rattle.std.proofs.Common.{◌≡◌, List, ap, sym, ◌∙◌, subst}
+use Rattle.std.proofs.Common.{◌≡◌, List, ap, ◌∙◌}
 use Rattle.vo_spec.specs.Honest.{Stored, after_work}
 use Rattle.table_list.specs.declared.fault.BatchFault.TheVariants.{Command}
 use Rattle.stored_tables.specs.Working.{work_from}

@@ -1,4 +1,4 @@
-use Rattle.std.proofs.Common.{◌≡◌, ℕ, true, List, Ok, Err, inl, inr, subst}
+use Rattle.std.proofs.Common.{◌≡◌, ℕ, true, List, inl, inr, subst}
 use Rattle.owner_state.specs.Held.{Held}
 use Rattle.owner_state.proofs.OwnerSteps.{Steps, step_given_by, step_refused_by}
 use Rattle.owner_state.proofs.ReplayLaws.{no_step_given, step_given, step_not_given}

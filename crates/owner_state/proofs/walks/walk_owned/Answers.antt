@@ -1,11 +1,10 @@
-use Rattle.std.proofs.Common.{◌≡◌, ℕ, ◌+◌, ◌++◌, ◌∷◌, [], List, Option, Some, None, length, take, refl, sym, ap, ◌∙◌, subst, arith}
+use Rattle.std.proofs.Common.{◌≡◌, ℕ, ◌+◌, ◌++◌, ◌∷◌, [], List, Option, Some, None, take, refl, sym, ap, ◌∙◌, subst, arith}
 use Rattle.std.specs.Prelude.{IfSome, IsSome}
 use Rattle.std.proofs.lemmas.List.{take_all}
 use Rattle.vo_spec.specs.declared.records.Entry.{Entry}
 use Rattle.vo_spec.specs.Honest.{Stored, after_work, honest_trees}
 use Rattle.vo_spec.specs.Journals.{batches_of}
 use Rattle.owner_roots.specs.Owners.{AreOwned, AreOwnedTo}
-use Rattle.owner_state.specs.declared.journals.JournalFault.TheVariants.{BadAt}
 use Rattle.owner_state.specs.Departed.{DepartsNext}
 use Rattle.owner_state.specs.Owning.{Leads}
 use Rattle.owner_state.specs.Walking.{StopsAt}

@@ -5,7 +5,6 @@ use Rattle.vo_spec.specs.LmsSets.{leaves_of}
 use Rattle.vo_spec.specs.Journals.{max_proofs}
 use Rattle.vo_spec.specs.Secret.{public_of_secret}
 use Rattle.owner_roots.specs.declared.roots.Roots.{Roots}
-use Rattle.owner_roots.specs.Next.{NextOf}
 use Rattle.owner_roots.specs.Owners.{IsNextEntry}
 use Rattle.owner_roots.proofs.OwnedLaws.{next_version}
 use Rattle.owner_state.specs.declared.steps.Step.{Step}
