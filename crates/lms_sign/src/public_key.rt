@@ -3,6 +3,7 @@ ghost use Rattle.std.specs.Prelude.{◌≡◌, ◌≢◌, ◌+◌, ◌≤◌, �
 ghost use Rattle.vo_spec.specs.Bytes.{id_at};
 ghost use Rattle.vo_spec.specs.Lms.{key_id, leaf_of, leaf_count, key_signature_len, IsUnknownSet};
 
+use crate::verifying::signature_len;
 use lm_ots::{digest_at, u32_at};
 use std::alloc::{AllocError, Global};
 use std::marker::Model;
@@ -123,7 +124,7 @@ impl PublicKey {
     pub fn signature_len(&self) -> usize
         ensures { result ≡ key_signature_len self.now }
     {
-        8 + self.ots.signature_len() + 32 * self.lms.height() as usize
+        signature_len(self.lms, self.ots)
     }
 
     /// The leaf that a signature says it is by; None where it has fewer than 4 bytes. Nothing is said of whether the

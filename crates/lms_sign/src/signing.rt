@@ -7,6 +7,7 @@ ghost use Rattle.vo_spec.specs.Secret.{path_node, sibling_of, lms_signature, pub
 ghost use Rattle.lms_sign.specs.declared.signing.SignFault.TheVariants.{Memory};
 
 use crate::secret_key::SecretKey;
+use crate::verifying::signature_len;
 use lm_ots::sign_onto;
 use std::alloc::{AllocError, Global};
 use thiserror::Error;
@@ -58,8 +59,7 @@ impl SecretKey {
         ensures { IfOk result (λ signature. signature.items
             ≡ lms_signature self.now q message.now) }
     {
-        let len = 8 + self.ots.signature_len() + 32 * self.lms.height() as usize;
-        let mut signature = Vec::with_capacity(alloc, len)?;
+        let mut signature = Vec::with_capacity(alloc, signature_len(self.lms, self.ots))?;
         signature.extend_from_slice(&u32_bytes(q))?;
         signature = sign_onto(signature, &self.id, q, self.ots, &self.seed, message)?;
         signature.extend_from_slice(&u32_bytes(self.lms.code()))?;

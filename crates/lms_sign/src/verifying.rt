@@ -10,12 +10,19 @@ use crate::public_key::PublicKey;
 use lm_ots::{candidate, digest_at, u32_at};
 use vo_spec::{Digest, LmsType, OtsType};
 
+/// The length of a signature by keys of these sets, in bytes.
+pub(crate) fn signature_len(lms: LmsType, ots: OtsType) -> usize
+    ensures { result ≡ lms_signature_len lms ots }
+{
+    8 + ots.signature_len() + 32 * lms.height() as usize
+}
+
 // The signature has the length and the typecode of the sets, and its leaf is one of the tree's.
 #[tactic(auto, unfolding(vo_spec::specs::Lms::is_lms_form))]
 fn is_form(lms: LmsType, ots: OtsType, signature: &[u8]) -> bool
     ensures { result ≡ is_lms_form lms ots signature.now }
 {
-    signature.len() == 8 + ots.signature_len() + 32 * lms.height() as usize
+    signature.len() == signature_len(lms, ots)
         && u32_at(signature, 4 + ots.signature_len()) == lms.code()
         && u32_at(signature, 0) < 1 << lms.height()
 }

@@ -41,7 +41,7 @@ open_next wire = record (shut wire) {
 abbrev pub has_next : ConnectionModel → Bool
 has_next wire = nat_lt 0 (length wire.queue)
 
--- the same, where the wire is told
+-- the same, where the wire is known
 abbrev pub got : ℕ → Option ConnectionModel → Option ConnectionModel
 got n wire = option_map (take_from n) wire
 

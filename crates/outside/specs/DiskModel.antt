@@ -65,7 +65,7 @@ pub record HasRoom (end bytes calls : ℕ) (room : Room) : Type 0 where
 abbrev pub NoLess : Room → Room → Type 0
 NoLess before after = HasRoom before.end before.bytes before.calls after
 
--- the same, where the disk is told
+-- the same, where the disk is known
 abbrev pub torn : ℕ → ℕ → List ℕ → Option DiskModel → Option DiskModel
 torn place count seen drive = option_map (write_leaving place count seen) drive
 

@@ -1,6 +1,6 @@
 -- Output in order.
 use Rattle.std.specs.Prelude.{ℕ, List, ◌++◌, Option, option_map}
 
--- what is written once this piece is, where that is told
+-- what is written once this piece is, where that is known
 abbrev pub added : Option (List ℕ) → List ℕ → Option (List ℕ)
 added written piece = option_map (λ bytes. bytes ++ piece) written

@@ -9,7 +9,7 @@ use std::alloc::AllocError;
 
 /// One file on a device. What was written may be lost until a sync succeeds.
 pub trait Disk {
-    /// The file, what was done to it and what a crash may leave, where that is told.
+    /// The file, what was done to it and what a crash may leave, where that is known.
     ghost drive: { Self → Option DiskModel };
 
     /// How many calls have failed.

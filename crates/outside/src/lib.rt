@@ -2,7 +2,7 @@
 //! in memory.
 //!
 //! Each object counts its faults, and a call fails only where that count rose in it. What an object
-//! holds is told by the forms in memory, and not by a real one, of which nothing is known.
+//! holds is known of the forms in memory; of a real one nothing is known.
 #![tactic(auto)]
 
 mod disk;

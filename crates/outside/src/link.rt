@@ -8,13 +8,13 @@ use crate::faults::{Failed, PutFault};
 
 /// The connection that stands. Without one its calls fail.
 pub trait Link {
-    /// The connections, where they are told.
+    /// The connections, where they are known.
     ghost wire: { Self → Option ConnectionModel };
 
     /// How many calls have failed.
     ghost faults: { Self → ℕ };
 
-    /// How many of them wanted a connection that isn't there; it means something where the wire is told.
+    /// How many of them wanted a connection that isn't there; it means something where the wire is known.
     ghost misses: { Self → ℕ };
 
     /// Takes the next bytes into the front of `into`, and tells how many. None in a buffer that isn't

@@ -18,13 +18,20 @@ use std::mem;
 #[derive(Drop)]
 pub struct MemNet<P> {
     alloc: Global,
+    /// What the peers of the connections to come send.
     queue: VecDeque<Vec<u8>>,
+    /// Whether a connection stands.
     stands: bool,
+    /// What its peer sends, of which `taken` bytes were taken.
     coming: Vec<u8>,
     taken: usize,
+    /// What was put on it.
     sent: Vec<u8>,
+    /// What was put on each connection before it.
     past: Vec<Vec<u8>>,
+    /// How many bytes one `get` takes at most.
     most: usize,
+    /// How often a connection was looked for and none was to come.
     misses: u64,
     failures: P,
     ghost begun: { taken ≤ vec_len coming },

@@ -9,13 +9,13 @@ use std::alloc::Global;
 
 /// Files that are only read.
 pub trait Shelf {
-    /// The bytes under each name, where they are told.
+    /// The bytes under each name, where they are known.
     ghost contents: { Self → Option Files };
 
     /// How many calls have failed.
     ghost faults: { Self → ℕ };
 
-    /// How many of them asked for a name that isn't there; it means something where the contents are told.
+    /// How many of them asked for a name that isn't there; it means something where the contents are known.
     ghost misses: { Self → ℕ };
 
     /// The bytes under this name, if there are at most `limit` of them.

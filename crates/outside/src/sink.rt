@@ -7,7 +7,7 @@ use crate::faults::PutFault;
 
 /// Output that grows at its end.
 pub trait Sink {
-    /// The bytes written so far, where that is told.
+    /// The bytes written so far, where that is known.
     ghost written: { Self → Option (List ℕ) };
 
     /// How many calls have failed.

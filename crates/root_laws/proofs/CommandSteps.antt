@@ -26,7 +26,7 @@ use Rattle.mb_update.specs.declared.ops.Op.TheVariants.{Insert as PutRow, Replac
 use Rattle.mb_update.specs.Sets.{change_of}
 use Rattle.update_proof.specs.Proving.{update_proof}
 use Rattle.stored_tables.specs.Plain.{catalog_table}
-use Rattle.stored_tables.specs.Placing.{is_named}
+use Rattle.stored_tables.specs.Positions.{is_named}
 use Rattle.owner_roots.specs.declared.owner_fault.OwnerFault.{OwnerFault}
 use Rattle.owner_roots.specs.declared.owner_fault.OwnerFault.TheVariants.{Command as Refused}
 use Rattle.owner_roots.specs.Changes.{set_cell, changed_tree}

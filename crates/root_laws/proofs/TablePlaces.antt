@@ -13,7 +13,7 @@ use Rattle.vo_spec.specs.declared.tables.Table.{Table}
 use Rattle.vo_laws.proofs.Growing.{other_back}
 use Rattle.vo_laws.proofs.CommandLaws.{names_of}
 use Rattle.stored_tables.specs.Plain.{catalog_table}
-use Rattle.stored_tables.specs.Placing.{is_named}
+use Rattle.stored_tables.specs.Positions.{is_named}
 use Rattle.owner_roots.specs.declared.owner_fault.OwnerFault.{OwnerFault}
 use Rattle.owner_roots.specs.Next.{table_header, place_of, place_for, tables_with}
 

@@ -14,7 +14,7 @@ use Rattle.vo_spec.specs.Honest.{Stored, stored_table_header, catalog_of, table_
 use Rattle.mb_update.specs.declared.ops.Op.{Op}
 use Rattle.update_proof.specs.Proving.{update_is_missing, update_has_surplus}
 use Rattle.stored_tables.specs.Plain.{catalog_table}
-use Rattle.stored_tables.specs.Placing.{is_named}
+use Rattle.stored_tables.specs.Positions.{is_named}
 use Rattle.owner_roots.specs.declared.owner_fault.OwnerFault.{OwnerFault}
 use Rattle.owner_roots.specs.declared.owner_fault.OwnerFault.TheVariants as fault
 use Rattle.owner_roots.specs.Forms.{has_form}

@@ -52,7 +52,8 @@ HasFault most start text fault.TooMany = (length text ≤ most) × (at : ℕ)
 HasFault most start text fault.Memory = Unit {0}
 
 -- the text's value or its first fault
-abbrev pub AnswersText : {A B : Type 0} → (B → A) → ℕ → Rule sql A → List ℕ → Result B SqlFault → Type 0
+abbrev pub AnswersText : {A B : Type 0} → (B → A) → ℕ → Rule sql A → List ℕ → Result B SqlFault
+    → Type 0
 AnswersText view most start text (Ok x) = IsTextOf most start text (view x)
 AnswersText view most start text (Err fault) = HasFault most start text fault
 

@@ -91,7 +91,7 @@ impl<'a> Parser<'a> {
     /// A condition in parentheses, the first of which is next.
     #[cycle(cond)]
     #[tactic(auto, using(crate::proofs::Conds::prims))]
-    fn enclosed(&mut self, alloc: Global) -> Result<Cond, ParseError>
+    fn condition_in_parens(&mut self, alloc: Global) -> Result<Cond, ParseError>
         requires other { begins sql (k.Not ∷ []) (left_of self.old) ≡ false }
         requires next { begins sql (k.LeftParen ∷ []) (left_of self.old) ≡ true }
         ensures value { Reads condition_of prim self.old result self.new }
@@ -115,7 +115,7 @@ impl<'a> Parser<'a> {
         if self.sees(TokenKind::Not) {
             self.negation(alloc)
         } else if self.sees(TokenKind::LeftParen) {
-            self.enclosed(alloc)
+            self.condition_in_parens(alloc)
         } else {
             self.comparison(alloc)
         }

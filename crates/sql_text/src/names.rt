@@ -19,7 +19,7 @@ use std::alloc::{AllocError, Global};
 use vo_spec::{Cmp, Name, Operand, Ref, Source, Text, Value};
 
 /// A word in small letters.
-fn folded(alloc: Global, word: &[u8]) -> Result<Vec<u8>, AllocError>
+fn lower_case_of(alloc: Global, word: &[u8]) -> Result<Vec<u8>, AllocError>
     ensures { IfOk result (λ v. v.items ≡ str_to_ascii_lowercase word.now) }
 {
     word.iter()
@@ -45,7 +45,7 @@ fn single_quotes(alloc: Global, text: &[u8]) -> Result<Vec<u8>, AllocError>
 }
 
 /// What a text in its quotes stands for.
-fn unquoted(alloc: Global, text: &[u8]) -> Result<Text, AllocError>
+fn unquote(alloc: Global, text: &[u8]) -> Result<Text, AllocError>
     ensures { IfOk result (λ t. t ≡ unquoted text.now) }
 {
     if text.len() < 2 {
@@ -62,7 +62,7 @@ impl<'a> Parser<'a> {
         ensures list { KeepsTokens self.old self.new }
     {
         let token = self.expect(TokenKind::Name)?;
-        Ok(Name::from_vec(folded(alloc, token.text)?))
+        Ok(Name::from_vec(lower_case_of(alloc, token.text)?))
     }
 
     #[tactic(auto, unfolding(crate::specs::Queries::literal))]
@@ -75,7 +75,7 @@ impl<'a> Parser<'a> {
             Ok(Value::Int(self.take(TokenKind::Integer).number))
         } else if self.sees(TokenKind::Quoted) {
             let token = self.take(TokenKind::Quoted);
-            Ok(Value::Text(unquoted(alloc, token.text)?))
+            Ok(Value::Text(unquote(alloc, token.text)?))
         } else if self.sees(TokenKind::True) {
             self.take(TokenKind::True);
             Ok(Value::Bool(true))

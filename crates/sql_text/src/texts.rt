@@ -68,7 +68,8 @@ pub fn ended<T: Drop>(
 /// The query that a text is, or the text's first fault.
 pub fn parse_query(alloc: Global, text: &str) -> Result<QueryText, SqlFault>
     ensures found { AnswersText query_of max_sql_bytes query text.now result }
-    ensures only { (q : Query) → IsTextOf max_sql_bytes query text.now q → Accepts query_of result q }
+    ensures only { (q : Query) → IsTextOf max_sql_bytes query text.now q
+        → Accepts query_of result q }
     ensures fits { IfOk result (λ q. FitsQuery (query_of q)) }
     ensures printable { IfOk result (λ q. PrintableQuery (query_of q)) }
 {
@@ -88,7 +89,8 @@ pub fn parse_query(alloc: Global, text: &str) -> Result<QueryText, SqlFault>
 /// The batch that a text is, or the text's first fault.
 pub fn parse_batch(alloc: Global, text: &str) -> Result<Batch, SqlFault>
     ensures found { AnswersText (λ x. x) max_sql_bytes batch text.now result }
-    ensures only { (b : Batch) → IsTextOf max_sql_bytes batch text.now b → Accepts (λ x. x) result b }
+    ensures only { (b : Batch) → IsTextOf max_sql_bytes batch text.now b
+        → Accepts (λ x. x) result b }
     ensures fits { IfOk result (λ b. FitCommands b.commands) }
 {
     let bytes = text.as_bytes();

@@ -8,7 +8,7 @@ use Rattle.vo_spec.specs.Honest.{Stored}
 use Rattle.vo_laws.proofs.ListLaws.{each_both}
 use Rattle.stored_tables.specs.declared.table.StoredTable.{StoredTable}
 use Rattle.stored_tables.specs.View.{stored_of, stored_in}
-use Rattle.stored_tables.specs.Placing.{IsThere}
+use Rattle.stored_tables.specs.Positions.{IsThere}
 
 abbrev pub Shared : Type 0
 Shared = List (Rc StoredTable Global)

@@ -17,7 +17,7 @@ use Rattle.table_list.specs.Changes.{Returns}
 use Rattle.table_list.specs.declared.fault.ApplyFault.{ApplyFault}
 use Rattle.table_list.specs.declared.fault.ApplyFault.TheVariants.{Refused, Memory}
 use Rattle.stored_tables.specs.View.{stored_of}
-use Rattle.stored_tables.specs.Placing.{is_named, IsUnlike, IsThere, IsAt}
+use Rattle.stored_tables.specs.Positions.{is_named, IsUnlike, IsThere, IsAt}
 use Rattle.stored_tables.specs.Working.{with_new_tree, table_after}
 use Rattle.stored_tables.specs.Ready.{changes_rows}
 use Rattle.stored_tables.proofs.ListLaws.{parted_at, one_more}

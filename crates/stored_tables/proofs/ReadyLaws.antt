@@ -1,5 +1,5 @@
 -- A command on rows that no table header refuses finds its table, and the table's tree can take the change.
-use Rattle.std.proofs.Common.{◌≡◌, ℕ, ◌-◌, ◌^◌, ◌<◌, ◌≤◌, true, List, Some, None, length, map, sym, ap, ◌∙◌, subst, arith}
+use Rattle.std.proofs.Common.{◌≡◌, ℕ, ◌<◌, ◌≤◌, true, List, Some, None, length, map, sym, ap, ◌∙◌, subst, arith}
 use Rattle.std.specs.Option.{option_map_or}
 use Rattle.std.specs.List.{AllByRecursion}
 use Rattle.std.proofs.lemmas.List.{length-map}
@@ -12,14 +12,14 @@ use Rattle.vo_spec.specs.Firsts.{first_of}
 use Rattle.vo_spec.specs.Cells.{whole_entry}
 use Rattle.vo_spec.specs.Parts.{entries}
 use Rattle.vo_spec.specs.Fits.{FitsRow}
-use Rattle.vo_spec.specs.Batches.{FitsCommand}
-use Rattle.vo_spec.specs.Tables.{TableHeader, Tests, table_header_of, on_table, insert_tests, update_tests, delete_tests, refusal, row_of}
+use Rattle.vo_spec.specs.Batches.{FitsCommand, max_columns}
+use Rattle.vo_spec.specs.Tables.{TableHeader, Tests, table_header_of, on_table, insert_tests, update_tests, delete_tests, refusal, row_of, max_rows}
 use Rattle.vo_spec.specs.Honest.{Stored, stored_table_header}
 use Rattle.vo_laws.proofs.CommandLaws.{insertable, row_fits}
 use Rattle.vo_laws.proofs.StandingLaws.{stored_table_headers}
 use Rattle.table_list.specs.TableHeaders.{command_name}
 use Rattle.stored_tables.specs.Standing.{IsStanding}
-use Rattle.stored_tables.specs.Placing.{IsUnlike, IsAt}
+use Rattle.stored_tables.specs.Positions.{IsUnlike, IsAt}
 use Rattle.stored_tables.specs.Ready.{changes_rows, IsReady}
 use Rattle.stored_tables.proofs.PositionLaws.{table_header_nowhere}
 use Rattle.stored_tables.proofs.StandingLaws.{plain_at}
@@ -48,13 +48,13 @@ insert_ready name values stored at s standing fits e is =
     let insertion = insertable name values standing.tables allowed plain.table plain.found in
     let row : FitsRow (row_of plain.table.schema values) = row_fits plain.table values plain.fits.schema fits.1 insertion in
     let same : length (entries s.tree) ≡ length plain.table.rows = ap length plain.stands.stands.rows_are ∙ length-map plain.table.rows whole_entry in
-    let few : length plain.table.rows < 2 ^ 32 - 1 = insertion.room in
+    let few : length plain.table.rows < max_rows = insertion.room in
     (subst (λ (z : Schema). FitsRow (row_of z values)) (sym plain.stands.schema) row, omega arith)
 
-few_columns : (name : List ℕ) (stored : List Stored) (at : ℕ) (s : Stored) → IsStanding stored → IsAt name stored at s → length s.schema.columns ≤ 32
+few_columns : (name : List ℕ) (stored : List Stored) (at : ℕ) (s : Stored) → IsStanding stored → IsAt name stored at s → length s.schema.columns ≤ max_columns
 few_columns name stored at s standing is =
     let plain = plain_at name stored at s standing is in
-    subst (λ (z : Schema). length z.columns ≤ 32) (sym plain.stands.schema) plain.fits.schema.columns.1
+    subst (λ (z : Schema). length z.columns ≤ max_columns) (sym plain.stands.schema) plain.fits.schema.columns.1
 
 pub ready : (c : Command) (stored : List Stored) (at : ℕ) (s : Stored) → changes_rows c ≡ true → IsStanding stored → FitsCommand c
     → refusal c (map stored_table_header stored) ≡ None → IsAt (command_name c) stored at s → IsReady c s

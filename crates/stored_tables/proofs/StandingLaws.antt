@@ -14,7 +14,7 @@ use Rattle.vo_laws.proofs.StoredFits.{SeparatedAfter, work_separated}
 use Rattle.table_list.specs.Changes.{Returns}
 use Rattle.table_list.specs.declared.fault.ApplyFault.{ApplyFault}
 use Rattle.stored_tables.specs.Standing.{IsStanding}
-use Rattle.stored_tables.specs.Placing.{is_named, IsUnlike, IsAt}
+use Rattle.stored_tables.specs.Positions.{is_named, IsUnlike, IsAt}
 use Rattle.stored_tables.proofs.ListLaws.{parted_at}
 
 pub nothing_standing : IsStanding []

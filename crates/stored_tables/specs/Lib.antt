@@ -1,7 +1,7 @@
 pub mod Codes
 pub mod View
 pub mod Standing
-pub mod Placing
+pub mod Positions
 pub mod Ready
 pub mod Working
 pub mod Plain

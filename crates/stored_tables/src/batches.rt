@@ -1,7 +1,7 @@
 //! What batches make of tables.
 ghost use Rattle.std.specs.Prelude.{◌≡◌, ◌≤◌, List, Ok, length, IfOk};
 ghost use Rattle.std.specs.List.{AllByRecursion};
-ghost use Rattle.vo_spec.specs.Batches.{FitsCommand};
+ghost use Rattle.vo_spec.specs.Batches.{FitsCommand, max_commands};
 ghost use Rattle.vo_spec.specs.declared.tables.Table.{Table as PlainTable};
 ghost use Rattle.vo_spec.specs.Honest.{RepresentTables, work_all};
 ghost use Rattle.table_list.specs.Batched.{BatchGives};
@@ -15,14 +15,14 @@ ghost use Rattle.stored_tables.specs.Plain.{GivesPlain};
 use crate::hashing::hash_tables;
 use crate::sharing::replace_range;
 use crate::table::StoredTable;
-use crate::working::worked;
+use crate::working::apply_command;
 use std::alloc::{AllocError, Global};
 use std::rc::Rc;
 use table_list::{ApplyFault, BatchFault};
 use vo_spec::Command;
 
 /// The same tables once more.
-pub(crate) fn shared(
+pub(crate) fn share_tables(
     alloc: Global,
     tables: &[Rc<StoredTable>],
 ) -> Result<Vec<Rc<StoredTable>>, AllocError>
@@ -35,21 +35,21 @@ pub(crate) fn shared(
 
 /// The tables after a list of commands. Their nodes are hashed when all are done: what a later command
 /// replaces never is.
-fn worked_in_turn(
+fn apply_commands(
     alloc: Global,
     tables: &[Rc<StoredTable>],
     commands: &[Command],
 ) -> Result<Vec<Rc<StoredTable>>, BatchFault>
     requires standing { IsStanding (stored_in tables.now) }
     requires fits { AllByRecursion FitsCommand commands.now }
-    requires count { length commands.now ≤ 1000 }
+    requires count { length commands.now ≤ max_commands }
     ensures answer { BatchGives (λ new. stored_in new.items) result
         (work_from 0 commands.now (stored_in tables.now)) }
     ensures standing { IfOk result (λ new. IsStanding (stored_in new.items)) }
 {
-    let mut new = shared(alloc, tables)?;
+    let mut new = share_tables(alloc, tables)?;
     for (index, command) in commands.iter().enumerate() {
-        match worked(alloc, new.as_slice(), command) {
+        match apply_command(alloc, new.as_slice(), command) {
             Ok(next) => new = next,
             Err(ApplyFault::Refused(fault)) => {
                 let index = index as u64;
@@ -62,14 +62,14 @@ fn worked_in_turn(
 }
 
 /// The tables after a batch, and what that says of the plain tables for which they stand.
-pub(crate) fn worked_batch(
+pub(crate) fn apply_batch(
     alloc: Global,
     tables: &[Rc<StoredTable>],
     commands: &[Command],
 ) -> Result<Vec<Rc<StoredTable>>, BatchFault>
     requires standing { IsStanding (stored_in tables.now) }
     requires fits { AllByRecursion FitsCommand commands.now }
-    requires count { length commands.now ≤ 1000 }
+    requires count { length commands.now ≤ max_commands }
     ensures answer { BatchGives (λ new. stored_in new.items) result
         (work_from 0 commands.now (stored_in tables.now)) }
     ensures standing { IfOk result (λ new. IsStanding (stored_in new.items)) }
@@ -79,5 +79,5 @@ pub(crate) fn worked_batch(
         → FitTables plain
         → GivesPlain (λ new. stored_in new.items) result (apply_plain commands.now plain) }
 {
-    worked_in_turn(alloc, tables, commands)
+    apply_commands(alloc, tables, commands)
 }

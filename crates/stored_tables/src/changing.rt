@@ -1,10 +1,11 @@
 //! Tables with one of them new, changed or dropped.
 ghost use Rattle.std.specs.Prelude.{◌≡◌, ◌<◌, ◌≤◌, ◌+◌, ◌++◌, ◌∷◌, not, bytes_eq, length, take, drop, filter, IfOk};
+ghost use Rattle.vo_spec.specs.Batches.{max_columns};
 ghost use Rattle.vo_spec.specs.Honest.{put_stored};
 ghost use Rattle.stored_tables.specs.View.{stored_in, stored_of};
 ghost use Rattle.stored_tables.specs.Working.{made_stored};
 
-use crate::placing::place_for;
+use crate::positions::place_for;
 use crate::sharing::replace_range;
 use crate::table::StoredTable;
 use mb_tree::Tree;
@@ -20,7 +21,7 @@ pub(crate) fn new_table(
     columns: &[Column],
     key: &Name,
 ) -> Result<StoredTable, AllocError>
-    requires { length columns.now ≤ 32 }
+    requires { length columns.now ≤ max_columns }
     ensures { IfOk result (λ table. stored_of table ≡ made_stored name.now columns.now key.now) }
 {
     let number = column_number(columns, key.as_bytes()) as u8;

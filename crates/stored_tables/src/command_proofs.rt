@@ -6,7 +6,7 @@ ghost use Rattle.vo_spec.specs.Honest.{command_proof, proof_on};
 ghost use Rattle.stored_tables.specs.View.{proof_list, stored_in, stored_of};
 ghost use Rattle.stored_tables.specs.Standing.{IsStanding};
 
-use crate::placing::place_of;
+use crate::positions::place_of;
 use crate::row_changes::key_of;
 use crate::table::StoredTable;
 use mb_tree::PartTree;

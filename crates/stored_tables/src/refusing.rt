@@ -4,7 +4,7 @@ ghost use Rattle.vo_spec.specs.Tables.{refusal};
 ghost use Rattle.vo_spec.specs.Honest.{stored_table_header};
 ghost use Rattle.stored_tables.specs.View.{stored_in};
 
-use crate::placing::place_of;
+use crate::positions::place_of;
 use crate::table::StoredTable;
 use std::rc::Rc;
 use table_list::{command_name, first_refusal};

@@ -1,12 +1,12 @@
 //! Tables with one of their rows new, changed or gone.
-ghost use Rattle.std.specs.Prelude.{◌≡◌, ◌<◌, ◌≤◌, ◌^◌, ◌-◌, [], length, map, Result, IfOk};
+ghost use Rattle.std.specs.Prelude.{◌≡◌, ◌<◌, ◌≤◌, [], length, map, Result, IfOk};
 ghost use Rattle.std.specs.List.{AllByRecursion};
 ghost use Rattle.std.specs.Result.{result_map_both};
 ghost use Rattle.vo_spec.specs.declared.tables.Command.TheVariants.{Insert, Update, Delete};
 ghost use Rattle.vo_spec.specs.declared.trees.UpdateFault.{UpdateFault as TreeFault};
 ghost use Rattle.vo_spec.specs.Values.{key_of};
-ghost use Rattle.vo_spec.specs.Tables.{cell_changes, row_of as row_from};
-ghost use Rattle.vo_spec.specs.Batches.{FitsSet};
+ghost use Rattle.vo_spec.specs.Tables.{cell_changes, max_rows, row_of as row_from};
+ghost use Rattle.vo_spec.specs.Batches.{FitsSet, max_columns};
 ghost use Rattle.vo_spec.specs.Trees.{RowTree};
 ghost use Rattle.vo_spec.specs.Fits.{FitsRow};
 ghost use Rattle.vo_spec.specs.Parts.{entries};
@@ -59,7 +59,7 @@ fn with_tree(
 
 fn with_row(alloc: Global, table: &StoredTable, values: &[Value]) -> Result<StoredTable, ApplyFault>
     requires fits { FitsRow (row_from table.now.schema.value values.now) }
-    requires room { length (entries table.now.tree) < 2 ^ 32 - 1 }
+    requires room { length (entries table.now.tree) < max_rows }
     ensures { Returns stored_of result (table_after (Insert [] values.now) (stored_of table.now)) }
 {
     let row = row_of(alloc, &table.schema, values)?;
@@ -69,7 +69,7 @@ fn with_row(alloc: Global, table: &StoredTable, values: &[Value]) -> Result<Stor
 
 /// The cells that SET names.
 fn set_cells(alloc: Global, schema: &Schema, sets: &[SetPart]) -> Result<Vec<SetCell>, AllocError>
-    requires { length schema.now.columns ≤ 32 }
+    requires { length schema.now.columns ≤ max_columns }
     ensures { IfOk result (λ cells. map change_of cells.items ≡ cell_changes schema.now sets.now) }
 {
     let mut cells = Vec::with_capacity(alloc, sets.len())?;
@@ -90,7 +90,7 @@ fn with_cells(
     value: &Value,
 ) -> Result<StoredTable, ApplyFault>
     requires fits { AllByRecursion FitsSet sets.now }
-    requires columns { length table.now.schema.value.columns ≤ 32 }
+    requires columns { length table.now.schema.value.columns ≤ max_columns }
     ensures { Returns stored_of result
         (table_after (Update [] sets.now [] value.now) (stored_of table.now)) }
 {
@@ -110,7 +110,7 @@ fn without_row(alloc: Global, table: &StoredTable, value: &Value) -> Result<Stor
 }
 
 /// The table with what the command changes of its rows.
-pub(crate) fn changed_table(
+pub(crate) fn change_table(
     alloc: Global,
     table: &StoredTable,
     command: &Command,

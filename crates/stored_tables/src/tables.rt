@@ -14,15 +14,15 @@ ghost use Rattle.stored_tables.specs.Standing.{IsStanding};
 ghost use Rattle.stored_tables.specs.Working.{work_from};
 ghost use Rattle.stored_tables.specs.Plain.{GivesPlain};
 
-use crate::batches::{shared, worked_batch};
+use crate::batches::{apply_batch, share_tables};
 use crate::catalogs::catalog_tables;
 use crate::command_proofs::proof_of;
 use crate::hashing::hash_tables;
-use crate::placing::table_of;
 use crate::plain::plain_tables;
+use crate::positions::table_of;
 use crate::refusing::fault_of;
 use crate::table::StoredTable;
-use crate::working::worked;
+use crate::working::apply_command;
 use mb_tree::PartTree;
 use std::alloc::{AllocError, Global};
 use std::marker::Model;
@@ -68,7 +68,7 @@ impl StoredTables {
     pub fn share(&self, alloc: Global) -> Result<StoredTables, AllocError>
         ensures { IfOk result (λ copy. copy ≡ self.now) }
     {
-        let tables = shared(alloc, self.tables.as_slice())?;
+        let tables = share_tables(alloc, self.tables.as_slice())?;
         Ok(StoredTables { tables })
     }
 
@@ -106,7 +106,7 @@ impl StoredTables {
         requires fits { FitsCommand command.now }
         ensures { Returns (λ new. new) result (work command.now self.now) }
     {
-        let tables = worked(alloc, self.tables.as_slice(), command)?;
+        let tables = apply_command(alloc, self.tables.as_slice(), command)?;
         let name = command_name(command);
         Ok(StoredTables {
             tables: hash_tables(alloc, &tables, Some(name))?,
@@ -124,7 +124,7 @@ impl StoredTables {
         ensures plain { (tables : List Table) → RepresentTables self.old tables → FitTables tables
             → GivesPlain (λ _. self.new) result (apply_plain batch.now.commands tables) }
     {
-        match worked_batch(alloc, self.tables.as_slice(), batch.commands.as_slice()) {
+        match apply_batch(alloc, self.tables.as_slice(), batch.commands.as_slice()) {
             Ok(tables) => {
                 self.tables = tables;
                 Ok(())

@@ -2,7 +2,7 @@
 ghost use Rattle.std.specs.Prelude.{◌≡◌, ◌≤◌, IsTrue, None, length, map, IfOk};
 ghost use Rattle.vo_spec.specs.declared.tables.Command.TheVariants.{Create};
 ghost use Rattle.vo_spec.specs.Tables.{refusal};
-ghost use Rattle.vo_spec.specs.Batches.{FitsCommand};
+ghost use Rattle.vo_spec.specs.Batches.{FitsCommand, max_columns};
 ghost use Rattle.vo_spec.specs.Honest.{changed_trees, stored_table_header, work};
 ghost use Rattle.table_list.specs.Changes.{Returns};
 ghost use Rattle.stored_tables.specs.View.{stored_in};
@@ -10,23 +10,23 @@ ghost use Rattle.stored_tables.specs.Standing.{IsStanding};
 ghost use Rattle.stored_tables.specs.Ready.{changes_rows};
 
 use crate::changing::{new_table, replace_table, with_table, without_table};
-use crate::placing::place_of;
+use crate::positions::place_of;
 use crate::refusing::fault_of;
-use crate::row_changes::changed_table;
+use crate::row_changes::change_table;
 use crate::table::StoredTable;
 use std::alloc::Global;
 use std::rc::Rc;
 use table_list::{ApplyFault, command_name};
 use vo_spec::{Column, Command, Name};
 
-fn created(
+fn create_table(
     alloc: Global,
     tables: &[Rc<StoredTable>],
     name: &Name,
     columns: &[Column],
     key: &Name,
 ) -> Result<Vec<Rc<StoredTable>>, ApplyFault>
-    requires { length columns.now ≤ 32 }
+    requires { length columns.now ≤ max_columns }
     ensures { Returns (λ new. stored_in new.items) result
         (changed_trees (Create name.now columns.now key.now) (stored_in tables.now)) }
 {
@@ -35,7 +35,7 @@ fn created(
 }
 
 /// The tables with what the command changes of the rows of its table.
-fn changed_rows(
+fn change_rows(
     alloc: Global,
     tables: &[Rc<StoredTable>],
     command: &Command,
@@ -49,7 +49,7 @@ fn changed_rows(
 {
     match place_of(tables, command_name(command)) {
         None => unreachable!(),
-        Some(place) => match changed_table(alloc, place.table, command) {
+        Some(place) => match change_table(alloc, place.table, command) {
             Ok(table) => Ok(replace_table(alloc, tables, place.at, table)?),
             Err(fault) => Err(fault),
         },
@@ -58,7 +58,7 @@ fn changed_rows(
 
 /// The tables after a command that isn't refused without a look at the rows.
 #[tactic(auto, unfolding(vo_spec::specs::Batches::FitsCommand))]
-fn changed(
+fn change_tables(
     alloc: Global,
     tables: &[Rc<StoredTable>],
     command: &Command,
@@ -71,18 +71,18 @@ fn changed(
 {
     match command {
         Command::Create { name, columns, key } => {
-            created(alloc, tables, name, columns.as_slice(), key)
+            create_table(alloc, tables, name, columns.as_slice(), key)
         },
         Command::Drop { name } => Ok(without_table(alloc, tables, name.as_bytes())?),
         Command::Insert { .. } | Command::Update { .. } | Command::Delete { .. } => {
-            changed_rows(alloc, tables, command)
+            change_rows(alloc, tables, command)
         },
     }
 }
 
 /// The tables after a command.
 #[tactic(auto, using(crate::proofs::WorkLaws::work_allowed, crate::proofs::WorkLaws::work_refused))]
-pub(crate) fn worked(
+pub(crate) fn apply_command(
     alloc: Global,
     tables: &[Rc<StoredTable>],
     command: &Command,
@@ -95,6 +95,6 @@ pub(crate) fn worked(
 {
     match fault_of(tables, command) {
         Some(fault) => Err(ApplyFault::Refused(fault)),
-        None => changed(alloc, tables, command),
+        None => change_tables(alloc, tables, command),
     }
 }

@@ -21,14 +21,14 @@ negation-returns-clause-value t c =
     (condition_of c.in_ok-part.part) (left_of c.prim.new.self) c.requires c.in_ok-open.ensures.opened c.in_ok-part.ensures.value
     ∙ ap (λ z. (Ok z, left_of c.prim.new.self)) (sym (not_is c.in_ok-new.field-0 ∙ ap (λ z. negated (condition_of z)) c.in_ok-new.ensures.ok))
 
-pub enclosed-returns-in_err-whole-clause-value : goal.enclosed-returns-in_err-whole-clause-value
-enclosed-returns-in_err-whole-clause-value t c =
+pub condition_in_parens-returns-in_err-whole-clause-value : goal.condition_in_parens-returns-in_err-whole-clause-value
+condition_in_parens-returns-in_err-whole-clause-value t c =
     let f = paren_fails c.args.self.now.levels (left_of c.args.self.now) c.open.new.self.levels (token_of c.in_ok-open.field-0) (left_of c.open.new.self) c.in_ok-open.ensures.levels
     c.in_err-whole.field-0.0 (left_of c.disj.new.self) c.requires.other c.requires.next c.in_ok-open.ensures.opened c.in_err-whole.ensures.value in
     search rules
 
-pub enclosed-returns-clause-value : goal.enclosed-returns-clause-value
-enclosed-returns-clause-value t c =
+pub condition_in_parens-returns-clause-value : goal.condition_in_parens-returns-clause-value
+condition_in_parens-returns-clause-value t c =
     paren_closed c.args.self.now.levels (left_of c.args.self.now) c.open.new.self.levels (token_of c.in_ok-open.field-0) (left_of c.open.new.self) c.in_ok-open.ensures.levels
     c.in_ok-whole.whole (left_of c.disj.new.self) c.then_expect.result (left_of c.then_expect.new.self)
     c.requires.other c.requires.next c.in_ok-open.ensures.opened c.in_ok-whole.ensures.value c.then_expect.ensures.value c.then_expect.ensures.same

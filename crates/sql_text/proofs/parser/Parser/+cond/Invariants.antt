@@ -12,8 +12,8 @@ decreases-prim l = 4 * l.self.now.levels + 1
 abbrev pub decreases-negation : goal.decreases-negation
 decreases-negation l = 4 * l.self.now.levels
 
-abbrev pub decreases-enclosed : goal.decreases-enclosed
-decreases-enclosed l = 4 * l.self.now.levels
+abbrev pub decreases-condition_in_parens : goal.decreases-condition_in_parens
+decreases-condition_in_parens l = 4 * l.self.now.levels
 
 abbrev pub decreases-conj : goal.decreases-conj
 decreases-conj l = 4 * l.self.now.levels + 2

@@ -1,8 +1,8 @@
 use Rattle.std.proofs.Common.{take}
 use Rattle.std.specs.List.{AllByRecursion}
 use Rattle.stored_tables.specs.View.{stored_in}
-use Rattle.stored_tables.specs.Placing.{IsUnlike}
-use Rattle.stored_tables.proofs.placing.place_of.Given as goal
+use Rattle.stored_tables.specs.Positions.{IsUnlike}
+use Rattle.stored_tables.proofs.positions.place_of.Given as goal
 
 -- no table so far has the name
 abbrev pub invariant-loop-at : goal.invariant-loop-at

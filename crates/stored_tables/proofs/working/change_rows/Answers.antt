@@ -8,7 +8,7 @@ use Rattle.stored_tables.specs.declared.table.StoredTable.{StoredTable}
 use Rattle.stored_tables.specs.View.{stored_in, lent_stored}
 use Rattle.stored_tables.proofs.PositionLaws.{rows_changed, table_changed, table_refused, unlike_lent, at_lent}
 use Rattle.stored_tables.proofs.ReadyLaws.{rows_nowhere, ready}
-use Rattle.stored_tables.proofs.working.changed_rows.Goals as goal
+use Rattle.stored_tables.proofs.working.change_rows.Goals as goal
 
 pub unreachable-requires : goal.unreachable-requires
 unreachable-requires c =
@@ -16,8 +16,8 @@ unreachable-requires c =
     let stored = stored_in c.args.tables.now in
     rows_nowhere command stored c.requires.rows (unlike_lent _ (command_name command) stored c.command_name.ensures c.in-None.ensures) c.requires.allowed
 
-pub changed_table-requires : goal.changed_table-requires
-changed_table-requires c =
+pub change_table-requires : goal.change_table-requires
+change_table-requires c =
     let command = c.args.command.now in
     let stored = stored_in c.args.tables.now in
     let s = lent_stored c.in-Some.place.table in

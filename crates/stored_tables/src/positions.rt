@@ -1,11 +1,11 @@
-//! Tables by their names.
+//! Where a stored table is among others, and where a new one goes.
 ghost use Rattle.std.specs.Prelude.{◌≡◌, ◌<◌, ◌≤◌, ◌++◌, ◌∷◌, take, drop, length, find, bytes_eq, option_map, IfSome};
 ghost use Rattle.vo_spec.specs.Values.{key_lt};
 ghost use Rattle.vo_spec.specs.Fits.{FitsTree};
 ghost use Rattle.vo_spec.specs.Honest.{put_stored};
 ghost use Rattle.stored_tables.specs.View.{lent_stored, stored_in, stored_of};
 ghost use Rattle.stored_tables.specs.Standing.{IsStanding};
-ghost use Rattle.stored_tables.specs.Placing.{IsFound, IsThere, is_named};
+ghost use Rattle.stored_tables.specs.Positions.{IsFound, IsThere, is_named};
 
 use crate::table::StoredTable;
 use std::rc::Rc;

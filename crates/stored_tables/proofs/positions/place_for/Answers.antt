@@ -1,6 +1,6 @@
 use Rattle.stored_tables.specs.View.{stored_in, stored_of}
 use Rattle.stored_tables.proofs.PositionLaws.{put_here, put_further}
-use Rattle.stored_tables.proofs.placing.place_for.Goals as goal
+use Rattle.stored_tables.proofs.positions.place_for.Goals as goal
 
 pub returns-then-is_before-clause-place : goal.returns-then-is_before-clause-place
 returns-then-is_before-clause-place c =

@@ -1,6 +1,6 @@
 use Rattle.stored_tables.specs.View.{stored_in}
 use Rattle.stored_tables.proofs.PositionLaws.{found_here, unlike_more}
-use Rattle.stored_tables.proofs.placing.place_of.Goals as goal
+use Rattle.stored_tables.proofs.positions.place_of.Goals as goal
 
 pub returns-then-has_name : goal.returns-then-has_name
 returns-then-has_name c =

@@ -2,7 +2,7 @@
 use Rattle.std.specs.Prelude.{◌≡◌, ℕ, ◌+◌, Bool, true, false, List, [], ◌∷◌, ◌++◌, take, drop, Option, Some, None, bytes_eq}
 use Rattle.std.specs.List.{AllByRecursion}
 use Rattle.vo_spec.specs.Honest.{Stored}
-use Rattle.stored_tables.specs.declared.placing.Position.{Position}
+use Rattle.stored_tables.specs.declared.positions.Position.{Position}
 use Rattle.stored_tables.specs.View.{lent_stored}
 
 abbrev pub is_named : List ℕ → Stored → Bool
