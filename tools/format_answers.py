@@ -14,7 +14,7 @@ from vo_ref.faults import AuditFault, BadForm, EntriesFault, EntryFault, KeyFaul
 from vo_ref.formats import (entry_bytes, journal_bytes, read_batch, read_entries, read_proofs, read_reply, slot_bytes,
                             walk_journal, write_proofs, write_reply)
 from vo_ref.hashing import sha256
-from vo_ref.owner import Owner
+from vo_ref.owner import Owner, Roots, owned, replay
 from vo_ref.sql import parse_query
 from vo_ref.store import Store
 from vo_ref.tree import attr_digest, cell_digest, hide, row_digest
@@ -251,12 +251,65 @@ class Calls:
             return forms.form("BadAt", str(fault.index))
         return f"{count} {catalog_text(store.kept[-1].catalog)}"
 
+    # owners with roots alone
+
+    def start(self):
+        owner, entry = Owner.start(self.made)
+        return f"{entry_bytes(entry).hex()} {roots_text(owner.roots)}"
+
+    def next(self, version, catalog, batch, proofs):
+        try:
+            return roots_text(Roots(number(version), read_catalog(catalog)).next(read_batch(batch), proofs))
+        except OwnerFault as fault:
+            return owner_fault_form(fault)
+
+    def step(self, journal, batch, proofs):
+        try:
+            owner = replay(self.made, read_entries(journal))
+            step = owner.step(read_batch(batch), proofs)
+        except EntriesFault as fault:
+            return damage_form(fault)
+        except EntryFault as fault:
+            return forms.form("Entry", str(fault.index))
+        except OwnerFault as fault:
+            return owner_fault_form(fault)
+        owner.advance(step)
+        return f"{entry_bytes(step.entry).hex()} {roots_text(owner.roots)}"
+
+    def replay(self, journal):
+        try:
+            return roots_text(replay(self.made, read_entries(journal)).roots)
+        except EntriesFault as fault:
+            return damage_form(fault)
+        except EntryFault as fault:
+            return forms.form("Entry", str(fault.index))
+
+    def owned_entries(self, key, journal):
+        try:
+            return str(owned(lms.PublicKey.read(key), read_entries(journal)))
+        except EntriesFault as fault:
+            return damage_form(fault)
+
     def answer(self, key, query, journal):
         try:
             store, _ = load_store(lms.PublicKey.read(key), journal)
         except EntryFault as fault:
             return forms.form("BadJournal", str(fault.index))
         return store.answer(parse_query(query.decode())).hex()
+
+
+def roots_text(roots):
+    return f"{roots.version} {catalog_text(roots.catalog)}"
+
+
+def owner_fault_form(fault):
+    """The fault with its fields, or its name alone where it has none."""
+    if fault.name == "Command":
+        return forms.refusal(fault.index, fault.fields["fault"])
+    if not fault.fields:
+        return fault.name
+    return forms.form(fault.name, *(field.hex() if isinstance(field, bytes) else str(field)
+                                    for field in fault.fields.values()))
 
 
 def damage_form(fault):

@@ -1,10 +1,15 @@
 """The rows of the stored run of crates/format_lines: chosen cases, each the word of a call and its byte strings."""
+from dataclasses import replace
+
 from format_answers import load_store, number, seal_batches
 from vo_ref import lms
 from vo_ref.catalog import catalog_digest
-from vo_ref.formats import batch_bytes
+from vo_ref.faults import StoreFault
+from vo_ref.formats import batch_bytes, journal_bytes, read_proofs, write_proofs
+from vo_ref.owner import Owner
 from vo_ref.sql import parse_query, parse_script
-from vo_ref.tree import attr_digest, row_digest
+from vo_ref.store import Store
+from vo_ref.tree import Stub, attr_digest, digest_of, row_digest
 from vo_ref.values import bool_value, int_value, text_value, value_bytes
 
 
@@ -434,6 +439,164 @@ def answer_rows():
     yield "answer", turned(public, 55), b"SELECT * FROM t", journal
 
 
+# -- owners with roots alone
+
+def bytes_of(text):
+    """The batch of a text, as bytes."""
+    [batch] = batches_of(text)
+    return batch_bytes(batch)
+
+
+class Owned:
+    """An owner and a store of its tables, which follow batches."""
+
+    def __init__(self, secret, *texts):
+        self.owner, first = Owner.start(secret)
+        self.store, self.entries = Store(secret.public()), [first]
+        self.store.install(first.rec, first.signature)
+        for text in texts:
+            self.follow(text)
+
+    def proofs(self, text):
+        """The honest proofs of a batch, also of one that is refused."""
+        [batch] = batches_of(text)
+        try:
+            return self.store.propose(batch)
+        except StoreFault as fault:
+            return fault.fields["proofs"]
+
+    def follow(self, text):
+        [batch] = batches_of(text)
+        step = self.owner.step(batch, self.store.propose(batch))
+        self.store.install(step.entry.rec, step.entry.signature)
+        self.owner.advance(step)
+        self.entries.append(step.entry)
+
+    def next_row(self, text, proofs):
+        roots = self.owner.roots
+        return "next", bytes([roots.version]), roots.catalog.bytes(), bytes_of(text), proofs
+
+    def journal(self):
+        return journal_bytes(self.entries)
+
+
+def owner_rows():
+    secret = lms.SecretKey.make(ID, OWNER_SEED, 4, 5)
+    public = secret.public().bytes()
+    yield "make", LEAF, b"\x04", ID, OWNER_SEED
+    yield "start",
+    yield from followed_rows(secret)
+    yield from hostile_proof_rows(secret)
+    yield from stepped_rows(secret)
+    yield from replayed_rows(secret, public)
+
+
+def followed_rows(secret):
+    """The roots after each batch of all commands, by honest proofs, and the refusals that these show."""
+    owned = Owned(secret)
+    for text in CREATE, *INSERTS, *CHANGES:
+        yield owned.next_row(text, owned.proofs(text))
+        owned.follow(text)
+    # a tree of two leaves, one of which is cut off, and the whole of it in one batch
+    owned = Owned(secret, CREATE)
+    many = "".join(f"INSERT INTO t VALUES ({key}, 'x');" for key in range(1, 18))
+    fewer = "".join(f"DELETE FROM t WHERE id = {key};" for key in (1, 2))
+    for text in many, fewer:
+        yield owned.next_row(text, owned.proofs(text))
+        owned.follow(text)
+    # refused by the catalog, and by the rows that the proof shows
+    owned = Owned(secret, CREATE, *INSERTS)
+    for text in (CREATE, "INSERT INTO u VALUES (1);", "INSERT INTO t VALUES (1);", "INSERT INTO t VALUES (3, 'z');",
+                 "UPDATE t SET name = 'z' WHERE id = 7;", "DELETE FROM t WHERE id = 2;",
+                 "DELETE FROM t WHERE id = 3; DELETE FROM t WHERE id = 3;"):
+        yield owned.next_row(text, owned.proofs(text))
+
+
+def hostile_proof_rows(secret):
+    """The proofs of an UPDATE, of two commands and of none, changed."""
+    owned = Owned(secret, CREATE, *INSERTS)
+    proofs = owned.proofs(CHANGES[0])
+    [tree] = read_proofs(proofs)
+    shown = proofs[:-33] + b"\1\2\0\3bob"
+    # whole, the last byte cut, a bit of a digest turned, the tree as its digest, and the cell shown as it is
+    for data in proofs, proofs[:-1], turned(proofs, 20), write_proofs([Stub(digest_of(tree))]), shown:
+        yield owned.next_row(CHANGES[0], data)
+    # a cell too many, a key that is no BIGINT, the other row open, and the tree of an INSERT
+    extra = proofs[:-34] + b"\2\0" + proofs[-32:] + b"\0" + proofs[-32:]
+    for data in extra, b"VOU1\0\1\1\1\0\1k\0" + b"d" * 32, owned.proofs(INSERTS[0]):
+        yield owned.next_row(CHANGES[0], data)
+    # none, two, and one where none is due
+    for text, data in ((CHANGES[0], b"VOU1\0\0"), (CHANGES[0], write_proofs([tree, tree])), (CHANGES[2], proofs),
+                       (CHANGES[2], b"VOU1\0\0"), (CHANGES[0], b"")):
+        yield owned.next_row(text, data)
+    # two commands, by the proofs of the first alone, by both before the first, and in the other order
+    both = CHANGES[0] + CHANGES[1]
+    first, second = read_proofs(owned.proofs(both))
+    for trees in [first, second], [first], [first, first], [second, first]:
+        yield owned.next_row(both, write_proofs(trees))
+    yield from sibling_rows(secret)
+
+
+def sibling_rows(secret):
+    """A DELETE that makes a leaf underfull: its sibling open, closed, and open where it isn't looked at."""
+    many = "".join(f"INSERT INTO t VALUES ({key}, 'x');" for key in range(1, 18))
+    owned = Owned(secret, CREATE, many)
+    looks, leaves = "DELETE FROM t WHERE id = 1;", "DELETE FROM t WHERE id = 9;"
+    [both], [one] = read_proofs(owned.proofs(looks)), read_proofs(owned.proofs(leaves))
+    for text in looks, leaves:
+        for tree in both, one:
+            yield owned.next_row(text, write_proofs([tree]))
+
+
+def stepped_rows(secret):
+    owned = Owned(secret, CREATE, *INSERTS)
+    yield "keep", owned.journal()
+    for text in CHANGES:
+        yield "step", owned.journal(), bytes_of(text), owned.proofs(text)
+    # refused by the row that is there, by a proof of another root, and behind another key's journal
+    again = "INSERT INTO t VALUES (3, 'z');"
+    yield "step", owned.journal(), bytes_of(again), owned.proofs(again)
+    yield "step", owned.journal(), bytes_of(CHANGES[0]), turned(owned.proofs(CHANGES[0]), 20)
+    other = Owned(lms.SecretKey.make(ID, SEED, 4, 5))
+    yield "step", other.journal(), b"\0\0", b"VOU1\0\0"
+    # the last version of a key of 32 leaves, and one more, by honest proofs and by none
+    full = Owned(secret, CREATE, *["INSERT INTO t VALUES (%d, 'x');" % key for key in range(29)])
+    yield "keep", full.journal()
+    yield "step", full.journal(), bytes_of(CHANGES[0]), full.proofs(CHANGES[0])
+    full.follow(CHANGES[0])
+    yield "keep", full.journal()
+    yield "step", full.journal(), bytes_of(CHANGES[0]), full.proofs(CHANGES[0])
+    yield "step", full.journal(), bytes_of(CHANGES[0]), b""
+
+
+def replayed_rows(secret, public):
+    """Script A's journal, and others that are an owner's up to an entry."""
+    owned = Owned(secret, CREATE, *INSERTS)
+    *earlier, last = owned.entries
+    at = last.proofs.index(b"\x80" + bytes(6) + b"\1\0") + 9
+    # the last entry's first digest turned, its proofs taken as those of no trees, its record and its signature turned,
+    # another batch, and no last entry
+    others = [
+        replace(last, proofs=turned(last.proofs, at)),
+        replace(last, proofs=b"VOU1\0\0"),
+        replace(last, rec=earlier[-1].rec),
+        replace(last, signature=turned(last.signature, 40)),
+        replace(last, batch=tuple(batches_of(CHANGES[1])[0])),
+    ]
+    yield "keep", owned.journal()
+    journals = [owned.journal(), *(journal_bytes([*earlier, other]) for other in others), journal_bytes(earlier)]
+    for data in *journals, b"\0", b"":
+        yield "replay", data
+        yield "owned_entries", public, data
+        yield "owned", public, b"\3", data
+    # version 0 with a batch, with other proofs, and signed for version 1
+    first = earlier[0]
+    for other in (replace(first, batch=tuple(batches_of(CREATE)[0])), replace(first, proofs=b""), replace(first, rec=last.rec)):
+        yield "replay", journal_bytes([other])
+        yield "owned_entries", public, journal_bytes([other])
+    yield "owned_entries", turned(public, 55), owned.journal()
+
+
 def rows():
     yield from digest_rows()
     yield from one_time_rows()
@@ -448,4 +611,5 @@ def rows():
     yield from slot_rows()
     yield from limit_rows()
     yield from journal_rows()
+    yield from owner_rows()
     yield from answer_rows()

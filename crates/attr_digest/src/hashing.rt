@@ -9,8 +9,11 @@ ghost use Rattle.vo_spec.specs.Cells.{cell_digest as cell_digest_of, row_bytes, 
 ghost use Rattle.vo_spec.specs.Fits.{FitsCell, FitsCells, FitsRowPart, max_cells};
 ghost use Rattle.attr_digest.specs.Adding.{Adds};
 
-use tagged_hash::Hasher;
-use vo_spec::{Cell, Digest, RowPart, Value, ValueRef, u16_bytes, u64_bytes};
+use tagged_hash::{Hasher, digest_of};
+use vo_spec::{Cell, Digest, MAX_CELLS, RowPart, Value, ValueRef, u16_bytes, u64_bytes};
+
+/// How many bytes a row is hashed of at most: its tag, its count, and each cell's digest.
+const MAX_ROW_BYTES: usize = 2 + 32 * MAX_CELLS;
 
 /// The digest of the value in this column, numbered from 0 among those that aren't the key.
 pub fn attr_digest(column: u8, value: ValueRef<'_>) -> Digest
@@ -76,28 +79,32 @@ pub fn whole_row_digest(values: &[Value]) -> Digest
     hasher.end()
 }
 
+// Hashed in one piece: most of a reply is digests, and each piece that is hashed takes a call.
 #[tactic(auto, using(crate::proofs::Digests::cell_digests_more))]
 fn cells_digest(cells: &[Cell<'_>]) -> Digest
     requires count { length cells.now ≤ max_cells }
     requires fits { All FitsCell cells.now }
     ensures { result ≡ sha256 (row_bytes cells.now) }
 {
-    let mut hasher = Hasher::new();
-    hasher.add(&[2, cells.len() as u8]);
+    let mut bytes = [0; MAX_ROW_BYTES];
+    bytes[0] = 2;
+    bytes[1] = cells.len() as u8;
     for (column, cell) in cells.iter().enumerate() {
-        add_digest(&mut hasher, column as u8, cell);
+        let place = 2 + 32 * column;
+        write_digest(&mut bytes[place..place + 32], column as u8, cell);
     }
-    hasher.end()
+    digest_of(&bytes[..2 + 32 * cells.len()])
 }
 
-/// Adds the cell's digest to what is hashed. That of a hidden one is not copied for it.
-fn add_digest(hasher: &mut Hasher, column: u8, cell: &Cell<'_>)
-    requires { FitsCell cell.now }
-    ensures { Adds hasher.old hasher.new (cell_digest_of column cell.now) }
+/// Writes the cell's digest over 32 bytes.
+fn write_digest(out: &mut [u8], column: u8, cell: &Cell<'_>)
+    requires room { length out.old ≡ 32 }
+    requires fits { FitsCell cell.now }
+    ensures { out.new ≡ cell_digest_of column cell.now }
 {
     match cell {
-        Cell::Shown(value) => hasher.add(attr_digest(column, value.as_ref()).as_bytes()),
-        Cell::Hidden(digest) => hasher.add(digest.as_bytes()),
+        Cell::Shown(value) => out.copy_from_slice(attr_digest(column, value.as_ref()).as_bytes()),
+        Cell::Hidden(digest) => out.copy_from_slice(digest.as_bytes()),
     }
 }
 

@@ -8,9 +8,8 @@ use Rattle.vo_spec.specs.declared.tables.Command.{Command}
 use Rattle.vo_spec.specs.declared.tables.Command.TheVariants.{Create, Drop, Insert, Update, Delete}
 use Rattle.vo_spec.specs.Batches.{max_commands, max_batch_bytes}
 use Rattle.row_bytes.specs.declared.read_fault.ReadFault.{ReadFault}
-use Rattle.row_bytes.specs.declared.read_fault.ReadFault.TheVariants.{BadForm, Memory}
 use Rattle.row_bytes.specs.Reading.{u16_at, value_at}
-use Rattle.row_bytes.specs.Fields.{◌>>=◌, name_at, count_at, columns_at, times, whole}
+use Rattle.row_bytes.specs.Fields.{◌>>=◌, name_at, count_at, columns_at, times, whole, ReadsAs}
 
 abbrev pub Reader : Type 0 → Type 0
 Reader A = List ℕ → Option (A × List ℕ)
@@ -81,8 +80,6 @@ commands_at bytes = u16_at bytes >>=
 unfoldable pub batch_of : List ℕ → Option (List Command)
 batch_of bytes = if nat_le (length bytes) max_batch_bytes then whole (commands_at bytes) else None
 
--- a call gives what is read, or says that nothing is, unless memory ran out
+-- a call gives the batch of these commands, or says that there is none
 abbrev pub BatchRead : Result Batch ReadFault → Option (List Command) → Type 0
-BatchRead (Ok batch) read = read ≡ Some batch.commands
-BatchRead (Err BadForm) read = read ≡ None
-BatchRead (Err Memory) read = Unit {0}
+BatchRead result read = ReadsAs (λ (batch : Batch). batch.commands) result read

@@ -8,7 +8,7 @@ ghost use Rattle.batch_format.specs.BatchReading.{any_value_at, set_at, values_a
 
 use row_bytes::{Cursor, ReadFault, own_value, take_columns, take_count, take_value};
 use std::alloc::Global;
-use vo_spec::{Batch, Command, List, Name, SetPart, Value};
+use vo_spec::{Batch, Command, List, MAX_BATCH_BYTES, MAX_COMMANDS, Name, SetPart, Value};
 
 #[tactic(auto, unfolding(crate::specs::BatchReading::any_value_at))]
 fn take_any_value(alloc: Global, cursor: &mut Cursor<'_>) -> Result<Value, ReadFault>
@@ -207,7 +207,7 @@ fn take_commands(alloc: Global, cursor: &mut Cursor<'_>) -> Result<Vec<Command>,
 {
     let mut ahead = cursor.copy();
     let count = ahead.take_u16().ok_or(ReadFault::BadForm)?;
-    if count > 1000 {
+    if count as usize > MAX_COMMANDS {
         return Err(ReadFault::BadForm);
     }
     let commands = each_command(alloc, &mut ahead, count)?;
@@ -219,7 +219,7 @@ fn take_commands(alloc: Global, cursor: &mut Cursor<'_>) -> Result<Vec<Command>,
 fn batch_of(alloc: Global, bytes: &[u8]) -> Result<Batch, ReadFault>
     ensures { BatchRead result (batch_of bytes.now) }
 {
-    if bytes.len() > 1_048_576 {
+    if bytes.len() > MAX_BATCH_BYTES {
         return Err(ReadFault::BadForm);
     }
     let mut cursor = Cursor::new(bytes);

@@ -5,6 +5,7 @@ use crate::journals::{entries, journal, owned_journal, seal, slots, taken_journa
 use crate::keys::{copy, key, leaf, make, node, sign, verify};
 use crate::line::read_line;
 use crate::one_time::{candidate, checksum, digit, ots_public, ots_sign};
+use crate::owners::{next, owned_entries, replayed, start, step};
 use crate::records::{catalog, record};
 use crate::replies::{answer_by, begin, proofs, reply};
 use crate::rows::{attribute, cell, closed_row, hide, hide_cells, row, value, whole_row};
@@ -33,6 +34,9 @@ fn answer_line(alloc: Global, state: &mut State, line: &str) -> Result<String, N
         Call::Node => node(alloc, state, strings),
         Call::Sign => sign(alloc, state, strings),
         Call::Seal => seal(alloc, state, strings),
+        Call::Start => start(alloc, state),
+        Call::Step => step(alloc, state, strings),
+        Call::Replay => replayed(alloc, state, strings),
         _ => by_strings(alloc, call, strings),
     }
 }
@@ -76,6 +80,8 @@ fn by_formats(alloc: Global, call: Call, strings: &[Vec<u8>]) -> Result<String, 
         Call::Owned => owned_journal(alloc, strings),
         Call::Taken => taken_journal(alloc, strings),
         Call::Answer => answer_by(alloc, strings),
+        Call::Next => next(alloc, strings),
+        Call::OwnedEntries => owned_entries(alloc, strings),
         _ => Err(NoAnswer::NoSuchLine),
     }
 }

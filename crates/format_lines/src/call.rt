@@ -40,10 +40,15 @@ pub enum Call {
     Owned,
     Taken,
     Answer,
+    Start,
+    Next,
+    Step,
+    Replay,
+    OwnedEntries,
 }
 
 /// The calls by their words.
-const CALLS: [(&str, Call); 36] = [
+const CALLS: [(&str, Call); 41] = [
     ("digest", Call::Digest),
     ("hash", Call::Hash),
     ("collision", Call::Collision),
@@ -80,6 +85,11 @@ const CALLS: [(&str, Call); 36] = [
     ("owned", Call::Owned),
     ("taken", Call::Taken),
     ("answer", Call::Answer),
+    ("start", Call::Start),
+    ("next", Call::Next),
+    ("step", Call::Step),
+    ("replay", Call::Replay),
+    ("owned_entries", Call::OwnedEntries),
 ];
 
 /// The call of a word.

@@ -65,7 +65,7 @@ pub fn entries(alloc: Global, strings: &[Vec<u8>]) -> Result<String, NoAnswer> {
     }
 }
 
-fn damage_text(alloc: Global, fault: EntriesFault) -> Result<String, NoAnswer> {
+pub(crate) fn damage_text(alloc: Global, fault: EntriesFault) -> Result<String, NoAnswer> {
     match fault {
         EntriesFault::Damaged { index, at } => Ok(format!(in alloc; "(Damaged {index} {at})")?),
         EntriesFault::Memory => Err(NoAnswer::Memory),

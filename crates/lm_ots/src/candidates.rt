@@ -16,8 +16,8 @@ fn is_form(ots: OtsType, signature: &[u8]) -> bool
     signature.len() == ots.signature_len() && u32_at(signature, 0) == ots.code()
 }
 
-/// The end of chain `i` that the signature's value of it leads to, where these are the digits that are signed.
-pub fn candidate_end(
+// The end of chain `i` that the signature's value of it leads to, where these are the digits that are signed.
+fn candidate_end(
     id: &[u8; 16],
     q: u32,
     ots: OtsType,

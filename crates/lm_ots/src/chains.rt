@@ -29,7 +29,7 @@ fn step(id: &[u8; 16], q: u32, i: u16, j: u8, value: &[u8; 32]) -> Digest
 }
 
 /// The secret start of chain `i` (RFC 8554, appendix A).
-pub fn secret(id: &[u8; 16], q: u32, i: u16, seed: &[u8; 32]) -> Digest
+pub(crate) fn secret(id: &[u8; 16], q: u32, i: u16, seed: &[u8; 32]) -> Digest
     ensures { result ≡ secret id.now q seed.now i }
 {
     step(id, q, i, OF_SEED, seed)

@@ -49,7 +49,13 @@ fn message_digest(id: &[u8; 16], q: u32, random: &Digest, message: &[u8]) -> Dig
 }
 
 /// The bytes whose digits are signed for a message: its digest under the leaf and the randomizer, and the checksum.
-pub fn digits_of(id: &[u8; 16], q: u32, ots: OtsType, random: &Digest, message: &[u8]) -> [u8; 34]
+pub(crate) fn digits_of(
+    id: &[u8; 16],
+    q: u32,
+    ots: OtsType,
+    random: &Digest,
+    message: &[u8],
+) -> [u8; 34]
     ensures { result ≡ digits_of id.now q ots random.now message.now }
 {
     let digest = message_digest(id, q, random, message);

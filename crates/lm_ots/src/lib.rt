@@ -10,9 +10,9 @@ mod digits;
 mod numbers;
 mod signing;
 
-pub use candidates::{candidate, candidate_end};
-pub use chains::{chain, public_of, secret};
-pub use digits::{checksum, coef, digits_of};
+pub use candidates::candidate;
+pub use chains::{chain, public_of};
+pub use digits::{checksum, coef};
 pub use numbers::{digest_at, u32_at};
-pub use signing::{sign_onto, sign_ots, signed_value};
+pub use signing::{sign_onto, sign_ots};
 pub use vo_spec::{Digest, OtsType};

@@ -12,8 +12,8 @@ use vo_spec::{Digest, OtsType, u32_bytes};
 // The chain number of the hash that makes the randomizer from the seed: no chain has it.
 const RANDOMIZER: u16 = 0xfffd;
 
-/// What a signature releases of chain `i`, where these are the digits that are signed.
-pub fn signed_value(
+// What a signature releases of chain `i`, where these are the digits that are signed.
+fn signed_value(
     id: &[u8; 16],
     q: u32,
     ots: OtsType,

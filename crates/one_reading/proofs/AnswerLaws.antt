@@ -15,6 +15,7 @@ use Rattle.vo_spec.specs.Honest.{sealed}
 use Rattle.vo_spec.specs.Journals.{journal_bytes}
 use Rattle.vo_spec.specs.Replies.{Reply, IsReply, reply_bytes, max_reply}
 use Rattle.vo_spec.specs.Secret.{Secret, public_of_secret}
+use Rattle.owner_roots.specs.Owners.{IsBadAt, IsOwned, OwnedAuditOf}
 use Rattle.round_trips.specs.Trips.{AreSealable, IsHonestReply, plain_answer}
 use Rattle.round_trips.proofs.Sealed.{owned}
 use Rattle.round_trips.proofs.Entries.{sealable_first}
@@ -52,9 +53,9 @@ same_answer a b e = cc
 
 pub audited : (secret : Secret) (batches later : List (List Command)) (q : Query) (r : Reply) (verdict : Result Verdict AuditFault)
     → AreSealable secret (batches ++ later) → FitsQuery q → IsHonestReply secret batches q r
-    → AuditOf (public_of_secret secret) (journal_bytes (sealed secret (batches ++ later))) q (reply_bytes r) verdict
+    → OwnedAuditOf (public_of_secret secret) (journal_bytes (sealed secret (batches ++ later))) q (reply_bytes r) verdict
     → verdict ≡ Ok (Exact (length batches))
-unfolding AuditOf
+unfolding AuditOf IsOwned IsBadAt
 audited secret batches later q r (Err (BadJournal index)) all numbers honest told =
     let es = sealed secret (batches ++ later) in
     absurd (never_bad (public_of_secret secret) (journal_bytes es) es index (owned secret (batches ++ later) all) told)

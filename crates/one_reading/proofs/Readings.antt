@@ -4,12 +4,13 @@ use Rattle.std.proofs.lemmas.Bool.Decides.{leb_tells}
 use Rattle.std.proofs.lemmas.List.{take_all, take_more}
 use Rattle.vo_spec.specs.declared.records.Entry.{Entry}
 use Rattle.vo_spec.specs.Journals.{Begins}
-use Rattle.vo_spec.specs.Owners.{AreOwned, IsBadAt, IsJournalOf, IsOwned}
+use Rattle.vo_spec.specs.Owners.{IsJournalOf}
 use Rattle.vo_spec.specs.Replies.{Reply, IsReply}
-use Rattle.vo_laws.proofs.EntryLaws.{owned_front}
 use Rattle.batch_format.proofs.ReaderLaws.{some_is}
 use Rattle.vo_format.specs.Reading.{reply_at}
 use Rattle.vo_format.proofs.ReplyLaws.{reply_again}
+use Rattle.owner_roots.specs.Owners.{AreOwned, IsBadAt, IsOwned}
+use Rattle.owner_roots.proofs.OwnedLaws.{owned_front}
 use Rattle.owner_state.proofs.JournalLaws.{journal_stops, one_journal, only_first}
 use Rattle.owner_state.proofs.SlotLaws.{begins_front}
 use Rattle.round_trips.proofs.Entries.{there}

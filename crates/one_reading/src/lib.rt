@@ -9,14 +9,13 @@ ghost use Rattle.vo_spec.specs.declared.checks.Verdict.{Verdict};
 ghost use Rattle.vo_spec.specs.declared.checks.Verdict.TheVariants.{Exact};
 ghost use Rattle.vo_spec.specs.declared.records.Entry.{Entry};
 ghost use Rattle.vo_spec.specs.declared.tables.Command.{Command};
-ghost use Rattle.vo_spec.specs.Audits.{AuditOf};
 ghost use Rattle.vo_spec.specs.Checks.{CheckOf};
 ghost use Rattle.vo_spec.specs.Conditions.{FitsQuery, Query};
 ghost use Rattle.vo_spec.specs.Honest.{sealed};
 ghost use Rattle.vo_spec.specs.Journals.{journal_bytes};
-ghost use Rattle.vo_spec.specs.Owners.{IsBadAt, IsOwned};
 ghost use Rattle.vo_spec.specs.Replies.{IsReply, Reply, reply_bytes};
 ghost use Rattle.vo_spec.specs.Secret.{Secret, public_of_secret};
+ghost use Rattle.owner_roots.specs.Owners.{IsBadAt, IsOwned, OwnedAuditOf};
 ghost use Rattle.round_trips.specs.Trips.{AreSealable, IsHonestReply, plain_answer};
 
 /// Bytes are one reply at most, and an owner's journal of one list of entries at most, which is then bad
@@ -42,6 +41,6 @@ pub fn honest_replies_have_one_answer()
         (r : Reply) (verdict : Result Verdict AuditFault) → AreSealable secret (batches ++ later)
         → FitsQuery q → IsHonestReply secret batches q r
         → let journal = journal_bytes (sealed secret (batches ++ later)) in
-        AuditOf (public_of_secret secret) journal q (reply_bytes r) verdict
+        OwnedAuditOf (public_of_secret secret) journal q (reply_bytes r) verdict
         → verdict ≡ Ok (Exact (length batches)) }
 {}

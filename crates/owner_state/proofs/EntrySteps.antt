@@ -1,20 +1,17 @@
 -- An entry behind trees, and behind the batches that made these.
-use Rattle.std.proofs.Math.Seq.{take-nil}
-use Rattle.std.proofs.Common.{◌≡◌, ℕ, suc, ◌+◌, ◌<◌, add-one, List, [], ◌∷◌, ◌++◌, length, take, drop, Option, Some, None, sym, ap, ◌∙◌, subst, arith}
-use Rattle.std.specs.Prelude.{◌↔◌, IsOk, IfSome}
+use Rattle.std.proofs.Common.{◌≡◌, ℕ, suc, ◌<◌, List, [], ◌∷◌, ◌++◌, length, drop, Option, Some, None, sym, ap, ◌∙◌, subst, arith}
+use Rattle.std.specs.Prelude.{◌↔◌, IsOk}
 use Rattle.std.specs.List.{AllByRecursion}
 use Rattle.std.proofs.lemmas.List.{length-map, map-append}
 use Rattle.vo_spec.specs.declared.tables.Command.{Command}
 use Rattle.vo_spec.specs.declared.records.Entry.{Entry}
 use Rattle.vo_spec.specs.Batches.{FitsBatch}
 use Rattle.vo_spec.specs.Journals.{FitsEntry, batches_of}
-use Rattle.vo_spec.specs.Replies.{FitsProofs, proofs_bytes}
-use Rattle.vo_spec.specs.Owners.{IsLoadableEntry, IsHonestEntry, AreOwned, AreLoadable}
-use Rattle.vo_spec.specs.Honest.{Stored, after_work, work_all, honest_proofs, honest_record, honest_trees}
+use Rattle.vo_spec.specs.Owners.{IsLoadableEntry, AreLoadable}
+use Rattle.vo_spec.specs.Honest.{Stored, after_work, work_all, honest_record, honest_trees}
 use Rattle.vo_laws.proofs.StepLaws.{trees_follow, no_commands_fit, no_trees_before, both_take}
-use Rattle.vo_laws.proofs.EntryLaws.{owned_first, owned_grows, taken_first, taken_grows, batches_fit, all_fit}
-use Rattle.vo_laws.proofs.ProofSizes.{honest_proofs_fit}
-use Rattle.owner_state.specs.Standing.{IsRecorded, IsLoadableOn, IsHonestOn}
+use Rattle.vo_laws.proofs.EntryLaws.{taken_first, taken_grows, all_fit}
+use Rattle.owner_state.specs.Standing.{IsRecorded, IsLoadableOn}
 use Rattle.owner_state.specs.Walking.{GivesTreesIf}
 
 -- Batches that fit, and the trees that they make.
@@ -41,19 +38,6 @@ taken_is key earlier stored e m fits = (there, back)
       accepted = subst (λ (ss : List Stored). IsOk (work_all e.batch.commands ss)) (sym m.trees) ((both_take earlier e.batch.commands m.fit fits).1 t.accepted);
       recorded = record { record_is = t.record_is ∙ ap (honest_record key (length earlier)) (sym behind); signed = t.signed };
     }
-
-pub honest_is : (key : List ℕ) (earlier : List (List Command)) (stored : List Stored) (e : Entry) → Made earlier stored → FitsBatch e.batch.commands
-    → IsHonestOn key (length earlier) stored e ↔ IsHonestEntry key earlier e
-honest_is key earlier stored e m fits = (
-  (λ h. record {
-    taken = (taken_is key earlier stored e m fits).0 h.taken;
-    proofs_are = subst (λ (ss : List Stored). e.proofs ≡ proofs_bytes (honest_proofs e.batch.commands ss)) m.trees h.proofs_are;
-  }),
-  (λ h. record {
-    taken = (taken_is key earlier stored e m fits).1 h.taken;
-    proofs_are = subst (λ (ss : List Stored). e.proofs ≡ proofs_bytes (honest_proofs e.batch.commands ss)) (sym m.trees) h.proofs_are;
-  }),
-)
 
 pub goes_on : (P Q : Type 0) (stored other : List Stored) → (P ↔ Q) → stored ≡ other → (found : Option (List Stored)) → GivesTreesIf P stored found → GivesTreesIf Q other found
 goes_on P Q stored other same e None g = λ q. g (same.1 q)
@@ -101,55 +85,3 @@ taken_at_first key [] stored e found none trees g =
     )
     trees found g
 taken_at_first key (x ∷ xs) stored e found none trees g = absurd (omega arith)
-
--- Journals of an owner.
-
-owned_made : (key : List ℕ) (es : List Entry) (stored : List Stored) → AllByRecursion FitsEntry es → AreOwned key es → stored ≡ honest_trees (batches_of es) → Made (batches_of es) stored
-owned_made key es stored fit owned trees = record { fit = batches_fit es fit; trees = trees }
-
-pub owned_proofs_fit : (key : List ℕ) (es : List Entry) (stored : List Stored) (e : Entry) → AllByRecursion FitsEntry es → FitsEntry e → AreOwned key es → stored ≡ honest_trees (batches_of es)
-    → FitsProofs (honest_proofs e.batch.commands stored)
-owned_proofs_fit key es stored e fit fits owned trees =
-    subst (λ (ss : List Stored). FitsProofs (honest_proofs e.batch.commands ss)) (sym trees)
-    (honest_proofs_fit (batches_of es) e.batch.commands (batches_fit es fit) fits.batch)
-
-owned_trees : (es : List Entry) (stored : List Stored) (e : Entry) → stored ≡ honest_trees (batches_of es) → after_work stored e.batch.commands ≡ honest_trees (batches_of (es ++ e ∷ []))
-owned_trees es stored e trees =
-    ap (λ (ss : List Stored). after_work ss e.batch.commands) trees ∙ sym (trees_follow (batches_of es) e.batch.commands) ∙ ap honest_trees (sym (batches_more es e))
-
-pub owned_behind : (key : List ℕ) (es : List Entry) (stored : List Stored) (e : Entry) (found : Option (List Stored)) → 0 < length es → AllByRecursion FitsEntry es → FitsEntry e
-    → AreOwned key es → stored ≡ honest_trees (batches_of es) → GivesTreesIf (IsHonestOn key (length es) stored e) (after_work stored e.batch.commands) found
-    → GivesTreesIf (AreOwned key (es ++ e ∷ [])) (honest_trees (batches_of (es ++ e ∷ []))) found
-owned_behind key es stored e found some fit fits owned trees g =
-    let long : length es ≡ length (batches_of es) = sym (length-map es (λ (y : Entry). y.batch.commands)) in
-    let is = honest_is key (batches_of es) stored e (owned_made key es stored fit owned trees) fits.batch in
-    let grows = owned_grows key es e some in
-    goes_on (IsHonestOn key (length es) stored e) (AreOwned key (es ++ e ∷ [])) (after_work stored e.batch.commands) (honest_trees (batches_of (es ++ e ∷ []))) (
-      (λ h. grows.1 (owned, is.0 (subst (λ (n : ℕ). IsHonestOn key n stored e) long h))),
-      (λ a. subst (λ (n : ℕ). IsHonestOn key n stored e) (sym long) (is.1 (grows.0 a).1)),
-    )
-    (owned_trees es stored e trees) found g
-
-pub owned_at_first : (key : List ℕ) (es : List Entry) (stored : List Stored) (e : Entry) (found : Option (List Stored)) → length es ≡ 0 → FitsEntry e → stored ≡ honest_trees (batches_of es)
-    → GivesTreesIf ((e.batch.commands ≡ []) × IsHonestOn key 0 stored e) (after_work stored e.batch.commands) found
-    → GivesTreesIf (AreOwned key (es ++ e ∷ [])) (honest_trees (batches_of (es ++ e ∷ []))) found
-owned_at_first key [] stored e found none fits trees g =
-    let is = honest_is key [] stored e (record { fit = tt; trees = trees }) fits.batch in
-    goes_on ((e.batch.commands ≡ []) × IsHonestOn key 0 stored e) (AreOwned key (e ∷ [])) (after_work stored e.batch.commands) (honest_trees (batches_of (e ∷ [])))
-    ((λ h. (owned_first key e).1 (h.0, is.0 h.1)), (λ a. let h = (owned_first key e).0 a in (h.0, is.1 h.1)))
-    (owned_trees [] stored e trees) found g
-owned_at_first key (x ∷ xs) stored e found none fits trees g = absurd (omega arith)
-
--- The trees of a version are those after its batches, the first left out, which has no commands.
-kept_at : (key : List ℕ) (version : ℕ) (es : List Entry) → AreOwned key es → honest_trees (batches_of (take (version + 1) es)) ≡ honest_trees (batches_of (take version (drop 1 es)))
-unfolding AreOwned
-kept_at key version [] owned = ap (λ (xs : List Entry). honest_trees (batches_of xs)) (take-nil (version + 1) ∙ sym (take-nil version))
-kept_at key version (x ∷ xs) owned =
-    ap (λ (n : ℕ). honest_trees (batches_of (take n (x ∷ xs)))) (add-one version)
-    ∙ ap (λ (batch : List Command). honest_trees (batch ∷ batches_of (take version xs))) owned.0
-    ∙ no_trees_before (batches_of (take version xs))
-
-pub kept_tables : (key : List ℕ) (version : ℕ) (es : List Entry) (kept : Option (List Stored)) → AreOwned key es → IfSome kept (λ (ss : List Stored). ss ≡ honest_trees (batches_of (take (version + 1) es)))
-    → IfSome kept (λ (ss : List Stored). ss ≡ honest_trees (batches_of (take version (drop 1 es))))
-kept_tables key version es None owned is = tt
-kept_tables key version es (Some ss) owned is = is ∙ kept_at key version es owned

@@ -6,7 +6,11 @@ pub mod SlotLaws
 pub mod BatchSteps
 pub mod ProofCounts
 pub mod WorkTurns
+pub mod OwnerSteps
+pub mod ReplayLaws
+pub mod LeadLaws
+pub mod DepartLaws
 pub mod EntrySteps
-pub mod SealSteps
 pub mod FirstVersion
+pub mod SealSteps
 pub mod SealedJournals

@@ -18,7 +18,7 @@ use Rattle.vo_spec.specs.Tables.{apply_batch, tables_after}
 use Rattle.vo_spec.specs.declared.records.Entry.{Entry}
 use Rattle.vo_spec.specs.Journals.{slot}
 use Rattle.vo_spec.specs.Replies.{FitsProofs, proofs_bytes}
-use Rattle.vo_spec.specs.Honest.{Stored, RepresentTables, after_work, work_all, honest_proofs, honest_trees, sealed_entry, sealed}
+use Rattle.vo_spec.specs.Honest.{Stored, RepresentTables, after_work, work_all, honest_proofs, honest_record, honest_trees, sealed_entry, sealed}
 use Rattle.vo_laws.proofs.TreeFits.{each_loadable}
 use Rattle.vo_laws.proofs.ListLaws.{each_map}
 use Rattle.vo_laws.proofs.StepLaws.{trees_follow, no_commands_fit, no_trees_before, both_take}
@@ -27,13 +27,25 @@ use Rattle.vo_laws.proofs.ProofSizes.{honest_proofs_fit}
 use Rattle.vo_laws.proofs.SealedLaws.{sealed_grows}
 use Rattle.table_list.specs.declared.fault.BatchFault.TheVariants as batch_fault
 use Rattle.stored_tables.specs.Working.{work_from}
+use Rattle.stored_tables.specs.Standing.{IsStanding}
 use Rattle.stored_tables.proofs.WorkLaws.{gives_plain}
+use Rattle.owner_roots.specs.declared.owner_fault.OwnerFault.{OwnerFault}
+use Rattle.owner_roots.specs.declared.owner_fault.OwnerFault.TheVariants as owner
+use Rattle.owner_roots.specs.declared.roots.Roots.{Roots}
+use Rattle.owner_roots.specs.Next.{NextOf}
+use Rattle.root_laws.proofs.BatchSteps.{accepted_roots, batch_proved}
+use Rattle.root_laws.proofs.Standing.{honest_standing}
 use Rattle.owner_state.specs.declared.next_version.Sealed.{Sealed}
 use Rattle.owner_state.specs.declared.sealing.SealFault.{SealFault}
 use Rattle.owner_state.specs.declared.sealing.SealFault.TheVariants.{KeySpent, Command as Refused, Memory}
-use Rattle.owner_state.specs.Standing.{entry_on, signed_entry}
+use Rattle.owner_roots.specs.Owners.{honest_roots, record_of_roots}
+use Rattle.owner_state.specs.declared.steps.Step.{Step}
+use Rattle.owner_state.specs.Held.{Held}
+use Rattle.owner_state.specs.Stepping.{signed_entry, step_to}
+use Rattle.owner_state.specs.Standing.{entry_on}
 use Rattle.owner_state.specs.Sealing.{FitEach, commands_of, or_later, seal_fault}
-use Rattle.owner_state.specs.Sealed.{Seals}
+use Rattle.owner_state.specs.Sealed.{IsAt, Seals}
+use Rattle.owner_state.proofs.OwnerSteps.{Steps, one_step, step_made}
 use Rattle.owner_state.proofs.WorkTurns.{work_accepted, work_left}
 
 -- Lists of batches.
@@ -50,22 +62,24 @@ each_fits batches fit = each_map FitsBatch (λ (batch : Batch). batch.commands) 
 
 pub entry_is : (secret : Secret) (earlier : List (List Command)) (stored : List Stored) (batch : List Command) → stored ≡ honest_trees earlier
     → entry_on secret (length earlier) stored batch ≡ sealed_entry secret earlier batch
-unfolding entry_on sealed_entry
+unfolding entry_on sealed_entry signed_entry record_of_roots honest_record
 entry_is secret earlier stored batch e =
-    ap (λ (ss : List Stored). signed_entry secret (length earlier) (after_work ss batch) batch (proofs_bytes (honest_proofs batch ss))) e
-    ∙ ap (λ (after : List Stored). signed_entry secret (length earlier) after batch (proofs_bytes (honest_proofs batch (honest_trees earlier)))) (sym (trees_follow earlier batch))
+    ap (λ (ss : List Stored). signed_entry secret (honest_roots (length earlier) (after_work ss batch)) batch (proofs_bytes (honest_proofs batch ss))) e
+    ∙ ap (λ (after : List Stored). signed_entry secret (honest_roots (length earlier) after) batch (proofs_bytes (honest_proofs batch (honest_trees earlier)))) (sym (trees_follow earlier batch))
 
 -- The first of these batches are sealed: their trees, their slots, and the fault that is left.
-pub record IsSealed (secret : Secret) (cs : List (List Command)) (n : ℕ) (stored : List Stored) (slots : List ℕ) : Type 0 where
+pub record IsSealed (secret : Secret) (cs : List (List Command)) (n : ℕ) (s : Sealed) : Type 0 where
   pub within : n ≤ length cs
-  pub trees : stored ≡ honest_trees (take n cs)
-  pub slots_are : slots ≡ flat_map slot (sealed secret (take n cs))
+  pub at : IsAt secret n s
+  pub trees : s.tables ≡ honest_trees (take n cs)
+  pub slots_are : s.slots.items ≡ flat_map slot (sealed secret (take n cs))
   pub left : seal_fault (leaves_of secret.lms) ([] ∷ take n cs) (drop n cs) ≡ seal_fault (leaves_of secret.lms) ([] ∷ []) cs
 
-pub first_sealed : (secret : Secret) (cs : List (List Command)) (stored : List Stored) (slots : List ℕ) → stored ≡ [] → slots ≡ slot (entry_on secret 0 [] []) → IsSealed secret cs 0 stored slots
+pub first_sealed : (secret : Secret) (cs : List (List Command)) (s : Sealed) → IsAt secret 0 s → s.tables ≡ [] → s.slots.items ≡ slot (entry_on secret 0 [] []) → IsSealed secret cs 0 s
 unfolding honest_trees sealed
-first_sealed secret cs stored slots e f = record {
+first_sealed secret cs s at e f = record {
   within = omega arith;
+  at = at;
   trees = e;
   slots_are = f ∙ ap slot (entry_is secret [] [] [] refl) ∙ sym (append-nil (slot (sealed_entry secret [] [])));
   left = refl;
@@ -95,11 +109,13 @@ proofs_for cs n batch stored ok i e =
 
 -- what seal_next asks of a batch
 pub record IsReady (batch : List Command) (stored : List Stored) : Type 0 where
+  pub standing : IsStanding stored
   pub fits : FitsBatch batch
   pub proofs : FitsProofs (honest_proofs batch stored)
 
 pub ready : (cs : List (List Command)) (n : ℕ) (batch : List Command) (stored : List Stored) → AllByRecursion FitsBatch cs → IsNext cs n batch → stored ≡ honest_trees (take n cs) → IsReady batch stored
 ready cs n batch stored ok i e = record {
+  standing = subst IsStanding (sym e) (honest_standing (take n cs) (each_loadable FitsBatch n cs ok));
   fits = each_at FitsBatch cs n batch ok i.there i.is;
   proofs = proofs_for cs n batch stored ok i e;
 }
@@ -142,8 +158,8 @@ refused_here leaves earlier batch rest index why lt e =
 -- One batch more.
 
 pub next_sealed : (secret : Secret) (cs : List (List Command)) (n : ℕ) (batch : List Command) (before after : Sealed) → AllByRecursion FitsBatch cs
-    → IsSealed secret cs n before.tables before.slots.items → IsNext cs n batch → Seals secret (n + 1) before batch (Ok after)
-    → IsSealed secret cs (n + 1) after.tables after.slots.items
+    → IsSealed secret cs n before → IsNext cs n batch → Seals secret (n + 1) before batch (Ok after)
+    → IsSealed secret cs (n + 1) after
 next_sealed secret cs n batch before after ok s i done =
     let r = ready cs n batch before.tables ok i s.trees in
     let there : n < length cs = i.there in
@@ -154,6 +170,7 @@ next_sealed secret cs n batch before after ok s i done =
     (subst (λ (ss : List Stored). IsOk (work_all batch ss)) trees_before (work_accepted batch before.tables after.tables done.1)) in
     record {
       within = omega arith;
+      at = done.3;
       trees = work_left batch before.tables after.tables done.1 ∙ ap (λ (ss : List Stored). after_work ss batch) s.trees ∙ sym (trees_follow (take n cs) batch)
           ∙ ap honest_trees (sym (taken_on cs n batch i));
       slots_are = done.2
@@ -173,7 +190,7 @@ next_sealed secret cs n batch before after ok s i done =
 -- A fault.
 
 pub not_sealed : (secret : Secret) (cs : List (List Command)) (n : ℕ) (batch : List Command) (before : Sealed) (why : SealFault) → AllByRecursion FitsBatch cs
-    → IsSealed secret cs n before.tables before.slots.items → IsNext cs n batch → Seals secret (n + 1) before batch (Err why) → why ≢ Memory
+    → IsSealed secret cs n before → IsNext cs n batch → Seals secret (n + 1) before batch (Err why) → why ≢ Memory
     → seal_fault (leaves_of secret.lms) ([] ∷ []) cs ≡ Some why
 not_sealed secret cs n batch before why ok s i told known =
     sym s.left ∙ ap (seal_fault (leaves_of secret.lms) (Earlier cs n)) (left_on cs n batch i) ∙ by_fault why told known
@@ -197,21 +214,61 @@ not_sealed secret cs n batch before why ok s i told known =
 
 -- The end.
 
-pub all_sealed : (secret : Secret) (cs : List (List Command)) (n : ℕ) (stored : List Stored) (slots : List ℕ) → IsSealed secret cs n stored slots → n ≡ length cs
-    → (slots ≡ flat_map slot (sealed secret cs)) × (seal_fault (leaves_of secret.lms) ([] ∷ []) cs ≡ None)
+pub all_sealed : (secret : Secret) (cs : List (List Command)) (n : ℕ) (last : Sealed) → IsSealed secret cs n last → n ≡ length cs
+    → (last.slots.items ≡ flat_map slot (sealed secret cs)) × (seal_fault (leaves_of secret.lms) ([] ∷ []) cs ≡ None)
 unfolding seal_fault
-all_sealed secret cs n stored slots s e =
+all_sealed secret cs n last s e =
     let all : take n cs ≡ cs = take_all n cs (omega arith) in (
       s.slots_are ∙ ap (λ (bs : List (List Command)). flat_map slot (sealed secret bs)) all,
       sym s.left ∙ ap (seal_fault (leaves_of secret.lms) ([] ∷ take n cs)) (drop_all n cs (omega arith)),
     )
 
 -- the batch that a walk over all of them comes to
-pub next_is : (batches : List Batch) (n k : ℕ) (batch : Batch) → n ≡ k → (k < length batches) × (batch ≡ get_or batches k batch) → IsNext (commands_of batches) n batch.commands
-next_is batches n k batch same turn =
-    let there : k < length batches = turn.0 in
+pub next_is : (batches : List Batch) (n : ℕ) (batch : Batch) → n < length batches → batch ≡ get_or batches n batch → IsNext (commands_of batches) n batch.commands
+next_is batches n batch there is =
     let as_many : length (commands_of batches) ≡ length batches = length-map batches (λ (b : Batch). b.commands) in
     record {
-      there = omega arith;
-      is = ap (λ (b : Batch). b.commands) turn.1 ∙ sym (get_or-map (λ (b : Batch). b.commands) batches k batch) ∙ ap (λ (i : ℕ). get_or (commands_of batches) i batch.commands) (sym same);
+      there = omega (arith, there);
+      is = ap (λ (b : Batch). b.commands) is ∙ sym (get_or-map (λ (b : Batch). b.commands) batches n batch);
     }
+
+-- What an owner at the roots of the tables makes of an accepted batch by its honest proofs.
+
+honest_leads : (version : ℕ) (stored after : List Stored) (batch : List Command) → IsReady batch stored → work_all batch stored ≡ Ok after
+    → NextOf (honest_roots version stored) batch (proofs_bytes (honest_proofs batch stored)) (Ok (honest_roots (version + 1) after))
+unfolding NextOf
+honest_leads version stored after batch r done =
+    inr (
+      honest_proofs batch stored,
+      record { fits = r.proofs; encoded = refl },
+      sym (batch_proved version batch stored r.fits.each r.standing ∙ accepted_roots version batch stored after done),
+    )
+
+pub honest_step : (secret : Secret) (version : ℕ) (stored after : List Stored) (batch : List Command) (answer : Result Step OwnerFault) → IsReady batch stored
+    → work_all batch stored ≡ Ok after → version + 1 < leaves_of secret.lms
+    → Steps secret (honest_roots version stored) batch (proofs_bytes (honest_proofs batch stored)) answer → answer ≢ Err owner.Memory
+    → answer ≡ Ok (step_to secret batch (proofs_bytes (honest_proofs batch stored)) (honest_roots (version + 1) after))
+honest_step secret version stored after batch answer r done left (inl none) known = absurd (known none)
+honest_step secret version stored after batch answer r done left (inr is) known =
+    one_step secret (honest_roots version stored) batch (proofs_bytes (honest_proofs batch stored)) answer
+    (Ok (step_to secret batch (proofs_bytes (honest_proofs batch stored)) (honest_roots (version + 1) after))) is
+    (step_made secret (honest_roots version stored) batch (proofs_bytes (honest_proofs batch stored)) (honest_roots (version + 1) after)
+    (step_to secret batch (proofs_bytes (honest_proofs batch stored)) (honest_roots (version + 1) after)) left
+    (honest_leads version stored after batch r done) refl)
+
+-- So an owner that stands there goes on to the roots of the tables behind the batch.
+pub sealed_step : (before : Held) (stored after : List Stored) (batch : List Command) (proofs : List ℕ) (answer : Result Step OwnerFault)
+    → before.roots ≡ honest_roots before.roots.version stored → IsReady batch stored → work_all batch stored ≡ Ok after
+    → proofs ≡ proofs_bytes (honest_proofs batch stored) → before.roots.version + 1 < leaves_of before.key.lms
+    → Steps before.key before.roots batch proofs answer → answer ≢ Err owner.Memory
+    → answer ≡ Ok (step_to before.key batch (proofs_bytes (honest_proofs batch stored)) (honest_roots (before.roots.version + 1) after))
+sealed_step before stored after batch proofs answer at r done is left steps known =
+    honest_step before.key before.roots.version stored after batch answer r done left
+    (subst (λ (roots : Roots). Steps before.key roots batch (proofs_bytes (honest_proofs batch stored)) answer) at
+    (subst (λ (bytes : List ℕ). Steps before.key before.roots batch bytes answer) is steps)) known
+
+pub entry_behind : (secret : Secret) (version : ℕ) (stored after : List Stored) (batch : List Command) → work_all batch stored ≡ Ok after
+    → signed_entry secret (honest_roots version after) batch (proofs_bytes (honest_proofs batch stored)) ≡ entry_on secret version stored batch
+unfolding entry_on
+entry_behind secret version stored after batch done =
+    ap (λ (ss : List Stored). signed_entry secret (honest_roots version ss) batch (proofs_bytes (honest_proofs batch stored))) (work_left batch stored after done)

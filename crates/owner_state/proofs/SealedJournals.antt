@@ -15,7 +15,8 @@ use Rattle.vo_spec.specs.Lms.{leaf_of, lms_valid}
 use Rattle.vo_spec.specs.Secret.{Secret, public_of_secret, lms_signature}
 use Rattle.vo_spec.specs.Honest.{sealed}
 use Rattle.vo_spec.specs.Journals.{journal_bytes}
-use Rattle.vo_spec.specs.Owners.{IsLoadable, IsOwned}
+use Rattle.vo_spec.specs.Owners.{IsLoadable}
+use Rattle.owner_roots.specs.Owners.{IsOwned}
 use Rattle.vo_laws.specs.Sealing.{AreAcceptedAfter, SignsValidly}
 use Rattle.vo_laws.proofs.StepLaws.{no_tables_before}
 use Rattle.round_trips.specs.Trips.{AreSealable}

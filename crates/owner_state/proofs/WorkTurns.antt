@@ -36,6 +36,10 @@ work_refused cs stored index fault e ok =
 pub work_left : (cs : List Command) (stored after : List Stored) → work_all cs stored ≡ Ok after → after ≡ after_work stored cs
 work_left cs stored after e = sym (ap (λ (r : Result (List Stored) CommandFault). result_unwrap_or r stored) e)
 
+-- a batch that is refused leaves the trees
+pub refused_left : (cs : List Command) (stored : List Stored) (index : ℕ) (fault : CommandFault) → work_from 0 cs stored ≡ Err (index, fault) → stored ≡ after_work stored cs
+refused_left cs stored index fault e = sym (ap (λ (r : Result (List Stored) CommandFault). result_unwrap_or r stored) (forgets 0 cs stored ∙ ap without_number e))
+
 pub work_accepted : (cs : List Command) (stored after : List Stored) → work_all cs stored ≡ Ok after → IsOk (work_all cs stored)
 work_accepted cs stored after e = ap (λ (r : Result (List Stored) CommandFault). is_ok r) e
 

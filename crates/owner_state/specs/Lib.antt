@@ -1,6 +1,12 @@
 pub mod Reading
 pub mod Endings
 pub mod Standing
+pub mod Held
+pub mod Stepping
+pub mod Replaying
+pub mod Owning
+pub mod Departing
+pub mod Departed
 pub mod Walking
 pub mod Sealed
 pub mod Sealing

@@ -1,12 +1,10 @@
 //! Whether an entry may stand behind trees.
-ghost use Rattle.std.specs.Prelude.{◌≡◌, [], IfOk, IsOk};
+ghost use Rattle.std.specs.Prelude.{IfOk, IsOk};
 ghost use Rattle.vo_spec.specs.Batches.{FitsBatch};
-ghost use Rattle.vo_spec.specs.Replies.{FitsProofs};
-ghost use Rattle.vo_spec.specs.Honest.{after_work, honest_proofs, work_all};
-ghost use Rattle.owner_state.specs.Standing.{IsHonestOn, IsProvedOn, IsRecorded, IsLoadableOn};
+ghost use Rattle.vo_spec.specs.Honest.{after_work, work_all};
+ghost use Rattle.owner_state.specs.Standing.{IsRecorded, IsLoadableOn};
 ghost use Rattle.owner_state.specs.Walking.{GivesTreesIf};
 
-use crate::batch_working::{AfterBatch, worked};
 use crate::recording::is_recorded;
 use lms_sign::PublicKey;
 use std::alloc::{AllocError, Global};
@@ -63,70 +61,6 @@ fn tables_behind(
 {
     match tables.apply_batch(alloc, batch) {
         Ok(()) => Ok(Some(tables)),
-        Err(BatchFault::Command { .. }) => Ok(None),
-        Err(BatchFault::Memory) => Err(AllocError),
-    }
-}
-
-/// The tables behind an entry that an owner has written as this version.
-pub(crate) fn check_owner_entry(
-    alloc: Global,
-    key: &PublicKey,
-    version: u64,
-    tables: StoredTables,
-    entry: &Entry,
-) -> Result<Option<StoredTables>, AllocError>
-    requires fits { FitsBatch entry.now.batch.commands }
-    requires proofs { FitsProofs (honest_proofs entry.now.batch.commands tables) }
-    ensures { IfOk result (λ after.
-        GivesTreesIf (IsHonestOn key.now version tables entry.now)
-        (after_work tables entry.now.batch.commands) after) }
-{
-    match check_proofs(alloc, tables, entry)? {
-        Some(after) => check_record(alloc, key, version, after, entry),
-        None => Ok(None),
-    }
-}
-
-/// The tables behind an entry that an owner has written as version 0, which has no commands.
-pub(crate) fn check_first_entry(
-    alloc: Global,
-    key: &PublicKey,
-    tables: StoredTables,
-    entry: &Entry,
-) -> Result<Option<StoredTables>, AllocError>
-    requires fits { FitsBatch entry.now.batch.commands }
-    requires proofs { FitsProofs (honest_proofs entry.now.batch.commands tables) }
-    ensures { IfOk result (λ after.
-        GivesTreesIf ((entry.now.batch.commands ≡ []) × IsHonestOn key.now 0 tables entry.now)
-        (after_work tables entry.now.batch.commands) after) }
-{
-    if !entry.batch.commands.is_empty() {
-        return Ok(None);
-    }
-    check_owner_entry(alloc, key, 0, tables, entry)
-}
-
-/// The tables behind an entry's batch, if it is accepted and the entry has its proofs.
-fn check_proofs(
-    alloc: Global,
-    tables: StoredTables,
-    entry: &Entry,
-) -> Result<Option<StoredTables>, AllocError>
-    requires fits { FitsBatch entry.now.batch.commands }
-    requires proofs { FitsProofs (honest_proofs entry.now.batch.commands tables) }
-    ensures { IfOk result (λ after.
-        GivesTreesIf (IsProvedOn tables entry.now)
-        (after_work tables entry.now.batch.commands) after) }
-{
-    match worked(alloc, tables, entry.batch.commands.as_slice()) {
-        Ok(AfterBatch { tables, proofs }) => {
-            if proofs.as_slice() == entry.proofs.as_slice() {
-                Ok(Some(tables))
-            } else {
-                Ok(None)
-            }
-        }
         Err(BatchFault::Command { .. }) => Ok(None),
         Err(BatchFault::Memory) => Err(AllocError),
     }

@@ -1,10 +1,13 @@
 //! Journals whose entries an owner has written, or a store takes.
-ghost use Rattle.std.specs.Prelude.{◌≡◌, ◌↔◌, ◌<◌, ℕ, List, Err, IfOk, IfSome, IsSome, IsTrue, drop, length, take};
+ghost use Rattle.std.specs.Prelude.{◌≡◌, ◌↔◌, ◌<◌, ℕ, List, Err, IfOk, IfSome, IsSome, IsTrue, drop, length};
 ghost use Rattle.vo_spec.specs.Journals.{batches_of};
 ghost use Rattle.vo_spec.specs.Honest.{honest_trees};
-ghost use Rattle.vo_spec.specs.Owners.{IsBadAt, IsLoadable, IsOwned, IsUnloadableAt};
+ghost use Rattle.vo_spec.specs.Owners.{IsLoadable, IsUnloadableAt};
+ghost use Rattle.owner_roots.specs.Owners.{IsBadAt, IsOwned};
+ghost use Rattle.owner_state.specs.Departing.{Departs, trees_at};
 ghost use Rattle.owner_state.specs.Walking.{IsWhole};
 
+use crate::departures::Departure;
 use crate::slot_reading::{Ending, Slots, read_slots};
 use crate::walks::{walk_owned, walk_taken};
 use lms_sign::PublicKey;
@@ -34,12 +37,14 @@ impl From<AllocError> for JournalFault {
     }
 }
 
-/// An owner's journal, and its tables at the version that was asked for.
+/// An owner's journal, the honest tables at the version that was asked for, and where the owner's roots depart
+/// from such tables.
 #[derive(Drop)]
 pub struct OwnedJournal {
     pub entries: List<Entry>,
     /// None where the journal has no such version.
     pub tables: Option<StoredTables>,
+    pub departure: Option<Departure>,
 }
 
 /// A journal that a store takes, and its tables after the last entry.
@@ -58,21 +63,24 @@ pub fn read_owned(
 ) -> Result<OwnedJournal, JournalFault>
     ensures owned { IfOk result (λ read. IsOwned key.now journal.now read.entries) }
     ensures tables { IfOk result (λ read.
-        IfSome read.tables (λ tables. tables
-        ≡ honest_trees (batches_of (take version (drop 1 read.entries))))) }
+        IfSome read.tables (λ tables. tables ≡ trees_at version read.entries)) }
     ensures there { IfOk result (λ read. version < length read.entries → IsSome read.tables) }
     ensures only { IfOk result (λ read. IsSome read.tables → version < length read.entries) }
+    ensures departure { IfOk result (λ read. Departs key.now read.entries read.departure) }
     ensures bad { (index : ℕ) → result ≡ Err (JournalFault.BadAt index)
         → IsBadAt key.now journal.now index }
 {
     let slots = read_slots(alloc, journal)?;
     match walk_owned(alloc, key, slots.entries.as_slice(), version) {
-        Ok(tables) => {
+        Ok(walked) => {
             if !is_whole(&slots) {
                 return Err(end_fault(&slots));
             }
-            let entries = slots.entries;
-            Ok(OwnedJournal { entries, tables })
+            Ok(OwnedJournal {
+                entries: slots.entries,
+                tables: walked.tables,
+                departure: walked.departure,
+            })
         }
         Err(fault) => Err(fault),
     }

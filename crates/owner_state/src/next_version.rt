@@ -1,87 +1,73 @@
 //! Sealing one version.
-ghost use Rattle.std.specs.Prelude.{◌≡◌, ◌≤◌, ◌<◌, IfOk, length};
+ghost use Rattle.std.specs.Prelude.{ℕ, ◌+◌};
+ghost use Rattle.vo_spec.specs.declared.tables.Command.{Command as Plain};
 ghost use Rattle.vo_spec.specs.Batches.{FitsBatch};
-ghost use Rattle.vo_spec.specs.LmsSets.{leaves_of};
-ghost use Rattle.vo_spec.specs.Secret.{public_of_secret};
-ghost use Rattle.vo_spec.specs.Records.{FitsRecord};
+ghost use Rattle.vo_spec.specs.Secret.{Secret};
 ghost use Rattle.vo_spec.specs.Replies.{FitsProofs};
-ghost use Rattle.vo_spec.specs.Journals.{max_signature};
 ghost use Rattle.vo_spec.specs.Honest.{honest_proofs};
-ghost use Rattle.owner_state.specs.Standing.{signed_entry};
-ghost use Rattle.owner_state.specs.Sealed.{Seals};
+ghost use Rattle.stored_tables.specs.Standing.{IsStanding};
+ghost use Rattle.owner_state.specs.Sealed.{IsAt, Seals};
 
 use crate::batch_working::{AfterBatch, worked};
 use crate::journal_writing::put_slot;
-use crate::recording::record_of;
+use crate::owner::Owner;
+use crate::owner_faults::is_want_of_memory;
 use crate::sealing::SealFault;
-use lms_sign::{PublicKey, SecretKey, SignFault};
-use std::alloc::{AllocError, Global};
+use std::alloc::Global;
 use stored_tables::{BatchFault, StoredTables};
-use version_record::record_bytes;
-use vo_spec::{Batch, Entry, List};
+use vo_spec::Batch;
 
-/// The slots of versions, and the tables behind the last of them.
+/// The slots of versions, the owner that wrote them, and the tables behind the last of them.
 #[derive(Drop)]
 pub(crate) struct Sealed {
+    pub owner: Owner,
     pub tables: StoredTables,
     pub slots: Vec<u8>,
 }
 
-/// The versions with another one, of the batch.
+/// The versions with another one, of the batch: what the owner makes of it by its honest proofs.
 pub(crate) fn seal_next(
     alloc: Global,
-    key: &SecretKey,
-    public: &PublicKey,
-    version: u64,
     before: Sealed,
-    batch: Batch,
+    batch: &Batch,
 ) -> Result<Sealed, SealFault>
-    requires public { public.now ≡ public_of_secret key.now }
-    requires fits { FitsBatch batch.commands }
-    requires proofs { FitsProofs (honest_proofs batch.commands before.tables) }
-    ensures { Seals key.now version before batch.commands result }
+    requires owner { IsAt before.owner.key before.owner.roots.version before }
+    requires standing { IsStanding before.tables }
+    requires fits { FitsBatch batch.now.commands }
+    requires proofs { FitsProofs (honest_proofs batch.now.commands before.tables) }
+    ensures { Seals before.owner.key (before.owner.roots.version + 1) before batch.now.commands
+        result }
 {
-    if version >= public.leaf_count() {
+    let Sealed {
+        mut owner,
+        tables,
+        mut slots,
+    } = before;
+    if owner.is_spent() {
         return Err(SealFault::KeySpent);
     }
-    match worked(alloc, before.tables, batch.commands.as_slice()) {
-        Ok(AfterBatch { tables, proofs }) => {
-            let entry = signed(alloc, key, public, version, &tables, batch, proofs)?;
-            let mut slots = before.slots;
-            put_slot(alloc, &mut slots, &entry)?;
-            Ok(Sealed { tables, slots })
+    let AfterBatch { tables, proofs } = match worked(alloc, tables, batch.commands.as_slice()) {
+        Ok(after) => after,
+        Err(BatchFault::Command { index, fault }) => {
+            return Err(SealFault::Command { index, fault });
         }
-        Err(BatchFault::Command { index, fault }) => Err(SealFault::Command { index, fault }),
-        Err(BatchFault::Memory) => Err(SealFault::Memory),
-    }
-}
-
-/// The entry of a batch, the tables being those behind it.
-fn signed(
-    alloc: Global,
-    key: &SecretKey,
-    public: &PublicKey,
-    version: u64,
-    tables: &StoredTables,
-    batch: Batch,
-    proofs: Vec<u8>,
-) -> Result<Entry, AllocError>
-    requires public { public.now ≡ public_of_secret key.now }
-    requires leaf { version < leaves_of key.now.lms }
-    ensures value { IfOk result (λ entry. entry
-        ≡ signed_entry key.now version tables.now batch.commands proofs.items) }
-    ensures rec { IfOk result (λ entry. FitsRecord entry.rec) }
-    ensures signature { IfOk result (λ entry. length entry.signature ≤ max_signature) }
-{
-    let rec = record_of(alloc, public, version, tables)?;
-    match key.sign(alloc, version, &record_bytes(&rec)) {
-        Ok(signature) => Ok(Entry {
-            batch,
-            proofs: List::from_vec(proofs),
-            rec,
-            signature: List::from_vec(signature),
-        }),
-        Err(SignFault::Leaf) => unreachable!(),
-        Err(SignFault::Memory) => Err(AllocError),
+        Err(BatchFault::Memory) => return Err(SealFault::Memory),
+    };
+    match owner.step(alloc, batch, &proofs) {
+        Ok(step) => {
+            put_slot(alloc, &mut slots, &step.entry)?;
+            owner.advance(step);
+            Ok(Sealed {
+                owner,
+                tables,
+                slots,
+            })
+        }
+        Err(fault) => {
+            if is_want_of_memory(&fault) {
+                return Err(SealFault::Memory);
+            }
+            unreachable!()
+        }
     }
 }

@@ -4,12 +4,16 @@ ghost use Rattle.vo_spec.specs.LmsSets.{leaves_of};
 ghost use Rattle.vo_spec.specs.Secret.{public_of_secret};
 ghost use Rattle.vo_spec.specs.Journals.{journal_bytes, slot};
 ghost use Rattle.vo_spec.specs.Honest.{sealed};
-ghost use Rattle.vo_spec.specs.Owners.{IsLoadable, IsOwned};
+ghost use Rattle.vo_spec.specs.Owners.{IsLoadable};
+ghost use Rattle.owner_roots.specs.Owners.{IsOwned};
 ghost use Rattle.owner_state.specs.Standing.{entry_on};
+ghost use Rattle.owner_state.specs.Sealed.{IsAt};
 ghost use Rattle.owner_state.specs.Sealing.{commands_of, seal_fault, FitEach};
 
+use crate::journal_writing::put_slot;
 use crate::next_version::{Sealed, seal_next};
-use lms_sign::{PublicKey, SecretKey};
+use crate::owner::Owner;
+use lms_sign::SecretKey;
 use std::alloc::{AllocError, Global};
 use stored_tables::StoredTables;
 use thiserror::Error;
@@ -56,7 +60,7 @@ pub fn seal(alloc: Global, key: &SecretKey, batches: List<Batch>) -> Result<Vec<
         → seal_fault (leaves_of key.now.lms) ([] ∷ []) (commands_of batches) ≡ Some fault) }
 {
     let public = key.public();
-    match seal_each(alloc, key, &public, batches) {
+    match seal_each(alloc, key, batches.as_slice()) {
         Ok(mut journal) => {
             journal.extend_from_slice(&[0])?;
             Ok(journal)
@@ -68,23 +72,19 @@ pub fn seal(alloc: Global, key: &SecretKey, batches: List<Batch>) -> Result<Vec<
 fn seal_each(
     alloc: Global,
     key: &SecretKey,
-    public: &PublicKey,
-    batches: List<Batch>,
+    batches: &[Batch],
 ) -> Result<Vec<u8>, SealFault>
-    requires fits { FitEach batches }
-    requires public { public.now ≡ public_of_secret key.now }
+    requires { FitEach batches.now }
     ensures slots { IfOk result (λ slots. slots.items
-        ≡ flat_map slot (sealed key.now (commands_of batches))) }
+        ≡ flat_map slot (sealed key.now (commands_of batches.now))) }
     ensures sealed { IfOk result (λ _.
-        seal_fault (leaves_of key.now.lms) ([] ∷ []) (commands_of batches) ≡ None) }
+        seal_fault (leaves_of key.now.lms) ([] ∷ []) (commands_of batches.now) ≡ None) }
     ensures fault { IfErr result (λ fault. fault ≢ SealFault.Memory
-        → seal_fault (leaves_of key.now.lms) ([] ∷ []) (commands_of batches) ≡ Some fault) }
+        → seal_fault (leaves_of key.now.lms) ([] ∷ []) (commands_of batches.now) ≡ Some fault) }
 {
-    let mut sealed = seal_first(alloc, key, public)?;
-    let mut version = 0;
-    for batch in batches.into_vec() {
-        version += 1;
-        match seal_next(alloc, key, public, version, sealed, batch) {
+    let mut sealed = seal_first(alloc, key)?;
+    for batch in batches {
+        match seal_next(alloc, sealed, batch) {
             Ok(next) => sealed = next,
             Err(fault) => return Err(fault),
         }
@@ -92,18 +92,19 @@ fn seal_each(
     Ok(sealed.slots)
 }
 
-fn seal_first(alloc: Global, key: &SecretKey, public: &PublicKey) -> Result<Sealed, SealFault>
-    requires { public.now ≡ public_of_secret key.now }
+/// Version 0, as the owner starts.
+fn seal_first(alloc: Global, key: &SecretKey) -> Result<Sealed, SealFault>
+    ensures at { IfOk result (λ first. IsAt key.now 0 first) }
     ensures tables { IfOk result (λ first. first.tables ≡ []) }
     ensures slots { IfOk result (λ first. first.slots.items ≡ slot (entry_on key.now 0 [] [])) }
     ensures fault { IfErr result (λ fault. fault ≡ SealFault.Memory) }
 {
-    let empty = Batch {
-        commands: List::new(alloc),
-    };
-    let none = Sealed {
+    let (owner, entry) = Owner::start(alloc, key)?;
+    let mut slots = Vec::new(alloc);
+    put_slot(alloc, &mut slots, &entry)?;
+    Ok(Sealed {
+        owner,
         tables: StoredTables::new(alloc),
-        slots: Vec::new(alloc),
-    };
-    seal_next(alloc, key, public, 0, none, empty)
+        slots,
+    })
 }

@@ -1,13 +1,17 @@
 //! Walks over entries, one after the other: whose they are, and the tables that they lead to.
-ghost use Rattle.std.specs.Prelude.{◌≡◌, ◌++◌, ◌∷◌, ◌<◌, ℕ, [], Err, IfOk, IfSome, IsSome, drop, length, take};
+ghost use Rattle.std.specs.Prelude.{◌≡◌, ◌++◌, ◌∷◌, ◌<◌, ℕ, [], Err, IfOk, IfSome, IsSome, drop, length};
 ghost use Rattle.std.specs.List.{AllByRecursion};
 ghost use Rattle.vo_spec.specs.Journals.{FitsEntry, batches_of};
 ghost use Rattle.vo_spec.specs.Honest.{honest_trees};
-ghost use Rattle.vo_spec.specs.Owners.{AreOwned, AreLoadable};
+ghost use Rattle.vo_spec.specs.Owners.{AreLoadable};
+ghost use Rattle.owner_roots.specs.Owners.{AreOwned};
+ghost use Rattle.owner_state.specs.Departing.{Departs, trees_at};
 ghost use Rattle.owner_state.specs.Walking.{GivesTreesIf, StopsAt};
 
-use crate::entry_checks::{check_first_entry, check_owner_entry, check_record, check_store_entry};
+use crate::departures::{Departure, HonestTrees, follow};
+use crate::entry_checks::{check_record, check_store_entry};
 use crate::journals::JournalFault;
+use crate::leading::lead;
 use lms_sign::PublicKey;
 use std::alloc::{AllocError, Global};
 use stored_tables::StoredTables;
@@ -62,59 +66,55 @@ fn check_next_of_store(
     }
 }
 
-/// The tables at a version, if the entries of an owner reach it.
+/// What a walk over an owner's entries finds beside the roots: the honest tables at a version, if the entries
+/// reach it, and where the roots depart from such tables.
+#[derive(Drop)]
+pub(crate) struct Walked {
+    pub tables: Option<StoredTables>,
+    pub departure: Option<Departure>,
+}
+
+/// Walks over an owner's entries by roots, with the honest tables beside.
 pub(crate) fn walk_owned(
     alloc: Global,
     key: &PublicKey,
     entries: &[Entry],
     version: u64,
-) -> Result<Option<StoredTables>, JournalFault>
+) -> Result<Walked, JournalFault>
     requires { AllByRecursion FitsEntry entries.now }
     ensures owned { IfOk result (λ _. AreOwned key.now entries.now) }
-    ensures tables { IfOk result (λ kept.
-        IfSome kept (λ tables. tables
-        ≡ honest_trees (batches_of (take version (drop 1 entries.now))))) }
-    ensures there { IfOk result (λ kept. version < length entries.now → IsSome kept) }
-    ensures only { IfOk result (λ kept. IsSome kept → version < length entries.now) }
+    ensures tables { IfOk result (λ walked.
+        IfSome walked.tables (λ tables. tables ≡ trees_at version entries.now)) }
+    ensures there { IfOk result (λ walked. version < length entries.now → IsSome walked.tables) }
+    ensures only { IfOk result (λ walked. IsSome walked.tables → version < length entries.now) }
+    ensures departure { IfOk result (λ walked.
+        Departs key.now entries.now walked.departure) }
     ensures bad { (index : ℕ) → result ≡ Err (JournalFault.BadAt index)
         → StopsAt (AreOwned key.now) entries.now index }
 {
-    let mut tables = StoredTables::new(alloc);
+    let mut roots = None;
+    let mut honest = HonestTrees {
+        tables: StoredTables::new(alloc),
+        departure: None,
+    };
     let mut kept = None;
     for (index, entry) in entries.iter().enumerate() {
-        match check_next_of_owner(alloc, key, &entries[..index], tables, entry)? {
-            Some(after) => tables = after,
+        match lead(alloc, key, &roots, entry)? {
+            Some(after) => {
+                honest = follow(alloc, honest, index as u64, &entry.batch, &after.catalog)?;
+                roots = Some(after);
+            }
             None => {
                 let index = index as u64;
                 return Err(JournalFault::BadAt { index });
             }
         }
         if index as u64 == version {
-            kept = Some(tables.share(alloc)?);
+            kept = Some(honest.tables.share(alloc)?);
         }
     }
-    Ok(kept)
-}
-
-/// The tables behind an entry, if the owner has written it behind those before.
-fn check_next_of_owner(
-    alloc: Global,
-    key: &PublicKey,
-    earlier: &[Entry],
-    tables: StoredTables,
-    entry: &Entry,
-) -> Result<Option<StoredTables>, AllocError>
-    requires earlier_fit { AllByRecursion FitsEntry earlier.now }
-    requires fits { FitsEntry entry.now }
-    requires owned { AreOwned key.now earlier.now }
-    requires tables { tables ≡ honest_trees (batches_of earlier.now) }
-    ensures { IfOk result (λ after.
-        GivesTreesIf (AreOwned key.now (earlier.now ++ entry.now ∷ []))
-        (honest_trees (batches_of (earlier.now ++ entry.now ∷ []))) after) }
-{
-    if earlier.is_empty() {
-        check_first_entry(alloc, key, tables, entry)
-    } else {
-        check_owner_entry(alloc, key, earlier.len() as u64, tables, entry)
-    }
+    Ok(Walked {
+        tables: kept,
+        departure: honest.departure,
+    })
 }

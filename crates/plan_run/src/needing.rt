@@ -62,8 +62,6 @@ pub fn right_needs(
     let Some(join) = plan.query.join else {
         return Ok(Vec::new(alloc));
     };
-    match scan(alloc, left, &plan.left_need) {
-        Ok(seen) => Ok(needs_of_seen(alloc, plan, join, seen.as_slice())?),
-        Err(fault) => Err(fault),
-    }
+    let seen = scan(alloc, left, &plan.left_need)?;
+    Ok(needs_of_seen(alloc, plan, join, seen.as_slice())?)
 }

@@ -26,12 +26,12 @@ fn push_need(needs: &mut Vec<Need>, need: Need) -> Result<(), AllocError>
 }
 
 /// Puts what the query shows of the left row beside each row that was seen for it at the end of the answer.
-fn push_rights(
+fn push_rights<'r>(
     alloc: Global,
-    plan: &Plan<'_, '_>,
-    schema: &Schema,
+    plan: &'r Plan<'_, '_>,
+    schema: &'r Schema,
     left: &SeenRowView<'_>,
-    seen: &[SeenRow],
+    seen: &'r [SeenRow],
     rows: &mut Vec<List<Value>>,
 ) -> Result<(), AllocError>
     ensures { OnOk result (rows.new.items ≡ rows.old.items
@@ -41,7 +41,7 @@ fn push_rights(
     let cells = plan.right_cells.as_slice();
     for row in seen {
         let right = SeenRowView { schema, cells, row };
-        push_pair(alloc, plan.query, &plan.late, left, &right, rows)?;
+        push_pair(alloc, plan.query, &plan.late, &*left, &right, rows)?;
     }
     Ok(())
 }
@@ -61,21 +61,10 @@ fn push_left(
         (row_view_seen left.now) (part_of tree.now) }
 {
     let need = right_need(alloc, plan, join, left)?;
-    match scan(alloc, tree, &need) {
-        Ok(seen) => {
-            push_rights(
-                alloc,
-                plan,
-                schema,
-                left,
-                seen.as_slice(),
-                &mut shown.rows,
-            )?;
-            push_need(&mut shown.needs, need)?;
-            Ok(())
-        },
-        Err(fault) => Err(fault),
-    }
+    let seen = scan(alloc, tree, &need)?;
+    push_rights(alloc, plan, schema, left, seen.as_slice(), &mut shown.rows)?;
+    push_need(&mut shown.needs, need)?;
+    Ok(())
 }
 
 /// What the tree shows for these left rows, and what they need of it.

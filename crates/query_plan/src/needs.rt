@@ -17,7 +17,7 @@ use crate::truths::all_hold;
 use query_binding::{BoundSources, ColumnPlace};
 use row_bytes::own_value;
 use std::alloc::{AllocError, Global};
-use vo_spec::{Cmp, Need, Value};
+use vo_spec::{Cmp, MAX_COLUMNS, Need, Value};
 
 /// Whether the source of this number has no more columns than a table may have.
 pub fn is_narrow(bound_sources: &BoundSources<'_>, bound_source: usize) -> bool
@@ -26,7 +26,7 @@ pub fn is_narrow(bound_sources: &BoundSources<'_>, bound_source: usize) -> bool
         ≤ max_columns) }
 {
     match bound_sources.schema_at(bound_source) {
-        Some(schema) => schema.columns.len() <= 32,
+        Some(schema) => schema.columns.len() <= MAX_COLUMNS,
         None => true,
     }
 }

@@ -18,6 +18,8 @@ ghost use Rattle.range_proof.specs.ActiveNeeds.{max_lower as max_lower_of, min_u
 use crate::key_order::compare_keys;
 use vo_spec::{Bound, Interval};
 
+// Inlined: a call would take as long as most of what it does.
+#[inline(always)]
 fn key_lt(a: &[u8], b: &[u8]) -> bool
     ensures { result ≡ is_less a.now b.now }
 {
@@ -68,7 +70,7 @@ pub fn is_empty_interval(interval: &Interval) -> bool
 }
 
 /// Whether a scan that visits a node goes on to its child between these separators.
-// Asked of each need at each child: a call would take as long as most of what it does.
+// Asked of each need at each child.
 #[inline(always)]
 pub fn visits(interval: &Interval, lower: Option<&[u8]>, upper: Option<&[u8]>) -> bool
     ensures { result ≡ does_visit interval.now (option_copied lower.entry)

@@ -21,10 +21,7 @@ pub fn is_canonical(alloc: Global, tree: &PartTree<'_>, needs: &[Need]) -> Resul
 {
     let all = lend_needs(alloc, needs)?;
     let active = ActiveNeeds::at_root(alloc, &all)?;
-    match judge_node(alloc, tree, &active) {
-        Ok(surplus) => Ok(!surplus),
-        Err(fault) => Err(fault),
-    }
+    Ok(!judge_node(alloc, tree, &active)?)
 }
 
 #[cycle(judge)]
@@ -45,16 +42,16 @@ fn judge_node<'k>(
                 Err(ScanFault::Missing)
             }
         },
-        PartTree::Leaf(entries) => match judge_entries(alloc, entries.as_slice(), needs) {
-            Ok(surplus) => Ok(needs.is_empty() || surplus),
-            Err(fault) => Err(fault),
+        PartTree::Leaf(entries) => {
+            let surplus = judge_entries(alloc, entries.as_slice(), needs)?;
+            Ok(needs.is_empty() || surplus)
         },
         PartTree::Inner {
             separators,
             children,
-        } => match judge_children(alloc, separators.as_slice(), children.as_slice(), needs) {
-            Ok(surplus) => Ok(needs.is_empty() || surplus),
-            Err(fault) => Err(fault),
+        } => {
+            let surplus = judge_children(alloc, separators.as_slice(), children.as_slice(), needs)?;
+            Ok(needs.is_empty() || surplus)
         },
     }
 }

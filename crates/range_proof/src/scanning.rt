@@ -20,10 +20,7 @@ pub fn scan(alloc: Global, tree: &PartTree<'_>, need: &Need) -> Result<List<Seen
 {
     let mut rows = Vec::new(alloc);
     if !is_empty_interval(&need.interval) {
-        match scan_node(alloc, tree, need, &mut rows) {
-            Ok(()) => {},
-            Err(fault) => return Err(fault),
-        }
+        scan_node(alloc, tree, need, &mut rows)?;
     }
     Ok(List::from_vec(rows))
 }
@@ -99,10 +96,8 @@ fn scan_entries(
 {
     for entry in entries {
         if in_interval(&need.interval, entry.key.as_bytes()) {
-            match values_in(alloc, &entry.row, need.columns.as_slice()) {
-                Ok(values) => push_row(alloc, rows, entry.key.as_bytes(), values)?,
-                Err(fault) => return Err(fault),
-            }
+            let values = values_in(alloc, &entry.row, need.columns.as_slice())?;
+            push_row(alloc, rows, entry.key.as_bytes(), values)?;
         }
     }
     Ok(())

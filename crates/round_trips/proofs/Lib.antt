@@ -1,3 +1,4 @@
+pub mod SealedOwners
 pub mod Sealed
 pub mod Entries
 pub mod TripLaws

@@ -1,5 +1,5 @@
 -- What is sealed: journals of their owner, which a store takes.
-use Rattle.std.proofs.Common.{◌≡◌, ◌+◌, ◌^◌, ◌<◌, ◌≤◌, lit<, List, [], ◌∷◌, ◌++◌, length, refl, ap, arith}
+use Rattle.std.proofs.Common.{◌≡◌, ℕ, ◌+◌, ◌^◌, ◌<◌, ◌≤◌, lit<, List, [], ◌∷◌, ◌++◌, length, refl, ap, arith}
 use Rattle.std.specs.List.{AllByRecursion}
 use Rattle.std.proofs.lemmas.List.{length-map}
 use Rattle.vo_spec.specs.declared.signatures.LmsType.{LmsType}
@@ -11,13 +11,14 @@ use Rattle.vo_spec.specs.Secret.{Secret, public_of_secret, lms_signature}
 use Rattle.vo_spec.specs.Records.{record_bytes}
 use Rattle.vo_spec.specs.Journals.{max_signature, FitsEntry, IsJournal, batches_of, journal_bytes}
 use Rattle.vo_spec.specs.Honest.{honest_record, honest_trees, sealed, sealed_after, sealed_entry}
-use Rattle.vo_spec.specs.Owners.{AreOwned, AreLoadable, IsOwned, IsLoadable}
+use Rattle.vo_spec.specs.Owners.{AreLoadable, IsLoadable}
 use Rattle.vo_laws.specs.Sealing.{SignsValidly}
-use Rattle.vo_laws.proofs.EntryLaws.{owned_are_loadable}
-use Rattle.vo_laws.proofs.SealedLaws.{batches_sealed, sealed_are_owned, sealed_are_signed, sealed_fit, signatures_short}
+use Rattle.vo_laws.proofs.SealedLaws.{batches_sealed, sealed_are_loadable, sealed_are_signed, sealed_fit, signatures_short}
+use Rattle.owner_roots.specs.Owners.{AreOwned, IsOwned}
 use Rattle.lms_sign.proofs.Keys.{leaves_few}
 use Rattle.lms_sign.proofs.Signed.{id_of_valid, signed_len}
 use Rattle.round_trips.specs.Trips.{AreSealable}
+use Rattle.round_trips.proofs.SealedOwners.{sealed_are_owned}
 
 -- A key that signs validly.
 
@@ -65,10 +66,10 @@ entries_fit secret batches all =
     sealed_fit secret batches (sixteen secret all.signs) all.fit (omega (arith, all.few, leaves_few secret.lms, wide)) (all_short secret batches)
 
 are_owned : (secret : Secret) (batches : List (List Command)) → AreSealable secret batches → AreOwned (public_of_secret secret) (sealed secret batches)
-are_owned secret batches all = sealed_are_owned secret batches all.accepted (sealed_are_signed secret batches all.signs all.few)
+are_owned secret batches all = sealed_are_owned secret batches all.fit all.accepted (sealed_are_signed secret batches all.signs all.few)
 
 pub are_loadable : (secret : Secret) (batches : List (List Command)) → AreSealable secret batches → AreLoadable (public_of_secret secret) (sealed secret batches)
-are_loadable secret batches all = owned_are_loadable (public_of_secret secret) (sealed secret batches) (are_owned secret batches all)
+are_loadable secret batches all = sealed_are_loadable secret batches all.accepted (sealed_are_signed secret batches all.signs all.few)
 
 journal : (secret : Secret) (batches : List (List Command)) → AreSealable secret batches → IsJournal (journal_bytes (sealed secret batches)) (sealed secret batches)
 journal secret batches all =

@@ -19,6 +19,7 @@ use Rattle.vo_spec.specs.Journals.{Holds, journal_bytes, tables_at}
 use Rattle.vo_spec.specs.Replies.{Reply, IsReply, reply_bytes, max_reply}
 use Rattle.vo_spec.specs.Secret.{Secret, public_of_secret}
 use Rattle.vo_laws.proofs.Complete.{honest_answer}
+use Rattle.owner_roots.specs.Owners.{IsOwned, OwnedAuditOf}
 use Rattle.round_trips.specs.Trips.{AreSealable, IsHonestReply, plain_answer}
 use Rattle.round_trips.proofs.Sealed.{owned}
 use Rattle.round_trips.proofs.Entries.{holds, reply_after, sealable_first, tables_are, within_limits}
@@ -86,8 +87,8 @@ only_exact secret batches later q r verdict all honest v =
 
 pub audited : (secret : Secret) (batches later : List (List Command)) (q : Query) (r : Reply) → AreSealable secret (batches ++ later) → FitsQuery q
     → IsHonestReply secret batches q r
-    → AuditOf (public_of_secret secret) (journal_bytes (sealed secret (batches ++ later))) q (reply_bytes r) (Ok (Exact (length batches)))
-unfolding AuditOf
+    → OwnedAuditOf (public_of_secret secret) (journal_bytes (sealed secret (batches ++ later))) q (reply_bytes r) (Ok (Exact (length batches)))
+unfolding AuditOf IsOwned
 audited secret batches later q r all numbers honest =
     let first = sealable_first secret batches later all in
     let es = sealed secret (batches ++ later) in

@@ -5,14 +5,15 @@ ghost use Rattle.std.specs.Prelude.{◌≡◌, ℕ, ◌≤◌, List, ◌++◌, O
 ghost use Rattle.vo_spec.specs.declared.checks.Verdict.{Verdict};
 ghost use Rattle.vo_spec.specs.declared.checks.Verdict.TheVariants.{Exact};
 ghost use Rattle.vo_spec.specs.declared.tables.Command.{Command};
-ghost use Rattle.vo_spec.specs.Audits.{AuditOf, IsVerdict};
+ghost use Rattle.vo_spec.specs.Audits.{IsVerdict};
 ghost use Rattle.vo_spec.specs.Checks.{CheckOf, answer_to};
 ghost use Rattle.vo_spec.specs.Conditions.{FitsQuery, Query};
 ghost use Rattle.vo_spec.specs.Honest.{reply_of, sealed};
 ghost use Rattle.vo_spec.specs.Journals.{journal_bytes};
 ghost use Rattle.vo_spec.specs.Replies.{IsReply, Reply, reply_bytes};
-ghost use Rattle.vo_spec.specs.Owners.{IsLoadable, IsOwned};
+ghost use Rattle.vo_spec.specs.Owners.{IsLoadable};
 ghost use Rattle.vo_spec.specs.Secret.{Secret, public_of_secret};
+ghost use Rattle.owner_roots.specs.Owners.{IsOwned, OwnedAuditOf};
 ghost use Rattle.round_trips.specs.Trips.{AreSealable, IsHonestReply, plain_answer};
 
 /// What is sealed is a journal of the key's owner, and one that a store of the key takes.
@@ -51,5 +52,6 @@ pub fn sealed_batches_are_read_back()
         (r : Reply) → AreSealable secret (batches ++ later) → FitsQuery q
         → IsHonestReply secret batches q r
         → let journal = journal_bytes (sealed secret (batches ++ later)) in
-        AuditOf (public_of_secret secret) journal q (reply_bytes r) (Ok (Exact (length batches))) }
+        OwnedAuditOf (public_of_secret secret) journal q (reply_bytes r)
+        (Ok (Exact (length batches))) }
 {}

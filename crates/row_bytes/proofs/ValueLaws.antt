@@ -13,7 +13,7 @@ use Rattle.vo_spec.specs.declared.values.Value.{Value}
 use Rattle.vo_spec.specs.declared.values.Value.TheVariants.{Int, Text, Bool as Truth}
 use Rattle.vo_spec.specs.Firsts.{first_of, unless}
 use Rattle.vo_spec.specs.Bytes.{IsBytes, u16_bytes, u64_bytes, u16_of, u64_of}
-use Rattle.vo_spec.specs.Values.{value_bytes, FitsValue, is_text}
+use Rattle.vo_spec.specs.Values.{max_text, value_bytes, FitsValue, is_text}
 use Rattle.row_bytes.specs.declared.fault.FormFault.{FormFault}
 use Rattle.row_bytes.specs.declared.fault.FormFault.TheVariants.{Short, Tag, Length, NotUtf8, Control}
 use Rattle.vo_spec.specs.declared.cells.ValueRef.{ValueRef}
@@ -118,14 +118,14 @@ all_true true b e = (refl, e)
 all_true false b e = absurd cc
 
 -- a text that is within its length, and the test of it
-is_text_from : (s : List ℕ) → (length s ≤ 1024) × (is_utf8 s ≡ true) × (list_all (nat_le 32) s ≡ true) → IsTrue (is_text s)
-is_text_from s p = rw (le-leb (length s) 1024 p.0, p.1, p.2) refl
+is_text_from : (s : List ℕ) → (length s ≤ max_text) × (is_utf8 s ≡ true) × (list_all (nat_le 32) s ≡ true) → IsTrue (is_text s)
+is_text_from s p = rw (le-leb (length s) max_text p.0, p.1, p.2) refl
 
-text_from_is : (s : List ℕ) → IsTrue (is_text s) → (length s ≤ 1024) × (is_utf8 s ≡ true) × (list_all (nat_le 32) s ≡ true)
+text_from_is : (s : List ℕ) → IsTrue (is_text s) → (length s ≤ max_text) × (is_utf8 s ≡ true) × (list_all (nat_le 32) s ≡ true)
 text_from_is s p =
-    let a = all_true (nat_le (length s) 1024 && is_utf8 s) (list_all (nat_le 32) s) p in
-    let b = all_true (nat_le (length s) 1024) (is_utf8 s) a.0 in
-    (leb-true (length s) 1024 b.0, b.1, a.1)
+    let a = all_true (nat_le (length s) max_text && is_utf8 s) (list_all (nat_le 32) s) p in
+    let b = all_true (nat_le (length s) max_text) (is_utf8 s) a.0 in
+    (leb-true (length s) max_text b.0, b.1, a.1)
 
 unless_ok : {F A : Type 0} (fault : Option F) (x y : A) → unless fault x ≡ Ok y → (fault ≡ None) × (x ≡ y)
 unless_ok None x y e = (refl, cc)
@@ -138,7 +138,7 @@ text_encodes bytes v rest fits e =
     let behind = drop 2 bytes in
     let g = guard_ok (ltb (length bytes) 2) Short _ (v, rest) e in
     let h = guard_ok (ltb (length behind) count) Short _ (v, rest) g.1 in
-    let u = unless_ok (text_fault 1024 (take count behind)) (Text (take count behind), drop count behind) (v, rest) h.1 in
+    let u = unless_ok (text_fault max_text (take count behind)) (Text (take count behind), drop count behind) (v, rest) h.1 in
     let two : 2 ≤ length bytes = ltb-false _ _ g.0 in
     let long : count ≤ length behind = ltb-false _ _ h.0 in
     let len : length (take count behind) ≡ count = omega (arith, length-take count behind) in
@@ -146,7 +146,7 @@ text_encodes bytes v rest fits e =
     let front : u16_bytes (length (take count behind)) ≡ take 2 bytes = ap u16_bytes len ∙ u16_same (take 2 bytes) len_two (IsBytes-take 2 bytes fits) in
     let parts : bytes ≡ u16_bytes (length (take count behind)) ++ take count behind ++ drop count behind =
     sym (take-append-drop 2 bytes) ∙ ap (λ (t : List ℕ). take 2 bytes ++ t) (sym (take-append-drop count behind)) ∙ sym (append_assoc (take 2 bytes) (take count behind) (drop count behind)) ∙ ap (λ (t : List ℕ). t ++ take count behind ++ drop count behind) (sym front) in
-    subst (λ (x : Value × List ℕ). Encodes (2 ∷ bytes) x.0 x.1) u.1 (record { parts = ap (λ (t : List ℕ). 2 ∷ t) parts; fits = is_text_from (take count behind) (text_plain 1024 (take count behind) u.0) })
+    subst (λ (x : Value × List ℕ). Encodes (2 ∷ bytes) x.0 x.1) u.1 (record { parts = ap (λ (t : List ℕ). 2 ∷ t) parts; fits = is_text_from (take count behind) (text_plain max_text (take count behind) u.0) })
 
 text_read : (s rest : List ℕ) → IsTrue (is_text s) → text_at (u16_bytes (length s) ++ s ++ rest) ≡ Ok (Text s, rest)
 unfolding text_at
@@ -156,7 +156,7 @@ text_read s rest fits =
     let regrouped : u16_bytes (length s) ++ s ++ rest ≡ u16_bytes (length s) ++ (s ++ rest) = append_assoc (u16_bytes (length s)) s rest in
     let two : ltb (length (u16_bytes (length s) ++ (s ++ rest))) 2 ≡ false = le-ltb _ _ (omega (arith, length-append (u16_bytes (length s)) (s ++ rest))) in
     let long : ltb (length (s ++ rest)) (length s) ≡ false = le-ltb _ _ (omega (arith, length-append s rest)) in
-    ap text_at regrouped ∙ rw (two, take_at (u16_bytes (length s)) (s ++ rest) 2 len, drop_at (u16_bytes (length s)) (s ++ rest) 2 len, u16_again (length s) (omega (arith, p.0)), long, take_at s rest (length s) refl, drop_at s rest (length s) refl, text_passes 1024 s p.0 p.1 p.2) refl
+    ap text_at regrouped ∙ rw (two, take_at (u16_bytes (length s)) (s ++ rest) 2 len, drop_at (u16_bytes (length s)) (s ++ rest) 2 len, u16_again (length s) (omega (arith, p.0)), long, take_at s rest (length s) refl, drop_at s rest (length s) refl, text_passes max_text s p.0 p.1 p.2) refl
 
 -- Truth values.
 

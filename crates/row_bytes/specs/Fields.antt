@@ -34,6 +34,12 @@ FoundOr view (Ok x) old new read = read ≡ Some (view x, new)
 FoundOr view (Err BadForm) old new read = (read ≡ None) × (new ≡ old)
 FoundOr view (Err Memory) old new read = new ≡ old
 
+-- a call gives what is read of all the bytes, or says that nothing is, unless memory ran out
+abbrev pub ReadsAs : {X A : Type 0} → (X → A) → Result X ReadFault → Option A → Type 0
+ReadsAs view (Ok x) read = read ≡ Some (view x)
+ReadsAs view (Err BadForm) read = read ≡ None
+ReadsAs view (Err Memory) read = Unit {0}
+
 -- things in front of those that are read
 abbrev pub with_front : {A : Type 0} → List A → Option (List A × List ℕ) → Option (List A × List ℕ)
 with_front front None = None

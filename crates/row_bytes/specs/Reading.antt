@@ -9,6 +9,8 @@ use Rattle.vo_spec.specs.declared.values.Kind.{Kind}
 use Rattle.vo_spec.specs.declared.values.Kind.TheVariants as kind
 use Rattle.vo_spec.specs.Firsts.{first_of, unless}
 use Rattle.vo_spec.specs.Bytes.{u16_of, u32_of, u64_of}
+use Rattle.vo_spec.specs.Values.{max_text}
+use Rattle.vo_spec.specs.Tables.{max_key}
 use Rattle.row_bytes.specs.declared.fault.FormFault.{FormFault}
 use Rattle.row_bytes.specs.declared.fault.FormFault.TheVariants.{Short, Tag, Length, NotUtf8, Control}
 
@@ -57,7 +59,7 @@ text_at bytes =
     let rest = drop 2 bytes in
     if nat_lt (length bytes) 2 then Err Short
     else if nat_lt (length rest) count then Err Short
-    else unless (text_fault 1024 (take count rest)) (Text (take count rest), drop count rest)
+    else unless (text_fault max_text (take count rest)) (Text (take count rest), drop count rest)
 
 unfoldable pub bool_at : List ℕ → Result (Value × List ℕ) FormFault
 bool_at [] = Err Short
@@ -76,4 +78,4 @@ value_at (byte ∷ bytes) =
 abbrev pub key_fault : Kind → List ℕ → Option FormFault
 key_fault kind.Bool key = Some Tag
 key_fault kind.Int key = if length key == 8 then None else Some Length
-key_fault kind.Text key = text_fault 255 key
+key_fault kind.Text key = text_fault max_key key

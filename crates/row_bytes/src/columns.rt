@@ -5,7 +5,7 @@ ghost use Rattle.row_bytes.specs.Fields.{Found, FoundOr, kind_of_byte, kind_at, 
 use crate::cursor::Cursor;
 use crate::read_fault::ReadFault;
 use std::alloc::Global;
-use vo_spec::{Column, Kind, List, Name};
+use vo_spec::{Column, Kind, List, MAX_COLUMNS, Name};
 
 fn kind_of_byte(byte: u8) -> Option<Kind>
     ensures { result ≡ kind_of_byte byte }
@@ -36,7 +36,7 @@ pub fn take_count(cursor: &mut Cursor<'_>) -> Option<u8>
 {
     let mut ahead = cursor.copy();
     let count = ahead.take_byte()?;
-    if count < 1 || 32 < count {
+    if count < 1 || MAX_COLUMNS < count as usize {
         return None;
     }
     *cursor = ahead;

@@ -73,9 +73,9 @@ impl<'b> Cursor<'b> {
     }
 }
 
-/// Whether the bytes are a name: 1 to 63 small letters, digits and `_`, of which the first is no
-/// digit.
-pub fn is_name(bytes: &[u8]) -> bool
+// Whether the bytes are a name: 1 to 63 small letters, digits and `_`, of which the first is no
+// digit.
+fn is_name(bytes: &[u8]) -> bool
     ensures { result ≡ is_name bytes.now }
 {
     match bytes.split_first() {

@@ -16,7 +16,6 @@ pub use columns::{take_columns, take_count, take_kind};
 pub use copies::{copy_onto, copy_values, own_value};
 pub use cursor::Cursor;
 pub use fault::FormFault;
-pub use fields::is_name;
 pub use keys::{key_of, read_key};
 pub use read_fault::ReadFault;
 pub use reading::take_value;

@@ -1,7 +1,7 @@
 //! Writing values.
 ghost use Rattle.std.specs.Prelude.{◌≡◌, ◌++◌, ◌≤◌, length, OnOk, OnErr};
 ghost use Rattle.vo_spec.specs.declared.values.Value.TheVariants.{Int, Text};
-ghost use Rattle.vo_spec.specs.Values.{value_bytes, FitsValue};
+ghost use Rattle.vo_spec.specs.Values.{value_bytes, FitsValue, max_text};
 
 use std::alloc::AllocError;
 use vo_spec::{Value, u16_bytes, u64_bytes};
@@ -30,7 +30,7 @@ fn put_int(out: &mut Vec<u8>, number: i64) -> Result<(), AllocError>
 }
 
 fn put_text(out: &mut Vec<u8>, text: &[u8]) -> Result<(), AllocError>
-    requires { length text.now ≤ 1024 }
+    requires { length text.now ≤ max_text }
     ensures ok { OnOk result (out.new.items ≡ out.old.items ++ value_bytes (Text text.now)) }
     ensures err { OnErr result (out.new.items ≡ out.old.items) }
 {

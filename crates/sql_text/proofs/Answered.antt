@@ -15,14 +15,14 @@ use Rattle.sql_tokens.proofs.Alone.{tokens_real}
 use Rattle.sql_tokens.specs.declared.lexemes.Lexeme.{Lexeme}
 use Rattle.sql_tokens.specs.Lex.{Token, Placed, tokens_of, token_of, placed_of, Scans}
 use Rattle.sql_text.specs.declared.faults.SqlFault.{SqlFault}
-use Rattle.sql_text.specs.declared.halt.ParseError.{ParseError}
-use Rattle.sql_text.specs.declared.halt.ParseError.TheVariants.{Memory, Fault}
+use Rattle.sql_text.specs.declared.parse_error.ParseError.{ParseError}
+use Rattle.sql_text.specs.declared.parse_error.ParseError.TheVariants.{Memory, Fault}
 use Rattle.sql_text.specs.declared.parser.Parser.{Parser}
 use Rattle.sql_text.specs.Faults.{of_tokens}
 use Rattle.sql_text.specs.Tokens.{sql, IsToken}
 use Rattle.sql_text.specs.Parsing.{ReadsAndLeaves, Reads, left_of}
 use Rattle.sql_text.specs.Queries.{conditions_of}
-use Rattle.sql_text.specs.Texts.{unplaced, IsTextOf, place_of, Breaks, HasFault, Answers, Accepts, ended}
+use Rattle.sql_text.specs.Texts.{unplaced, IsTextOf, place_of, Breaks, HasFault, AnswersText, Accepts, ended}
 use Rattle.sql_text.proofs.Good.{is_sql}
 
 pub unplaced_is : (list : List Lexeme) → unplaced (map placed_of list) ≡ map token_of list
@@ -49,7 +49,7 @@ module _ {A B : Type 0} (view : B → A) (start : Rule sql A) (good : is_good co
   breaks s j = (ps, scanned, n, refl, j)
 
   -- with tokens left behind a value the first of them is the fault
-  ended_ok : (x : B) (left : List Placed) → drop n ps ≡ left → read (reader conditions_of 32) start (unplaced ps) ≡ (Ok (view x), unplaced left) → Answers view most start text (ended (Ok x) left (length text))
+  ended_ok : (x : B) (left : List Placed) → drop n ps ≡ left → read (reader conditions_of 32) start (unplaced ps) ≡ (Ok (view x), unplaced left) → AnswersText view most start text (ended (Ok x) left (length text))
   ended_ok x [] e h = (fits, ps, scanned, answer_judged _ h)
   ended_ok x (p ∷ left) e h = (
     fits,
@@ -58,13 +58,13 @@ module _ {A B : Type 0} (view : B → A) (start : Rule sql A) (good : is_good co
   )
 
   ended_fault : (s : ParseFault) (left : List Placed) → drop n ps ≡ left → read (reader conditions_of 32) start (unplaced ps) ≡ (Err s, unplaced left)
-      → Answers view most start text (ended {B = B} (Err (Fault s)) left (length text))
+      → AnswersText view most start text (ended {B = B} (Err (Fault s)) left (length text))
   ended_fault stop.Syntax left e h = (fits, subst (λ z. Breaks start text stop.Syntax (place_of z (length text))) e (breaks stop.Syntax (subst (λ z. FaultsAt conditions_of 32 start (unplaced ps) stop.Syntax (unplaced z)) (sym e) (answer_judged _ h))))
   ended_fault stop.Nesting left e h = (fits, _, breaks stop.Nesting (subst (λ z. FaultsAt conditions_of 32 start (unplaced ps) stop.Nesting (unplaced z)) (sym e) (answer_judged _ h)))
   ended_fault stop.TooMany left e h = (fits, _, breaks stop.TooMany (subst (λ z. FaultsAt conditions_of 32 start (unplaced ps) stop.TooMany (unplaced z)) (sym e) (answer_judged _ h)))
 
   pub answers : (found : Result B ParseError) (left : List Placed) → drop n ps ≡ left → ReadsAndLeaves view (read (reader conditions_of 32) start (unplaced ps)) found (unplaced left)
-      → Answers view most start text (ended found left (length text))
+      → AnswersText view most start text (ended found left (length text))
   answers (Ok x) left e h = ended_ok x left e h
   answers (Err Memory) left e h = tt
   answers (Err (Fault s)) left e h = ended_fault s left e h
@@ -109,9 +109,9 @@ pub whole : {A B : Type 0} (view : B → A) (start : Rule sql A) → is_good con
     (found : Result B ParseError) (r : Result B SqlFault) → bytes ≡ text → length bytes ≤ most → tokens_of bytes ≡ Ok (map placed_of list)
     → old.list.now ≡ list → old.place ≡ 0 → old.levels ≡ 32 → Reads view start old found new → new.list.now ≡ old.list.now → left ≡ drop new.place new.list.now
     → r ≡ ended found (map placed_of left) (length bytes)
-    → Answers view most start text r × ((v : A) → IsTextOf most start text v → Accepts view r v)
+    → AnswersText view most start text r × ((v : A) → IsTextOf most start text v → Accepts view r v)
 whole {A} {B} view start good most text bytes list left old new found r same fits scan begins at levels reads stays left_is result_is = (
-  subst (Answers view most start text) (sym is_ended) (answers view start good most text ps new.place fits_so scanned real found (drop new.place ps) refl finds),
+  subst (AnswersText view most start text) (sym is_ended) (answers view start good most text ps new.place fits_so scanned real found (drop new.place ps) refl finds),
   λ v t. subst (λ z. Accepts view z v) (sym is_ended) (accepts view start good most text ps new.place fits_so scanned real found (drop new.place ps) finds v t),
 )
   where

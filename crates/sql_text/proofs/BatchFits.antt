@@ -20,7 +20,7 @@ use Rattle.sql_text.specs.Rules.{before, closed, listed}
 use Rattle.sql_text.specs.Queries.{name, literal, conditions_of}
 use Rattle.sql_text.specs.Commands.{column, key_clause, create, drop_table, insert, set_part, update, delete, command, batch, script}
 use Rattle.sql_text.specs.declared.faults.SqlFault.{SqlFault}
-use Rattle.sql_text.specs.Texts.{unplaced, IsTextOf, Answers}
+use Rattle.sql_text.specs.Texts.{unplaced, IsTextOf, AnswersText}
 use Rattle.sql_text.specs.Scripts.{IsScript, AnswersScript}
 use Rattle.sql_text.specs.Fits.{FitCommands, AllFit}
 use Rattle.sql_text.proofs.Made.{Made, made, of_before, of_closed, of_parens, few_listed, few_ended, all_mapped}
@@ -135,7 +135,7 @@ batch_fits text b utf8 (few, ps, scanned, s) =
     (batch_made_fits b (made IsSound (λ _. Unit {0}) (NestsIn conditions_of true 32) (no_nested 32) batch (unplaced ps) b s (all_sound ps (tokens_real text ps scanned) (utf8 ps scanned))))
     (text_small text b (few, ps, scanned, s))
 
-pub answer_batch_fits : (text : List ℕ) (r : Result Batch SqlFault) → Answers (λ x. x) 65536 batch text r → AreUtf8 text → IfOk r (λ b. FitCommands b.commands)
+pub answer_batch_fits : (text : List ℕ) (r : Result Batch SqlFault) → AnswersText (λ x. x) 65536 batch text r → AreUtf8 text → IfOk r (λ b. FitCommands b.commands)
 answer_batch_fits text (Ok b) h utf8 = batch_fits text b utf8 h
 answer_batch_fits text (Err e) h utf8 = tt
 

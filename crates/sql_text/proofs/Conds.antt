@@ -14,8 +14,8 @@ use Rattle.std.specs.Global.{Global}
 use Rattle.vo_spec.specs.declared.queries.Cond
 use Rattle.vo_spec.specs.declared.queries.Cond.{Cond, fold-roll-Cond}
 use Rattle.vo_spec.specs.Conditions.{Condition, negated, condition_of}
-use Rattle.sql_text.specs.declared.halt.ParseError.{ParseError}
-use Rattle.sql_text.specs.declared.halt.ParseError.TheVariants.{Memory, Fault}
+use Rattle.sql_text.specs.declared.parse_error.ParseError.{ParseError}
+use Rattle.sql_text.specs.declared.parse_error.ParseError.TheVariants.{Memory, Fault}
 use Rattle.sql_text.specs.Parsing.{first_of, ReadsAndLeaves}
 use Rattle.sql_text.specs.Tokens.{sql, Nested, whole, primary}
 use Rattle.sql_text.specs.Rules.{closed, listed}

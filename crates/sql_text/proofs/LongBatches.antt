@@ -20,8 +20,8 @@ use Rattle.sql_tokens.proofs.Alone.{tokens_real}
 use Rattle.vo_spec.specs.declared.tables.Batch.{Batch}
 use Rattle.sql_text.specs.declared.faults.SqlFault.{SqlFault}
 use Rattle.sql_text.specs.declared.faults.SqlFault.TheVariants as fault
-use Rattle.sql_text.specs.declared.halt.ParseError.{ParseError}
-use Rattle.sql_text.specs.declared.halt.ParseError.TheVariants.{Memory, Fault}
+use Rattle.sql_text.specs.declared.parse_error.ParseError.{ParseError}
+use Rattle.sql_text.specs.declared.parse_error.ParseError.TheVariants.{Memory, Fault}
 use Rattle.sql_text.specs.declared.parser.Parser.{Parser}
 use Rattle.sql_text.specs.Faults.{of_tokens}
 use Rattle.sql_text.specs.Tokens.{sql, IsToken}
@@ -29,7 +29,7 @@ use Rattle.sql_text.specs.Parsing.{ReadsAndLeaves, Reads, left_of}
 use Rattle.sql_text.specs.Queries.{conditions_of}
 use Rattle.sql_text.specs.Rules.{closed}
 use Rattle.sql_text.specs.Commands.{batch, script}
-use Rattle.sql_text.specs.Texts.{unplaced, place_of, Breaks, Answers, Accepts, ended}
+use Rattle.sql_text.specs.Texts.{unplaced, place_of, Breaks, AnswersText, Accepts, ended}
 use Rattle.sql_text.specs.Scripts.{closes, commits, has_long, AreShort, IsScript, BreaksScript, HasLongBatch, HasScriptFault, AnswersScript, short_len, ended_script}
 use Rattle.sql_text.proofs.Rounds.{with_front, front_none}
 use Rattle.sql_text.proofs.Repeats.{many_of}
@@ -188,7 +188,7 @@ module _ {B : Type 0} (view : B → List Batch) (text : List ℕ) (ps : List Pla
   whole_fault e s at (others, f, i, place, j) =
       (others, f, i, place, j, subst (λ z. AreShort (take i z)) (same_ok ps others (tokens_of text) scanned f) (any_short e i))
 
-  whole_answers : behind ≡ [] → (r : Result B SqlFault) → Answers view 16777216 script text r → AnswersScript view text r
+  whole_answers : behind ≡ [] → (r : Result B SqlFault) → AnswersText view 16777216 script text r → AnswersScript view text r
   whole_answers e (Ok x) (h, others, f, t) =
       (h, others, f, t, subst AreShort (same_ok ps others (tokens_of text) scanned f) (subst AreShort (same_cut e) cut_short))
   whole_answers e (Err fault.TooLong) h = inl h

@@ -25,7 +25,7 @@ use Rattle.vo_spec.specs.Conditions.{Condition, conditions, comparisons, compari
 use Rattle.sql_text.specs.Tokens.{sql, Nested, whole, primary}
 use Rattle.sql_text.specs.Rules.{before, closed, optional}
 use Rattle.sql_text.specs.Queries.{name, reference, ref_of, source, source_of, operand, comparison, prim, conj, disj, all_of, any_of, conditions_of, items, on_clause, join, query}
-use Rattle.sql_text.specs.Texts.{unplaced, IsTextOf, Answers}
+use Rattle.sql_text.specs.Texts.{unplaced, IsTextOf, AnswersText}
 use Rattle.sql_text.specs.Printable.{PrintableRef, PrintableSource, PrintableItems, PrintableJoin, PrintableOperand, PrintableSides, PrintableQuery}
 use Rattle.sql_text.proofs.Made.{Made, made, of_before, of_listed, all_both, all_mapped}
 use Rattle.sql_text.proofs.Named.{named_fits, literal_fits}
@@ -153,7 +153,7 @@ pub query_fits : (most : ℕ) (text : List ℕ) (q : Query) → AreUtf8 text →
 query_fits most text q utf8 (_, ps, scanned, s) =
     made_fits q (made IsSound FitsCondition (NestsIn conditions_of true 32) (nested 32) query (unplaced ps) q s (all_sound ps (tokens_real text ps scanned) (utf8 ps scanned)))
 
-pub answer_printable : (most : ℕ) (text : List ℕ) (r : Result QueryText SqlFault) → AreUtf8 text → Answers query_of most query text r → IfOk r (λ q. PrintableQuery (query_of q))
+pub answer_printable : (most : ℕ) (text : List ℕ) (r : Result QueryText SqlFault) → AreUtf8 text → AnswersText query_of most query text r → IfOk r (λ q. PrintableQuery (query_of q))
 answer_printable most text (Ok q) utf8 h = query_fits most text (query_of q) utf8 h
 answer_printable most text (Err e) utf8 h = tt
 

@@ -8,8 +8,8 @@ use Rattle.grammar.specs.declared.ParseFault.{ParseFault}
 use Rattle.grammar.specs.declared.ParseFault.TheVariants.{TooMany}
 use Rattle.grammar.proofs.Shorter.{Shortens, round, many_step, solid_shorter}
 use Rattle.sql_tokens.specs.Lex.{Token}
-use Rattle.sql_text.specs.declared.halt.ParseError.{ParseError}
-use Rattle.sql_text.specs.declared.halt.ParseError.TheVariants.{Memory, Fault}
+use Rattle.sql_text.specs.declared.parse_error.ParseError.{ParseError}
+use Rattle.sql_text.specs.declared.parse_error.ParseError.TheVariants.{Memory, Fault}
 use Rattle.sql_text.specs.Parsing.{ReadsAndLeaves, Appends}
 use Rattle.std.specs.Prelude.{Vec}
 use Rattle.std.specs.Global.{Global}

@@ -10,8 +10,8 @@ use Rattle.sql_tokens.specs.declared.kinds.TokenKind.{TokenKind}
 use Rattle.sql_tokens.specs.Lex.{Token}
 use Rattle.std.specs.Prelude.{map}
 use Rattle.std.proofs.lemmas.List.{append-nil, map-append, length-append}
-use Rattle.sql_text.specs.declared.halt.ParseError.{ParseError}
-use Rattle.sql_text.specs.declared.halt.ParseError.TheVariants.{Memory, Fault}
+use Rattle.sql_text.specs.declared.parse_error.ParseError.{ParseError}
+use Rattle.sql_text.specs.declared.parse_error.ParseError.TheVariants.{Memory, Fault}
 use Rattle.sql_text.specs.Parsing.{ReadsAndLeaves, Appends}
 use Rattle.std.specs.Prelude.{Vec, OnOk}
 use Rattle.std.specs.Global.{Global}

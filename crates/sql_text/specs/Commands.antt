@@ -1,7 +1,8 @@
 -- The grammar of commands, batches and scripts.
-use Rattle.std.specs.Prelude.{ℕ, List, Some, None}
+use Rattle.std.specs.Prelude.{ℕ, ◌-◌, List, Some, None}
 use Rattle.grammar.specs.Rule.{Rule, token, both, either, many, means}
 use Rattle.sql_tokens.specs.declared.kinds.TokenKind.TheVariants as k
+use Rattle.vo_spec.specs.declared.values.Value.{Value}
 use Rattle.vo_spec.specs.declared.values.Kind.{Kind}
 use Rattle.vo_spec.specs.declared.values.Kind.TheVariants as kind_of
 use Rattle.vo_spec.specs.declared.tables.Column.{Column}
@@ -9,6 +10,7 @@ use Rattle.vo_spec.specs.declared.tables.SetPart.{SetPart}
 use Rattle.vo_spec.specs.declared.tables.Command.{Command}
 use Rattle.vo_spec.specs.declared.tables.Command.TheVariants as command_of
 use Rattle.vo_spec.specs.declared.tables.Batch.{Batch}
+use Rattle.vo_spec.specs.Batches.{max_columns, max_commands}
 use Rattle.sql_text.specs.Tokens.{sql}
 use Rattle.sql_text.specs.Rules.{before, closed, in_parens, optional, listed, ended}
 use Rattle.sql_text.specs.Queries.{name, literal}
@@ -25,37 +27,49 @@ unfoldable pub column : Rule sql Column
 column = means (λ x. record { name = x.0; kind = x.1.0 })
     (both name (both column_kind (optional (both (token k.Not) (token k.Null)))))
 
+-- column , { column , }
+abbrev pub columns : Rule sql (List Column)
+columns = ended (Some (max_columns - 1)) column k.Comma
+
 -- PRIMARY KEY ( name )
 unfoldable pub key_clause : Rule sql (List ℕ)
 key_clause = before k.Primary (before k.Key (in_parens name))
 
--- CREATE TABLE name ( column { , column } , PRIMARY KEY ( name ) ), at most 32 columns
+-- CREATE TABLE name ( column { , column } , PRIMARY KEY ( name ) )
 unfoldable pub create : Rule sql Command
 create =
     means (λ x. command_of.Create x.0 x.1.0 x.1.1)
     (before k.Create (before k.Table
-    (both name (in_parens (both (ended (Some 31) column k.Comma) key_clause)))))
+    (both name (in_parens (both columns key_clause)))))
 
 -- DROP TABLE name
 unfoldable pub drop_table : Rule sql Command
 drop_table = means command_of.Drop (before k.Drop (before k.Table name))
 
--- INSERT INTO name VALUES ( literal { , literal } ), at most 32
+-- literal { , literal }
+abbrev pub literals : Rule sql (List Value)
+literals = listed (Some (max_columns - 1)) k.Comma literal
+
+-- INSERT INTO name VALUES ( literal { , literal } )
 unfoldable pub insert : Rule sql Command
 insert =
     means (λ x. command_of.Insert x.0 x.1)
     (before k.Insert (before k.Into
-    (both name (before k.Values (in_parens (listed (Some 31) k.Comma literal))))))
+    (both name (before k.Values (in_parens literals)))))
 
 -- name = literal
 unfoldable pub set_part : Rule sql SetPart
 set_part = means (λ x. record { column = x.0; value = x.1 }) (both name (before k.Equal literal))
 
--- UPDATE name SET part { , part } WHERE name = literal, at most 32 parts
+-- part { , part }
+abbrev pub set_parts : Rule sql (List SetPart)
+set_parts = listed (Some (max_columns - 1)) k.Comma set_part
+
+-- UPDATE name SET part { , part } WHERE name = literal
 unfoldable pub update : Rule sql Command
 update =
     means (λ x. command_of.Update x.0 x.1.0 x.1.1.column x.1.1.value)
-    (before k.Update (both name (both (before k.Set (listed (Some 31) k.Comma set_part))
+    (before k.Update (both name (both (before k.Set set_parts)
     (before k.Where set_part))))
 
 -- DELETE FROM name WHERE name = literal
@@ -67,9 +81,12 @@ delete =
 unfoldable pub command : Rule sql Command
 command = either create (either drop_table (either insert (either update delete)))
 
--- command ; { command ; }, at most 1,000
+-- command ; { command ; }
+abbrev pub commands : Rule sql (List Command)
+commands = ended (Some (max_commands - 1)) command k.Semicolon
+
 unfoldable pub batch : Rule sql Batch
-batch = means (λ commands. record { commands = commands }) (ended (Some 999) command k.Semicolon)
+batch = means (λ c. record { commands = c }) commands
 
 -- { batch COMMIT ; }
 unfoldable pub script : Rule sql (List Batch)

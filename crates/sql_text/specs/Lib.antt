@@ -1,3 +1,4 @@
+pub mod Limits
 pub mod Tokens
 pub mod Rules
 pub mod Queries

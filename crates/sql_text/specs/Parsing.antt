@@ -6,8 +6,8 @@ use Rattle.grammar.specs.Reading.{Found, read, reader}
 use Rattle.sql_tokens.specs.declared.kinds.TokenKind.TheVariants as k
 use Rattle.sql_tokens.specs.Lex.{Token, token_of}
 use Rattle.sql_text.specs.declared.parser.Parser.{Parser}
-use Rattle.sql_text.specs.declared.halt.ParseError.{ParseError}
-use Rattle.sql_text.specs.declared.halt.ParseError.TheVariants.{Memory, Fault}
+use Rattle.sql_text.specs.declared.parse_error.ParseError.{ParseError}
+use Rattle.sql_text.specs.declared.parse_error.ParseError.TheVariants.{Memory, Fault}
 use Rattle.sql_text.specs.Tokens.{sql}
 use Rattle.sql_text.specs.Queries.{conditions_of}
 
@@ -33,6 +33,14 @@ abbrev pub Reads : {A B : Type 0} → (B → A) → Rule sql A → Parser → Re
 Reads view rule old result new =
     ReadsAndLeaves view (read (reader conditions_of old.levels) rule (left_of old)) result
     (left_of new)
+
+-- the method leaves the levels that may still be opened
+abbrev pub KeepsLevels : Parser → Parser → Type 0
+KeepsLevels old new = new.levels ≡ old.levels
+
+-- the method leaves the list of tokens, whichever of them it takes
+abbrev pub KeepsTokens : Parser → Parser → Type 0
+KeepsTokens old new = new.list.now ≡ old.list.now
 
 -- the list with the part that was read at its end, or the halt
 abbrev pub Appends : {T : Type 0} → List T → Result T ParseError

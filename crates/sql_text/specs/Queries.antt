@@ -1,5 +1,5 @@
 -- The grammar of queries. Each rule is a line of it, and `means` says what value its text has.
-use Rattle.std.specs.Prelude.{ℕ, true, false, List, [], ◌∷◌, Option, Some, None}
+use Rattle.std.specs.Prelude.{ℕ, ◌-◌, true, false, List, [], ◌∷◌, Option, Some, None}
 use Rattle.std.specs.Str.{str_to_ascii_lowercase}
 use Rattle.grammar.specs.Rule.{Rule, Grammar, token, both, either, means, inside}
 use Rattle.sql_tokens.specs.declared.kinds.TokenKind.{TokenKind}
@@ -18,6 +18,7 @@ use Rattle.vo_spec.specs.declared.queries.Operand.{Operand}
 use Rattle.vo_spec.specs.declared.queries.Operand.TheVariants as operand_of
 use Rattle.vo_spec.specs.Conditions.{Condition, conditions, every, some, negated, Query}
 use Rattle.vo_spec.specs.Conditions
+use Rattle.sql_text.specs.Limits.{max_items}
 use Rattle.sql_text.specs.Tokens.{sql, Nested, whole, primary}
 use Rattle.sql_text.specs.Rules.{before, closed, optional, listed}
 
@@ -102,10 +103,13 @@ conditions_of = record { rule = rule; after = after }
     after whole = k.Dot ∷ k.And ∷ k.Or ∷ []
     after primary = k.Dot ∷ []
 
--- * | ref { , ref }, at most 64
+-- ref { , ref }
+abbrev pub references : Rule sql (List Ref)
+references = listed (Some (max_items - 1)) k.Comma reference
+
+-- * | ref { , ref }
 unfoldable pub items : Rule sql Items
-items = either (means (λ t. items_of.All) (token k.Star))
-    (means items_of.Refs (listed (Some 63) k.Comma reference))
+items = either (means (λ t. items_of.All) (token k.Star)) (means items_of.Refs references)
 
 -- ON ref = ref
 unfoldable pub on_clause : Rule sql (Ref × Ref)

@@ -10,15 +10,12 @@ use Rattle.sql_tokens.specs.Lex.{Placed, tokens_of}
 use Rattle.vo_spec.specs.declared.tables.Batch.{Batch}
 use Rattle.sql_text.specs.declared.faults.SqlFault.{SqlFault}
 use Rattle.sql_text.specs.declared.faults.SqlFault.TheVariants as fault
-use Rattle.sql_text.specs.declared.halt.ParseError.{ParseError}
-use Rattle.sql_text.specs.declared.halt.ParseError.TheVariants as halt
+use Rattle.sql_text.specs.declared.parse_error.ParseError.{ParseError}
+use Rattle.sql_text.specs.declared.parse_error.ParseError.TheVariants as halt
+use Rattle.sql_text.specs.Limits.{max_nesting, max_script_bytes, max_sql_bytes}
 use Rattle.sql_text.specs.Queries.{conditions_of}
 use Rattle.sql_text.specs.Commands.{script}
-use Rattle.sql_text.specs.Texts.{max_levels, max_bytes, unplaced, place_of, ended}
-
--- the text of a script has at most so many bytes
-abbrev pub max_script_bytes : ℕ
-max_script_bytes = 16777216
+use Rattle.sql_text.specs.Texts.{unplaced, place_of, ended}
 
 -- this token is the `;` of a COMMIT, which stands before it if `committed`
 abbrev pub closes : Bool → Placed → Bool
@@ -32,7 +29,7 @@ abbrev pub has_long : ℕ → Bool → List Placed → Bool
 has_long start committed [] = false
 has_long start committed (p ∷ ps) =
     if closes committed p
-    then nat_lt max_bytes (p.at - start) || has_long (p.at + 1) false ps
+    then nat_lt max_sql_bytes (p.at - start) || has_long (p.at + 1) false ps
     else has_long start (commits p) ps
 
 -- no batch that is closed in these tokens of a script is too long
@@ -43,14 +40,14 @@ AreShort ps = has_long 0 false ps ≡ false
 abbrev pub IsScript : List ℕ → List Batch → Type 0
 IsScript text batches =
     (length text ≤ max_script_bytes) × (ps : List Placed) × (tokens_of text ≡ Ok ps)
-    × IsText conditions_of true max_levels script (unplaced ps) batches × AreShort ps
+    × IsText conditions_of true max_nesting script (unplaced ps) batches × AreShort ps
 
 -- the text's tokens have this fault, at this place, and no batch is too long before it
 abbrev pub BreaksScript : List ℕ → ParseFault → ℕ → Type 0
 BreaksScript text s at =
     (ps : List Placed) × (tokens_of text ≡ Ok ps)
     × (n : ℕ) × (at ≡ place_of (drop n ps) (length text))
-    × FaultsAt conditions_of max_levels script (unplaced ps) s (unplaced (drop n ps))
+    × FaultsAt conditions_of max_nesting script (unplaced ps) s (unplaced (drop n ps))
     × AreShort (take n ps)
 
 -- the tokens before some `;` begin a script, and that one closes the first batch that is too long
@@ -58,7 +55,7 @@ abbrev pub HasLongBatch : List ℕ → Type 0
 HasLongBatch text =
     (ps : List Placed) × (tokens_of text ≡ Ok ps) × (front rest : List Placed) × (p : Placed)
     × (ps ≡ front ++ p ∷ rest)
-    × Begins conditions_of true max_levels script (unplaced front) × AreShort front
+    × Begins conditions_of true max_nesting script (unplaced front) × AreShort front
     × (has_long 0 false (front ++ p ∷ []) ≡ true)
 
 -- when each fault comes: the length first, then the first token that is none, then what comes first of a token that no script
@@ -90,7 +87,7 @@ abbrev pub short_len : ℕ → Bool → List Placed → ℕ
 short_len start committed [] = 0
 short_len start committed (p ∷ ps) =
     if closes committed p
-    then (if nat_lt max_bytes (p.at - start) then 0 else suc (short_len (p.at + 1) false ps))
+    then (if nat_lt max_sql_bytes (p.at - start) then 0 else suc (short_len (p.at + 1) false ps))
     else suc (short_len start (commits p) ps)
 
 -- the answer by what was found in the tokens before the first `;` that closes a batch of too many bytes, which are all tokens if `is_whole`

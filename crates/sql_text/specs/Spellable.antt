@@ -19,7 +19,7 @@ use Rattle.vo_spec.specs.Names.{FitsName}
 use Rattle.vo_spec.specs.Values.{FitsValue}
 use Rattle.vo_spec.specs.Batches.{FitCounted, max_commands}
 use Rattle.vo_spec.specs.Conditions.{Condition, Conditions, every, some, negated, test, none, more, Query}
-use Rattle.sql_text.specs.Texts.{max_bytes, max_levels}
+use Rattle.sql_text.specs.Limits.{max_items, max_nesting, max_sql_bytes}
 use Rattle.sql_text.specs.Printing.{is_enclosed, query_text, batch_text}
 
 -- a name that is no reserved word
@@ -72,10 +72,10 @@ abbrev mutual
   levels_in in_word (more c cs) =
       max (deeper (is_enclosed in_word c) (levels_of c)) (levels_in in_word cs)
 
--- at most 64
+-- references, not too many
 abbrev pub SpellableItems : Items → Type 0
 SpellableItems items_of.All = Unit {0}
-SpellableItems (items_of.Refs refs) = (1 ≤ length refs) × (length refs ≤ 64)
+SpellableItems (items_of.Refs refs) = (1 ≤ length refs) × (length refs ≤ max_items)
     × AllByRecursion SpellableRef refs
 
 abbrev pub SpellableJoin : Join → Type 0
@@ -85,8 +85,8 @@ pub record SpellableQuery (q : Query) : Type 0 where
   pub items : SpellableItems q.items
   pub left : SpellableSource q.left
   pub join : IfSome q.join SpellableJoin
-  pub condition : IfSome q.condition (λ c. SpellableCondition c × (levels_of c ≤ max_levels))
-  pub size : length (query_text q) ≤ max_bytes
+  pub condition : IfSome q.condition (λ c. SpellableCondition c × (levels_of c ≤ max_nesting))
+  pub size : length (query_text q) ≤ max_sql_bytes
 
 -- Commands.
 
@@ -110,4 +110,4 @@ pub record SpellableBatch (commands : List Command) : Type 0 where
   pub filled : 1 ≤ length commands
   pub count : length commands ≤ max_commands
   pub each : AllByRecursion SpellableCommand commands
-  pub size : length (batch_text commands) ≤ max_bytes
+  pub size : length (batch_text commands) ≤ max_sql_bytes

@@ -8,18 +8,11 @@ use Rattle.sql_tokens.specs.declared.lexemes.TokenFault.TheVariants as lapse
 use Rattle.sql_tokens.specs.Lex.{Token, Placed, tokens_of}
 use Rattle.sql_text.specs.declared.faults.SqlFault.{SqlFault}
 use Rattle.sql_text.specs.declared.faults.SqlFault.TheVariants as fault
-use Rattle.sql_text.specs.declared.halt.ParseError.{ParseError}
-use Rattle.sql_text.specs.declared.halt.ParseError.TheVariants.{Memory, Fault}
+use Rattle.sql_text.specs.declared.parse_error.ParseError.{ParseError}
+use Rattle.sql_text.specs.declared.parse_error.ParseError.TheVariants.{Memory, Fault}
+use Rattle.sql_text.specs.Limits.{max_nesting}
 use Rattle.sql_text.specs.Tokens.{sql}
 use Rattle.sql_text.specs.Queries.{conditions_of}
-
--- conditions nest in at most so many levels
-abbrev pub max_levels : ℕ
-max_levels = 32
-
--- the text of a query or a batch has at most so many bytes
-abbrev pub max_bytes : ℕ
-max_bytes = 65536
 
 abbrev pub unplaced : List Placed → List Token
 unplaced ps = map (λ p. p.token) ps
@@ -28,7 +21,7 @@ unplaced ps = map (λ p. p.token) ps
 abbrev pub IsTextOf : {A : Type 0} → ℕ → Rule sql A → List ℕ → A → Type 0
 IsTextOf most start text v =
     (length text ≤ most) × (ps : List Placed) × (tokens_of text ≡ Ok ps)
-    × IsText conditions_of true max_levels start (unplaced ps) v
+    × IsText conditions_of true max_nesting start (unplaced ps) v
 
 -- the place of the first of these tokens, or the text's end
 abbrev pub place_of : List Placed → ℕ → ℕ
@@ -40,7 +33,7 @@ abbrev pub Breaks : {A : Type 0} → Rule sql A → List ℕ → ParseFault → 
 Breaks start text s at =
     (ps : List Placed) × (tokens_of text ≡ Ok ps)
     × (n : ℕ) × (at ≡ place_of (drop n ps) (length text))
-    × FaultsAt conditions_of max_levels start (unplaced ps) s (unplaced (drop n ps))
+    × FaultsAt conditions_of max_nesting start (unplaced ps) s (unplaced (drop n ps))
 
 -- when each fault comes: the length first, then the first token that is none, then the first token that the rule can't go on with
 abbrev pub HasFault : {A : Type 0} → ℕ → Rule sql A → List ℕ → SqlFault → Type 0
@@ -59,9 +52,9 @@ HasFault most start text fault.TooMany = (length text ≤ most) × (at : ℕ)
 HasFault most start text fault.Memory = Unit {0}
 
 -- the text's value or its first fault
-abbrev pub Answers : {A B : Type 0} → (B → A) → ℕ → Rule sql A → List ℕ → Result B SqlFault → Type 0
-Answers view most start text (Ok x) = IsTextOf most start text (view x)
-Answers view most start text (Err fault) = HasFault most start text fault
+abbrev pub AnswersText : {A B : Type 0} → (B → A) → ℕ → Rule sql A → List ℕ → Result B SqlFault → Type 0
+AnswersText view most start text (Ok x) = IsTextOf most start text (view x)
+AnswersText view most start text (Err fault) = HasFault most start text fault
 
 -- this value, unless memory ends
 abbrev pub Accepts : {A B : Type 0} → (B → A) → Result B SqlFault → A → Type 0

@@ -12,12 +12,12 @@ ghost use Rattle.vo_spec.specs.declared.tables.SetPart.{SetPart};
 ghost use Rattle.vo_spec.specs.declared.tables.Command.{Command};
 ghost use Rattle.vo_spec.specs.declared.tables.Batch.{Batch};
 ghost use Rattle.sql_text.specs.Tokens.{sql};
-ghost use Rattle.sql_text.specs.Parsing.{left_of, Reads};
+ghost use Rattle.sql_text.specs.Parsing.{left_of, Reads, KeepsLevels, KeepsTokens};
 ghost use Rattle.sql_text.specs.Rules.{before, closed, in_parens, optional, listed, ended};
 ghost use Rattle.sql_text.specs.Queries.{name, literal};
-ghost use Rattle.sql_text.specs.Commands.{column_kind, column, key_clause, create, drop_table, insert, set_part, update, delete, command, batch, script};
+ghost use Rattle.sql_text.specs.Commands.{column_kind, column, columns, key_clause, create, drop_table, literals, insert, set_part, set_parts, update, delete, command, commands, batch, script};
 
-use crate::halt::ParseError;
+use crate::parse_error::ParseError;
 use crate::parser::{Parser, push_parsed};
 use grammar::ParseFault;
 use sql_tokens::{Lexeme, TokenKind};
@@ -30,8 +30,8 @@ impl<'a> Parser<'a> {
     #[tactic(auto, unfolding(crate::specs::Commands::column_kind))]
     fn column_kind(&mut self) -> Result<Kind, ParseError>
         ensures value { Reads (λ x. x) column_kind self.old result self.new }
-        ensures levels { self.new.levels ≡ self.old.levels }
-        ensures list { self.new.list.now ≡ self.old.list.now }
+        ensures levels { KeepsLevels self.old self.new }
+        ensures list { KeepsTokens self.old self.new }
     {
         if self.sees(TokenKind::Bigint) {
             self.take(TokenKind::Bigint);
@@ -40,7 +40,7 @@ impl<'a> Parser<'a> {
             self.take(TokenKind::Text);
             Ok(Kind::Text)
         } else {
-            self.want(TokenKind::Boolean)?;
+            self.expect(TokenKind::Boolean)?;
             Ok(Kind::Bool)
         }
     }
@@ -50,12 +50,12 @@ impl<'a> Parser<'a> {
     fn not_null(&mut self) -> Result<Option<(Lexeme<'a>, Lexeme<'a>)>, ParseError>
         ensures value { Reads (option_map (λ x. (token_of x.0, token_of x.1)))
             (optional (both (token k.Not) (token k.Null))) self.old result self.new }
-        ensures levels { self.new.levels ≡ self.old.levels }
-        ensures list { self.new.list.now ≡ self.old.list.now }
+        ensures levels { KeepsLevels self.old self.new }
+        ensures list { KeepsTokens self.old self.new }
     {
         if self.sees(TokenKind::Not) {
             let not = self.take(TokenKind::Not);
-            let null = self.want(TokenKind::Null)?;
+            let null = self.expect(TokenKind::Null)?;
             Ok(Some((not, null)))
         } else {
             Ok(None)
@@ -67,8 +67,8 @@ impl<'a> Parser<'a> {
         ensures value { Reads (λ x. (x.0, option_map (λ y. (token_of y.0, token_of y.1)) x.1))
             (both column_kind (optional (both (token k.Not) (token k.Null)))) self.old result
             self.new }
-        ensures levels { self.new.levels ≡ self.old.levels }
-        ensures list { self.new.list.now ≡ self.old.list.now }
+        ensures levels { KeepsLevels self.old self.new }
+        ensures list { KeepsTokens self.old self.new }
     {
         let kind = self.column_kind()?;
         let mark = self.not_null()?;
@@ -79,8 +79,8 @@ impl<'a> Parser<'a> {
     #[tactic(auto, unfolding(crate::specs::Commands::column, crate::specs::Rules::closed))]
     fn column(&mut self, alloc: Global) -> Result<Column, ParseError>
         ensures value { Reads (λ x. x) (closed column k.Comma) self.old result self.new }
-        ensures levels { self.new.levels ≡ self.old.levels }
-        ensures list { self.new.list.now ≡ self.old.list.now }
+        ensures levels { KeepsLevels self.old self.new }
+        ensures list { KeepsTokens self.old self.new }
     {
         let name = self.name(alloc)?;
         let (kind, _) = self.marked_kind()?;
@@ -90,9 +90,9 @@ impl<'a> Parser<'a> {
     /// Columns with a comma behind each, at most 32.
     fn columns(&mut self, alloc: Global) -> Result<Vec<Column>, ParseError>
         ensures value { Reads (λ (v : Vec Column Global). v.items)
-            (ended (Some 31) column k.Comma) self.old result self.new }
-        ensures levels { self.new.levels ≡ self.old.levels }
-        ensures list { self.new.list.now ≡ self.old.list.now }
+            columns self.old result self.new }
+        ensures levels { KeepsLevels self.old self.new }
+        ensures list { KeepsTokens self.old self.new }
     {
         let mut list = push_parsed(Vec::new(alloc), self.column(alloc))?;
         'parts: while self.sees(TokenKind::Name) {
@@ -108,10 +108,10 @@ impl<'a> Parser<'a> {
     #[tactic(auto, unfolding(crate::specs::Rules::before, crate::specs::Rules::in_parens, crate::specs::Rules::closed))]
     fn name_in_parens(&mut self, alloc: Global) -> Result<Name, ParseError>
         ensures value { Reads (λ x. x) (in_parens name) self.old result self.new }
-        ensures levels { self.new.levels ≡ self.old.levels }
-        ensures list { self.new.list.now ≡ self.old.list.now }
+        ensures levels { KeepsLevels self.old self.new }
+        ensures list { KeepsTokens self.old self.new }
     {
-        self.want(TokenKind::LeftParen)?;
+        self.expect(TokenKind::LeftParen)?;
         let name = self.name(alloc)?;
         self.then_expect(name, TokenKind::RightParen)
     }
@@ -120,11 +120,11 @@ impl<'a> Parser<'a> {
     #[tactic(auto, unfolding(crate::specs::Commands::key_clause, crate::specs::Rules::before))]
     fn key_clause(&mut self, alloc: Global) -> Result<Name, ParseError>
         ensures value { Reads (λ x. x) key_clause self.old result self.new }
-        ensures levels { self.new.levels ≡ self.old.levels }
-        ensures list { self.new.list.now ≡ self.old.list.now }
+        ensures levels { KeepsLevels self.old self.new }
+        ensures list { KeepsTokens self.old self.new }
     {
-        self.want(TokenKind::Primary)?;
-        self.want(TokenKind::Key)?;
+        self.expect(TokenKind::Primary)?;
+        self.expect(TokenKind::Key)?;
         self.name_in_parens(alloc)
     }
 
@@ -132,12 +132,12 @@ impl<'a> Parser<'a> {
     #[tactic(auto, unfolding(crate::specs::Rules::before, crate::specs::Rules::in_parens, crate::specs::Rules::closed))]
     fn table_body(&mut self, alloc: Global) -> Result<(List<Column>, Name), ParseError>
         ensures value { Reads (λ x. x)
-            (in_parens (both (ended (Some 31) column k.Comma) key_clause)) self.old result
+            (in_parens (both columns key_clause)) self.old result
             self.new }
-        ensures levels { self.new.levels ≡ self.old.levels }
-        ensures list { self.new.list.now ≡ self.old.list.now }
+        ensures levels { KeepsLevels self.old self.new }
+        ensures list { KeepsTokens self.old self.new }
     {
-        self.want(TokenKind::LeftParen)?;
+        self.expect(TokenKind::LeftParen)?;
         let columns = List::from_vec(self.columns(alloc)?);
         let key = self.key_clause(alloc)?;
         self.then_expect((columns, key), TokenKind::RightParen)
@@ -146,11 +146,11 @@ impl<'a> Parser<'a> {
     #[tactic(auto, unfolding(crate::specs::Commands::create, crate::specs::Rules::before))]
     fn create(&mut self, alloc: Global) -> Result<Command, ParseError>
         ensures value { Reads (λ x. x) create self.old result self.new }
-        ensures levels { self.new.levels ≡ self.old.levels }
-        ensures list { self.new.list.now ≡ self.old.list.now }
+        ensures levels { KeepsLevels self.old self.new }
+        ensures list { KeepsTokens self.old self.new }
     {
-        self.want(TokenKind::Create)?;
-        self.want(TokenKind::Table)?;
+        self.expect(TokenKind::Create)?;
+        self.expect(TokenKind::Table)?;
         let name = self.name(alloc)?;
         let (columns, key) = self.table_body(alloc)?;
         Ok(Command::Create { name, columns, key })
@@ -159,11 +159,11 @@ impl<'a> Parser<'a> {
     #[tactic(auto, unfolding(crate::specs::Commands::drop_table, crate::specs::Rules::before))]
     fn drop_table(&mut self, alloc: Global) -> Result<Command, ParseError>
         ensures value { Reads (λ x. x) drop_table self.old result self.new }
-        ensures levels { self.new.levels ≡ self.old.levels }
-        ensures list { self.new.list.now ≡ self.old.list.now }
+        ensures levels { KeepsLevels self.old self.new }
+        ensures list { KeepsTokens self.old self.new }
     {
-        self.want(TokenKind::Drop)?;
-        self.want(TokenKind::Table)?;
+        self.expect(TokenKind::Drop)?;
+        self.expect(TokenKind::Table)?;
         let name = self.name(alloc)?;
         Ok(Command::Drop { name })
     }
@@ -172,19 +172,19 @@ impl<'a> Parser<'a> {
     #[tactic(auto, unfolding(crate::specs::Rules::before))]
     fn next_literal(&mut self, alloc: Global) -> Result<Value, ParseError>
         ensures value { Reads (λ x. x) (before k.Comma literal) self.old result self.new }
-        ensures levels { self.new.levels ≡ self.old.levels }
-        ensures list { self.new.list.now ≡ self.old.list.now }
+        ensures levels { KeepsLevels self.old self.new }
+        ensures list { KeepsTokens self.old self.new }
     {
-        self.want(TokenKind::Comma)?;
+        self.expect(TokenKind::Comma)?;
         self.literal(alloc)
     }
 
     /// Literals, at most 32.
     fn literals(&mut self, alloc: Global) -> Result<Vec<Value>, ParseError>
         ensures value { Reads (λ (v : Vec Value Global). v.items)
-            (listed (Some 31) k.Comma literal) self.old result self.new }
-        ensures levels { self.new.levels ≡ self.old.levels }
-        ensures list { self.new.list.now ≡ self.old.list.now }
+            literals self.old result self.new }
+        ensures levels { KeepsLevels self.old self.new }
+        ensures list { KeepsTokens self.old self.new }
     {
         let mut list = push_parsed(Vec::new(alloc), self.literal(alloc))?;
         'parts: while self.sees(TokenKind::Comma) {
@@ -200,11 +200,11 @@ impl<'a> Parser<'a> {
     #[tactic(auto, unfolding(crate::specs::Rules::before, crate::specs::Rules::in_parens, crate::specs::Rules::closed))]
     fn row(&mut self, alloc: Global) -> Result<List<Value>, ParseError>
         ensures value { Reads (λ x. x)
-            (in_parens (listed (Some 31) k.Comma literal)) self.old result self.new }
-        ensures levels { self.new.levels ≡ self.old.levels }
-        ensures list { self.new.list.now ≡ self.old.list.now }
+            (in_parens literals) self.old result self.new }
+        ensures levels { KeepsLevels self.old self.new }
+        ensures list { KeepsTokens self.old self.new }
     {
-        self.want(TokenKind::LeftParen)?;
+        self.expect(TokenKind::LeftParen)?;
         let values = List::from_vec(self.literals(alloc)?);
         self.then_expect(values, TokenKind::RightParen)
     }
@@ -212,13 +212,13 @@ impl<'a> Parser<'a> {
     #[tactic(auto, unfolding(crate::specs::Commands::insert, crate::specs::Rules::before))]
     fn insert(&mut self, alloc: Global) -> Result<Command, ParseError>
         ensures value { Reads (λ x. x) insert self.old result self.new }
-        ensures levels { self.new.levels ≡ self.old.levels }
-        ensures list { self.new.list.now ≡ self.old.list.now }
+        ensures levels { KeepsLevels self.old self.new }
+        ensures list { KeepsTokens self.old self.new }
     {
-        self.want(TokenKind::Insert)?;
-        self.want(TokenKind::Into)?;
+        self.expect(TokenKind::Insert)?;
+        self.expect(TokenKind::Into)?;
         let name = self.name(alloc)?;
-        self.want(TokenKind::Values)?;
+        self.expect(TokenKind::Values)?;
         let values = self.row(alloc)?;
         Ok(Command::Insert { name, values })
     }
@@ -227,10 +227,10 @@ impl<'a> Parser<'a> {
     #[tactic(auto, unfolding(crate::specs::Rules::before))]
     fn equal_literal(&mut self, alloc: Global) -> Result<Value, ParseError>
         ensures value { Reads (λ x. x) (before k.Equal literal) self.old result self.new }
-        ensures levels { self.new.levels ≡ self.old.levels }
-        ensures list { self.new.list.now ≡ self.old.list.now }
+        ensures levels { KeepsLevels self.old self.new }
+        ensures list { KeepsTokens self.old self.new }
     {
-        self.want(TokenKind::Equal)?;
+        self.expect(TokenKind::Equal)?;
         self.literal(alloc)
     }
 
@@ -238,8 +238,8 @@ impl<'a> Parser<'a> {
     #[tactic(auto, unfolding(crate::specs::Commands::set_part))]
     fn set_part(&mut self, alloc: Global) -> Result<SetPart, ParseError>
         ensures value { Reads (λ x. x) set_part self.old result self.new }
-        ensures levels { self.new.levels ≡ self.old.levels }
-        ensures list { self.new.list.now ≡ self.old.list.now }
+        ensures levels { KeepsLevels self.old self.new }
+        ensures list { KeepsTokens self.old self.new }
     {
         let column = self.name(alloc)?;
         let value = self.equal_literal(alloc)?;
@@ -250,19 +250,19 @@ impl<'a> Parser<'a> {
     #[tactic(auto, unfolding(crate::specs::Rules::before))]
     fn next_set_part(&mut self, alloc: Global) -> Result<SetPart, ParseError>
         ensures value { Reads (λ x. x) (before k.Comma set_part) self.old result self.new }
-        ensures levels { self.new.levels ≡ self.old.levels }
-        ensures list { self.new.list.now ≡ self.old.list.now }
+        ensures levels { KeepsLevels self.old self.new }
+        ensures list { KeepsTokens self.old self.new }
     {
-        self.want(TokenKind::Comma)?;
+        self.expect(TokenKind::Comma)?;
         self.set_part(alloc)
     }
 
     /// The parts of a SET, at most 32.
     fn set_parts(&mut self, alloc: Global) -> Result<Vec<SetPart>, ParseError>
         ensures value { Reads (λ (v : Vec SetPart Global). v.items)
-            (listed (Some 31) k.Comma set_part) self.old result self.new }
-        ensures levels { self.new.levels ≡ self.old.levels }
-        ensures list { self.new.list.now ≡ self.old.list.now }
+            set_parts self.old result self.new }
+        ensures levels { KeepsLevels self.old self.new }
+        ensures list { KeepsTokens self.old self.new }
     {
         let mut list = push_parsed(Vec::new(alloc), self.set_part(alloc))?;
         'parts: while self.sees(TokenKind::Comma) {
@@ -278,11 +278,11 @@ impl<'a> Parser<'a> {
     #[tactic(auto, unfolding(crate::specs::Rules::before))]
     fn set_clause(&mut self, alloc: Global) -> Result<List<SetPart>, ParseError>
         ensures value { Reads (λ x. x)
-            (before k.Set (listed (Some 31) k.Comma set_part)) self.old result self.new }
-        ensures levels { self.new.levels ≡ self.old.levels }
-        ensures list { self.new.list.now ≡ self.old.list.now }
+            (before k.Set set_parts) self.old result self.new }
+        ensures levels { KeepsLevels self.old self.new }
+        ensures list { KeepsTokens self.old self.new }
     {
-        self.want(TokenKind::Set)?;
+        self.expect(TokenKind::Set)?;
         Ok(List::from_vec(self.set_parts(alloc)?))
     }
 
@@ -290,20 +290,20 @@ impl<'a> Parser<'a> {
     #[tactic(auto, unfolding(crate::specs::Rules::before))]
     fn row_clause(&mut self, alloc: Global) -> Result<SetPart, ParseError>
         ensures value { Reads (λ x. x) (before k.Where set_part) self.old result self.new }
-        ensures levels { self.new.levels ≡ self.old.levels }
-        ensures list { self.new.list.now ≡ self.old.list.now }
+        ensures levels { KeepsLevels self.old self.new }
+        ensures list { KeepsTokens self.old self.new }
     {
-        self.want(TokenKind::Where)?;
+        self.expect(TokenKind::Where)?;
         self.set_part(alloc)
     }
 
     #[tactic(auto, unfolding(crate::specs::Commands::update, crate::specs::Rules::before))]
     fn update(&mut self, alloc: Global) -> Result<Command, ParseError>
         ensures value { Reads (λ x. x) update self.old result self.new }
-        ensures levels { self.new.levels ≡ self.old.levels }
-        ensures list { self.new.list.now ≡ self.old.list.now }
+        ensures levels { KeepsLevels self.old self.new }
+        ensures list { KeepsTokens self.old self.new }
     {
-        self.want(TokenKind::Update)?;
+        self.expect(TokenKind::Update)?;
         let name = self.name(alloc)?;
         let sets = self.set_clause(alloc)?;
         let SetPart { column, value } = self.row_clause(alloc)?;
@@ -318,13 +318,13 @@ impl<'a> Parser<'a> {
     #[tactic(auto, unfolding(crate::specs::Commands::delete, crate::specs::Rules::before))]
     fn delete(&mut self, alloc: Global) -> Result<Command, ParseError>
         ensures value { Reads (λ x. x) delete self.old result self.new }
-        ensures levels { self.new.levels ≡ self.old.levels }
-        ensures list { self.new.list.now ≡ self.old.list.now }
+        ensures levels { KeepsLevels self.old self.new }
+        ensures list { KeepsTokens self.old self.new }
     {
-        self.want(TokenKind::Delete)?;
-        self.want(TokenKind::From)?;
+        self.expect(TokenKind::Delete)?;
+        self.expect(TokenKind::From)?;
         let name = self.name(alloc)?;
-        self.want(TokenKind::Where)?;
+        self.expect(TokenKind::Where)?;
         let SetPart { column, value } = self.set_part(alloc)?;
         Ok(Command::Delete {
             name,
@@ -336,8 +336,8 @@ impl<'a> Parser<'a> {
     #[tactic(auto, unfolding(crate::specs::Commands::command), using(crate::proofs::Firsts::first_commands))]
     fn command(&mut self, alloc: Global) -> Result<Command, ParseError>
         ensures value { Reads (λ x. x) command self.old result self.new }
-        ensures levels { self.new.levels ≡ self.old.levels }
-        ensures list { self.new.list.now ≡ self.old.list.now }
+        ensures levels { KeepsLevels self.old self.new }
+        ensures list { KeepsTokens self.old self.new }
     {
         if self.sees(TokenKind::Create) {
             self.create(alloc)
@@ -356,8 +356,8 @@ impl<'a> Parser<'a> {
     #[tactic(auto, unfolding(crate::specs::Rules::closed))]
     fn closed_command(&mut self, alloc: Global) -> Result<Command, ParseError>
         ensures value { Reads (λ x. x) (closed command k.Semicolon) self.old result self.new }
-        ensures levels { self.new.levels ≡ self.old.levels }
-        ensures list { self.new.list.now ≡ self.old.list.now }
+        ensures levels { KeepsLevels self.old self.new }
+        ensures list { KeepsTokens self.old self.new }
     {
         let command = self.command(alloc)?;
         self.then_expect(command, TokenKind::Semicolon)
@@ -378,9 +378,9 @@ impl<'a> Parser<'a> {
     /// Commands with a semicolon behind each, at most 1,000.
     fn commands(&mut self, alloc: Global) -> Result<Vec<Command>, ParseError>
         ensures value { Reads (λ (v : Vec Command Global). v.items)
-            (ended (Some 999) command k.Semicolon) self.old result self.new }
-        ensures levels { self.new.levels ≡ self.old.levels }
-        ensures list { self.new.list.now ≡ self.old.list.now }
+            commands self.old result self.new }
+        ensures levels { KeepsLevels self.old self.new }
+        ensures list { KeepsTokens self.old self.new }
     {
         let mut list = push_parsed(Vec::new(alloc), self.closed_command(alloc))?;
         'parts: while self.sees_command() {
@@ -395,8 +395,8 @@ impl<'a> Parser<'a> {
     #[tactic(auto, unfolding(crate::specs::Commands::batch))]
     pub fn batch(&mut self, alloc: Global) -> Result<Batch, ParseError>
         ensures value { Reads (λ x. x) batch self.old result self.new }
-        ensures levels { self.new.levels ≡ self.old.levels }
-        ensures list { self.new.list.now ≡ self.old.list.now }
+        ensures levels { KeepsLevels self.old self.new }
+        ensures list { KeepsTokens self.old self.new }
     {
         let commands = List::from_vec(self.commands(alloc)?);
         Ok(Batch { commands })
@@ -406,8 +406,8 @@ impl<'a> Parser<'a> {
     #[tactic(auto, unfolding(crate::specs::Rules::closed))]
     fn ended_batch(&mut self, alloc: Global) -> Result<Batch, ParseError>
         ensures value { Reads (λ x. x) (closed batch k.Commit) self.old result self.new }
-        ensures levels { self.new.levels ≡ self.old.levels }
-        ensures list { self.new.list.now ≡ self.old.list.now }
+        ensures levels { KeepsLevels self.old self.new }
+        ensures list { KeepsTokens self.old self.new }
     {
         let batch = self.batch(alloc)?;
         self.then_expect(batch, TokenKind::Commit)
@@ -418,8 +418,8 @@ impl<'a> Parser<'a> {
     fn committed_batch(&mut self, alloc: Global) -> Result<Batch, ParseError>
         ensures value { Reads (λ x. x)
             (closed (closed batch k.Commit) k.Semicolon) self.old result self.new }
-        ensures levels { self.new.levels ≡ self.old.levels }
-        ensures list { self.new.list.now ≡ self.old.list.now }
+        ensures levels { KeepsLevels self.old self.new }
+        ensures list { KeepsTokens self.old self.new }
     {
         let batch = self.ended_batch(alloc)?;
         self.then_expect(batch, TokenKind::Semicolon)
@@ -428,8 +428,8 @@ impl<'a> Parser<'a> {
     /// Any number of batches.
     pub fn script(&mut self, alloc: Global) -> Result<Vec<Batch>, ParseError>
         ensures value { Reads (λ (v : Vec Batch Global). v.items) script self.old result self.new }
-        ensures levels { self.new.levels ≡ self.old.levels }
-        ensures list { self.new.list.now ≡ self.old.list.now }
+        ensures levels { KeepsLevels self.old self.new }
+        ensures list { KeepsTokens self.old self.new }
     {
         let mut list = Vec::new(alloc);
         'parts: while self.sees_command() {

@@ -5,10 +5,10 @@ ghost use Rattle.grammar.specs.Reading.{begins, taken};
 ghost use Rattle.sql_tokens.specs.declared.kinds.TokenKind.TheVariants as k;
 ghost use Rattle.sql_tokens.specs.Lex.{token_of};
 ghost use Rattle.sql_text.specs.Tokens.{sql};
-ghost use Rattle.sql_text.specs.Parsing.{left_of, Reads};
+ghost use Rattle.sql_text.specs.Parsing.{left_of, Reads, KeepsLevels, KeepsTokens};
 ghost use Rattle.sql_text.specs.Queries.{comparison, prim, conj, disj, all_of, any_of};
 
-use crate::halt::ParseError;
+use crate::parse_error::ParseError;
 use crate::parser::{Parser, push_parsed};
 use grammar::ParseFault;
 use sql_tokens::{Lexeme, TokenKind};
@@ -45,8 +45,8 @@ impl<'a> Parser<'a> {
     #[tactic(auto, unfolding(crate::specs::Queries::comparison))]
     fn comparison(&mut self, alloc: Global) -> Result<Cond, ParseError>
         ensures value { Reads condition_of comparison self.old result self.new }
-        ensures levels { self.new.levels ≡ self.old.levels }
-        ensures list { self.new.list.now ≡ self.old.list.now }
+        ensures levels { KeepsLevels self.old self.new }
+        ensures list { KeepsTokens self.old self.new }
     {
         let left = self.reference(alloc)?;
         let op = self.operator()?;
@@ -63,7 +63,7 @@ impl<'a> Parser<'a> {
         ensures deep { OnErr result
             ((result ≡ Err (ParseError.Fault ParseFault.Nesting)) × (self.old.levels ≡ 0)
             × (left_of self.new ≡ left_of self.old)) }
-        ensures list { self.new.list.now ≡ self.old.list.now }
+        ensures list { KeepsTokens self.old self.new }
     {
         if self.levels == 0 {
             return Err(ParseError::Fault(ParseFault::Nesting));
@@ -78,8 +78,8 @@ impl<'a> Parser<'a> {
     fn negation(&mut self, alloc: Global) -> Result<Cond, ParseError>
         requires { begins sql (k.Not ∷ []) (left_of self.old) ≡ true }
         ensures value { Reads condition_of prim self.old result self.new }
-        ensures levels { OnOk result (self.new.levels ≡ self.old.levels) }
-        ensures list { self.new.list.now ≡ self.old.list.now }
+        ensures levels { OnOk result (KeepsLevels self.old self.new) }
+        ensures list { KeepsTokens self.old self.new }
     {
         let levels = self.levels;
         self.open(TokenKind::Not)?;
@@ -95,8 +95,8 @@ impl<'a> Parser<'a> {
         requires other { begins sql (k.Not ∷ []) (left_of self.old) ≡ false }
         requires next { begins sql (k.LeftParen ∷ []) (left_of self.old) ≡ true }
         ensures value { Reads condition_of prim self.old result self.new }
-        ensures levels { OnOk result (self.new.levels ≡ self.old.levels) }
-        ensures list { self.new.list.now ≡ self.old.list.now }
+        ensures levels { OnOk result (KeepsLevels self.old self.new) }
+        ensures list { KeepsTokens self.old self.new }
     {
         let levels = self.levels;
         self.open(TokenKind::LeftParen)?;
@@ -109,8 +109,8 @@ impl<'a> Parser<'a> {
     #[tactic(auto, using(crate::proofs::Conds::prims))]
     fn prim(&mut self, alloc: Global) -> Result<Cond, ParseError>
         ensures value { Reads condition_of prim self.old result self.new }
-        ensures levels { OnOk result (self.new.levels ≡ self.old.levels) }
-        ensures list { self.new.list.now ≡ self.old.list.now }
+        ensures levels { OnOk result (KeepsLevels self.old self.new) }
+        ensures list { KeepsTokens self.old self.new }
     {
         if self.sees(TokenKind::Not) {
             self.negation(alloc)
@@ -124,8 +124,8 @@ impl<'a> Parser<'a> {
     #[cycle(cond)]
     fn conj(&mut self, alloc: Global) -> Result<Cond, ParseError>
         ensures value { Reads condition_of conj self.old result self.new }
-        ensures levels { OnOk result (self.new.levels ≡ self.old.levels) }
-        ensures list { self.new.list.now ≡ self.old.list.now }
+        ensures levels { OnOk result (KeepsLevels self.old self.new) }
+        ensures list { KeepsTokens self.old self.new }
     {
         let mut parts = push_parsed(Vec::new(alloc), self.prim(alloc))?;
         while self.sees(TokenKind::And) {
@@ -138,8 +138,8 @@ impl<'a> Parser<'a> {
     #[cycle(cond)]
     pub fn disj(&mut self, alloc: Global) -> Result<Cond, ParseError>
         ensures value { Reads condition_of disj self.old result self.new }
-        ensures levels { OnOk result (self.new.levels ≡ self.old.levels) }
-        ensures list { self.new.list.now ≡ self.old.list.now }
+        ensures levels { OnOk result (KeepsLevels self.old self.new) }
+        ensures list { KeepsTokens self.old self.new }
     {
         let mut parts = push_parsed(Vec::new(alloc), self.conj(alloc))?;
         while self.sees(TokenKind::Or) {

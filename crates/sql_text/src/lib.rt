@@ -4,8 +4,9 @@
 mod commands;
 mod conditions;
 mod faults;
-mod halt;
+mod limits;
 mod names;
+mod parse_error;
 mod parser;
 mod printing;
 mod printing_commands;
@@ -15,7 +16,8 @@ mod scripts;
 mod texts;
 
 pub use faults::SqlFault;
+pub use limits::MAX_SCRIPT_BYTES;
 pub use printing_commands::print_batch;
 pub use printing_queries::print_query;
-pub use scripts::{SCRIPT_MAX, parse_script};
-pub use texts::{TEXT_MAX, parse_batch, parse_query};
+pub use scripts::parse_script;
+pub use texts::{parse_batch, parse_query};

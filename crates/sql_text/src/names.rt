@@ -2,23 +2,21 @@
 ghost use Rattle.std.specs.Prelude.{◌≡◌, OnOk, IfOk, false, List, Some, Vec};
 ghost use Rattle.std.specs.Str.{str_to_ascii_lowercase};
 ghost use Rattle.sql_tokens.specs.Lex.{unquoted, single_quotes};
-ghost use Rattle.sql_text.specs.Parsing.{Reads};
+ghost use Rattle.sql_text.specs.Parsing.{Reads, KeepsLevels, KeepsTokens};
 ghost use Rattle.std.specs.Global.{Global};
 ghost use Rattle.grammar.specs.Rule.{either};
 ghost use Rattle.sql_tokens.specs.declared.kinds.TokenKind.TheVariants as k;
 ghost use Rattle.vo_spec.specs.declared.queries.Ref.{Ref};
 ghost use Rattle.sql_text.specs.Rules.{before, optional, listed};
-ghost use Rattle.sql_text.specs.Queries.{name, literal, reference, source, operator, operand, ref_of, source_of};
+ghost use Rattle.sql_text.specs.Queries.{name, literal, reference, source, operator, operand, ref_of, references, source_of};
 
-use crate::halt::ParseError;
+use crate::limits::MAX_ITEMS;
+use crate::parse_error::ParseError;
 use crate::parser::{Parser, push_parsed};
 use grammar::ParseFault;
 use sql_tokens::TokenKind;
 use std::alloc::{AllocError, Global};
 use vo_spec::{Cmp, Name, Operand, Ref, Source, Text, Value};
-
-/// The most items that a query shows.
-const ITEMS_MAX: usize = 64;
 
 /// A word in small letters.
 fn folded(alloc: Global, word: &[u8]) -> Result<Vec<u8>, AllocError>
@@ -60,18 +58,18 @@ impl<'a> Parser<'a> {
     #[tactic(auto, unfolding(crate::specs::Queries::name))]
     pub fn name(&mut self, alloc: Global) -> Result<Name, ParseError>
         ensures value { Reads (λ x. x) name self.old result self.new }
-        ensures levels { self.new.levels ≡ self.old.levels }
-        ensures list { self.new.list.now ≡ self.old.list.now }
+        ensures levels { KeepsLevels self.old self.new }
+        ensures list { KeepsTokens self.old self.new }
     {
-        let token = self.want(TokenKind::Name)?;
+        let token = self.expect(TokenKind::Name)?;
         Ok(Name::from_vec(folded(alloc, token.text)?))
     }
 
     #[tactic(auto, unfolding(crate::specs::Queries::literal))]
     pub fn literal(&mut self, alloc: Global) -> Result<Value, ParseError>
         ensures value { Reads (λ x. x) literal self.old result self.new }
-        ensures levels { self.new.levels ≡ self.old.levels }
-        ensures list { self.new.list.now ≡ self.old.list.now }
+        ensures levels { KeepsLevels self.old self.new }
+        ensures list { KeepsTokens self.old self.new }
     {
         if self.sees(TokenKind::Integer) {
             Ok(Value::Int(self.take(TokenKind::Integer).number))
@@ -82,7 +80,7 @@ impl<'a> Parser<'a> {
             self.take(TokenKind::True);
             Ok(Value::Bool(true))
         } else {
-            self.want(TokenKind::False)?;
+            self.expect(TokenKind::False)?;
             Ok(Value::Bool(false))
         }
     }
@@ -90,8 +88,8 @@ impl<'a> Parser<'a> {
     #[tactic(auto, unfolding(crate::specs::Queries::reference, crate::specs::Rules::optional, crate::specs::Rules::before))]
     pub fn reference(&mut self, alloc: Global) -> Result<Ref, ParseError>
         ensures value { Reads (λ x. x) reference self.old result self.new }
-        ensures levels { self.new.levels ≡ self.old.levels }
-        ensures list { self.new.list.now ≡ self.old.list.now }
+        ensures levels { KeepsLevels self.old self.new }
+        ensures list { KeepsTokens self.old self.new }
     {
         let name = self.name(alloc)?;
         if !self.sees(TokenKind::Dot) {
@@ -111,8 +109,8 @@ impl<'a> Parser<'a> {
     #[tactic(auto, unfolding(crate::specs::Queries::operator))]
     pub fn operator(&mut self) -> Result<Cmp, ParseError>
         ensures value { Reads (λ x. x) operator self.old result self.new }
-        ensures levels { self.new.levels ≡ self.old.levels }
-        ensures list { self.new.list.now ≡ self.old.list.now }
+        ensures levels { KeepsLevels self.old self.new }
+        ensures list { KeepsTokens self.old self.new }
     {
         if self.sees(TokenKind::Equal) {
             self.take(TokenKind::Equal);
@@ -130,7 +128,7 @@ impl<'a> Parser<'a> {
             self.take(TokenKind::Greater);
             Ok(Cmp::Gt)
         } else {
-            self.want(TokenKind::GreaterEqual)?;
+            self.expect(TokenKind::GreaterEqual)?;
             Ok(Cmp::Ge)
         }
     }
@@ -138,8 +136,8 @@ impl<'a> Parser<'a> {
     #[tactic(auto, unfolding(crate::specs::Queries::operand), using(crate::proofs::Firsts::first_reference))]
     pub fn operand(&mut self, alloc: Global) -> Result<Operand, ParseError>
         ensures value { Reads (λ x. x) operand self.old result self.new }
-        ensures levels { self.new.levels ≡ self.old.levels }
-        ensures list { self.new.list.now ≡ self.old.list.now }
+        ensures levels { KeepsLevels self.old self.new }
+        ensures list { KeepsTokens self.old self.new }
     {
         if self.sees(TokenKind::Name) {
             Ok(Operand::Ref(self.reference(alloc)?))
@@ -153,8 +151,8 @@ impl<'a> Parser<'a> {
     fn alias_if_any(&mut self, alloc: Global) -> Result<Option<Name>, ParseError>
         ensures value { Reads (λ x. x)
             (optional (either (before k.As name) name)) self.old result self.new }
-        ensures levels { self.new.levels ≡ self.old.levels }
-        ensures list { self.new.list.now ≡ self.old.list.now }
+        ensures levels { KeepsLevels self.old self.new }
+        ensures list { KeepsTokens self.old self.new }
     {
         if self.sees(TokenKind::As) {
             self.take(TokenKind::As);
@@ -169,8 +167,8 @@ impl<'a> Parser<'a> {
     #[tactic(auto, unfolding(crate::specs::Queries::source))]
     pub fn source(&mut self, alloc: Global) -> Result<Source, ParseError>
         ensures value { Reads (λ x. x) source self.old result self.new }
-        ensures levels { self.new.levels ≡ self.old.levels }
-        ensures list { self.new.list.now ≡ self.old.list.now }
+        ensures levels { KeepsLevels self.old self.new }
+        ensures list { KeepsTokens self.old self.new }
     {
         let table = self.name(alloc)?;
         let alias = match self.alias_if_any(alloc)? {
@@ -184,23 +182,23 @@ impl<'a> Parser<'a> {
     #[tactic(auto, unfolding(crate::specs::Rules::before))]
     fn next_reference(&mut self, alloc: Global) -> Result<Ref, ParseError>
         ensures value { Reads (λ x. x) (before k.Comma reference) self.old result self.new }
-        ensures levels { self.new.levels ≡ self.old.levels }
-        ensures list { self.new.list.now ≡ self.old.list.now }
+        ensures levels { KeepsLevels self.old self.new }
+        ensures list { KeepsTokens self.old self.new }
     {
-        self.want(TokenKind::Comma)?;
+        self.expect(TokenKind::Comma)?;
         self.reference(alloc)
     }
 
     /// References, at most 64.
     pub fn references(&mut self, alloc: Global) -> Result<Vec<Ref>, ParseError>
         ensures value { Reads (λ (v : Vec Ref Global). v.items)
-            (listed (Some 63) k.Comma reference) self.old result self.new }
-        ensures levels { self.new.levels ≡ self.old.levels }
-        ensures list { self.new.list.now ≡ self.old.list.now }
+            references self.old result self.new }
+        ensures levels { KeepsLevels self.old self.new }
+        ensures list { KeepsTokens self.old self.new }
     {
         let mut list = push_parsed(Vec::new(alloc), self.reference(alloc))?;
         'parts: while self.sees(TokenKind::Comma) {
-            if list.len() == ITEMS_MAX {
+            if list.len() == MAX_ITEMS {
                 return Err(ParseError::Fault(ParseFault::TooMany));
             }
             list = push_parsed(list, self.next_reference(alloc))?;

@@ -2,7 +2,7 @@
 ghost use Rattle.std.specs.Prelude.{◌≡◌, ◌+◌, ◌<◌, [], ◌∷◌, true, Ok, Err, IfOk, OnOk};
 ghost use Rattle.sql_text.specs.Parsing.{Appends};
 
-use crate::halt::ParseError;
+use crate::parse_error::ParseError;
 use grammar::ParseFault;
 use sql_tokens::{Lexeme, TokenKind};
 
@@ -30,7 +30,7 @@ impl<'a> Parser<'a> {
     ghost use Rattle.grammar.specs.Reading.{begins, taken};
     ghost use Rattle.sql_tokens.specs.Lex.{token_of};
     ghost use Rattle.sql_text.specs.Tokens.{sql};
-    ghost use Rattle.sql_text.specs.Parsing.{left_of, first_of, Reads};
+    ghost use Rattle.sql_text.specs.Parsing.{left_of, first_of, Reads, KeepsLevels, KeepsTokens};
 
     /// Whether the next token is of this kind.
     pub fn sees(&self, kind: TokenKind) -> bool
@@ -47,8 +47,8 @@ impl<'a> Parser<'a> {
         requires { begins sql (kind ∷ []) (left_of self.old) ≡ true }
         ensures value { taken sql kind (left_of self.old)
             ≡ (Ok (token_of result), left_of self.new) }
-        ensures levels { self.new.levels ≡ self.old.levels }
-        ensures list { self.new.list.now ≡ self.old.list.now }
+        ensures levels { KeepsLevels self.old self.new }
+        ensures list { KeepsTokens self.old self.new }
     {
         let next = self.list[self.place];
         self.place += 1;
@@ -56,10 +56,10 @@ impl<'a> Parser<'a> {
     }
 
     /// The next token, if it is of this kind.
-    pub fn want(&mut self, kind: TokenKind) -> Result<Lexeme<'a>, ParseError>
+    pub fn expect(&mut self, kind: TokenKind) -> Result<Lexeme<'a>, ParseError>
         ensures value { Reads token_of (token kind) self.old result self.new }
-        ensures levels { self.new.levels ≡ self.old.levels }
-        ensures list { self.new.list.now ≡ self.old.list.now }
+        ensures levels { KeepsLevels self.old self.new }
+        ensures list { KeepsTokens self.old self.new }
     {
         if self.sees(kind) {
             Ok(self.take(kind))
@@ -74,10 +74,10 @@ impl<'a> Parser<'a> {
         ensures value { Reads {B = T} (λ x. first_of (left_of self.old))
             (token kind) self.old result self.new }
         ensures same { IfOk result (λ x. x ≡ found) }
-        ensures levels { self.new.levels ≡ self.old.levels }
-        ensures list { self.new.list.now ≡ self.old.list.now }
+        ensures levels { KeepsLevels self.old self.new }
+        ensures list { KeepsTokens self.old self.new }
     {
-        self.want(kind)?;
+        self.expect(kind)?;
         Ok(found)
     }
 }

@@ -3,7 +3,8 @@ ghost use Rattle.std.specs.Prelude.{◌≡◌, [], ◌∷◌, ◌++◌, string_b
 ghost use Rattle.vo_spec.specs.Batches.{FitsBatch};
 ghost use Rattle.sql_tokens.specs.declared.kinds.TokenKind.TheVariants as k;
 ghost use Rattle.sql_text.specs.Commands.{batch as batch_rule};
-ghost use Rattle.sql_text.specs.Texts.{max_bytes, IsTextOf};
+ghost use Rattle.sql_text.specs.Limits.{max_sql_bytes};
+ghost use Rattle.sql_text.specs.Texts.{IsTextOf};
 ghost use Rattle.sql_text.specs.Spellable.{SpellableBatch};
 ghost use Rattle.sql_text.specs.Printing.{word, kind_word, column_tokens, set_tokens, key_tokens, columns_tokens, command_tokens, batch_text, written};
 
@@ -125,7 +126,7 @@ fn print_drop(alloc: Global, out: &mut Vec<u8>, name: &Name) -> Result<(), Alloc
 }
 
 /// WHERE name = literal
-fn print_row(
+fn print_where(
     alloc: Global,
     out: &mut Vec<u8>,
     column: &Name,
@@ -154,7 +155,7 @@ fn print_update(
     name.print(alloc, out)?;
     put_word(out, TokenKind::Set)?;
     print_separated(alloc, out, sets, TokenKind::Comma)?;
-    print_row(alloc, out, column, value)
+    print_where(alloc, out, column, value)
 }
 
 fn print_delete(
@@ -170,7 +171,7 @@ fn print_delete(
     put_word(out, TokenKind::Delete)?;
     put_word(out, TokenKind::From)?;
     name.print(alloc, out)?;
-    print_row(alloc, out, column, value)
+    print_where(alloc, out, column, value)
 }
 
 impl Print for Command {
@@ -203,7 +204,7 @@ pub fn print_batch(alloc: Global, batch: &Batch) -> Result<String, AllocError>
     requires { FitsBatch batch.now.commands }
     ensures printed { IfOk result (λ text. string_bytes text ≡ batch_text batch.now.commands) }
     ensures reads { SpellableBatch batch.now.commands
-        → IfOk result (λ text. IsTextOf max_bytes batch_rule (string_bytes text) batch.now) }
+        → IfOk result (λ text. IsTextOf max_sql_bytes batch_rule (string_bytes text) batch.now) }
 {
     let mut out = Vec::new(alloc);
     print_terminated(

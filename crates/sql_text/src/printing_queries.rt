@@ -3,7 +3,8 @@ ghost use Rattle.std.specs.Prelude.{◌≡◌, [], ◌∷◌, ◌++◌, drop, ma
 ghost use Rattle.std.specs.Option.{option_map_or};
 ghost use Rattle.vo_spec.specs.Conditions.{negated, condition_of, conditions, query_of};
 ghost use Rattle.sql_text.specs.Queries.{query as query_rule};
-ghost use Rattle.sql_text.specs.Texts.{max_bytes, IsTextOf};
+ghost use Rattle.sql_text.specs.Limits.{max_sql_bytes};
+ghost use Rattle.sql_text.specs.Texts.{IsTextOf};
 ghost use Rattle.sql_text.specs.Printable.{PrintableQuery};
 ghost use Rattle.sql_text.specs.Spellable.{SpellableQuery};
 ghost use Rattle.sql_text.specs.Printing.{word, reference_tokens, source_tokens, operator, operand_tokens, is_enclosed, enclosed, condition_tokens, parts_tokens, items_tokens, join_tokens, where_tokens, query_tokens, query_text, written};
@@ -218,7 +219,7 @@ pub fn print_query(alloc: Global, query: &QueryText) -> Result<String, AllocErro
     requires { PrintableQuery (query_of query.now) }
     ensures printed { IfOk result (λ text. string_bytes text ≡ query_text (query_of query.now)) }
     ensures reads { SpellableQuery (query_of query.now)
-        → IfOk result (λ text. IsTextOf max_bytes query_rule (string_bytes text)
+        → IfOk result (λ text. IsTextOf max_sql_bytes query_rule (string_bytes text)
         (query_of query.now)) }
 {
     let mut out = Vec::new(alloc);

@@ -6,11 +6,11 @@ ghost use Rattle.sql_tokens.specs.Lex.{token_of};
 ghost use Rattle.sql_tokens.specs.declared.kinds.TokenKind.TheVariants as k;
 ghost use Rattle.vo_spec.specs.Conditions.{condition_of, query_of};
 ghost use Rattle.sql_text.specs.Tokens.{sql};
-ghost use Rattle.sql_text.specs.Parsing.{left_of, Reads};
+ghost use Rattle.sql_text.specs.Parsing.{left_of, Reads, KeepsLevels, KeepsTokens};
 ghost use Rattle.sql_text.specs.Rules.{before, optional};
 ghost use Rattle.sql_text.specs.Queries.{reference, source, items, on_clause, join, disj, query, conditions_of};
 
-use crate::halt::ParseError;
+use crate::parse_error::ParseError;
 use crate::parser::Parser;
 use sql_tokens::{Lexeme, TokenKind};
 use std::alloc::Global;
@@ -22,8 +22,8 @@ impl<'a> Parser<'a> {
     pub fn skip(&mut self, kind: TokenKind) -> Option<Lexeme<'a>>
         ensures value { read (reader conditions_of self.old.levels) (optional (token kind))
             (left_of self.old) ≡ (Ok (option_map token_of result), left_of self.new) }
-        ensures levels { self.new.levels ≡ self.old.levels }
-        ensures list { self.new.list.now ≡ self.old.list.now }
+        ensures levels { KeepsLevels self.old self.new }
+        ensures list { KeepsTokens self.old self.new }
     {
         if self.sees(kind) {
             Some(self.take(kind))
@@ -35,8 +35,8 @@ impl<'a> Parser<'a> {
     #[tactic(auto, unfolding(crate::specs::Queries::items))]
     fn items(&mut self, alloc: Global) -> Result<Items, ParseError>
         ensures value { Reads (λ x. x) items self.old result self.new }
-        ensures levels { self.new.levels ≡ self.old.levels }
-        ensures list { self.new.list.now ≡ self.old.list.now }
+        ensures levels { KeepsLevels self.old self.new }
+        ensures list { KeepsTokens self.old self.new }
     {
         if self.sees(TokenKind::Star) {
             self.take(TokenKind::Star);
@@ -50,10 +50,10 @@ impl<'a> Parser<'a> {
     #[tactic(auto, unfolding(crate::specs::Rules::before))]
     fn equal_reference(&mut self, alloc: Global) -> Result<Ref, ParseError>
         ensures value { Reads (λ x. x) (before k.Equal reference) self.old result self.new }
-        ensures levels { self.new.levels ≡ self.old.levels }
-        ensures list { self.new.list.now ≡ self.old.list.now }
+        ensures levels { KeepsLevels self.old self.new }
+        ensures list { KeepsTokens self.old self.new }
     {
-        self.want(TokenKind::Equal)?;
+        self.expect(TokenKind::Equal)?;
         self.reference(alloc)
     }
 
@@ -61,10 +61,10 @@ impl<'a> Parser<'a> {
     #[tactic(auto, unfolding(crate::specs::Queries::on_clause, crate::specs::Rules::before))]
     fn on_clause(&mut self, alloc: Global) -> Result<(Ref, Ref), ParseError>
         ensures value { Reads (λ x. x) on_clause self.old result self.new }
-        ensures levels { self.new.levels ≡ self.old.levels }
-        ensures list { self.new.list.now ≡ self.old.list.now }
+        ensures levels { KeepsLevels self.old self.new }
+        ensures list { KeepsTokens self.old self.new }
     {
-        self.want(TokenKind::On)?;
+        self.expect(TokenKind::On)?;
         let left = self.reference(alloc)?;
         let right = self.equal_reference(alloc)?;
         Ok((left, right))
@@ -73,11 +73,11 @@ impl<'a> Parser<'a> {
     #[tactic(auto, unfolding(crate::specs::Queries::join, crate::specs::Rules::before))]
     fn join(&mut self, alloc: Global) -> Result<Join, ParseError>
         ensures value { Reads (λ x. x) join self.old result self.new }
-        ensures levels { self.new.levels ≡ self.old.levels }
-        ensures list { self.new.list.now ≡ self.old.list.now }
+        ensures levels { KeepsLevels self.old self.new }
+        ensures list { KeepsTokens self.old self.new }
     {
         self.skip(TokenKind::Inner);
-        self.want(TokenKind::Join)?;
+        self.expect(TokenKind::Join)?;
         let right = self.source(alloc)?;
         let (left_ref, right_ref) = self.on_clause(alloc)?;
         Ok(Join {
@@ -90,8 +90,8 @@ impl<'a> Parser<'a> {
     #[tactic(auto, unfolding(crate::specs::Rules::optional), using(crate::proofs::Firsts::first_join))]
     fn join_if_any(&mut self, alloc: Global) -> Result<Option<Join>, ParseError>
         ensures value { Reads (λ x. x) (optional join) self.old result self.new }
-        ensures levels { self.new.levels ≡ self.old.levels }
-        ensures list { self.new.list.now ≡ self.old.list.now }
+        ensures levels { KeepsLevels self.old self.new }
+        ensures list { KeepsTokens self.old self.new }
     {
         if self.sees(TokenKind::Inner) || self.sees(TokenKind::Join) {
             Ok(Some(self.join(alloc)?))
@@ -104,8 +104,8 @@ impl<'a> Parser<'a> {
     fn condition_if_any(&mut self, alloc: Global) -> Result<Option<Cond>, ParseError>
         ensures value { Reads (option_map condition_of)
             (optional (before k.Where disj)) self.old result self.new }
-        ensures levels { OnOk result (self.new.levels ≡ self.old.levels) }
-        ensures list { self.new.list.now ≡ self.old.list.now }
+        ensures levels { OnOk result (KeepsLevels self.old self.new) }
+        ensures list { KeepsTokens self.old self.new }
     {
         if self.sees(TokenKind::Where) {
             self.take(TokenKind::Where);
@@ -119,10 +119,10 @@ impl<'a> Parser<'a> {
     #[tactic(auto, unfolding(crate::specs::Rules::before))]
     fn select_clause(&mut self, alloc: Global) -> Result<Items, ParseError>
         ensures value { Reads (λ x. x) (before k.Select items) self.old result self.new }
-        ensures levels { self.new.levels ≡ self.old.levels }
-        ensures list { self.new.list.now ≡ self.old.list.now }
+        ensures levels { KeepsLevels self.old self.new }
+        ensures list { KeepsTokens self.old self.new }
     {
-        self.want(TokenKind::Select)?;
+        self.expect(TokenKind::Select)?;
         self.items(alloc)
     }
 
@@ -130,10 +130,10 @@ impl<'a> Parser<'a> {
     #[tactic(auto, unfolding(crate::specs::Rules::before))]
     fn from_clause(&mut self, alloc: Global) -> Result<Source, ParseError>
         ensures value { Reads (λ x. x) (before k.From source) self.old result self.new }
-        ensures levels { self.new.levels ≡ self.old.levels }
-        ensures list { self.new.list.now ≡ self.old.list.now }
+        ensures levels { KeepsLevels self.old self.new }
+        ensures list { KeepsTokens self.old self.new }
     {
-        self.want(TokenKind::From)?;
+        self.expect(TokenKind::From)?;
         self.source(alloc)
     }
 
@@ -145,7 +145,7 @@ impl<'a> Parser<'a> {
         ensures value { Reads (λ x. (x.0, (option_map condition_of x.1, option_map token_of x.2)))
             (both (optional join) (both (optional (before k.Where disj))
             (optional (token k.Semicolon)))) self.old result self.new }
-        ensures list { self.new.list.now ≡ self.old.list.now }
+        ensures list { KeepsTokens self.old self.new }
     {
         let join = self.join_if_any(alloc)?;
         let cond = self.condition_if_any(alloc)?;
@@ -156,7 +156,7 @@ impl<'a> Parser<'a> {
     #[tactic(auto, unfolding(crate::specs::Queries::query))]
     pub fn query(&mut self, alloc: Global) -> Result<QueryText, ParseError>
         ensures value { Reads query_of query self.old result self.new }
-        ensures list { self.new.list.now ≡ self.old.list.now }
+        ensures list { KeepsTokens self.old self.new }
     {
         let items = self.select_clause(alloc)?;
         let left = self.from_clause(alloc)?;

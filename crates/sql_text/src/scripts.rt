@@ -9,15 +9,13 @@ ghost use Rattle.sql_text.specs.Scripts.{IsScript, AnswersScript, short_len, end
 ghost use Rattle.sql_text.specs.Fits.{AllFit};
 
 use crate::faults::{SqlFault, of_tokens};
-use crate::halt::ParseError;
+use crate::limits::{MAX_SCRIPT_BYTES, MAX_SQL_BYTES};
+use crate::parse_error::ParseError;
 use crate::parser::Parser;
-use crate::texts::{TEXT_MAX, ended};
+use crate::texts::ended;
 use sql_tokens::{Lexeme, TokenKind, tokens};
 use std::alloc::Global;
 use vo_spec::Batch;
-
-/// The longest text of a script, in bytes.
-pub const SCRIPT_MAX: usize = 16_777_216;
 
 /// How many tokens stand before the first semicolon that closes a batch of too many bytes.
 fn short_len(list: &[Lexeme<'_>]) -> usize
@@ -31,7 +29,7 @@ fn short_len(list: &[Lexeme<'_>]) -> usize
     'tokens: while place < list.len() {
         let next = list[place];
         if is_committed && next.kind.is(TokenKind::Semicolon) {
-            if next.at.saturating_sub(start) > TEXT_MAX {
+            if next.at.saturating_sub(start) > MAX_SQL_BYTES {
                 return place;
             }
             start = next.at + 1;
@@ -68,7 +66,7 @@ pub fn parse_script(alloc: Global, text: &str) -> Result<Vec<Batch>, SqlFault>
     ensures fits { IfOk result (λ (v : Vec Batch Global). AllFit v.items) }
 {
     let bytes = text.as_bytes();
-    if bytes.len() > SCRIPT_MAX {
+    if bytes.len() > MAX_SCRIPT_BYTES {
         return Err(SqlFault::TooLong);
     }
     let list = match tokens(alloc, bytes) {

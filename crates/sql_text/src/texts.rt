@@ -5,35 +5,31 @@ ghost use Rattle.vo_spec.specs.Conditions.{Query, query_of, FitsQuery};
 ghost use Rattle.vo_spec.specs.declared.tables.Batch.{Batch};
 ghost use Rattle.sql_text.specs.Queries.{query};
 ghost use Rattle.sql_text.specs.Commands.{batch};
-ghost use Rattle.sql_text.specs.Texts.{max_bytes, ended, IsTextOf, Answers, Accepts};
+ghost use Rattle.sql_text.specs.Limits.{max_nesting, max_sql_bytes};
+ghost use Rattle.sql_text.specs.Texts.{ended, IsTextOf, AnswersText, Accepts};
 ghost use Rattle.sql_text.specs.Fits.{FitCommands};
 ghost use Rattle.sql_text.specs.Printable.{PrintableQuery};
 
 use crate::faults::{SqlFault, of_tokens};
-use crate::halt::ParseError;
+use crate::limits::{MAX_NESTING, MAX_SQL_BYTES};
+use crate::parse_error::ParseError;
 use crate::parser::Parser;
 use grammar::ParseFault;
 use sql_tokens::{Lexeme, tokens};
 use std::alloc::Global;
 use vo_spec::{Batch, QueryText};
 
-/// The longest text of a query or a batch, in bytes.
-pub const TEXT_MAX: usize = 65_536;
-
-/// The levels that conditions may nest in.
-const LEVELS_MAX: usize = 32;
-
 impl<'a> Parser<'a> {
     /// A parser at the first of these tokens.
     pub fn new(list: &'a [Lexeme<'a>]) -> Parser<'a>
         ensures list { result.list.now ≡ list.now }
         ensures place { result.place ≡ 0 }
-        ensures levels { result.levels ≡ 32 }
+        ensures levels { result.levels ≡ max_nesting }
     {
         Parser {
             list,
             place: 0,
-            levels: LEVELS_MAX,
+            levels: MAX_NESTING,
         }
     }
 
@@ -71,13 +67,13 @@ pub fn ended<T: Drop>(
 
 /// The query that a text is, or the text's first fault.
 pub fn parse_query(alloc: Global, text: &str) -> Result<QueryText, SqlFault>
-    ensures found { Answers query_of max_bytes query text.now result }
-    ensures only { (q : Query) → IsTextOf max_bytes query text.now q → Accepts query_of result q }
+    ensures found { AnswersText query_of max_sql_bytes query text.now result }
+    ensures only { (q : Query) → IsTextOf max_sql_bytes query text.now q → Accepts query_of result q }
     ensures fits { IfOk result (λ q. FitsQuery (query_of q)) }
     ensures printable { IfOk result (λ q. PrintableQuery (query_of q)) }
 {
     let bytes = text.as_bytes();
-    if bytes.len() > TEXT_MAX {
+    if bytes.len() > MAX_SQL_BYTES {
         return Err(SqlFault::TooLong);
     }
     let list = match tokens(alloc, bytes) {
@@ -91,12 +87,12 @@ pub fn parse_query(alloc: Global, text: &str) -> Result<QueryText, SqlFault>
 
 /// The batch that a text is, or the text's first fault.
 pub fn parse_batch(alloc: Global, text: &str) -> Result<Batch, SqlFault>
-    ensures found { Answers (λ x. x) max_bytes batch text.now result }
-    ensures only { (b : Batch) → IsTextOf max_bytes batch text.now b → Accepts (λ x. x) result b }
+    ensures found { AnswersText (λ x. x) max_sql_bytes batch text.now result }
+    ensures only { (b : Batch) → IsTextOf max_sql_bytes batch text.now b → Accepts (λ x. x) result b }
     ensures fits { IfOk result (λ b. FitCommands b.commands) }
 {
     let bytes = text.as_bytes();
-    if bytes.len() > TEXT_MAX {
+    if bytes.len() > MAX_SQL_BYTES {
         return Err(SqlFault::TooLong);
     }
     let list = match tokens(alloc, bytes) {

@@ -4,6 +4,8 @@ use Rattle.std.specs.Global.{Global}
 use Rattle.std.specs.List.{prefix_len, list_all}
 use Rattle.std.specs.Char.{is_ascii_alphabetic, is_ascii_digit}
 use Rattle.std.specs.Str.Parse.{digits_value}
+use Rattle.vo_spec.specs.Names.{max_name}
+use Rattle.vo_spec.specs.Values.{max_text}
 use Rattle.sql_tokens.specs.declared.kinds.TokenKind.{TokenKind}
 use Rattle.sql_tokens.specs.declared.kinds.TokenKind.TheVariants as k
 use Rattle.sql_tokens.specs.declared.lexemes.TokenFault.{TokenFault}
@@ -34,10 +36,10 @@ is_letter b = is_ascii_alphabetic b || b == 95
 abbrev pub is_word_byte : ℕ → Bool
 is_word_byte b = is_letter b || is_ascii_digit b
 
--- a reserved word, or a name of at most 63 bytes
+-- a reserved word, or a name that is not too long
 abbrev pub named : Option TokenKind → List ℕ → Result Token TokenFault
 named (Some kind) word = Ok (record { kind = kind; text = word; number = pos 0 })
-named None word = if nat_le (length word) 63
+named None word = if nat_le (length word) max_name
     then Ok (record { kind = k.Name; text = word; number = pos 0 }) else Err lapse.Name
 
 -- the digits behind a minus, if there is one
@@ -75,7 +77,7 @@ unquoted text = single_quotes false (take (length text - 2) (drop 1 text))
 
 -- it stands for at most 1,024 bytes, and has none below 20 hex
 abbrev pub fits_text : List ℕ → Bool
-fits_text text = nat_le (length (unquoted text)) 1024 && list_all (λ b. nat_le 32 b) text
+fits_text text = nat_le (length (unquoted text)) max_text && list_all (λ b. nat_le 32 b) text
 
 abbrev pub quoted : Option ℕ → List ℕ → Result Token TokenFault
 quoted None bytes = Err lapse.Token

@@ -7,6 +7,6 @@ mod scan;
 mod token;
 mod words;
 
-pub use kinds::{KEYWORDS, TokenKind};
+pub use kinds::TokenKind;
 pub use lexemes::{LexFault, Lexeme, TokenFault};
 pub use scan::tokens;

@@ -9,9 +9,7 @@ ghost use Rattle.sql_tokens.specs.Lex.{is_letter, is_word_byte, closing, symbol,
 use crate::kinds::TokenKind;
 use crate::lexemes::{Lexeme, TokenFault};
 use crate::words;
-
-/// The longest name, in bytes.
-const NAME_MAX: usize = 63;
+use vo_spec::MAX_NAME;
 
 /// A keyword or a name.
 fn word<'a>(text: &'a [u8], at: usize) -> Result<Lexeme<'a>, TokenFault>
@@ -26,7 +24,7 @@ fn word<'a>(text: &'a [u8], at: usize) -> Result<Lexeme<'a>, TokenFault>
     let (word, _) = text.split_at(words::word_len(text));
     let kind = match words::keyword(word) {
         Some(kind) => kind,
-        None if word.len() <= NAME_MAX => TokenKind::Name,
+        None if word.len() <= MAX_NAME => TokenKind::Name,
         None => return Err(TokenFault::Name),
     };
     Ok(Lexeme {

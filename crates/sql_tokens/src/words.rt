@@ -8,6 +8,7 @@ ghost use Rattle.sql_tokens.specs.Kinds.{keyword, spelling};
 ghost use Rattle.sql_tokens.specs.Lex.{is_blank, is_letter, is_word_byte, closing, single_quotes, symbol, digits, integer_value, fits_text};
 
 use crate::kinds::{KEYWORDS, TokenKind};
+use vo_spec::MAX_TEXT;
 
 pub fn is_blank(byte: u8) -> bool
     ensures { result ≡ is_blank byte }
@@ -127,9 +128,6 @@ pub fn integer_value(text: &[u8]) -> Option<i64>
     number.parse::<i64>().ok()
 }
 
-/// The longest text that a literal stands for, in bytes.
-const TEXT_MAX: usize = 1024;
-
 /// How many bytes the text between two quotes stands for.
 fn value_len(text: &[u8]) -> usize
     ensures { result ≡ length (single_quotes false text.now) }
@@ -158,5 +156,5 @@ pub fn fits_text(text: &[u8]) -> bool
     requires { 2 ≤ length text.now }
     ensures { result ≡ fits_text text.now }
 {
-    value_len(&text[1..text.len() - 1]) <= TEXT_MAX && has_no_control(text)
+    value_len(&text[1..text.len() - 1]) <= MAX_TEXT && has_no_control(text)
 }

@@ -2,7 +2,7 @@
 ghost use Rattle.std.specs.Prelude.{◌≡◌, ◌≤◌, map, not, filter, bytes_eq, length, IfOk};
 ghost use Rattle.std.specs.List.{position_or_len};
 ghost use Rattle.vo_spec.specs.Values.{key_lt};
-ghost use Rattle.vo_spec.specs.Batches.{FitsCommand};
+ghost use Rattle.vo_spec.specs.Batches.{FitsCommand, max_columns};
 ghost use Rattle.vo_spec.specs.Tables.{apply, table_header_of, refusal, put_table};
 ghost use Rattle.table_list.specs.Changes.{Returns, new_table, rows_after, table_after, changed_tables, row_fault, fault_by_rows};
 ghost use Rattle.table_list.specs.TableHeaders.{command_name};
@@ -10,7 +10,7 @@ ghost use Rattle.table_list.specs.TableHeaders.{command_name};
 use crate::columns::{column_number, copy_columns};
 use crate::copies::{copy_rows, copy_schema, copy_table, copy_tables};
 use crate::fault::ApplyFault;
-use crate::named::{command_name, table_header_of, table_named};
+use crate::lookup::{command_name, table_header_of, table_named};
 use crate::new_rows::{key_at, row_of};
 use crate::refusal::first_refusal;
 use crate::rows::{has_row, put_row, update_row, without_row};
@@ -156,7 +156,7 @@ fn new_table(
     columns: &[Column],
     key: &Name,
 ) -> Result<Table, AllocError>
-    requires { length columns.now ≤ 32 }
+    requires { length columns.now ≤ max_columns }
     ensures { IfOk result (λ table. table ≡ new_table name.now columns.now key.now) }
 {
     let number = column_number(columns, key.as_bytes()) as u8;

@@ -6,7 +6,7 @@ mod columns;
 mod commands;
 mod copies;
 mod fault;
-mod named;
+mod lookup;
 mod new_rows;
 mod refusal;
 mod rows;
@@ -19,7 +19,7 @@ pub use columns::{
 };
 pub use copies::copy_schema;
 pub use fault::{ApplyFault, BatchFault};
-pub use named::{command_name, table_named};
+pub use lookup::{command_name, table_named};
 pub use new_rows::{key_at, row_of};
 pub use refusal::{TableHeaderRef, first_refusal};
 pub use tables::{Tables, apply, apply_batch};

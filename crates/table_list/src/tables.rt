@@ -2,7 +2,7 @@
 ghost use Rattle.std.specs.Prelude.{◌≡◌, ◌≤◌, [], length, OnErr};
 ghost use Rattle.std.specs.List.{AllByRecursion};
 ghost use Rattle.vo_spec.specs.Tables.{apply, apply_batch};
-ghost use Rattle.vo_spec.specs.Batches.{FitsCommand, FitsBatch};
+ghost use Rattle.vo_spec.specs.Batches.{FitsCommand, FitsBatch, max_commands};
 ghost use Rattle.table_list.specs.Batched.{BatchGives};
 ghost use Rattle.table_list.specs.Changes.{Returns};
 
@@ -64,7 +64,7 @@ fn apply_commands(
     commands: &[Command],
 ) -> Result<Vec<Table>, BatchFault>
     requires fits { AllByRecursion FitsCommand commands.now }
-    requires count { length commands.now ≤ 1000 }
+    requires count { length commands.now ≤ max_commands }
     ensures { BatchGives (λ new. new.items) result (apply_batch commands.now tables.now) }
 {
     let mut new = copy_tables(alloc, tables)?;

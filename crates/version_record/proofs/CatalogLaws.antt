@@ -15,12 +15,12 @@ use Rattle.vo_spec.specs.Batches.{FitCounted, FitsColumn, counted, column_bytes}
 use Rattle.vo_spec.specs.Records.{catalog_table_bytes, catalog_bytes, are_rising, FitsSchema, FitsCatalogTable, FitsCatalog, IsCatalog}
 use Rattle.row_bytes.specs.declared.read_fault.ReadFault.{ReadFault}
 use Rattle.row_bytes.specs.Reading.{byte_at, bytes_at, u16_at, u64_at}
-use Rattle.row_bytes.specs.Fields.{◌>>=◌, where_true, times, whole}
+use Rattle.row_bytes.specs.Fields.{◌>>=◌, where_true, times, whole, ReadsAs}
 use Rattle.row_bytes.proofs.Readers.{IsBytes-rest}
 use Rattle.batch_format.specs.BatchReading.{Reader}
 use Rattle.batch_format.proofs.ReaderLaws.{Took, IsReader, some_is, bound, tested, took_then, all_true, names_read, next_found, next_again, times_found, times_again}
 use Rattle.batch_format.proofs.BatchLaws.{columns_law, u16_found, u16_read}
-use Rattle.version_record.specs.Reading.{schema_at, catalog_table_at, catalog_at, is_schema, names_of, CatalogRead}
+use Rattle.version_record.specs.Reading.{schema_at, catalog_table_at, catalog_at, is_schema, names_of}
 use Rattle.version_record.proofs.RecordLaws.{bytes_read, u64s_read, whole_is}
 
 -- One byte.
@@ -195,14 +195,14 @@ catalog_again c rest fits =
 
 -- What the calls ensure.
 
-pub is_catalog : (bytes : List ℕ) (r : Result Catalog ReadFault) → IsBytes bytes → CatalogRead r (whole (catalog_at bytes)) → IfOk r (λ catalog. IsCatalog bytes catalog)
+pub is_catalog : (bytes : List ℕ) (r : Result Catalog ReadFault) → IsBytes bytes → ReadsAs (λ (c : Catalog). c) r (whole (catalog_at bytes)) → IfOk r (λ catalog. IsCatalog bytes catalog)
 is_catalog bytes (Ok catalog) fits read =
     let f = catalog_found bytes catalog [] fits (whole_is (catalog_at bytes) catalog read) in
     record { fits = f.1; encoded = f.0 ∙ append-nil (catalog_bytes catalog) }
 is_catalog bytes (Err fault) fits read = tt
 
-pub is_read : (bytes : List ℕ) (r : Result Catalog ReadFault) (c : Catalog) → CatalogRead r (whole (catalog_at bytes)) → IsCatalog bytes c → CatalogRead r (Some c)
+pub is_read : (bytes : List ℕ) (r : Result Catalog ReadFault) (c : Catalog) → ReadsAs (λ (c : Catalog). c) r (whole (catalog_at bytes)) → IsCatalog bytes c → ReadsAs (λ (c : Catalog). c) r (Some c)
 is_read bytes r c read is =
-    subst (CatalogRead r)
+    subst (ReadsAs (λ (c : Catalog). c) r)
     (ap (λ (t : List ℕ). whole (catalog_at t)) (is.encoded ∙ sym (append-nil (catalog_bytes c))) ∙ ap whole (catalog_again c [] is.fits))
     read

@@ -9,8 +9,6 @@ use Rattle.vo_spec.specs.declared.records.Record.{Record}
 use Rattle.vo_spec.specs.Values.{same_kind}
 use Rattle.vo_spec.specs.Tables.{column_at, has_twice, max_tables}
 use Rattle.vo_spec.specs.Records.{are_rising}
-use Rattle.row_bytes.specs.declared.read_fault.ReadFault.{ReadFault}
-use Rattle.row_bytes.specs.declared.read_fault.ReadFault.TheVariants.{BadForm, Memory}
 use Rattle.row_bytes.specs.Reading.{byte_at, bytes_at, u16_at, u64_at}
 use Rattle.row_bytes.specs.Fields.{◌>>=◌, where_true, word_at, name_at, columns_at, times}
 
@@ -50,9 +48,3 @@ catalog_at bytes =
     u16_at bytes >>= λ count. where_true (nat_le count.0 max_tables) count >>= λ count.
     times catalog_table_at count.0 count.1 >>= λ tables.
     where_true (are_rising (names_of tables.0)) (record { tables = tables.0 }, tables.1)
-
--- a call gives what is read, or says that nothing is, unless memory ran out
-abbrev pub CatalogRead : Result Catalog ReadFault → Option Catalog → Type 0
-CatalogRead (Ok catalog) read = read ≡ Some catalog
-CatalogRead (Err BadForm) read = read ≡ None
-CatalogRead (Err Memory) read = Unit {0}

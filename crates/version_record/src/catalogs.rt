@@ -4,15 +4,15 @@ ghost use Rattle.std.specs.List.{AllByRecursion};
 ghost use Rattle.vo_spec.specs.declared.records.Catalog.{Catalog as Plain};
 ghost use Rattle.vo_spec.specs.Records.{IsCatalog, FitsCatalog, FitsCatalogTable, are_rising, catalog_bytes, catalog_digest, catalog_table_bytes};
 ghost use Rattle.vo_spec.specs.Values.{key_lt};
-ghost use Rattle.row_bytes.specs.Fields.{FoundOr, times, whole};
-ghost use Rattle.version_record.specs.Reading.{CatalogRead, catalog_at, catalog_table_at, names_of};
+ghost use Rattle.row_bytes.specs.Fields.{FoundOr, ReadsAs, times, whole};
+ghost use Rattle.version_record.specs.Reading.{catalog_at, catalog_table_at, names_of};
 ghost use Rattle.batch_format.specs.Writing.{StaysInFront};
 
 use crate::tables::{put_table, take_table};
 use row_bytes::{Cursor, ReadFault};
 use std::alloc::{AllocError, Global};
 use tagged_hash::Hasher;
-use vo_spec::{Catalog, CatalogTable, Digest, List, Name, u16_bytes};
+use vo_spec::{Catalog, CatalogTable, Digest, List, MAX_TABLES, Name, u16_bytes};
 
 /// The one spelling of a catalog.
 pub fn catalog_bytes(alloc: Global, catalog: &Catalog) -> Result<Vec<u8>, AllocError>
@@ -64,12 +64,12 @@ fn put_tables(out: &mut Vec<u8>, tables: &[CatalogTable]) -> Result<(), AllocErr
 
 /// The catalog that comes next.
 #[tactic(auto, unfolding(crate::specs::Reading::catalog_at))]
-pub fn take_catalog(alloc: Global, cursor: &mut Cursor<'_>) -> Result<Catalog, ReadFault>
+fn take_catalog(alloc: Global, cursor: &mut Cursor<'_>) -> Result<Catalog, ReadFault>
     ensures { FoundOr (λ catalog. catalog) result cursor.old cursor.new (catalog_at cursor.old) }
 {
     let mut ahead = cursor.copy();
     let count = ahead.take_u16().ok_or(ReadFault::BadForm)?;
-    if count > 64 {
+    if count as usize > MAX_TABLES {
         return Err(ReadFault::BadForm);
     }
     let tables = take_tables(alloc, &mut ahead, count)?;
@@ -84,7 +84,7 @@ pub fn take_catalog(alloc: Global, cursor: &mut Cursor<'_>) -> Result<Catalog, R
 
 /// The catalog that all the bytes are, by what reading gives.
 pub fn catalog_in(alloc: Global, bytes: &[u8]) -> Result<Catalog, ReadFault>
-    ensures { CatalogRead result (whole (catalog_at bytes.now)) }
+    ensures { ReadsAs (λ catalog. catalog) result (whole (catalog_at bytes.now)) }
 {
     let mut cursor = Cursor::new(bytes);
     let catalog = take_catalog(alloc, &mut cursor)?;
@@ -101,7 +101,7 @@ pub fn read_catalog(alloc: Global, bytes: &[u8]) -> Result<Catalog, ReadFault>
 
     // What is spelled so is read, unless memory runs out.
     ensures only { (catalog : Plain) → IsCatalog bytes.now catalog
-        → CatalogRead result (Some catalog) }
+        → ReadsAs (λ catalog. catalog) result (Some catalog) }
 {
     catalog_in(alloc, bytes)
 }

@@ -20,7 +20,7 @@ use Rattle.vo_spec.specs.Replies.{Reply, reply_bytes, max_reply}
 use Rattle.vo_spec.specs.Honest.{sealed, reply_of}
 use Rattle.vo_spec.specs.Owners.{IsLoadable, IsUnloadableAt}
 use Rattle.vo_spec.specs.Checks.{CheckOf}
-use Rattle.vo_spec.specs.Audits.{AuditOf}
+use Rattle.owner_roots.specs.Owners.{OwnedAuditOf}
 use Rattle.owner_state.specs.declared.sealing.SealFault.{SealFault}
 use Rattle.owner_state.specs.declared.sealing.SealFault.TheVariants as seal
 use Rattle.owner_state.specs.Sealing.{commands_of, seal_fault}
@@ -65,7 +65,7 @@ Allows (Checks key least q reply) output =
     (answer : Result Accepted CheckFault) × CheckOf key least q reply answer
     × (output ≡ check_output answer)
 Allows (Audits key journal q reply) output =
-    (answer : Result Verdict AuditFault) × AuditOf key journal q reply answer
+    (answer : Result Verdict AuditFault) × OwnedAuditOf key journal q reply answer
     × (output ≡ audit_output answer)
 
 -- the outside failed

@@ -14,14 +14,14 @@ use Rattle.vo_spec.specs.Replies.{proofs_bytes, AreProofs}
 use Rattle.row_bytes.specs.declared.read_fault.ReadFault.{ReadFault}
 use Rattle.row_bytes.specs.declared.read_fault.ReadFault.TheVariants.{BadForm}
 use Rattle.row_bytes.specs.Reading.{u16_at}
-use Rattle.row_bytes.specs.Fields.{◌>>=◌, where_true, times, whole}
+use Rattle.row_bytes.specs.Fields.{◌>>=◌, where_true, times, whole, ReadsAs}
 use Rattle.row_bytes.proofs.Readers.{chosen}
 use Rattle.batch_format.specs.BatchReading.{Reader}
 use Rattle.batch_format.proofs.ReaderLaws.{Took, bound, tested, took_then, no_some, next_found, next_again, times_found, times_again}
 use Rattle.batch_format.proofs.BatchLaws.{u16_found, u16_read}
 use Rattle.version_record.proofs.RecordLaws.{words_read, whole_is}
 use Rattle.mb_tree.specs.declared.parts.PartTree.{PartTree}
-use Rattle.vo_format.specs.View.{trees_of, ReadsAs}
+use Rattle.vo_format.specs.View.{trees_of}
 use Rattle.vo_format.specs.Reading.{tree_at, proofs_at, proofs_of}
 use Rattle.vo_format.proofs.TreeLaws.{trees_read}
 

@@ -5,3 +5,4 @@ pub mod EntryLaws
 pub mod TreeLaws
 pub mod ReplyLaws
 pub mod BatchProofLaws
+pub mod Pushing

@@ -15,7 +15,7 @@ use Rattle.vo_spec.specs.Replies.{Reply as Plain, reply_bytes, FitsReply, IsRepl
 use Rattle.row_bytes.specs.declared.read_fault.ReadFault.{ReadFault}
 use Rattle.row_bytes.specs.declared.read_fault.ReadFault.TheVariants.{BadForm}
 use Rattle.row_bytes.specs.Reading.{byte_at}
-use Rattle.row_bytes.specs.Fields.{◌>>=◌, where_true, block_at, whole}
+use Rattle.row_bytes.specs.Fields.{◌>>=◌, where_true, block_at, whole, ReadsAs}
 use Rattle.row_bytes.proofs.Readers.{IsBytes-rest}
 use Rattle.batch_format.specs.BatchReading.{Reader, one, two}
 use Rattle.batch_format.proofs.ReaderLaws.{Took, IsReader, some_is, bound, tested, took_then, no_some, next_found, next_again, times_found, times_again}
@@ -24,7 +24,7 @@ use Rattle.version_record.specs.Reading.{record_at, catalog_at}
 use Rattle.version_record.proofs.RecordLaws.{words_read, records_read, whole_is}
 use Rattle.version_record.proofs.CatalogLaws.{is_catalog, is_read}
 use Rattle.vo_format.specs.declared.reply.Reply.{Reply}
-use Rattle.vo_format.specs.View.{reply_of, ReadsAs}
+use Rattle.vo_format.specs.View.{reply_of}
 use Rattle.vo_format.specs.Reading.{tree_at, signature_at, catalog_block_at, counted_trees_at, plain_reply, reply_at}
 use Rattle.vo_format.proofs.CatalogSizes.{catalog_is_short}
 use Rattle.vo_format.proofs.Fields.{block_found, block_again}

@@ -1,20 +1,21 @@
 //! The proofs that go with a batch: a tree for each command that changes rows.
-ghost use Rattle.std.specs.Prelude.{◌≡◌, ◌++◌, List, Some, IfOk, OnOk, Err, map, codes};
+ghost use Rattle.std.specs.Prelude.{◌≡◌, ◌++◌, List, Some, IfOk, OnOk, OnErr, Err, map, codes};
 ghost use Rattle.vo_spec.specs.Bytes.{u16_bytes};
 ghost use Rattle.vo_spec.specs.Trees.{RowTree};
 ghost use Rattle.vo_spec.specs.Replies.{AreProofs, FitsProofs, proofs_bytes};
-ghost use Rattle.row_bytes.specs.Fields.{FoundOr};
+ghost use Rattle.row_bytes.specs.Fields.{FoundOr, ReadsAs};
 ghost use Rattle.row_bytes.specs.declared.read_fault.ReadFault.TheVariants.{BadForm};
 ghost use Rattle.mb_tree.specs.View.{part_of};
 ghost use Rattle.vo_format.specs.Reading.{proofs_at, proofs_of};
-ghost use Rattle.vo_format.specs.View.{ReadsAs, trees_of};
+ghost use Rattle.vo_format.specs.View.{trees_of};
+ghost use Rattle.batch_format.specs.Writing.{StaysInFront};
 
 use crate::tree_reading::take_trees;
 use crate::tree_writing::put_trees;
 use mb_tree::PartTree;
 use row_bytes::{Cursor, ReadFault};
 use std::alloc::{AllocError, Global};
-use vo_spec::{MAX_PROOFS, u16_bytes};
+use vo_spec::{MAX_COMMANDS, MAX_PROOFS, u16_bytes};
 
 #[tactic(auto, unfolding(crate::specs::Reading::proofs_at))]
 fn take_proofs<'b>(alloc: Global, cursor: &mut Cursor<'b>) -> Result<Vec<PartTree<'b>>, ReadFault>
@@ -23,16 +24,12 @@ fn take_proofs<'b>(alloc: Global, cursor: &mut Cursor<'b>) -> Result<Vec<PartTre
     let mut ahead = cursor.copy();
     ahead.take_word(b"VOU1").ok_or(ReadFault::BadForm)?;
     let count = ahead.take_u16().ok_or(ReadFault::BadForm)?;
-    if count > 1000 {
+    if usize::from(count) > MAX_COMMANDS {
         return Err(ReadFault::BadForm);
     }
-    match take_trees(alloc, &mut ahead, count) {
-        Ok(trees) => {
-            *cursor = ahead;
-            Ok(trees)
-        }
-        Err(why) => Err(why),
-    }
+    let trees = take_trees(alloc, &mut ahead, count)?;
+    *cursor = ahead;
+    Ok(trees)
 }
 
 #[tactic(auto, unfolding(crate::specs::Reading::proofs_of))]
@@ -43,15 +40,11 @@ fn proofs_in<'b>(alloc: Global, bytes: &'b [u8]) -> Result<Vec<PartTree<'b>>, Re
         return Err(ReadFault::BadForm);
     }
     let mut cursor = Cursor::new(bytes);
-    match take_proofs(alloc, &mut cursor) {
-        Ok(trees) => {
-            if cursor.is_empty() {
-                Ok(trees)
-            } else {
-                Err(ReadFault::BadForm)
-            }
-        }
-        Err(fault) => Err(fault),
+    let trees = take_proofs(alloc, &mut cursor)?;
+    if cursor.is_empty() {
+        Ok(trees)
+    } else {
+        Err(ReadFault::BadForm)
     }
 }
 
@@ -70,9 +63,12 @@ pub fn read_proofs<'b>(alloc: Global, bytes: &'b [u8]) -> Result<Vec<PartTree<'b
     proofs_in(alloc, bytes)
 }
 
-/// Begins the proofs of so many commands: their trees are to follow.
+/// Begins the proofs of so many commands: their trees are to follow. Where memory runs
+/// out, what was there stays in front.
+#[tactic(auto, using(batch_format::proofs::Fronts::stays_itself, batch_format::proofs::Fronts::stays_before, batch_format::proofs::Fronts::stays_behind))]
 pub fn begin_proofs(out: &mut Vec<u8>, count: u16) -> Result<(), AllocError>
-    ensures { OnOk result (out.new.items ≡ out.old.items ++ codes "VOU1" ++ u16_bytes count) }
+    ensures ok { OnOk result (out.new.items ≡ out.old.items ++ codes "VOU1" ++ u16_bytes count) }
+    ensures err { OnErr result (StaysInFront out.old.items out.new.items) }
 {
     out.extend_from_slice(b"VOU1")?;
     out.extend_from_slice(&u16_bytes(count))

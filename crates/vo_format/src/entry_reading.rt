@@ -1,6 +1,6 @@
 //! Reading the entries of leaves: keys, and rows as a digest or as cells.
-ghost use Rattle.std.specs.Prelude.{◌≡◌};
-ghost use Rattle.vo_spec.specs.declared.cells.Cell.TheVariants.{Shown};
+ghost use Rattle.std.specs.Prelude.{◌≡◌, [], ◌∷◌, ◌++◌};
+ghost use Rattle.vo_spec.specs.declared.cells.Cell.TheVariants.{Hidden, Shown};
 ghost use Rattle.vo_spec.specs.declared.cells.RowPart.TheVariants.{Cells, Digest as Closed};
 ghost use Rattle.row_bytes.specs.Reading.{bytes_at};
 ghost use Rattle.row_bytes.specs.Fields.{Found, FoundOr, times};
@@ -9,7 +9,7 @@ ghost use Rattle.vo_format.specs.Reading.{cell_at, cells_at, count_within, entry
 
 use row_bytes::{Cursor, ReadFault, take_value};
 use std::alloc::Global;
-use vo_spec::{Cell, CellValue, Digest, KeyPart, List, PartEntry, RowPart};
+use vo_spec::{Cell, CellValue, Digest, KeyPart, List, MAX_CELLS, MAX_KEY, PartEntry, RowPart};
 
 /// How many things come next, within these limits.
 pub fn take_count(cursor: &mut Cursor<'_>, least: u8, most: u8) -> Option<u8>
@@ -26,7 +26,7 @@ pub fn take_count(cursor: &mut Cursor<'_>, least: u8, most: u8) -> Option<u8>
 }
 
 /// The digest that comes next.
-// Inlined, as the calls below that hand a digest, a cell or an entry on: it is then written where it stays.
+// Inlined, as the calls below that hand a digest or an entry on: it is then written where it stays.
 #[inline(always)]
 pub fn take_digest(cursor: &mut Cursor<'_>) -> Option<Digest>
     ensures { Found (λ digest. digest) result cursor.old cursor.new (bytes_at 32 cursor.old) }
@@ -42,38 +42,56 @@ pub fn take_key<'b>(cursor: &mut Cursor<'b>) -> Option<KeyPart<'b>>
 {
     let mut ahead = cursor.copy();
     let key = ahead.take_string()?;
-    if key.len() > 255 {
+    if key.len() > MAX_KEY {
         return None;
     }
     *cursor = ahead;
     Some(KeyPart::lent(key))
 }
 
+/// Puts the cell behind others whose digest comes next.
 #[inline(always)]
-#[tactic(auto, unfolding(batch_format::specs::BatchReading::any_value_at))]
-fn take_shown<'b>(cursor: &mut Cursor<'b>) -> Option<Cell<'b>>
-    ensures { Found (λ cell. cell) result cursor.old cursor.new
-        (one Shown any_value_at cursor.old) }
-{
-    match take_value(cursor) {
-        Ok(value) => Some(Cell::Shown(CellValue::lent(value))),
-        Err(_) => None,
-    }
-}
-
-#[inline(always)]
-#[tactic(auto, unfolding(crate::specs::Reading::cell_at, row_bytes::specs::Reading::byte_at))]
-fn take_cell<'b>(cursor: &mut Cursor<'b>) -> Option<Cell<'b>>
-    ensures { Found (λ cell. cell) result cursor.old cursor.new (cell_at cursor.old) }
+fn push_hidden<'b>(cursor: &mut Cursor<'b>, cells: &mut Vec<Cell<'b>>) -> Result<(), ReadFault>
+    ensures { FoundOr (λ done. cells.new.items) result cursor.old cursor.new
+        (one (λ digest. cells.old.items ++ Hidden digest ∷ []) (bytes_at 32) cursor.old) }
 {
     let mut ahead = cursor.copy();
-    let cell = match ahead.take_byte()? {
-        0 => Cell::Hidden(take_digest(&mut ahead)?),
-        1 => take_shown(&mut ahead)?,
-        _ => return None,
-    };
+    let digest = ahead.take_chunk::<32>().ok_or(ReadFault::BadForm)?;
+    cells.push(Cell::Hidden(Digest::new(*digest)))?;
     *cursor = ahead;
-    Some(cell)
+    Ok(())
+}
+
+/// Puts the cell behind others whose value comes next.
+#[tactic(auto, unfolding(batch_format::specs::BatchReading::any_value_at))]
+fn push_shown<'b>(cursor: &mut Cursor<'b>, cells: &mut Vec<Cell<'b>>) -> Result<(), ReadFault>
+    ensures { FoundOr (λ done. cells.new.items) result cursor.old cursor.new
+        (one (λ value. cells.old.items ++ Shown value ∷ []) any_value_at cursor.old) }
+{
+    let mut ahead = cursor.copy();
+    match take_value(&mut ahead) {
+        Ok(value) => cells.push(Cell::Shown(CellValue::lent(value)))?,
+        Err(_) => return Err(ReadFault::BadForm),
+    }
+    *cursor = ahead;
+    Ok(())
+}
+
+/// Puts the cell that comes next behind others. It is made where it stays: most of a reply is this.
+#[inline(always)]
+#[tactic(auto, unfolding(crate::specs::Reading::cell_at, row_bytes::specs::Reading::byte_at))]
+fn push_cell<'b>(cursor: &mut Cursor<'b>, cells: &mut Vec<Cell<'b>>) -> Result<(), ReadFault>
+    ensures { FoundOr (λ done. cells.new.items) result cursor.old cursor.new
+        (one (λ cell. cells.old.items ++ cell ∷ []) cell_at cursor.old) }
+{
+    let mut ahead = cursor.copy();
+    match ahead.take_byte() {
+        Some(0) => push_hidden(&mut ahead, cells)?,
+        Some(1) => push_shown(&mut ahead, cells)?,
+        _ => return Err(ReadFault::BadForm),
+    }
+    *cursor = ahead;
+    Ok(())
 }
 
 fn each_cell<'b>(
@@ -87,9 +105,9 @@ fn each_cell<'b>(
     let mut ahead = cursor.copy();
     let mut cells = Vec::with_capacity(alloc, usize::from(count))?;
     for _ in 0..count {
-        match take_cell(&mut ahead) {
-            Some(cell) => cells.push(cell)?,
-            None => return Err(ReadFault::BadForm),
+        match push_cell(&mut ahead, &mut cells) {
+            Ok(()) => {}
+            Err(fault) => return Err(fault),
         }
     }
     *cursor = ahead;
@@ -101,14 +119,10 @@ fn take_cells<'b>(alloc: Global, cursor: &mut Cursor<'b>) -> Result<RowPart<'b>,
     ensures { FoundOr (λ row. row) result cursor.old cursor.new (one Cells cells_at cursor.old) }
 {
     let mut ahead = cursor.copy();
-    let count = take_count(&mut ahead, 0, 31).ok_or(ReadFault::BadForm)?;
-    match each_cell(alloc, &mut ahead, count) {
-        Ok(cells) => {
-            *cursor = ahead;
-            Ok(RowPart::Cells(List::from_vec(cells)))
-        }
-        Err(fault) => Err(fault),
-    }
+    let count = take_count(&mut ahead, 0, MAX_CELLS as u8).ok_or(ReadFault::BadForm)?;
+    let cells = each_cell(alloc, &mut ahead, count)?;
+    *cursor = ahead;
+    Ok(RowPart::Cells(List::from_vec(cells)))
 }
 
 #[inline(always)]
@@ -129,17 +143,12 @@ fn take_row<'b>(alloc: Global, cursor: &mut Cursor<'b>) -> Result<RowPart<'b>, R
 {
     let mut ahead = cursor.copy();
     let row = match ahead.take_byte() {
-        Some(0) => take_closed(&mut ahead),
-        Some(1) => take_cells(alloc, &mut ahead),
-        _ => Err(ReadFault::BadForm),
+        Some(0) => take_closed(&mut ahead)?,
+        Some(1) => take_cells(alloc, &mut ahead)?,
+        _ => return Err(ReadFault::BadForm),
     };
-    match row {
-        Ok(row) => {
-            *cursor = ahead;
-            Ok(row)
-        }
-        Err(fault) => Err(fault),
-    }
+    *cursor = ahead;
+    Ok(row)
 }
 
 /// The entry that comes next.
@@ -150,11 +159,7 @@ pub fn take_entry<'b>(alloc: Global, cursor: &mut Cursor<'b>) -> Result<PartEntr
 {
     let mut ahead = cursor.copy();
     let key = take_key(&mut ahead).ok_or(ReadFault::BadForm)?;
-    match take_row(alloc, &mut ahead) {
-        Ok(row) => {
-            *cursor = ahead;
-            Ok(PartEntry { key, row })
-        }
-        Err(fault) => Err(fault),
-    }
+    let row = take_row(alloc, &mut ahead)?;
+    *cursor = ahead;
+    Ok(PartEntry { key, row })
 }

@@ -1,53 +1,64 @@
 //! Writing the entries of leaves.
-ghost use Rattle.std.specs.Prelude.{◌≡◌, ◌++◌, ◌≤◌, [], ◌∷◌, length, flat_map, OnOk, All};
+ghost use Rattle.std.specs.Prelude.{◌≡◌, ◌++◌, ◌≤◌, [], ◌∷◌, length, flat_map, OnOk, OnErr, All};
 ghost use Rattle.vo_spec.specs.declared.values.Value.TheVariants.{Int, Text};
 ghost use Rattle.vo_spec.specs.Bytes.{string};
 ghost use Rattle.vo_spec.specs.Values.{value_bytes, FitsValue};
 ghost use Rattle.vo_spec.specs.Lent.{value_of};
 ghost use Rattle.vo_spec.specs.Fits.{FitsCell, FitsEntry, FitsKey, FitsRowPart, max_cells};
 ghost use Rattle.vo_spec.specs.TreeBytes.{cell_form, entry_form, row_form};
+ghost use Rattle.batch_format.specs.Writing.{StaysInFront};
 
 use std::alloc::AllocError;
 use vo_spec::{Cell, Digest, PartEntry, RowPart, ValueRef, u16_bytes, u64_bytes};
 
-/// Puts what is hidden at the end: a zero, and its digest.
+/// Puts what is hidden at the end: a zero, and its digest. Where memory runs out, what was there stays in front.
 // As one piece: most of a reply is this, and each piece that is put takes a call.
+#[tactic(auto, using(batch_format::proofs::Fronts::stays_itself, batch_format::proofs::Fronts::stays_before))]
 pub fn put_hidden(out: &mut Vec<u8>, digest: &Digest) -> Result<(), AllocError>
-    ensures { OnOk result (out.new.items ≡ out.old.items ++ 0 ∷ digest.now) }
+    ensures ok { OnOk result (out.new.items ≡ out.old.items ++ 0 ∷ digest.now) }
+    ensures err { OnErr result (StaysInFront out.old.items out.new.items) }
 {
     let mut hidden = [0; 33];
     hidden[1..].copy_from_slice(digest.as_bytes());
     out.extend_from_slice(&hidden)
 }
 
-/// Puts a key or a separator behind its length at the end.
+/// Puts a key or a separator behind its length at the end. Where memory runs out, what was there stays in front.
+#[tactic(auto, using(batch_format::proofs::Fronts::stays_itself, batch_format::proofs::Fronts::stays_before, batch_format::proofs::Fronts::stays_behind))]
 pub fn put_key(out: &mut Vec<u8>, key: &[u8]) -> Result<(), AllocError>
     requires { FitsKey key.now }
-    ensures { OnOk result (out.new.items ≡ out.old.items ++ string key.now) }
+    ensures ok { OnOk result (out.new.items ≡ out.old.items ++ string key.now) }
+    ensures err { OnErr result (StaysInFront out.old.items out.new.items) }
 {
     out.extend_from_slice(&u16_bytes(key.len() as u16))?;
     out.extend_from_slice(key)
 }
 
+#[tactic(auto, using(batch_format::proofs::Fronts::stays_itself, batch_format::proofs::Fronts::stays_before, batch_format::proofs::Fronts::stays_behind))]
 fn put_int(out: &mut Vec<u8>, number: i64) -> Result<(), AllocError>
-    ensures { OnOk result (out.new.items ≡ out.old.items ++ value_bytes (Int number)) }
+    ensures ok { OnOk result (out.new.items ≡ out.old.items ++ value_bytes (Int number)) }
+    ensures err { OnErr result (StaysInFront out.old.items out.new.items) }
 {
     out.push(1)?;
     out.extend_from_slice(&u64_bytes(number.cast_unsigned()))
 }
 
+#[tactic(auto, using(batch_format::proofs::Fronts::stays_itself, batch_format::proofs::Fronts::stays_before, batch_format::proofs::Fronts::stays_behind))]
 fn put_text(out: &mut Vec<u8>, text: &[u8]) -> Result<(), AllocError>
     requires { length text.now ≤ 1024 }
-    ensures { OnOk result (out.new.items ≡ out.old.items ++ value_bytes (Text text.now)) }
+    ensures ok { OnOk result (out.new.items ≡ out.old.items ++ value_bytes (Text text.now)) }
+    ensures err { OnErr result (StaysInFront out.old.items out.new.items) }
 {
     out.push(2)?;
     out.extend_from_slice(&u16_bytes(text.len() as u16))?;
     out.extend_from_slice(text)
 }
 
+#[tactic(auto, using(batch_format::proofs::Fronts::stays_itself, batch_format::proofs::Fronts::stays_before, batch_format::proofs::Fronts::stays_behind))]
 fn put_shown(out: &mut Vec<u8>, value: ValueRef<'_>) -> Result<(), AllocError>
     requires { FitsValue (value_of value) }
-    ensures { OnOk result (out.new.items ≡ out.old.items ++ value_bytes (value_of value.entry)) }
+    ensures ok { OnOk result (out.new.items ≡ out.old.items ++ value_bytes (value_of value.entry)) }
+    ensures err { OnErr result (StaysInFront out.old.items out.new.items) }
 {
     match value {
         ValueRef::Int(number) => put_int(out, number),
@@ -56,9 +67,11 @@ fn put_shown(out: &mut Vec<u8>, value: ValueRef<'_>) -> Result<(), AllocError>
     }
 }
 
+#[tactic(auto, using(batch_format::proofs::Fronts::stays_itself, batch_format::proofs::Fronts::stays_before, batch_format::proofs::Fronts::stays_behind))]
 fn put_cell(out: &mut Vec<u8>, cell: &Cell<'_>) -> Result<(), AllocError>
     requires { FitsCell cell.now }
-    ensures { OnOk result (out.new.items ≡ out.old.items ++ cell_form cell.now) }
+    ensures ok { OnOk result (out.new.items ≡ out.old.items ++ cell_form cell.now) }
+    ensures err { OnErr result (StaysInFront out.old.items out.new.items) }
 {
     match cell {
         Cell::Hidden(digest) => put_hidden(out, digest),
@@ -69,11 +82,13 @@ fn put_cell(out: &mut Vec<u8>, cell: &Cell<'_>) -> Result<(), AllocError>
     }
 }
 
+#[tactic(auto, using(batch_format::proofs::Fronts::stays_itself, batch_format::proofs::Fronts::stays_before, batch_format::proofs::Fronts::stays_behind))]
 fn put_cells(out: &mut Vec<u8>, cells: &[Cell<'_>]) -> Result<(), AllocError>
     requires count { length cells.now ≤ max_cells }
     requires fits { All FitsCell cells.now }
-    ensures { OnOk result (out.new.items ≡ out.old.items ++ 1 ∷ length cells.now
+    ensures ok { OnOk result (out.new.items ≡ out.old.items ++ 1 ∷ length cells.now
         ∷ flat_map cell_form cells.now) }
+    ensures err { OnErr result (StaysInFront out.old.items out.new.items) }
 {
     out.extend_from_slice(&[1, cells.len() as u8])?;
     for cell in cells {
@@ -82,9 +97,11 @@ fn put_cells(out: &mut Vec<u8>, cells: &[Cell<'_>]) -> Result<(), AllocError>
     Ok(())
 }
 
+#[tactic(auto, using(batch_format::proofs::Fronts::stays_itself, batch_format::proofs::Fronts::stays_before, batch_format::proofs::Fronts::stays_behind))]
 fn put_row(out: &mut Vec<u8>, row: &RowPart<'_>) -> Result<(), AllocError>
     requires { FitsRowPart row.now }
-    ensures { OnOk result (out.new.items ≡ out.old.items ++ row_form row.now) }
+    ensures ok { OnOk result (out.new.items ≡ out.old.items ++ row_form row.now) }
+    ensures err { OnErr result (StaysInFront out.old.items out.new.items) }
 {
     match row {
         RowPart::Digest(digest) => put_hidden(out, digest),
@@ -92,10 +109,12 @@ fn put_row(out: &mut Vec<u8>, row: &RowPart<'_>) -> Result<(), AllocError>
     }
 }
 
-/// Puts an entry at the end.
+/// Puts an entry at the end. Where memory runs out, what was there stays in front.
+#[tactic(auto, using(batch_format::proofs::Fronts::stays_itself, batch_format::proofs::Fronts::stays_before, batch_format::proofs::Fronts::stays_behind))]
 pub fn put_entry(out: &mut Vec<u8>, entry: &PartEntry<'_>) -> Result<(), AllocError>
     requires { FitsEntry entry.now }
-    ensures { OnOk result (out.new.items ≡ out.old.items ++ entry_form entry.now) }
+    ensures ok { OnOk result (out.new.items ≡ out.old.items ++ entry_form entry.now) }
+    ensures err { OnErr result (StaysInFront out.old.items out.new.items) }
 {
     put_key(out, entry.key.as_bytes())?;
     put_row(out, &entry.row)

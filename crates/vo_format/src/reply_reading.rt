@@ -1,10 +1,10 @@
 //! Reading replies.
 ghost use Rattle.std.specs.Prelude.{◌≡◌, Some, IfOk, Err};
 ghost use Rattle.vo_spec.specs.Replies.{IsReply, IsNoReply, Reply as Plain};
-ghost use Rattle.row_bytes.specs.Fields.{Found, FoundOr, whole};
+ghost use Rattle.row_bytes.specs.Fields.{Found, FoundOr, ReadsAs, whole};
 ghost use Rattle.row_bytes.specs.declared.read_fault.ReadFault.TheVariants.{BadForm};
 ghost use Rattle.vo_format.specs.Reading.{signature_at, catalog_block_at, counted_trees_at, reply_at};
-ghost use Rattle.vo_format.specs.View.{ReadsAs, reply_of, trees_of};
+ghost use Rattle.vo_format.specs.View.{reply_of, trees_of};
 
 use crate::reply::Reply;
 use crate::tree_reading::take_trees;
@@ -12,7 +12,7 @@ use mb_tree::PartTree;
 use row_bytes::{Cursor, ReadFault};
 use std::alloc::Global;
 use version_record::{catalog_in, take_record};
-use vo_spec::Catalog;
+use vo_spec::{Catalog, MAX_SIGNATURE};
 
 #[tactic(auto, unfolding(crate::specs::Reading::signature_at))]
 fn take_signature<'b>(cursor: &mut Cursor<'b>) -> Option<&'b [u8]>
@@ -21,7 +21,7 @@ fn take_signature<'b>(cursor: &mut Cursor<'b>) -> Option<&'b [u8]>
 {
     let mut ahead = cursor.copy();
     let signature = ahead.take_block()?;
-    if signature.len() > 65536 {
+    if signature.len() > MAX_SIGNATURE {
         return None;
     }
     *cursor = ahead;
@@ -50,13 +50,9 @@ fn take_counted_trees<'b>(
 {
     let mut ahead = cursor.copy();
     let count = ahead.take_byte().ok_or(ReadFault::BadForm)?;
-    match take_trees(alloc, &mut ahead, u16::from(count)) {
-        Ok(trees) => {
-            *cursor = ahead;
-            Ok(trees)
-        }
-        Err(fault) => Err(fault),
-    }
+    let trees = take_trees(alloc, &mut ahead, u16::from(count))?;
+    *cursor = ahead;
+    Ok(trees)
 }
 
 #[tactic(auto, unfolding(crate::specs::Reading::reply_at))]
@@ -68,33 +64,25 @@ fn take_reply<'b>(alloc: Global, cursor: &mut Cursor<'b>) -> Result<Reply<'b>, R
     let rec = take_record(&mut ahead).ok_or(ReadFault::BadForm)?;
     let signature = take_signature(&mut ahead).ok_or(ReadFault::BadForm)?;
     let catalog = take_catalog_block(alloc, &mut ahead)?;
-    match take_counted_trees(alloc, &mut ahead) {
-        Ok(trees) => {
-            *cursor = ahead;
-            Ok(Reply {
-                rec,
-                signature,
-                catalog,
-                trees,
-            })
-        }
-        Err(fault) => Err(fault),
-    }
+    let trees = take_counted_trees(alloc, &mut ahead)?;
+    *cursor = ahead;
+    Ok(Reply {
+        rec,
+        signature,
+        catalog,
+        trees,
+    })
 }
 
 fn reply_in<'b>(alloc: Global, bytes: &'b [u8]) -> Result<Reply<'b>, ReadFault>
     ensures { ReadsAs reply_of result (whole (reply_at bytes.now)) }
 {
     let mut cursor = Cursor::new(bytes);
-    match take_reply(alloc, &mut cursor) {
-        Ok(reply) => {
-            if cursor.is_empty() {
-                Ok(reply)
-            } else {
-                Err(ReadFault::BadForm)
-            }
-        }
-        Err(fault) => Err(fault),
+    let reply = take_reply(alloc, &mut cursor)?;
+    if cursor.is_empty() {
+        Ok(reply)
+    } else {
+        Err(ReadFault::BadForm)
     }
 }
 

@@ -16,10 +16,7 @@ use crate::entry_reading::{take_count, take_digest, take_entry, take_key};
 use mb_tree::{Children, PartTree};
 use row_bytes::{Cursor, ReadFault};
 use std::alloc::Global;
-use vo_spec::{KeyPart, List, PartEntry};
-
-/// How many levels a tree that is read has at most.
-const MAX_LEVELS: u8 = 11;
+use vo_spec::{KeyPart, List, MAX_FILL, MAX_LEVELS, PartEntry};
 
 /// The tree that comes next, of at most [`MAX_LEVELS`] levels. It is lent by the bytes.
 pub fn take_tree<'b>(alloc: Global, cursor: &mut Cursor<'b>) -> Result<PartTree<'b>, ReadFault>
@@ -36,7 +33,7 @@ pub fn take_tree<'b>(alloc: Global, cursor: &mut Cursor<'b>) -> Result<PartTree<
     ensures exact { FoundOr part_of result cursor.old cursor.new (tree_at max_levels cursor.old) }
 {
     are_bytes(cursor.rest());
-    take_levels(alloc, cursor, MAX_LEVELS)
+    take_levels(alloc, cursor, MAX_LEVELS as u8)
 }
 
 /// A slice of bytes holds bytes.
@@ -73,18 +70,13 @@ fn take_node<'b>(
 {
     let mut ahead = cursor.copy();
     let node = match ahead.take_byte() {
-        Some(0) => take_stub(&mut ahead),
-        Some(1) => take_leaf(alloc, &mut ahead),
-        Some(2) => take_inner(alloc, &mut ahead, levels),
-        _ => Err(ReadFault::BadForm),
+        Some(0) => take_stub(&mut ahead)?,
+        Some(1) => take_leaf(alloc, &mut ahead)?,
+        Some(2) => take_inner(alloc, &mut ahead, levels)?,
+        _ => return Err(ReadFault::BadForm),
     };
-    match node {
-        Ok(node) => {
-            *cursor = ahead;
-            Ok(node)
-        }
-        Err(fault) => Err(fault),
-    }
+    *cursor = ahead;
+    Ok(node)
 }
 
 #[inline(always)]
@@ -102,14 +94,10 @@ fn take_leaf<'b>(alloc: Global, cursor: &mut Cursor<'b>) -> Result<PartTree<'b>,
     ensures { FoundOr part_of result cursor.old cursor.new (leaf_at cursor.old) }
 {
     let mut ahead = cursor.copy();
-    let count = take_count(&mut ahead, 0, 16).ok_or(ReadFault::BadForm)?;
-    match each_entry(alloc, &mut ahead, count) {
-        Ok(entries) => {
-            *cursor = ahead;
-            Ok(PartTree::Leaf(List::from_vec(entries)))
-        }
-        Err(fault) => Err(fault),
-    }
+    let count = take_count(&mut ahead, 0, MAX_FILL as u8).ok_or(ReadFault::BadForm)?;
+    let entries = each_entry(alloc, &mut ahead, count)?;
+    *cursor = ahead;
+    Ok(PartTree::Leaf(List::from_vec(entries)))
 }
 
 fn each_entry<'b>(
@@ -143,21 +131,14 @@ fn take_inner<'b>(
     ensures { FoundOr part_of result cursor.old cursor.new (inner_at (tree_at levels) cursor.old) }
 {
     let mut ahead = cursor.copy();
-    let count = take_count(&mut ahead, 2, 16).ok_or(ReadFault::BadForm)?;
-    let separators = match each_key(alloc, &mut ahead, count - 1) {
-        Ok(separators) => List::from_vec(separators),
-        Err(fault) => return Err(fault),
-    };
-    match each_child(alloc, &mut ahead, levels, count) {
-        Ok(children) => {
-            *cursor = ahead;
-            Ok(PartTree::Inner {
-                separators,
-                children: Children::from_vec(children),
-            })
-        }
-        Err(fault) => Err(fault),
-    }
+    let count = take_count(&mut ahead, 2, MAX_FILL as u8).ok_or(ReadFault::BadForm)?;
+    let separators = List::from_vec(each_key(alloc, &mut ahead, count - 1)?);
+    let children = Children::from_vec(each_child(alloc, &mut ahead, levels, count)?);
+    *cursor = ahead;
+    Ok(PartTree::Inner {
+        separators,
+        children,
+    })
 }
 
 fn each_key<'b>(

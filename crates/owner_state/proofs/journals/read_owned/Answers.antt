@@ -1,6 +1,7 @@
 use Rattle.std.proofs.Common.{◌≡◌, true, List, Err, ap, subst, length}
 use Rattle.vo_spec.specs.declared.records.Entry.{Entry}
-use Rattle.vo_spec.specs.Owners.{AreOwned, FailsAt, IsOwned, IsBadAt}
+use Rattle.vo_spec.specs.Owners.{FailsAt}
+use Rattle.owner_roots.specs.Owners.{AreOwned, IsBadAt, IsOwned}
 use Rattle.owner_state.specs.declared.journals.JournalFault.TheVariants.{BadAt}
 use Rattle.owner_state.specs.Walking.{StopsAt}
 use Rattle.owner_state.proofs.SlotLaws.{AreSlots, fails_behind, fails_inside, not_whole, whole}

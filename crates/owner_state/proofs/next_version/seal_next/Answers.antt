@@ -1,55 +1,65 @@
-use Rattle.std.proofs.Common.{◌≡◌, ◌++◌, List, Ok, Err, sym, ap, ◌∙◌, arith}
-use Rattle.vo_spec.specs.declared.records.Entry.{Entry}
+use Rattle.std.proofs.Common.{◌≡◌, ℕ, ◌+◌, ◌++◌, true, List, Ok, Err, sym, ap, ◌∙◌}
+use Rattle.std.specs.Prelude.{◌≢◌}
 use Rattle.vo_spec.specs.declared.tables.Command.{Command}
-use Rattle.vo_spec.specs.Lms.{leaf_count}
+use Rattle.vo_spec.specs.declared.records.Entry.{Entry}
 use Rattle.vo_spec.specs.LmsSets.{leaves_of}
 use Rattle.vo_spec.specs.Journals.{slot}
 use Rattle.vo_spec.specs.Replies.{proofs_bytes}
-use Rattle.vo_spec.specs.Honest.{Stored, after_work, honest_proofs, work_all}
-use Rattle.table_list.specs.declared.fault.BatchFault.TheVariants.{Command as Refused}
+use Rattle.vo_spec.specs.Honest.{Stored, honest_proofs, work_all}
 use Rattle.stored_tables.specs.Working.{work_from}
-use Rattle.owner_state.specs.declared.batch_working.AfterBatch.{AfterBatch}
-use Rattle.owner_state.specs.Standing.{entry_on, signed_entry}
-use Rattle.owner_state.proofs.FirstVersion.{leaves_told}
-use Rattle.owner_state.proofs.WorkTurns.{told, work_done, work_left}
+use Rattle.owner_roots.specs.declared.owner_fault.OwnerFault.TheVariants as owner
+use Rattle.owner_roots.specs.Owners.{honest_roots}
+use Rattle.owner_state.specs.declared.steps.Step.{Step}
+use Rattle.owner_state.specs.Held.{Held}
+use Rattle.owner_state.specs.Stepping.{step_to}
+use Rattle.owner_state.proofs.OwnerSteps.{left_over, step_is}
+use Rattle.owner_state.proofs.SealSteps.{IsReady, entry_behind, sealed_step}
+use Rattle.owner_state.proofs.WorkTurns.{work_done}
 use Rattle.owner_state.proofs.next_version.seal_next.Goals as goal
 
-pub returns-then-version-leaf_count : goal.returns-then-version-leaf_count
-returns-then-version-leaf_count c =
-    let n : c.leaf_count.result ≡ leaves_of c.args.key.now.lms = c.leaf_count.ensures ∙ ap leaf_count c.requires.public ∙ leaves_told c.args.key.now in
-    omega arith
+pub unreachable-requires : goal.unreachable-requires
+unreachable-requires c =
+    let batch : List Command = c.args.batch.now.commands in
+    let stored : List Stored = c.args.before.tables in
+    let before : Held = c.args.before.owner in
+    let after : List Stored = c.in-Ok.after.tables in
+    let honest : List ℕ = proofs_bytes (honest_proofs batch stored) in
+    let r : IsReady batch stored = record { standing = c.requires.standing; fits = c.requires.fits; proofs = c.requires.proofs } in
+    let done : work_all batch stored ≡ Ok after =
+    work_done batch stored after (ap (λ (xs : List Command). work_from 0 xs stored) (sym c.as_slice.ensures) ∙ c.in-Ok.ensures.answer) in
+    let proofs : c.deref.result.now ≡ honest =
+    c.deref.ensures.value ∙ c.in-Ok.ensures.proofs ∙ ap (λ (xs : List Command). proofs_bytes (honest_proofs xs stored)) c.as_slice.ensures in
+    let left = left_over c.is_spent.result (leaves_of before.key.lms) before.roots.version c.is_spent.ensures.1 c.if-is_spent.false in
+    let known : c.step.result ≢ Err owner.Memory = λ memory.
+    let is : c.in-Err.fault ≡ owner.Memory = cc in
+    let yes : c.is_want_of_memory.result ≡ true = c.is_want_of_memory.ensures.1 is in
+    let other = c.if-is_want_of_memory.false in
+    absurd (cc) in
+    let gives = sealed_step before stored after batch c.deref.result.now c.step.result c.requires.owner.roots r done proofs left c.step.ensures.answer known in
+    let refused = c.in-Err.is in
+    absurd (cc)
 
-pub signed-requires-clause-leaf : goal.signed-requires-clause-leaf
-signed-requires-clause-leaf c =
-    let n : c.leaf_count.result ≡ leaves_of c.args.key.now.lms = c.leaf_count.ensures ∙ ap leaf_count c.requires.public ∙ leaves_told c.args.key.now in
-    omega arith
-
-pub returns-in-Ok : goal.returns-in-Ok
-unfolding entry_on
-returns-in-Ok c =
-    let n : c.leaf_count.result ≡ leaves_of c.args.key.now.lms = c.leaf_count.ensures ∙ ap leaf_count c.requires.public ∙ leaves_told c.args.key.now in
-    let cs : List Command = c.args.batch.commands in
-    let done : work_all cs c.args.before.tables ≡ Ok c.in-Ok.field-0.tables =
-    work_done cs c.args.before.tables c.in-Ok.field-0.tables (ap (λ (xs : List Command). work_from 0 xs c.args.before.tables) (sym c.as_slice.ensures) ∙ c.in-Ok.ensures.answer) in
-    let proofs : c.in-Ok.field-0.proofs.items ≡ proofs_bytes (honest_proofs cs c.args.before.tables) =
-    c.in-Ok.ensures.proofs ∙ ap (λ (xs : List Command). proofs_bytes (honest_proofs xs c.args.before.tables)) c.as_slice.ensures in (
-      omega arith,
+pub returns : goal.returns
+returns c =
+    let batch : List Command = c.args.batch.now.commands in
+    let stored : List Stored = c.args.before.tables in
+    let before : Held = c.args.before.owner in
+    let after : List Stored = c.in-Ok.after.tables in
+    let honest : List ℕ = proofs_bytes (honest_proofs batch stored) in
+    let r : IsReady batch stored = record { standing = c.requires.standing; fits = c.requires.fits; proofs = c.requires.proofs } in
+    let done : work_all batch stored ≡ Ok after =
+    work_done batch stored after (ap (λ (xs : List Command). work_from 0 xs stored) (sym c.as_slice.ensures) ∙ c.in-Ok.ensures.answer) in
+    let proofs : c.deref.result.now ≡ honest =
+    c.deref.ensures.value ∙ c.in-Ok.ensures.proofs ∙ ap (λ (xs : List Command). proofs_bytes (honest_proofs xs stored)) c.as_slice.ensures in
+    let left = left_over c.is_spent.result (leaves_of before.key.lms) before.roots.version c.is_spent.ensures.1 c.if-is_spent.false in
+    let known : c.step.result ≢ Err owner.Memory = λ memory. let is = c.in-Ok-step.is in absurd (cc) in
+    let gives = sealed_step before stored after batch c.deref.result.now c.step.result c.requires.owner.roots r done proofs left c.step.ensures.answer known in
+    let next : Step = step_to before.key batch honest (honest_roots (before.roots.version + 1) after) in
+    let step : c.in-Ok-step.step ≡ next = step_is c.in-Ok-step.step next (sym c.in-Ok-step.is ∙ gives) in (
+      left,
       done,
-      c.in_ok-put_slot-in-Ok.ensures
+      c.in_ok-put_slot-in-Ok-step.ensures
           ∙ ap (λ (e : Entry). c.args.before.slots.items ++ slot e)
-          (c.in_ok-entry-in-Ok.ensures.value
-          ∙ ap (λ (after : List Stored). signed_entry c.args.key.now c.args.version after cs c.in-Ok.field-0.proofs.items) (work_left cs c.args.before.tables c.in-Ok.field-0.tables done)
-          ∙ ap (signed_entry c.args.key.now c.args.version (after_work c.args.before.tables cs) cs) proofs),
+          (ap (λ (s : Step). s.entry) step ∙ entry_behind before.key (before.roots.version + 1) stored after batch done),
+      record { key = c.advance.ensures.key; roots = c.advance.ensures.roots ∙ ap (λ (s : Step). s.roots) step },
     )
-
-pub returns-in-Err-Command : goal.returns-in-Err-Command
-returns-in-Err-Command c =
-    let n : c.leaf_count.result ≡ leaves_of c.args.key.now.lms = c.leaf_count.ensures ∙ ap leaf_count c.requires.public ∙ leaves_told c.args.key.now in
-    let is : c.in-Err-Command.field-0 ≡ Refused c.in-Err-Command.index c.in-Err-Command.fault = cc in
-    let e : work_from 0 c.args.batch.commands c.args.before.tables ≡ Err (c.in-Err-Command.index, c.in-Err-Command.fault) =
-    ap (λ (xs : List Command). work_from 0 xs c.args.before.tables) (sym c.as_slice.ensures)
-    ∙ told (λ (w : AfterBatch). w.tables) c.in-Err-Command.field-0 c.in-Err-Command.index c.in-Err-Command.fault (work_from 0 c.as_slice.result.now c.args.before.tables) is
-    c.in-Err-Command.ensures.answer in
-    let i = c.in-Err-Command.index-is in
-    let f = c.in-Err-Command.fault-is in
-    (omega arith, cc)

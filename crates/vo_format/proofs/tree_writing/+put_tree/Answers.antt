@@ -10,8 +10,8 @@ put_children-put_tree-requires t c =
     let falls : levels (part_of c.child-item.result) ≤ levels_in (parts_of c.args.children.now) = child_falls _ _ _ c.loop-child-test.true c.child-item.is in
     (omega arith, child_fits _ c.requires _ _ c.loop-child-test.true c.child-item.is)
 
-pub put_inner-returns : goal.put_inner-returns
-put_inner-returns t c =
+pub put_inner-returns-clause-ok : goal.put_inner-returns-clause-ok
+put_inner-returns-clause-ok t c =
     ok_then c.put_children.result _ _
-    (node_written c.args.children.now c.args.separators.now c.args.out.now.items _ _ _ c.in_ok-extend_from_slice.ensures.items c.in_ok-put_separators.ensures)
-    c.put_children.ensures
+    (node_written c.args.children.now c.args.separators.now c.args.out.now.items _ _ _ c.in_ok-extend_from_slice.ensures.items c.in_ok-put_separators.ensures.ok)
+    c.put_children.ensures.ok

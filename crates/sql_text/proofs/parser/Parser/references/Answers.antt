@@ -53,9 +53,9 @@ returns-clause-value c =
     ∙ sym c.parts.invariant.2
     ∙ stops (λ x. x) (before k.Comma reference) refl (Some (64 - length c.parts.list.items)) c.parts.self.levels c.parts.list.items (left_of c.parts.self) (sym c.sees.ensures ∙ c.parts-test.false) ∙ ap (λ z. (Ok z, left_of c.parts.self)) (map-id c.parts.list.items)
 
-pub returns-then-len-eq-ITEMS_MAX-clause-value : goal.returns-then-len-eq-ITEMS_MAX-clause-value
+pub returns-then-len-eq-MAX_ITEMS-clause-value : goal.returns-then-len-eq-MAX_ITEMS-clause-value
 unfolding before listed
-returns-then-len-eq-ITEMS_MAX-clause-value c =
+returns-then-len-eq-MAX_ITEMS-clause-value c =
     let all : length c.parts.list.items ≡ 64 = omega (arith, c.parts.list.ok.0) in
     begun_in (λ x. x) (Some 63) (reference) (before k.Comma reference) c.args.self.now.levels c.reference.new.self.levels (left_of c.args.self.now) (left_of c.reference.new.self) c.new.result.items c.reference.result c.in_ok-list.list
     c.reference.ensures.levels c.reference.ensures.value c.new.ensures.items c.in_ok-list.ensures

@@ -1,0 +1,6 @@
+pub mod FrameLaws
+pub mod ReadLaws
+pub mod Filling
+pub mod Putting
+pub mod ScriptLaws
+pub mod ServeLaws

@@ -1,0 +1,27 @@
+use Rattle.std.proofs.Common.{arith}
+use Rattle.link_frames.proofs.ServeLaws.{serving_none, serving_more, serving_ends, serving_all, serving_stays}
+use Rattle.link_frames.proofs.serve.serve_link.Goals as goal
+
+pub loop-turn-init : goal.loop-turn-init
+loop-turn-init g c =
+    serving_none g.A.Answers.reply g.A.Answers.next (g.A.Answers.state c.args.store.now) (g.L.Link.wire c.args.link.now)
+    (g.L.Link.faults c.args.link.now) (g.L.Link.misses c.args.link.now)
+
+pub loop-turn-preserved : goal.loop-turn-preserved
+loop-turn-preserved g c =
+    serving_more _ _ _ _ _ _ _ _ _ _ _ _ _ _ _ c.in-Ok.field-0 (omega arith) c.loop-turn.invariant c.in-Ok.ensures.known
+    c.serve_request.ensures.counts c.serve_request.ensures.misses
+
+pub returns-in-Err-clause-known : goal.returns-in-Err-clause-known
+returns-in-Err-clause-known g c =
+    serving_ends _ _ _ c.in-Err.end _ _ _ _ _ _ _ _ _ _ (omega arith) c.loop-turn.invariant c.in-Err.ensures.known
+
+pub returns-in-Err-clause-misses : goal.returns-in-Err-clause-misses
+returns-in-Err-clause-misses g c =
+    serving_stays _ _ _ _ _ _ _ _ _ _ _ _ c.loop-turn.invariant c.serve_request.ensures.misses
+
+pub returns-clause-known : goal.returns-clause-known
+returns-clause-known g c = serving_all _ _ _ _ _ _ _ _ _ _ _ (omega arith) c.loop-turn.invariant
+
+pub returns-clause-misses : goal.returns-clause-misses
+returns-clause-misses g c = c.loop-turn.invariant.stays

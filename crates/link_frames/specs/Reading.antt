@@ -1,0 +1,102 @@
+-- What calls do that read from a connection or put on it.
+use Rattle.std.specs.Prelude.{◌≡◌, ℕ, ◌+◌, ◌⊎◌, ◌<◌, ◌≤◌, ◌↔◌, min, List, [], ◌++◌, length, take, drop, Option, Some, Result, Ok, Err, true}
+use Rattle.outside.specs.ConnectionModel.{ConnectionModel, take_from, send_on}
+use Rattle.link_frames.specs.declared.frame.Frame.{Frame}
+use Rattle.link_frames.specs.declared.frame.NoFrame.{NoFrame}
+use Rattle.link_frames.specs.declared.frame.NoFrame.TheVariants as no_frame
+use Rattle.link_frames.specs.declared.head.FrameHead.{FrameHead}
+use Rattle.link_frames.specs.declared.interrupted.Interrupted.{Interrupted}
+use Rattle.link_frames.specs.Frames.{Coming, Whole, Ended, Cut, Bad, span, with_body}
+
+-- a connection, where it is known, of which n bytes were taken
+abbrev pub Took : ℕ → ConnectionModel → Option ConnectionModel → Type 0
+Took n before after = after ≡ Some (take_from n before)
+
+-- the same of some number of bytes
+abbrev pub TookSome : ConnectionModel → Option ConnectionModel → Type 0
+TookSome before after = (n : ℕ) × Took n before after
+
+-- a count that stays where the connection stands
+abbrev pub StaysWhereItStands : Option ConnectionModel → ℕ → ℕ → Type 0
+StaysWhereItStands wire before after =
+    (w : ConnectionModel) → wire ≡ Some w → w.stands ≡ true → after ≡ before
+
+-- a buffer is filled with what comes, as far as both reach
+abbrev pub Fills : {E : Type 0} → List ℕ → List ℕ → Result ℕ E → ConnectionModel
+    → Option ConnectionModel → Type 0
+Fills old new (Ok n) before after =
+    (n ≡ min (length old) (length before.coming))
+    × (new ≡ take n before.coming ++ drop n old) × Took n before after
+Fills old new (Err fault) before after = TookSome before after
+
+-- of what comes, bytes that fit into the room are put behind what was gathered; none are the end
+abbrev pub Gathered : ℕ → List ℕ → List ℕ → Result ℕ Interrupted → ConnectionModel
+    → Option ConnectionModel → Type 0
+Gathered room old new (Ok n) before after =
+    (n ≤ length before.coming) × (new ≡ old ++ take n before.coming)
+    × (0 < room → (n ≡ 0) ↔ (before.coming ≡ [])) × Took n before after
+Gathered room old new (Err fault) before after = TookSome before after
+
+-- the next bytes of what comes, so many or all that are left, are put behind what was gathered
+abbrev pub HandsOn : ℕ → List ℕ → List ℕ → Result ℕ Interrupted → ConnectionModel
+    → Option ConnectionModel → Type 0
+HandsOn count old new (Ok n) before after =
+    (n ≡ min count (length before.coming)) × (new ≡ old ++ take n before.coming)
+    × Took n before after
+HandsOn count old new (Err fault) before after = TookSome before after
+
+-- Why there is no frame is what comes first.
+abbrev pub Misses : Coming → NoFrame → Type 0
+Misses first no_frame.Ended = first ≡ Ended
+Misses first (no_frame.Cut got) = first ≡ Cut got
+Misses first (no_frame.BadFrame length) = (taken : ℕ) × (first ≡ Bad length taken)
+Misses first no_frame.LinkFault = Unit {0}
+Misses first no_frame.Memory = Unit {0}
+
+-- a read that began k bytes before took the rest of what comes first
+abbrev pub TookRest : ℕ → Coming → ConnectionModel → Option ConnectionModel → Type 0
+TookRest k first before after = (n : ℕ) × (k + n ≡ span first) × Took n before after
+
+-- the same of a read without a frame, but that it took some bytes where the link failed or memory
+-- ran out
+abbrev pub TookRestOrSome : ℕ → Coming → NoFrame → ConnectionModel → Option ConnectionModel → Type 0
+TookRestOrSome k first no_frame.LinkFault before after = TookSome before after
+TookRestOrSome k first no_frame.Memory before after = TookSome before after
+TookRestOrSome k first _ before after = TookRest k first before after
+
+-- a read that began k bytes before gives what comes first, whole, or says why it is no frame
+abbrev pub Reads : ℕ → Coming → Result Frame NoFrame → ConnectionModel → Option ConnectionModel
+    → Type 0
+Reads k first (Ok frame) before after =
+    (first ≡ Whole frame.kind frame.body.items) × TookRest k first before after
+Reads k first (Err fault) before after =
+    Misses first fault × TookRestOrSome k first fault before after
+
+-- the same, up to the body
+abbrev pub ReadsHead : ℕ → Coming → Result FrameHead NoFrame → ConnectionModel
+    → Option ConnectionModel → Type 0
+ReadsHead k first (Ok head) before after =
+    (n : ℕ) × (k + n ≡ 5) × (first ≡ with_body head.kind head.length (drop n before.coming))
+    × Took n before after
+ReadsHead k first (Err fault) before after =
+    Misses first fault × TookRestOrSome k first fault before after
+
+-- a head that begins with this length and is followed by these bytes, or none
+abbrev pub IsHeadOf : Coming → ℕ → List ℕ → Result FrameHead NoFrame → Type 0
+IsHeadOf first length bytes (Ok head) = first ≡ with_body head.kind head.length bytes
+IsHeadOf first length bytes (Err fault) =
+    (fault ≡ no_frame.BadFrame length) × (first ≡ Bad length 5)
+
+-- of a frame and its answer: a front of the frame was put and nothing taken, or all of it was put,
+-- and some bytes were taken then
+abbrev pub IsHalfAsked : List ℕ → ConnectionModel → Option ConnectionModel → Type 0
+IsHalfAsked frame before after =
+    ((n : ℕ) × (after ≡ Some (send_on (take n frame) before)))
+    ⊎ TookSome (send_on frame before) after
+
+-- a frame was put, and then what comes first was read
+abbrev pub Asks : List ℕ → Coming → Result Frame NoFrame → ConnectionModel → Option ConnectionModel
+    → Type 0
+Asks frame first (Err no_frame.LinkFault) before after = IsHalfAsked frame before after
+Asks frame first (Err no_frame.Memory) before after = IsHalfAsked frame before after
+Asks frame first result before after = Reads 0 first result (send_on frame before) after

@@ -1,0 +1,89 @@
+//! Bytes of a link, handed on in pieces as they come.
+ghost use Rattle.std.specs.Prelude.{◌≡◌, ℕ, ◌+◌, ◌≤◌, ◌++◌, List, length, Some, OnOk, IfOk, IsErrOf};
+ghost use Rattle.outside.specs.ConnectionModel.{ConnectionModel};
+ghost use Rattle.outside.specs.FaultRose.{FaultRose};
+ghost use Rattle.link_frames.specs.Reading.{Gathered, HandsOn, StaysWhereItStands};
+
+use crate::interrupted::Interrupted;
+use outside::Link;
+use std::alloc::AllocError;
+
+/// How many bytes one call of the link takes at most: memory is taken for bytes that came, not for
+/// those that a length claims.
+const PIECE: usize = 4_096;
+
+/// What takes bytes piece by piece.
+pub trait Gathers {
+    /// All bytes that were added.
+    ghost gathered: { Self → List ℕ };
+
+    /// Adds a piece at the end. What there is after an error is open.
+    fn add(&mut self, piece: &[u8]) -> Result<(), AllocError>
+        ensures { OnOk result (gathered self.new ≡ gathered self.old ++ piece.now) };
+}
+
+impl Gathers for Vec<u8> {
+    ghost gathered = { λ bytes. bytes.items };
+
+    fn add(&mut self, piece: &[u8]) -> Result<(), AllocError> {
+        self.extend_from_slice(piece)
+    }
+}
+
+/// Hands on the next `count` bytes, or all that are left, and tells how many they were.
+pub fn hand_on<L: Link, G: Gathers>(
+    link: &mut L,
+    into: &mut G,
+    count: usize,
+) -> Result<usize, Interrupted>
+    ensures known { (before : ConnectionModel) → L.wire link.old ≡ Some before
+        → HandsOn count (G.gathered into.old) (G.gathered into.new) result before
+        (L.wire link.new) }
+    ensures fits { IfOk result (λ n. n ≤ count) }
+    ensures grows { IfOk result
+        (λ n. length (G.gathered into.new) ≡ length (G.gathered into.old) + n) }
+
+    ensures counts { L.faults link.old ≤ L.faults link.new }
+    ensures cause { IsErrOf result Interrupted.LinkFault
+        → FaultRose (L.faults link.old) (L.faults link.new) }
+    ensures misses { StaysWhereItStands (L.wire link.old) (L.misses link.old) (L.misses link.new) }
+{
+    let mut piece = [0; PIECE];
+    let mut handed = 0;
+    while handed < count {
+        let room = PIECE.min(count - handed);
+        match hand_piece(link, into, &mut piece[..room])? {
+            0 => return Ok(handed),
+            came => handed += came,
+        }
+    }
+    Ok(handed)
+}
+
+/// Hands on what one call of the link gives.
+fn hand_piece<L: Link, G: Gathers>(
+    link: &mut L,
+    into: &mut G,
+    piece: &mut [u8],
+) -> Result<usize, Interrupted>
+    ensures known { (before : ConnectionModel) → L.wire link.old ≡ Some before
+        → Gathered (length piece.old) (G.gathered into.old) (G.gathered into.new) result before
+        (L.wire link.new) }
+    ensures fits { IfOk result (λ n. n ≤ length piece.old) }
+    ensures grows { IfOk result
+        (λ n. length (G.gathered into.new) ≡ length (G.gathered into.old) + n) }
+
+    ensures counts { L.faults link.old ≤ L.faults link.new }
+    ensures cause { IsErrOf result Interrupted.LinkFault
+        → FaultRose (L.faults link.old) (L.faults link.new) }
+    ensures misses { StaysWhereItStands (L.wire link.old) (L.misses link.old) (L.misses link.new) }
+{
+    let came = match link.get(piece) {
+        Ok(came) => came,
+        Err(_) => return Err(Interrupted::LinkFault),
+    };
+    match into.add(&piece[..came]) {
+        Ok(()) => Ok(came),
+        Err(_) => Err(Interrupted::Memory),
+    }
+}

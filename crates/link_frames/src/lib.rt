@@ -1,0 +1,37 @@
+//! Frames over a connection: what clients, owners and stores say to one another.
+//!
+//! A frame is a length, a kind and a body. They are put whole and read in whatever pieces the link
+//! gives. A store's side serves a connection, request by request, over a trait for what answers
+//! them (`Answers`); the other side puts one request and reads its answer (`ask`).
+#![tactic(auto)]
+
+mod answers;
+mod awaits;
+mod end;
+mod exchange;
+mod fill;
+mod frame;
+mod frame_kind;
+mod gathers;
+mod head;
+mod interrupted;
+mod laws;
+mod limits;
+mod put;
+mod read;
+mod serve;
+
+pub use answers::Answers;
+pub use awaits::Awaits;
+pub use end::End;
+pub use exchange::ask;
+pub use frame::{Frame, NoFrame};
+pub use frame_kind::FrameKind;
+pub use gathers::{Gathers, hand_on};
+pub use head::{FrameHead, read_head};
+pub use interrupted::Interrupted;
+pub use laws::frames_read_back;
+pub use limits::{MAX_BATCH_BYTES, MAX_QUERY};
+pub use put::put_frame;
+pub use read::{read_body, read_frame};
+pub use serve::{MAX_TURNS, serve_link};

@@ -1,0 +1,55 @@
+//! Reading one frame.
+ghost use Rattle.std.specs.Prelude.{◌≡◌, ◌≤◌, ◌&&◌, length, Some, IsTrue, IfOk, IsErrOf};
+ghost use Rattle.outside.specs.ConnectionModel.{ConnectionModel};
+ghost use Rattle.outside.specs.FaultRose.{FaultRose};
+ghost use Rattle.link_frames.specs.Frames.{first_frame, with_body, may_come, is_length};
+ghost use Rattle.link_frames.specs.Reading.{Reads, StaysWhereItStands};
+
+use crate::awaits::Awaits;
+use crate::frame::{Frame, NoFrame};
+use crate::gathers::hand_on;
+use crate::head::{FrameHead, HEAD, read_head};
+use crate::interrupted::Interrupted;
+use outside::Link;
+use std::alloc::Global;
+
+/// Reads the next frame, in whatever pieces the link gives it. One that may not come here is
+/// refused before its body is read.
+pub fn read_frame<L: Link>(alloc: Global, link: &mut L, awaits: Awaits) -> Result<Frame, NoFrame>
+    ensures known { (before : ConnectionModel) → L.wire link.old ≡ Some before
+        → Reads 0 (first_frame awaits before.coming) result before (L.wire link.new) }
+    ensures allowed { IfOk result (λ frame. IsTrue (may_come awaits frame.kind
+        && is_length frame.kind (length frame.body.items))) }
+
+    ensures counts { L.faults link.old ≤ L.faults link.new }
+    ensures cause { IsErrOf result NoFrame.LinkFault
+        → FaultRose (L.faults link.old) (L.faults link.new) }
+    ensures misses { StaysWhereItStands (L.wire link.old) (L.misses link.old) (L.misses link.new) }
+{
+    let head = read_head(link, awaits)?;
+    read_body(alloc, link, head)
+}
+
+/// Reads the body behind a head.
+pub fn read_body<L: Link>(alloc: Global, link: &mut L, head: FrameHead) -> Result<Frame, NoFrame>
+    ensures known { (before : ConnectionModel) → L.wire link.old ≡ Some before
+        → Reads 5 (with_body head.kind head.length before.coming) result before (L.wire link.new) }
+    ensures kind { IfOk result (λ frame. frame.kind ≡ head.kind) }
+    ensures whole { IfOk result (λ frame. length frame.body.items ≡ head.length) }
+
+    ensures counts { L.faults link.old ≤ L.faults link.new }
+    ensures cause { IsErrOf result NoFrame.LinkFault
+        → FaultRose (L.faults link.old) (L.faults link.new) }
+    ensures misses { StaysWhereItStands (L.wire link.old) (L.misses link.old) (L.misses link.new) }
+{
+    let mut body = Vec::new(alloc);
+    match hand_on(link, &mut body, head.length) {
+        Ok(came) if came < head.length => Err(NoFrame::Cut { got: HEAD + came }),
+        Ok(_) => Ok(Frame {
+            kind: head.kind,
+            body,
+        }),
+        Err(Interrupted::LinkFault) => Err(NoFrame::LinkFault),
+        Err(Interrupted::Memory) => Err(NoFrame::Memory),
+    }
+}

@@ -1,0 +1,86 @@
+//! The honest trees beside an owner's roots, and where the roots depart from them.
+ghost use Rattle.std.specs.Prelude.{◌≡◌, ◌↔◌, IfOk, IsTrue};
+ghost use Rattle.vo_spec.specs.Batches.{FitsBatch};
+ghost use Rattle.vo_spec.specs.Records.{FitsCatalog};
+ghost use Rattle.vo_spec.specs.Honest.{after_work, catalog_of};
+ghost use Rattle.owner_state.specs.Departed.{DepartsNext};
+
+use std::alloc::{AllocError, Global};
+use stored_tables::{BatchFault, StoredTables};
+use version_record::catalog_bytes;
+use vo_spec::{Batch, Catalog};
+
+/// The least entry behind which the owner's roots have another catalog than the honest trees.
+#[derive(Drop)]
+pub struct Departure {
+    pub index: u64,
+    /// The honest trees before the entry's batch.
+    pub tables: StoredTables,
+}
+
+/// The honest trees behind some entries, and whether the roots have departed from them by then.
+#[derive(Drop)]
+pub(crate) struct HonestTrees {
+    pub(crate) tables: StoredTables,
+    pub(crate) departure: Option<Departure>,
+}
+
+/// The tables after a batch; one that is refused leaves them.
+fn tables_after(
+    alloc: Global,
+    tables: &StoredTables,
+    batch: &Batch,
+) -> Result<StoredTables, AllocError>
+    requires { FitsBatch batch.now.commands }
+    ensures { IfOk result (λ after. after ≡ after_work tables.now batch.now.commands) }
+{
+    let mut after = tables.share(alloc)?;
+    match after.apply_batch(alloc, batch) {
+        Ok(()) => Ok(after),
+        Err(BatchFault::Command { .. }) => Ok(after),
+        Err(BatchFault::Memory) => Err(AllocError),
+    }
+}
+
+fn has_catalog(
+    alloc: Global,
+    tables: &StoredTables,
+    catalog: &Catalog,
+) -> Result<bool, AllocError>
+    requires { FitsCatalog catalog.now }
+    ensures { IfOk result (λ has. IsTrue has ↔ (catalog.now ≡ catalog_of tables.now)) }
+{
+    let honest = tables.catalog(alloc)?;
+    let honest = catalog_bytes(alloc, &honest)?;
+    let bytes = catalog_bytes(alloc, catalog)?;
+    Ok(bytes.as_slice() == honest.as_slice())
+}
+
+/// The honest trees behind one entry more, of this number and with this batch, whose roots have this catalog.
+pub(crate) fn follow(
+    alloc: Global,
+    before: HonestTrees,
+    index: u64,
+    batch: &Batch,
+    catalog: &Catalog,
+) -> Result<HonestTrees, AllocError>
+    requires batch { FitsBatch batch.now.commands }
+    requires catalog { FitsCatalog catalog.now }
+    ensures tables { IfOk result (λ after. after.tables
+        ≡ after_work before.tables batch.now.commands) }
+    ensures departure { IfOk result (λ after. DepartsNext before.departure index before.tables
+        catalog.now after.tables after.departure) }
+{
+    let HonestTrees { tables, departure } = before;
+    let after = tables_after(alloc, &tables, batch)?;
+    if departure.is_some() || has_catalog(alloc, &after, catalog)? {
+        return Ok(HonestTrees {
+            tables: after,
+            departure,
+        });
+    }
+    Ok(HonestTrees {
+        tables: after,
+        departure: Some(Departure { index, tables }),
+    })
+}
