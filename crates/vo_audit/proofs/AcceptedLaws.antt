@@ -13,11 +13,12 @@ use Rattle.vo_spec.specs.Conditions.{Query}
 use Rattle.vo_spec.specs.Records.{catalog_digest}
 use Rattle.vo_spec.specs.Replies.{Reply, IsReply, max_reply}
 use Rattle.vo_spec.specs.Checks.{key_fault, leaf_fault, signature_fault, age_fault, catalog_fault, count_fault, shape_fault, root_fault, missing_fault, surplus_fault, tables_wanted, trees_of, check_fault, answer_to, CheckOf}
-use Rattle.vo_spec.specs.Owners.{IsOwned, IsBadAt}
 use Rattle.vo_spec.specs.Audits.{AuditOf}
+use Rattle.owner_roots.specs.Owners.{IsOwned, IsBadAt, OwnedAuditOf}
 use Rattle.vo_laws.proofs.JoinLaws.{is_bytes}
 use Rattle.vo_audit.specs.Auditing.{HasPassed, AuditsReply, audit_fault, seen_answer}
-use Rattle.std.specs.Prelude.{◌≤◌}
+use Rattle.vo_audit.specs.Showing.{AreShown, Shows, ShowsOf}
+use Rattle.std.specs.Prelude.{◌≤◌, IfOk}
 
 unless_ok : {F A : Type 0} (o : Option F) (x y : A) → unless o x ≡ Ok y → (o ≡ None) × (y ≡ x)
 unless_ok None x y e = (refl, cc)
@@ -64,13 +65,19 @@ accepted key q r answer e =
 -- what is told of a reply that was read is told of its bytes
 pub told_of_bytes : (key journal bytes : List ℕ) (es : List Entry) (q : Query) (r : Reply) (answer : Result Verdict AuditFault)
     → IsOwned key journal es → length bytes ≤ max_reply → IsReply bytes r → AuditsReply key es q r answer
-    → (answer ≡ Err Memory) ⊎ AuditOf key journal q bytes answer
-unfolding AuditOf CheckOf
+    → (answer ≡ Err Memory) ⊎ OwnedAuditOf key journal q bytes answer
+unfolding AuditOf CheckOf IsOwned
 told_of_bytes key journal bytes es q r (Err (BadJournal index)) owned short is told = absurd told
 told_of_bytes key journal bytes es q r (Err (Refused fault)) owned short is told = inr (es, owned, inr (inr (short, r, is, sym told)))
 told_of_bytes key journal bytes es q r (Err Memory) owned short is told = inl refl
 told_of_bytes key journal bytes es q r (Ok verdict) owned short is told =
     inr (es, owned, r, is, told.0, inr (inr (short, r, is, sym told.1)), told.2)
+
+-- what is shown of a reply that was read is shown of its bytes
+pub shown_of_bytes : {E : Type 0} (key journal bytes : List ℕ) (es : List Entry) (q : Query) (r : Reply) (given : Result Verdict E) → IsOwned key journal es → IsReply bytes r
+    → IfOk given (λ verdict. Shows verdict (AreShown q r es)) → IfOk given (λ verdict. ShowsOf key journal q bytes verdict)
+shown_of_bytes key journal bytes es q r (Ok verdict) owned is shows = (es, owned, r, is, shows)
+shown_of_bytes key journal bytes es q r (Err fault) owned is shows = tt
 
 memory_or_refused : (fault : CheckFault) → (audit_fault fault ≡ Memory) ⊎ (audit_fault fault ≡ Refused fault)
 memory_or_refused check.Memory = inl refl
@@ -79,19 +86,19 @@ memory_or_refused fault = inr refl
 -- why bytes are refused unread is told where the journal is an owner's
 pub told_unread : (key journal bytes : List ℕ) (es : List Entry) (q : Query) (fault : CheckFault) (answer : Result Verdict AuditFault) → IsOwned key journal es
     → (fault ≡ check.Memory) ⊎ ((key : List ℕ) (least : ℕ) (q : Query) → CheckOf key least q bytes (Err fault)) → answer ≡ Err (audit_fault fault)
-    → (answer ≡ Err Memory) ⊎ AuditOf key journal q bytes answer
-unfolding AuditOf
+    → (answer ≡ Err Memory) ⊎ OwnedAuditOf key journal q bytes answer
+unfolding AuditOf IsOwned
 told_unread key journal bytes es q fault answer owned (inl out) is = inl (is ∙ ap (λ (f : CheckFault). Err (audit_fault f)) out)
 told_unread key journal bytes es q fault answer owned (inr refused) is = step (memory_or_refused fault)
   where
-    step : (audit_fault fault ≡ Memory) ⊎ (audit_fault fault ≡ Refused fault) → (answer ≡ Err Memory) ⊎ AuditOf key journal q bytes answer
+    step : (audit_fault fault ≡ Memory) ⊎ (audit_fault fault ≡ Refused fault) → (answer ≡ Err Memory) ⊎ OwnedAuditOf key journal q bytes answer
     step (inl e) = inl (is ∙ ap (λ (f : AuditFault). Err f) e)
-    step (inr e) = inr (subst (AuditOf key journal q bytes) (sym (is ∙ ap (λ (f : AuditFault). Err f) e)) (es, owned, refused key 0 q))
+    step (inr e) = inr (subst (OwnedAuditOf key journal q bytes) (sym (is ∙ ap (λ (f : AuditFault). Err f) e)) (es, owned, refused key 0 q))
 
 pub told_bad : (key journal bytes : List ℕ) (q : Query) (index : ℕ) (answer : Result Verdict AuditFault) → IsBadAt key journal index → answer ≡ Err (BadJournal index)
-    → (answer ≡ Err Memory) ⊎ AuditOf key journal q bytes answer
-unfolding AuditOf
-told_bad key journal bytes q index answer bad is = inr (subst (AuditOf key journal q bytes) (sym is) bad)
+    → (answer ≡ Err Memory) ⊎ OwnedAuditOf key journal q bytes answer
+unfolding AuditOf IsBadAt
+told_bad key journal bytes q index answer bad is = inr (subst (OwnedAuditOf key journal q bytes) (sym is) bad)
 
 -- an answer that a client gives
 pub judged : (key : List ℕ) (q : Query) (r : Reply) (answer : Answer) → (Ok answer ≡ Err check.Memory) ⊎ (Ok answer ≡ answer_to key 0 q r) → IsAccepted q r answer

@@ -1,30 +1,96 @@
--- An owner's journal, read with the tables of a version.
-use Rattle.std.proofs.Common.{◌≡◌, ℕ, ◌<◌, List, [], ◌∷◌, length, ap}
-use Rattle.std.specs.Prelude.{IfSome, IsSome}
+-- An owner's journal, read with the honest tables of a version.
+use Rattle.std.proofs.Common.{◌≡◌, ◌≢◌, ℕ, zero, suc, ◌-◌, ◌<◌, List, [], ◌∷◌, length, drop, take, Option, Some, None, Result, Ok, Err, option_map, refl, sym, ap, ◌∙◌, subst}
+use Rattle.std.specs.Prelude.{IfOk, IfSome, IsSome, slice_get}
+use Rattle.std.specs.Result.{result_unwrap_or}
 use Rattle.std.specs.List.{AllByRecursion}
+use Rattle.vo_spec.specs.declared.tables.CommandFault.{CommandFault}
+use Rattle.vo_spec.specs.declared.records.Catalog.{Catalog}
 use Rattle.vo_spec.specs.declared.records.Record.{Record}
 use Rattle.vo_spec.specs.declared.records.Entry.{Entry}
-use Rattle.vo_spec.specs.Journals.{FitsEntry, IsJournal}
-use Rattle.vo_spec.specs.Owners.{IsOwned}
-use Rattle.vo_spec.specs.Honest.{honest_record}
-use Rattle.vo_laws.proofs.EntryLaws.{owned_are_loadable, held_record, stand_at}
+use Rattle.vo_spec.specs.Records.{catalog_digest}
+use Rattle.vo_spec.specs.Journals.{FitsEntry, Holds, IsJournal, batches_of, tables_at}
+use Rattle.vo_spec.specs.Honest.{Stored, RepresentTables, catalog_of, honest_record, work_all}
+use Rattle.vo_laws.proofs.EntryLaws.{fit_at}
+use Rattle.vo_laws.proofs.StandingLaws.{stands}
+use Rattle.stored_tables.specs.Standing.{IsStanding}
+use Rattle.owner_roots.specs.Owners.{IsOwned}
+use Rattle.owner_state.specs.declared.departures.Departure.{Departure}
 use Rattle.owner_state.specs.declared.journals.OwnedJournal.{OwnedJournal}
-use Rattle.vo_audit.specs.Auditing.{IsReadAt, stored_at}
+use Rattle.owner_state.specs.Departing.{AreHonestBelow, Departs, DepartsAt, trees_at}
+use Rattle.root_laws.proofs.Standing.{honest_standing}
+use Rattle.vo_audit.specs.Auditing.{IsBefore, IsDepartureIn, IsReadAt}
+use Rattle.vo_audit.proofs.VerdictLaws.{held_within}
 
 entries_fit : (bytes : List ℕ) (es : List Entry) → IsJournal bytes es → AllByRecursion FitsEntry es
 entries_fit bytes [] journal = tt
 entries_fit bytes (e ∷ es) journal = journal.0
 
+-- Records that are held.
+
+held_honest : (key : List ℕ) (n : ℕ) (es : List Entry) (rec : Record) → AreHonestBelow key n es → rec.version < n → Holds es rec
+    → rec ≡ honest_record key rec.version (trees_at rec.version es)
+unfolding Holds
+held_honest key n es rec honest below holds = step (slice_get es rec.version) refl holds
+  where
+    step : (o : Option Entry) → slice_get es rec.version ≡ o → option_map (λ (e : Entry). e.rec) o ≡ Some rec → rec ≡ honest_record key rec.version (trees_at rec.version es)
+    step None e f = absurd (cc)
+    step (Some entry) e f = let same : entry.rec ≡ rec = cc in sym same ∙ honest rec.version entry below e
+
+held_below : (es : List Entry) (rec : Record) → Holds es rec → rec.version < length es
+held_below = held_within
+
+signed_before : (key : List ℕ) (es : List Entry) (departure : Option Departure) (rec : Record) → Departs key es departure → Holds es rec → IsBefore rec.version departure
+    → rec.catalog ≡ catalog_digest (catalog_of (trees_at rec.version es))
+unfolding honest_record
+signed_before key es None rec departs holds before = ap (λ (r : Record). r.catalog) (held_honest key (length es) es rec departs (held_below es rec holds) holds)
+signed_before key es (Some d) rec departs holds before = ap (λ (r : Record). r.catalog) (held_honest key d.index es rec departs.0 before holds)
+
+-- The entry of a departure.
+
+entry_fits : (es : List Entry) (i : ℕ) (e : Entry) → AllByRecursion FitsEntry es → slice_get es i ≡ Some e → FitsEntry e
+entry_fits [] i e fit there = absurd (cc)
+entry_fits (x ∷ es) zero e fit there = let same : x ≡ e = cc in subst FitsEntry same fit.0
+entry_fits (x ∷ es) (suc i) e fit there = entry_fits es i e fit.1 there
+
+-- other roots than those of the trees after a batch, which leaves them where it is refused
+differs : (c : Catalog) (before : List Stored) (w : Result (List Stored) CommandFault) → c ≢ catalog_of (result_unwrap_or w before) → IfOk w (λ honest. c ≡ catalog_of honest → ⊥)
+differs c before (Ok honest) other = other
+differs c before (Err why) other = tt
+
+departed_in : (es : List Entry) (d : Departure) → AllByRecursion FitsEntry es → DepartsAt es d.index d.tables → IsDepartureIn es d
+departed_in es d fit at = record {
+  entry = at.entry;
+  there = at.there;
+  trees = at.trees;
+  standing = subst IsStanding (sym at.trees) (honest_standing (batches_of (take (d.index - 1) (drop 1 es))) (fit_at (d.index - 1) es fit));
+  fits = (entry_fits es d.index at.entry fit at.there).batch;
+  departure = record {
+    version = d.index - 1;
+    after = at.after;
+    followed = at.next;
+    departs = differs at.after.catalog d.tables (work_all at.entry.batch.commands d.tables) at.departs;
+  };
+}
+
+departed : (key : List ℕ) (es : List Entry) (departure : Option Departure) → AllByRecursion FitsEntry es → Departs key es departure → IfSome departure (IsDepartureIn es)
+departed key es None fit departs = tt
+departed key es (Some d) fit departs = departed_in es d fit departs.1
+
+stand_at : (version : ℕ) (es : List Entry) → AllByRecursion FitsEntry es → RepresentTables (trees_at version es) (tables_at version es)
+unfolding tables_at
+stand_at version es fit = (stands (batches_of (take version (drop 1 es))) (fit_at version es fit)).0
+
 pub read_at : (key bytes : List ℕ) (version : ℕ) (owned : OwnedJournal) → IsOwned key bytes owned.entries
-    → IfSome owned.tables (λ tables. tables ≡ stored_at version owned.entries) → (version < length owned.entries → IsSome owned.tables)
-    → IsReadAt version owned
-unfolding IsOwned honest_record
-read_at key bytes version owned is tables there =
-    let taken = owned_are_loadable key owned.entries is.1 in
+    → IfSome owned.tables (λ tables. tables ≡ trees_at version owned.entries) → (version < length owned.entries → IsSome owned.tables)
+    → Departs key owned.entries owned.departure → IsReadAt version owned
+unfolding IsOwned
+read_at key bytes version owned is tables there departs =
+    let fit = entries_fit bytes owned.entries is.0 in
     record {
       some = is.2;
-      signed = λ rec holds. ap (λ (r : Record). r.catalog) (held_record key owned.entries rec taken holds);
-      stand = stand_at key version owned.entries taken (entries_fit bytes owned.entries is.0);
+      signed = λ rec holds before. signed_before key owned.entries owned.departure rec departs holds before;
+      departed = departed key owned.entries owned.departure fit departs;
+      stand = stand_at version owned.entries fit;
       tables = tables;
       there = there;
     }

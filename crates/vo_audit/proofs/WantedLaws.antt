@@ -1,5 +1,7 @@
 -- The trees of an accepted reply are wanted, each of the table at its place.
-use Rattle.std.proofs.Common.{◌≡◌, ℕ, zero, suc, ◌+◌, ◌<◌, ◌≤◌, ◌==◌, Bool, true, false, cond, if◌then◌else◌, List, [], ◌∷◌, ◌++◌, Option, Some, None, length, map, find, zip, get_or, drop, is_some, option_map, bytes_eq, refl, sym, ap, ◌∙◌, subst, arith}
+use Rattle.std.proofs.Common.{◌≡◌, ℕ, zero, suc, ◌+◌, ◌<◌, ◌≤◌, ◌==◌, Bool, true, false, cond, if◌then◌else◌, List, [], ◌∷◌, ◌++◌, Option, Some, None, length, map, find, zip, get_or, drop, is_some, option_map, bytes_eq, inl, inr, refl, sym, ap, ◌∙◌, subst, arith}
+use Rattle.std.specs.Prelude.{IfSome}
+use Rattle.std.specs.Option.{option_map_or}
 use Rattle.std.specs.List.{AllByRecursion, AllZip}
 use Rattle.std.proofs.lemmas.List.{drop_more, drop_all}
 use Rattle.vo_spec.specs.declared.records.Catalog.{Catalog}
@@ -16,6 +18,7 @@ use Rattle.vo_spec.specs.Tables.{table_header_named}
 use Rattle.vo_spec.specs.Results.{bound_sources, sources, missing_table, binding_fault}
 use Rattle.vo_spec.specs.Records.{table_headers}
 use Rattle.vo_spec.specs.Fits.{FitsTree}
+use Rattle.vo_spec.specs.Parts.{leaf}
 use Rattle.vo_spec.specs.Trees.{RowTree, Prunes, digest}
 use Rattle.vo_spec.specs.Replies.{Reply, FitsReply}
 use Rattle.vo_spec.specs.Needs.{same_table}
@@ -26,7 +29,11 @@ use Rattle.mb_tree.specs.declared.parts.PartTree.{PartTree}
 use Rattle.mb_tree.specs.View.{part_of}
 use Rattle.stored_tables.specs.Plain.{catalog_table}
 use Rattle.vo_audit.specs.Auditing.{HasPassed}
-use Rattle.vo_audit.specs.Wanted.{IsWanted, table_at}
+use Rattle.tree_collide.specs.Preimages.{OfStrings}
+use Rattle.departures.specs.Evidence.{HasRoot, AreHashedIn}
+use Rattle.root_laws.specs.Following.{PrunesTable}
+use Rattle.vo_audit.specs.Showing.{AreHashedInOne}
+use Rattle.vo_audit.specs.Wanted.{table_at}
 
 abbrev pub stored_named : List ℕ → List Stored → Option Stored
 stored_named name stored = find (λ s. bytes_eq s.name name) stored
@@ -142,7 +149,7 @@ same_root true f e = refl
 same_root false f e = absurd (cc)
 
 wanted_by : (stored : List Stored) (name : List ℕ) (tree : RowTree) (o : Option Stored) → stored_named name stored ≡ o → is_some o ≡ true → FitsTree tree
-    → root_fault (option_map catalog_table o, tree) ≡ None → IsWanted stored name tree
+    → root_fault (option_map catalog_table o, tree) ≡ None → HasRoot stored name tree
 wanted_by stored name tree None is there fits root = absurd (cc)
 wanted_by stored name tree (Some s) is there fits root = record {
   fits = fits.nodes;
@@ -152,7 +159,7 @@ wanted_by stored name tree (Some s) is there fits root = record {
 }
 
 one_wanted : (stored : List Stored) (name : List ℕ) (tree : RowTree) → IsThere stored name → FitsTree tree
-    → root_fault (table_named name (catalog_of stored), tree) ≡ None → IsWanted stored name tree
+    → root_fault (table_named name (catalog_of stored), tree) ≡ None → HasRoot stored name tree
 one_wanted stored name tree there fits root =
     wanted_by stored name tree (stored_named name stored) refl there fits (ap (λ (o : Option CatalogTable). root_fault (o, tree)) (sym (catalog_has name stored)) ∙ root)
 
@@ -160,7 +167,7 @@ abbrev paired : List Stored → List (List ℕ) → List RowTree → List (Optio
 paired stored names trees = zip (map (λ name. table_named name (catalog_of stored)) names) trees
 
 each_wanted : (stored : List Stored) (names : List (List ℕ)) (trees : List RowTree) → length trees ≡ length names → AllByRecursion (IsThere stored) names
-    → AllByRecursion FitsTree trees → first_some (map root_fault (paired stored names trees)) ≡ None → AllZip (IsWanted stored) names trees
+    → AllByRecursion FitsTree trees → first_some (map root_fault (paired stored names trees)) ≡ None → AllZip (HasRoot stored) names trees
 each_wanted stored [] [] count there fits roots = tt
 each_wanted stored [] (t ∷ trees) count there fits roots = absurd (cc)
 each_wanted stored (name ∷ names) [] count there fits roots = absurd (cc)
@@ -169,7 +176,7 @@ each_wanted stored (name ∷ names) (t ∷ trees) count there fits roots =
     (one_wanted stored name t there.0 fits.0 p.0, each_wanted stored names trees (cc) there.1 fits.1 p.1)
 
 pub trees_wanted : (q : Query) (r : Reply) (stored : List Stored) → FitsReply r → HasPassed q r → r.catalog ≡ catalog_of stored
-    → AllZip (IsWanted stored) (tables_wanted q (catalog_of stored)) r.trees
+    → AllZip (HasRoot stored) (tables_wanted q (catalog_of stored)) r.trees
 trees_wanted q r stored fits passed same =
     let count : length r.trees ≡ length (tables_wanted q (catalog_of stored)) = subst (λ (c : Catalog). length r.trees ≡ length (tables_wanted q c)) same passed.count in
     let roots : first_some (map root_fault (paired stored (tables_wanted q (catalog_of stored)) r.trees)) ≡ None =
@@ -178,43 +185,54 @@ trees_wanted q r stored fits passed same =
 
 -- The trees to come, for the fact about all.
 
-pub record TreesLeft (stored : List Stored) (names : List (List ℕ)) (trees : List RowTree) (all : Type 0) : Type 0 where
-  pub wanted : AllZip (IsWanted stored) names trees
+pub record TreesLeft (stored : List Stored) (names : List (List ℕ)) (trees : List RowTree) (all : Type 0) (Are : OfStrings) : Type 0 where
+  pub wanted : AllZip (HasRoot stored) names trees
   pub gives : AllZip Prunes trees (map (stored_tree stored) names) → all
+  pub shows : (x y : List ℕ) → AreHashedInOne stored names trees x y → Are x y
 
-no_trees_left : (stored : List Stored) (names : List (List ℕ)) (all : Type 0) → TreesLeft stored names [] all → all
-no_trees_left stored [] all left = left.gives tt
-no_trees_left stored (name ∷ names) all left = absurd left.wanted
+no_trees_left : (stored : List Stored) (names : List (List ℕ)) (all : Type 0) (Are : OfStrings) → TreesLeft stored names [] all Are → all
+no_trees_left stored [] all Are left = left.gives tt
+no_trees_left stored (name ∷ names) all Are left = absurd left.wanted
 
-pub trees_done : (stored : List Stored) (names : List (List ℕ)) (trees : List PartTree) (i : ℕ) (all : Type 0) → length trees ≤ i
-    → TreesLeft stored names (map part_of (drop i trees)) all → all
-trees_done stored names trees i all past left =
-    no_trees_left stored names all (subst (λ (ts : List PartTree). TreesLeft stored names (map part_of ts) all) (drop_all i trees past) left)
+pub trees_done : (stored : List Stored) (names : List (List ℕ)) (trees : List PartTree) (i : ℕ) (all : Type 0) (Are : OfStrings) → length trees ≤ i
+    → TreesLeft stored names (map part_of (drop i trees)) all Are → all
+trees_done stored names trees i all Are past left =
+    no_trees_left stored names all Are (subst (λ (ts : List PartTree). TreesLeft stored names (map part_of ts) all Are) (drop_all i trees past) left)
 
-within : (stored : List Stored) (names : List (List ℕ)) (i : ℕ) (t : RowTree) (trees : List RowTree) → AllZip (IsWanted stored) (drop i names) (t ∷ trees) → i < length names
+within : (stored : List Stored) (names : List (List ℕ)) (i : ℕ) (t : RowTree) (trees : List RowTree) → AllZip (HasRoot stored) (drop i names) (t ∷ trees) → i < length names
 within stored [] zero t trees z = absurd z
 within stored [] (suc i) t trees z = absurd z
 within stored (n ∷ names) zero t trees z = omega arith
 within stored (n ∷ names) (suc i) t trees z = let r = within stored names i t trees z in omega arith
 
-module _ (stored : List Stored) (q : Query) (trees : List PartTree) (i : ℕ) (t : PartTree) (all : Type 0) where
+module _ (stored : List Stored) (q : Query) (trees : List PartTree) (i : ℕ) (t : PartTree) (all : Type 0) (Are : OfStrings) where
   abbrev names : List (List ℕ)
   names = tables_wanted q (catalog_of stored)
 
-  opened : i < length trees → t ≡ get_or trees i t → TreesLeft stored (drop i names) (map part_of (drop i trees)) all
-      → TreesLeft stored (table_at q i ∷ drop (i + 1) names) (part_of t ∷ map part_of (drop (i + 1) trees)) all
+  opened : i < length trees → t ≡ get_or trees i t → TreesLeft stored (drop i names) (map part_of (drop i trees)) all Are
+      → TreesLeft stored (table_at q i ∷ drop (i + 1) names) (part_of t ∷ map part_of (drop (i + 1) trees)) all Are
   opened within_trees t_is left =
       let e : drop i trees ≡ t ∷ drop (i + 1) trees = drop_more trees i t within_trees ∙ ap (λ x. x ∷ drop (i + 1) trees) (sym t_is) in
-      let at = subst (λ (ts : List PartTree). TreesLeft stored (drop i names) (map part_of ts) all) e left in
+      let at = subst (λ (ts : List PartTree). TreesLeft stored (drop i names) (map part_of ts) all Are) e left in
       let within_names = within stored names i (part_of t) (map part_of (drop (i + 1) trees)) at.wanted in
       let f : drop i names ≡ table_at q i ∷ drop (i + 1) names = drop_more names i [] within_names ∙ ap (λ x. x ∷ drop (i + 1) names) (wanted_at q (catalog_of stored) [] i within_names) in
-      subst (λ (ns : List (List ℕ)). TreesLeft stored ns (part_of t ∷ map part_of (drop (i + 1) trees)) all) f at
+      subst (λ (ns : List (List ℕ)). TreesLeft stored ns (part_of t ∷ map part_of (drop (i + 1) trees)) all Are) f at
 
-  pub tree_here : i < length trees → t ≡ get_or trees i t → TreesLeft stored (drop i names) (map part_of (drop i trees)) all
-      → IsWanted stored (table_at q i) (part_of t)
+  pub tree_here : i < length trees → t ≡ get_or trees i t → TreesLeft stored (drop i names) (map part_of (drop i trees)) all Are
+      → HasRoot stored (table_at q i) (part_of t)
   tree_here within_trees t_is left = (opened within_trees t_is left).wanted.0
 
-  pub tree_agrees : i < length trees → t ≡ get_or trees i t → TreesLeft stored (drop i names) (map part_of (drop i trees)) all
-      → Prunes (part_of t) (stored_tree stored (table_at q i)) → TreesLeft stored (drop (i + 1) names) (map part_of (drop (i + 1) trees)) all
+  pub tree_agrees : i < length trees → t ≡ get_or trees i t → TreesLeft stored (drop i names) (map part_of (drop i trees)) all Are
+      → Prunes (part_of t) (stored_tree stored (table_at q i)) → TreesLeft stored (drop (i + 1) names) (map part_of (drop (i + 1) trees)) all Are
   tree_agrees within_trees t_is left prunes =
-      let o = opened within_trees t_is left in record { wanted = o.wanted.1; gives = λ rest. o.gives (prunes, rest) }
+      let o = opened within_trees t_is left in record { wanted = o.wanted.1; gives = λ rest. o.gives (prunes, rest); shows = λ x y hashed. o.shows x y (inr hashed) }
+
+  pub tree_shows : i < length trees → t ≡ get_or trees i t → TreesLeft stored (drop i names) (map part_of (drop i trees)) all Are
+      → (x y : List ℕ) → AreHashedIn stored (table_at q i) (part_of t) x y → Are x y
+  tree_shows within_trees t_is left x y hashed = let o = opened within_trees t_is left in o.shows x y (inl hashed)
+
+-- what prunes the tree of a table that is there prunes the tree of its name
+pub table_pruned : (stored : List Stored) (name : List ℕ) (p : RowTree) → HasRoot stored name p → PrunesTable stored name p → Prunes p (stored_tree stored name)
+table_pruned stored name p root prunes =
+    let whole : Prunes p root.table.tree = subst (λ (o : Option Stored). IfSome o (λ (s : Stored). Prunes p s.tree)) root.found prunes in
+    subst (λ (o : Option Stored). Prunes p (option_map_or (λ (s : Stored). s.tree) o (leaf []))) (sym root.found) whole

@@ -1,5 +1,5 @@
 -- What the steps of an audit find.
-use Rattle.std.specs.Prelude.{◌≡◌, ◌≢◌, ◌<◌, ℕ, List, length, take, drop, map, Option, Some, None, Result, Ok, Err, IfSome, IsSome}
+use Rattle.std.specs.Prelude.{◌≡◌, ◌≢◌, ◌<◌, ◌-◌, ℕ, List, length, map, slice_get, Option, Some, None, Result, Ok, Err, IfSome, IsSome}
 use Rattle.std.specs.List.{AllByRecursion, AllZip}
 use Rattle.vo_spec.specs.declared.queries.Ref.{Ref}
 use Rattle.vo_spec.specs.declared.queries.Operand.{Operand}
@@ -18,19 +18,25 @@ use Rattle.vo_spec.specs.Firsts.{first_some}
 use Rattle.vo_spec.specs.Conditions.{Query, FitsOperand}
 use Rattle.vo_spec.specs.Results.{result}
 use Rattle.vo_spec.specs.Records.{catalog_digest}
-use Rattle.vo_spec.specs.Journals.{Holds, batches_of, tables_at}
+use Rattle.vo_spec.specs.Batches.{FitsBatch}
+use Rattle.vo_spec.specs.Journals.{Holds, tables_at}
 use Rattle.vo_spec.specs.Trees.{Prunes}
 use Rattle.vo_spec.specs.Replies.{Reply}
 use Rattle.vo_spec.specs.Checks.{tables_wanted, trees_of, root_fault, missing_fault, seen_outcome, answer_to}
-use Rattle.vo_spec.specs.Honest.{Stored, RepresentTables, catalog_of, honest_trees, trees_for}
+use Rattle.vo_spec.specs.Honest.{Stored, RepresentTables, catalog_of, trees_for}
 use Rattle.vo_spec.specs.Audits.{IsVerdict}
 use Rattle.vo_format.specs.declared.reply.Reply.{Reply as ReadReply}
+use Rattle.tree_collide.specs.Preimages.{OfStrings}
+use Rattle.stored_tables.specs.Standing.{IsStanding}
+use Rattle.owner_state.specs.declared.departures.Departure.{Departure}
 use Rattle.owner_state.specs.declared.journals.OwnedJournal.{OwnedJournal}
+use Rattle.owner_state.specs.Departing.{trees_at}
+use Rattle.departures.specs.Departures.{IsDeparture}
 
--- two different byte strings of one digest are found, or the fact holds
-abbrev pub CollidesOr : Option (List ℕ × List ℕ) → Type 0 → Type 0
-CollidesOr None fact = fact
-CollidesOr (Some found) fact = Collides found.0 found.1
+-- two different byte strings of one digest are found, which are as said, or the fact holds
+abbrev pub CollidesOr : Option (List ℕ × List ℕ) → Type 0 → OfStrings → Type 0
+CollidesOr None fact Are = fact
+CollidesOr (Some found) fact Are = Collides found.0 found.1 × Are found.0 found.1
 
 -- the numbers that comparisons compare with are of 64 bits
 abbrev pub FitComparisons : List (Ref × Operand) → Type 0
@@ -63,16 +69,28 @@ pub record IsPartOf (q : Query) (r : Reply) (stored : List Stored) : Type 0 wher
 
 -- Journals.
 
-abbrev pub stored_at : ℕ → List Entry → List Stored
-stored_at version es = honest_trees (batches_of (take version (drop 1 es)))
+-- the entry of a departure is there: an owner followed its batch to other roots than those of these tables
+pub record IsDepartureIn (es : List Entry) (d : Departure) : Type 0 where
+  pub entry : Entry
+  pub there : slice_get es d.index ≡ Some entry
+  pub trees : d.tables ≡ trees_at (d.index - 1) es
+  pub standing : IsStanding d.tables
+  pub fits : FitsBatch entry.batch.commands
+  pub departure : IsDeparture d.tables entry.batch.commands entry.proofs
 
--- an owner's journal, read with the tables of this version
+abbrev pub IsBefore : ℕ → Option Departure → Type 0
+IsBefore version None = Unit {0}
+IsBefore version (Some d) = version < d.index
+
+-- an owner's journal, read with the honest tables of this version, which is before a departure if its record
+-- isn't theirs
 pub record IsReadAt (version : ℕ) (owned : OwnedJournal) : Type 0 where
   pub some : 0 < length owned.entries
-  pub signed : (rec : Record) → Holds owned.entries rec
-      → rec.catalog ≡ catalog_digest (catalog_of (stored_at rec.version owned.entries))
-  pub stand : RepresentTables (stored_at version owned.entries) (tables_at version owned.entries)
-  pub tables : IfSome owned.tables (λ tables. tables ≡ stored_at version owned.entries)
+  pub signed : (rec : Record) → Holds owned.entries rec → IsBefore rec.version owned.departure
+      → rec.catalog ≡ catalog_digest (catalog_of (trees_at rec.version owned.entries))
+  pub departed : IfSome owned.departure (IsDepartureIn owned.entries)
+  pub stand : RepresentTables (trees_at version owned.entries) (tables_at version owned.entries)
+  pub tables : IfSome owned.tables (λ tables. tables ≡ trees_at version owned.entries)
   pub there : version < length owned.entries → IsSome owned.tables
 
 -- Verdicts.

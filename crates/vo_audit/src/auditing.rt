@@ -1,10 +1,11 @@
 //! The audit of a reply: its reading, the journal, the client's check, and the verdict, in this order.
-ghost use Rattle.std.specs.Prelude.{◌≡◌, ◌⊎◌, Err};
+ghost use Rattle.std.specs.Prelude.{◌≡◌, ◌⊎◌, Err, IfOk};
 ghost use Rattle.vo_spec.specs.Conditions.{query_of};
 ghost use Rattle.vo_spec.specs.Replies.{FitsReply};
-ghost use Rattle.vo_spec.specs.Audits.{AuditOf};
+ghost use Rattle.owner_roots.specs.Owners.{OwnedAuditOf};
 ghost use Rattle.vo_format.specs.View.{reply_of};
 ghost use Rattle.vo_audit.specs.Auditing.{IsReadAt, AuditsReply, audit_fault, version_of};
+ghost use Rattle.vo_audit.specs.Showing.{AreShown, Shows, ShowsOf};
 
 use crate::verdicts::verdict_on;
 use lms_sign::PublicKey;
@@ -43,8 +44,10 @@ fn audit_reply(
 ) -> Result<Verdict, AuditFault>
     requires read { IsReadAt reply.now.rec.version owned.now }
     requires fits { FitsReply (reply_of reply.now) }
-    ensures { AuditsReply key.now owned.now.entries (query_of query.now)
+    ensures verdict { AuditsReply key.now owned.now.entries (query_of query.now)
         (reply_of reply.now) result }
+    ensures shown { IfOk result (λ verdict.
+        Shows verdict (AreShown (query_of query.now) (reply_of reply.now) owned.now.entries)) }
 {
     let answer = match judge(alloc, key, 0, query, reply) {
         Ok(answer) => answer,
@@ -65,8 +68,12 @@ pub fn audit(
     query: &QueryText,
     reply: &[u8],
 ) -> Result<Verdict, AuditFault>
-    ensures { (result ≡ Err AuditFault.Memory)
-        ⊎ AuditOf key.now journal.now (query_of query.now) reply.now result }
+    ensures verdict { (result ≡ Err AuditFault.Memory)
+        ⊎ OwnedAuditOf key.now journal.now (query_of query.now) reply.now result }
+
+    // What a collision is of: catalogs, trees of a table, or the proofs of an entry.
+    ensures shown { IfOk result (λ verdict.
+        ShowsOf key.now journal.now (query_of query.now) reply.now verdict) }
 {
     let read = read_within(alloc, reply);
     match read_owned(alloc, key, journal, version_of(&read)) {

@@ -6,6 +6,7 @@ ghost use Rattle.vo_spec.specs.Replies.{FitsReply};
 ghost use Rattle.vo_spec.specs.Honest.{catalog_of};
 ghost use Rattle.vo_format.specs.View.{reply_of};
 ghost use Rattle.vo_audit.specs.Auditing.{CollidesOr, HasPassed, IsPartOf};
+ghost use Rattle.vo_audit.specs.Showing.{AreCatalogs, AreOfReply};
 
 use crate::tree_evidence::compare_trees;
 use std::alloc::{AllocError, Global};
@@ -32,7 +33,8 @@ fn compare_catalogs(
 ) -> Result<Option<Collision>, AllocError>
     requires fits { FitsCatalog catalog.now }
     requires same { catalog_digest catalog.now ≡ catalog_digest (catalog_of tables.now) }
-    ensures { IfOk result (λ found. CollidesOr found (catalog.now ≡ catalog_of tables.now)) }
+    ensures { IfOk result (λ found. CollidesOr found (catalog.now ≡ catalog_of tables.now)
+        (AreCatalogs catalog.now (catalog_of tables.now))) }
 {
     let kept = tables.catalog(alloc)?;
     let first = catalog_preimage(alloc, catalog)?;
@@ -55,7 +57,8 @@ pub(crate) fn evidence(
     requires passed { HasPassed (query_of query.now) (reply_of reply.now) }
     requires held { reply.now.rec.catalog ≡ catalog_digest (catalog_of tables.now) }
     ensures { IfOk result (λ found.
-        CollidesOr found (IsPartOf (query_of query.now) (reply_of reply.now) tables.now)) }
+        CollidesOr found (IsPartOf (query_of query.now) (reply_of reply.now) tables.now)
+        (AreOfReply (query_of query.now) (reply_of reply.now) tables.now)) }
 {
     let found = compare_catalogs(alloc, tables, &reply.catalog)?;
     if found.is_some() {

@@ -4,43 +4,26 @@ ghost use Rattle.std.specs.List.{AllZip};
 ghost use Rattle.vo_spec.specs.Conditions.{query_of};
 ghost use Rattle.vo_spec.specs.Trees.{Prunes};
 ghost use Rattle.vo_spec.specs.Checks.{tables_wanted};
-ghost use Rattle.vo_spec.specs.Honest.{catalog_of, stored_tree, trees_for};
+ghost use Rattle.vo_spec.specs.Honest.{catalog_of, trees_for};
 ghost use Rattle.mb_tree.specs.View.{part_of};
+ghost use Rattle.departures.specs.Evidence.{HasRoot};
 ghost use Rattle.vo_audit.specs.Auditing.{CollidesOr};
-ghost use Rattle.vo_audit.specs.Wanted.{IsWanted, table_at};
+ghost use Rattle.vo_audit.specs.Showing.{AreHashedInOne};
+ghost use Rattle.vo_audit.specs.Wanted.{table_at};
 
+use departures::compare_with_table;
 use mb_tree::PartTree;
 use std::alloc::{AllocError, Global};
 use stored_tables::StoredTables;
-use tree_collide::{Agreement, agree};
-use vo_spec::{Collision, Name, QueryText};
+use vo_spec::{Collision, QueryText};
 
 /// The table of the tree at this place of a reply.
-fn table_at<'q>(query: &'q QueryText, place: usize) -> &'q Name
+fn table_at(query: &QueryText, place: usize) -> &[u8]
     ensures { result.now ≡ table_at (query_of query.now) place }
 {
     match &query.join {
-        Some(join) if place > 0 => &join.right.table,
-        _ => &query.left.table,
-    }
-}
-
-fn compare_tree(
-    alloc: Global,
-    tables: &StoredTables,
-    name: &Name,
-    tree: &PartTree<'_>,
-) -> Result<Option<Collision>, AllocError>
-    requires { IsWanted tables.now name.now (part_of tree.now) }
-    ensures { IfOk result (λ found.
-        CollidesOr found (Prunes (part_of tree.now) (stored_tree tables.now name.now))) }
-{
-    match tables.find(name.as_bytes()) {
-        Some(table) => match agree(alloc, tree, &table.tree)? {
-            Agreement::Prunes => Ok(None),
-            Agreement::Collides(found) => Ok(Some(found)),
-        },
-        None => unreachable!(),
+        Some(join) if place > 0 => join.right.table.as_bytes(),
+        _ => query.left.table.as_bytes(),
     }
 }
 
@@ -51,14 +34,16 @@ pub(crate) fn compare_trees(
     query: &QueryText,
     trees: &[PartTree<'_>],
 ) -> Result<Option<Collision>, AllocError>
-    requires { AllZip (IsWanted tables.now)
+    requires { AllZip (HasRoot tables.now)
         (tables_wanted (query_of query.now) (catalog_of tables.now)) (map part_of trees.now) }
     ensures { IfOk result (λ found.
-        CollidesOr found (AllZip Prunes (map part_of trees.now)
-        (trees_for (query_of query.now) tables.now))) }
+        let names = tables_wanted (query_of query.now) (catalog_of tables.now) in
+        CollidesOr found
+        (AllZip Prunes (map part_of trees.now) (trees_for (query_of query.now) tables.now))
+        (AreHashedInOne tables.now names (map part_of trees.now))) }
 {
     for (place, tree) in trees.iter().enumerate() {
-        let found = compare_tree(alloc, tables, table_at(query, place), tree)?;
+        let found = compare_with_table(alloc, tables, table_at(query, place), tree)?;
         if found.is_some() {
             return Ok(found);
         }

@@ -1,24 +1,27 @@
 //! What a journal says of an answer that a client accepts.
-ghost use Rattle.std.specs.Prelude.{◌≡◌, ◌<◌, ◌-◌, List, IfOk};
+ghost use Rattle.std.specs.Prelude.{◌≡◌, ◌<◌, ◌-◌, List, IfOk, IfSome, None, Some};
 ghost use Rattle.vo_spec.specs.declared.checks.Verdict.TheVariants.{Unsigned};
 ghost use Rattle.vo_spec.specs.declared.tables.Table.{Table};
+ghost use Rattle.vo_spec.specs.Collides.{Collides};
 ghost use Rattle.vo_spec.specs.Conditions.{query_of};
 ghost use Rattle.vo_spec.specs.Records.{catalog_digest};
 ghost use Rattle.vo_spec.specs.Replies.{FitsReply};
 ghost use Rattle.vo_spec.specs.Honest.{RepresentTables, catalog_of};
 ghost use Rattle.vo_spec.specs.Audits.{IsVerdict};
 ghost use Rattle.vo_format.specs.View.{reply_of};
-ghost use Rattle.vo_audit.specs.Auditing.{HasPassed, IsHeldVerdict, IsReadAt, seen_answer};
+ghost use Rattle.vo_audit.specs.Auditing.{HasPassed, IsBefore, IsDepartureIn, IsHeldVerdict, IsReadAt, seen_answer};
+ghost use Rattle.vo_audit.specs.Showing.{AreOfProofs, AreOfReply, AreShown, Shows};
 
 use crate::evidence::evidence;
 use crate::holding::holds;
 use crate::numbers::see_numbers;
 use crate::outcome_test::is_result;
-use owner_state::OwnedJournal;
+use departures::collision_of_batch;
+use owner_state::{Departure, OwnedJournal};
 use std::alloc::{AllocError, Global};
 use stored_tables::StoredTables;
 use vo_format::Reply;
-use vo_spec::{Answer, List, QueryText, Verdict};
+use vo_spec::{Answer, Collision, Entry, List, QueryText, Verdict};
 
 /// The journal of so many entries does not hold the reply's record.
 fn unsigned(alloc: Global, entries: usize, reply: &Reply<'_>) -> Result<Verdict, AllocError>
@@ -46,8 +49,10 @@ fn verdict_by(
     requires passed { HasPassed (query_of query.now) (reply_of reply.now) }
     requires answer { answer.now ≡ seen_answer (query_of query.now) (reply_of reply.now) }
     requires held { reply.now.rec.catalog ≡ catalog_digest (catalog_of tables.now) }
-    ensures { (plain : List Table) → RepresentTables tables.now plain
+    ensures held { (plain : List Table) → RepresentTables tables.now plain
         → IfOk result (λ verdict. IsHeldVerdict plain (query_of query.now) answer.now verdict) }
+    ensures shown { IfOk result (λ verdict.
+        Shows verdict (AreOfReply (query_of query.now) (reply_of reply.now) tables.now)) }
 {
     see_numbers(query);
     let exact = Verdict::Exact {
@@ -65,6 +70,63 @@ fn verdict_by(
     }
 }
 
+/// The departure, where the version is not before it.
+fn departure_by(owned: &OwnedJournal, version: u64) -> Option<&Departure>
+    ensures before { result ≡ None → IsBefore version owned.now.departure }
+    ensures there { IfSome result (λ departure. owned.now.departure ≡ Some departure.now) }
+{
+    match &owned.departure {
+        Some(departure) if departure.index <= version => Some(departure),
+        Some(_) | None => None,
+    }
+}
+
+/// The two byte strings of one digest by which the owner was fooled.
+fn collision_at(
+    alloc: Global,
+    departure: &Departure,
+    entries: &[Entry],
+) -> Result<Collision, AllocError>
+    requires { IsDepartureIn entries.now departure.now }
+    ensures collides { IfOk result (λ found. Collides found.0 found.1) }
+    ensures strings { IfOk result (λ found. AreOfProofs entries.now found.0 found.1) }
+{
+    match entries.get(departure.index as usize) {
+        Some(entry) => {
+            collision_of_batch(
+                alloc,
+                &departure.tables,
+                &entry.batch,
+                entry.proofs.as_slice(),
+            )
+        },
+        None => unreachable!(),
+    }
+}
+
+/// The verdict by the honest tables of a version at which the owner's roots have departed from them.
+fn verdict_behind(
+    alloc: Global,
+    tables: &StoredTables,
+    departure: &Departure,
+    entries: &[Entry],
+    query: &QueryText,
+    answer: &Answer,
+) -> Result<Verdict, AllocError>
+    requires { IsDepartureIn entries.now departure.now }
+    ensures held { (plain : List Table) → RepresentTables tables.now plain
+        → IfOk result (λ verdict. IsHeldVerdict plain (query_of query.now) answer.now verdict) }
+    ensures shown { IfOk result (λ verdict. Shows verdict (AreOfProofs entries.now)) }
+{
+    let exact = is_result(alloc, tables, query, &answer.outcome)?;
+    if exact {
+        return Ok(Verdict::Exact {
+            version: answer.version,
+        });
+    }
+    Ok(Verdict::Collides(collision_at(alloc, departure, entries)?))
+}
+
 /// The verdict by a journal that was read with the tables of the reply's version.
 pub(crate) fn verdict_on(
     alloc: Global,
@@ -77,14 +139,28 @@ pub(crate) fn verdict_on(
     requires fits { FitsReply (reply_of reply.now) }
     requires passed { HasPassed (query_of query.now) (reply_of reply.now) }
     requires answer { answer.now ≡ seen_answer (query_of query.now) (reply_of reply.now) }
-    ensures { IfOk result (λ verdict.
+    ensures verdict { IfOk result (λ verdict.
         IsVerdict owned.now.entries (query_of query.now) (reply_of reply.now) answer.now verdict) }
+    ensures shown { IfOk result (λ verdict.
+        Shows verdict (AreShown (query_of query.now) (reply_of reply.now) owned.now.entries)) }
 {
     if !holds(owned.entries.as_slice(), &reply.rec) {
         return unsigned(alloc, owned.entries.len(), reply);
     }
     match &owned.tables {
-        Some(tables) => verdict_by(alloc, tables, query, reply, answer),
+        Some(tables) => match departure_by(owned, reply.rec.version) {
+            Some(departure) => {
+                verdict_behind(
+                    alloc,
+                    tables,
+                    departure,
+                    owned.entries.as_slice(),
+                    query,
+                    answer,
+                )
+            },
+            None => verdict_by(alloc, tables, query, reply, answer),
+        },
         None => unreachable!(),
     }
 }
