@@ -1,8 +1,8 @@
 //! What a frame is, by the byte behind its length.
 ghost use Rattle.std.specs.Prelude.{◌≡◌};
 
-use crate::limits::{MAX_BATCH_BYTES, MAX_QUERY};
-use vo_spec::{MAX_PROOFS, MAX_REPLY, MAX_SIGNATURE};
+use crate::limits::MAX_QUERY;
+use vo_spec::{MAX_BATCH_BYTES, MAX_PROOFS, MAX_REPLY, MAX_SIGNATURE};
 
 /// A client asks a query, an owner the other three; a store answers them in this order, or refuses.
 #[derive(Clone, Copy, Debug, PartialEq, Eq)]

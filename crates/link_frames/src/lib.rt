@@ -31,7 +31,7 @@ pub use gathers::{Gathers, hand_on};
 pub use head::{FrameHead, read_head};
 pub use interrupted::Interrupted;
 pub use laws::frames_read_back;
-pub use limits::{MAX_BATCH_BYTES, MAX_QUERY};
+pub use limits::MAX_QUERY;
 pub use put::put_frame;
 pub use read::{read_body, read_frame};
 pub use serve::{MAX_TURNS, serve_link};
