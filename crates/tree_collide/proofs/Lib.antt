@@ -4,3 +4,7 @@ pub mod Steps
 pub mod Children
 pub mod Strings
 pub mod PruningLaws
+pub mod OneTree
+pub mod Sharing
+pub mod OneWalk
+pub mod TwinSteps

@@ -20,7 +20,7 @@ whole_fit vs f = each vs f.each where
   each (w ∷ ws) g zero d h = g 0 w (omega arith)
   each (w ∷ ws) g (suc k) d h = each ws (λ j e l. g (suc j) e (omega arith)) k d (omega arith)
 
-same_lengths : (n : ℕ) (cs ds : List Cell) → SameCells n cs ds → length cs ≡ length ds
+pub same_lengths : (n : ℕ) (cs ds : List Cell) → SameCells n cs ds → length cs ≡ length ds
 same_lengths n [] [] s = refl
 same_lengths n [] (d ∷ ds) s = absurd s
 same_lengths n (c ∷ cs) [] s = absurd s

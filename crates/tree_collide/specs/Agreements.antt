@@ -4,6 +4,8 @@ use Rattle.vo_spec.specs.declared.cells.Cell.{Cell}
 use Rattle.vo_spec.specs.declared.cells.PartEntry.{PartEntry}
 use Rattle.vo_spec.specs.declared.trees.Agreement.{Agreement}
 use Rattle.vo_spec.specs.declared.trees.Agreement.TheVariants.{Prunes as Does_prune, Collides as Found}
+use Rattle.vo_spec.specs.declared.trees.Twins.{Twins}
+use Rattle.vo_spec.specs.declared.trees.Twins.TheVariants as twins
 use Rattle.vo_spec.specs.Collides.{Collides}
 use Rattle.vo_spec.specs.Cells.{cell_digest, row_digest}
 use Rattle.vo_spec.specs.Parts.{stub, leaf, inner, none, more}
@@ -23,6 +25,16 @@ HoldsOrFound (Found found) fact = (fact → ⊥) × Collides found.0 found.1
 abbrev pub FoundAre : Agreement → (List ℕ → List ℕ → Type 0) → Type 0
 FoundAre Does_prune Are = Unit {0}
 FoundAre (Found found) Are = Are found.0 found.1
+
+-- twins are the same only where the one fact holds; else two different byte strings of one digest are found,
+-- and the other fact holds
+abbrev pub SameOrFound : Twins → Type 0 → Type 0 → Type 0
+SameOrFound twins.Same fact other = fact
+SameOrFound (twins.Collides found) fact other = other × Collides found.0 found.1
+
+abbrev pub ToldAre : Twins → (List ℕ → List ℕ → Type 0) → Type 0
+ToldAre twins.Same Are = Unit {0}
+ToldAre (twins.Collides found) Are = Are found.0 found.1
 
 abbrev pub SameCells : ℕ → List Cell → List Cell → Type 0
 SameCells column [] [] = Unit {0}

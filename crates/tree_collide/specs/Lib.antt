@@ -1,2 +1,4 @@
 pub mod Agreements
+pub mod Alike
 pub mod Preimages
+pub mod Walks

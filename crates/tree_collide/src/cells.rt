@@ -57,7 +57,7 @@ fn collision_of_cell(
     }
 }
 
-fn collision_of_shown(
+pub fn collision_of_shown(
     alloc: Global,
     column: u8,
     shown: ValueRef<'_>,

@@ -1,4 +1,5 @@
-//! Whether a part tree prunes a whole tree of its digest, or else two byte strings of one digest.
+//! Whether a part tree prunes a whole tree of its digest, and whether two part trees of one digest show the
+//! same, or else two byte strings of one digest.
 #![tactic(auto)]
 
 mod cells;
@@ -7,6 +8,11 @@ mod entries;
 mod nodes;
 mod pruning;
 mod rows;
+mod twin_cells;
+mod twin_nodes;
+mod twin_rows;
+mod twins;
 
 pub use nodes::agree;
-pub use vo_spec::Agreement;
+pub use twins::{agree_two, agree_walk, walks_show_what_is_seen};
+pub use vo_spec::{Agreement, Twins};

@@ -56,7 +56,7 @@ fn collision_of_open_row(
 }
 
 #[tactic(auto, using(attr_digest::proofs::Digests::cell_digests_more))]
-fn parts_preimage(alloc: Global, cells: &[Cell<'_>]) -> Result<Vec<u8>, AllocError>
+pub fn parts_preimage(alloc: Global, cells: &[Cell<'_>]) -> Result<Vec<u8>, AllocError>
     requires count { length cells.now ≤ max_cells }
     requires fit { All FitsCell cells.now }
     ensures { IfOk result (λ bytes. bytes.items ≡ row_bytes_of cells.now) }

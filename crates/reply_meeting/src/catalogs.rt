@@ -1,0 +1,38 @@
+//! The catalogs of two replies of one record.
+ghost use Rattle.std.specs.Prelude.{◌≡◌, ◌∷◌, IfOk};
+ghost use Rattle.vo_spec.specs.Records.{FitsCatalog, catalog_bytes, catalog_digest};
+ghost use Rattle.reply_meeting.specs.Comparing.{HoldsUnlessFound};
+
+use std::alloc::{AllocError, Global};
+use version_record::put_catalog;
+use vo_spec::{Catalog, Collision};
+
+/// What the digest of a catalog is of.
+fn catalog_preimage(alloc: Global, catalog: &Catalog) -> Result<Vec<u8>, AllocError>
+    requires { FitsCatalog catalog.now }
+    ensures { IfOk result (λ bytes. bytes.items ≡ 5 ∷ catalog_bytes catalog.now) }
+{
+    let mut bytes = Vec::from_slice(alloc, &[5])?;
+    put_catalog(&mut bytes, catalog)?;
+    Ok(bytes)
+}
+
+/// None where the catalogs are the same, else two byte strings of their one digest.
+pub(crate) fn compare_catalogs(
+    alloc: Global,
+    first: &Catalog,
+    second: &Catalog,
+) -> Result<Option<Collision>, AllocError>
+    requires fits { FitsCatalog first.now }
+    requires second_fits { FitsCatalog second.now }
+    requires same { catalog_digest first.now ≡ catalog_digest second.now }
+    ensures { IfOk result (λ found. HoldsUnlessFound found (first.now ≡ second.now)) }
+{
+    let one = catalog_preimage(alloc, first)?;
+    let other = catalog_preimage(alloc, second)?;
+    if one.as_slice() == other.as_slice() {
+        Ok(None)
+    } else {
+        Ok(Some(Collision::new(one, other)))
+    }
+}

@@ -1,0 +1,15 @@
+//! Two replies to one query against each other, by the owner's public key alone.
+#![tactic(auto)]
+
+mod accepting;
+mod catalogs;
+mod comparing;
+mod laws;
+mod meeting;
+mod needed;
+mod readers;
+mod trees;
+
+pub use laws::accepted_records_are_signed;
+pub use meeting::{MeetFault, Meeting};
+pub use readers::meet;

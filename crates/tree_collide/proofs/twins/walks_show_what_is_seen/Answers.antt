@@ -1,0 +1,5 @@
+use Rattle.tree_collide.proofs.OneWalk.{walk_seen, walk_complete, walks_seen}
+use Rattle.tree_collide.proofs.twins.walks_show_what_is_seen.Goals as goal
+
+pub returns : goal.returns
+returns c = record { seen = walk_seen; complete = walk_complete; same = walks_seen }
