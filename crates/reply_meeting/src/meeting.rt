@@ -6,10 +6,7 @@ use vo_spec::{CheckFault, Collision};
 #[derive(Drop)]
 pub enum Meeting {
     /// Their versions differ.
-    Apart {
-        first: u64,
-        second: u64,
-    },
+    Apart { first: u64, second: u64 },
     /// They have two records of one version, both signed by the owner.
     TwoRecords,
     /// They show the same, to the byte.
