@@ -7,10 +7,7 @@ use vo_spec::{CheckFault, Collision};
 #[derive(Drop)]
 pub enum Meeting {
     /// Their versions differ.
-    Apart {
-        v1: u64,
-        v2: u64,
-    },
+    Apart { v1: u64, v2: u64 },
     /// They have two records of one version, both signed by the owner.
     TwoRecords,
     /// They show the same, to the byte.

@@ -27,9 +27,11 @@ pub returns-in-Collides : goal.returns-in-Collides
 returns-in-Collides c =
     let told = rw c.in-Collides.is at c.in_ok-agree_two.ensures.same in
     let within : c.loop-place.place < length c.args.second.now = omega (arith, c.requires.count, c.loop-place-test.true) in
-    let needs_within : c.loop-place.place < length c.args.needs.now = omega (arith, c.requires.needs_count, c.loop-place-test.true) in
-    (tree_differs c.loop-place.place c.args.needs.now c.args.first.now c.args.second.now c.index-needs-place.result c.index-first-place.result c.index-second-place.result _ needs_within c.index-needs-place.is c.loop-place-test.true c.index-first-place.is
-    within c.index-second-place.is c.loop-place.invariant told.0, told.1)
+    let needs_within : c.loop-place.place < length c.args.needs.now = omega (arith, c.requires.needs_count, c.loop-place-test.true) in (
+      tree_differs c.loop-place.place c.args.needs.now c.args.first.now c.args.second.now c.index-needs-place.result c.index-first-place.result c.index-second-place.result _ needs_within c.index-needs-place.is c.loop-place-test.true c.index-first-place.is
+          within c.index-second-place.is c.loop-place.invariant told.0,
+      told.1,
+    )
 
 pub loop-place-preserved : goal.loop-place-preserved
 loop-place-preserved c =
