@@ -50,11 +50,7 @@ fn line_of(alloc: Global, word: &str, pieces: &mut Pieces<'_>) -> Result<Line, N
     })
 }
 
-fn take_changes(
-    alloc: Global,
-    change: Change,
-    pieces: &mut Pieces<'_>,
-) -> Result<Line, NoAnswer> {
+fn take_changes(alloc: Global, change: Change, pieces: &mut Pieces<'_>) -> Result<Line, NoAnswer> {
     let name = take_name(alloc, pieces)?;
     Ok(Line::Each(change, name, take_words(alloc, pieces)?))
 }

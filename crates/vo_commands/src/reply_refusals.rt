@@ -56,11 +56,7 @@ fn phrase_words<'a>(alloc: Global, what: &'a str) -> Result<Vec<Word<'a>>, Alloc
     Vec::from_slice(alloc, &[Word::Phrase(what)])
 }
 
-fn number_words<'a>(
-    alloc: Global,
-    what: &'a str,
-    number: u64,
-) -> Result<Vec<Word<'a>>, AllocError>
+fn number_words<'a>(alloc: Global, what: &'a str, number: u64) -> Result<Vec<Word<'a>>, AllocError>
     ensures { IfOk result (λ words. map word_text words.items
         ≡ what.now ∷ decimal number ∷ []) }
 {
@@ -76,7 +72,11 @@ fn numbers_words<'a>(
     ensures { IfOk result (λ words. map word_text words.items
         ≡ what.now ∷ decimal first ∷ decimal second ∷ []) }
 {
-    let words = [Word::Phrase(what), Word::Number(first), Word::Number(second)];
+    let words = [
+        Word::Phrase(what),
+        Word::Number(first),
+        Word::Number(second),
+    ];
     Vec::from_slice(alloc, &words)
 }
 
@@ -90,7 +90,11 @@ fn bytes_words<'a>(
     ensures { IfOk result (λ words. map word_text words.items
         ≡ what.now ∷ encode_lower want.now ∷ encode_lower got.now ∷ []) }
 {
-    let words = [Word::Phrase(what), Word::Hexadecimal(want), Word::Hexadecimal(got)];
+    let words = [
+        Word::Phrase(what),
+        Word::Hexadecimal(want),
+        Word::Hexadecimal(got),
+    ];
     Vec::from_slice(alloc, &words)
 }
 
