@@ -6,10 +6,10 @@ import sys
 TOP = os.path.dirname(os.path.dirname(os.path.abspath(__file__)))
 
 # What is built: all that docs/FORMATS.md has. The other implementation counts its own steps, of
-# which these are the first 7: tables, queries and joins, signed versions, an owner with roots alone,
-# and the commands keygen, seal, answer, check and audit. Still to come are a served store, NULL,
-# indexes and totals.
-STAGE = "7"
+# which these are the first 7 (tables, queries and joins, signed versions, an owner with roots alone,
+# and the commands keygen, seal, answer, check and audit) and the 12th (the command meet). Still to
+# come are a served store, NULL, indexes and totals.
+STAGE = "7+12"
 
 # It signs what comparisons and benches make, one journal after the other: nothing that is kept may
 # be signed by it.

@@ -1,5 +1,5 @@
 -- Replies that are accepted: no test refuses them.
-use Rattle.std.proofs.Common.{◌≡◌, ◌==◌, ℕ, ◌≤◌, Bool, true, false, if◌then◌else◌, List, [], ◌∷◌, length, map, Option, Some, None, Result, Ok, Err, bytes_eq, refl, sym, ap, ◌∙◌, ◌⊎◌, inl, inr}
+use Rattle.std.proofs.Common.{◌≡◌, ◌==◌, ℕ, ◌≤◌, Bool, true, false, if◌then◌else◌, List, ◌∷◌, length, map, Option, Some, None, Result, Ok, Err, bytes_eq, refl, ◌⊎◌, inl, inr}
 use Rattle.std.proofs.lemmas.Bool.{eqb-true}
 use Rattle.vo_spec.specs.declared.checks.Answer.{Answer}
 use Rattle.vo_spec.specs.declared.checks.CheckFault.{CheckFault}
@@ -9,7 +9,7 @@ use Rattle.vo_spec.specs.Conditions.{Query}
 use Rattle.vo_spec.specs.Records.{catalog_digest}
 use Rattle.vo_spec.specs.Replies.{Reply, IsReply, max_reply}
 use Rattle.vo_spec.specs.Owners.{IsSigned}
-use Rattle.vo_spec.specs.Checks.{key_fault, leaf_fault, signature_fault, age_fault, catalog_fault, count_fault, shape_fault, root_fault, missing_fault, surplus_fault, tables_wanted, trees_of, check_fault, seen_outcome, answer_to, CheckOf}
+use Rattle.vo_spec.specs.Checks.{key_fault, leaf_fault, signature_fault, age_fault, catalog_fault, count_fault, shape_fault, root_fault, missing_fault, surplus_fault, tables_wanted, trees_of, check_fault, answer_to, CheckOf}
 use Rattle.vo_laws.proofs.JoinLaws.{is_bytes}
 use Rattle.vo_check.proofs.Accepted.{of_no_fault}
 use Rattle.reply_meeting.specs.Accepting.{IsAccepted, HasPassed}

@@ -1,6 +1,6 @@
 -- The trees of two accepted replies of one catalog can be compared; and where the left ones give one walk, the
 -- plan needs the same of all.
-use Rattle.std.proofs.Common.{◌≡◌, ◌==◌, ℕ, suc, ◌<◌, Bool, true, false, cond, if◌then◌else◌, List, [], ◌∷◌, ◌++◌, length, map, zip, get_or, Option, Some, None, is_some, refl, sym, ap, ◌∙◌, subst, arith}
+use Rattle.std.proofs.Common.{◌≡◌, ◌==◌, ℕ, suc, ◌<◌, Bool, true, false, if◌then◌else◌, List, [], ◌∷◌, length, map, zip, get_or, Option, Some, None, is_some, refl, sym, ap, ◌∙◌, subst, arith}
 use Rattle.std.specs.Prelude.{filter, unwrap_or}
 use Rattle.std.specs.List.{list_any, AllZip}
 use Rattle.std.proofs.lemmas.Bool.{or_from}
@@ -19,7 +19,7 @@ use Rattle.vo_spec.specs.Scans.{seen}
 use Rattle.vo_spec.specs.Pruned.{IsCanonical, is_missing, has_surplus}
 use Rattle.vo_spec.specs.Needs.{tables_used, tree_at, needs, left_need, right_needs, seen_row_view}
 use Rattle.vo_spec.specs.Replies.{Reply, FitsReply}
-use Rattle.vo_spec.specs.Checks.{tables_wanted, trees_of, root_fault, needed, missing_fault, surplus_fault}
+use Rattle.vo_spec.specs.Checks.{tables_wanted, root_fault, needed}
 use Rattle.mb_tree.specs.declared.parts.PartTree.{PartTree}
 use Rattle.mb_tree.specs.View.{part_of}
 use Rattle.query_plan.specs.BoundQueries.{bound_query}

@@ -1,5 +1,5 @@
 -- What is found tells that two replies don't show the same, and what isn't that they do.
-use Rattle.std.proofs.Common.{◌≡◌, ◌≢◌, ℕ, List, [], ◌∷◌, ◌++◌, length, map, flat_map, Option, Some, None, Result, Ok, Err, IfOk, is_some, true, false, refl, sym, ap, ◌∙◌, subst, append_assoc}
+use Rattle.std.proofs.Common.{◌≡◌, ◌≢◌, ℕ, List, [], ◌∷◌, ◌++◌, length, flat_map, Option, Some, None, Result, Ok, Err, IfOk, is_some, true, false, sym, ap, ◌∙◌, subst, append_assoc}
 use Rattle.std.specs.Prelude.{codes}
 use Rattle.vo_spec.specs.declared.records.Catalog.{Catalog}
 use Rattle.vo_spec.specs.Collides.{Collides}
@@ -11,9 +11,6 @@ use Rattle.vo_spec.specs.Replies.{Reply, FitsReply, reply_bytes}
 use Rattle.vo_laws.proofs.CatalogEncoding.{catalog_told, catalogs_collide}
 use Rattle.vo_format.specs.Reading.{reply_at}
 use Rattle.vo_format.proofs.ReplyLaws.{reply_again}
-use Rattle.tree_collide.specs.Agreements.{SameOrFound}
-use Rattle.vo_spec.specs.declared.trees.Twins.{Twins}
-use Rattle.vo_spec.specs.declared.trees.Twins.TheVariants as twins
 use Rattle.reply_meeting.specs.Comparing.{HoldsUnlessFound, ShowTheSame}
 use Rattle.reply_meeting.specs.Meetings.{shown_bytes}
 

@@ -1,5 +1,5 @@
 -- The trees that two accepted replies of one catalog have for a query: twins, each the proof for its needs.
-use Rattle.std.proofs.Common.{◌≡◌, ◌==◌, ℕ, ◌+◌, Bool, true, false, cond, if◌then◌else◌, not, List, [], ◌∷◌, ◌++◌, length, map, find, zip, Option, Some, None, is_some, bytes_eq, refl, sym, ap, ◌∙◌, subst}
+use Rattle.std.proofs.Common.{◌≡◌, ℕ, Bool, true, false, cond, if◌then◌else◌, List, [], ◌∷◌, ◌++◌, length, map, zip, Option, Some, None, is_some, bytes_eq, refl, sym, ◌∙◌}
 use Rattle.std.specs.List.{list_any, AllByRecursion, AllZip}
 use Rattle.std.proofs.lemmas.Bool.{or_parts}
 use Rattle.vo_spec.specs.declared.needs.Need.{Need}
@@ -15,7 +15,7 @@ use Rattle.vo_spec.specs.declared.queries.QueryFault.TheVariants.{NoTable}
 use Rattle.vo_spec.specs.Firsts.{first_some}
 use Rattle.vo_spec.specs.Conditions.{Condition, Query}
 use Rattle.vo_spec.specs.Tables.{TableHeader, table_header_named}
-use Rattle.vo_spec.specs.Results.{BoundSource, bound_sources, sources, missing_table, binding_fault}
+use Rattle.vo_spec.specs.Results.{bound_sources, sources, missing_table, binding_fault}
 use Rattle.vo_spec.specs.Records.{table_headers}
 use Rattle.vo_spec.specs.Fits.{FitsTree}
 use Rattle.vo_spec.specs.Trees.{RowTree, digest}

@@ -1,7 +1,6 @@
 -- What is compared of two replies, and what is found.
 use Rattle.std.specs.Prelude.{◌≡◌, ℕ, List, length, Option, Some, None}
 use Rattle.std.specs.List.{AllZip}
-use Rattle.vo_spec.specs.declared.needs.Need.{Need}
 use Rattle.vo_spec.specs.Collides.{Collides}
 use Rattle.vo_spec.specs.Fits.{FitsPart}
 use Rattle.vo_spec.specs.Trees.{RowTree, digest}

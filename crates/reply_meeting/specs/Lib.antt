@@ -1,3 +1,4 @@
 pub mod Accepting
 pub mod Comparing
 pub mod Meetings
+pub mod Views

@@ -39,11 +39,18 @@ second_fault check.Memory = Memory
 second_fault fault = Second fault
 
 -- What is said of two replies to a query, by the key: a client who takes any version refuses the first, or the
--- second, so; or takes both, and they meet so. Want of memory is no answer of this.
-unfoldable pub MeetOf : List ℕ → Query → List ℕ → List ℕ → Result Meeting MeetFault → Type 0
-MeetOf key q first second (Err (First fault)) = CheckOf key 0 q first (Err fault)
-MeetOf key q first second (Err (Second fault)) = (r : Reply) × IsAccepted key q first r
+-- second, so; or takes both, which are these, and they meet so. Want of memory is no answer of this.
+unfoldable pub RepliesMeet : List ℕ → Query → List ℕ → List ℕ
+    → Result (Reply × Reply × Meeting) MeetFault → Type 0
+RepliesMeet key q first second (Err (First fault)) = CheckOf key 0 q first (Err fault)
+RepliesMeet key q first second (Err (Second fault)) = (r : Reply) × IsAccepted key q first r
     × CheckOf key 0 q second (Err fault)
-MeetOf key q first second (Err Memory) = ⊥
-MeetOf key q first second (Ok meeting) = (r : Reply) × (s : Reply) × IsAccepted key q first r
-    × IsAccepted key q second s × IsMeeting r s meeting
+RepliesMeet key q first second (Err Memory) = ⊥
+RepliesMeet key q first second (Ok met) = IsAccepted key q first met.0
+    × IsAccepted key q second met.1 × IsMeeting met.0 met.1 met.2
+
+-- the same of what they are to each other alone
+unfoldable pub MeetOf : List ℕ → Query → List ℕ → List ℕ → Result Meeting MeetFault → Type 0
+MeetOf key q first second (Err fault) = RepliesMeet key q first second (Err fault)
+MeetOf key q first second (Ok meeting) = (r : Reply) × (s : Reply)
+    × RepliesMeet key q first second (Ok (r, s, meeting))

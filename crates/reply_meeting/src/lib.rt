@@ -11,5 +11,5 @@ mod readers;
 mod trees;
 
 pub use laws::accepted_records_are_signed;
-pub use meeting::{MeetFault, Meeting};
-pub use readers::meet;
+pub use meeting::{MeetFault, Meeting, MetReplies};
+pub use readers::{meet, meet_replies};

@@ -4,11 +4,12 @@ ghost use Rattle.vo_spec.specs.Conditions.{query_of};
 ghost use Rattle.vo_spec.specs.Replies.{FitsReply};
 ghost use Rattle.vo_format.specs.View.{reply_of};
 ghost use Rattle.reply_meeting.specs.Accepting.{HasPassed};
-ghost use Rattle.reply_meeting.specs.Meetings.{IsMeeting, MeetOf, first_fault as first_refused, second_fault as second_refused};
+ghost use Rattle.reply_meeting.specs.Meetings.{IsMeeting, MeetOf, RepliesMeet, first_fault as first_refused, second_fault as second_refused};
+ghost use Rattle.reply_meeting.specs.Views.{met_of};
 
 use crate::accepting::read_accepted;
 use crate::comparing::compare_replies;
-use crate::meeting::{MeetFault, Meeting};
+use crate::meeting::{MeetFault, Meeting, MetReplies};
 use lms_sign::PublicKey;
 use std::alloc::{AllocError, Global};
 use vo_format::Reply;
@@ -35,8 +36,8 @@ fn meeting_of(
 {
     if first.rec.version != second.rec.version {
         return Ok(Meeting::Apart {
-            first: first.rec.version,
-            second: second.rec.version,
+            v1: first.rec.version,
+            v2: second.rec.version,
         });
     }
     if !is_record(&first.rec, &second.rec) {
@@ -60,6 +61,24 @@ pub fn meet(
     ensures { (result ≡ Err MeetFault.Memory)
         ⊎ MeetOf key.now (query_of query.now) first.now second.now result }
 {
+    match meet_replies(alloc, key, query, first, second) {
+        Ok(met) => Ok(met.meeting),
+        Err(fault) => Err(fault),
+    }
+}
+
+/// The same, and the two replies, which lend what is evidence: two records of one version, each with its
+/// signature.
+pub fn meet_replies<'b>(
+    alloc: Global,
+    key: &PublicKey,
+    query: &QueryText,
+    first: &'b [u8],
+    second: &'b [u8],
+) -> Result<MetReplies<'b>, MeetFault>
+    ensures { (result ≡ Err MeetFault.Memory)
+        ⊎ RepliesMeet key.now (query_of query.now) first.now second.now (met_of result) }
+{
     let one = match read_accepted(alloc, key, query, first) {
         Ok(reply) => reply,
         Err(fault) => return Err(first_fault(fault)),
@@ -69,7 +88,11 @@ pub fn meet(
         Err(fault) => return Err(second_fault(fault)),
     };
     match meeting_of(alloc, query, &one, &other) {
-        Ok(meeting) => Ok(meeting),
+        Ok(meeting) => Ok(MetReplies {
+            first: one,
+            second: other,
+            meeting,
+        }),
         Err(_) => Err(MeetFault::Memory),
     }
 }

@@ -1,4 +1,5 @@
 //! What the calls answer.
+use crate::changes::run_over_changes;
 use crate::folder::{Attempt, Folder, RunEnd};
 use crate::line::{Line, Splice, read_line};
 use line_pieces::NoAnswer;
@@ -24,6 +25,7 @@ fn answer_line(alloc: Global, folder: &mut Folder, line: &str) -> Result<String,
         Line::Splice(name, splice) => keep_splice(alloc, folder, name, &splice),
         Line::Run(attempt) => run_once(alloc, folder, attempt),
         Line::Make(name, attempt) => run_and_keep(alloc, folder, name, attempt),
+        Line::Each(change, name, words) => run_over_changes(alloc, folder, change, &name, &words),
         Line::Words(words) => request_text(alloc, &words),
     }
 }
@@ -64,6 +66,12 @@ fn request_form(alloc: Global, request: Request<'_>) -> Result<String, NoAnswer>
             query,
             reply,
         } => format!(in alloc; "(audit {key:?} {journal:?} {query:?} {reply:?})")?,
+        Request::Meet {
+            key,
+            query,
+            first,
+            second,
+        } => format!(in alloc; "(meet {key:?} {query:?} {first:?} {second:?})")?,
     })
 }
 
@@ -120,7 +128,7 @@ fn run_and_keep(
 }
 
 /// A status, and output as a text in quotes, if it is one, or else in hexadecimal.
-fn end_text(alloc: Global, end: &RunEnd) -> Result<String, NoAnswer> {
+pub fn end_text(alloc: Global, end: &RunEnd) -> Result<String, NoAnswer> {
     match std::str::from_utf8(&end.written) {
         Ok(text) => Ok(format!(in alloc; "{} {text:?}", end.status)?),
         Err(_) => {

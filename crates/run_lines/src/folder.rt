@@ -50,12 +50,25 @@ impl Folder {
     pub fn run(&self, alloc: Global, attempt: Attempt) -> Result<RunEnd, AllocError> {
         let files = copies(alloc, &self.files)?;
         let mut shelf = MemShelf::new(files, FailAt::new(attempt.take_failures));
-        let mut out = MemSink::new(alloc, FailAt::new(attempt.put_failures));
-        let status = run_over(alloc, &attempt.words, &mut shelf, &mut out)?;
-        Ok(RunEnd {
-            status,
-            written: Vec::from_slice(alloc, out.written())?,
-        })
+        run_over(
+            alloc,
+            &attempt.words,
+            &mut shelf,
+            FailAt::new(attempt.put_failures),
+        )
+    }
+
+    /// A run that never fails, with this file in the place of the one of its name.
+    pub fn run_with(
+        &self,
+        alloc: Global,
+        words: &[String],
+        file: NamedFile,
+    ) -> Result<RunEnd, AllocError> {
+        let mut files = copies(alloc, &self.files)?;
+        files.insert(0, file)?;
+        let mut shelf = MemShelf::new(files, FailAt::new(Vec::new(alloc)));
+        run_over(alloc, words, &mut shelf, FailAt::new(Vec::new(alloc)))
     }
 }
 
@@ -64,11 +77,16 @@ fn run_over(
     alloc: Global,
     words: &[String],
     shelf: &mut MemShelf<FailAt>,
-    out: &mut MemSink<FailAt>,
-) -> Result<u8, AllocError> {
+    put_failures: FailAt,
+) -> Result<RunEnd, AllocError> {
     let mut disk = MemDisk::new(alloc, Vec::new(alloc), Never)?;
     let mut net = MemNet::new(alloc, Vec::new(alloc), Never)?;
-    Ok(run(alloc, words, shelf, &mut disk, &mut net, out))
+    let mut out = MemSink::new(alloc, put_failures);
+    let status = run(alloc, words, shelf, &mut disk, &mut net, &mut out);
+    Ok(RunEnd {
+        status,
+        written: Vec::from_slice(alloc, out.written())?,
+    })
 }
 
 fn copies(alloc: Global, files: &[NamedFile]) -> Result<Vec<NamedFile>, AllocError> {

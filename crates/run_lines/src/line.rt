@@ -1,4 +1,5 @@
 //! A line: the word of a call, and what it is asked of.
+use crate::changes::Change;
 use crate::folder::Attempt;
 use crate::pieces::{Pieces, take_bytes, take_name, take_number, take_words};
 use line_pieces::NoAnswer;
@@ -13,6 +14,7 @@ pub enum Line {
     Splice(String, Splice),
     Run(Attempt),
     Make(String, Attempt),
+    Each(Change, String, Vec<String>),
     Words(Vec<String>),
 }
 
@@ -39,11 +41,18 @@ fn line_of(alloc: Global, word: &str, pieces: &mut Pieces<'_>) -> Result<Line, N
         "splice" => Line::Splice(take_name(alloc, pieces)?, take_splice(alloc, pieces)?),
         "run" => Line::Run(take_run(alloc, pieces)?),
         "make" => Line::Make(take_name(alloc, pieces)?, take_run(alloc, pieces)?),
+        "each_cut" => take_changes(alloc, Change::Cut, pieces)?,
+        "each_turn" => take_changes(alloc, Change::Turn, pieces)?,
         "fail_files" => Line::Run(take_run_without_file(alloc, pieces)?),
         "fail_output" => Line::Run(take_run_with_short_output(alloc, pieces)?),
         "words" => Line::Words(take_words(alloc, pieces)?),
         _ => return Err(NoAnswer::NoSuchLine),
     })
+}
+
+fn take_changes(alloc: Global, change: Change, pieces: &mut Pieces<'_>) -> Result<Line, NoAnswer> {
+    let name = take_name(alloc, pieces)?;
+    Ok(Line::Each(change, name, take_words(alloc, pieces)?))
 }
 
 fn take_splice(alloc: Global, pieces: &mut Pieces<'_>) -> Result<Splice, NoAnswer> {

@@ -13,7 +13,7 @@ use Rattle.vo_commands.specs.Reports.{Answers, GoesOn, ReadsText}
 use Rattle.vo_spec.specs.declared.tables.Batch.{Batch}
 use Rattle.vo_spec.specs.Secret.{Secret}
 use Rattle.vo_commands.specs.Texts.{IsQueryText, IsRefusedQuery, IsRefusedScript}
-use Rattle.vo_commands.specs.Expected.{Expected, Exactly, OfQuery, OfScript, with_text, with_seed, seal_output, script_expected, seal_expected, script_limit, Checks, Audits, Replies, HoldsEach, with_key, with_file, check_expected, audit_expected, answer_expected, reply_limit, journal_limit}
+use Rattle.vo_commands.specs.Expected.{Expected, Exactly, OfQuery, OfScript, with_text, with_seed, seal_output, script_expected, seal_expected, script_limit, Audits, Replies, HoldsEach, with_key, with_file, audit_expected, answer_expected, reply_limit, journal_limit}
 
 -- what was taken of a file answers for the file
 pub of_file : {B : Type 0} (expected : (B → Expected) → Expected) (b : B) (rest : B → Expected) (r : Result Report Stop) → ((rest : B → Expected) → expected rest ≡ rest b) → Answers (rest b) r → Answers (expected rest) r
@@ -58,18 +58,28 @@ pub file_stops : (name : List ℕ) (limit : ℕ) (rest : List ℕ → Expected) 
 file_stops name limit rest None stop f = tt
 file_stops name limit rest (Some known) stop f = of_stop (λ bytes. bytes) (with_file known name limit) stop rest f
 
-module _ (name query reply key : List ℕ) (least : ℕ) (q : Query) (is : IsQueryText query q) (r : Result Report Stop) where
-  abbrev AnswersCheck : Files → Type 0
-  AnswersCheck known = Answers (with_file known reply reply_limit (λ z. Checks key least q z)) r
+-- what the rest of the work answers to the bytes of a file, after which the files are as they were
+pub file_and_more_known : (name : List ℕ) (limit : ℕ) (rest : Files → List ℕ → Expected) (bytes : List ℕ) (o p : Option Files) (r : Result Report Stop) → p ≡ o → IfSome o (FileIs name limit bytes)
+    → IfSome p (λ known. Answers (rest known bytes) r) → IfSome o (λ known. Answers (with_file known name limit (rest known)) r)
+file_and_more_known name limit rest bytes o p r same f a = step o f (subst (λ z. IfSome z (λ known. Answers (rest known bytes) r)) same a)
+  where
+    step : (o : Option Files) → IfSome o (FileIs name limit bytes) → IfSome o (λ known. Answers (rest known bytes) r) → IfSome o (λ known. Answers (with_file known name limit (rest known)) r)
+    step None f a = tt
+    step (Some known) f a = of_file (with_file known name limit) bytes (rest known) r f a
 
-  pub check_known : (o p : Option Files) → p ≡ o → IfSome o (KeyIs name key) → IfSome p AnswersCheck → IfSome o (λ known. Answers (check_expected name query reply least known) r)
-  check_known o p same k a = step o k (subst (λ z. IfSome z AnswersCheck) same a)
+-- and to a key and a text's query
+module _ (name query key : List ℕ) (q : Query) (is : IsQueryText query q) (rest : Files → List ℕ → Query → Expected) (r : Result Report Stop) where
+  abbrev AnswersRest : Files → Type 0
+  AnswersRest known = Answers (rest known key q) r
+
+  pub key_and_query_known : (o p : Option Files) → p ≡ o → IfSome o (KeyIs name key) → IfSome p AnswersRest → IfSome o (λ known. Answers (with_key known name (λ x. OfQuery query (rest known x))) r)
+  key_and_query_known o p same k a = step o k (subst (λ z. IfSome z AnswersRest) same a)
     where
-      step : (o : Option Files) → IfSome o (KeyIs name key) → IfSome o AnswersCheck → IfSome o (λ known. Answers (check_expected name query reply least known) r)
+      step : (o : Option Files) → IfSome o (KeyIs name key) → IfSome o AnswersRest → IfSome o (λ known. Answers (with_key known name (λ x. OfQuery query (rest known x))) r)
       step None k a = tt
       step (Some known) k a =
-          of_file (with_key known name) key (λ x. OfQuery query (λ y. with_file known reply reply_limit (λ z. Checks x least y z))) r k
-          (of_query query q (λ y. with_file known reply reply_limit (λ z. Checks key least y z)) r is a)
+          of_file (with_key known name) key (λ x. OfQuery query (rest known x)) r k
+          (of_query query q (rest known key) r is a)
 
 -- what the rest of the work answers to a text's query, or a stop at the text
 pub query_known : (text : List ℕ) (q : Query) (rest : Files → Query → Expected) (o : Option Files) (r : Result Report Stop) → IsQueryText text q
@@ -188,3 +198,12 @@ three_there o p s a b c x y z w same also first second third =
         → IfSome o (λ known. HoldsEach known (a ∷ b ∷ c ∷ []) → w ≡ x)
     step None first second third = tt
     step (Some known) first second third = λ there. third there.1.1 ∙ no_miss (known b) y z there.1.0 second ∙ no_miss (known a) x y there.0 first
+
+-- one file is there, and more of them
+pub more_there : (o p : Option Files) (a : List ℕ) (names : List (List ℕ)) (x y z : ℕ) → p ≡ o → IfSome o (CountsMissAt a x y) → IfSome p (λ known. HoldsEach known names → z ≡ y)
+    → IfSome o (λ known. HoldsEach known (a ∷ names) → z ≡ x)
+more_there o p a names x y z same first rest = step o first (subst (λ o. IfSome o (λ known. HoldsEach known names → z ≡ y)) same rest)
+  where
+    step : (o : Option Files) → IfSome o (CountsMissAt a x y) → IfSome o (λ known. HoldsEach known names → z ≡ y) → IfSome o (λ known. HoldsEach known (a ∷ names) → z ≡ x)
+    step None first rest = tt
+    step (Some known) first rest = λ there. rest there.1 ∙ no_miss (known a) x y there.0 first

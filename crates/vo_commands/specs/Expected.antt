@@ -21,16 +21,20 @@ use Rattle.vo_spec.specs.Honest.{sealed, reply_of}
 use Rattle.vo_spec.specs.Owners.{IsLoadable, IsUnloadableAt}
 use Rattle.vo_spec.specs.Checks.{CheckOf}
 use Rattle.owner_roots.specs.Owners.{OwnedAuditOf}
+use Rattle.reply_meeting.specs.declared.meeting.Meeting.{Meeting}
+use Rattle.reply_meeting.specs.declared.meeting.MeetFault.{MeetFault}
+use Rattle.reply_meeting.specs.Meetings.{RepliesMeet}
 use Rattle.owner_state.specs.declared.sealing.SealFault.{SealFault}
 use Rattle.owner_state.specs.declared.sealing.SealFault.TheVariants as seal
 use Rattle.owner_state.specs.Sealing.{commands_of, seal_fault}
-use Rattle.vo_words.specs.PlainRequest.{PlainRequest, Keygen, Seal, Answer, Check, Audit}
+use Rattle.vo_words.specs.PlainRequest.{PlainRequest, Keygen, Seal, Answer, Check, Audit, Meet}
 use Rattle.sql_text.specs.Scripts.{IsScript}
-use Rattle.vo_commands.specs.Lines.{Output, line, success, refusal, input_refusal, check_output, audit_output, bad_journal, command_output, spent_key}
+use Rattle.vo_commands.specs.Lines.{Output, line, success, refusal, input_refusal, check_output, audit_output, meet_output, bad_journal, command_output, spent_key}
 use Rattle.vo_commands.specs.Texts.{IsQueryText, IsRefusedQuery, IsRefusedScript}
 
 -- These lines; or what is expected of the query or the script that a text is; or what a relation
--- allows: the reply to a query by a journal, and what a client or an auditor answers to one.
+-- allows: the reply to a query by a journal, what a client or an auditor answers to one, and what
+-- two replies are to each other.
 pub data Expected : Type 0 where
   Exactly : (output : Output) → Expected
   OfQuery : (text : List ℕ) (rest : Query → Expected) → Expected
@@ -38,6 +42,7 @@ pub data Expected : Type 0 where
   Replies : (key journal : List ℕ) (q : Query) → Expected
   Checks : (key : List ℕ) (least : ℕ) (q : Query) (reply : List ℕ) → Expected
   Audits : (key journal : List ℕ) (q : Query) (reply : List ℕ) → Expected
+  Meets : (key : List ℕ) (q : Query) (first second : List ℕ) → Expected
 
 -- the reply of a store, where it isn't over the limit
 abbrev pub reply_output : List ℕ → Output
@@ -67,6 +72,9 @@ Allows (Checks key least q reply) output =
 Allows (Audits key journal q reply) output =
     (answer : Result Verdict AuditFault) × OwnedAuditOf key journal q reply answer
     × (output ≡ audit_output answer)
+Allows (Meets key q first second) output =
+    (met : Result (Reply × Reply × Meeting) MeetFault) × RepliesMeet key q first second met
+    × (output ≡ meet_output met)
 
 -- the outside failed
 abbrev pub outside_failure : Output
@@ -173,12 +181,18 @@ audit_expected key journal query reply files =
     with_key files key (λ k. with_file files journal journal_limit (λ j. OfQuery query (λ q.
     with_file files reply reply_limit (λ r. Audits k j q r))))
 
+abbrev pub meet_expected : List ℕ → List ℕ → List ℕ → List ℕ → Files → Expected
+meet_expected key query first second files =
+    with_key files key (λ k. OfQuery query (λ q. with_file files first reply_limit (λ r.
+    with_file files second reply_limit (λ s. Meets k q r s))))
+
 abbrev pub command_expected : PlainRequest → Files → Expected
 command_expected (Keygen seed height) = keygen_expected seed height
 command_expected (Seal seed script height) = seal_expected seed script height
 command_expected (Answer key journal query) = answer_expected key journal query
 command_expected (Check key query reply least) = check_expected key query reply least
 command_expected (Audit key journal query reply) = audit_expected key journal query reply
+command_expected (Meet key query first second) = meet_expected key query first second
 
 -- what is expected of the words, where the files are known
 abbrev pub expected_of : Option Files → Option PlainRequest → Option Expected
@@ -207,6 +221,7 @@ files_of_request (Seal seed script height) = seed ∷ script ∷ []
 files_of_request (Answer key journal query) = key ∷ journal ∷ []
 files_of_request (Check key query reply least) = key ∷ reply ∷ []
 files_of_request (Audit key journal query reply) = key ∷ journal ∷ reply ∷ []
+files_of_request (Meet key query first second) = key ∷ first ∷ second ∷ []
 
 abbrev pub file_words : Option PlainRequest → List (List ℕ)
 file_words request = option_map_or files_of_request request []

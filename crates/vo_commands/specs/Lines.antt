@@ -10,6 +10,7 @@ use Rattle.vo_spec.specs.declared.queries.Outcome.{Outcome}
 use Rattle.vo_spec.specs.declared.queries.Outcome.TheVariants.{Rows, Wrong}
 use Rattle.vo_spec.specs.declared.tables.CommandFault.{CommandFault}
 use Rattle.vo_spec.specs.declared.tables.CommandFault.TheVariants as command
+use Rattle.vo_spec.specs.declared.records.Record.{Record}
 use Rattle.vo_spec.specs.declared.checks.Answer.{Answer}
 use Rattle.vo_spec.specs.declared.checks.CheckFault.{CheckFault}
 use Rattle.vo_spec.specs.declared.checks.CheckFault.TheVariants as check
@@ -17,9 +18,14 @@ use Rattle.vo_spec.specs.declared.checks.Verdict.{Verdict}
 use Rattle.vo_spec.specs.declared.checks.Verdict.TheVariants.{Unsigned, Exact, Collides}
 use Rattle.vo_spec.specs.declared.checks.AuditFault.{AuditFault}
 use Rattle.vo_spec.specs.declared.checks.AuditFault.TheVariants as audit
+use Rattle.reply_meeting.specs.declared.meeting.Meeting.{Meeting}
+use Rattle.reply_meeting.specs.declared.meeting.Meeting.TheVariants as meeting
+use Rattle.reply_meeting.specs.declared.meeting.MeetFault.{MeetFault}
+use Rattle.reply_meeting.specs.declared.meeting.MeetFault.TheVariants.{First, Second, Memory}
 use Rattle.sql_text.specs.declared.faults.SqlFault.{SqlFault}
 use Rattle.sql_text.specs.declared.faults.SqlFault.TheVariants as sql
 use Rattle.vo_spec.specs.Records.{record_bytes}
+use Rattle.vo_spec.specs.Replies.{Reply}
 use Rattle.vo_spec.specs.Results.{ref_title}
 
 pub record Output : Type 0 where
@@ -47,8 +53,13 @@ columns_line columns = line (with_separator 44 columns)
 abbrev pub success : List ℕ → Output
 success bytes = record { status = 0; bytes = bytes }
 
+-- one line, which begins so
+abbrev pub line_output : List ℕ → ℕ → List (List ℕ) → Output
+line_output beginning status words =
+    record { status = status; bytes = words_line (beginning ∷ words) }
+
 abbrev pub refusal : ℕ → List (List ℕ) → Output
-refusal status words = record { status = status; bytes = words_line (codes "refused:" ∷ words) }
+refusal status words = line_output (codes "refused:") status words
 
 -- words, key, seed, file size or text refused
 abbrev pub input_refusal : List (List ℕ) → Output
@@ -121,21 +132,31 @@ sql_words sql.Memory = []
 abbrev pub sql_output : SqlFault → Output
 sql_output fault = input_refusal (sql_words fault)
 
+-- Evidence.
+
+-- a record and its signature
+abbrev pub signed_lines : Record → List ℕ → List ℕ
+signed_lines rec signature = words_line (encode_lower (record_bytes rec) ∷ [])
+    ++ words_line (encode_lower signature ∷ [])
+
+-- two strings of one digest
+abbrev pub collision_output : List ℕ × List ℕ → Output
+collision_output found = record {
+  status = 5;
+  bytes = words_line (codes "collision" ∷ []) ++ words_line (encode_lower found.0 ∷ [])
+      ++ words_line (encode_lower found.1 ∷ []);
+}
+
 -- Verdicts of `audit`.
 
 abbrev pub verdict_output : Verdict → Output
 verdict_output (Exact version) = success (words_line (codes "exact version" ∷ decimal version ∷ []))
 verdict_output (Unsigned rec signature last) = record {
   status = 6;
-  bytes = words_line (codes "unsigned" ∷ []) ++ words_line (encode_lower (record_bytes rec) ∷ [])
-      ++ words_line (encode_lower signature ∷ [])
+  bytes = words_line (codes "unsigned" ∷ []) ++ signed_lines rec signature
       ++ words_line (codes "journal ends at version" ∷ decimal last ∷ []);
 }
-verdict_output (Collides found) = record {
-  status = 5;
-  bytes = words_line (codes "collision" ∷ []) ++ words_line (encode_lower found.0 ∷ [])
-      ++ words_line (encode_lower found.1 ∷ []);
-}
+verdict_output (Collides found) = collision_output found
 
 abbrev pub bad_journal : ℕ → Output
 bad_journal index =
@@ -146,6 +167,35 @@ audit_output (Ok verdict) = verdict_output verdict
 audit_output (Err (audit.BadJournal index)) = bad_journal index
 audit_output (Err (audit.Refused fault)) = refusal 1 (fault_words fault)
 audit_output (Err audit.Memory) = refusal 1 []
+
+-- Meetings of `meet`.
+
+abbrev pub apart_output : ℕ → ℕ → Output
+apart_output v1 v2 = success (words_line (codes "apart" ∷ decimal v1 ∷ decimal v2 ∷ []))
+
+abbrev pub two_records_output : Reply → Reply → Output
+two_records_output first second = record {
+  status = 6;
+  bytes = words_line (codes "two records" ∷ []) ++ signed_lines first.rec first.signature
+      ++ signed_lines second.rec second.signature;
+}
+
+abbrev pub same_output : ℕ → Output
+same_output version = success (words_line (codes "same" ∷ decimal version ∷ []))
+
+-- of two replies that a client accepts
+abbrev pub meeting_output : Reply → Reply → Meeting → Output
+meeting_output first second (meeting.Apart v1 v2) = apart_output v1 v2
+meeting_output first second meeting.TwoRecords = two_records_output first second
+meeting_output first second meeting.Same = same_output first.rec.version
+meeting_output first second (meeting.Collides found) = collision_output found
+
+-- two replies and what they are to each other, or which of them is refused
+abbrev pub meet_output : Result (Reply × Reply × Meeting) MeetFault → Output
+meet_output (Ok met) = meeting_output met.0 met.1 met.2
+meet_output (Err (First fault)) = line_output (codes "refused first:") 1 (fault_words fault)
+meet_output (Err (Second fault)) = line_output (codes "refused second:") 1 (fault_words fault)
+meet_output (Err Memory) = refusal 1 []
 
 -- Refusals of `seal`.
 

@@ -109,7 +109,9 @@ fn audit_report(
         Ok(verdict) => Ok(verdict_report(alloc, &verdict)?),
         Err(AuditFault::BadJournal { index }) => Err(Stop::Refused(bad_entry(alloc, index)?)),
         Err(AuditFault::Refused(CheckFault::Memory)) => Err(Stop::Memory),
-        Err(AuditFault::Refused(fault)) => Err(Stop::Refused(reply_refusal(alloc, &fault)?)),
+        Err(AuditFault::Refused(fault)) => Err(Stop::Refused(reply_refusal(
+            alloc, "refused:", &fault,
+        )?)),
         Err(AuditFault::Memory) => Err(Stop::Memory),
     }
 }

@@ -83,6 +83,6 @@ fn check_report(
     match client.check(alloc, query, reply) {
         Ok(answer) => Ok(answer_report(alloc, &answer)?),
         Err(CheckFault::Memory) => Err(Stop::Memory),
-        Err(fault) => Err(Stop::Refused(reply_refusal(alloc, &fault)?)),
+        Err(fault) => Err(Stop::Refused(reply_refusal(alloc, "refused:", &fault)?)),
     }
 }

@@ -9,6 +9,8 @@ mod files;
 mod keygen;
 mod limits;
 mod lines;
+mod meet;
+mod meetings;
 mod piece;
 mod refusals;
 mod reply_refusals;

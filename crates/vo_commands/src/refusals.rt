@@ -1,6 +1,6 @@
 //! Refusals, each in one line that begins with `refused:`.
 ghost use Rattle.std.specs.Prelude.{◌≡◌, [], ◌∷◌, ◌++◌, map, codes, decimal, IfOk, OnOk};
-ghost use Rattle.vo_commands.specs.Lines.{refusal, command_output, spent_key, fault_name, bad_journal, words_line};
+ghost use Rattle.vo_commands.specs.Lines.{refusal, line_output, command_output, spent_key, fault_name, bad_journal, words_line};
 ghost use Rattle.vo_commands.specs.Reports.{output_of, status_code};
 ghost use Rattle.vo_commands.specs.Words.{word_text};
 
@@ -15,8 +15,21 @@ pub fn refusal(alloc: Global, status: Status, words: &[Word<'_>]) -> Result<Repo
     ensures { IfOk result (λ report. output_of report
         ≡ refusal (status_code status) (map word_text words.now)) }
 {
+    line_report(alloc, status, "refused:", words)
+}
+
+/// One line: these words behind its beginning.
+pub fn line_report<'a>(
+    alloc: Global,
+    status: Status,
+    beginning: &'a str,
+    words: &[Word<'a>],
+) -> Result<Report, AllocError>
+    ensures { IfOk result (λ report. output_of report
+        ≡ line_output beginning.now (status_code status) (map word_text words.now)) }
+{
     let mut all = Vec::new(alloc);
-    all.push(Word::Phrase("refused:"))?;
+    all.push(Word::Phrase(beginning))?;
     all.extend_from_slice(words)?;
     let mut bytes = Vec::new(alloc);
     push_words(alloc, &mut bytes, &all)?;

@@ -10,6 +10,7 @@ use crate::answer::answer;
 use crate::audit::audit;
 use crate::check::check;
 use crate::keygen::keygen;
+use crate::meet::meet;
 use crate::piece::Word;
 use crate::refusals::refusal;
 use crate::report::{Report, Status, Stop};
@@ -111,6 +112,12 @@ fn run_command<F: Shelf>(alloc: Global, request: Request<'_>, files: &mut F) -> 
             query,
             reply,
         } => audit(alloc, files, key, journal, query, reply),
+        Request::Meet {
+            key,
+            query,
+            first,
+            second,
+        } => meet(alloc, files, key, query, first, second),
     }
 }
 

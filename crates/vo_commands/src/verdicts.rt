@@ -1,7 +1,7 @@
-//! What `audit` prints of a reply that a client accepts.
-ghost use Rattle.std.specs.Prelude.{◌≡◌, IfOk};
-ghost use Rattle.vo_spec.specs.declared.checks.Verdict.TheVariants.{Exact, Unsigned, Collides};
-ghost use Rattle.vo_commands.specs.Lines.{verdict_output};
+//! What `audit` prints of a reply that a client accepts, and evidence that `meet` has too.
+ghost use Rattle.std.specs.Prelude.{◌≡◌, ◌++◌, IfOk, OnOk};
+ghost use Rattle.vo_spec.specs.declared.checks.Verdict.TheVariants.{Exact, Unsigned};
+ghost use Rattle.vo_commands.specs.Lines.{collision_output, signed_lines, verdict_output};
 ghost use Rattle.vo_commands.specs.Reports.{output_of};
 
 use crate::lines::push_words;
@@ -49,8 +49,7 @@ fn unsigned_report(
 {
     let mut bytes = Vec::new(alloc);
     push_words(alloc, &mut bytes, &[Word::Phrase("unsigned")])?;
-    push_words(alloc, &mut bytes, &[Word::Hexadecimal(&record_bytes(rec))])?;
-    push_words(alloc, &mut bytes, &[Word::Hexadecimal(signature)])?;
+    push_signed(alloc, &mut bytes, rec, signature)?;
     let words = [Word::Phrase("journal ends at version"), Word::Number(last)];
     push_words(alloc, &mut bytes, &words)?;
     Ok(Report {
@@ -59,8 +58,22 @@ fn unsigned_report(
     })
 }
 
-fn collision_report(alloc: Global, found: &Collision) -> Result<Report, AllocError>
-    ensures { IfOk result (λ report. output_of report ≡ verdict_output (Collides found.now)) }
+/// A record and its signature, a line each.
+pub fn push_signed(
+    alloc: Global,
+    out: &mut Vec<u8>,
+    rec: &Record,
+    signature: &[u8],
+) -> Result<(), AllocError>
+    ensures { OnOk result (out.new.items ≡ out.old.items ++ signed_lines rec.now signature.now) }
+{
+    push_words(alloc, out, &[Word::Hexadecimal(&record_bytes(rec))])?;
+    push_words(alloc, out, &[Word::Hexadecimal(signature)])
+}
+
+/// Two byte strings of one digest, a line each.
+pub fn collision_report(alloc: Global, found: &Collision) -> Result<Report, AllocError>
+    ensures { IfOk result (λ report. output_of report ≡ collision_output found.now) }
 {
     let mut bytes = Vec::new(alloc);
     push_words(alloc, &mut bytes, &[Word::Phrase("collision")])?;

@@ -36,6 +36,11 @@ audit_app = command_of (codes "audit")
     (word_rule (codes "key") ∷ word_rule (codes "journal") ∷ word_rule (codes "query")
     ∷ word_rule (codes "reply") ∷ [])
 
+abbrev pub meet_app : App
+meet_app = command_of (codes "meet")
+    (word_rule (codes "key") ∷ word_rule (codes "query") ∷ word_rule (codes "first")
+    ∷ word_rule (codes "second") ∷ [])
+
 -- a command line of which a command must be used
 abbrev pub empty_app : App
 empty_app = on_top (λ shape. record shape { subcommand_required = true }) (new_app (codes "vo_cli"))
@@ -53,7 +58,8 @@ with_store program = with_command program answer_app
 
 -- what clients and auditors do
 abbrev pub with_client : App → App
-with_client program = with_command (with_command program check_app) audit_app
+with_client program =
+    with_command (with_command (with_command program check_app) audit_app) meet_app
 
 abbrev pub program_app : App
 program_app = with_client (with_store (with_owner empty_app))

@@ -14,6 +14,7 @@ pub data PlainRequest : Type 0 where
   Answer : (key journal query : Text) → PlainRequest
   Check : (key query reply : Text) (least : ℕ) → PlainRequest
   Audit : (key journal query reply : Text) → PlainRequest
+  Meet : (key query first second : Text) → PlainRequest
 
 -- a height is 5 or 10, in digits
 abbrev pub height_number : Text → Option ℕ
@@ -58,13 +59,19 @@ audit_request rows =
     with_word (codes "query") rows (λ query. with_word (codes "reply") rows (λ reply.
     Some (Audit key journal query reply)))))
 
--- what a command about a query and its reply asks for
+abbrev pub meet_request : List Row → Option PlainRequest
+meet_request rows = with_word (codes "key") rows (λ key. with_word (codes "query") rows (λ query.
+    with_word (codes "first") rows (λ first. with_word (codes "second") rows (λ second.
+    Some (Meet key query first second)))))
+
+-- what a command about a query and its replies asks for
 abbrev pub reply_request : Text → List Row → Option PlainRequest
 reply_request name rows =
     if bytes_eq name (codes "answer") then answer_request rows
     else (if bytes_eq name (codes "check") then check_request rows
     else (if bytes_eq name (codes "audit") then audit_request rows
-    else None))
+    else (if bytes_eq name (codes "meet") then meet_request rows
+    else None)))
 
 -- what a command asks for, by its name and its words
 abbrev pub command_request : Text → List Row → Option PlainRequest

@@ -25,7 +25,7 @@ enum Argument<'a> {
 
 use Argument::{Named, Word};
 
-const FORMS: [Form<'static>; 5] = [
+const FORMS: [Form<'static>; 6] = [
     Form {
         name: "keygen",
         takes: &[Word("seed"), Named("height")],
@@ -45,6 +45,10 @@ const FORMS: [Form<'static>; 5] = [
     Form {
         name: "audit",
         takes: &[Word("key"), Word("journal"), Word("query"), Word("reply")],
+    },
+    Form {
+        name: "meet",
+        takes: &[Word("key"), Word("query"), Word("first"), Word("second")],
     },
 ];
 

@@ -1,7 +1,7 @@
 //! The words, read by the commands.
 ghost use Rattle.std.specs.Prelude.{◌≡◌, map, option_map, string_bytes, IfOk, IsTrue, ◌↔◌};
 ghost use Rattle.clap.specs.Words.{kind_of, found_of, rows_of, first_of, subcommand_rows_of};
-ghost use Rattle.vo_words.specs.PlainRequest.{request_in, used_request, keygen_request, seal_request, answer_request, check_request, audit_request, reply_request, given_height, given_least, height_number};
+ghost use Rattle.vo_words.specs.PlainRequest.{request_in, used_request, keygen_request, seal_request, answer_request, check_request, audit_request, meet_request, reply_request, given_height, given_least, height_number};
 ghost use Rattle.vo_words.specs.Height.{number_of};
 ghost use Rattle.vo_words.specs.Request.{plain_request};
 
@@ -49,7 +49,7 @@ fn used_request<'a>(matches: &ArgMatches<'a>) -> Option<Request<'a>>
     }
 }
 
-/// What a command about a query and its reply asks for.
+/// What a command about a query and its replies asks for.
 fn reply_request<'a>(name: &str, used: &ArgMatches<'a>) -> Option<Request<'a>>
     ensures { option_map plain_request result
         ≡ reply_request name.now (rows_of (found_of used.now)) }
@@ -60,6 +60,8 @@ fn reply_request<'a>(name: &str, used: &ArgMatches<'a>) -> Option<Request<'a>>
         check_request(used)
     } else if name == "audit" {
         audit_request(used)
+    } else if name == "meet" {
+        meet_request(used)
     } else {
         None
     }
@@ -126,6 +128,21 @@ fn audit_request<'a>(used: &ArgMatches<'a>) -> Option<Request<'a>>
         journal,
         query,
         reply,
+    })
+}
+
+fn meet_request<'a>(used: &ArgMatches<'a>) -> Option<Request<'a>>
+    ensures { option_map plain_request result ≡ meet_request (rows_of (found_of used.now)) }
+{
+    let key = text_of(used, "key")?;
+    let query = text_of(used, "query")?;
+    let first = text_of(used, "first")?;
+    let second = text_of(used, "second")?;
+    Some(Request::Meet {
+        key,
+        query,
+        first,
+        second,
     })
 }
 

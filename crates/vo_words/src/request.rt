@@ -51,4 +51,11 @@ pub enum Request<'a> {
         query: &'a str,
         reply: &'a str,
     },
+    /// Two replies to one query, in the order of the words.
+    Meet {
+        key: &'a str,
+        query: &'a str,
+        first: &'a str,
+        second: &'a str,
+    },
 }

@@ -1,5 +1,5 @@
 use Rattle.std.proofs.Common.{rules, ◌≡◌, ◌≢◌}
-use Rattle.reply_meeting.proofs.Telling.{same_catalogs, preimages_collide, catalogs_differ}
+use Rattle.reply_meeting.proofs.Telling.{same_catalogs, preimages_collide}
 use Rattle.reply_meeting.proofs.catalogs.compare_catalogs.Goals as goal
 
 pub returns-then-eq : goal.returns-then-eq

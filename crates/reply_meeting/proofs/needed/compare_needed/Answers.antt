@@ -1,4 +1,4 @@
-use Rattle.std.proofs.Common.{◌≡◌, ◌<◌, length, map, sym, subst, arith}
+use Rattle.std.proofs.Common.{◌<◌, length, map, sym, subst, arith}
 use Rattle.std.proofs.lemmas.List.{length-map}
 use Rattle.mb_tree.specs.View.{part_of}
 use Rattle.query_plan.specs.BoundViews.{query_seen}

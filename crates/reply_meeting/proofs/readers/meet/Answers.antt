@@ -1,26 +1,10 @@
-use Rattle.std.proofs.Common.{Err, ap, inr}
+use Rattle.std.proofs.Common.{inr}
 use Rattle.vo_spec.specs.Conditions.{query_of}
-use Rattle.vo_format.specs.View.{reply_of}
-use Rattle.reply_meeting.specs.declared.meeting.MeetFault.{MeetFault}
-use Rattle.reply_meeting.proofs.Accepted.{has_passed}
-use Rattle.reply_meeting.proofs.Meets.{first_told, second_told, meeting_told}
+use Rattle.reply_meeting.proofs.Meets.{fault_alone, meeting_alone}
 use Rattle.reply_meeting.proofs.readers.meet.Goals as goal
 
+pub returns-in-Ok : goal.returns-in-Ok
+returns-in-Ok c = inr (meeting_alone c.args.key.now (query_of c.args.query.now) c.args.first.now c.args.second.now c.in-Ok.met c.in-Ok.ensures)
+
 pub returns-in-Err : goal.returns-in-Err
-returns-in-Err c = first_told c.args.key.now (query_of c.args.query.now) c.args.first.now c.args.second.now c.in-Err.fault _ (ap (λ (f : MeetFault). Err f) c.first_fault.ensures) c.in-Err.ensures
-
-pub returns-in-Err-read_accepted : goal.returns-in-Err-read_accepted
-returns-in-Err-read_accepted c =
-    second_told c.args.key.now (query_of c.args.query.now) c.args.first.now c.args.second.now (reply_of c.in-Ok.reply) c.in-Ok.ensures c.in-Err-read_accepted.fault _
-    (ap (λ (f : MeetFault). Err f) c.second_fault.ensures) c.in-Err-read_accepted.ensures
-
-pub meeting_of-requires-clause-passed : goal.meeting_of-requires-clause-passed
-meeting_of-requires-clause-passed c = has_passed c.args.key.now (query_of c.args.query.now) (reply_of c.in-Ok.reply) c.in-Ok.ensures.passed
-
-pub meeting_of-requires-clause-second_passed : goal.meeting_of-requires-clause-second_passed
-meeting_of-requires-clause-second_passed c = has_passed c.args.key.now (query_of c.args.query.now) (reply_of c.in-Ok-read_accepted.reply) c.in-Ok-read_accepted.ensures.passed
-
-pub returns-in-Ok-meeting_of : goal.returns-in-Ok-meeting_of
-returns-in-Ok-meeting_of c =
-    inr (meeting_told c.args.key.now (query_of c.args.query.now) c.args.first.now c.args.second.now (reply_of c.in-Ok.reply) (reply_of c.in-Ok-read_accepted.reply) c.in-Ok.ensures c.in-Ok-read_accepted.ensures
-    c.in-Ok-meeting_of.meeting c.in-Ok-meeting_of.ensures)
+returns-in-Err c = fault_alone c.args.key.now (query_of c.args.query.now) c.args.first.now c.args.second.now c.in-Err.fault c.in-Err.ensures

@@ -1,0 +1,116 @@
+//! `meet`: two replies to one query against each other.
+ghost use Rattle.std.specs.Prelude.{◌≡◌, ◌≤◌, [], ◌∷◌, is_some, IfSome, IsErrOf};
+ghost use Rattle.outside.specs.Miss.{CountsMiss};
+ghost use Rattle.outside.specs.FaultRose.{FaultRose};
+ghost use Rattle.vo_spec.specs.Conditions.{query_of};
+ghost use Rattle.vo_commands.specs.Expected.{HoldsEach, meet_expected, with_file, reply_limit, Meets};
+ghost use Rattle.vo_commands.specs.Reports.{Answers};
+
+use crate::files::{take_file, take_key};
+use crate::limits::REPLY_LIMIT;
+use crate::meetings::meeting_report;
+use crate::reply_refusals::reply_refusal;
+use crate::report::{Report, Stop};
+use crate::texts::query_in;
+use lms_sign::PublicKey;
+use outside::Shelf;
+use reply_meeting::{MeetFault, meet_replies};
+use std::alloc::Global;
+use vo_spec::QueryText;
+
+/// What the two replies are to each other, or which of them is refused.
+pub fn meet<F: Shelf>(
+    alloc: Global,
+    files: &mut F,
+    key: &str,
+    query: &str,
+    first: &str,
+    second: &str,
+) -> Result<Report, Stop>
+    ensures known { IfSome (F.contents files.old)
+        (λ known. Answers (meet_expected key.now query.now first.now second.now known) result) }
+    ensures kept { F.contents files.new ≡ F.contents files.old }
+    ensures counts { F.faults files.old ≤ F.faults files.new }
+    ensures cause { IsErrOf result Stop.Outside
+        → FaultRose (F.faults files.old) (F.faults files.new) }
+    ensures misses { IfSome (F.contents files.old)
+        (λ known. HoldsEach known (key.now ∷ first.now ∷ second.now ∷ [])
+        → F.misses files.new ≡ F.misses files.old) }
+{
+    let key = take_key(alloc, files, key)?;
+    let query = query_in(alloc, query)?;
+    meet_files(alloc, files, &key, &query, first, second)
+}
+
+/// The same of the replies in two files.
+fn meet_files<F: Shelf>(
+    alloc: Global,
+    files: &mut F,
+    key: &PublicKey,
+    query: &QueryText,
+    first: &str,
+    second: &str,
+) -> Result<Report, Stop>
+    ensures known { IfSome (F.contents files.old)
+        (λ known. Answers (with_file known first.now reply_limit
+        (λ one. with_file known second.now reply_limit
+        (λ other. Meets key.now (query_of query.now) one other))) result) }
+    ensures kept { F.contents files.new ≡ F.contents files.old }
+    ensures counts { F.faults files.old ≤ F.faults files.new }
+    ensures cause { IsErrOf result Stop.Outside
+        → FaultRose (F.faults files.old) (F.faults files.new) }
+    ensures misses { IfSome (F.contents files.old)
+        (λ known. HoldsEach known (first.now ∷ second.now ∷ [])
+        → F.misses files.new ≡ F.misses files.old) }
+{
+    let first = take_file(alloc, files, first, REPLY_LIMIT)?;
+    meet_file(alloc, files, key, query, &first, second)
+}
+
+/// The same of a reply and one in a file.
+fn meet_file<F: Shelf>(
+    alloc: Global,
+    files: &mut F,
+    key: &PublicKey,
+    query: &QueryText,
+    first: &[u8],
+    second: &str,
+) -> Result<Report, Stop>
+    ensures known { IfSome (F.contents files.old)
+        (λ known. Answers (with_file known second.now reply_limit
+        (λ other. Meets key.now (query_of query.now) first.now other)) result) }
+    ensures kept { F.contents files.new ≡ F.contents files.old }
+    ensures counts { F.faults files.old ≤ F.faults files.new }
+    ensures cause { IsErrOf result Stop.Outside
+        → FaultRose (F.faults files.old) (F.faults files.new) }
+    ensures misses { IfSome (F.contents files.old)
+        (λ known. CountsMiss (is_some (known second.now)) (F.misses files.old)
+        (F.misses files.new)) }
+{
+    match take_file(alloc, files, second, REPLY_LIMIT) {
+        Ok(second) => meet_report(alloc, key, query, first, &second),
+        Err(stop) => Err(stop),
+    }
+}
+
+fn meet_report(
+    alloc: Global,
+    key: &PublicKey,
+    query: &QueryText,
+    first: &[u8],
+    second: &[u8],
+) -> Result<Report, Stop>
+    ensures known { Answers (Meets key.now (query_of query.now) first.now second.now) result }
+    ensures inside { IsErrOf result Stop.Outside → ⊥ }
+{
+    match meet_replies(alloc, key, query, first, second) {
+        Ok(met) => Ok(meeting_report(alloc, &met)?),
+        Err(MeetFault::First(fault)) => {
+            Err(Stop::Refused(reply_refusal(alloc, "refused first:", &fault)?))
+        }
+        Err(MeetFault::Second(fault)) => {
+            Err(Stop::Refused(reply_refusal(alloc, "refused second:", &fault)?))
+        }
+        Err(MeetFault::Memory) => Err(Stop::Memory),
+    }
+}
