@@ -55,7 +55,7 @@ returns-then-end-lt2-clause-holds g c =
 pub returns-then-end-lt2-clause-any_moment : goal.returns-then-end-lt2-clause-any_moment
 returns-then-end-lt2-clause-any_moment g c =
     let old = g.D.Disk.drive c.args.disk.now in
-    first_gate_leaves old (g.D.Disk.drive c.settle.new.disk) (g.D.Disk.drive c.close_first.new.disk) (g.D.Disk.sees c.args.disk.now) c.in_ok-end.ensures.ok
+    first_gate_leaves old (g.D.Disk.drive c.settle.new.disk) (g.D.Disk.drive c.close_first.new.disk) (g.met.D.Disk.sees c.args.disk.now) c.in_ok-end.ensures.ok
     (is_short old c.in_ok-end.end c.if-end-lt2.true c.in_ok-end.ensures.len) c.settle.ensures.any_moment c.close_first.ensures.any_moment
 
 -- A disk that is read.
