@@ -153,3 +153,12 @@ tears_down (Some old) None place piece same = absurd (cc)
 tears_down (Some old) (Some new) place piece same = λ down.
     subst (λ (d : DiskModel). LeavesOnly old d (Torn place (length piece) old.seen)) (known (sync_now (write_on place piece old)) new same)
     (down_leaves old place piece down)
+
+-- a write that went well, and wasn't put down
+pub tears_written : (old new : Option DiskModel) (place : ℕ) (piece : List ℕ) → new ≡ wrote place piece old → TearsOnly place (length piece) old new
+tears_written None None place piece same = tt
+tears_written None (Some new) place piece same = absurd (cc)
+tears_written (Some old) None place piece same = absurd (cc)
+tears_written (Some old) (Some new) place piece same = λ down.
+    subst (λ (d : DiskModel). LeavesOnly old d (Torn place (length piece) old.seen)) (known (write_on place piece old) new same)
+    (write_leaves old place (length piece) (overwritten place piece old.seen) down)
