@@ -12,7 +12,8 @@ abbrev pub Torn : ℕ → ℕ → List ℕ → List ℕ → Type 0
 Torn place count contents image =
     IsImage (record { contents = contents; ranges = (place, count) ∷ [] }) image
 
--- The later disk is the earlier one and some calls more, and a crash at any moment since leaves what has P.
+-- The later disk is the earlier one and some calls more, and a crash at any moment since leaves
+-- what has P.
 pub record LeavesOnly (before after : DiskModel) (P : List ℕ → Type 0) : Type 0 where
   pub first : after.first ≡ before.first
   pub more : (calls : List Call) × (after.calls ≡ before.calls ++ calls)

@@ -1,9 +1,5 @@
 -- How a call ended.
-use Rattle.std.proofs.Common.{◌⊎◌, inl, inr, Result, Ok, Err, OnOk, OnErr, IfOk, IfErr}
-
-pub ok_or_err : {A E : Type 0} (r : Result A E) (P Q : Type 0) → OnOk r P → OnErr r Q → P ⊎ Q
-ok_or_err (Ok value) P Q ok err = inl ok
-ok_or_err (Err fault) P Q ok err = inr err
+use Rattle.std.proofs.Common.{Result, Ok, Err, OnOk, OnErr, IfOk, IfErr}
 
 pub where_ok : {A E : Type 0} (r : Result A E) (P Q : Type 0) → (P → Q) → OnOk r P → OnOk r Q
 where_ok (Ok value) P Q step ok = step ok

@@ -67,15 +67,6 @@ same_leaves (Some old) (Some new) es e same = λ rest.
 
 -- Writing a slot: two pieces put down, one after the other.
 
-pub slot_begun : (old new : Option DiskModel) (gate : ℕ) (behind : List ℕ)
-    → IfKnown old new (λ before after. IsDown before → LeavesOnly before after (Torn (gate + 1) (length behind) before.seen))
-    → IfKnown old new (λ before after. IsDown before → LeavesOnly before after (WhileSlot gate behind before.seen))
-slot_begun None None gate behind leaves = tt
-slot_begun None (Some new) gate behind leaves = absurd leaves
-slot_begun (Some old) None gate behind leaves = absurd leaves
-slot_begun (Some old) (Some new) gate behind leaves = λ down.
-    weaker old new (Torn (gate + 1) (length behind) old.seen) (WhileSlot gate behind old.seen) (λ image torn. inl torn) (leaves down)
-
 slot_ends : (old mid new : DiskModel) (gate : ℕ) (behind : List ℕ) → mid ≡ sync_now (write_on (gate + 1) behind old)
     → LeavesOnly old mid (Torn (gate + 1) (length behind) old.seen) → (IsDown mid → LeavesOnly mid new (Torn gate 1 mid.seen))
     → LeavesOnly old new (WhileSlot gate behind old.seen)

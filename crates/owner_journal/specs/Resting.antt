@@ -10,7 +10,7 @@ use Rattle.owner_journal.specs.declared.fault.JournalFault.{JournalFault}
 use Rattle.owner_journal.specs.declared.fault.JournalFault.TheVariants.{Disk, Damaged, Memory}
 use Rattle.owner_journal.specs.Slots.{slot_down}
 
--- The disk has slots of these entries and a closed gate behind them, and all that reads give is down.
+-- The disk has slots of these entries and a closed gate behind them, and what reads give is down.
 pub record IsAtRest (es : List Entry) (drive : DiskModel) : Type 0 where
   pub down : IsDown drive
   pub fits : AllByRecursion FitsEntry es

@@ -2,8 +2,8 @@
 use std::alloc::AllocError;
 use thiserror::Error;
 
-/// The disk failed; the slot of this number, whose gate stands at this place, is damaged; or memory ran
-/// out.
+/// The disk failed; the slot of this number, whose gate stands at this place, is damaged; or memory
+/// ran out.
 #[derive(Clone, Copy, Debug, PartialEq, Eq, Error)]
 pub enum JournalFault {
     #[error("the disk failed")]

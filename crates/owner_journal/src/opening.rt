@@ -15,8 +15,8 @@ use outside::{Disk, Failed};
 use std::alloc::Global;
 
 impl Journal {
-    /// The journal on a disk; an empty disk is made one of no entries. What it finds is put down first,
-    /// so that no later crash leaves less.
+    /// The journal on a disk; an empty disk is made one of no entries. What it finds is put down
+    /// first, so that no later crash leaves less.
     pub fn open<D: Disk>(alloc: Global, disk: &mut D) -> Result<Journal, JournalFault>
         ensures works { IfOk result (λ journal. has_failed journal ≡ false) }
 

@@ -8,6 +8,7 @@ ghost use Rattle.owner_journal.specs.Slots.{slot_down, WhileSlot};
 use outside::{Disk, Failed};
 
 /// Writes a piece from a place on, and puts it down.
+#[tactic(auto, using(outside::proofs::MomentLaws::tears_down, outside::proofs::MomentLaws::tears_written))]
 pub fn write_down<D: Disk>(disk: &mut D, at: u64, piece: &[u8]) -> Result<(), Failed>
     requires { IfSome (D.room disk.old) (HasRoom (at + length piece.now) (length piece.now) 2) }
     ensures ok { OnOk result (D.drive disk.new ≡ written_down at piece.now (D.drive disk.old)) }
@@ -24,6 +25,7 @@ pub fn write_down<D: Disk>(disk: &mut D, at: u64, piece: &[u8]) -> Result<(), Fa
 }
 
 /// Writes what stands behind a closed gate and puts it down, and opens the gate then.
+#[tactic(auto, using(crate::proofs::RestLaws::slot_ended))]
 pub fn write_slot<D: Disk>(disk: &mut D, gate: u64, behind: &[u8]) -> Result<(), Failed>
     requires room { IfSome (D.room disk.old)
         (HasRoom (gate + 1 + length behind.now) (length behind.now + 1) 4) }
