@@ -31,7 +31,7 @@ pub fn slots(alloc: Global, strings: &[Vec<u8>]) -> Result<String, NoAnswer> {
 
 fn ending_text(alloc: Global, ending: Ending) -> Result<String, NoAnswer> {
     match ending {
-        Ending::Closed => Ok("Closed".to_string(alloc)?),
+        Ending::Closed { .. } => Ok("Closed".to_string(alloc)?),
         Ending::Damaged { at } => Ok(format!(in alloc; "(Damaged {at})")?),
     }
 }

@@ -13,16 +13,10 @@ pub record DiskModel : Type 0 where
   pub seen : List ℕ  -- what reads give
   pub first : List ℕ  -- what was down before the calls
   pub calls : List Call  -- oldest first
-  pub room : Room
 
--- these contents, put down, and no room
+-- these contents, put down
 abbrev pub fresh : List ℕ → DiskModel
-fresh contents = record {
-  seen = contents;
-  first = contents;
-  calls = [];
-  room = record { end = 0; bytes = 0; calls = 0 };
-}
+fresh contents = record { seen = contents; first = contents; calls = [] }
 
 -- how many bytes are wanting before a write past the end: zeros are read there
 abbrev pub gap : ℕ → List ℕ → List ℕ → ℕ
@@ -34,16 +28,11 @@ overwritten place piece seen =
     (take place seen ++ replicate (gap place piece seen) 0)
     ++ piece ++ drop (place + length piece) seen
 
--- the room that a call which writes so many bytes leaves
-abbrev pub less : ℕ → Room → Room
-less count room = record room { bytes = room.bytes - count; calls = room.calls - 1 }
-
 -- a write of count bytes was begun, and reads give these bytes now
 abbrev pub write_leaving : ℕ → ℕ → List ℕ → DiskModel → DiskModel
 write_leaving place count seen drive = record drive {
   seen = seen;
   calls = drive.calls ++ Wrote place count ∷ [];
-  room = less count drive.room;
 }
 
 abbrev pub write_on : ℕ → List ℕ → DiskModel → DiskModel
@@ -51,19 +40,7 @@ write_on place piece drive =
     write_leaving place (length piece) (overwritten place piece drive.seen) drive
 
 abbrev pub sync_now : DiskModel → DiskModel
-sync_now drive = record drive {
-  calls = drive.calls ++ Synced drive.seen ∷ [];
-  room = less 0 drive.room;
-}
-
--- room for contents up to end, and for so many calls that write so many bytes in all
-pub record HasRoom (end bytes calls : ℕ) (room : Room) : Type 0 where
-  pub to_end : end ≤ room.end
-  pub for_bytes : bytes ≤ room.bytes
-  pub for_calls : calls ≤ room.calls
-
-abbrev pub NoLess : Room → Room → Type 0
-NoLess before after = HasRoom before.end before.bytes before.calls after
+sync_now drive = record drive { calls = drive.calls ++ Synced drive.seen ∷ [] }
 
 -- the same, where the disk is known
 abbrev pub torn : ℕ → ℕ → List ℕ → Option DiskModel → Option DiskModel
@@ -75,8 +52,21 @@ wrote place piece drive = option_map (write_on place piece) drive
 abbrev pub put_down : Option DiskModel → Option DiskModel
 put_down drive = option_map sync_now drive
 
-abbrev pub with_room : Room → Option DiskModel → Option DiskModel
-with_room room drive = option_map (λ (drive : DiskModel). record drive { room = room }) drive
+-- room for contents up to end, and for so many calls that write so many bytes in all
+pub record HasRoom (end bytes calls : ℕ) (room : Room) : Type 0 where
+  pub to_end : end ≤ room.end
+  pub for_bytes : bytes ≤ room.bytes
+  pub for_calls : calls ≤ room.calls
+
+abbrev pub NoLess : Room → Room → Type 0
+NoLess before after = HasRoom before.end before.bytes before.calls after
+
+-- the room that a call which writes so many bytes leaves
+abbrev pub lessened : ℕ → Room → Room
+lessened count room = record room { bytes = room.bytes - count; calls = room.calls - 1 }
+
+abbrev pub room_after : ℕ → Option Room → Option Room
+room_after count room = option_map (lessened count) room
 
 -- what was down at the last sync, and the ranges written since, each as a place and a count
 pub record Down : Type 0 where

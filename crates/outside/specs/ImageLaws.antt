@@ -2,7 +2,6 @@
 use Rattle.std.proofs.Common.{◌∙◌, ◌≡◌, ℕ, ◌+◌, ◌<◌, ◌≤◌, ◌==◌, ◌&&◌, ◌||◌, not, ◌⊎◌, inl, inr, cond, Bool, true, false, List, [], ◌∷◌, length, take, drop, arith, refl, IsTrue, fold, nat_lt, nat_le}
 use Rattle.std.proofs.lemmas.List.{length-take, take_all}
 use Rattle.std.proofs.lemmas.Bool.Decides.{nat_tests}
-use Rattle.outside.specs.declared.room.Room.{Room}
 use Rattle.outside.specs.declared.mem_disk.done.Done.{Done}
 use Rattle.outside.specs.declared.mem_disk.done.Done.TheVariants.{Write, Sync}
 use Rattle.outside.specs.Done.{seen_next, call_of, seen_after, calls_after}
@@ -76,15 +75,14 @@ whole first = record {
 }
 
 -- what reads give after the calls that a disk in memory has kept, a crash may leave
-pub may_leave-seen : (first seen log : List ℕ) (done : List Done) (room : Room)
+pub may_leave-seen : (first seen log : List ℕ) (done : List Done)
     → seen ≡ seen_after log first done
     → MayLeave (record {
       seen = seen;
       first = first;
       calls = calls_after log first done;
-      room = room;
     }) seen
-may_leave-seen first seen log done room same =
+may_leave-seen first seen log done same =
     let calls : List Call = calls_after log first done in
     let all : take (length calls) calls ≡ calls = take_all (length calls) calls (omega arith) in
     rw all (rw same (image-after log first (record { contents = first; ranges = [] }) done

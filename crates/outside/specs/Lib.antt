@@ -4,6 +4,7 @@ pub mod FailAt
 pub mod Failure
 pub mod ImageLaws
 pub mod MemDisk
+pub mod Moments
 pub mod MemNet
 pub mod MemShelf
 pub mod MemSink

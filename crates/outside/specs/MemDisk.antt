@@ -1,6 +1,7 @@
 -- A disk that is kept in memory.
 use Rattle.outside.specs.Done.{calls_after}
 use Rattle.outside.specs.DiskModel.{DiskModel}
+use Rattle.outside.specs.declared.room.Room.{Room}
 use Rattle.outside.specs.declared.mem_disk.MemDisk.{MemDisk}
 
 abbrev pub drive_of : {P : Type 0} → MemDisk P → DiskModel
@@ -8,8 +9,10 @@ drive_of disk = record {
   seen = disk.seen.items;
   first = disk.first.items;
   calls = calls_after disk.log.items disk.first.items disk.done.items;
-  room = disk.room;
 }
+
+abbrev pub room_of : {P : Type 0} → MemDisk P → Room
+room_of disk = disk.room
 
 abbrev pub plan_of : {P : Type 0} → MemDisk P → P
 plan_of disk = disk.failures

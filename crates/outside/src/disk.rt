@@ -1,7 +1,7 @@
 //! A device that keeps one file through crashes.
 ghost use Rattle.std.specs.Prelude.{◌≡◌, ℕ, ◌+◌, ◌≤◌, List, length, take, drop, Option, IfSome, IfOk, OnOk, OnErr, IsErr};
 ghost use Rattle.outside.specs.declared.room.Room.{Room};
-ghost use Rattle.outside.specs.DiskModel.{DiskModel, HasRoom, NoLess, MayLeave, wrote, torn, put_down, with_room};
+ghost use Rattle.outside.specs.DiskModel.{DiskModel, HasRoom, NoLess, MayLeave, wrote, torn, put_down, room_after};
 ghost use Rattle.outside.specs.FaultRose.{FaultRose};
 
 use crate::faults::Failed;
@@ -12,6 +12,9 @@ pub trait Disk {
     /// The file, what was done to it and what a crash may leave, where that is known.
     ghost drive: { Self → Option DiskModel };
 
+    /// The room that is kept ready, where that is known.
+    ghost room: { Self → Option Room };
+
     /// How many calls have failed.
     ghost faults: { Self → ℕ };
 
@@ -19,6 +22,7 @@ pub trait Disk {
     fn len(&mut self) -> Result<u64, Failed>
         ensures len { IfOk result (λ n. IfSome (drive self.old) (λ drive. n ≡ length drive.seen)) }
         ensures kept { drive self.new ≡ drive self.old }
+        ensures room { room self.new ≡ room self.old }
         ensures counts { faults self.old ≤ faults self.new }
         ensures cause { IsErr result → FaultRose (faults self.old) (faults self.new) };
 
@@ -28,35 +32,36 @@ pub trait Disk {
         ensures read { OnOk result (IfSome (drive self.old)
             (λ drive. into.new ≡ take (length into.old) (drop at drive.seen))) }
         ensures kept { drive self.new ≡ drive self.old }
+        ensures room { room self.new ≡ room self.old }
         ensures counts { faults self.old ≤ faults self.new }
         ensures cause { IsErr result → FaultRose (faults self.old) (faults self.new) };
 
     /// Writes the piece from `at` on. After a fault reads may give any bytes in its range.
     fn write_at(&mut self, at: u64, piece: &[u8]) -> Result<(), Failed>
-        requires { IfSome (drive self.old)
-            (λ drive. HasRoom (at + length piece.now) (length piece.now) 1 drive.room) }
+        requires { IfSome (room self.old)
+            (HasRoom (at + length piece.now) (length piece.now) 1) }
         ensures ok { OnOk result (drive self.new ≡ wrote at piece.now (drive self.old)) }
         ensures err { OnErr result ((seen : List ℕ)
             × (drive self.new ≡ torn at (length piece.now) seen (drive self.old))) }
+        ensures room { room self.new ≡ room_after (length piece.now) (room self.old) }
         ensures counts { faults self.old ≤ faults self.new }
         ensures cause { IsErr result → FaultRose (faults self.old) (faults self.new) };
 
     /// Puts down what was written, so that a crash leaves what reads give.
     fn sync(&mut self) -> Result<(), Failed>
-        requires { IfSome (drive self.old) (λ drive. HasRoom 0 0 1 drive.room) }
+        requires { IfSome (room self.old) (HasRoom 0 0 1) }
         ensures ok { OnOk result (drive self.new ≡ put_down (drive self.old)) }
         ensures err { OnErr result (drive self.new ≡ drive self.old) }
+        ensures room { room self.new ≡ room_after 0 (room self.old) }
         ensures counts { faults self.old ≤ faults self.new }
         ensures cause { IsErr result → FaultRose (faults self.old) (faults self.new) };
 
     /// Makes room for contents up to `end`, and for `calls` calls of `len`, `read`, `write_at` and `sync`
     /// that write `bytes` bytes in all.
     fn reserve(&mut self, end: u64, bytes: u64, calls: u64) -> Result<(), AllocError>
-        ensures ok { OnOk result
-            (IfSome (drive self.new) (λ drive. HasRoom end bytes calls drive.room)) }
-        ensures only { (room : Room) × (drive self.new ≡ with_room room (drive self.old)) }
-        ensures no_less { IfSome (drive self.old)
-            (λ old. IfSome (drive self.new) (λ new. NoLess old.room new.room)) }
+        ensures ok { OnOk result (IfSome (room self.new) (HasRoom end bytes calls)) }
+        ensures kept { drive self.new ≡ drive self.old }
+        ensures no_less { IfSome (room self.old) (λ old. IfSome (room self.new) (NoLess old)) }
         ensures faults { faults self.new ≡ faults self.old };
 
     /// What reads give, a crash may leave.

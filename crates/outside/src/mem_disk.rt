@@ -1,9 +1,9 @@
 //! A disk that is kept in memory, with what was done to it.
-ghost use Rattle.std.specs.Prelude.{◌≡◌, ℕ, ◌+◌, ◌≤◌, ◌↔◌, List, Some, length, take, drop, vec_len, vec_capacity, IsSome, IsTrue, IfOk, OnOk, OnErr, IsErr};
+ghost use Rattle.std.specs.Prelude.{◌≡◌, ℕ, ◌+◌, ◌-◌, ◌≤◌, ◌↔◌, List, Some, length, take, drop, vec_len, vec_capacity, IsSome, IsTrue, IfOk, OnOk, OnErr, IsErr};
 ghost use Rattle.std.specs.List.{list_all};
 ghost use Rattle.outside.specs.declared.room.Room.{Room};
 ghost use Rattle.outside.specs.Done.{seen_after, is_within};
-ghost use Rattle.outside.specs.DiskModel.{HasRoom, NoLess, fresh, now, overwritten, write_on, write_leaving, sync_now};
+ghost use Rattle.outside.specs.DiskModel.{HasRoom, NoLess, fresh, now, overwritten, write_on, write_leaving, sync_now, lessened};
 ghost use Rattle.outside.specs.Failure.{front_of};
 ghost use Rattle.outside.specs.FaultRose.{FaultRose};
 
@@ -37,7 +37,7 @@ pub struct MemDisk<P> {
 }
 
 impl<P: Failures> MemDisk<P> {
-    ghost use Rattle.outside.specs.MemDisk.{drive_of, plan_of};
+    ghost use Rattle.outside.specs.MemDisk.{drive_of, room_of, plan_of};
 
     /// These contents, put down.
     pub fn new(alloc: Global, contents: Vec<u8>, failures: P) -> Result<Self, AllocError>
@@ -77,10 +77,11 @@ impl<P: Failures> MemDisk<P> {
     #[tactic(auto, using(crate::proofs::Logged::seen_write, crate::proofs::Logged::calls_write, crate::proofs::Logged::within_write))]
     fn write_front(&mut self, at: u64, front: &[u8], lost: usize)
         requires { HasRoom (at + (length front.now + lost)) (length front.now + lost) 1
-            (drive_of self.old).room }
+            (room_of self.old) }
         ensures drive { drive_of self.new
             ≡ write_leaving at (length front.now + lost)
             (overwritten at front.now (drive_of self.old).seen) (drive_of self.old) }
+        ensures room { room_of self.new ≡ lessened (length front.now + lost) (room_of self.old) }
         ensures plan { plan_of self.new ≡ plan_of self.old }
     {
         overwrite(&mut self.seen, at as usize, front);
@@ -99,19 +100,22 @@ impl<P: Failures> MemDisk<P> {
 }
 
 impl<P: Failures> Disk for MemDisk<P> {
-    ghost use Rattle.outside.specs.MemDisk.{drive_of, plan_of};
+    ghost use Rattle.outside.specs.MemDisk.{drive_of, room_of, plan_of};
     ghost use Rattle.outside.specs.ImageLaws.{may_leave-seen};
 
     ghost drive = { λ disk. Some (drive_of disk) };
 
+    ghost room = { λ disk. Some (room_of disk) };
+
     ghost faults = { λ disk. P.count (plan_of disk) };
 
     ghost sees = { λ disk. may_leave-seen disk.first.items disk.seen.items disk.log.items
-        disk.done.items disk.room disk.kept };
+        disk.done.items disk.kept };
 
     fn len(&mut self) -> Result<u64, Failed>
         ensures len { IfOk result (λ n. n ≡ length (drive_of self.old).seen) }
         ensures kept { drive_of self.new ≡ drive_of self.old }
+        ensures room { room_of self.new ≡ room_of self.old }
         ensures counts { P.count (plan_of self.old) ≤ P.count (plan_of self.new) }
         ensures cause { IsErr result
             → FaultRose (P.count (plan_of self.old)) (P.count (plan_of self.new)) }
@@ -130,6 +134,7 @@ impl<P: Failures> Disk for MemDisk<P> {
         ensures read { OnOk result
             (into.new ≡ take (length into.old) (drop at (drive_of self.old).seen)) }
         ensures kept { drive_of self.new ≡ drive_of self.old }
+        ensures room { room_of self.new ≡ room_of self.old }
         ensures counts { P.count (plan_of self.old) ≤ P.count (plan_of self.new) }
         ensures cause { IsErr result
             → FaultRose (P.count (plan_of self.old)) (P.count (plan_of self.new)) }
@@ -146,10 +151,11 @@ impl<P: Failures> Disk for MemDisk<P> {
     }
 
     fn write_at(&mut self, at: u64, piece: &[u8]) -> Result<(), Failed>
-        requires { HasRoom (at + length piece.now) (length piece.now) 1 (drive_of self.old).room }
+        requires { HasRoom (at + length piece.now) (length piece.now) 1 (room_of self.old) }
         ensures ok { OnOk result (drive_of self.new ≡ write_on at piece.now (drive_of self.old)) }
         ensures err { OnErr result ((seen : List ℕ)
             × (drive_of self.new ≡ write_leaving at (length piece.now) seen (drive_of self.old))) }
+        ensures room { room_of self.new ≡ lessened (length piece.now) (room_of self.old) }
         ensures counts { P.count (plan_of self.old) ≤ P.count (plan_of self.new) }
         ensures cause { IsErr result
             → FaultRose (P.count (plan_of self.old)) (P.count (plan_of self.new)) }
@@ -176,9 +182,10 @@ impl<P: Failures> Disk for MemDisk<P> {
 
     #[tactic(auto, using(crate::proofs::Logged::calls_push))]
     fn sync(&mut self) -> Result<(), Failed>
-        requires { HasRoom 0 0 1 (drive_of self.old).room }
+        requires { HasRoom 0 0 1 (room_of self.old) }
         ensures ok { OnOk result (drive_of self.new ≡ sync_now (drive_of self.old)) }
         ensures err { OnErr result (drive_of self.new ≡ drive_of self.old) }
+        ensures room { room_of self.new ≡ lessened 0 (room_of self.old) }
         ensures counts { P.count (plan_of self.old) ≤ P.count (plan_of self.new) }
         ensures cause { IsErr result
             → FaultRose (P.count (plan_of self.old)) (P.count (plan_of self.new)) }
@@ -186,19 +193,18 @@ impl<P: Failures> Disk for MemDisk<P> {
         ensures due { IsErr result ↔ IsSome (P.due (plan_of self.old)) }
         ensures plan { plan_of self.new ≡ P.after (plan_of self.old) }
     {
+        self.room.calls -= 1;
         if self.failures.next_call().is_some() {
             return Err(Failed);
         }
         self.done.push(Done::Sync).unwrap();
-        self.room.calls -= 1;
         Ok(())
     }
 
     fn reserve(&mut self, end: u64, bytes: u64, calls: u64) -> Result<(), AllocError>
-        ensures ok { OnOk result (HasRoom end bytes calls (drive_of self.new).room) }
-        ensures only { drive_of self.new
-            ≡ record (drive_of self.old) { room = (drive_of self.new).room } }
-        ensures no_less { NoLess (drive_of self.old).room (drive_of self.new).room }
+        ensures ok { OnOk result (HasRoom end bytes calls (room_of self.new)) }
+        ensures kept { drive_of self.new ≡ drive_of self.old }
+        ensures no_less { NoLess (room_of self.old) (room_of self.new) }
         ensures plan { plan_of self.new ≡ plan_of self.old }
     {
         let longer = end.saturating_sub(self.seen.len() as u64);

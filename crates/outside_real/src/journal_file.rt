@@ -57,6 +57,8 @@ fn open_file<'f, R: Files<File = File>>(
 impl<R: Files<File = File>> Disk for JournalFile<'_, R> {
     ghost drive = { λ _. None };
 
+    ghost room = { λ _. None };
+
     ghost faults = { λ file. file.faults };
 
     ghost sees = { λ _. tt };

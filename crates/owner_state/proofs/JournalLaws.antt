@@ -155,5 +155,5 @@ pub front_long : (bytes : List ℕ) (es : List Entry) (rest : List ℕ) → byte
 front_long bytes es rest e = ap length e ∙ length-append (flat_map slot es) rest
 
 pub ends_so : (bytes : List ℕ) (es : List Entry) (rest : List ℕ) (end : Ending) → StopsAt bytes es rest → EndsAt bytes rest end → EndsSo bytes es end
-ends_so bytes es rest Closed s end = is_journal bytes es rest s end
+ends_so bytes es rest (Closed at) s end = (is_journal bytes es rest s end.0, omega (arith, end.1, front_long bytes es rest s.1))
 ends_so bytes es rest (Damaged at) s end = (is_damaged bytes es rest s end.0, omega (arith, end.1, front_long bytes es rest s.1))

@@ -71,9 +71,9 @@ fails_behind Are bytes es s are broken = (
 )
 
 pub whole : (Are : List Entry → Type 0) (bytes : List ℕ) (es : List Entry) (ending : Ending) → EndsSo bytes es ending → IsWhole es ending → Are es → IsJournalOf Are bytes es
-whole Are bytes es Closed ends is are = (ends, are, is)
+whole Are bytes es (Closed at) ends is are = (ends.0, are, is)
 whole Are bytes es (Damaged at) ends is are = absurd is
 
 pub not_whole : (Are : List Entry → Type 0) (bytes : List ℕ) (es : List Entry) (ending : Ending) → EndsSo bytes es ending → (IsWhole es ending → ⊥) → IsJournalOf Are bytes es → ⊥
-not_whole Are bytes es Closed ends broken j = broken j.2
+not_whole Are bytes es (Closed at) ends broken j = broken j.2
 not_whole Are bytes es (Damaged at) ends broken j = ends.0.1 es j.0

@@ -24,12 +24,12 @@ behind es = length (flat_map slot es)
 
 -- what such bytes tell of the end
 abbrev pub EndsAt : List ℕ → List ℕ → Ending → Type 0
-EndsAt bytes rest Closed = EndsClosed bytes rest
+EndsAt bytes rest (Closed at) = EndsClosed bytes rest × (at ≡ length bytes - length rest)
 EndsAt bytes rest (Damaged at) = (EndsClosed bytes rest → ⊥) × (at ≡ length bytes - length rest)
 
--- The bytes are a journal of these entries, or damaged behind them at this place.
+-- The bytes are a journal of these entries whose closed gate stands at this place, or damaged there.
 abbrev pub EndsSo : List ℕ → List Entry → Ending → Type 0
-EndsSo bytes es Closed = IsJournal bytes es
+EndsSo bytes es (Closed at) = IsJournal bytes es × (at ≡ behind es)
 EndsSo bytes es (Damaged at) = IsDamaged bytes es × (at ≡ behind es)
 
 -- The fault says where the bytes are damaged: behind how many entries, and at which place.

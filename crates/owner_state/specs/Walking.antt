@@ -18,5 +18,5 @@ pub record StopsAt (Are : List Entry → Type 0) (es : List Entry) (index : ℕ)
 
 -- entries, and a closed gate behind them
 abbrev pub IsWhole : List Entry → Ending → Type 0
-IsWhole es Closed = 0 < length es
+IsWhole es (Closed at) = 0 < length es
 IsWhole es (Damaged at) = ⊥

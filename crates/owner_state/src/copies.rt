@@ -1,9 +1,9 @@
-//! Copies of batches.
+//! Copies of batches and entries.
 ghost use Rattle.std.specs.Prelude.{◌≡◌, IfOk};
 
 use std::alloc::{AllocError, Global};
 use table_list::copy_columns;
-use vo_spec::{Batch, Command, List, Name, SetPart, Value, copy_values};
+use vo_spec::{Batch, Command, Entry, List, Name, SetPart, Value, copy_values};
 
 fn copy_set(alloc: Global, set: &SetPart) -> Result<SetPart, AllocError>
     ensures { IfOk result (λ copy. copy ≡ set.now) }
@@ -85,5 +85,20 @@ pub(crate) fn copy_batch(alloc: Global, batch: &Batch) -> Result<Batch, AllocErr
     }
     Ok(Batch {
         commands: List::from_vec(copy),
+    })
+}
+
+/// A copy of an entry.
+pub fn copy_entry(alloc: Global, entry: &Entry) -> Result<Entry, AllocError>
+    ensures { IfOk result (λ copy. copy ≡ entry.now) }
+{
+    let batch = copy_batch(alloc, &entry.batch)?;
+    let proofs = Vec::from_slice(alloc, entry.proofs.as_slice())?;
+    let signature = Vec::from_slice(alloc, entry.signature.as_slice())?;
+    Ok(Entry {
+        batch,
+        proofs: List::from_vec(proofs),
+        rec: entry.rec,
+        signature: List::from_vec(signature),
     })
 }

@@ -43,7 +43,7 @@ pub fn read_entries(alloc: Global, bytes: &[u8]) -> Result<List<Entry>, EntriesF
 {
     let slots = read_slots(alloc, bytes)?;
     match slots.ending {
-        Ending::Closed => Ok(slots.entries),
+        Ending::Closed { .. } => Ok(slots.entries),
         Ending::Damaged { at } => Err(EntriesFault::Damaged {
             index: slots.entries.len() as u64,
             at,

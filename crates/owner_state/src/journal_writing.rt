@@ -1,7 +1,8 @@
 //! Writing journals.
 ghost use Rattle.std.specs.Prelude.{◌≡◌, ◌++◌, flat_map, IfOk, OnOk};
 ghost use Rattle.std.specs.List.{AllByRecursion};
-ghost use Rattle.vo_spec.specs.Journals.{FitsEntry, slot, journal_bytes};
+ghost use Rattle.vo_spec.specs.Bytes.{block};
+ghost use Rattle.vo_spec.specs.Journals.{FitsEntry, entry_bytes, slot, journal_bytes};
 
 use crate::entry_writing::{entry_length, put_entry};
 use batch_format::batch_bytes;
@@ -13,8 +14,16 @@ pub fn put_slot(alloc: Global, out: &mut Vec<u8>, entry: &Entry) -> Result<(), A
     requires { FitsEntry entry.now }
     ensures { OnOk result (out.new.items ≡ out.old.items ++ slot entry.now) }
 {
-    let batch = batch_bytes(alloc, &entry.batch)?;
     out.push(1)?;
+    put_entry_block(alloc, out, entry)
+}
+
+/// Puts an entry behind its length at the end: a slot without its gate.
+pub fn put_entry_block(alloc: Global, out: &mut Vec<u8>, entry: &Entry) -> Result<(), AllocError>
+    requires { FitsEntry entry.now }
+    ensures { OnOk result (out.new.items ≡ out.old.items ++ block (entry_bytes entry.now)) }
+{
+    let batch = batch_bytes(alloc, &entry.batch)?;
     out.extend_from_slice(&u32_bytes(entry_length(&batch, entry)))?;
     put_entry(out, &batch, entry)
 }

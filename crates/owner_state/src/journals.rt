@@ -116,7 +116,7 @@ fn is_whole(slots: &Slots) -> bool
     ensures { IsTrue result ↔ IsWhole slots.now.entries slots.now.ending }
 {
     match slots.ending {
-        Ending::Closed => !slots.entries.is_empty(),
+        Ending::Closed { .. } => !slots.entries.is_empty(),
         Ending::Damaged { .. } => false,
     }
 }

@@ -11,11 +11,11 @@ use row_bytes::{Cursor, ReadFault};
 use std::alloc::{AllocError, Global};
 use vo_spec::{Entry, List};
 
-/// How a journal ends: with a closed gate, or damaged, the gate of the first slot that is damaged standing
-/// at this place.
+/// How a journal ends: with a closed gate, or damaged. The gate that is closed, or that of the first slot
+/// that is damaged, stands at this place.
 #[derive(Clone, Copy, PartialEq, Eq, Debug)]
 pub enum Ending {
-    Closed,
+    Closed { at: u64 },
     Damaged { at: u64 },
 }
 
@@ -83,12 +83,11 @@ fn ending_at(bytes: &[u8], rest: &[u8]) -> Ending
     requires { length rest.now ≤ length bytes.now }
     ensures { EndsAt bytes.now rest.now result }
 {
+    let at = (bytes.len() - rest.len()) as u64;
     if ends_closed(bytes, rest) {
-        Ending::Closed
+        Ending::Closed { at }
     } else {
-        Ending::Damaged {
-            at: (bytes.len() - rest.len()) as u64,
-        }
+        Ending::Damaged { at }
     }
 }
 

@@ -1,0 +1,6 @@
+pub mod Cases
+pub mod ByteRuns
+pub mod Sizes
+pub mod SlotImages
+pub mod RestLaws
+pub mod OpenLaws

@@ -1,0 +1,71 @@
+//! Reading the entries of a journal from its disk.
+ghost use Rattle.std.specs.Prelude.{◌≡◌, ◌≤◌, ℕ, false, length, IfOk, IfErr, IfSome, OnOk, IsErrOf};
+ghost use Rattle.outside.specs.FaultRose.{FaultRose};
+ghost use Rattle.vo_spec.specs.Journals.{IsJournal};
+ghost use Rattle.owner_journal.specs.Resting.{IsFaultOf, IsNoDamage};
+ghost use Rattle.owner_journal.specs.Entries.{entries_of, has_failed};
+
+use crate::fault::JournalFault;
+use crate::journal::Journal;
+use outside::{Disk, Failed};
+use owner_state::{Ending, read_slots};
+use std::alloc::Global;
+
+/// The journal that a disk of so many bytes holds.
+pub(crate) fn read_journal<D: Disk>(
+    alloc: Global,
+    disk: &mut D,
+    end: u64,
+) -> Result<Journal, JournalFault>
+    requires { IfSome (D.drive disk.old) (λ drive. end ≡ length drive.seen) }
+    ensures found { IfOk result (λ journal. IfSome (D.drive disk.old)
+        (λ drive. IsJournal drive.seen (entries_of journal))) }
+    ensures works { IfOk result (λ journal. has_failed journal ≡ false) }
+    ensures damaged { IfErr result (λ fault. IfSome (D.drive disk.old)
+        (λ drive. IsFaultOf drive.seen fault)) }
+    ensures kept { D.drive disk.new ≡ D.drive disk.old }
+    ensures counts { D.faults disk.old ≤ D.faults disk.new }
+    ensures cause { IsErrOf result JournalFault.Disk
+        → FaultRose (D.faults disk.old) (D.faults disk.new) }
+{
+    let bytes = read_whole(alloc, disk, end)?;
+    journal_of(alloc, &bytes)
+}
+
+fn read_whole<D: Disk>(alloc: Global, disk: &mut D, end: u64) -> Result<Vec<u8>, JournalFault>
+    requires { IfSome (D.drive disk.old) (λ drive. end ≡ length drive.seen) }
+    ensures read { IfOk result (λ bytes. IfSome (D.drive disk.old)
+        (λ drive. bytes.items ≡ drive.seen)) }
+    ensures kept { D.drive disk.new ≡ D.drive disk.old }
+    ensures fault { IfErr result IsNoDamage }
+    ensures counts { D.faults disk.old ≤ D.faults disk.new }
+    ensures cause { IsErrOf result JournalFault.Disk
+        → FaultRose (D.faults disk.old) (D.faults disk.new) }
+{
+    let mut bytes = Vec::new(alloc);
+    bytes.resize(end as usize, 0)?;
+    match disk.read(0, &mut bytes) {
+        Ok(()) => Ok(bytes),
+        Err(Failed) => Err(JournalFault::Disk),
+    }
+}
+
+fn journal_of(alloc: Global, bytes: &[u8]) -> Result<Journal, JournalFault>
+    ensures found { IfOk result (λ journal. IsJournal bytes.now (entries_of journal)) }
+    ensures works { IfOk result (λ journal. has_failed journal ≡ false) }
+    ensures damaged { IfErr result (IsFaultOf bytes.now) }
+    ensures no_disk { IsErrOf result JournalFault.Disk → ⊥ }
+{
+    let slots = read_slots(alloc, bytes)?;
+    match slots.ending {
+        Ending::Closed { at } => Ok(Journal {
+            entries: slots.entries.into_vec(),
+            gate: at,
+            failed: false,
+        }),
+        Ending::Damaged { at } => Err(JournalFault::Damaged {
+            index: slots.entries.len() as u64,
+            at,
+        }),
+    }
+}
