@@ -1,2 +1,6 @@
 mod ProofLaws
+mod SignatureLaws
+mod InstallLaws
+mod HonestLaws
+mod LoadLaws
 mod ReplyLaws
