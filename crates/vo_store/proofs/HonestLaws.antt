@@ -1,5 +1,6 @@
 -- What every store keeps, call by call.
 use Rattle.std.proofs.Common.{◌≡◌, ℕ, ◌+◌, ◌<◌, ◌≤◌, ◌^◌, List, [], ◌∷◌, ◌++◌, Option, Some, None, Result, Ok, Err, length, refl, sym, ap, subst, ◌∙◌, arith}
+use Rattle.std.specs.Prelude.{IsSome}
 use Rattle.std.specs.Result.{result_unwrap_or}
 use Rattle.std.specs.List.{AllByRecursion}
 use Rattle.std.proofs.lemmas.List.{length-append}
@@ -19,9 +20,9 @@ use Rattle.vo_store.proofs.SignatureLaws.{signed_short, version_below}
 
 -- Stores that have installed nothing.
 
-pub new_honest : (key : List ℕ) → IsHonestStore (new_store key)
+pub new_honest : (key : List ℕ) → IsHonestAfter [] (new_store key)
 unfolding honest_trees
-new_honest key = ([], record { fit = tt; tables = refl; installed = refl; pending = refl })
+new_honest key = record { fit = tt; tables = refl; installed = refl; pending = refl }
 
 pub trees_honest : (s : StoreState) → IsHonestStore s → AreHonest s.tables
 trees_honest s h = (h.0, h.1.fit, h.1.tables)
@@ -54,16 +55,11 @@ follow_batch batches batch tables after e w =
 -- A version that is proposed keeps what is installed.
 
 module _ (s : StoreState) (batches : List (List Command)) (h : IsHonestAfter batches s) where
-  -- something is installed
-  abbrev IsThere : Option SignedRecord → Type 0
-  IsThere None = ⊥
-  IsThere (Some installed) = Unit {0}
-
-  pub proposed_honest : IsThere s.installed → (after : List Stored) → FollowBy s.tables after → IsHonestAfter batches (with_pending after s)
+  pub proposed_honest : IsSome s.installed → (after : List Stored) → FollowBy s.tables after → IsHonestAfter batches (with_pending after s)
   proposed_honest there after follow = record { fit = h.fit; tables = h.tables; installed = h.installed; pending = pending s.installed there }
     where
-      pending : (o : Option SignedRecord) → IsThere o → IsPending o s.tables (Some after)
-      pending None t = absurd t
+      pending : (o : Option SignedRecord) → IsSome o → IsPending o s.tables (Some after)
+      pending None t = absurd (cc)
       pending (Some installed) t = follow
 
   -- The batches behind an install: none where version 0 is installed, and else one more.
@@ -72,7 +68,7 @@ module _ (s : StoreState) (batches : List (List Command)) (h : IsHonestAfter bat
   Behind after installed = (later : List (List Command)) × IsHonestAfter later (with_installed installed after s)
 
   module _ (installed : SignedRecord) (after : List Stored) (signed : IsSigned s.key installed.rec installed.signature) where
-    at_first : s.installed ≡ None → s.pending ≡ Some after → installed.rec ≡ honest_record s.key (next_version s.installed) after → Behind after installed
+    pub at_first : s.installed ≡ None → s.pending ≡ Some after → installed.rec ≡ honest_record s.key (next_version s.installed) after → Behind after installed
     unfolding honest_trees
     at_first none pending due =
         let started : IsPending None s.tables s.pending = subst (λ o. IsPending o s.tables s.pending) none h.pending in

@@ -2,5 +2,6 @@ mod ProofLaws
 mod SignatureLaws
 mod InstallLaws
 mod HonestLaws
+mod TableLaws
 mod LoadLaws
 mod ReplyLaws

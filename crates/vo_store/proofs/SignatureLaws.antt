@@ -53,6 +53,10 @@ valid_bounds key message signature e = step (key_lms key) (key_ots key) refl ref
     step None (Some ots) l o v = absurd (cc)
     step None None l o v = absurd (cc)
 
+pub key_long : (key message signature : List ℕ) → lms_valid key message signature ≡ true → length key ≡ 56
+unfolding lms_valid
+key_long key message signature e = eqb-true (length key) 56 (and_parts _ _ e).0
+
 module _ (key : List ℕ) (rec : Record) (signature : List ℕ) (signed : IsSigned key rec signature) where
   bounds : HasBounds signature
   bounds = valid_bounds key (record_bytes rec) signature signed.valid

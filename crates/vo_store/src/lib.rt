@@ -4,6 +4,7 @@
 mod answering;
 mod fault;
 mod installing;
+pub mod laws;
 mod loading;
 mod proposing;
 mod proving;
