@@ -52,7 +52,7 @@ pub record IsLeft (index : ℕ) (left all : List Command) (stored before : List 
 
 -- what a command adds to what is written
 pub record IsPut (c : Command) (stored : List Stored) (bytes more : List ℕ) (count next : ℕ) : Type 0 where
-  pub bytes : more ≡ bytes ++ flat_map tree_bytes (allowed_proof c stored)
+  pub bytes_are : more ≡ bytes ++ flat_map tree_bytes (allowed_proof c stored)
   pub counted : next ≡ count + length (allowed_proof c stored)
   pub few : next ≤ count + 1
 
@@ -67,7 +67,7 @@ module _ (index : ℕ) (c : Command) (cs all : List Command) (stored before : Li
       let on : honest_proofs (c ∷ cs) stored ≡ here ++ rest = proofs_on c cs stored after w in
       record {
         answer = ap (λ r. and_then (work_from (index + 1) cs) (numbered_work index r)) (sym w) ∙ l.answer;
-        ends = ap (λ (t : List ℕ). t ++ flat_map tree_bytes rest) p.bytes ∙ append_assoc bytes (flat_map tree_bytes here) (flat_map tree_bytes rest)
+        ends = ap (λ (t : List ℕ). t ++ flat_map tree_bytes rest) p.bytes_are ∙ append_assoc bytes (flat_map tree_bytes here) (flat_map tree_bytes rest)
             ∙ ap (λ (t : List ℕ). bytes ++ t) (sym (flat_map-append tree_bytes here rest) ∙ ap (flat_map tree_bytes) (sym on)) ∙ l.ends;
         counted = omega (arith, p.counted, length-append here rest, ap length on, l.counted);
         few = omega (arith, p.few, l.few);
@@ -76,7 +76,7 @@ module _ (index : ℕ) (c : Command) (cs all : List Command) (stored before : Li
 
   -- where the command is refused, all of the batch's trees are written
   pub all_put : (fault : CommandFault) → work c stored ≡ Err fault → more ≡ begun ++ flat_map tree_bytes (honest_proofs all before)
-  all_put fault w = p.bytes ∙ ap (λ ts. bytes ++ flat_map tree_bytes ts) (sym (proofs_up_to c cs stored fault w)) ∙ l.ends
+  all_put fault w = p.bytes_are ∙ ap (λ ts. bytes ++ flat_map tree_bytes ts) (sym (proofs_up_to c cs stored fault w)) ∙ l.ends
 
   pub all_counted : (fault : CommandFault) → work c stored ≡ Err fault → next ≡ length (honest_proofs all before)
   all_counted fault w = p.counted ∙ ap (λ (ts : List RowTree). count + length ts) (sym (proofs_up_to c cs stored fault w)) ∙ l.counted
