@@ -68,17 +68,17 @@ module _ (s : StoreState) (batches : List (List Command)) (h : IsHonestAfter bat
   Behind after installed = (later : List (List Command)) × IsHonestAfter later (with_installed installed after s)
 
   module _ (installed : SignedRecord) (after : List Stored) (signed : IsSigned s.key installed.rec installed.signature) where
-    pub at_first : s.installed ≡ None → s.pending ≡ Some after → installed.rec ≡ honest_record s.key (next_version s.installed) after → Behind after installed
+    pub at_first : s.installed ≡ None → s.pending ≡ Some after → installed.rec ≡ honest_record s.key (next_version s.installed) after → IsHonestAfter [] (with_installed installed after s)
     unfolding honest_trees
     at_first none pending due =
         let started : IsPending None s.tables s.pending = subst (λ o. IsPending o s.tables s.pending) none h.pending in
         let nothing : after ≡ [] = let both : Some after ≡ Some [] = sym pending ∙ started in cc in
-        ([], record {
+        record {
           fit = tt;
           tables = nothing;
           installed = record { record_is = due ∙ ap (λ o. honest_record s.key (next_version o) after) none ∙ ap (honest_record s.key 0) nothing; signed = signed };
           pending = tt;
-        })
+        }
 
     pub one_more : (before : SignedRecord) (batch : List Command) → s.installed ≡ Some before → FitsBatch batch → work_all batch s.tables ≡ Ok after
         → installed.rec ≡ honest_record s.key (next_version s.installed) after → IsHonestAfter (batches ++ batch ∷ []) (with_installed installed after s)
@@ -102,7 +102,7 @@ module _ (s : StoreState) (batches : List (List Command)) (h : IsHonestAfter bat
     behind pending due = step s.installed refl
       where
         step : (o : Option SignedRecord) → s.installed ≡ o → Behind after installed
-        step None is = at_first is pending due
+        step None is = ([], at_first is pending due)
         step (Some before) is =
             let follow : FollowBy s.tables after = subst (IsPending (Some before) s.tables) pending (subst (λ o. IsPending o s.tables s.pending) is h.pending) in
             (batches ++ follow.0 ∷ [], one_more before follow.0 is follow.1 follow.2 due)

@@ -18,8 +18,11 @@ use Rattle.vo_store.specs.Calls.{same_record, is_signed, signed_record, install_
 
 -- a test that doesn't hold is false
 fails : (b : Bool) → (b ≡ true → ⊥) → b ≡ false
-fails true no = absurd (no refl)
-fails false no = refl
+fails true other = absurd (other refl)
+fails false other = refl
+
+abbrev record_with : List ℕ → ℕ → List ℕ → Record
+record_with id version catalog = record { id = id; version = version; catalog = catalog }
 
 same_parts : (a b : Record) → same_record a b ≡ true → a ≡ b
 same_parts a b e =
@@ -28,7 +31,7 @@ same_parts a b e =
     let id : a.id ≡ b.id = (bytes_eq-Decides a.id b.id).0 front.0 in
     let version : a.version ≡ b.version = eqb-true a.version b.version front.1 in
     let catalog : a.catalog ≡ b.catalog = (bytes_eq-Decides a.catalog b.catalog).0 all.1 in
-    cc
+    ap (λ (x : List ℕ). record_with x a.version a.catalog) id ∙ ap (λ (x : ℕ). record_with b.id x a.catalog) version ∙ ap (λ (x : List ℕ). record_with b.id b.version x) catalog
 
 same_self : (a : Record) → same_record a a ≡ true
 same_self a = and_from _ _ (and_from _ _ ((bytes_eq-Decides a.id a.id).1 refl) (eq-eqb a.version a.version refl)) ((bytes_eq-Decides a.catalog a.catalog).1 refl)
@@ -71,7 +74,7 @@ module _ (key : List ℕ) (rec : Record) (signature : List ℕ) where
     pub good_record : rec ≡ due → IsSigned key rec signature → signed_record key due rec signature ≡ Ok installed
     good_record same signed = ap (λ b. by b (is_signed key rec signature)) (same_now rec due same) ∙ ap (by true) (signed_told signed)
 
-    record IsGood (found : SignedRecord) : Type 0 where
+    pub record IsGood (found : SignedRecord) : Type 0 where
       pub found_is : found ≡ installed
       pub due_is : rec ≡ due
       pub signed : IsSigned key rec signature

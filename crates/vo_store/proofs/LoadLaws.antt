@@ -127,7 +127,6 @@ module _ (key : List ℕ) where
   takes_first e = step (install_of (new_store key) e.rec e.signature) refl
     where
       none : [] ≡ honest_trees (batches_of (drop 1 []))
-      unfolding honest_trees
       none = refl
 
       step : (r : Result StoreState StoreFault) → install_of (new_store key) e.rec e.signature ≡ r → TakesNext [] e r
@@ -165,7 +164,6 @@ module _ (key : List ℕ) where
       version = next_is key f front loadable
 
       step : (r : Result StoreState StoreFault) → taken_later s e ≡ r → TakesNext es e r
-      unfolding store_behind
       step (Ok next) is =
           let only = later_only s (signed_of last.0) there e next is in
           let g = taken_behind key es s.tables e (Some (after_work s.tables e.batch.commands)) (omega arith) fit fits loadable refl

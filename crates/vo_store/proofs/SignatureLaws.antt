@@ -42,12 +42,11 @@ formed lms ots signature few e =
     }
 
 valid_bounds : (key message signature : List ℕ) → lms_valid key message signature ≡ true → HasBounds signature
-unfolding lms_valid
+unfolding lms_valid is_valid_under
 valid_bounds key message signature e = step (key_lms key) (key_ots key) refl refl (and_parts _ _ e).1
   where
     step : (lms : Option LmsType) (ots : Option OtsType) → key_lms key ≡ lms → key_ots key ≡ ots
         → is_valid_by lms ots (key_id key) (key_root key) message signature ≡ true → HasBounds signature
-    unfolding is_valid_under
     step (Some lms) (Some ots) l o v = formed lms ots signature (short_by key lms ots l o) (and_parts _ _ (and_parts _ _ v).0).0
     step (Some lms) None l o v = absurd (cc)
     step None (Some ots) l o v = absurd (cc)

@@ -53,6 +53,13 @@ stand batches s h = subst (λ ss. RepresentTables ss (tables_after batches)) (sy
 
 -- What a proposal tells.
 
+abbrev Parts : Type 0
+Parts = ℕ × CommandFault × List ℕ
+
+abbrev parts_of : {X : Type 0} → CommandFault → Result X StoreFault → Parts
+parts_of why (Err (fault.Command index refused proofs)) = (index, refused, proofs)
+parts_of why _ = (0, why, [])
+
 module _ (s : StoreState) (cs : List Command) where
   abbrev proofs_now : List ℕ
   proofs_now = proofs_bytes (honest_proofs cs s.tables)
@@ -96,8 +103,11 @@ module _ (s : StoreState) (cs : List Command) where
       step None r w f = absurd (cc)
       step (Some installed) (Ok after) w f = absurd (cc)
       step (Some installed) (Err refused) w f =
-          let same : refused ≡ (index, why) = cc in
-          record { worked = w ∙ ap Err same; proofs_are = cc }
+          let parts : (refused.0, refused.1, proofs_now) ≡ (index, why, proofs) = ap (parts_of why) f in
+          record {
+            worked = w ∙ ap (λ (n : ℕ). Err (n, refused.1)) (ap (λ (p : Parts). p.0) parts) ∙ ap (λ (y : CommandFault). Err (index, y)) (ap (λ (p : Parts). p.1) parts);
+            proofs_are = sym (ap (λ (p : Parts). p.2) parts);
+          }
 
 module _ (batches : List (List Command)) (cs : List Command) (s : StoreState) (h : IsHonestAfter batches s) (fits : FitsBatch cs) where
   abbrev plain : List Table
@@ -114,12 +124,12 @@ module _ (batches : List (List Command)) (cs : List Command) (s : StoreState) (h
       let a = accepts s cs next proofs e in
       let both : RepresentAfter a.after (apply_batch cs plain) = gives_plain (λ ss. ss) cs s.tables plain (Ok a.after) fits.each a.worked zs good in (
         subst (IsHonestAfter batches) (sym a.next_is) (proposed_honest s batches h a.there a.after (cs, fits, work_done cs s.tables a.after a.worked)),
-        accepted (apply_batch cs plain) both,
+        accepted a.after (apply_batch cs plain) both,
       )
     where
-      accepted : {after : List Stored} (r : Result (List Table) (ℕ × CommandFault)) → RepresentAfter after r → IsOk r
-      accepted (Ok tables) b = refl
-      accepted (Err why) b = absurd b
+      accepted : (after : List Stored) (r : Result (List Table) (ℕ × CommandFault)) → RepresentAfter after r → IsOk r
+      accepted after (Ok tables) b = refl
+      accepted after (Err why) b = absurd b
 
   pub refused : (index : ℕ) (why : CommandFault) (proofs : List ℕ) → proposal_of s cs ≡ Err (fault.Command index why proofs) → apply_batch cs plain ≡ Err (index, why)
   refused index why proofs e = gives_plain (λ (ss : List Stored). ss) cs s.tables plain (Err (batch.Command index why)) fits.each (refuses s cs index why proofs e).worked zs good
@@ -134,14 +144,14 @@ module _ (batches : List (List Command)) (cs : List Command) (s : StoreState) (h
       let new : SignedRecord = record { rec = rec; signature = signature } in
       let made : next ≡ with_installed new a.after s = n.next_is ∙ ap (λ ss. with_installed new ss s) these in (
         subst (IsHonestAfter (batches ++ cs ∷ [])) (sym made)
-        (behind s.installed refl a.there done new n.signed (n.due ∙ ap (honest_record s.key (next_version s.installed)) these)),
+        (behind a.after s.installed refl a.there done new n.signed (n.due ∙ ap (honest_record s.key (next_version s.installed)) these)),
         ap (λ (t : StoreState). t.tables) made ∙ work_left cs s.tables a.after done,
       )
     where
-      behind : {after : List Stored} (o : Option SignedRecord) → s.installed ≡ o → IsSome s.installed → work_all cs s.tables ≡ Ok after → (new : SignedRecord) → IsSigned s.key new.rec new.signature
+      behind : (after : List Stored) (o : Option SignedRecord) → s.installed ≡ o → IsSome s.installed → work_all cs s.tables ≡ Ok after → (new : SignedRecord) → IsSigned s.key new.rec new.signature
           → new.rec ≡ honest_record s.key (next_version s.installed) after → IsHonestAfter (batches ++ cs ∷ []) (with_installed new after s)
-      behind None is there done new signed due = absurd (cc)
-      behind {after} (Some before) is there done new signed due = one_more s batches h new after signed before cs is fits done due
+      behind after None is there done new signed due = absurd (cc)
+      behind after (Some before) is there done new signed due = one_more s batches h new after signed before cs is fits done due
 
   -- An owner that stands at the store's tables.
 
@@ -197,10 +207,10 @@ module _ (batches : List (List Command)) (s : StoreState) (installed : SignedRec
   of_batches : IsRecordOf s.key batches installed
   of_batches = subst (IsInstalled s.key batches) there h.installed
 
-  r : Reply
+  abbrev r : Reply
   r = honest_reply q installed.rec installed.signature s.tables
 
-  plain_answer : Answer
+  abbrev plain_answer : Answer
   plain_answer = record { version = installed.rec.version; outcome = result q (tables_after batches) }
 
   rec_fits : FitsRecord installed.rec

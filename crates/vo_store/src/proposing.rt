@@ -20,7 +20,7 @@ pub(crate) struct Proposal {
 }
 
 /// What a batch makes of the tables of the version that is installed.
-pub(crate) fn proposal(
+pub(crate) fn propose_batch(
     alloc: Global,
     tables: &StoredTables,
     batch: &Batch,

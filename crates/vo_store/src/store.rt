@@ -2,7 +2,7 @@
 use crate::answering::answer_by_tables;
 use crate::fault::StoreFault;
 use crate::installing::{next_version, signed_record};
-use crate::proposing::proposal;
+use crate::proposing::propose_batch;
 use crate::signed_record::SignedRecord;
 use lms_sign::PublicKey;
 use std::alloc::{AllocError, Global};
@@ -71,7 +71,7 @@ impl Store {
         if self.installed.is_none() {
             return Err(StoreFault::Empty);
         }
-        match proposal(alloc, &self.tables, batch) {
+        match propose_batch(alloc, &self.tables, batch) {
             Ok(proposal) => {
                 self.pending = Some(proposal.after);
                 Ok(proposal.proofs)
