@@ -4,7 +4,6 @@ pub mod EntryLaws
 pub mod JournalLaws
 pub mod SlotLaws
 pub mod BatchSteps
-pub mod ProofCounts
 pub mod WorkTurns
 pub mod OwnerSteps
 pub mod ReplayLaws

@@ -1,6 +1,7 @@
 pub mod Reading
 pub mod Endings
 pub mod Standing
+pub mod BatchProofs
 pub mod Held
 pub mod Stepping
 pub mod Replaying

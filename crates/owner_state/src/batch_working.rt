@@ -1,83 +1,71 @@
 //! A batch and its proofs, in one pass.
-ghost use Rattle.std.specs.Prelude.{◌≡◌, ◌++◌, ◌≤◌, IfOk, OnOk, count_by, flat_map, length};
+ghost use Rattle.std.specs.Prelude.{◌≡◌, ◌+◌, ◌++◌, ◌≤◌, ◌<◌, ◌^◌, OnOk, flat_map, length};
 ghost use Rattle.std.specs.List.{AllByRecursion};
-ghost use Rattle.vo_spec.specs.Batches.{FitsBatch, FitsCommand};
-ghost use Rattle.vo_spec.specs.Fits.{FitsTree};
+ghost use Rattle.vo_spec.specs.Batches.{FitsBatch, FitsCommand, max_commands};
 ghost use Rattle.vo_spec.specs.TreeBytes.{tree_bytes};
 ghost use Rattle.vo_spec.specs.Honest.{command_proof, honest_proofs};
-ghost use Rattle.vo_spec.specs.Replies.{FitsProofs, proofs_bytes};
+ghost use Rattle.vo_spec.specs.Replies.{proofs_bytes};
 ghost use Rattle.table_list.specs.Batched.{BatchGives};
-ghost use Rattle.stored_tables.specs.Ready.{changes_rows};
 ghost use Rattle.stored_tables.specs.Working.{work_from};
+ghost use Rattle.owner_state.specs.BatchProofs.{UnlessMemory, allowed_proof};
 
 use std::alloc::{AllocError, Global};
 use stored_tables::{ApplyFault, BatchFault, StoredTables};
 use vo_format::{begin_proofs, put_tree};
 use vo_spec::Command;
 
-/// Tables after a batch, and the proofs that go with it, as bytes.
+/// Trees as bytes, one behind the other, and how many they are.
 #[derive(Drop)]
-pub(crate) struct AfterBatch {
-    pub tables: StoredTables,
-    pub proofs: Vec<u8>,
+struct TreeList {
+    bytes: Vec<u8>,
+    count: u16,
 }
 
-/// What a batch makes of tables.
-pub(crate) fn worked(
+/// The tables after a batch, whose proofs are put at the end of `proofs`. A refused batch has proofs too: those up to
+/// the refused command, its own among them where it has one.
+#[tactic(auto, unfolding(vo_spec::specs::Replies::proofs_bytes))]
+pub fn work_batch(
     alloc: Global,
     tables: StoredTables,
     commands: &[Command],
-) -> Result<AfterBatch, BatchFault>
-    requires fits { FitsBatch commands.now }
-    requires proofs { FitsProofs (honest_proofs commands.now tables) }
-    ensures answer { BatchGives (λ worked. worked.tables) result (work_from 0 commands.now tables) }
-    ensures proofs { IfOk result (λ worked. worked.proofs.items
-        ≡ proofs_bytes (honest_proofs commands.now tables)) }
+    proofs: &mut Vec<u8>,
+) -> Result<StoredTables, BatchFault>
+    requires { FitsBatch commands.now }
+    ensures answer { BatchGives (λ after. after) result (work_from 0 commands.now tables) }
+    ensures proofs { UnlessMemory result (proofs.new.items ≡ proofs.old.items
+        ++ proofs_bytes (honest_proofs commands.now tables)) }
 {
-    let mut proofs = Vec::new(alloc);
-    begin_proofs(&mut proofs, proof_count(commands))?;
-    worked_in_turn(alloc, AfterBatch { tables, proofs }, commands)
+    let mut trees = TreeList {
+        bytes: Vec::new(alloc),
+        count: 0,
+    };
+    let after = work_in_turn(alloc, tables, commands, &mut trees);
+    begin_proofs(proofs, trees.count)?;
+    proofs.extend_from_slice(&trees.bytes)?;
+    after
 }
 
-/// How many of the commands change rows: each of these has a proof, where its batch is accepted.
-fn proof_count(commands: &[Command]) -> u16
-    requires { length commands.now ≤ 1000 }
-    ensures { result ≡ count_by changes_rows commands.now }
-{
-    let mut count = 0;
-    for command in commands {
-        match command {
-            Command::Create { .. } | Command::Drop { .. } => {}
-            _ => count += 1,
-        }
-    }
-    count
-}
-
-/// The tables after the commands, and the tree that each looks at, before it, behind the bytes.
-fn worked_in_turn(
+/// The tables after the commands, with the tree that each looks at, before it, put at the end of the list.
+fn work_in_turn(
     alloc: Global,
-    before: AfterBatch,
+    before: StoredTables,
     commands: &[Command],
-) -> Result<AfterBatch, BatchFault>
+    trees: &mut TreeList,
+) -> Result<StoredTables, BatchFault>
     requires fits { AllByRecursion FitsCommand commands.now }
-    requires count { length commands.now ≤ 1000 }
-    requires trees { AllByRecursion FitsTree (honest_proofs commands.now before.tables) }
-    ensures answer { BatchGives (λ worked. worked.tables) result
-        (work_from 0 commands.now before.tables) }
-    ensures proofs { IfOk result (λ worked. worked.proofs.items ≡ before.proofs.items
-        ++ flat_map tree_bytes (honest_proofs commands.now before.tables)) }
+    requires count { length commands.now ≤ max_commands }
+    requires first { trees.old.count ≡ 0 }
+    ensures answer { BatchGives (λ after. after) result (work_from 0 commands.now before) }
+    ensures bytes { UnlessMemory result (trees.new.bytes.items ≡ trees.old.bytes.items
+        ++ flat_map tree_bytes (honest_proofs commands.now before)) }
+    ensures counted { UnlessMemory result (trees.new.count
+        ≡ length (honest_proofs commands.now before)) }
 {
-    let AfterBatch {
-        mut tables,
-        mut proofs,
-    } = before;
+    let mut tables = before;
     for (index, command) in commands.iter().enumerate() {
+        put_allowed_proof(alloc, trees, &tables, command)?;
         match tables.apply(alloc, command) {
-            Ok(next) => {
-                put_proof(alloc, &mut proofs, &tables, command)?;
-                tables = next;
-            }
+            Ok(next) => tables = next,
             Err(ApplyFault::Refused(fault)) => {
                 let index = index as u64;
                 return Err(BatchFault::Command { index, fault });
@@ -85,22 +73,46 @@ fn worked_in_turn(
             Err(ApplyFault::Memory) => return Err(BatchFault::Memory),
         }
     }
-    Ok(AfterBatch { tables, proofs })
+    Ok(tables)
+}
+
+/// Puts the tree that a command looks at at the end, if the catalog allows the command and it looks at one.
+fn put_allowed_proof(
+    alloc: Global,
+    trees: &mut TreeList,
+    tables: &StoredTables,
+    command: &Command,
+) -> Result<(), AllocError>
+    requires { trees.old.count < max_commands }
+    ensures bytes { OnOk result (trees.new.bytes.items ≡ trees.old.bytes.items
+        ++ flat_map tree_bytes (allowed_proof command.now tables.now)) }
+    ensures counted { OnOk result (trees.new.count
+        ≡ trees.old.count + length (allowed_proof command.now tables.now)) }
+    ensures few { OnOk result (trees.new.count ≤ trees.old.count + 1) }
+{
+    if tables.refusal(command).is_some() {
+        return Ok(());
+    }
+    put_proof(alloc, trees, tables, command)
 }
 
 /// Puts the tree that a command looks at at the end, if it looks at one.
 fn put_proof(
     alloc: Global,
-    out: &mut Vec<u8>,
+    trees: &mut TreeList,
     tables: &StoredTables,
     command: &Command,
 ) -> Result<(), AllocError>
-    requires { AllByRecursion FitsTree (command_proof command.now tables.now) }
-    ensures { OnOk result (out.new.items ≡ out.old.items
+    requires { trees.old.count < max_commands }
+    ensures bytes { OnOk result (trees.new.bytes.items ≡ trees.old.bytes.items
         ++ flat_map tree_bytes (command_proof command.now tables.now)) }
+    ensures counted { OnOk result (trees.new.count
+        ≡ trees.old.count + length (command_proof command.now tables.now)) }
+    ensures few { OnOk result (trees.new.count ≤ trees.old.count + 1) }
 {
-    match tables.command_proof(alloc, command)? {
-        Some(tree) => put_tree(out, &tree),
-        None => Ok(()),
+    if let Some(tree) = tables.command_proof(alloc, command)? {
+        put_tree(&mut trees.bytes, &tree)?;
+        trees.count += 1;
     }
+    Ok(())
 }

@@ -9,7 +9,7 @@ ghost use Rattle.owner_state.specs.Walking.{IsWhole};
 
 use crate::departures::Departure;
 use crate::slot_reading::{Ending, Slots, read_slots};
-use crate::walks::{walk_owned, walk_taken};
+use crate::walks::{walk_owned, walk_loadable};
 use lms_sign::PublicKey;
 use std::alloc::{AllocError, Global};
 use stored_tables::StoredTables;
@@ -99,7 +99,7 @@ pub fn read_loadable(
         → IsUnloadableAt key.now journal.now index }
 {
     let slots = read_slots(alloc, journal)?;
-    match walk_taken(alloc, key, slots.entries.as_slice()) {
+    match walk_loadable(alloc, key, slots.entries.as_slice()) {
         Ok(tables) => {
             if !is_whole(&slots) {
                 return Err(end_fault(&slots));

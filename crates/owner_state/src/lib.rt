@@ -25,6 +25,7 @@ mod steps;
 mod version_zero;
 mod walks;
 
+pub use batch_working::work_batch;
 pub use copies::copy_entry;
 pub use departures::Departure;
 pub use entry_writing::entry_bytes;
@@ -34,8 +35,10 @@ pub use journals::{JournalFault, LoadableJournal, OwnedJournal, read_loadable, r
 pub use owned_entries::owned;
 pub use owner::Owner;
 pub use owner_roots::{OwnerFault, Roots};
+pub use recording::{is_signed, record_of};
 pub use replaying::{ReplayFault, replay};
 pub use sealing::{SealFault, seal};
 pub use slot_reading::{Ending, Slots, read_slots};
 pub use steps::Step;
 pub use vo_spec::Entry;
+pub use walks::walk_loadable;

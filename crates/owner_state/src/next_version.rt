@@ -8,7 +8,7 @@ ghost use Rattle.vo_spec.specs.Honest.{honest_proofs};
 ghost use Rattle.stored_tables.specs.Standing.{IsStanding};
 ghost use Rattle.owner_state.specs.Sealed.{IsAt, Seals};
 
-use crate::batch_working::{AfterBatch, worked};
+use crate::batch_working::work_batch;
 use crate::journal_writing::put_slot;
 use crate::owner::Owner;
 use crate::owner_faults::is_want_of_memory;
@@ -42,7 +42,8 @@ pub(crate) fn seal_next(alloc: Global, before: Sealed, batch: &Batch) -> Result<
     if owner.is_spent() {
         return Err(SealFault::KeySpent);
     }
-    let AfterBatch { tables, proofs } = match worked(alloc, tables, batch.commands.as_slice()) {
+    let mut proofs = Vec::new(alloc);
+    let tables = match work_batch(alloc, tables, batch.commands.as_slice(), &mut proofs) {
         Ok(after) => after,
         Err(BatchFault::Command { index, fault }) => {
             return Err(SealFault::Command { index, fault });

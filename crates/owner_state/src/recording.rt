@@ -46,7 +46,7 @@ fn record_of_catalog(
 
 /// The record of these tables as this version.
 #[tactic(auto, unfolding(vo_spec::specs::Honest::honest_record))]
-fn record_of(
+pub fn record_of(
     alloc: Global,
     key: &PublicKey,
     version: u64,
@@ -83,7 +83,7 @@ pub(crate) fn is_recorded(
     ensures { IfOk result (λ recorded. IsTrue recorded
         ↔ IsRecorded key.now version tables.now entry.now) }
 {
-    if !is_signed(key, entry) {
+    if !is_signed(key, &entry.rec, entry.signature.as_slice()) {
         return Ok(false);
     }
     Ok(entry.rec == record_of(alloc, key, version, tables)?)
@@ -99,16 +99,15 @@ pub(crate) fn is_signed_for(
     requires { FitsCatalog roots.now.catalog }
     ensures { IfOk result (λ is. IsTrue is ↔ IsSignedFor key.now roots.now entry.now) }
 {
-    if !is_signed(key, entry) {
+    if !is_signed(key, &entry.rec, entry.signature.as_slice()) {
         return Ok(false);
     }
     Ok(entry.rec == record_of_roots(alloc, key, roots)?)
 }
 
-fn is_signed(key: &PublicKey, entry: &Entry) -> bool
-    ensures { IsTrue result ↔ IsSigned key.now entry.now.rec entry.now.signature }
+/// Whether the signature of the record is valid, and by the leaf of its version.
+pub fn is_signed(key: &PublicKey, rec: &Record, signature: &[u8]) -> bool
+    ensures { IsTrue result ↔ IsSigned key.now rec.now signature.now }
 {
-    let signature = entry.signature.as_slice();
-    key.leaf_of(signature) == Some(entry.rec.version)
-        && verify(key, &record_bytes(&entry.rec), signature)
+    key.leaf_of(signature) == Some(rec.version) && verify(key, &record_bytes(rec), signature)
 }

@@ -18,7 +18,7 @@ use stored_tables::StoredTables;
 use vo_spec::Entry;
 
 /// The tables behind the entries, as far as a store takes them.
-pub(crate) fn walk_taken(
+pub fn walk_loadable(
     alloc: Global,
     key: &PublicKey,
     entries: &[Entry],

@@ -1,2 +1,7 @@
 mod ProofLaws
+mod SignatureLaws
+mod InstallLaws
+mod HonestLaws
+mod TableLaws
+mod LoadLaws
 mod ReplyLaws

@@ -1,4 +1,6 @@
 pub mod Proving
 pub mod Replying
-pub mod Taking
-pub mod Writing
+pub mod StoreState
+pub mod HonestStores
+pub mod Calls
+pub mod Loading

@@ -1,12 +1,20 @@
-//! A store of whole trees, and its replies to queries.
+//! A store of whole trees: it takes the versions that an owner signs, and answers queries by the last of them.
 #![tactic(auto)]
 
+mod answering;
 mod fault;
+mod installing;
+pub mod laws;
+mod loading;
+mod proposing;
 mod proving;
 mod replying;
-mod writing;
+mod signed_record;
+mod store;
 
-pub use fault::ReplyFault;
+pub use fault::{LoadFault, ReplyFault, StoreFault};
 pub use lms_sign::PublicKey;
 pub use replying::reply_by;
+pub use signed_record::SignedRecord;
+pub use store::Store;
 pub use vo_spec::QueryText;

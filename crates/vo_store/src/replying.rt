@@ -1,50 +1,17 @@
 //! The reply of a store that loads a journal.
-ghost use Rattle.std.specs.Prelude.{◌≡◌, ◌-◌, ◌<◌, ℕ, Err, IfOk, Some, length, slice_get};
+ghost use Rattle.std.specs.Prelude.{◌≡◌, ℕ, Err, IfOk, IsSome};
 ghost use Rattle.vo_spec.specs.Conditions.{query_of};
-ghost use Rattle.vo_spec.specs.Replies.{FitsReply};
-ghost use Rattle.vo_spec.specs.Honest.{reply_of as reply_to};
 ghost use Rattle.vo_spec.specs.Owners.{IsUnloadableAt};
-ghost use Rattle.vo_format.specs.View.{reply_of};
-ghost use Rattle.vo_store.specs.Taking.{IsTaken};
-ghost use Rattle.vo_store.specs.Replying.{IsReplyBy, IsTooLarge};
+ghost use Rattle.vo_store.specs.Calls.{answer_of};
+ghost use Rattle.vo_store.specs.Replying.{IsReplyBy, IsTooLarge, Replies};
 
-use crate::fault::ReplyFault;
-use crate::proving::proofs_for;
-use crate::writing::bytes_of;
+use crate::fault::{ReplyFault, StoreFault};
+use crate::loading::store_of;
+use crate::store::Store;
 use lms_sign::PublicKey;
-use owner_state::{JournalFault, LoadableJournal, read_loadable};
-use std::alloc::{AllocError, Global};
-use vo_format::Reply;
-use vo_spec::{Entry, QueryText};
-
-fn last(entries: &[Entry]) -> &Entry
-    requires { 0 < length entries.now }
-    ensures { slice_get entries.now (length entries.now - 1) ≡ Some result.now }
-{
-    &entries[entries.len() - 1]
-}
-
-/// The reply by the last entry and the tables behind it.
-fn reply_to<'t>(
-    alloc: Global,
-    taken: &'t LoadableJournal,
-    query: &QueryText,
-) -> Result<Reply<'t>, AllocError>
-    requires { IsTaken taken.now.entries taken.now.tables }
-    ensures value { IfOk result (λ reply. reply_to (query_of query.now) taken.now.entries
-        ≡ Some (reply_of reply)) }
-    ensures fits { IfOk result (λ reply. FitsReply (reply_of reply)) }
-{
-    let entry = last(taken.entries.as_slice());
-    let catalog = taken.tables.catalog(alloc)?;
-    let trees = proofs_for(alloc, &taken.tables, &catalog, query)?;
-    Ok(Reply {
-        rec: entry.rec,
-        signature: entry.signature.as_slice(),
-        catalog,
-        trees,
-    })
-}
+use owner_state::{JournalFault, read_loadable};
+use std::alloc::Global;
+use vo_spec::QueryText;
 
 /// The reply to the query of a store of this key that loads the journal.
 pub fn reply_by(
@@ -61,11 +28,28 @@ pub fn reply_by(
         → IsTooLarge key journal.now (query_of query.now) size }
 {
     match read_loadable(alloc, &key, journal) {
-        Ok(taken) => match reply_to(alloc, &taken, query) {
-            Ok(reply) => bytes_of(alloc, &reply),
-            Err(_) => Err(ReplyFault::Memory),
-        },
+        Ok(read) => {
+            let store = store_of(alloc, key, read.entries.as_slice(), read.tables)?;
+            answer_of_loaded(alloc, &store, query)
+        }
         Err(JournalFault::BadAt { index }) => Err(ReplyFault::BadJournal { index }),
         Err(JournalFault::Memory) => Err(ReplyFault::Memory),
+    }
+}
+
+/// The answer of a store that has installed a version.
+fn answer_of_loaded(
+    alloc: Global,
+    store: &Store,
+    query: &QueryText,
+) -> Result<Vec<u8>, ReplyFault>
+    requires { IsSome store.now.installed }
+    ensures { Replies result (answer_of store.now (query_of query.now)) }
+{
+    match store.answer(alloc, query) {
+        Ok(reply) => Ok(reply),
+        Err(StoreFault::TooLarge { length }) => Err(ReplyFault::TooLarge { length }),
+        Err(StoreFault::Memory) => Err(ReplyFault::Memory),
+        Err(_) => unreachable!(),
     }
 }

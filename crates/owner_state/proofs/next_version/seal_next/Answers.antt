@@ -22,13 +22,14 @@ unreachable-requires c =
     let batch : List Command = c.args.batch.now.commands in
     let stored : List Stored = c.args.before.tables in
     let before : Held = c.args.before.owner in
-    let after : List Stored = c.in-Ok.after.tables in
+    let after : List Stored = c.in-Ok.after in
     let honest : List ℕ = proofs_bytes (honest_proofs batch stored) in
     let r : IsReady batch stored = record { standing = c.requires.standing; fits = c.requires.fits; proofs = c.requires.proofs } in
     let done : work_all batch stored ≡ Ok after =
     work_done batch stored after (ap (λ (xs : List Command). work_from 0 xs stored) (sym c.as_slice.ensures) ∙ c.in-Ok.ensures.answer) in
     let proofs : c.deref.result.now ≡ honest =
-    c.deref.ensures.value ∙ c.in-Ok.ensures.proofs ∙ ap (λ (xs : List Command). proofs_bytes (honest_proofs xs stored)) c.as_slice.ensures in
+    c.deref.ensures.value ∙ c.in-Ok.ensures.proofs ∙ ap (λ (bytes : List ℕ). bytes ++ proofs_bytes (honest_proofs c.as_slice.result.now stored)) c.new-proofs.ensures.items
+    ∙ ap (λ (xs : List Command). proofs_bytes (honest_proofs xs stored)) c.as_slice.ensures in
     let left = left_over c.is_spent.result (leaves_of before.key.lms) before.roots.version c.is_spent.ensures.1 c.if-is_spent.false in
     let known : c.step.result ≢ Err owner.Memory = λ memory.
     let is : c.in-Err.fault ≡ owner.Memory = cc in
@@ -44,13 +45,14 @@ returns c =
     let batch : List Command = c.args.batch.now.commands in
     let stored : List Stored = c.args.before.tables in
     let before : Held = c.args.before.owner in
-    let after : List Stored = c.in-Ok.after.tables in
+    let after : List Stored = c.in-Ok.after in
     let honest : List ℕ = proofs_bytes (honest_proofs batch stored) in
     let r : IsReady batch stored = record { standing = c.requires.standing; fits = c.requires.fits; proofs = c.requires.proofs } in
     let done : work_all batch stored ≡ Ok after =
     work_done batch stored after (ap (λ (xs : List Command). work_from 0 xs stored) (sym c.as_slice.ensures) ∙ c.in-Ok.ensures.answer) in
     let proofs : c.deref.result.now ≡ honest =
-    c.deref.ensures.value ∙ c.in-Ok.ensures.proofs ∙ ap (λ (xs : List Command). proofs_bytes (honest_proofs xs stored)) c.as_slice.ensures in
+    c.deref.ensures.value ∙ c.in-Ok.ensures.proofs ∙ ap (λ (bytes : List ℕ). bytes ++ proofs_bytes (honest_proofs c.as_slice.result.now stored)) c.new-proofs.ensures.items
+    ∙ ap (λ (xs : List Command). proofs_bytes (honest_proofs xs stored)) c.as_slice.ensures in
     let left = left_over c.is_spent.result (leaves_of before.key.lms) before.roots.version c.is_spent.ensures.1 c.if-is_spent.false in
     let known : c.step.result ≢ Err owner.Memory = λ memory. let is = c.in-Ok-step.is in absurd (cc) in
     let gives = sealed_step before stored after batch c.deref.result.now c.step.result c.requires.owner.roots r done proofs left c.step.ensures.answer known in

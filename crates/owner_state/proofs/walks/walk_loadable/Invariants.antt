@@ -2,7 +2,7 @@ use Rattle.std.proofs.Common.{◌≡◌, drop, take}
 use Rattle.vo_spec.specs.Journals.{batches_of}
 use Rattle.vo_spec.specs.Owners.{AreLoadable}
 use Rattle.vo_spec.specs.Honest.{honest_trees}
-use Rattle.owner_state.proofs.walks.walk_taken.Given as goal
+use Rattle.owner_state.proofs.walks.walk_loadable.Given as goal
 
 -- the entries so far are taken, and these are the tables behind them
 abbrev pub invariant-loop-index : goal.invariant-loop-index

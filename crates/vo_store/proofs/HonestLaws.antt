@@ -1,0 +1,112 @@
+-- What every store keeps, call by call.
+use Rattle.std.proofs.Common.{◌≡◌, ℕ, ◌+◌, ◌<◌, ◌≤◌, ◌^◌, List, [], ◌∷◌, ◌++◌, Option, Some, None, Result, Ok, Err, length, refl, sym, ap, subst, ◌∙◌, arith}
+use Rattle.std.specs.Prelude.{IsSome}
+use Rattle.std.specs.Result.{result_unwrap_or}
+use Rattle.std.specs.List.{AllByRecursion}
+use Rattle.std.proofs.lemmas.List.{length-append}
+use Rattle.vo_spec.specs.declared.tables.Command.{Command}
+use Rattle.vo_spec.specs.declared.records.Record.{Record}
+use Rattle.vo_spec.specs.Batches.{FitsBatch}
+use Rattle.vo_spec.specs.Journals.{max_signature}
+use Rattle.vo_spec.specs.Owners.{IsSigned}
+use Rattle.vo_spec.specs.Honest.{Stored, after_work, honest_record, honest_trees, work_all}
+use Rattle.vo_laws.proofs.ListLaws.{each_both}
+use Rattle.vo_laws.proofs.StepLaws.{trees_follow}
+use Rattle.vo_store.specs.declared.signed_record.SignedRecord.{SignedRecord}
+use Rattle.vo_store.specs.StoreState.{StoreState, new_store, with_installed, with_pending}
+use Rattle.vo_store.specs.HonestStores.{AreHonest, FollowBy, IsHonestAfter, IsHonestStore, IsInstalled, IsPending, IsRecordOf}
+use Rattle.vo_store.specs.Calls.{next_version}
+use Rattle.vo_store.proofs.SignatureLaws.{signed_short, version_below}
+
+-- Stores that have installed nothing.
+
+pub new_honest : (key : List ℕ) → IsHonestAfter [] (new_store key)
+unfolding honest_trees
+new_honest key = record { fit = tt; tables = refl; installed = refl; pending = refl }
+
+pub trees_honest : (s : StoreState) → IsHonestStore s → AreHonest s.tables
+trees_honest s h = (h.0, h.1.fit, h.1.tables)
+
+-- What is installed.
+
+module _ (s : StoreState) (honest : IsHonestStore s) where
+  record_of : (o : Option SignedRecord) (installed : SignedRecord) → o ≡ Some installed → IsInstalled s.key honest.0 o → IsRecordOf s.key honest.0 installed
+  record_of None installed e is = absurd (cc)
+  record_of (Some other) installed e is = let same : other ≡ installed = cc in subst (IsRecordOf s.key honest.0) same is
+
+  pub installed_short : (installed : SignedRecord) → s.installed ≡ Some installed → length installed.signature ≤ max_signature
+  installed_short installed e =
+      let is = record_of s.installed installed e honest.1.installed in
+      signed_short s.key installed.rec installed.signature is.signed
+
+  pub next_below : next_version s.installed < 2 ^ 64
+  next_below = step s.installed honest.1.installed
+    where
+      step : (o : Option SignedRecord) → IsInstalled s.key honest.0 o → next_version o < 2 ^ 64
+      step None is = omega arith
+      step (Some installed) is = omega (arith, version_below s.key installed.rec installed.signature is.signed)
+
+-- The trees after a batch that is accepted.
+pub follow_batch : (batches : List (List Command)) (batch : List Command) (tables after : List Stored) → tables ≡ honest_trees batches → work_all batch tables ≡ Ok after
+    → after ≡ honest_trees (batches ++ batch ∷ [])
+follow_batch batches batch tables after e w =
+    sym (ap (λ (r : Result (List Stored) _). result_unwrap_or r tables) w) ∙ ap (λ ss. after_work ss batch) e ∙ sym (trees_follow batches batch)
+
+-- A version that is proposed keeps what is installed.
+
+module _ (s : StoreState) (batches : List (List Command)) (h : IsHonestAfter batches s) where
+  pub proposed_honest : IsSome s.installed → (after : List Stored) → FollowBy s.tables after → IsHonestAfter batches (with_pending after s)
+  proposed_honest there after follow = record { fit = h.fit; tables = h.tables; installed = h.installed; pending = pending s.installed there }
+    where
+      pending : (o : Option SignedRecord) → IsSome o → IsPending o s.tables (Some after)
+      pending None t = absurd (cc)
+      pending (Some installed) t = follow
+
+  -- The batches behind an install: none where version 0 is installed, and else one more.
+
+  abbrev Behind : List Stored → SignedRecord → Type 0
+  Behind after installed = (later : List (List Command)) × IsHonestAfter later (with_installed installed after s)
+
+  module _ (installed : SignedRecord) (after : List Stored) (signed : IsSigned s.key installed.rec installed.signature) where
+    pub at_first : s.installed ≡ None → s.pending ≡ Some after → installed.rec ≡ honest_record s.key (next_version s.installed) after → IsHonestAfter [] (with_installed installed after s)
+    unfolding honest_trees
+    at_first none pending due =
+        let started : IsPending None s.tables s.pending = subst (λ o. IsPending o s.tables s.pending) none h.pending in
+        let nothing : after ≡ [] = let both : Some after ≡ Some [] = sym pending ∙ started in cc in
+        record {
+          fit = tt;
+          tables = nothing;
+          installed = record { record_is = due ∙ ap (λ o. honest_record s.key (next_version o) after) none ∙ ap (honest_record s.key 0) nothing; signed = signed };
+          pending = tt;
+        }
+
+    pub one_more : (before : SignedRecord) (batch : List Command) → s.installed ≡ Some before → FitsBatch batch → work_all batch s.tables ≡ Ok after
+        → installed.rec ≡ honest_record s.key (next_version s.installed) after → IsHonestAfter (batches ++ batch ∷ []) (with_installed installed after s)
+    unfolding honest_record
+    one_more before batch is fits w due =
+        let here : IsRecordOf s.key batches before = subst (IsInstalled s.key batches) is h.installed in
+        let version : next_version s.installed ≡ length (batches ++ batch ∷ []) =
+        ap next_version is ∙ ap (λ (r : Record). r.version + 1) here.record_is ∙ omega (arith, length-append batches (batch ∷ [])) in
+        let trees = follow_batch batches batch s.tables after h.tables w in
+        record {
+          fit = each_both FitsBatch batches (batch ∷ []) h.fit (fits, tt);
+          tables = trees;
+          installed = record {
+            record_is = due ∙ ap (λ (n : ℕ). honest_record s.key n after) version ∙ ap (honest_record s.key (length (batches ++ batch ∷ []))) trees;
+            signed = signed;
+          };
+          pending = tt;
+        }
+
+    pub behind : s.pending ≡ Some after → installed.rec ≡ honest_record s.key (next_version s.installed) after → Behind after installed
+    behind pending due = step s.installed refl
+      where
+        step : (o : Option SignedRecord) → s.installed ≡ o → Behind after installed
+        step None is = ([], at_first is pending due)
+        step (Some before) is =
+            let follow : FollowBy s.tables after = subst (IsPending (Some before) s.tables) pending (subst (λ o. IsPending o s.tables s.pending) is h.pending) in
+            (batches ++ follow.0 ∷ [], one_more before follow.0 is follow.1 follow.2 due)
+
+pub installed_honest : (s : StoreState) → IsHonestStore s → (installed : SignedRecord) (after : List Stored) → IsSigned s.key installed.rec installed.signature
+    → s.pending ≡ Some after → installed.rec ≡ honest_record s.key (next_version s.installed) after → IsHonestStore (with_installed installed after s)
+installed_honest s h installed after signed pending due = behind s h.0 h.1 installed after signed pending due

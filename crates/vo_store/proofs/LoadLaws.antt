@@ -1,0 +1,268 @@
+-- A store that takes entries by its calls stands behind those that a store takes, and refuses the first that isn't one.
+use Rattle.std.proofs.Common.{◌≡◌, ℕ, zero, suc, ◌+◌, ◌-◌, ◌<◌, ◌≤◌, Bool, true, false, cond, List, [], ◌∷◌, ◌++◌, Option, Some, None, Result, Ok, Err, length, map, take, drop, refl, sym, ap, subst, ◌∙◌, append_assoc, append-nil, arith}
+use Rattle.std.specs.Prelude.{◌==◌, is_none, option_map, slice_get, IsOk}
+use Rattle.std.specs.Option.{option_map_or}
+use Rattle.std.specs.Result.{result_unwrap_or}
+use Rattle.std.specs.List.{AllByRecursion}
+use Rattle.std.proofs.lemmas.List.{length-append, length-map, take_all, take_at}
+use Rattle.vo_spec.specs.declared.tables.Command.{Command}
+use Rattle.vo_spec.specs.declared.tables.CommandFault.{CommandFault}
+use Rattle.vo_spec.specs.declared.records.Record.{Record}
+use Rattle.vo_spec.specs.declared.records.Entry.{Entry}
+use Rattle.vo_spec.specs.Firsts.{and_then}
+use Rattle.vo_spec.specs.Journals.{FitsEntry, batches_of}
+use Rattle.vo_spec.specs.Owners.{AreLoadable}
+use Rattle.vo_spec.specs.Honest.{Stored, after_work, honest_proofs, honest_record, honest_trees, work_all}
+use Rattle.vo_spec.specs.Replies.{proofs_bytes}
+use Rattle.vo_laws.proofs.ListLaws.{each_both, each_left, each_right}
+use Rattle.vo_laws.proofs.EntryLaws.{all_fit, entry_held, taken_front}
+use Rattle.stored_tables.specs.Working.{work_from}
+use Rattle.owner_state.specs.Standing.{IsLoadableOn, IsRecorded}
+use Rattle.owner_state.specs.Walking.{StopsAt}
+use Rattle.owner_state.proofs.EntrySteps.{taken_at_first, taken_behind}
+use Rattle.owner_state.proofs.WorkTurns.{work_done, work_left, work_refused, work_accepted}
+use Rattle.vo_store.specs.declared.fault.StoreFault.{StoreFault}
+use Rattle.vo_store.specs.declared.fault.StoreFault.TheVariants as fault
+use Rattle.vo_store.specs.declared.signed_record.SignedRecord.{SignedRecord}
+use Rattle.vo_store.specs.StoreState.{StoreState, new_store, with_installed, with_pending}
+use Rattle.vo_store.specs.HonestStores.{IsHonestStore, IsInstalled, IsPending}
+use Rattle.vo_store.specs.Calls.{install_of, next_version, proposal_of, with_proofs}
+use Rattle.vo_store.specs.Loading.{last_signed, loaded, pending_behind, refused_at, store_behind, taken_as, taken_from, taken_later}
+use Rattle.vo_store.proofs.InstallLaws.{Installs, install_good, installs}
+
+abbrev signed_of : Entry → SignedRecord
+signed_of e = record { rec = e.rec; signature = e.signature }
+
+-- The last entry.
+
+slice_last : (front : List Entry) (e : Entry) → slice_get (front ++ e ∷ []) (length front) ≡ Some e
+slice_last [] e = refl
+slice_last (f ∷ front) e = slice_last front e
+
+last_one : (front : List Entry) (e : Entry) → last_signed (front ++ e ∷ []) ≡ Some (signed_of e)
+last_one front e =
+    let n : length (front ++ e ∷ []) - 1 ≡ length front = omega (arith, length-append front (e ∷ [])) in
+    ap (λ (i : ℕ). option_map signed_of (slice_get (front ++ e ∷ []) i)) n ∙ ap (option_map signed_of) (slice_last front e)
+
+last_there : (f : Entry) (front : List Entry) → (e : Entry) × (slice_get (f ∷ front) (length front) ≡ Some e)
+last_there f [] = (f, refl)
+last_there f (g ∷ front) = last_there g front
+
+-- Of a loadable journal, the version behind the last is as many as there are.
+next_is : (key : List ℕ) (f : Entry) (front : List Entry) → AreLoadable key (f ∷ front) → next_version (last_signed (f ∷ front)) ≡ length (f ∷ front)
+unfolding honest_record
+next_is key f front loadable =
+    let last = last_there f front in
+    let held = entry_held key (f ∷ front) (length front) last.0 loadable last.1 in
+    ap (λ (o : Option Entry). next_version (option_map signed_of o)) last.1 ∙ ap (λ (r : Record). r.version + 1) held.record_is ∙ omega arith
+
+-- A later entry.
+
+module _ (s : StoreState) (before : SignedRecord) (there : s.installed ≡ Some before) (e : Entry) where
+  abbrev batch : List Command
+  batch = e.batch.commands
+
+  abbrev proofs : List ℕ
+  proofs = proofs_bytes (honest_proofs batch s.tables)
+
+  abbrev proposal_by : Option SignedRecord → Result (List Stored) (ℕ × CommandFault) → Result (StoreState × List ℕ) StoreFault
+  proposal_by o r = cond (is_none o) (Err fault.Empty) (with_proofs (λ after. with_pending after s) proofs r)
+
+  pub proposal_is : (r : Result (List Stored) (ℕ × CommandFault)) → work_from 0 batch s.tables ≡ r → proposal_of s batch ≡ with_proofs (λ after. with_pending after s) proofs r
+  unfolding proposal_of
+  proposal_is r w = ap (λ o. proposal_by o (work_from 0 batch s.tables)) there ∙ ap (proposal_by (Some before)) w
+
+  abbrev taken_by : Result (StoreState × List ℕ) StoreFault → Result StoreState StoreFault
+  taken_by = and_then (λ (proposal : StoreState × List ℕ). install_of proposal.0 e.rec e.signature)
+
+  abbrev IsOn : Type 0
+  IsOn = IsLoadableOn s.key (next_version s.installed) s.tables e
+
+  abbrev behind : StoreState
+  behind = with_installed (signed_of e) (after_work s.tables batch) s
+
+  later_taken : IsOn → taken_later s e ≡ Ok behind
+  later_taken on = step (work_from 0 batch s.tables) refl
+    where
+      step : (r : Result (List Stored) (ℕ × CommandFault)) → work_from 0 batch s.tables ≡ r → taken_later s e ≡ Ok behind
+      step (Ok after) w =
+          let same : after ≡ after_work s.tables batch = work_left batch s.tables after (work_done batch s.tables after w) in
+          let due : e.rec ≡ honest_record s.key (next_version s.installed) after = on.recorded.record_is ∙ ap (honest_record s.key (next_version s.installed)) (sym same) in
+          ap taken_by (proposal_is (Ok after) w) ∙ install_good (with_pending after s) e.rec e.signature after refl due on.recorded.signed
+          ∙ ap (λ ss. Ok (with_installed (signed_of e) ss s)) same
+      step (Err why) w = absurd (work_refused batch s.tables why.0 why.1 w on.accepted)
+
+  later_only : (next : StoreState) → taken_later s e ≡ Ok next → IsOn × (next ≡ behind)
+  later_only next t = step (work_from 0 batch s.tables) refl
+    where
+      step : (r : Result (List Stored) (ℕ × CommandFault)) → work_from 0 batch s.tables ≡ r → IsOn × (next ≡ behind)
+      step (Ok after) w =
+          let done : work_all batch s.tables ≡ Ok after = work_done batch s.tables after w in
+          let same : after ≡ after_work s.tables batch = work_left batch s.tables after done in
+          let i = installs (with_pending after s) e.rec e.signature next (sym (ap taken_by (proposal_is (Ok after) w)) ∙ t) in
+          let these : i.after ≡ after = let both : Some after ≡ Some i.after = i.pending in cc in
+          (
+            record {
+              accepted = work_accepted batch s.tables after done;
+              recorded = record { record_is = i.due ∙ ap (honest_record s.key (next_version s.installed)) (these ∙ same); signed = i.signed };
+            },
+            i.next_is ∙ ap (λ ss. with_installed (signed_of e) ss s) (these ∙ same),
+          )
+      step (Err why) w =
+          let refused : taken_later s e ≡ Err (fault.Command why.0 why.1 proofs) = ap taken_by (proposal_is (Err why) w) in
+          absurd (cc)
+
+module _ (key : List ℕ) where
+  -- what taking one entry more behind these tells
+  abbrev TakesNext : List Entry → Entry → Result StoreState StoreFault → Type 0
+  TakesNext front e (Ok next) = AreLoadable key (front ++ e ∷ []) × (next ≡ store_behind key (front ++ e ∷ []))
+  TakesNext front e (Err why) = AreLoadable key (front ++ e ∷ []) → ⊥
+
+  pub behind_none : store_behind key [] ≡ new_store key
+  unfolding store_behind honest_trees
+  behind_none = refl
+
+  takes_first : (e : Entry) → TakesNext [] e (install_of (new_store key) e.rec e.signature)
+  unfolding store_behind honest_trees
+  takes_first e = step (install_of (new_store key) e.rec e.signature) refl
+    where
+      none : [] ≡ honest_trees (batches_of (drop 1 []))
+      none = refl
+
+      step : (r : Result StoreState StoreFault) → install_of (new_store key) e.rec e.signature ≡ r → TakesNext [] e r
+      step (Ok next) is =
+          let i = installs (new_store key) e.rec e.signature next is in
+          let nothing : i.after ≡ [] = let both : Some [] ≡ Some i.after = i.pending in cc in
+          let recorded : IsRecorded key 0 [] e = record { record_is = i.due ∙ ap (honest_record key 0) nothing; signed = i.signed } in
+          ((taken_at_first key [] [] e (Some []) refl none (recorded, refl)).0, i.next_is ∙ ap (λ ss. with_installed (signed_of e) ss (new_store key)) nothing)
+      step (Err why) is =
+          taken_at_first key [] [] e None refl none (λ (r : IsRecorded key 0 [] e).
+          let taken = install_good (new_store key) e.rec e.signature [] refl r.record_is r.signed in
+          absurd (cc))
+
+  abbrev state : List Entry → Option SignedRecord → List Stored → StoreState
+  state es installed tables = record { key = key; installed = installed; tables = tables; pending = pending_behind es }
+
+  takes_later : (f : Entry) (front : List Entry) (e : Entry) → AllByRecursion FitsEntry (f ∷ front) → FitsEntry e → AreLoadable key (f ∷ front)
+      → TakesNext (f ∷ front) e (taken_later (store_behind key (f ∷ front)) e)
+  unfolding store_behind
+  takes_later f front e fit fits loadable = step (taken_later s e) refl
+    where
+      es : List Entry
+      es = f ∷ front
+
+      s : StoreState
+      s = state es (last_signed es) (honest_trees (batches_of front))
+
+      last : (x : Entry) × (slice_get es (length front) ≡ Some x)
+      last = last_there f front
+
+      there : s.installed ≡ Some (signed_of last.0)
+      there = ap (option_map signed_of) last.1
+
+      version : next_version s.installed ≡ length es
+      version = next_is key f front loadable
+
+      step : (r : Result StoreState StoreFault) → taken_later s e ≡ r → TakesNext es e r
+      step (Ok next) is =
+          let only = later_only s (signed_of last.0) there e next is in
+          let g = taken_behind key es s.tables e (Some (after_work s.tables e.batch.commands)) (omega arith) fit fits loadable refl
+          (subst (λ (n : ℕ). IsLoadableOn key n s.tables e) version only.0, refl) in
+          (
+            g.0,
+            only.1 ∙ ap (state (es ++ e ∷ []) (Some (signed_of e))) g.1
+                ∙ ap (λ o. state (es ++ e ∷ []) o (honest_trees (batches_of (front ++ e ∷ [])))) (sym (last_one es e)),
+          )
+      step (Err why) is =
+          taken_behind key es s.tables e None (omega arith) fit fits loadable refl (λ on.
+          let taken = later_taken s (signed_of last.0) there e (subst (λ (n : ℕ). IsLoadableOn key n s.tables e) (sym version) on) in
+          absurd (cc))
+
+  takes_next : (front : List Entry) (e : Entry) → AllByRecursion FitsEntry front → FitsEntry e → AreLoadable key front
+      → TakesNext front e (taken_as (length front) (store_behind key front) e)
+  takes_next [] e fit fits loadable = subst (λ s. TakesNext [] e (install_of s e.rec e.signature)) (sym behind_none) (takes_first e)
+  takes_next (f ∷ front) e fit fits loadable = takes_later f front e fit fits loadable
+
+  -- What taking all of them tells.
+
+  abbrev TakesAll : List Entry → Result StoreState ℕ → Type 0
+  TakesAll es (Ok s) = AreLoadable key es × (s ≡ store_behind key es)
+  TakesAll es (Err index) = StopsAt (AreLoadable key) es index
+
+  stops : (front : List Entry) (e : Entry) (rest : List Entry) → AreLoadable key front → (AreLoadable key (front ++ e ∷ []) → ⊥) → StopsAt (AreLoadable key) (front ++ e ∷ rest) (length front)
+  stops front e rest loadable no = record {
+    within = omega (arith, length-append front (e ∷ rest));
+    so_far = subst (AreLoadable key) (sym (take_at front (e ∷ rest) (length front) refl)) loadable;
+    not_on = λ more.
+        let long : length front + 1 ≡ length (front ++ e ∷ []) = omega (arith, length-append front (e ∷ [])) in
+        no (subst (AreLoadable key)
+        (ap (λ (n : ℕ). take n (front ++ e ∷ rest)) long ∙ ap (take (length (front ++ e ∷ []))) (sym (append_assoc front (e ∷ []) rest)) ∙ take_at (front ++ e ∷ []) rest (length (front ++ e ∷ [])) refl) more);
+  }
+
+  takes_all : (front rest : List Entry) → AllByRecursion FitsEntry front → AllByRecursion FitsEntry rest → AreLoadable key front
+      → TakesAll (front ++ rest) (taken_from (length front) rest (store_behind key front))
+  takes_all front [] fit fits loadable = subst (λ es. TakesAll es (Ok (store_behind key front))) (sym (append-nil front)) (loadable, refl)
+  takes_all front (e ∷ rest) fit fits loadable = step (taken_as (length front) (store_behind key front) e) (takes_next front e fit fits.0 loadable)
+    where
+      step : (r : Result StoreState StoreFault) → TakesNext front e r → TakesAll (front ++ e ∷ rest) (and_then (taken_from (length front + 1) rest) (refused_at (length front) r))
+      step (Err why) no = stops front e rest loadable no
+      step (Ok next) is =
+          let long : length (front ++ e ∷ []) ≡ length front + 1 = omega (arith, length-append front (e ∷ [])) in
+          let more = takes_all (front ++ e ∷ []) rest (each_both FitsEntry front (e ∷ []) fit (fits.0, tt)) fits.1 is.0 in
+          subst (λ es. TakesAll es (taken_from (length front + 1) rest next)) (append_assoc front (e ∷ []) rest)
+          (subst (λ s. TakesAll ((front ++ e ∷ []) ++ rest) (taken_from (length front + 1) rest s)) (sym is.1)
+          (subst (λ (n : ℕ). TakesAll ((front ++ e ∷ []) ++ rest) (taken_from n rest (store_behind key (front ++ e ∷ [])))) long more))
+
+  takes : (es : List Entry) → AllByRecursion FitsEntry es → TakesAll es (loaded key es)
+  unfolding loaded AreLoadable
+  takes es fit = subst (λ s. TakesAll es (taken_from 0 es s)) behind_none (takes_all [] es tt fit tt)
+
+  -- What a call that goes by what a store takes tells of the calls.
+
+  pub loaded_ok : (es : List Entry) → AllByRecursion FitsEntry es → AreLoadable key es → loaded key es ≡ Ok (store_behind key es)
+  loaded_ok es fit loadable = step (loaded key es) refl (takes es fit)
+    where
+      step : (r : Result StoreState ℕ) → loaded key es ≡ r → TakesAll es r → loaded key es ≡ Ok (store_behind key es)
+      step (Ok s) is t = is ∙ ap Ok t.1
+      step (Err i) is t = absurd (t.not_on (taken_front key (i + 1) es loadable))
+
+  one_stop : (es : List Entry) (i j : ℕ) → StopsAt (AreLoadable key) es i → StopsAt (AreLoadable key) es j → (i < j) → ⊥
+  one_stop es i j s t lt = s.not_on (subst (AreLoadable key) (shorter (i + 1) j es (omega (arith, lt))) (taken_front key (i + 1) (take j es) t.so_far))
+    where
+      shorter : (m n : ℕ) (xs : List Entry) → m ≤ n → take m (take n xs) ≡ take m xs
+      shorter zero n xs le = refl
+      shorter (suc m) zero xs le = absurd (omega arith)
+      shorter (suc m) (suc n) [] le = refl
+      shorter (suc m) (suc n) (x ∷ xs) le = ap (λ ys. x ∷ ys) (shorter m n xs (omega arith))
+
+  pub loaded_err : (es : List Entry) (index : ℕ) → AllByRecursion FitsEntry es → StopsAt (AreLoadable key) es index → loaded key es ≡ Err index
+  loaded_err es index fit stop = step (loaded key es) refl (takes es fit)
+    where
+      step : (r : Result StoreState ℕ) → loaded key es ≡ r → TakesAll es r → loaded key es ≡ Err index
+      step (Ok s) is t = absurd (stop.not_on (taken_front key (index + 1) es t.0))
+      step (Err i) is t =
+          let same : i ≡ index = omega (arith, (λ lt. one_stop es i index t stop lt), (λ lt. one_stop es index i stop t lt)) in
+          is ∙ ap Err same
+
+  -- A store behind entries keeps what every store does.
+
+  pub behind_honest : (es : List Entry) → AllByRecursion FitsEntry es → AreLoadable key es → IsHonestStore (store_behind key es)
+  unfolding store_behind honest_trees
+  behind_honest [] fit loadable = ([], record { fit = tt; tables = refl; installed = refl; pending = refl })
+  behind_honest (f ∷ front) fit loadable =
+      let es : List Entry = f ∷ front in
+      let last = last_there f front in
+      let held = entry_held key es (length front) last.0 loadable last.1 in
+      let batches : List (List Command) = batches_of front in
+      let long : length front ≡ length batches = sym (length-map front (λ (x : Entry). x.batch.commands)) in
+      let installed : IsInstalled key batches (Some (signed_of last.0)) = record {
+        record_is = held.record_is ∙ ap (λ (xs : List Entry). honest_record key (length front) (honest_trees (batches_of xs))) (take_all (length front) front (omega arith))
+            ∙ ap (λ (n : ℕ). honest_record key n (honest_trees batches)) long;
+        signed = held.signed;
+      } in
+      (batches, record {
+        fit = all_fit es fit;
+        tables = refl;
+        installed = subst (IsInstalled key batches) (sym (ap (option_map signed_of) last.1)) installed;
+        pending = subst (λ o. IsPending o (honest_trees batches) None) (sym (ap (option_map signed_of) last.1)) tt;
+      })

@@ -1,0 +1,82 @@
+-- What a store says, and how it goes on.
+use Rattle.std.specs.Prelude.{◌≡◌, ℕ, ◌+◌, ◌==◌, Bool, false, not, ◌&&◌, nat_le, if◌then◌else◌, List, [], ◌∷◌, length, Option, Some, None, is_none, Result, Ok, Err, bytes_eq}
+use Rattle.std.specs.Option.{option_map_or}
+use Rattle.vo_spec.specs.declared.tables.Command.{Command}
+use Rattle.vo_spec.specs.declared.tables.CommandFault.{CommandFault}
+use Rattle.vo_spec.specs.declared.records.Record.{Record}
+use Rattle.vo_spec.specs.Firsts.{and_then, first_of, unless}
+use Rattle.vo_spec.specs.Conditions.{Query}
+use Rattle.vo_spec.specs.Lms.{leaf_of, lms_valid}
+use Rattle.vo_spec.specs.Records.{record_bytes}
+use Rattle.vo_spec.specs.Replies.{reply_bytes, proofs_bytes, max_reply}
+use Rattle.vo_spec.specs.Honest.{Stored, honest_proofs, honest_record, honest_reply}
+use Rattle.stored_tables.specs.Working.{work_from}
+use Rattle.vo_store.specs.declared.fault.StoreFault.{StoreFault}
+use Rattle.vo_store.specs.declared.fault.StoreFault.TheVariants as fault
+use Rattle.vo_store.specs.declared.signed_record.SignedRecord.{SignedRecord}
+use Rattle.vo_store.specs.StoreState.{StoreState, with_installed, with_pending}
+
+-- what a call gave, seen so, is the answer, unless memory ran out
+abbrev pub Gives : {X Y : Type 0} → (X → Y) → Result X StoreFault → Result Y StoreFault → Type 0
+Gives view (Ok x) answer = answer ≡ Ok (view x)
+Gives view (Err fault.Memory) answer = Unit {0}
+Gives view (Err why) answer = answer ≡ Err why
+
+-- Queries.
+
+-- the reply's bytes, where they are not over the limit
+abbrev pub within_limit : List ℕ → Result (List ℕ) StoreFault
+within_limit bytes = if nat_le (length bytes) max_reply then Ok bytes
+    else Err (fault.TooLarge (length bytes))
+
+-- the one reply to a query by what is installed
+unfoldable pub answer_of : StoreState → Query → Result (List ℕ) StoreFault
+answer_of s q = option_map_or (λ (e : SignedRecord). within_limit
+    (reply_bytes (honest_reply q e.rec e.signature s.tables))) s.installed (Err fault.Empty)
+
+-- Proposals.
+
+-- what is seen of the trees after a batch, with its proofs; or the refused command, with the proofs up to it
+abbrev pub with_proofs : {X : Type 0} → (List Stored → X) → List ℕ
+    → Result (List Stored) (ℕ × CommandFault) → Result (X × List ℕ) StoreFault
+with_proofs view proofs (Ok after) = Ok (view after, proofs)
+with_proofs view proofs (Err refused) = Err (fault.Command refused.0 refused.1 proofs)
+
+-- The store behind a proposal, and the batch's proofs. A refused proposal leaves the store, and with it what was
+-- proposed before.
+unfoldable pub proposal_of : StoreState → List Command → Result (StoreState × List ℕ) StoreFault
+proposal_of s batch = if is_none s.installed then Err fault.Empty
+    else with_proofs (λ after. with_pending after s)
+    (proofs_bytes (honest_proofs batch s.tables)) (work_from 0 batch s.tables)
+
+-- Installs.
+
+abbrev pub next_version : Option SignedRecord → ℕ
+next_version installed = option_map_or (λ (e : SignedRecord). e.rec.version + 1) installed 0
+
+abbrev pub same_record : Record → Record → Bool
+same_record a b = bytes_eq a.id b.id && (a.version == b.version) && bytes_eq a.catalog b.catalog
+
+-- the signature of the record is valid, and by the leaf of its version
+abbrev pub is_signed : List ℕ → Record → List ℕ → Bool
+is_signed key rec signature =
+    option_map_or (λ leaf. leaf == rec.version) (leaf_of key signature) false
+    && lms_valid key (record_bytes rec) signature
+
+-- the record with its signature, where this record is due; or why it is refused
+abbrev pub signed_record : List ℕ → Record → Record → List ℕ → Result SignedRecord StoreFault
+signed_record key due rec signature = unless (first_of
+    ((not (same_record rec due), fault.WrongRecord due rec)
+    ∷ (not (is_signed key rec signature), fault.BadSignature)
+    ∷ []))
+    (record { rec = rec; signature = signature })
+
+-- the store behind an install of the version of these trees
+abbrev pub install_on : List Stored → StoreState → Record → List ℕ → Result StoreState StoreFault
+install_on after s rec signature = and_then (λ installed. Ok (with_installed installed after s))
+    (signed_record s.key (honest_record s.key (next_version s.installed) after) rec signature)
+
+-- the store behind an install
+unfoldable pub install_of : StoreState → Record → List ℕ → Result StoreState StoreFault
+install_of s rec signature = option_map_or (λ after. install_on after s rec signature)
+    s.pending (Err fault.NothingProposed)

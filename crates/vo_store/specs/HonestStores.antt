@@ -1,0 +1,45 @@
+-- What every store keeps: its tables are those of some batches, and its record is theirs, signed.
+use Rattle.std.specs.Prelude.{◌≡◌, ℕ, List, [], length, Option, Some, None, Ok}
+use Rattle.std.specs.List.{AllByRecursion}
+use Rattle.vo_spec.specs.declared.tables.Command.{Command}
+use Rattle.vo_spec.specs.Batches.{FitsBatch}
+use Rattle.vo_spec.specs.Owners.{IsSigned}
+use Rattle.vo_spec.specs.Honest.{Stored, honest_record, honest_trees, work_all}
+use Rattle.vo_store.specs.declared.signed_record.SignedRecord.{SignedRecord}
+use Rattle.vo_store.specs.StoreState.{StoreState}
+
+-- the record is that of the version of these batches, signed by the version's leaf
+pub record IsRecordOf (key : List ℕ) (batches : List (List Command))
+    (installed : SignedRecord) : Type 0 where
+  pub record_is : installed.rec ≡ honest_record key (length batches) (honest_trees batches)
+  pub signed : IsSigned key installed.rec installed.signature
+
+-- the trees are those of some batches
+abbrev pub AreHonest : List Stored → Type 0
+AreHonest tables = (batches : List (List Command)) × AllByRecursion FitsBatch batches
+    × (tables ≡ honest_trees batches)
+
+-- the trees are what some batch makes of these
+abbrev pub FollowBy : List Stored → List Stored → Type 0
+FollowBy tables after = (batch : List Command) × FitsBatch batch
+    × (work_all batch tables ≡ Ok after)
+
+-- what is proposed behind what is installed: version 0 where nothing is
+abbrev pub IsPending : Option SignedRecord → List Stored → Option (List Stored) → Type 0
+IsPending None tables pending = pending ≡ Some []
+IsPending (Some installed) tables None = Unit {0}
+IsPending (Some installed) tables (Some after) = FollowBy tables after
+
+abbrev pub IsInstalled : List ℕ → List (List Command) → Option SignedRecord → Type 0
+IsInstalled key batches None = batches ≡ []
+IsInstalled key batches (Some installed) = IsRecordOf key batches installed
+
+-- The store has installed the versions of these batches, version 0 before them, or nothing.
+pub record IsHonestAfter (batches : List (List Command)) (s : StoreState) : Type 0 where
+  pub fit : AllByRecursion FitsBatch batches
+  pub tables : s.tables ≡ honest_trees batches
+  pub installed : IsInstalled s.key batches s.installed
+  pub pending : IsPending s.installed s.tables s.pending
+
+abbrev pub IsHonestStore : StoreState → Type 0
+IsHonestStore s = (batches : List (List Command)) × IsHonestAfter batches s

@@ -1,0 +1,138 @@
+//! A store: the tables of the version that is installed, and those of the version that is proposed.
+use crate::answering::answer_by_tables;
+use crate::fault::StoreFault;
+use crate::installing::{next_version, signed_record};
+use crate::proposing::propose_batch;
+use crate::signed_record::SignedRecord;
+use lms_sign::PublicKey;
+use std::alloc::{AllocError, Global};
+use std::marker::Model;
+use stored_tables::StoredTables;
+use vo_spec::{Batch, QueryText, Record};
+
+/// A store of an owner's tables, which contracts see as its state (`StoreState`).
+#[derive(Drop)]
+pub struct Store {
+    pub(crate) key: PublicKey,
+    pub(crate) installed: Option<SignedRecord>,
+    pub(crate) tables: StoredTables,
+    pub(crate) pending: Option<StoredTables>,
+}
+
+impl Model for Store {
+    ghost use Rattle.vo_store.specs.StoreState.{StoreState};
+    ghost use Rattle.vo_store.specs.HonestStores.{IsHonestStore};
+
+    ghost Value = { StoreState };
+
+    ghost view = { λ store. record {
+      key = store.key;
+      installed = store.installed;
+      tables = store.tables;
+      pending = store.pending;
+    } };
+
+    ghost invariant = { λ store. IsHonestStore (record {
+      key = store.key;
+      installed = store.installed;
+      tables = store.tables;
+      pending = store.pending;
+    }) };
+}
+
+impl Store {
+    ghost use Rattle.std.specs.Prelude.{◌≡◌, IfOk, OnErr, option_map};
+    ghost use Rattle.vo_spec.specs.Batches.{FitsBatch};
+    ghost use Rattle.vo_spec.specs.Conditions.{query_of};
+    ghost use Rattle.vo_store.specs.StoreState.{new_store};
+    ghost use Rattle.vo_store.specs.Calls.{Gives, answer_of, install_of, proposal_of};
+    ghost use Rattle.vo_store.specs.HonestStores.{IsHonestStore};
+
+    /// A store of the key that has installed nothing: version 0, which has no tables, is proposed.
+    pub fn new(alloc: Global, key: PublicKey) -> Result<Store, AllocError>
+        ensures { IfOk result (λ store. store ≡ new_store key) }
+    {
+        Ok(Store {
+            key,
+            installed: None,
+            tables: StoredTables::new(alloc),
+            pending: Some(StoredTables::new(alloc)),
+        })
+    }
+
+    /// Proposes the next version, of this batch, in the place of one that was proposed before, and gives the batch's
+    /// proofs as bytes.
+    pub fn propose(&mut self, alloc: Global, batch: &Batch) -> Result<Vec<u8>, StoreFault>
+        requires { FitsBatch batch.now.commands }
+        ensures answer { Gives (λ proofs. (self.new, proofs.items)) result
+            (proposal_of self.old batch.now.commands) }
+        ensures left { OnErr result (self.new ≡ self.old) }
+    {
+        if self.installed.is_none() {
+            return Err(StoreFault::Empty);
+        }
+        match propose_batch(alloc, &self.tables, batch) {
+            Ok(proposal) => {
+                self.pending = Some(proposal.after);
+                Ok(proposal.proofs)
+            }
+            Err(fault) => Err(fault),
+        }
+    }
+
+    /// Installs the version that is proposed, if this is its record, signed.
+    pub fn install(
+        &mut self,
+        alloc: Global,
+        rec: &Record,
+        signature: &[u8],
+    ) -> Result<(), StoreFault>
+        ensures answer { Gives (λ _. self.new) result
+            (install_of self.old rec.now signature.now) }
+        ensures left { OnErr result (self.new ≡ self.old) }
+    {
+        let installed = match &self.pending {
+            Some(after) => {
+                let version = next_version(&self.installed);
+                signed_record(alloc, &self.key, version, after, rec, signature)?
+            }
+            None => return Err(StoreFault::NothingProposed),
+        };
+        if let Some(after) = self.pending.take() {
+            self.tables = after;
+        }
+        self.installed = Some(installed);
+        Ok(())
+    }
+
+    /// The reply to the query, as bytes, by the version that is installed.
+    pub fn answer(&self, alloc: Global, query: &QueryText) -> Result<Vec<u8>, StoreFault>
+        ensures { Gives (λ bytes. bytes.items) result (answer_of self.now (query_of query.now)) }
+    {
+        match &self.installed {
+            Some(installed) => answer_by_tables(alloc, installed, &self.tables, query),
+            None => Err(StoreFault::Empty),
+        }
+    }
+
+    /// The version that is installed, if one is.
+    pub fn version(&self) -> Option<u64>
+        ensures { result ≡ option_map (λ installed. installed.rec.version) self.now.installed }
+    {
+        match &self.installed {
+            Some(installed) => Some(installed.rec.version),
+            None => None,
+        }
+    }
+
+    /// The record of the version that is installed, if one is.
+    pub fn standing(&self) -> Option<Record>
+        ensures value { result ≡ option_map (λ installed. installed.rec) self.now.installed }
+        ensures honest { IsHonestStore self.now }
+    {
+        match &self.installed {
+            Some(installed) => Some(installed.rec),
+            None => None,
+        }
+    }
+}
