@@ -100,8 +100,7 @@ module _ (s : StoreState) (before : SignedRecord) (there : s.installed ≡ Some 
           let done : work_all batch s.tables ≡ Ok after = work_done batch s.tables after w in
           let same : after ≡ after_work s.tables batch = work_left batch s.tables after done in
           let i = installs (with_pending after s) e.rec e.signature next (sym (ap taken_by (proposal_is (Ok after) w)) ∙ t) in
-          let these : i.after ≡ after = let both : Some after ≡ Some i.after = i.pending in cc in
-          (
+          let these : i.after ≡ after = let both : Some after ≡ Some i.after = i.pending in cc in (
             record {
               accepted = work_accepted batch s.tables after done;
               recorded = record { record_is = i.due ∙ ap (honest_record s.key (next_version s.installed)) (these ∙ same); signed = i.signed };
@@ -167,8 +166,7 @@ module _ (key : List ℕ) where
       step (Ok next) is =
           let only = later_only s (signed_of last.0) there e next is in
           let g = taken_behind key es s.tables e (Some (after_work s.tables e.batch.commands)) (omega arith) fit fits loadable refl
-          (subst (λ (n : ℕ). IsLoadableOn key n s.tables e) version only.0, refl) in
-          (
+          (subst (λ (n : ℕ). IsLoadableOn key n s.tables e) version only.0, refl) in (
             g.0,
             only.1 ∙ ap (state (es ++ e ∷ []) (Some (signed_of e))) g.1
                 ∙ ap (λ o. state (es ++ e ∷ []) o (honest_trees (batches_of (front ++ e ∷ [])))) (sym (last_one es e)),
@@ -259,10 +257,12 @@ module _ (key : List ℕ) where
         record_is = held.record_is ∙ ap (λ (xs : List Entry). honest_record key (length front) (honest_trees (batches_of xs))) (take_all (length front) front (omega arith))
             ∙ ap (λ (n : ℕ). honest_record key n (honest_trees batches)) long;
         signed = held.signed;
-      } in
-      (batches, record {
-        fit = all_fit es fit;
-        tables = refl;
-        installed = subst (IsInstalled key batches) (sym (ap (option_map signed_of) last.1)) installed;
-        pending = subst (λ o. IsPending o (honest_trees batches) None) (sym (ap (option_map signed_of) last.1)) tt;
-      })
+      } in (
+        batches,
+        record {
+          fit = all_fit es fit;
+          tables = refl;
+          installed = subst (IsInstalled key batches) (sym (ap (option_map signed_of) last.1)) installed;
+          pending = subst (λ o. IsPending o (honest_trees batches) None) (sym (ap (option_map signed_of) last.1)) tt;
+        },
+      )

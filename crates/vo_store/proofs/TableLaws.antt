@@ -144,7 +144,7 @@ module _ (batches : List (List Command)) (cs : List Command) (s : StoreState) (h
       let new : SignedRecord = record { rec = rec; signature = signature } in
       let made : next ≡ with_installed new a.after s = n.next_is ∙ ap (λ ss. with_installed new ss s) these in (
         subst (IsHonestAfter (batches ++ cs ∷ [])) (sym made)
-        (behind a.after s.installed refl a.there done new n.signed (n.due ∙ ap (honest_record s.key (next_version s.installed)) these)),
+            (behind a.after s.installed refl a.there done new n.signed (n.due ∙ ap (honest_record s.key (next_version s.installed)) these)),
         ap (λ (t : StoreState). t.tables) made ∙ work_left cs s.tables a.after done,
       )
     where

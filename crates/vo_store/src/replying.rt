@@ -38,11 +38,7 @@ pub fn reply_by(
 }
 
 /// The answer of a store that has installed a version.
-fn answer_of_loaded(
-    alloc: Global,
-    store: &Store,
-    query: &QueryText,
-) -> Result<Vec<u8>, ReplyFault>
+fn answer_of_loaded(alloc: Global, store: &Store, query: &QueryText) -> Result<Vec<u8>, ReplyFault>
     requires { IsSome store.now.installed }
     ensures { Replies result (answer_of store.now (query_of query.now)) }
 {
