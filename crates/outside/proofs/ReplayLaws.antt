@@ -1,8 +1,8 @@
 -- A replay of what a disk in memory did, a call at a time.
 use Rattle.std.proofs.Common.{◌≡◌, ℕ, zero, suc, ◌+◌, ◌<◌, ◌≤◌, ◌⊎◌, inl, inr, List, [], ◌∷◌, ◌++◌, length, take, fold, get_or, refl, sym, ap, subst, ◌∙◌, arith}
-use Rattle.std.proofs.lemmas.List.{take_more}
+use Rattle.std.proofs.lemmas.List.{take_more, take_all}
 use Rattle.std.proofs.lemmas.List.Sums.{fold-append}
-use Rattle.outside.specs.DiskModel.{Down, DiskModel, IsImage, LeftSince, crashed_at, now, down_after}
+use Rattle.outside.specs.DiskModel.{Down, IsImage, LeftSince, crashed_at, down_after}
 use Rattle.outside.specs.Done.{seen_next, call_of, seen_after, calls_after}
 use Rattle.outside.specs.declared.mem_disk.done.Done.{Done}
 use Rattle.outside.proofs.Logged.{calls_push, calls_length}
@@ -70,3 +70,10 @@ none_on log first image done since i down at not none m low high is = by_place (
     by_place (inl below) = none m low below is
     by_place (inr here) =
         not (omega (arith, low, here), subst (λ (d : Down). IsImage d image) (sym at) (subst (λ (n : ℕ). IsImage (crashed log first (take n done)) image) here is))
+
+-- what a crash may leave at a moment, or at the last one
+pub crashed_by : (seen first log : List ℕ) (done : List Done) (i m : ℕ) → (i ≡ m) ⊎ ((length done ≤ i) × (i ≤ m))
+    → crashed log first (take i done) ≡ crashed_at (record { seen = seen; first = first; calls = calls_after log first done }) m
+crashed_by seen first log done i m (inl here) = ap (λ (n : ℕ). crashed log first (take n done)) here ∙ sym (crashed-is first log done m)
+crashed_by seen first log done i m (inr past) =
+    ap (crashed log first) (take_all i done past.0 ∙ sym (take_all m done (omega (arith, past.0, past.1)))) ∙ sym (crashed-is first log done m)

@@ -1,12 +1,10 @@
 -- The ranges of writes, and what a replay comes to.
-use Rattle.std.proofs.Common.{◌≡◌, ℕ, zero, suc, ◌+◌, ◌<◌, ◌≤◌, ◌||◌, not, Bool, true, false, max, nat_le, List, [], ◌∷◌, ◌++◌, length, take, slice_index, IsTrue, refl, sym, ap, ◌∙◌, arith}
+use Rattle.std.proofs.Common.{◌≡◌, ℕ, ◌<◌, ◌≤◌, ◌||◌, not, Bool, true, false, max, nat_le, List, [], ◌∷◌, ◌++◌, length, slice_index, IsTrue, refl, ap, ◌∙◌, arith}
 use Rattle.std.specs.List.{list_any}
 use Rattle.std.proofs.lemmas.Bool.Decides.{nat_tests}
-use Rattle.outside.specs.DiskModel.{Down, Call, DiskModel, IsImage, down_after, has, is_written, range_end, furthest}
-use Rattle.outside.specs.Done.{seen_next, call_of, seen_after, calls_after}
-use Rattle.outside.specs.declared.mem_disk.done.Done.{Done}
+use Rattle.outside.specs.DiskModel.{Down, IsImage, has, is_written, range_end, furthest}
 use Rattle.outside.specs.declared.mem_disk.replay.Write.{Write}
-use Rattle.outside.specs.Replay.{range_of, onto, down_of}
+use Rattle.outside.specs.Replay.{range_of, onto}
 
 pub onto_push : (ranges : List (ℕ × ℕ)) (writes : List Write) (write : Write) → onto ranges (writes ++ write ∷ []) ≡ range_of write ∷ onto ranges writes
 onto_push ranges [] write = refl
@@ -59,3 +57,7 @@ furthest_any end from writes =
 pub image_parts : (down : Down) (image : List ℕ) → length down.contents ≤ length image → length image ≤ furthest (length down.contents) down.ranges
     → ((k : ℕ) → k < length down.contents → IsTrue (not (is_written k down.ranges)) → slice_index image k ≡ slice_index down.contents k) → IsImage down image
 image_parts down image low high stays = record { no_shorter = low; no_longer = high; stays = stays }
+
+pub furthest_from : (from : ℕ) (ranges : List (ℕ × ℕ)) → from ≤ furthest from ranges
+furthest_from from [] = omega arith
+furthest_from from (range ∷ ranges) = omega (arith, furthest_from from ranges)

@@ -3,7 +3,7 @@ ghost use Rattle.std.specs.Prelude.{◌≡◌, ℕ, ◌+◌, ◌-◌, ◌≤◌,
 ghost use Rattle.std.specs.List.{list_all};
 ghost use Rattle.outside.specs.declared.room.Room.{Room};
 ghost use Rattle.outside.specs.Done.{seen_after, is_within};
-ghost use Rattle.outside.specs.DiskModel.{HasRoom, NoLess, LeftSince, fresh, now, overwritten, write_on, write_leaving, sync_now, lessened};
+ghost use Rattle.outside.specs.DiskModel.{HasRoom, IsImage, NoLess, LeftSince, crashed_at, fresh, now, overwritten, write_on, write_leaving, sync_now, lessened};
 ghost use Rattle.outside.specs.Failure.{front_of};
 ghost use Rattle.outside.specs.FaultRose.{FaultRose};
 
@@ -91,6 +91,22 @@ impl<P: Failures> MemDisk<P> {
             return Ok(true);
         }
         Ok(false)
+    }
+
+    /// What a crash at a moment may have left, the bytes that it loses being these: they stand where a
+    /// write was begun since the last sync, and past what was down then as far as the writes reach.
+    pub fn image(&self, alloc: Global, moment: usize, lost: &[u8]) -> Result<Vec<u8>, AllocError>
+        ensures { IfOk result (λ image.
+            IsImage (crashed_at (drive_of self.now) moment) image.items) }
+    {
+        let mut replay = Replay::new(alloc, &self.first)?;
+        for (place, one) in self.done.iter().enumerate() {
+            if place == moment {
+                return replay.image(alloc, lost);
+            }
+            replay.step(alloc, &self.log, one)?;
+        }
+        replay.image(alloc, lost)
     }
 
     /// Writes a front of a piece, the rest of which is lost.

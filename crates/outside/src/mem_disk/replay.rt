@@ -114,6 +114,51 @@ impl Replay {
         self.contents.len() <= image.len() && self.reaches(image.len()) && self.keeps(image)
     }
 
+    /// What a crash at this moment may leave, the bytes that it loses being these: they stand where a
+    /// write was begun, and past what was down as far as the writes reach.
+    pub fn image(&self, alloc: Global, lost: &[u8]) -> Result<Vec<u8>, AllocError>
+        ensures { IfOk result (λ image. IsImage (down_of self.now) image.items) }
+    {
+        let mut image = self.with_lost(alloc, lost)?;
+        self.extend(&mut image, &lost[self.contents.len().min(lost.len())..])?;
+        Ok(image)
+    }
+
+    /// What was down, with lost bytes where a write was begun.
+    fn with_lost(&self, alloc: Global, lost: &[u8]) -> Result<Vec<u8>, AllocError>
+        ensures length { IfOk result (λ image. length image.items
+            ≡ length self.now.contents.items) }
+        ensures stays { IfOk result (λ image. (k : ℕ) → k < length self.now.contents.items
+            → IsTrue (not (is_written k (down_of self.now).ranges))
+            → slice_index image.items k ≡ slice_index self.now.contents.items k) }
+    {
+        let mut image = Vec::new(alloc);
+        for (place, byte) in self.contents.iter().enumerate() {
+            let is_lost = place < lost.len() && self.has_written(place);
+            image.push(if is_lost { lost[place] } else { *byte })?;
+        }
+        Ok(image)
+    }
+
+    /// Puts more bytes at the end, as far as the writes reach.
+    fn extend(&self, image: &mut Vec<u8>, more: &[u8]) -> Result<(), AllocError>
+        requires { length image.old.items
+            ≤ furthest (length self.now.contents.items) (down_of self.now).ranges }
+        ensures longer { OnOk result (length image.old.items ≤ length image.new.items) }
+        ensures within { OnOk result (length image.new.items
+            ≤ furthest (length self.now.contents.items) (down_of self.now).ranges) }
+        ensures front { OnOk result ((k : ℕ) → k < length image.old.items
+            → slice_index image.new.items k ≡ slice_index image.old.items k) }
+    {
+        for byte in more {
+            if !self.reaches(image.len() + 1) {
+                return Ok(());
+            }
+            image.push(*byte)?;
+        }
+        Ok(())
+    }
+
     /// Whether this moment is no earlier than another, and a crash at it may leave these bytes.
     pub fn leaves(&self, moment: usize, since: usize, image: &[u8]) -> bool
         ensures { IsTrue result ↔ ((since ≤ moment) × IsImage (down_of self.now) image.now) }
