@@ -1,3 +1,5 @@
 pub mod Logged
 pub mod MomentLaws
 pub mod RoomLaws
+pub mod Replays
+pub mod ReplayLaws

@@ -1,8 +1,8 @@
 -- What crashes during calls may leave, a call at a time.
-use Rattle.std.proofs.Common.{◌≡◌, ℕ, ◌+◌, ◌<◌, ◌≤◌, ◌⊎◌, inl, inr, List, [], ◌∷◌, ◌++◌, length, take, Option, Some, None, refl, sym, ap, subst, ◌∙◌, append_assoc, append-nil, arith}
+use Rattle.std.proofs.Common.{◌≡◌, ℕ, ◌+◌, ◌≤◌, ◌⊎◌, inl, inr, List, [], ◌∷◌, ◌++◌, length, take, Option, Some, None, refl, sym, ap, subst, ◌∙◌, append_assoc, append-nil, arith}
 use Rattle.std.proofs.lemmas.List.{take_all, take-append-le, length-append, ext_get_or}
 use Rattle.std.proofs.lemmas.List.Sums.{fold-append}
-use Rattle.outside.specs.DiskModel.{Call, Wrote, Synced, DiskModel, Down, IsImage, MayLeave, LeftSince, crashed_at, now, down_after, overwritten, write_leaving, write_on, sync_now, torn, wrote, put_down}
+use Rattle.outside.specs.DiskModel.{Call, Wrote, Synced, DiskModel, Down, IsImage, MayLeave, LeftSince, crashed_at, now, down_after, overwritten, write_leaving, write_on, sync_now, torn, wrote}
 use Rattle.outside.specs.Moments.{IsDown, Torn, LeavesOnly, IfKnown, written_down}
 use Rattle.outside.specs.ImageLaws.{after_write}
 

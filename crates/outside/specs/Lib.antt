@@ -14,3 +14,4 @@ pub mod FaultRose
 pub mod Shelf
 pub mod Sink
 pub mod ConnectionModel
+pub mod Replay

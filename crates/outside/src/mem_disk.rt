@@ -1,9 +1,9 @@
 //! A disk that is kept in memory, with what was done to it.
-ghost use Rattle.std.specs.Prelude.{◌≡◌, ℕ, ◌+◌, ◌-◌, ◌≤◌, ◌↔◌, List, Some, length, take, drop, vec_len, vec_capacity, IsSome, IsTrue, IfOk, OnOk, OnErr, IsErr};
+ghost use Rattle.std.specs.Prelude.{◌≡◌, ℕ, ◌+◌, ◌-◌, ◌≤◌, ◌↔◌, List, Some, Ok, true, false, length, take, drop, vec_len, vec_capacity, IsSome, IsTrue, IfOk, OnOk, OnErr, IsErr};
 ghost use Rattle.std.specs.List.{list_all};
 ghost use Rattle.outside.specs.declared.room.Room.{Room};
 ghost use Rattle.outside.specs.Done.{seen_after, is_within};
-ghost use Rattle.outside.specs.DiskModel.{HasRoom, NoLess, fresh, now, overwritten, write_on, write_leaving, sync_now, lessened};
+ghost use Rattle.outside.specs.DiskModel.{HasRoom, IsImage, NoLess, LeftSince, crashed_at, fresh, now, overwritten, write_on, write_leaving, sync_now, lessened};
 ghost use Rattle.outside.specs.Failure.{front_of};
 ghost use Rattle.outside.specs.FaultRose.{FaultRose};
 
@@ -15,9 +15,11 @@ use std::alloc::{AllocError, Global};
 
 mod done;
 mod overwrite;
+mod replay;
 
 use done::Done;
 use overwrite::overwrite;
+use replay::Replay;
 
 /// Contents, and each write and sync since they were handed in.
 #[derive(Drop)]
@@ -71,6 +73,40 @@ impl<P: Failures> MemDisk<P> {
         ensures { result ≡ now (drive_of self.now) }
     {
         self.done.len()
+    }
+
+    /// Whether a crash at this moment or a later one may have left these bytes.
+    pub fn has_left(&self, alloc: Global, since: usize, image: &[u8]) -> Result<bool, AllocError>
+        ensures yes { result ≡ Ok true → LeftSince (drive_of self.now) since image.now }
+        ensures no { result ≡ Ok false → LeftSince (drive_of self.now) since image.now → ⊥ }
+    {
+        let mut replay = Replay::new(alloc, &self.first)?;
+        for (moment, one) in self.done.iter().enumerate() {
+            if replay.leaves(moment, since, image) {
+                return Ok(true);
+            }
+            replay.step(alloc, &self.log, one)?;
+        }
+        if replay.leaves(self.done.len(), since, image) {
+            return Ok(true);
+        }
+        Ok(false)
+    }
+
+    /// What a crash at a moment may have left, the bytes that it loses being these: they stand where a
+    /// write was begun since the last sync, and past what was down then as far as the writes reach.
+    pub fn image(&self, alloc: Global, moment: usize, lost: &[u8]) -> Result<Vec<u8>, AllocError>
+        ensures { IfOk result (λ image.
+            IsImage (crashed_at (drive_of self.now) moment) image.items) }
+    {
+        let mut replay = Replay::new(alloc, &self.first)?;
+        for (place, one) in self.done.iter().enumerate() {
+            if place == moment {
+                return replay.image(alloc, lost);
+            }
+            replay.step(alloc, &self.log, one)?;
+        }
+        replay.image(alloc, lost)
     }
 
     /// Writes a front of a piece, the rest of which is lost.

@@ -1,7 +1,7 @@
 -- Bytes that a write goes over, and what a write that is cut short leaves of them.
-use Rattle.std.proofs.Common.{◌≡◌, ℕ, zero, suc, ◌+◌, ◌-◌, ◌<◌, ◌≤◌, ◌⊎◌, inl, inr, not, IsTrue, Bool, true, false, cond, ◌==◌, List, [], ◌∷◌, ◌++◌, length, take, drop, get_or, refl, sym, ap, ◌∙◌, append_assoc, append-nil, arith}
+use Rattle.std.proofs.Common.{◌≡◌, ℕ, zero, suc, ◌+◌, ◌-◌, ◌<◌, ◌≤◌, ◌⊎◌, inl, inr, not, IsTrue, Bool, true, false, cond, ◌==◌, List, [], ◌∷◌, ◌++◌, length, drop, get_or, refl, sym, ap, ◌∙◌, append_assoc, append-nil, arith}
 use Rattle.std.proofs.lemmas.Bool.Decides.{nat_tests}
-use Rattle.std.proofs.lemmas.List.{take_at, drop_at, length-append, length-drop, ext_get_or}
+use Rattle.std.proofs.lemmas.List.{take_at, length-append, ext_get_or}
 use Rattle.std.proofs.lemmas.List.Prefix.{front_from_reads, front_reads}
 use Rattle.outside.specs.DiskModel.{overwritten, is_written}
 use Rattle.outside.specs.Moments.{Torn}

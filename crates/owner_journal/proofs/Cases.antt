@@ -1,5 +1,5 @@
 -- How a call ended.
-use Rattle.std.proofs.Common.{Result, Ok, Err, OnOk, OnErr, IfOk, IfErr}
+use Rattle.std.proofs.Common.{Result, Ok, Err, OnOk, IfOk, IfErr}
 
 pub where_ok : {A E : Type 0} (r : Result A E) (P Q : Type 0) → (P → Q) → OnOk r P → OnOk r Q
 where_ok (Ok value) P Q step ok = step ok

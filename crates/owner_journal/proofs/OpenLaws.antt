@@ -1,9 +1,8 @@
 -- What opening makes of a disk.
-use Rattle.std.proofs.Common.{◌≡◌, ℕ, ◌+◌, ◌<◌, ◌≤◌, ◌⊎◌, inl, inr, List, [], ◌∷◌, ◌++◌, length, drop, Option, Some, None, IfSome, Result, Ok, Err, IfErr, refl, sym, ap, subst, ◌∙◌, arith}
-use Rattle.std.specs.List.{AllByRecursion, flat_map}
+use Rattle.std.proofs.Common.{◌≡◌, ℕ, ◌<◌, ◌≤◌, inl, inr, List, [], ◌∷◌, length, drop, Option, Some, None, IfSome, Result, Ok, Err, IfErr, refl, sym, ap, subst, arith}
 use Rattle.vo_spec.specs.declared.records.Entry.{Entry}
-use Rattle.vo_spec.specs.Journals.{FitsEntry, slot, IsClosed, IsJournal}
-use Rattle.outside.specs.DiskModel.{DiskModel, MayLeave, Synced, overwritten, sync_now, write_on, put_down}
+use Rattle.vo_spec.specs.Journals.{IsJournal}
+use Rattle.outside.specs.DiskModel.{DiskModel, MayLeave, Synced, sync_now, write_on, put_down}
 use Rattle.outside.specs.Moments.{IsDown, Torn, LeavesOnly, IfKnown, written_down}
 use Rattle.outside.proofs.MomentLaws.{rests, weaker, joins, one_more, only_seen, synced_down}
 use Rattle.owner_journal.specs.declared.fault.JournalFault.{JournalFault}

@@ -1,14 +1,12 @@
 -- A disk at rest with a journal, and what calls make of it.
-use Rattle.std.proofs.Common.{◌≡◌, ℕ, ◌+◌, ◌<◌, ◌≤◌, ◌⊎◌, inl, inr, List, [], ◌∷◌, ◌++◌, length, drop, Option, Some, None, IfSome, refl, sym, ap, subst, ◌∙◌, arith}
-use Rattle.std.specs.List.{AllByRecursion, flat_map}
+use Rattle.std.proofs.Common.{◌≡◌, ℕ, ◌+◌, inl, inr, List, [], ◌∷◌, ◌++◌, length, Option, Some, None, sym, ap, subst, ◌∙◌, arith}
 use Rattle.vo_spec.specs.declared.records.Entry.{Entry}
-use Rattle.vo_spec.specs.Journals.{FitsEntry, slot, IsClosed, IsJournal}
-use Rattle.outside.specs.DiskModel.{DiskModel, MayLeave, Synced, overwritten, sync_now, write_on, put_down}
+use Rattle.vo_spec.specs.Journals.{FitsEntry, IsJournal}
+use Rattle.outside.specs.DiskModel.{DiskModel, MayLeave, overwritten, sync_now, write_on}
 use Rattle.outside.specs.Moments.{IsDown, Torn, LeavesOnly, IfKnown, written_down}
-use Rattle.outside.proofs.MomentLaws.{rests, weaker, joins, one_more, only_seen, synced_down}
+use Rattle.outside.proofs.MomentLaws.{rests, weaker, joins, only_seen, synced_down}
 use Rattle.owner_journal.specs.Slots.{slot_down, WhileSlot}
-use Rattle.owner_journal.specs.Resting.{IsAtRest, HoldsWith, HoldsAsBefore, behind_gate, end_of}
-use Rattle.owner_journal.proofs.ByteRuns.{written_over}
+use Rattle.owner_journal.specs.Resting.{IsAtRest, HoldsWith, behind_gate, end_of}
 use Rattle.owner_journal.proofs.SlotImages.{all_with, is_journal, holds_with, slot_parts}
 
 pub rest_holds : (es : List Entry) (drive : DiskModel) → IsAtRest es drive → (image : List ℕ) → MayLeave drive image → IsJournal image es

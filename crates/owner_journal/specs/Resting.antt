@@ -1,14 +1,13 @@
 -- What a disk holds of a journal, between calls and while they work.
-use Rattle.std.specs.Prelude.{◌≡◌, ◌⊎◌, ℕ, List, [], ◌∷◌, ◌++◌, length, flat_map, Option, IfSome, Result}
+use Rattle.std.specs.Prelude.{◌≡◌, ◌⊎◌, ℕ, List, [], ◌∷◌, ◌++◌, length, flat_map}
 use Rattle.std.specs.List.{AllByRecursion}
 use Rattle.vo_spec.specs.declared.records.Entry.{Entry}
 use Rattle.vo_spec.specs.Bytes.{block}
 use Rattle.vo_spec.specs.Journals.{FitsEntry, entry_bytes, slot, IsClosed, IsJournal, IsDamaged}
 use Rattle.outside.specs.DiskModel.{DiskModel, MayLeave}
-use Rattle.outside.specs.Moments.{IsDown, written_down}
+use Rattle.outside.specs.Moments.{IsDown}
 use Rattle.owner_journal.specs.declared.fault.JournalFault.{JournalFault}
 use Rattle.owner_journal.specs.declared.fault.JournalFault.TheVariants.{Disk, Damaged, Memory}
-use Rattle.owner_journal.specs.Slots.{slot_down}
 
 -- The disk has slots of these entries and a closed gate behind them, and what reads give is down.
 pub record IsAtRest (es : List Entry) (drive : DiskModel) : Type 0 where

@@ -1,6 +1,5 @@
-use Rattle.std.proofs.Common.{◌≡◌, ◌*◌, ◌^◌, ◌≤◌, List, length, ap, sym, subst, ◌∙◌}
+use Rattle.std.proofs.Common.{◌*◌, ◌^◌, ◌≤◌, List, length, ap, sym, subst, ◌∙◌}
 use Rattle.vo_spec.specs.declared.records.Entry.{Entry}
-use Rattle.vo_spec.specs.Journals.{IsJournal}
 use Rattle.owner_state.specs.Endings.{EndsSo}
 use Rattle.owner_journal.specs.Resting.{end_of}
 use Rattle.owner_journal.proofs.Sizes.{slots_short}

@@ -1,4 +1,4 @@
-use Rattle.std.proofs.Common.{◌≡◌, ◌++◌, ◌∷◌, [], refl, subst, ℕ, List}
+use Rattle.std.proofs.Common.{◌≡◌, refl, subst}
 use Rattle.vo_spec.specs.declared.records.Entry.{Entry}
 use Rattle.outside.specs.Moments.{IfKnown, LeavesOnly}
 use Rattle.owner_journal.specs.Resting.{IsAtRest, HoldsWith, behind_gate, end_of}

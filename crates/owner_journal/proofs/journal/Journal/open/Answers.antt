@@ -1,7 +1,7 @@
-use Rattle.std.proofs.Common.{◌≡◌, ℕ, ◌<◌, ◌≤◌, List, [], ◌∷◌, length, Option, IfSome, sym, ap, subst, ◌∙◌}
+use Rattle.std.proofs.Common.{◌≡◌, ◌<◌, ◌≤◌, List, [], ◌∷◌, length, Option, IfSome, sym, ap, subst, ◌∙◌}
 use Rattle.vo_spec.specs.declared.records.Entry.{Entry}
 use Rattle.vo_spec.specs.Journals.{IsJournal}
-use Rattle.outside.specs.DiskModel.{DiskModel, MayLeave, put_down}
+use Rattle.outside.specs.DiskModel.{DiskModel, MayLeave}
 use Rattle.outside.specs.Moments.{IfKnown, LeavesOnly, written_down}
 use Rattle.owner_journal.specs.Resting.{IsAtRest, IsFaultOf}
 use Rattle.owner_journal.specs.Entries.{entries_of}

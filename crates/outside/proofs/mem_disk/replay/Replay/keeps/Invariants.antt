@@ -1,0 +1,8 @@
+use Rattle.std.proofs.Common.{◌≡◌, ℕ, ◌<◌, not, IsTrue, [], get_or}
+use Rattle.outside.specs.DiskModel.{is_written}
+use Rattle.outside.specs.Replay.{onto}
+use Rattle.outside.proofs.mem_disk.replay.Replay.keeps.Given as goal
+
+abbrev pub invariant-loop-place : goal.invariant-loop-place
+invariant-loop-place l =
+    (k : ℕ) → k < l.place → IsTrue (not (is_written k (onto [] l.self.writes.items))) → get_or l.image k 0 ≡ get_or l.self.contents.items k 0
