@@ -46,7 +46,7 @@ use Rattle.vo_store.specs.HonestStores.{IsHonestAfter, IsInstalled, IsPending, I
 use Rattle.vo_store.specs.Calls.{answer_of, install_of, next_version, proposal_of, with_proofs, within_limit}
 use Rattle.vo_store.proofs.SignatureLaws.{key_long, signed_short, version_below}
 use Rattle.vo_store.proofs.InstallLaws.{install_good, installs}
-use Rattle.vo_store.proofs.HonestLaws.{at_first, one_more, proposed_honest}
+use Rattle.vo_store.proofs.HonestLaws.{record_fits_bytes, at_first, one_more, proposed_honest}
 
 pub stand : (batches : List (List Command)) (s : StoreState) → IsHonestAfter batches s → RepresentTables s.tables (tables_after batches)
 stand batches s h = subst (λ ss. RepresentTables ss (tables_after batches)) (sym h.tables) (stands batches h.fit).0
@@ -214,12 +214,7 @@ module _ (batches : List (List Command)) (s : StoreState) (installed : SignedRec
   plain_answer = record { version = installed.rec.version; outcome = result q (tables_after batches) }
 
   rec_fits : FitsRecord installed.rec
-  unfolding honest_record
-  rec_fits =
-      let few = version_below s.key installed.rec installed.signature of_batches.signed in
-      let version : installed.rec.version ≡ length batches = ap (λ (x : Record). x.version) of_batches.record_is in
-      let long : length s.key ≡ 56 = key_long s.key (record_bytes installed.rec) installed.signature of_batches.signed.valid in
-      subst FitsRecord (sym of_batches.record_is) (record_fits s.key (length batches) (honest_trees batches) (omega (arith, long)) (omega (arith, version, few)))
+  rec_fits = record_fits_bytes s.key batches installed of_batches
 
   reply_read : IsReply (reply_bytes r) r
   reply_read = record {

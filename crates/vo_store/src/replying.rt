@@ -9,7 +9,7 @@ use crate::fault::{ReplyFault, StoreFault};
 use crate::loading::store_of;
 use crate::store::Store;
 use lms_sign::PublicKey;
-use owner_state::{JournalFault, read_loadable};
+use owner_state::{JournalFault, LoadableJournal, read_loadable};
 use std::alloc::Global;
 use vo_spec::QueryText;
 
@@ -29,7 +29,8 @@ pub fn reply_by(
 {
     match read_loadable(alloc, &key, journal) {
         Ok(read) => {
-            let store = store_of(alloc, key, read.entries.as_slice(), read.tables)?;
+            let LoadableJournal { entries, tables } = read;
+            let store = store_of(alloc, key, entries.as_slice(), tables)?;
             answer_of_loaded(alloc, &store, query)
         }
         Err(JournalFault::BadAt { index }) => Err(ReplyFault::BadJournal { index }),

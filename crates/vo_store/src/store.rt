@@ -20,10 +20,13 @@ pub struct Store {
 }
 
 impl Model for Store {
+    ghost use Rattle.vo_store.specs.Codes.{coded_store};
     ghost use Rattle.vo_store.specs.StoreState.{StoreState};
     ghost use Rattle.vo_store.specs.HonestStores.{IsHonestStore};
 
     ghost Value = { StoreState };
+
+    ghost coded = { coded_store };
 
     ghost view = { λ store. record {
       key = store.key;
