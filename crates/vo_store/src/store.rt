@@ -94,18 +94,20 @@ impl Store {
             (install_of self.old rec.now signature.now) }
         ensures left { OnErr result (self.new ≡ self.old) }
     {
-        let installed = match &self.pending {
-            Some(after) => {
-                let version = next_version(&self.installed);
-                signed_record(alloc, &self.key, version, after, rec, signature)?
-            }
+        let after = match &self.pending {
+            Some(after) => after.share(alloc)?,
             None => return Err(StoreFault::NothingProposed),
         };
-        if let Some(after) = self.pending.take() {
-            self.tables = after;
+        let version = next_version(&self.installed);
+        match signed_record(alloc, &self.key, version, &after, rec, signature) {
+            Ok(installed) => {
+                self.installed = Some(installed);
+                self.tables = after;
+                self.pending = None;
+                Ok(())
+            }
+            Err(fault) => Err(fault),
         }
-        self.installed = Some(installed);
-        Ok(())
     }
 
     /// The reply to the query, as bytes, by the version that is installed.
