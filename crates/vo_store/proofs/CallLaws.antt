@@ -1,10 +1,11 @@
 -- What the calls give, by a store's fields.
 use Rattle.std.proofs.Common.{◌≡◌, ℕ, ◌<◌, ◌≤◌, Bool, true, false, cond, List, [], ◌∷◌, Option, Some, None, Result, Ok, Err, length, refl, sym, ap, subst, ◌∙◌}
-use Rattle.std.specs.Prelude.{is_none}
+use Rattle.std.specs.Prelude.{is_none, IsSome}
 use Rattle.std.specs.Option.{option_map_or}
 use Rattle.vo_spec.specs.declared.tables.Command.{Command}
 use Rattle.vo_spec.specs.declared.tables.CommandFault.{CommandFault}
 use Rattle.vo_spec.specs.declared.records.Record.{Record}
+use Rattle.vo_spec.specs.Batches.{FitsBatch}
 use Rattle.vo_spec.specs.Conditions.{Query}
 use Rattle.vo_spec.specs.Firsts.{and_then}
 use Rattle.vo_spec.specs.Replies.{proofs_bytes, reply_bytes}
@@ -14,6 +15,10 @@ use Rattle.vo_store.specs.declared.fault.StoreFault.{StoreFault}
 use Rattle.vo_store.specs.declared.fault.StoreFault.TheVariants as fault
 use Rattle.vo_store.specs.declared.signed_record.SignedRecord.{SignedRecord}
 use Rattle.vo_store.specs.StoreState.{StoreState, with_installed, with_pending}
+use Rattle.owner_state.proofs.WorkTurns.{work_done}
+use Rattle.vo_store.specs.HonestStores.{IsHonestStore}
+use Rattle.vo_store.proofs.HonestLaws.{installed_honest, proposed_honest}
+use Rattle.vo_store.proofs.InstallLaws.{good_only}
 use Rattle.vo_store.specs.Calls.{Gives, answer_of, install_of, next_version, proposal_of, signed_record, with_proofs, within_limit}
 
 -- a fault is handed on
@@ -92,3 +97,27 @@ module _ (s : StoreState) where
         → signed_record s.key (honest_record s.key (next_version s.installed) after) rec signature ≡ Ok installed → install_of s rec signature ≡ Ok (with_installed installed after s)
     unfolding install_go
     install_ok after installed e f = sym (install_by after e) ∙ ap (and_then (install_go after)) f
+
+-- What the calls keep.
+
+pub install_honest : (s : StoreState) → IsHonestStore s → (rec : Record) (signature : List ℕ) (after : List Stored) (found : SignedRecord) → s.pending ≡ Some after
+    → signed_record s.key (honest_record s.key (next_version s.installed) after) rec signature ≡ Ok found → IsHonestStore (with_installed found after s)
+install_honest s h rec signature after found pending e =
+    let good = good_only s.key rec signature (honest_record s.key (next_version s.installed) after) found e in
+    subst (λ (x : SignedRecord). IsHonestStore (with_installed x after s)) (sym good.found_is)
+    (installed_honest s h (record { rec = rec; signature = signature }) after good.signed pending good.due_is)
+
+there : (o : Option SignedRecord) → is_none o ≡ false → IsSome o
+there None e = absurd (cc)
+there (Some installed) e = refl
+
+worked : (proofs p : List ℕ) (after : List Stored) (r : Result (List Stored) (ℕ × CommandFault)) → with_proofs (λ (ss : List Stored). ss) proofs r ≡ Ok (after, p) → r ≡ Ok after
+worked proofs p after (Ok found) e =
+    let both : (found, proofs) ≡ (after, p) = cc in
+    ap Ok (ap (λ (x : List Stored × List ℕ). x.0) both)
+worked proofs p after (Err refused) e = absurd (cc)
+
+pub propose_honest : (s : StoreState) → IsHonestStore s → (cs : List Command) (after : List Stored) (proofs : List ℕ) → FitsBatch cs → is_none s.installed ≡ false
+    → with_proofs (λ (ss : List Stored). ss) (proofs_bytes (honest_proofs cs s.tables)) (work_from 0 cs s.tables) ≡ Ok (after, proofs) → IsHonestStore (with_pending after s)
+propose_honest s h cs after proofs fits some e =
+    (h.0, proposed_honest s h.0 h.1 (there s.installed some) after (cs, fits, work_done cs s.tables after (worked (proofs_bytes (honest_proofs cs s.tables)) proofs after (work_from 0 cs s.tables) e)))

@@ -1,6 +1,7 @@
 -- The reply of a store that has loaded a journal.
 use Rattle.std.proofs.Common.{◌≡◌, ℕ, ◌-◌, ◌<◌, ◌≤◌, Bool, true, false, cond, List, [], ◌∷◌, Option, Some, None, Result, Ok, Err, length, drop, refl, sym, ap, subst, ◌∙◌, arith}
-use Rattle.std.specs.Prelude.{nat_le, option_map, slice_get}
+use Rattle.std.specs.Prelude.{IfOk, nat_le, option_map, slice_get}
+use Rattle.std.specs.Global.{Vec}
 use Rattle.std.specs.List.{AllByRecursion}
 use Rattle.std.proofs.lemmas.Bool.{leb-true, leb-false}
 use Rattle.vo_spec.specs.declared.records.Entry.{Entry}
@@ -15,7 +16,9 @@ use Rattle.vo_store.specs.declared.signed_record.SignedRecord.{SignedRecord}
 use Rattle.vo_store.specs.StoreState.{StoreState}
 use Rattle.vo_store.specs.Calls.{answer_of, within_limit}
 use Rattle.vo_store.specs.Loading.{store_behind}
-use Rattle.vo_store.specs.Replying.{IsReplyBy, IsTooLarge}
+use Rattle.vo_store.specs.declared.fault.ReplyFault.{ReplyFault}
+use Rattle.vo_store.specs.declared.fault.ReplyFault.TheVariants as reply
+use Rattle.vo_store.specs.Replying.{IsReplyBy, IsTooLarge, Replies}
 use Rattle.vo_store.proofs.CallLaws.{answer_some}
 use Rattle.vo_store.proofs.LoadLaws.{last_there, last_signed_is}
 use Rattle.vo_store.proofs.ReplyLaws.{journal_fits}
@@ -75,3 +78,11 @@ module _ (key journal : List ℕ) (es : List Entry) (loadable : IsLoadable key j
         step false l f =
             let same : length bytes_now ≡ size = cc in
             (bytes_now, (es, answer.r, loadable, answer.reply_is, refl), sym same, omega (arith, leb-false (length bytes_now) max_reply l, same))
+
+    pub reply_told : (s : StoreState) (r : Result (Vec ℕ) ReplyFault) → s ≡ store_behind key es → Replies r (answer_of s q) → IfOk r (λ bytes. IsReplyBy key journal q bytes.items)
+    reply_told s (Ok bytes) e t = replied s bytes.items e t
+    reply_told s (Err why) e t = tt
+
+    pub large_told : (s : StoreState) (r : Result (Vec ℕ) ReplyFault) → s ≡ store_behind key es → Replies r (answer_of s q) → (size : ℕ) → r ≡ Err (reply.TooLarge size)
+        → IsTooLarge key journal q size
+    large_told s r e t size is = too_large s size e (subst (λ (x : Result (Vec ℕ) ReplyFault). Replies x (answer_of s q)) is t)

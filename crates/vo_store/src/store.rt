@@ -2,7 +2,7 @@
 use crate::answering::answer_by_tables;
 use crate::fault::StoreFault;
 use crate::installing::{next_version, signed_record};
-use crate::proposing::propose_batch;
+use crate::proposing::{Proposal, propose_batch};
 use crate::signed_record::SignedRecord;
 use lms_sign::PublicKey;
 use std::alloc::{AllocError, Global};
@@ -75,9 +75,9 @@ impl Store {
             return Err(StoreFault::Empty);
         }
         match propose_batch(alloc, &self.tables, batch) {
-            Ok(proposal) => {
-                self.pending = Some(proposal.after);
-                Ok(proposal.proofs)
+            Ok(Proposal { after, proofs }) => {
+                self.pending = Some(after);
+                Ok(proofs)
             }
             Err(fault) => Err(fault),
         }
