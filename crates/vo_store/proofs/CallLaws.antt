@@ -47,11 +47,11 @@ module _ (s : StoreState) where
   -- Proposals.
 
   module _ (cs : List Command) where
-    abbrev proofs_now : List ℕ
+    abbrev pub proofs_now : List ℕ
     proofs_now = proofs_bytes (honest_proofs cs s.tables)
 
     -- by the trees alone
-    abbrev on_trees : Result (List Stored × List ℕ) StoreFault
+    abbrev pub on_trees : Result (List Stored × List ℕ) StoreFault
     on_trees = with_proofs (λ after. after) proofs_now (work_from 0 cs s.tables)
 
     pub go : List Stored × List ℕ → Result (StoreState × List ℕ) StoreFault
