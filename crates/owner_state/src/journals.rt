@@ -9,7 +9,7 @@ ghost use Rattle.owner_state.specs.Walking.{IsWhole};
 
 use crate::departures::Departure;
 use crate::slot_reading::{Ending, Slots, read_slots};
-use crate::walks::{walk_owned, walk_loadable};
+use crate::walks::{walk_loadable, walk_owned};
 use lms_sign::PublicKey;
 use std::alloc::{AllocError, Global};
 use stored_tables::StoredTables;

@@ -1,5 +1,5 @@
 -- What the calls give, by a store's fields.
-use Rattle.std.proofs.Common.{◌≡◌, ℕ, ◌<◌, ◌≤◌, Bool, true, false, cond, List, [], ◌∷◌, Option, Some, None, Result, Ok, Err, length, refl, sym, ap, subst, ◌∙◌}
+use Rattle.std.proofs.Common.{◌≡◌, ℕ, true, false, cond, List, Option, Some, None, Result, Ok, Err, refl, sym, ap, subst, ◌∙◌}
 use Rattle.std.specs.Prelude.{is_none, IsSome}
 use Rattle.std.specs.Option.{option_map_or}
 use Rattle.vo_spec.specs.declared.tables.Command.{Command}

@@ -1,5 +1,5 @@
 -- The reply of a store that has loaded a journal.
-use Rattle.std.proofs.Common.{◌≡◌, ℕ, ◌-◌, ◌<◌, ◌≤◌, Bool, true, false, cond, List, [], ◌∷◌, Option, Some, None, Result, Ok, Err, length, drop, refl, sym, ap, subst, ◌∙◌, arith}
+use Rattle.std.proofs.Common.{◌≡◌, ℕ, ◌-◌, ◌<◌, ◌≤◌, Bool, true, false, cond, List, [], ◌∷◌, Some, Result, Ok, Err, length, refl, sym, ap, subst, ◌∙◌, arith}
 use Rattle.std.specs.Prelude.{IfOk, nat_le, option_map, slice_get}
 use Rattle.std.specs.Global.{Vec}
 use Rattle.std.specs.List.{AllByRecursion}
@@ -12,7 +12,6 @@ use Rattle.vo_spec.specs.Replies.{Reply, max_reply, reply_bytes}
 use Rattle.vo_spec.specs.Honest.{honest_reply, honest_trees, reply_of}
 use Rattle.vo_store.specs.declared.fault.StoreFault.{StoreFault}
 use Rattle.vo_store.specs.declared.fault.StoreFault.TheVariants as fault
-use Rattle.vo_store.specs.declared.signed_record.SignedRecord.{SignedRecord}
 use Rattle.vo_store.specs.StoreState.{StoreState}
 use Rattle.vo_store.specs.Calls.{answer_of, within_limit}
 use Rattle.vo_store.specs.Loading.{store_behind}

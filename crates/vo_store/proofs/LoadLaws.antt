@@ -1,8 +1,6 @@
 -- A store that takes entries by its calls stands behind those that a store takes, and refuses the first that isn't one.
-use Rattle.std.proofs.Common.{◌≡◌, ℕ, zero, suc, ◌+◌, ◌-◌, ◌<◌, ◌≤◌, Bool, true, false, cond, List, [], ◌∷◌, ◌++◌, Option, Some, None, Result, Ok, Err, length, map, take, drop, refl, sym, ap, subst, ◌∙◌, append_assoc, append-nil, arith}
-use Rattle.std.specs.Prelude.{◌==◌, is_none, option_map, slice_get, IsOk}
-use Rattle.std.specs.Option.{option_map_or}
-use Rattle.std.specs.Result.{result_unwrap_or}
+use Rattle.std.proofs.Common.{◌≡◌, ℕ, zero, suc, ◌+◌, ◌-◌, ◌<◌, ◌≤◌, Bool, false, cond, List, [], ◌∷◌, ◌++◌, Option, Some, None, Result, Ok, Err, length, take, drop, refl, sym, ap, subst, ◌∙◌, append_assoc, append-nil, arith}
+use Rattle.std.specs.Prelude.{◌==◌, is_none, option_map, slice_get}
 use Rattle.std.specs.List.{AllByRecursion}
 use Rattle.std.proofs.lemmas.Bool.Decides.{nat_tests}
 use Rattle.std.proofs.lemmas.List.{length-append, length-map, take_all, take_at}
@@ -15,7 +13,7 @@ use Rattle.vo_spec.specs.Journals.{FitsEntry, batches_of}
 use Rattle.vo_spec.specs.Owners.{AreLoadable}
 use Rattle.vo_spec.specs.Honest.{Stored, after_work, honest_proofs, honest_record, honest_trees, work_all}
 use Rattle.vo_spec.specs.Replies.{proofs_bytes}
-use Rattle.vo_laws.proofs.ListLaws.{each_both, each_left, each_right}
+use Rattle.vo_laws.proofs.ListLaws.{each_both}
 use Rattle.vo_laws.proofs.EntryLaws.{all_fit, entry_held, taken_front}
 use Rattle.stored_tables.specs.Working.{work_from}
 use Rattle.owner_state.specs.Standing.{IsLoadableOn, IsRecorded}
@@ -29,7 +27,7 @@ use Rattle.vo_store.specs.StoreState.{StoreState, new_store, with_installed, wit
 use Rattle.vo_store.specs.HonestStores.{IsHonestStore, IsInstalled, IsPending}
 use Rattle.vo_store.specs.Calls.{install_of, next_version, proposal_of, with_proofs}
 use Rattle.vo_store.specs.Loading.{last_signed, loaded, pending_behind, refused_at, store_behind, taken_as, taken_from, taken_later}
-use Rattle.vo_store.proofs.InstallLaws.{Installs, install_good, installs}
+use Rattle.vo_store.proofs.InstallLaws.{install_good, installs}
 
 abbrev pub signed_of : Entry → SignedRecord
 signed_of e = record { rec = e.rec; signature = e.signature }
@@ -106,8 +104,7 @@ module _ (s : StoreState) (before : SignedRecord) (there : s.installed ≡ Some 
           let done : work_all batch s.tables ≡ Ok after = work_done batch s.tables after w in
           let same : after ≡ after_work s.tables batch = work_left batch s.tables after done in
           let i = installs (with_pending after s) e.rec e.signature next (sym (ap taken_by (proposal_is (Ok after) w)) ∙ t) in
-          let these : i.after ≡ after = let both : Some after ≡ Some i.after = i.pending in cc in
-          (
+          let these : i.after ≡ after = let both : Some after ≡ Some i.after = i.pending in cc in (
             record {
               accepted = work_accepted batch s.tables after done;
               recorded = record { record_is = i.due ∙ ap (honest_record s.key (next_version s.installed)) (these ∙ same); signed = i.signed };
@@ -173,8 +170,7 @@ module _ (key : List ℕ) where
       step (Ok next) is =
           let only = later_only s (signed_of last.0) there e next is in
           let g = taken_behind key es s.tables e (Some (after_work s.tables e.batch.commands)) (omega arith) fit fits loadable refl
-          (subst (λ (n : ℕ). IsLoadableOn key n s.tables e) version only.0, refl) in
-          (
+          (subst (λ (n : ℕ). IsLoadableOn key n s.tables e) version only.0, refl) in (
             g.0,
             only.1 ∙ ap (state (es ++ e ∷ []) (Some (signed_of e))) g.1
                 ∙ ap (λ o. state (es ++ e ∷ []) o (honest_trees (batches_of (front ++ e ∷ [])))) (sym (last_one es e)),
@@ -276,13 +272,15 @@ module _ (key : List ℕ) where
         record_is = held.record_is ∙ ap (λ (xs : List Entry). honest_record key (length front) (honest_trees (batches_of xs))) (take_all (length front) front (omega arith))
             ∙ ap (λ (n : ℕ). honest_record key n (honest_trees batches)) long;
         signed = held.signed;
-      } in
-      (batches, record {
-        fit = all_fit es fit;
-        tables = refl;
-        installed = subst (IsInstalled key batches) (sym (last_signed_is f front)) installed;
-        pending = subst (λ o. IsPending o (honest_trees batches) None) (sym (last_signed_is f front)) tt;
-      })
+      } in (
+        batches,
+        record {
+          fit = all_fit es fit;
+          tables = refl;
+          installed = subst (IsInstalled key batches) (sym (last_signed_is f front)) installed;
+          pending = subst (λ o. IsPending o (honest_trees batches) None) (sym (last_signed_is f front)) tt;
+        },
+      )
 
 -- What loading gives, as its fields are.
 

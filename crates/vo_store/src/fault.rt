@@ -24,13 +24,18 @@ pub enum StoreFault {
     NothingProposed,
     /// The record isn't that of the version that is proposed.
     #[error("another record")]
-    WrongRecord { want: Record, got: Record },
+    WrongRecord {
+        want: Record,
+        got: Record,
+    },
     /// The signature isn't valid, or not by the leaf of the record's version.
     #[error("a bad signature")]
     BadSignature,
     /// The reply has so many bytes, and that is over the limit.
     #[error("a reply over the limit")]
-    TooLarge { length: u64 },
+    TooLarge {
+        length: u64,
+    },
     /// No version is installed.
     #[error("an empty store")]
     Empty,

@@ -39,11 +39,7 @@ pub fn reply_by(
 }
 
 /// The answer of a store that has installed a version.
-fn answer_of_loaded(
-    alloc: Global,
-    store: &Store,
-    query: &QueryText,
-) -> Result<Vec<u8>, ReplyFault>
+fn answer_of_loaded(alloc: Global, store: &Store, query: &QueryText) -> Result<Vec<u8>, ReplyFault>
     ensures { Replies result (answer_of store.now (query_of query.now)) }
 {
     match store.answer(alloc, query) {

@@ -1,4 +1,4 @@
-use Rattle.std.proofs.Common.{◌≡◌, ◌^◌, ◌<◌, List, Option, Some, None, Result, Ok, Err, ap, sym, subst, ◌∙◌, ℕ}
+use Rattle.std.proofs.Common.{◌≡◌, List, Some, Result, Ok, Err, ap, sym, subst, ◌∙◌, ℕ}
 use Rattle.vo_spec.specs.Honest.{Stored, honest_record}
 use Rattle.vo_store.specs.declared.fault.StoreFault.{StoreFault}
 use Rattle.vo_store.specs.declared.fault.StoreFault.TheVariants.{NothingProposed}

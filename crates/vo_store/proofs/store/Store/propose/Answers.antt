@@ -1,4 +1,4 @@
-use Rattle.std.proofs.Common.{◌≡◌, arith, false, true, List, Option, Some, None, Result, Ok, Err, ap, sym, subst, ◌∙◌, ℕ}
+use Rattle.std.proofs.Common.{◌≡◌, arith, false, true, List, Result, Ok, Err, ap, subst, ◌∙◌, ℕ}
 use Rattle.std.specs.Prelude.{is_none}
 use Rattle.vo_spec.specs.Honest.{Stored}
 use Rattle.vo_store.specs.declared.fault.StoreFault.{StoreFault}
