@@ -1,22 +1,23 @@
 -- What every store keeps, call by call.
-use Rattle.std.proofs.Common.{◌≡◌, ℕ, ◌+◌, ◌<◌, ◌≤◌, ◌^◌, List, [], ◌∷◌, ◌++◌, Option, Some, None, Result, Ok, Err, length, refl, sym, ap, subst, ◌∙◌, arith}
+use Rattle.std.proofs.Common.{◌≡◌, ℕ, ◌+◌, ◌<◌, ◌≤◌, ◌^◌, List, [], ◌∷◌, ◌++◌, Option, Some, None, Result, Ok, length, refl, sym, ap, subst, ◌∙◌, arith}
 use Rattle.std.specs.Prelude.{IsSome}
 use Rattle.std.specs.Result.{result_unwrap_or}
-use Rattle.std.specs.List.{AllByRecursion}
 use Rattle.std.proofs.lemmas.List.{length-append}
 use Rattle.vo_spec.specs.declared.tables.Command.{Command}
 use Rattle.vo_spec.specs.declared.records.Record.{Record}
 use Rattle.vo_spec.specs.Batches.{FitsBatch}
 use Rattle.vo_spec.specs.Journals.{max_signature}
+use Rattle.vo_spec.specs.Records.{FitsRecord, record_bytes}
 use Rattle.vo_spec.specs.Owners.{IsSigned}
 use Rattle.vo_spec.specs.Honest.{Stored, after_work, honest_record, honest_trees, work_all}
 use Rattle.vo_laws.proofs.ListLaws.{each_both}
 use Rattle.vo_laws.proofs.StepLaws.{trees_follow}
+use Rattle.vo_laws.proofs.StoredFits.{record_fits}
 use Rattle.vo_store.specs.declared.signed_record.SignedRecord.{SignedRecord}
 use Rattle.vo_store.specs.StoreState.{StoreState, new_store, with_installed, with_pending}
 use Rattle.vo_store.specs.HonestStores.{AreHonest, FollowBy, IsHonestAfter, IsHonestStore, IsInstalled, IsPending, IsRecordOf}
 use Rattle.vo_store.specs.Calls.{next_version}
-use Rattle.vo_store.proofs.SignatureLaws.{signed_short, version_below}
+use Rattle.vo_store.proofs.SignatureLaws.{key_long, signed_short, version_below}
 
 -- Stores that have installed nothing.
 
@@ -29,6 +30,14 @@ trees_honest s h = (h.0, h.1.fit, h.1.tables)
 
 -- What is installed.
 
+pub record_fits_bytes : (key : List ℕ) (batches : List (List Command)) (installed : SignedRecord) → IsRecordOf key batches installed → FitsRecord installed.rec
+unfolding honest_record
+record_fits_bytes key batches installed is =
+    let few = version_below key installed.rec installed.signature is.signed in
+    let version : installed.rec.version ≡ length batches = ap (λ (x : Record). x.version) is.record_is in
+    let long : length key ≡ 56 = key_long key (record_bytes installed.rec) installed.signature is.signed.valid in
+    subst FitsRecord (sym is.record_is) (record_fits key (length batches) (honest_trees batches) (omega (arith, long)) (omega (arith, version, few)))
+
 module _ (s : StoreState) (honest : IsHonestStore s) where
   record_of : (o : Option SignedRecord) (installed : SignedRecord) → o ≡ Some installed → IsInstalled s.key honest.0 o → IsRecordOf s.key honest.0 installed
   record_of None installed e is = absurd (cc)
@@ -38,6 +47,9 @@ module _ (s : StoreState) (honest : IsHonestStore s) where
   installed_short installed e =
       let is = record_of s.installed installed e honest.1.installed in
       signed_short s.key installed.rec installed.signature is.signed
+
+  pub installed_fits : (installed : SignedRecord) → s.installed ≡ Some installed → FitsRecord installed.rec
+  installed_fits installed e = record_fits_bytes s.key honest.0 installed (record_of s.installed installed e honest.1.installed)
 
   pub next_below : next_version s.installed < 2 ^ 64
   next_below = step s.installed honest.1.installed

@@ -1,13 +1,12 @@
 -- The record that is due, and its signature: why one is refused.
-use Rattle.std.proofs.Common.{◌≡◌, ℕ, Bool, true, false, cond, List, [], ◌∷◌, Option, Some, None, Result, Ok, Err, refl, sym, ap, subst, ◌∙◌}
-use Rattle.std.specs.Prelude.{◌&&◌, ◌==◌, not, bytes_eq}
+use Rattle.std.proofs.Common.{◌≡◌, ℕ, Bool, true, false, List, [], ◌∷◌, Option, Some, None, Result, Ok, Err, refl, sym, ap, subst, ◌∙◌}
+use Rattle.std.specs.Prelude.{◌==◌, not}
 use Rattle.std.specs.Option.{option_map_or}
-use Rattle.std.proofs.lemmas.Bool.{and_parts, and_from, eqb-true, eq-eqb, cases_Bool}
+use Rattle.std.proofs.lemmas.Bool.{and_parts, and_from, eqb-true, eq-eqb}
 use Rattle.std.proofs.lemmas.Slice.Eq.{bytes_eq-Decides}
 use Rattle.vo_spec.specs.declared.records.Record.{Record}
 use Rattle.vo_spec.specs.Firsts.{and_then, first_of, unless}
-use Rattle.vo_spec.specs.Lms.{leaf_of, lms_valid}
-use Rattle.vo_spec.specs.Records.{record_bytes}
+use Rattle.vo_spec.specs.Lms.{leaf_of}
 use Rattle.vo_spec.specs.Owners.{IsSigned}
 use Rattle.vo_spec.specs.Honest.{Stored, honest_record}
 use Rattle.vo_store.specs.declared.fault.StoreFault.{StoreFault}

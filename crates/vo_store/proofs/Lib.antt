@@ -4,4 +4,6 @@ mod InstallLaws
 mod HonestLaws
 mod TableLaws
 mod LoadLaws
+mod CallLaws
 mod ReplyLaws
+mod JournalReplies

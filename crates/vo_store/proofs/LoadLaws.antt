@@ -1,9 +1,8 @@
 -- A store that takes entries by its calls stands behind those that a store takes, and refuses the first that isn't one.
-use Rattle.std.proofs.Common.{◌≡◌, ℕ, zero, suc, ◌+◌, ◌-◌, ◌<◌, ◌≤◌, Bool, true, false, cond, List, [], ◌∷◌, ◌++◌, Option, Some, None, Result, Ok, Err, length, map, take, drop, refl, sym, ap, subst, ◌∙◌, append_assoc, append-nil, arith}
-use Rattle.std.specs.Prelude.{◌==◌, is_none, option_map, slice_get, IsOk}
-use Rattle.std.specs.Option.{option_map_or}
-use Rattle.std.specs.Result.{result_unwrap_or}
+use Rattle.std.proofs.Common.{◌≡◌, ℕ, zero, suc, ◌+◌, ◌-◌, ◌<◌, ◌≤◌, Bool, false, cond, List, [], ◌∷◌, ◌++◌, Option, Some, None, Result, Ok, Err, length, take, drop, refl, sym, ap, subst, ◌∙◌, append_assoc, append-nil, arith}
+use Rattle.std.specs.Prelude.{◌==◌, is_none, option_map, slice_get}
 use Rattle.std.specs.List.{AllByRecursion}
+use Rattle.std.proofs.lemmas.Bool.Decides.{nat_tests}
 use Rattle.std.proofs.lemmas.List.{length-append, length-map, take_all, take_at}
 use Rattle.vo_spec.specs.declared.tables.Command.{Command}
 use Rattle.vo_spec.specs.declared.tables.CommandFault.{CommandFault}
@@ -14,7 +13,7 @@ use Rattle.vo_spec.specs.Journals.{FitsEntry, batches_of}
 use Rattle.vo_spec.specs.Owners.{AreLoadable}
 use Rattle.vo_spec.specs.Honest.{Stored, after_work, honest_proofs, honest_record, honest_trees, work_all}
 use Rattle.vo_spec.specs.Replies.{proofs_bytes}
-use Rattle.vo_laws.proofs.ListLaws.{each_both, each_left, each_right}
+use Rattle.vo_laws.proofs.ListLaws.{each_both}
 use Rattle.vo_laws.proofs.EntryLaws.{all_fit, entry_held, taken_front}
 use Rattle.stored_tables.specs.Working.{work_from}
 use Rattle.owner_state.specs.Standing.{IsLoadableOn, IsRecorded}
@@ -28,9 +27,9 @@ use Rattle.vo_store.specs.StoreState.{StoreState, new_store, with_installed, wit
 use Rattle.vo_store.specs.HonestStores.{IsHonestStore, IsInstalled, IsPending}
 use Rattle.vo_store.specs.Calls.{install_of, next_version, proposal_of, with_proofs}
 use Rattle.vo_store.specs.Loading.{last_signed, loaded, pending_behind, refused_at, store_behind, taken_as, taken_from, taken_later}
-use Rattle.vo_store.proofs.InstallLaws.{Installs, install_good, installs}
+use Rattle.vo_store.proofs.InstallLaws.{install_good, installs}
 
-abbrev signed_of : Entry → SignedRecord
+abbrev pub signed_of : Entry → SignedRecord
 signed_of e = record { rec = e.rec; signature = e.signature }
 
 -- The last entry.
@@ -44,9 +43,14 @@ last_one front e =
     let n : length (front ++ e ∷ []) - 1 ≡ length front = omega (arith, length-append front (e ∷ [])) in
     ap (λ (i : ℕ). option_map signed_of (slice_get (front ++ e ∷ []) i)) n ∙ ap (option_map signed_of) (slice_last front e)
 
-last_there : (f : Entry) (front : List Entry) → (e : Entry) × (slice_get (f ∷ front) (length front) ≡ Some e)
+pub last_there : (f : Entry) (front : List Entry) → (e : Entry) × (slice_get (f ∷ front) (length front) ≡ Some e)
 last_there f [] = (f, refl)
 last_there f (g ∷ front) = last_there g front
+
+pub last_signed_is : (f : Entry) (front : List Entry) → last_signed (f ∷ front) ≡ Some (signed_of (last_there f front).0)
+last_signed_is f front =
+    let n : length (f ∷ front) - 1 ≡ length front = omega arith in
+    ap (λ (i : ℕ). option_map signed_of (slice_get (f ∷ front) i)) n ∙ ap (option_map signed_of) (last_there f front).1
 
 -- Of a loadable journal, the version behind the last is as many as there are.
 next_is : (key : List ℕ) (f : Entry) (front : List Entry) → AreLoadable key (f ∷ front) → next_version (last_signed (f ∷ front)) ≡ length (f ∷ front)
@@ -54,7 +58,7 @@ unfolding honest_record
 next_is key f front loadable =
     let last = last_there f front in
     let held = entry_held key (f ∷ front) (length front) last.0 loadable last.1 in
-    ap (λ (o : Option Entry). next_version (option_map signed_of o)) last.1 ∙ ap (λ (r : Record). r.version + 1) held.record_is ∙ omega arith
+    ap next_version (last_signed_is f front) ∙ ap (λ (r : Record). r.version + 1) held.record_is ∙ omega arith
 
 -- A later entry.
 
@@ -157,7 +161,7 @@ module _ (key : List ℕ) where
       last = last_there f front
 
       there : s.installed ≡ Some (signed_of last.0)
-      there = ap (option_map signed_of) last.1
+      there = last_signed_is f front
 
       version : next_version s.installed ≡ length es
       version = next_is key f front loadable
@@ -176,10 +180,16 @@ module _ (key : List ℕ) where
           let taken = later_taken s (signed_of last.0) there e (subst (λ (n : ℕ). IsLoadableOn key n s.tables e) (sym version) on) in
           absurd (cc))
 
+  later_as : (n : ℕ) (s : StoreState) (e : Entry) → taken_as (suc n) s e ≡ taken_later s e
+  later_as n s e =
+      let later : (suc n == 0) ≡ false = grind (arith, nat_tests) in
+      ap (λ (b : Bool). cond b (install_of s e.rec e.signature) (taken_later s e)) later
+
   takes_next : (front : List Entry) (e : Entry) → AllByRecursion FitsEntry front → FitsEntry e → AreLoadable key front
       → TakesNext front e (taken_as (length front) (store_behind key front) e)
   takes_next [] e fit fits loadable = subst (λ s. TakesNext [] e (install_of s e.rec e.signature)) (sym behind_none) (takes_first e)
-  takes_next (f ∷ front) e fit fits loadable = takes_later f front e fit fits loadable
+  takes_next (f ∷ front) e fit fits loadable =
+      subst (TakesNext (f ∷ front) e) (sym (later_as (length front) (store_behind key (f ∷ front)) e)) (takes_later f front e fit fits loadable)
 
   -- What taking all of them tells.
 
@@ -188,28 +198,31 @@ module _ (key : List ℕ) where
   TakesAll es (Err index) = StopsAt (AreLoadable key) es index
 
   stops : (front : List Entry) (e : Entry) (rest : List Entry) → AreLoadable key front → (AreLoadable key (front ++ e ∷ []) → ⊥) → StopsAt (AreLoadable key) (front ++ e ∷ rest) (length front)
-  stops front e rest loadable no = record {
+  stops front e rest loadable fails = record {
     within = omega (arith, length-append front (e ∷ rest));
     so_far = subst (AreLoadable key) (sym (take_at front (e ∷ rest) (length front) refl)) loadable;
     not_on = λ more.
         let long : length front + 1 ≡ length (front ++ e ∷ []) = omega (arith, length-append front (e ∷ [])) in
-        no (subst (AreLoadable key)
+        fails (subst (AreLoadable key)
         (ap (λ (n : ℕ). take n (front ++ e ∷ rest)) long ∙ ap (take (length (front ++ e ∷ []))) (sym (append_assoc front (e ∷ []) rest)) ∙ take_at (front ++ e ∷ []) rest (length (front ++ e ∷ [])) refl) more);
   }
 
   takes_all : (front rest : List Entry) → AllByRecursion FitsEntry front → AllByRecursion FitsEntry rest → AreLoadable key front
       → TakesAll (front ++ rest) (taken_from (length front) rest (store_behind key front))
   takes_all front [] fit fits loadable = subst (λ es. TakesAll es (Ok (store_behind key front))) (sym (append-nil front)) (loadable, refl)
-  takes_all front (e ∷ rest) fit fits loadable = step (taken_as (length front) (store_behind key front) e) (takes_next front e fit fits.0 loadable)
+  takes_all front (e ∷ rest) fit fits loadable =
+      step (taken_as (length front) (store_behind key front) e) (takes_next front e fit fits.0 loadable)
+      (λ (on : AreLoadable key (front ++ e ∷ [])). takes_all (front ++ e ∷ []) rest (each_both FitsEntry front (e ∷ []) fit (fits.0, tt)) fits.1 on)
     where
-      step : (r : Result StoreState StoreFault) → TakesNext front e r → TakesAll (front ++ e ∷ rest) (and_then (taken_from (length front + 1) rest) (refused_at (length front) r))
-      step (Err why) no = stops front e rest loadable no
-      step (Ok next) is =
+      step : (r : Result StoreState StoreFault) → TakesNext front e r
+          → (AreLoadable key (front ++ e ∷ []) → TakesAll ((front ++ e ∷ []) ++ rest) (taken_from (length (front ++ e ∷ [])) rest (store_behind key (front ++ e ∷ []))))
+          → TakesAll (front ++ e ∷ rest) (and_then (taken_from (length front + 1) rest) (refused_at (length front) r))
+      step (Err why) fails more = stops front e rest loadable fails
+      step (Ok next) is more =
           let long : length (front ++ e ∷ []) ≡ length front + 1 = omega (arith, length-append front (e ∷ [])) in
-          let more = takes_all (front ++ e ∷ []) rest (each_both FitsEntry front (e ∷ []) fit (fits.0, tt)) fits.1 is.0 in
           subst (λ es. TakesAll es (taken_from (length front + 1) rest next)) (append_assoc front (e ∷ []) rest)
           (subst (λ s. TakesAll ((front ++ e ∷ []) ++ rest) (taken_from (length front + 1) rest s)) (sym is.1)
-          (subst (λ (n : ℕ). TakesAll ((front ++ e ∷ []) ++ rest) (taken_from n rest (store_behind key (front ++ e ∷ [])))) long more))
+          (subst (λ (n : ℕ). TakesAll ((front ++ e ∷ []) ++ rest) (taken_from n rest (store_behind key (front ++ e ∷ [])))) long (more is.0)))
 
   takes : (es : List Entry) → AllByRecursion FitsEntry es → TakesAll es (loaded key es)
   unfolding loaded AreLoadable
@@ -239,7 +252,9 @@ module _ (key : List ℕ) where
       step : (r : Result StoreState ℕ) → loaded key es ≡ r → TakesAll es r → loaded key es ≡ Err index
       step (Ok s) is t = absurd (stop.not_on (taken_front key (index + 1) es t.0))
       step (Err i) is t =
-          let same : i ≡ index = omega (arith, (λ lt. one_stop es i index t stop lt), (λ lt. one_stop es index i stop t lt)) in
+          let above : i < index → ⊥ = one_stop es i index t stop in
+          let below : index < i → ⊥ = one_stop es index i stop t in
+          let same : i ≡ index = omega (arith, above, below) in
           is ∙ ap Err same
 
   -- A store behind entries keeps what every store does.
@@ -262,7 +277,20 @@ module _ (key : List ℕ) where
         record {
           fit = all_fit es fit;
           tables = refl;
-          installed = subst (IsInstalled key batches) (sym (ap (option_map signed_of) last.1)) installed;
-          pending = subst (λ o. IsPending o (honest_trees batches) None) (sym (ap (option_map signed_of) last.1)) tt;
+          installed = subst (IsInstalled key batches) (sym (last_signed_is f front)) installed;
+          pending = subst (λ o. IsPending o (honest_trees batches) None) (sym (last_signed_is f front)) tt;
         },
       )
+
+-- What loading gives, as its fields are.
+
+pub none_behind : (key : List ℕ) (es : List Entry) → length es ≡ 0 → store_behind key es ≡ new_store key
+none_behind key [] e = behind_none key
+none_behind key (f ∷ front) e = absurd (omega (arith, e))
+
+pub made_behind : (key : List ℕ) (es : List Entry) (installed : SignedRecord) (tables : List Stored) → 0 < length es → last_signed es ≡ Some installed → tables ≡ honest_trees (batches_of (drop 1 es))
+    → record { key = key; installed = Some installed; tables = tables; pending = None } ≡ store_behind key es
+unfolding store_behind
+made_behind key [] installed tables some last trees = absurd (omega (arith, some))
+made_behind key (f ∷ front) installed tables some last trees =
+    ap (λ o. state key (f ∷ front) o tables) (sym last) ∙ ap (state key (f ∷ front) (last_signed (f ∷ front))) trees

@@ -1,10 +1,9 @@
 -- A store's proposals and installs beside the plain tables, its clients and its owner.
-use Rattle.std.proofs.Common.{◌≡◌, ℕ, ◌+◌, ◌<◌, ◌≤◌, ◌^◌, Bool, true, false, cond, List, [], ◌∷◌, ◌++◌, Option, Some, None, Result, Ok, Err, length, refl, sym, ap, subst, ◌∙◌, inr, arith}
+use Rattle.std.proofs.Common.{◌≡◌, ℕ, ◌+◌, ◌≤◌, Bool, true, false, cond, List, [], ◌∷◌, ◌++◌, Option, Some, None, Result, Ok, Err, length, refl, sym, ap, subst, ◌∙◌, inr}
 use Rattle.std.specs.Prelude.{is_none, is_some, nat_le, IsOk, IsSome}
 use Rattle.std.specs.Option.{option_map_or}
 use Rattle.std.specs.Result.{is_ok, result_map_both}
-use Rattle.std.specs.List.{AllByRecursion}
-use Rattle.std.proofs.lemmas.Bool.{and_parts, eqb-true, leb-true}
+use Rattle.std.proofs.lemmas.Bool.{leb-true}
 use Rattle.vo_spec.specs.declared.tables.Command.{Command}
 use Rattle.vo_spec.specs.declared.tables.CommandFault.{CommandFault}
 use Rattle.vo_spec.specs.declared.tables.Table.{Table}
@@ -16,16 +15,14 @@ use Rattle.vo_spec.specs.Checks.{CheckOf, answer_to}
 use Rattle.vo_spec.specs.Conditions.{FitsQuery, Query}
 use Rattle.vo_spec.specs.Results.{result}
 use Rattle.vo_spec.specs.Tables.{apply_batch, tables_after}
-use Rattle.vo_spec.specs.Lms.{lms_valid}
 use Rattle.vo_spec.specs.Owners.{IsSigned}
-use Rattle.vo_spec.specs.Records.{FitsRecord, record_bytes}
+use Rattle.vo_spec.specs.Records.{FitsRecord}
 use Rattle.vo_spec.specs.Replies.{FitsReply, IsReply, Reply, max_reply, proofs_bytes, reply_bytes}
-use Rattle.vo_spec.specs.Honest.{RepresentTables, Stored, after_work, honest_proofs, honest_record, honest_reply, honest_trees, work_all}
+use Rattle.vo_spec.specs.Honest.{RepresentTables, Stored, after_work, honest_proofs, honest_record, honest_reply, work_all}
 use Rattle.vo_laws.proofs.CommandLaws.{FitTables}
 use Rattle.vo_laws.proofs.Complete.{honest_answer}
 use Rattle.vo_laws.proofs.ReplyFits.{reply_fits}
 use Rattle.vo_laws.proofs.StandingLaws.{stands}
-use Rattle.vo_laws.proofs.StoredFits.{record_fits}
 use Rattle.table_list.specs.declared.fault.BatchFault.TheVariants as batch
 use Rattle.stored_tables.specs.Plain.{RepresentAfter}
 use Rattle.stored_tables.specs.Working.{work_from}
@@ -42,11 +39,11 @@ use Rattle.vo_store.specs.declared.fault.StoreFault.{StoreFault}
 use Rattle.vo_store.specs.declared.fault.StoreFault.TheVariants as fault
 use Rattle.vo_store.specs.declared.signed_record.SignedRecord.{SignedRecord}
 use Rattle.vo_store.specs.StoreState.{StoreState, with_installed, with_pending}
-use Rattle.vo_store.specs.HonestStores.{IsHonestAfter, IsInstalled, IsPending, IsRecordOf}
+use Rattle.vo_store.specs.HonestStores.{IsHonestAfter, IsInstalled, IsRecordOf}
 use Rattle.vo_store.specs.Calls.{answer_of, install_of, next_version, proposal_of, with_proofs, within_limit}
-use Rattle.vo_store.proofs.SignatureLaws.{key_long, signed_short, version_below}
+use Rattle.vo_store.proofs.SignatureLaws.{signed_short}
 use Rattle.vo_store.proofs.InstallLaws.{install_good, installs}
-use Rattle.vo_store.proofs.HonestLaws.{at_first, one_more, proposed_honest}
+use Rattle.vo_store.proofs.HonestLaws.{record_fits_bytes, at_first, one_more, proposed_honest}
 
 pub stand : (batches : List (List Command)) (s : StoreState) → IsHonestAfter batches s → RepresentTables s.tables (tables_after batches)
 stand batches s h = subst (λ ss. RepresentTables ss (tables_after batches)) (sym h.tables) (stands batches h.fit).0
@@ -214,12 +211,7 @@ module _ (batches : List (List Command)) (s : StoreState) (installed : SignedRec
   plain_answer = record { version = installed.rec.version; outcome = result q (tables_after batches) }
 
   rec_fits : FitsRecord installed.rec
-  unfolding honest_record
-  rec_fits =
-      let few = version_below s.key installed.rec installed.signature of_batches.signed in
-      let version : installed.rec.version ≡ length batches = ap (λ (x : Record). x.version) of_batches.record_is in
-      let long : length s.key ≡ 56 = key_long s.key (record_bytes installed.rec) installed.signature of_batches.signed.valid in
-      subst FitsRecord (sym of_batches.record_is) (record_fits s.key (length batches) (honest_trees batches) (omega (arith, long)) (omega (arith, version, few)))
+  rec_fits = record_fits_bytes s.key batches installed of_batches
 
   reply_read : IsReply (reply_bytes r) r
   reply_read = record {

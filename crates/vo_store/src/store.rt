@@ -2,7 +2,7 @@
 use crate::answering::answer_by_tables;
 use crate::fault::StoreFault;
 use crate::installing::{next_version, signed_record};
-use crate::proposing::propose_batch;
+use crate::proposing::{Proposal, propose_batch};
 use crate::signed_record::SignedRecord;
 use lms_sign::PublicKey;
 use std::alloc::{AllocError, Global};
@@ -20,10 +20,13 @@ pub struct Store {
 }
 
 impl Model for Store {
+    ghost use Rattle.vo_store.specs.Codes.{coded_store};
     ghost use Rattle.vo_store.specs.StoreState.{StoreState};
     ghost use Rattle.vo_store.specs.HonestStores.{IsHonestStore};
 
     ghost Value = { StoreState };
+
+    ghost coded = { coded_store };
 
     ghost view = { λ store. record {
       key = store.key;
@@ -72,9 +75,9 @@ impl Store {
             return Err(StoreFault::Empty);
         }
         match propose_batch(alloc, &self.tables, batch) {
-            Ok(proposal) => {
-                self.pending = Some(proposal.after);
-                Ok(proposal.proofs)
+            Ok(Proposal { after, proofs }) => {
+                self.pending = Some(after);
+                Ok(proofs)
             }
             Err(fault) => Err(fault),
         }
@@ -91,18 +94,20 @@ impl Store {
             (install_of self.old rec.now signature.now) }
         ensures left { OnErr result (self.new ≡ self.old) }
     {
-        let installed = match &self.pending {
-            Some(after) => {
-                let version = next_version(&self.installed);
-                signed_record(alloc, &self.key, version, after, rec, signature)?
-            }
+        let after = match &self.pending {
+            Some(after) => after.share(alloc)?,
             None => return Err(StoreFault::NothingProposed),
         };
-        if let Some(after) = self.pending.take() {
-            self.tables = after;
+        let version = next_version(&self.installed);
+        match signed_record(alloc, &self.key, version, &after, rec, signature) {
+            Ok(installed) => {
+                self.installed = Some(installed);
+                self.tables = after;
+                self.pending = None;
+                Ok(())
+            }
+            Err(fault) => Err(fault),
         }
-        self.installed = Some(installed);
-        Ok(())
     }
 
     /// The reply to the query, as bytes, by the version that is installed.
