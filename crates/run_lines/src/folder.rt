@@ -50,12 +50,8 @@ impl Folder {
     pub fn run(&self, alloc: Global, attempt: Attempt) -> Result<RunEnd, AllocError> {
         let files = copies(alloc, &self.files)?;
         let mut shelf = MemShelf::new(files, FailAt::new(attempt.take_failures));
-        run_over(
-            alloc,
-            &attempt.words,
-            &mut shelf,
-            FailAt::new(attempt.put_failures),
-        )
+        let put_failures = FailAt::new(attempt.put_failures);
+        run_over(alloc, &attempt.words, &mut shelf, put_failures)
     }
 
     /// A run that never fails, with this file in the place of the one of its name.
