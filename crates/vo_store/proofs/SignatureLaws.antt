@@ -1,5 +1,5 @@
 -- What a valid signature is like.
-use Rattle.std.proofs.Common.{◌≡◌, ℕ, ◌<◌, ◌≤◌, Bool, true, false, List, Option, Some, None, length, refl, subst, arith}
+use Rattle.std.proofs.Common.{◌≡◌, ℕ, ◌<◌, ◌≤◌, Bool, true, false, List, Option, Some, None, length, refl, sym, subst, arith}
 use Rattle.std.specs.Prelude.{nat_le, if◌then◌else◌}
 use Rattle.std.proofs.lemmas.Bool.{and_parts, eqb-true, ltb-true}
 use Rattle.vo_spec.specs.declared.signatures.OtsType.{OtsType}
@@ -35,10 +35,10 @@ unfolding is_lms_form
 formed lms ots signature few e =
     let all = and_parts _ _ e in
     let front = and_parts _ _ all.0 in
-    record {
-      short = omega (arith, eqb-true (length signature) (lms_signature_len lms ots) front.0, few);
-      leaf = omega (arith, ltb-true (u32_at signature 0) (leaves_of lms) all.1, few_leaves lms);
-    }
+    let long : length signature ≡ lms_signature_len lms ots = eqb-true (length signature) (lms_signature_len lms ots) front.0 in
+    let below : u32_at signature 0 < leaves_of lms = ltb-true (u32_at signature 0) (leaves_of lms) all.1 in
+    let most : leaves_of lms ≤ 33554432 = few_leaves lms in
+    record { short = subst (λ (n : ℕ). n ≤ max_signature) (sym long) few; leaf = omega (arith, below, most) }
 
 valid_bounds : (key message signature : List ℕ) → lms_valid key message signature ≡ true → HasBounds signature
 unfolding lms_valid is_valid_under

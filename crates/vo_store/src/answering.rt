@@ -45,7 +45,8 @@ fn reply_by_tables<'t>(
 /// A reply as bytes, which have a limit.
 fn bytes_of(alloc: Global, reply: &Reply<'_>) -> Result<Vec<u8>, StoreFault>
     requires { FitsReply (reply_of reply.now) }
-    ensures { Gives (λ bytes. bytes.items) result (within_limit (reply_bytes (reply_of reply.now))) }
+    ensures { Gives (λ bytes. bytes.items) result
+        (within_limit (reply_bytes (reply_of reply.now))) }
 {
     let bytes = write_reply(alloc, reply)?;
     if bytes.len() > MAX_REPLY {
