@@ -4,7 +4,7 @@ ghost use Rattle.vo_spec.specs.Sha256.{sha256};
 ghost use Rattle.vo_spec.specs.declared.cells.Cell.TheVariants.{Shown};
 ghost use Rattle.vo_spec.specs.declared.values.Value.TheVariants.{Int, Text};
 ghost use Rattle.vo_spec.specs.Lent.{value_of};
-ghost use Rattle.vo_spec.specs.Values.{value_bytes, FitsValue};
+ghost use Rattle.vo_spec.specs.Values.{value_bytes, max_text, FitsValue};
 ghost use Rattle.vo_spec.specs.Cells.{cell_digest as cell_digest_of, row_bytes, row_digest as row_digest_of, whole_row};
 ghost use Rattle.vo_spec.specs.Fits.{FitsCell, FitsCells, FitsRowPart, max_cells};
 ghost use Rattle.attr_digest.specs.Adding.{Adds};
@@ -46,7 +46,7 @@ fn add_int(hasher: &mut Hasher, number: i64)
 }
 
 fn add_text(hasher: &mut Hasher, text: &[u8])
-    requires { length text.now ≤ 1024 }
+    requires { length text.now ≤ max_text }
     ensures { Adds hasher.old hasher.new (value_bytes (Text text.now)) }
 {
     hasher.add(&[2]);

@@ -4,7 +4,7 @@ ghost use Rattle.vo_spec.specs.declared.cells.Cell.TheVariants.{Shown};
 ghost use Rattle.vo_spec.specs.declared.cells.RowPart.TheVariants.{Cells};
 ghost use Rattle.vo_spec.specs.Cells.{whole_cells};
 ghost use Rattle.vo_spec.specs.Values.{FitsValue};
-ghost use Rattle.vo_spec.specs.Pruned.{shown_cell, shown_cells};
+ghost use Rattle.vo_spec.specs.Pruning.{shown_cell, shown_cells};
 ghost use Rattle.vo_spec.specs.Fits.{FitsCells, FitsRow};
 
 use crate::hashing::attr_digest;

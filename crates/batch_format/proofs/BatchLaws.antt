@@ -10,7 +10,7 @@ use Rattle.vo_spec.specs.declared.tables.Command.{Command}
 use Rattle.vo_spec.specs.declared.tables.Command.TheVariants.{Create, Drop, Insert, Update, Delete}
 use Rattle.vo_spec.specs.Bytes.{IsBytes, u16_bytes, u16_of, short_string}
 use Rattle.vo_spec.specs.Values.{value_bytes, FitsValue}
-use Rattle.vo_spec.specs.Batches.{counted, column_bytes, set_bytes, command_bytes, batch_bytes, FitCounted, FitsColumn, FitsSet, FitsCommand, FitsBatch, IsBatch, max_commands, max_batch_bytes}
+use Rattle.vo_spec.specs.Batches.{list_bytes, column_bytes, set_bytes, command_bytes, batch_bytes, FitCounted, FitsColumn, FitsSet, FitsCommand, FitsBatch, IsBatch, max_commands, max_batch_bytes}
 use Rattle.row_bytes.specs.declared.read_fault.ReadFault.{ReadFault}
 use Rattle.row_bytes.specs.Reading.{u16_at}
 use Rattle.row_bytes.specs.Fields.{name_at, column_at, columns_at, times, whole}
@@ -48,15 +48,15 @@ set_again s rest fits =
 sets_law : IsReader set_at set_bytes FitsSet
 sets_law = record { found = set_found; again = set_again }
 
-pub columns_law : IsReader columns_at (counted column_bytes) (FitCounted FitsColumn)
+pub columns_law : IsReader columns_at (list_bytes column_bytes) (FitCounted FitsColumn)
 unfolding columns_at
 columns_law = many_read column_at column_bytes FitsColumn columns_are_read
 
-values_law : IsReader values_at (counted value_bytes) (FitCounted FitsValue)
+values_law : IsReader values_at (list_bytes value_bytes) (FitCounted FitsValue)
 unfolding values_at
 values_law = many_read any_value_at value_bytes FitsValue values_read
 
-many_sets_law : IsReader sets_at (counted set_bytes) (FitCounted FitsSet)
+many_sets_law : IsReader sets_at (list_bytes set_bytes) (FitCounted FitsSet)
 unfolding sets_at
 many_sets_law = many_read set_at set_bytes FitsSet sets_law
 
@@ -72,8 +72,8 @@ create_found bytes y fits e =
     let a = next_found names_read (λ n. two (Create n) columns_at name_at) bytes y fits e in
     let b = next_found columns_law (λ cs. one (Create a.0 cs) name_at) a.1 y a.2.behind a.4 in
     let c = one_found names_read (Create a.0 b.0) b.1 y b.2.behind b.4 in
-    let t = took_then bytes (short_string a.0 ++ counted column_bytes b.0) b.1 (short_string c.0) c.1 (took_then bytes (short_string a.0) a.1 (counted column_bytes b.0) b.1 a.2 b.2) c.2 in
-    subst (Encodes (1 ∷ bytes)) c.4 (behind_byte 1 bytes (short_string a.0 ++ counted column_bytes b.0 ++ short_string c.0) c.1 t, (a.3, b.3, c.3))
+    let t = took_then bytes (short_string a.0 ++ list_bytes column_bytes b.0) b.1 (short_string c.0) c.1 (took_then bytes (short_string a.0) a.1 (list_bytes column_bytes b.0) b.1 a.2 b.2) c.2 in
+    subst (Encodes (1 ∷ bytes)) c.4 (behind_byte 1 bytes (short_string a.0 ++ list_bytes column_bytes b.0 ++ short_string c.0) c.1 t, (a.3, b.3, c.3))
 
 drop_found : (bytes : List ℕ) (y : Command × List ℕ) → IsBytes bytes → dropped_at bytes ≡ Some y → Encodes (2 ∷ bytes) y
 unfolding dropped_at Encodes command_bytes FitsCommand
@@ -86,7 +86,7 @@ unfolding insert_at Encodes command_bytes FitsCommand
 insert_found bytes y fits e =
     let a = next_found names_read (λ n. one (Insert n) values_at) bytes y fits e in
     let b = one_found values_law (Insert a.0) a.1 y a.2.behind a.4 in
-    subst (Encodes (3 ∷ bytes)) b.4 (behind_byte 3 bytes (short_string a.0 ++ counted value_bytes b.0) b.1 (took_then bytes (short_string a.0) a.1 (counted value_bytes b.0) b.1 a.2 b.2), (a.3, b.3))
+    subst (Encodes (3 ∷ bytes)) b.4 (behind_byte 3 bytes (short_string a.0 ++ list_bytes value_bytes b.0) b.1 (took_then bytes (short_string a.0) a.1 (list_bytes value_bytes b.0) b.1 a.2 b.2), (a.3, b.3))
 
 update_found : (bytes : List ℕ) (y : Command × List ℕ) → IsBytes bytes → update_at bytes ≡ Some y → Encodes (4 ∷ bytes) y
 unfolding update_at Encodes command_bytes FitsCommand
@@ -95,10 +95,10 @@ update_found bytes y fits e =
     let b = next_found many_sets_law (λ ss. two (Update a.0 ss) name_at any_value_at) a.1 y a.2.behind a.4 in
     let c = next_found names_read (λ k. one (Update a.0 b.0 k) any_value_at) b.1 y b.2.behind b.4 in
     let d = one_found values_read (Update a.0 b.0 c.0) c.1 y c.2.behind c.4 in
-    let ab = took_then bytes (short_string a.0) a.1 (counted set_bytes b.0) b.1 a.2 b.2 in
-    let abc = took_then bytes (short_string a.0 ++ counted set_bytes b.0) b.1 (short_string c.0) c.1 ab c.2 in
-    let t = took_then bytes (short_string a.0 ++ counted set_bytes b.0 ++ short_string c.0) c.1 (value_bytes d.0) d.1 abc d.2 in
-    subst (Encodes (4 ∷ bytes)) d.4 (behind_byte 4 bytes (short_string a.0 ++ counted set_bytes b.0 ++ short_string c.0 ++ value_bytes d.0) d.1 t, (a.3, b.3, c.3, d.3))
+    let ab = took_then bytes (short_string a.0) a.1 (list_bytes set_bytes b.0) b.1 a.2 b.2 in
+    let abc = took_then bytes (short_string a.0 ++ list_bytes set_bytes b.0) b.1 (short_string c.0) c.1 ab c.2 in
+    let t = took_then bytes (short_string a.0 ++ list_bytes set_bytes b.0 ++ short_string c.0) c.1 (value_bytes d.0) d.1 abc d.2 in
+    subst (Encodes (4 ∷ bytes)) d.4 (behind_byte 4 bytes (short_string a.0 ++ list_bytes set_bytes b.0 ++ short_string c.0 ++ value_bytes d.0) d.1 t, (a.3, b.3, c.3, d.3))
 
 delete_found : (bytes : List ℕ) (y : Command × List ℕ) → IsBytes bytes → delete_at bytes ≡ Some y → Encodes (5 ∷ bytes) y
 unfolding delete_at Encodes command_bytes FitsCommand
@@ -134,20 +134,20 @@ command_found (byte ∷ bytes) c rest fits e =
 command_again : (c : Command) (rest : List ℕ) → FitsCommand c → command_at (command_bytes c ++ rest) ≡ Some (c, rest)
 unfolding command_at command_bytes FitsCommand create_at dropped_at insert_at update_at delete_at
 command_again (Create name columns key) rest fits =
-    ap create_at (append_assoc (short_string name ++ counted column_bytes columns) (short_string key) rest ∙ append_assoc (short_string name) (counted column_bytes columns) (short_string key ++ rest))
-    ∙ next_again names_read (λ n. two (Create n) columns_at name_at) name (counted column_bytes columns ++ (short_string key ++ rest)) fits.0
+    ap create_at (append_assoc (short_string name ++ list_bytes column_bytes columns) (short_string key) rest ∙ append_assoc (short_string name) (list_bytes column_bytes columns) (short_string key ++ rest))
+    ∙ next_again names_read (λ n. two (Create n) columns_at name_at) name (list_bytes column_bytes columns ++ (short_string key ++ rest)) fits.0
     ∙ next_again columns_law (λ cs. one (Create name cs) name_at) columns (short_string key ++ rest) fits.1
     ∙ next_again names_read (λ k rest. let made : Option (Command × List ℕ) = Some (Create name columns k, rest) in made) key rest fits.2
 command_again (Drop name) rest fits = next_again names_read (λ n rest. let made : Option (Command × List ℕ) = Some (Drop n, rest) in made) name rest fits
 command_again (Insert name values) rest fits =
-    ap insert_at (append_assoc (short_string name) (counted value_bytes values) rest)
-    ∙ next_again names_read (λ n. one (Insert n) values_at) name (counted value_bytes values ++ rest) fits.0
+    ap insert_at (append_assoc (short_string name) (list_bytes value_bytes values) rest)
+    ∙ next_again names_read (λ n. one (Insert n) values_at) name (list_bytes value_bytes values ++ rest) fits.0
     ∙ next_again values_law (λ vs rest. let made : Option (Command × List ℕ) = Some (Insert name vs, rest) in made) values rest fits.1
 command_again (Update name sets column value) rest fits =
-    ap update_at (append_assoc (short_string name ++ counted set_bytes sets ++ short_string column) (value_bytes value) rest
-    ∙ append_assoc (short_string name ++ counted set_bytes sets) (short_string column) (value_bytes value ++ rest)
-    ∙ append_assoc (short_string name) (counted set_bytes sets) (short_string column ++ (value_bytes value ++ rest)))
-    ∙ next_again names_read (λ n. three (Update n) sets_at name_at any_value_at) name (counted set_bytes sets ++ (short_string column ++ (value_bytes value ++ rest))) fits.0
+    ap update_at (append_assoc (short_string name ++ list_bytes set_bytes sets ++ short_string column) (value_bytes value) rest
+    ∙ append_assoc (short_string name ++ list_bytes set_bytes sets) (short_string column) (value_bytes value ++ rest)
+    ∙ append_assoc (short_string name) (list_bytes set_bytes sets) (short_string column ++ (value_bytes value ++ rest)))
+    ∙ next_again names_read (λ n. three (Update n) sets_at name_at any_value_at) name (list_bytes set_bytes sets ++ (short_string column ++ (value_bytes value ++ rest))) fits.0
     ∙ next_again many_sets_law (λ ss. two (Update name ss) name_at any_value_at) sets (short_string column ++ (value_bytes value ++ rest)) fits.1
     ∙ next_again names_read (λ k. one (Update name sets k) any_value_at) column (value_bytes value ++ rest) fits.2
     ∙ next_again values_read (λ v rest. let made : Option (Command × List ℕ) = Some (Update name sets column v, rest) in made) value rest fits.3

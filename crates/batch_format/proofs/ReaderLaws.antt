@@ -11,7 +11,7 @@ use Rattle.vo_spec.specs.declared.tables.Column.{Column}
 use Rattle.vo_spec.specs.Bytes.{IsBytes, short_string}
 use Rattle.vo_spec.specs.Names.{is_name, FitsName}
 use Rattle.vo_spec.specs.Values.{type_byte, value_bytes, FitsValue}
-use Rattle.vo_spec.specs.Batches.{counted, column_bytes, FitCounted, FitsColumn, max_columns}
+use Rattle.vo_spec.specs.Batches.{list_bytes, column_bytes, FitCounted, FitsColumn, max_columns}
 use Rattle.row_bytes.specs.declared.fault.FormFault.{FormFault}
 use Rattle.row_bytes.specs.Reading.{byte_at, bytes_at, value_at}
 use Rattle.row_bytes.specs.Fields.{◌>>=◌, where_true, short_string_at, name_at, kind_of_byte, kind_at, column_at, count_at, times}
@@ -189,7 +189,7 @@ module _ {A : Type 0} (read : Reader A) (encoding : A → List ℕ) (Fits : A �
   abbrev pub many_at : Reader (List A)
   many_at bytes = count_at bytes >>= λ count. times read count.0 count.1
 
-  many_found : (bytes : List ℕ) (xs : List A) (rest : List ℕ) → IsBytes bytes → many_at bytes ≡ Some (xs, rest) → Took bytes (counted encoding xs) rest × FitCounted Fits xs
+  many_found : (bytes : List ℕ) (xs : List A) (rest : List ℕ) → IsBytes bytes → many_at bytes ≡ Some (xs, rest) → Took bytes (list_bytes encoding xs) rest × FitCounted Fits xs
   unfolding count_at byte_at
   many_found [] xs rest fits e = absurd cc
   many_found (count ∷ bytes) xs rest fits e =
@@ -202,11 +202,11 @@ module _ {A : Type 0} (read : Reader A) (encoding : A → List ℕ) (Fits : A �
       let high : length xs ≤ max_columns = omega (arith, leb-true count max_columns both.1, f.1) in
       (record { parts = ap (λ (n : ℕ). n ∷ bytes) (sym f.1) ∙ ap (λ (t : List ℕ). length xs ∷ t) f.0.parts; behind = f.0.behind }, (low, high, f.2))
 
-  many_again : (xs : List A) (rest : List ℕ) → FitCounted Fits xs → many_at (counted encoding xs ++ rest) ≡ Some (xs, rest)
+  many_again : (xs : List A) (rest : List ℕ) → FitCounted Fits xs → many_at (list_bytes encoding xs ++ rest) ≡ Some (xs, rest)
   unfolding count_at byte_at
   many_again xs rest fits = rw (le-leb 1 (length xs) fits.0, le-leb (length xs) max_columns fits.1, times_again xs rest fits.2) refl
 
-  pub many_read : IsReader many_at (counted encoding) (FitCounted Fits)
+  pub many_read : IsReader many_at (list_bytes encoding) (FitCounted Fits)
   many_read = record { found = many_found; again = many_again }
 
 -- Things in turn.

@@ -3,7 +3,7 @@ ghost use Rattle.std.specs.Prelude.{◌≡◌, ◌++◌, OnOk, OnErr};
 ghost use Rattle.vo_spec.specs.Bytes.{short_string};
 ghost use Rattle.vo_spec.specs.Names.{FitsName};
 ghost use Rattle.vo_spec.specs.Values.{type_byte};
-ghost use Rattle.vo_spec.specs.Batches.{counted, column_bytes, FitCounted, FitsColumn};
+ghost use Rattle.vo_spec.specs.Batches.{list_bytes, column_bytes, FitCounted, FitsColumn};
 ghost use Rattle.batch_format.specs.Writing.{StaysInFront};
 
 use std::alloc::AllocError;
@@ -47,7 +47,7 @@ fn put_column(out: &mut Vec<u8>, column: &Column) -> Result<(), AllocError>
 #[tactic(auto, using(crate::proofs::Fronts::stays_itself, crate::proofs::Fronts::stays_before, crate::proofs::Fronts::stays_behind))]
 pub fn put_columns(out: &mut Vec<u8>, columns: &[Column]) -> Result<(), AllocError>
     requires { FitCounted FitsColumn columns.now }
-    ensures ok { OnOk result (out.new.items ≡ out.old.items ++ counted column_bytes columns.now) }
+    ensures ok { OnOk result (out.new.items ≡ out.old.items ++ list_bytes column_bytes columns.now) }
     ensures err { OnErr result (StaysInFront out.old.items out.new.items) }
 {
     out.push(columns.len() as u8)?;

@@ -2,7 +2,7 @@
 ghost use Rattle.std.specs.Prelude.{◌≡◌, ◌++◌, ◌≤◌, length, IfOk, OnOk, OnErr};
 ghost use Rattle.std.specs.List.{AllByRecursion};
 ghost use Rattle.vo_spec.specs.Values.{value_bytes, FitsValue};
-ghost use Rattle.vo_spec.specs.Batches.{counted, set_bytes, command_bytes, batch_bytes, FitCounted, FitsSet, FitsCommand, max_commands};
+ghost use Rattle.vo_spec.specs.Batches.{list_bytes, set_bytes, command_bytes, batch_bytes, FitCounted, FitsSet, FitsCommand, max_commands};
 ghost use Rattle.batch_format.specs.Writing.{StaysInFront};
 
 use crate::columns::{put_columns, put_name};
@@ -23,7 +23,7 @@ fn put_set(out: &mut Vec<u8>, part: &SetPart) -> Result<(), AllocError>
 #[tactic(auto, using(crate::proofs::Fronts::stays_itself, crate::proofs::Fronts::stays_before, crate::proofs::Fronts::stays_behind))]
 fn put_values(out: &mut Vec<u8>, values: &[Value]) -> Result<(), AllocError>
     requires { FitCounted FitsValue values.now }
-    ensures ok { OnOk result (out.new.items ≡ out.old.items ++ counted value_bytes values.now) }
+    ensures ok { OnOk result (out.new.items ≡ out.old.items ++ list_bytes value_bytes values.now) }
     ensures err { OnErr result (StaysInFront out.old.items out.new.items) }
 {
     out.push(values.len() as u8)?;
@@ -36,7 +36,7 @@ fn put_values(out: &mut Vec<u8>, values: &[Value]) -> Result<(), AllocError>
 #[tactic(auto, using(crate::proofs::Fronts::stays_itself, crate::proofs::Fronts::stays_before, crate::proofs::Fronts::stays_behind))]
 fn put_sets(out: &mut Vec<u8>, sets: &[SetPart]) -> Result<(), AllocError>
     requires { FitCounted FitsSet sets.now }
-    ensures ok { OnOk result (out.new.items ≡ out.old.items ++ counted set_bytes sets.now) }
+    ensures ok { OnOk result (out.new.items ≡ out.old.items ++ list_bytes set_bytes sets.now) }
     ensures err { OnErr result (StaysInFront out.old.items out.new.items) }
 {
     out.push(sets.len() as u8)?;

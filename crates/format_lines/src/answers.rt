@@ -5,7 +5,7 @@ use crate::journals::{entries, journal, owned_journal, seal, slots, taken_journa
 use crate::keys::{copy, key, leaf, make, node, sign, verify};
 use crate::line::read_line;
 use crate::one_time::{candidate, checksum, digit, ots_public, ots_sign};
-use crate::owners::{next, owned_entries, replayed, start, step};
+use crate::owners::{next, owned_entries, replay_entries, start, step};
 use crate::records::{catalog, record};
 use crate::replies::{answer_by, begin, proofs, reply};
 use crate::rows::{attribute, cell, closed_row, hide, hide_cells, row, value, whole_row};
@@ -36,7 +36,7 @@ fn answer_line(alloc: Global, state: &mut State, line: &str) -> Result<String, N
         Call::Seal => seal(alloc, state, strings),
         Call::Start => start(alloc, state),
         Call::Step => step(alloc, state, strings),
-        Call::Replay => replayed(alloc, state, strings),
+        Call::Replay => replay_entries(alloc, state, strings),
         _ => by_strings(alloc, call, strings),
     }
 }

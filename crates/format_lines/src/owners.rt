@@ -144,7 +144,7 @@ fn step_text(
 }
 
 /// The roots of the owner of the key that was made last behind a journal.
-pub fn replayed(alloc: Global, state: &State, strings: &[Vec<u8>]) -> Result<String, NoAnswer> {
+pub fn replay_entries(alloc: Global, state: &State, strings: &[Vec<u8>]) -> Result<String, NoAnswer> {
     let [journal] = strings else {
         return Err(NoAnswer::NoSuchLine);
     };

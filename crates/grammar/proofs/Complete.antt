@@ -6,7 +6,7 @@ use Rattle.grammar.specs.Language.{Language, IsLanguage}
 use Rattle.grammar.specs.Rule.{Rule, Grammar, nothing, token, both, either, many, means, inside}
 use Rattle.grammar.specs.Text.{Nests, Within, Repeats, Spells, NestsIn}
 use Rattle.grammar.specs.Checks.{has, are_apart, are_among, is_nullable, first, goes_on, is_predictive}
-use Rattle.grammar.specs.Reading.{Found, Reader, begins, and_then, taken, is_full, one_less, rounds, read, reader}
+use Rattle.grammar.specs.Reading.{Found, Reader, begins, and_then, take_token, is_full, one_less, rounds, read, reader}
 use Rattle.grammar.specs.declared.ParseFault.TheVariants.{Syntax, Nesting, TooMany}
 use Rattle.grammar.proofs.Truths.{and_left, and_right, not_true, not_both, tested}
 use Rattle.grammar.proofs.KindSets.{apart_not, among_has}
@@ -46,7 +46,7 @@ fits false (Some (suc m)) n h = inr (refl, tt)
 module _ (l : Language) (w : IsLanguage l) (g : Grammar l) (N : Nests l) (R : Reader l) (counted : Bool) (Deep : Type 0)
     (nested : (n : l.Nonterminal) (t : l.Token) (ts : List l.Token) (v : l.Tree) (rest : List l.Token)
     → N n ts v → begins l (g.after n) rest ≡ false → Takes Deep counted v rest (R n t (ts ++ rest))) where
-  taken_is : (k : l.Kind) (t : l.Token) (rest : List l.Token) → l.kind t ≡ k → taken l k (t ∷ rest) ≡ (Ok t, rest)
+  taken_is : (k : l.Kind) (t : l.Token) (rest : List l.Token) → l.kind t ≡ k → take_token l k (t ∷ rest) ≡ (Ok t, rest)
   taken_is k t rest e = let s : l.same (l.kind t) k ≡ true = subst (λ a. l.same (l.kind t) a ≡ true) e (w.same_self (l.kind t)) in rw s refl
 
   -- the first can't go on with what the second begins with, nor with what follows where that is empty
@@ -113,7 +113,7 @@ module _ (l : Language) (w : IsLanguage l) (g : Grammar l) (N : Nests l) (R : Re
   pub complete : {A : Type 0} (p : Rule l A) → is_predictive g p ≡ true → (ts : List l.Token) (v : A) (rest : List l.Token)
       → Spells N counted p ts v → begins l (goes_on g p) rest ≡ false → Takes Deep counted v rest (read R p (ts ++ rest))
   complete (nothing a) good ts v rest (e, f) after = subst (λ z. Takes Deep counted v rest (read {l = l} R (nothing a) (z ++ rest))) (sym e) (sym f, refl)
-  complete (token k) good ts v rest (real, e, f) after = subst (λ z. Takes Deep counted v rest (taken l k (z ++ rest))) (sym f) (rw (taken_is k v rest e) (refl, refl))
+  complete (token k) good ts v rest (real, e, f) after = subst (λ z. Takes Deep counted v rest (take_token l k (z ++ rest))) (sym f) (rw (taken_is k v rest e) (refl, refl))
   complete (both p q) good ts v rest (x, y, e, s, r) after =
       let whole : ts ++ rest ≡ x ++ (y ++ rest) = ap (λ z. z ++ rest) e ∙ append_assoc x y rest in
       let apart = and_left (are_apart l (goes_on g p) (first q)) (is_predictive g p) (and_left _ (is_predictive g q) good) in
@@ -142,7 +142,7 @@ module _ (l : Language) (w : IsLanguage l) (g : Grammar l) (N : Nests l) (R : Re
       subst (λ z. Takes Deep counted z rest (read R (means f p) (ts ++ rest))) (sym e)
       (takes_then Deep counted a rest (f a) rest _ (read R p (ts ++ rest)) (complete p good ts a rest s after) (refl, refl))
   complete (inside k n) good ts v rest (t, more, real, e, f, s) after =
-      subst (λ z. Takes Deep counted v rest (and_then (taken l k (z ++ rest)) (R n))) (sym f)
+      subst (λ z. Takes Deep counted v rest (and_then (take_token l k (z ++ rest)) (R n))) (sym f)
       (rw (taken_is k t (more ++ rest) e) (nested n t more v rest s after))
 
 -- at the nonterminals, for a text of n levels read with m

@@ -4,7 +4,7 @@ use Rattle.std.specs.Prelude.{◌&&◌, ◌||◌, if◌then◌else◌}
 use Rattle.grammar.specs.Language.{Language}
 use Rattle.grammar.specs.Rule.{Rule, Grammar, nothing, token, both, either, many, means, inside}
 use Rattle.grammar.specs.Checks.{is_nullable, first}
-use Rattle.grammar.specs.Reading.{Found, Reader, begins, and_then, taken, is_full, one_less, rounds, read, reader}
+use Rattle.grammar.specs.Reading.{Found, Reader, begins, and_then, take_token, is_full, one_less, rounds, read, reader}
 use Rattle.grammar.specs.declared.ParseFault.TheVariants.{Syntax, TooMany}
 
 -- what was read took at least so many tokens
@@ -61,7 +61,7 @@ shortens_rounds go next part limit (suc fuel) ts =
     (λ v rest. shortens_ended 0 rest (rounds go next (one_less limit) fuel rest) _ (shortens_rounds go next part (one_less limit) fuel rest)))
 
 module _ (l : Language) (R : Reader l) (nested : (n : l.Nonterminal) (t : l.Token) (ts : List l.Token) → Shortens 0 ts (R n t ts)) where
-  pub shortens_taken : (k : l.Kind) (ts : List l.Token) → Shortens 1 ts (taken l k ts)
+  pub shortens_taken : (k : l.Kind) (ts : List l.Token) → Shortens 1 ts (take_token l k ts)
   shortens_taken k [] = tt
   shortens_taken k (t ∷ ts) = by_kind (l.same (l.kind t) k)
     where
@@ -87,7 +87,7 @@ module _ (l : Language) (R : Reader l) (nested : (n : l.Nonterminal) (t : l.Toke
   shorter (many limit p) ts =
       shortens_rounds (begins l (first p)) (read R p) (λ z. shortens_less (least (is_nullable p)) 0 z (read R p z) (omega arith) (shorter p z)) limit (length ts) ts
   shorter (means f p) ts = shortens_ended (least (is_nullable p)) ts (read R p ts) f (shorter p ts)
-  shorter (inside k n) ts = shortens_then 1 0 ts (taken l k ts) (R n) (shortens_taken k ts) (nested n)
+  shorter (inside k n) ts = shortens_then 1 0 ts (take_token l k ts) (R n) (shortens_taken k ts) (nested n)
 
 pub nested_shorter : (l : Language) (g : Grammar l) (m : ℕ) (n : l.Nonterminal) (t : l.Token) (ts : List l.Token) → Shortens 0 ts (reader g m n t ts)
 nested_shorter l g zero n t ts = tt

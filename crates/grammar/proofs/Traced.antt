@@ -7,7 +7,7 @@ use Rattle.grammar.specs.Language.{Language, IsLanguage}
 use Rattle.grammar.specs.Rule.{Rule, Grammar, nothing, token, both, either, many, means, inside}
 use Rattle.grammar.specs.Text.{Nests, Within, Spells}
 use Rattle.grammar.specs.Checks.{has, are_apart, is_nullable, first, goes_on, is_predictive, is_plain, is_completable}
-use Rattle.grammar.specs.Reading.{Reader, begins, and_then, taken, is_full, one_less, read}
+use Rattle.grammar.specs.Reading.{Reader, begins, and_then, take_token, is_full, one_less, read}
 use Rattle.grammar.specs.declared.ParseFault.{ParseFault}
 use Rattle.grammar.specs.declared.ParseFault.TheVariants.{Syntax, Nesting, TooMany}
 use Rattle.grammar.proofs.Truths.{and_left, and_right, not_true, not_both, tested}
@@ -116,15 +116,15 @@ module _ (l : Language) (w : IsLanguage l) (g : Grammar l) (R : Reader l) (N D M
     trace = record { reads = ended; finds = tt; viable = inl refl };
   }
     where
-      ended : (rest : List l.Token) → peek rest ≡ None → taken l k rest ≡ (Err Syntax, rest)
+      ended : (rest : List l.Token) → peek rest ≡ None → take_token l k rest ≡ (Err Syntax, rest)
       ended [] e = refl
       ended (t ∷ rest) e = absurd (cc)
   token_traced k (t ∷ ts) real = by_kind (tested (l.same (l.kind t) k))
     where
-      is_taken : l.same (l.kind t) k ≡ true → (rest : List l.Token) → taken l k (t ∷ rest) ≡ (Ok t, rest)
+      is_taken : l.same (l.kind t) k ≡ true → (rest : List l.Token) → take_token l k (t ∷ rest) ≡ (Ok t, rest)
       is_taken e rest = rw e refl
 
-      is_not : l.same (l.kind t) k ≡ false → (rest : List l.Token) → peek rest ≡ Some t → taken l k rest ≡ (Err Syntax, rest)
+      is_not : l.same (l.kind t) k ≡ false → (rest : List l.Token) → peek rest ≡ Some t → take_token l k rest ≡ (Err Syntax, rest)
       is_not e [] h = absurd (cc)
       is_not e (u ∷ rest) h = let same : u ≡ t = cc in let f : l.same (l.kind u) k ≡ false = ap (λ z. l.same (l.kind z) k) same ∙ e in rw f refl
 

@@ -23,9 +23,9 @@ abbrev pub and_then : {T A B : Type 0} → Found T A → (A → List T → Found
 and_then (Ok a, rest) f = f a rest
 and_then (Err s, rest) f = (Err s, rest)
 
-abbrev pub taken : (l : Language) → l.Kind → List l.Token → Found l.Token l.Token
-taken l k [] = (Err Syntax, [])
-taken l k (t ∷ ts) = if l.same (l.kind t) k then (Ok t, ts) else (Err Syntax, t ∷ ts)
+abbrev pub take_token : (l : Language) → l.Kind → List l.Token → Found l.Token l.Token
+take_token l k [] = (Err Syntax, [])
+take_token l k (t ∷ ts) = if l.same (l.kind t) k then (Ok t, ts) else (Err Syntax, t ∷ ts)
 
 abbrev pub is_full : Option ℕ → Bool
 is_full None = false
@@ -51,13 +51,13 @@ rounds go next limit (suc fuel) ts =
 
 abbrev pub read : {l : Language} {A : Type 0} → Reader l → Rule l A → List l.Token → Found l.Token A
 read R (nothing a) ts = (Ok a, ts)
-read {l} R (token k) ts = taken l k ts
+read {l} R (token k) ts = take_token l k ts
 read R (both p q) ts = and_then (read R p ts)
     (λ a rest. and_then (read R q rest) (λ b end. (Ok (a, b), end)))
 read {l} R (either p q) ts = if begins l (first p) ts then read R p ts else read R q ts
 read {l} R (many limit p) ts = rounds (begins l (first p)) (read R p) limit (length ts) ts
 read R (means f p) ts = and_then (read R p ts) (λ a rest. (Ok (f a), rest))
-read {l} R (inside k n) ts = and_then (taken l k ts) (R n)
+read {l} R (inside k n) ts = and_then (take_token l k ts) (R n)
 
 -- with so many levels left
 abbrev pub reader : {l : Language} → Grammar l → ℕ → Reader l

@@ -11,7 +11,7 @@ use Rattle.link_frames.specs.declared.end.End.TheVariants as end
 use Rattle.link_frames.specs.Frames.{Coming, Whole, Ended, Cut, Bad, frame_bytes, span, first_frame}
 use Rattle.link_frames.specs.Reading.{Took, TookSome, TookRest, TookRestOrSome, StaysWhereItStands, Misses}
 use Rattle.link_frames.specs.Scripts.{Event, Puts, Takes, Does, Script, behind, IsDone}
-use Rattle.link_frames.specs.Serving.{max_turns, Reply, Next, ends_after, with_reply, with_first, served, last_state, StopsIn, EndsWith, Serves, ServesKnown, end_of, PutsAnswer, AnswersOne, ServesOne}
+use Rattle.link_frames.specs.Serving.{max_turns, Reply, Next, ends_after, with_reply, with_first, serving_script, last_state, StopsIn, EndsWith, Serves, ServesKnown, end_of, PutsAnswer, AnswersOne, ServesOne}
 use Rattle.link_frames.proofs.Filling.{stays_on}
 use Rattle.link_frames.proofs.ScriptLaws.{behind-behind, done-append, stops-append, stands-after}
 
@@ -245,7 +245,7 @@ pub record IsServedTo {S : Type 0} (reply : Reply S) (next : Next S) (left : ℕ
   pub events : List (Event S)
   pub states : List S
   pub wire_is : wire ≡ Some mid
-  pub script_is : served reply next max_turns old before.coming ≡ behind events (served reply next left now mid.coming)
+  pub script_is : serving_script reply next max_turns old before.coming ≡ behind events (serving_script reply next left now mid.coming)
   pub now_is : now ≡ last_state old states
   pub done : IsDone events states before mid
 
@@ -261,11 +261,11 @@ serves_none reply next s before wire is = record {
   done = record { others_are = refl; wire_is = refl };
 }
 
-served-suc : {S : Type 0} (reply : Reply S) (next : Next S) (turns : ℕ) (s : S) (coming : List ℕ)
-    → served reply next (suc turns) s coming ≡ with_first reply next s (first_frame Request coming)
-    (λ kind body. served reply next turns (next s kind body) (drop (5 + length body) coming))
-unfolding served
-served-suc reply next turns s coming = refl
+serving_script-suc : {S : Type 0} (reply : Reply S) (next : Next S) (turns : ℕ) (s : S) (coming : List ℕ)
+    → serving_script reply next (suc turns) s coming ≡ with_first reply next s (first_frame Request coming)
+    (λ kind body. serving_script reply next turns (next s kind body) (drop (5 + length body) coming))
+unfolding serving_script
+serving_script-suc reply next turns s coming = refl
 
 -- one more request
 pub serves_more : {S : Type 0} (reply : Reply S) (next : Next S) (left : ℕ) (old now new : S)
@@ -282,19 +282,19 @@ serves_more {S} reply next left old now new before wire later done h one =
     let after : S = next now kind body in
     let mid : ConnectionModel = send_on (frame_bytes answer.0 answer.1) (take_from (5 + length body) h.mid) in
     let events : List (Event S) = Takes (5 + length body) ∷ Does after ∷ Puts (frame_bytes answer.0 answer.1) ∷ [] in
-    let rest : FrameKind → List ℕ → Script S End = λ k b. served reply next left (next now k b) (drop (5 + length b) h.mid.coming) in
+    let rest : FrameKind → List ℕ → Script S End = λ k b. serving_script reply next left (next now k b) (drop (5 + length b) h.mid.coming) in
     let first : with_first reply next now (first_frame Request h.mid.coming) rest ≡ with_reply next now kind body (reply now kind body) (rest kind body) =
     ap (λ (c : Coming). with_first reply next now c rest) o.2 in
     let replied : with_reply next now kind body (reply now kind body) (rest kind body) ≡ behind events (rest kind body) =
     ap (λ (a : Option (FrameKind × List ℕ)). with_reply next now kind body a (rest kind body)) o.3.1 in
-    let script : served reply next (suc left) now h.mid.coming ≡ behind events (served reply next left after mid.coming) =
-    served-suc reply next left now h.mid.coming ∙ first ∙ replied in
+    let script : serving_script reply next (suc left) now h.mid.coming ≡ behind events (serving_script reply next left after mid.coming) =
+    serving_script-suc reply next left now h.mid.coming ∙ first ∙ replied in
     let result : IsServedTo reply next left old after before later = record {
       mid = mid;
       events = h.events ++ events;
       states = h.states ++ after ∷ [];
       wire_is = o.3.3;
-      script_is = h.script_is ∙ ap (behind h.events) script ∙ behind-behind h.events events (served reply next left after mid.coming);
+      script_is = h.script_is ∙ ap (behind h.events) script ∙ behind-behind h.events events (serving_script reply next left after mid.coming);
       now_is = sym (last_state-append old h.states (after ∷ []));
       done = done-append h.events events h.states (after ∷ []) before h.mid mid h.done (record { others_are = refl; wire_is = refl });
     } in
@@ -306,32 +306,32 @@ pub serves_to_end : {S : Type 0} (reply : Reply S) (next : Next S) (left : ℕ) 
     → IsServedTo reply next (suc left) old now before wire
     → ((mid : ConnectionModel) → wire ≡ Some mid
     → ServesOne reply next (first_frame Request mid.coming) (Err end) now new mid later)
-    → ServesKnown (served reply next max_turns old before.coming) end old new before later
+    → ServesKnown (serving_script reply next max_turns old before.coming) end old new before later
 serves_to_end {S} reply next left end old now new before wire later h one =
-    let rest : FrameKind → List ℕ → Script S End = λ k b. served reply next left (next now k b) (drop (5 + length b) h.mid.coming) in
+    let rest : FrameKind → List ℕ → Script S End = λ k b. serving_script reply next left (next now k b) (drop (5 + length b) h.mid.coming) in
     let script : Script S End = with_first reply next now (first_frame Request h.mid.coming) rest in
     let o : ServesKnown script end now new h.mid later = one h.mid h.wire_is rest in
-    let whole : served reply next max_turns old before.coming ≡ behind h.events script =
-    h.script_is ∙ ap (behind h.events) (served-suc reply next left now h.mid.coming) in (
+    let whole : serving_script reply next max_turns old before.coming ≡ behind h.events script =
+    h.script_is ∙ ap (behind h.events) (serving_script-suc reply next left now h.mid.coming) in (
       o.0,
       o.1,
       subst (λ (s : Script S End). Serves s end old new before o.0) (sym whole)
           (serves-behind h.events h.states script end old now new before h.mid o.0 h.done h.now_is o.2),
     )
 
-served-zero : {S : Type 0} (reply : Reply S) (next : Next S) (s : S) (coming : List ℕ)
-    → served reply next 0 s coming ≡ record { events = []; value = end.Turns }
-unfolding served
-served-zero reply next s coming = refl
+serving_script-zero : {S : Type 0} (reply : Reply S) (next : Next S) (s : S) (coming : List ℕ)
+    → serving_script reply next 0 s coming ≡ record { events = []; value = end.Turns }
+unfolding serving_script
+serving_script-zero reply next s coming = refl
 
 -- as many requests as are answered were
 pub serves_all_turns : {S : Type 0} (reply : Reply S) (next : Next S) (old now : S)
     (before : ConnectionModel) (wire : Option ConnectionModel) → IsServedTo reply next 0 old now before wire
-    → ServesKnown (served reply next max_turns old before.coming) end.Turns old now before wire
+    → ServesKnown (serving_script reply next max_turns old before.coming) end.Turns old now before wire
 serves_all_turns {S} reply next old now before wire h =
-    let none : served reply next 0 now h.mid.coming ≡ record { events = []; value = end.Turns } = served-zero reply next now h.mid.coming in
+    let none : serving_script reply next 0 now h.mid.coming ≡ record { events = []; value = end.Turns } = serving_script-zero reply next now h.mid.coming in
     let script : Script S End = record { events = []; value = end.Turns } in
-    let whole : served reply next max_turns old before.coming ≡ behind h.events script =
+    let whole : serving_script reply next max_turns old before.coming ≡ behind h.events script =
     h.script_is ∙ ap (behind h.events) none in (
       h.mid,
       h.wire_is,
@@ -413,7 +413,7 @@ pub serving_ends : {S : Type 0} (reply : Reply S) (next : Next S) (turn : ℕ) (
     → ((mid : ConnectionModel) → wire ≡ Some mid
     → ServesOne reply next (first_frame Request mid.coming) (Err end) now new mid later)
     → (before : ConnectionModel) → first ≡ Some before
-    → ServesKnown (served reply next max_turns old before.coming) end old new before later
+    → ServesKnown (serving_script reply next max_turns old before.coming) end old new before later
 serving_ends reply next turn end old now new first wire later old_faults faults old_misses misses some h one before is =
     let l = one_left reply next turn old now first wire old_faults faults old_misses misses some h in
     serves_to_end reply next l.0 end old now new before wire later
@@ -423,7 +423,7 @@ pub serving_all : {S : Type 0} (reply : Reply S) (next : Next S) (turn : ℕ) (o
     (first wire : Option ConnectionModel) (old_faults faults old_misses misses : ℕ) → 1048576 ≤ turn
     → IsServing reply next turn old now first wire old_faults faults old_misses misses
     → (before : ConnectionModel) → first ≡ Some before
-    → ServesKnown (served reply next max_turns old before.coming) end.Turns old now before wire
+    → ServesKnown (serving_script reply next max_turns old before.coming) end.Turns old now before wire
 serving_all reply next turn old now first wire old_faults faults old_misses misses all h before is =
     let none : h.left ≡ 0 = omega (arith, h.turns_are, turns) in
     serves_all_turns reply next old now before wire

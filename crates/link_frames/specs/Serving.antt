@@ -46,11 +46,11 @@ with_first reply next state (Cut got) rest = ends_after got (end.Cut got)
 with_first reply next state (Bad length taken) rest = ends_after taken (end.BadFrame length)
 
 -- how a connection is served on which these bytes come, and how that ends
-unfoldable pub served : {S : Type 0} → Reply S → Next S → ℕ → S → List ℕ → Script S End
-served reply next zero state coming = record { events = []; value = end.Turns }
-served reply next (suc turns) state coming =
+unfoldable pub serving_script : {S : Type 0} → Reply S → Next S → ℕ → S → List ℕ → Script S End
+serving_script reply next zero state coming = record { events = []; value = end.Turns }
+serving_script reply next (suc turns) state coming =
     with_first reply next state (first_frame Request coming)
-    (λ kind body. served reply next turns (next state kind body) (drop (5 + length body) coming))
+    (λ kind body. serving_script reply next turns (next state kind body) (drop (5 + length body) coming))
 
 -- the last of some states, or the one before them
 abbrev pub last_state : {S : Type 0} → S → List S → S

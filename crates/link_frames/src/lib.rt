@@ -2,10 +2,9 @@
 //!
 //! A frame is a length, a kind and a body. They are put whole and read in whatever pieces the link
 //! gives. A store's side serves a connection, request by request, over a trait for what answers
-//! them (`Answers`); the other side puts one request and reads its answer (`ask`).
+//! them (`Responder`); the other side puts one request and reads its answer (`ask`).
 #![tactic(auto)]
 
-mod answers;
 mod awaits;
 mod end;
 mod exchange;
@@ -19,9 +18,9 @@ mod laws;
 mod limits;
 mod put;
 mod read;
+mod responder;
 mod serve;
 
-pub use answers::Answers;
 pub use awaits::Awaits;
 pub use end::End;
 pub use exchange::ask;

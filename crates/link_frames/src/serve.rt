@@ -5,9 +5,9 @@ ghost use Rattle.outside.specs.FaultRose.{FaultRose};
 ghost use Rattle.link_frames.specs.declared.awaits.Awaits.TheVariants.{Request};
 ghost use Rattle.link_frames.specs.Frames.{frame_bytes, first_frame};
 ghost use Rattle.link_frames.specs.Reading.{StaysWhereItStands};
-ghost use Rattle.link_frames.specs.Serving.{served, max_turns, ServesKnown, ServesOne, AnswersOne, PutsAnswer};
+ghost use Rattle.link_frames.specs.Serving.{serving_script, max_turns, ServesKnown, ServesOne, AnswersOne, PutsAnswer};
 
-use crate::answers::Answers;
+use crate::responder::Responder;
 use crate::awaits::Awaits;
 use crate::end::End;
 use crate::frame::Frame;
@@ -21,9 +21,9 @@ pub const MAX_TURNS: u32 = 1_048_576;
 
 /// Answers the requests that come, one after the other, until the link ends or a frame comes that is
 /// no request.
-pub fn serve_link<A: Answers, L: Link>(alloc: Global, store: &mut A, link: &mut L) -> End
+pub fn serve_link<A: Responder, L: Link>(alloc: Global, store: &mut A, link: &mut L) -> End
     ensures known { (before : ConnectionModel) → L.wire link.old ≡ Some before
-        → ServesKnown (served A.reply A.next max_turns (A.state store.old) before.coming) result
+        → ServesKnown (serving_script A.reply A.next max_turns (A.state store.old) before.coming) result
         (A.state store.old) (A.state store.new) before (L.wire link.new) }
 
     ensures counts { L.faults link.old ≤ L.faults link.new }
@@ -40,7 +40,7 @@ pub fn serve_link<A: Answers, L: Link>(alloc: Global, store: &mut A, link: &mut 
 }
 
 /// Answers the next request, or tells how the serving ends.
-fn serve_request<A: Answers, L: Link>(alloc: Global, store: &mut A, link: &mut L) -> Result<(), End>
+fn serve_request<A: Responder, L: Link>(alloc: Global, store: &mut A, link: &mut L) -> Result<(), End>
     ensures known { (before : ConnectionModel) → L.wire link.old ≡ Some before
         → ServesOne A.reply A.next (first_frame Request before.coming) result (A.state store.old)
         (A.state store.new) before (L.wire link.new) }
@@ -57,7 +57,7 @@ fn serve_request<A: Answers, L: Link>(alloc: Global, store: &mut A, link: &mut L
 }
 
 /// Answers a request that was read whole.
-fn answer_request<A: Answers, L: Link>(
+fn answer_request<A: Responder, L: Link>(
     alloc: Global,
     store: &mut A,
     link: &mut L,

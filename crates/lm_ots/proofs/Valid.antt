@@ -7,11 +7,11 @@ use Rattle.std.proofs.lemmas.Nat.{and_le_l}
 use Rattle.tagged_hash.proofs.Lengths.{length-sha256}
 use Rattle.vo_spec.specs.declared.signatures.OtsType.{OtsType}
 use Rattle.vo_spec.specs.declared.signatures.OtsType.TheVariants.{W1, W2, W4, W8}
-use Rattle.vo_spec.specs.Bytes.{u32_bytes, u32_at, digest_at, joined}
+use Rattle.vo_spec.specs.Bytes.{u32_bytes, u32_at, digest_at, join_pieces}
 use Rattle.vo_spec.specs.OtsSets.{ots_code_of, count_of, width_of, ots_signature_len}
 use Rattle.vo_spec.specs.Ots.{coef, step_text, secret, randomizer, digits_of, signed_value, public_end, candidate_end, ots_signature, ots_candidate, ots_public, is_ots_form}
 use Rattle.lm_ots.proofs.Chaining.{advance_rest, length-advance}
-use Rattle.lm_ots.proofs.Pieces.{length-u32_bytes, length-joined, joined_same, digest_at-middle, digest_at-joined, u32_at-front}
+use Rattle.lm_ots.proofs.Pieces.{length-u32_bytes, length-join_pieces, joined_same, digest_at-middle, digest_at-join_pieces, u32_at-front}
 
 code_fits : (ots : OtsType) → ots_code_of ots < 2 ^ 32
 code_fits W1 = lit< tt
@@ -38,7 +38,7 @@ pub length-ots_signature : (id : List ℕ) (q : ℕ) (ots : OtsType) (seed messa
 unfolding ots_signature
 length-ots_signature id q ots seed message =
     let digits = digits_of id q ots (randomizer id q seed) message in
-    let values = length-joined (signed_value id q ots seed digits) (count_of ots) (length-signed_value id q ots seed digits) in
+    let values = length-join_pieces (signed_value id q ots seed digits) (count_of ots) (length-signed_value id q ots seed digits) in
     rw (length-append, length-front_of id q ots seed, values) refl
 
 pub signed_form : (id : List ℕ) (q : ℕ) (ots : OtsType) (seed message : List ℕ)
@@ -46,7 +46,7 @@ pub signed_form : (id : List ℕ) (q : ℕ) (ots : OtsType) (seed message : List
 unfolding is_ots_form ots_signature
 signed_form id q ots seed message =
     let random = randomizer id q seed in
-    let values = joined (signed_value id q ots seed (digits_of id q ots random message)) (count_of ots) in
+    let values = join_pieces (signed_value id q ots seed (digits_of id q ots random message)) (count_of ots) in
     let code : u32_at (front_of id q ots seed ++ values) 0 ≡ ots_code_of ots =
     rw (append_assoc (u32_bytes (ots_code_of ots)) random values)
     (u32_at-front (ots_code_of ots) (random ++ values) (code_fits ots)) in
@@ -60,7 +60,7 @@ random_at : (id : List ℕ) (q : ℕ) (ots : OtsType) (seed message : List ℕ)
 unfolding ots_signature
 random_at id q ots seed message =
     let random = randomizer id q seed in
-    let values = joined (signed_value id q ots seed (digits_of id q ots random message)) (count_of ots) in
+    let values = join_pieces (signed_value id q ots seed (digits_of id q ots random message)) (count_of ots) in
     digest_at-middle (u32_bytes (ots_code_of ots)) random values 4
     (length-sha256 (step_text id q 0xfffd 0xff seed)) (sym (length-u32_bytes (ots_code_of ots)))
 
@@ -74,7 +74,7 @@ value_at id q ots seed message i below =
     let values = signed_value id q ots seed digits in
     let front = front_of id q ots seed in
     let place : 36 + 32 * i ≡ length front + 32 * i = rw (length-front_of id q ots seed) refl in
-    let found = digest_at-joined front [] values (count_of ots) i (36 + 32 * i)
+    let found = digest_at-join_pieces front [] values (count_of ots) i (36 + 32 * i)
     (length-signed_value id q ots seed digits) below place in
     rw append-nil at found
 

@@ -5,13 +5,13 @@ use Rattle.std.proofs.lemmas.Bool.{and_from, and_parts, eq-eqb, eqb-true, lt-ltb
 use Rattle.std.proofs.lemmas.List.{append-nil, length-append}
 use Rattle.std.proofs.lemmas.Slice.Eq.{bytes_eq-Decides}
 use Rattle.std.proofs.Math.Seq.{drop-append_seam, take-append_seam}
-use Rattle.vo_spec.specs.Bytes.{u32_bytes, u32_at, joined}
+use Rattle.vo_spec.specs.Bytes.{u32_bytes, u32_at, join_pieces}
 use Rattle.vo_spec.specs.OtsSets.{ots_code_of, ots_signature_len}
 use Rattle.vo_spec.specs.Ots.{ots_signature, ots_public, is_ots_form}
 use Rattle.vo_spec.specs.LmsSets.{lms_code_of, height_of, leaves_of, lms_signature_len}
 use Rattle.vo_spec.specs.Lms.{ots_part, path_at, leaf_node, is_lms_form, lms_candidate, is_valid_under, public_bytes, lms_valid, leaf_of, key_signature_len}
 use Rattle.vo_spec.specs.Secret.{Secret, tree_node, path_node, sibling_of, lms_signature, public_of_secret}
-use Rattle.lm_ots.proofs.Pieces.{length-u32_bytes, length-joined, digest_at-joined, u32_at-front, u32_at-append}
+use Rattle.lm_ots.proofs.Pieces.{length-u32_bytes, length-join_pieces, digest_at-join_pieces, u32_at-front, u32_at-append}
 use Rattle.lm_ots.proofs.Valid.{length-ots_signature, signed_form, signed_leads}
 use Rattle.lms_sign.specs.KeyParts.{HasLengths, lms_code_fits}
 use Rattle.lms_sign.proofs.Keys.{leaves_few, lms_valid-public_bytes, key_signature_len-public_bytes}
@@ -24,7 +24,7 @@ inside key q message = ots_signature key.id q key.ots key.seed message
 
 -- the path inside
 abbrev way : Secret → ℕ → List ℕ
-way key q = joined (path_node key q) (height_of key.lms)
+way key q = join_pieces (path_node key q) (height_of key.lms)
 
 length-inside : (key : Secret) (q : ℕ) (message : List ℕ) → length (inside key q message) ≡ ots_signature_len key.ots
 length-inside key q message = length-ots_signature key.id q key.ots key.seed message
@@ -37,7 +37,7 @@ pub length-lms_signature : (key : Secret) (q : ℕ) (message : List ℕ)
 unfolding lms_signature
 length-lms_signature key q message =
     let one_time = length-inside key q message in
-    let path = length-joined (path_node key q) (height_of key.lms) (length-path_node key q) in
+    let path = length-join_pieces (path_node key q) (height_of key.lms) (length-path_node key q) in
     rw (length-append, length-append, length-append, length-u32_bytes q, one_time, length-u32_bytes (lms_code_of key.lms), path)
     (omega arith)
 
@@ -77,7 +77,7 @@ path_read key q message level below =
     let front = u32_bytes q ++ inside key q message ++ u32_bytes (lms_code_of key.lms) in
     let place : at ≡ length front + 32 * level =
     rw (length-append, length-append, length-u32_bytes q, length-inside key q message, length-u32_bytes (lms_code_of key.lms)) (omega arith) in
-    let found = digest_at-joined front [] (path_node key q) (height_of key.lms) level at (length-path_node key q) below place in
+    let found = digest_at-join_pieces front [] (path_node key q) (height_of key.lms) level at (length-path_node key q) below place in
     rw append-nil at found
 
 form_read : (key : Secret) (q : ℕ) (message : List ℕ) → q < leaves_of key.lms

@@ -1,6 +1,6 @@
 //! Signing a message by a leaf of a key.
 ghost use Rattle.std.specs.Prelude.{◌≡◌, ◌+◌, ◌<◌, ◌≤◌, ◌++◌, ◌↔◌, length, take, IfOk, IsTrue, Some};
-ghost use Rattle.vo_spec.specs.Bytes.{u32_bytes, joined};
+ghost use Rattle.vo_spec.specs.Bytes.{u32_bytes, join_pieces};
 ghost use Rattle.vo_spec.specs.LmsSets.{height_of, leaves_of};
 ghost use Rattle.vo_spec.specs.Lms.{lms_valid, leaf_of, key_signature_len};
 ghost use Rattle.vo_spec.specs.Secret.{path_node, sibling_of, lms_signature, public_of_secret};
@@ -44,7 +44,7 @@ impl SecretKey {
     fn put_path(&self, mut bytes: Vec<u8>, q: u32) -> Result<Vec<u8>, AllocError>
         requires { q < leaves_of self.now.lms }
         ensures { IfOk result (λ put. put.items ≡ bytes.items
-            ++ joined (path_node self.now q) (height_of self.now.lms)) }
+            ++ join_pieces (path_node self.now q) (height_of self.now.lms)) }
     {
         let r = (1 << self.lms.height()) + q;
         for level in 0..self.lms.height() {

@@ -12,8 +12,8 @@ use Rattle.vo_spec.specs.Firsts.{and_then}
 use Rattle.vo_spec.specs.Parts.{stub, leaf, inner, none, more}
 use Rattle.vo_spec.specs.Trees.{RowTree, RowTrees, row_family}
 use Rattle.vo_spec.specs.Fits.{FitsPart, FitsEach, FitsEntry, FitsRow}
-use Rattle.vo_spec.specs.Inserts.{inserted}
-use Rattle.vo_spec.specs.Removes.{removed, replaced, set_row}
+use Rattle.vo_spec.specs.Inserts.{tree_with_entry}
+use Rattle.vo_spec.specs.Removes.{tree_without_key, tree_with_cells, set_row}
 use Rattle.btree.specs.Answers.{Answers}
 use Rattle.btree.specs.Lookup.{found}
 use Rattle.btree.specs.Nodes.{Kid, IsNewKid}
@@ -78,17 +78,17 @@ part_made (Err fault) r h = fault_over (IsNewKid row_family part_kid) part_of fa
 
 -- A replacement is a look-up and an exchange.
 
-pub cells_replaced : (key : List ℕ) (changes : List CellChange) (t : RowTree) (e f : PartEntry) → found row_family key t ≡ Ok e → set_row changes e ≡ Ok f → replaced key changes t ≡ set_entry key f t
+pub cells_replaced : (key : List ℕ) (changes : List CellChange) (t : RowTree) (e f : PartEntry) → found row_family key t ≡ Ok e → set_row changes e ≡ Ok f → tree_with_cells key changes t ≡ set_entry key f t
 cells_replaced key changes t e f finds sets =
     found_edited row_family (set_row changes) key t
     ∙ ap (λ r. and_then (λ x. and_then (λ y. set_entry key y t) (set_row changes x)) r) finds
     ∙ ap (and_then (λ y. set_entry key y t)) sets
 
-pub none_replaced : (key : List ℕ) (changes : List CellChange) (t : RowTree) (fault : UpdateFault) → found row_family key t ≡ Err fault → replaced key changes t ≡ Err fault
+pub none_replaced : (key : List ℕ) (changes : List CellChange) (t : RowTree) (fault : UpdateFault) → found row_family key t ≡ Err fault → tree_with_cells key changes t ≡ Err fault
 none_replaced key changes t fault fails =
     found_edited row_family (set_row changes) key t ∙ ap (λ r. and_then (λ x. and_then (λ y. set_entry key y t) (set_row changes x)) r) fails
 
-pub row_not_set : (key : List ℕ) (changes : List CellChange) (t : RowTree) (e : PartEntry) (fault : UpdateFault) → found row_family key t ≡ Ok e → set_row changes e ≡ Err fault → replaced key changes t ≡ Err fault
+pub row_not_set : (key : List ℕ) (changes : List CellChange) (t : RowTree) (e : PartEntry) (fault : UpdateFault) → found row_family key t ≡ Ok e → set_row changes e ≡ Err fault → tree_with_cells key changes t ≡ Err fault
 row_not_set key changes t e fault finds fails =
     found_edited row_family (set_row changes) key t
     ∙ ap (λ r. and_then (λ x. and_then (λ y. set_entry key y t) (set_row changes x)) r) finds
@@ -96,15 +96,15 @@ row_not_set key changes t e fault finds fails =
 
 -- Changes of parts keep the limits of formats.
 
-pub insert_keeps : (row : Row) (p : RowTree) (result : Result PartTree UpdateFault) → FitsRow row → FitsPart p → ChangesTo part_of result (inserted (whole_entry row) p) → IfOk result (λ part. FitsPart (part_of part))
+pub insert_keeps : (row : Row) (p : RowTree) (result : Result PartTree UpdateFault) → FitsRow row → FitsPart p → ChangesTo part_of result (tree_with_entry (whole_entry row) p) → IfOk result (λ part. FitsPart (part_of part))
 insert_keeps row p (Ok part) new fits h = inserted_fits row p (part_of part) new fits h
 insert_keeps row p (Err fault) new fits h = tt
 
-pub remove_keeps : (key : List ℕ) (p : RowTree) (result : Result PartTree UpdateFault) → FitsPart p → ChangesTo part_of result (removed key p) → IfOk result (λ part. FitsPart (part_of part))
+pub remove_keeps : (key : List ℕ) (p : RowTree) (result : Result PartTree UpdateFault) → FitsPart p → ChangesTo part_of result (tree_without_key key p) → IfOk result (λ part. FitsPart (part_of part))
 remove_keeps key p (Ok part) fits h = removed_fits key p (part_of part) fits h
 remove_keeps key p (Err fault) fits h = tt
 
-pub replace_keeps : (key : List ℕ) (sets : List SetCell) (p : RowTree) (result : Result PartTree UpdateFault) → FitsSets sets → FitsPart p → ChangesTo part_of result (replaced key (map change_of sets) p) → IfOk result (λ part. FitsPart (part_of part))
+pub replace_keeps : (key : List ℕ) (sets : List SetCell) (p : RowTree) (result : Result PartTree UpdateFault) → FitsSets sets → FitsPart p → ChangesTo part_of result (tree_with_cells key (map change_of sets) p) → IfOk result (λ part. FitsPart (part_of part))
 replace_keeps key sets p (Ok part) new fits h =
     replaced_fits (map change_of sets) (All-map (λ (c : CellChange). FitsValue c.value) change_of sets new) key p (part_of part) fits h
 replace_keeps key sets p (Err fault) new fits h = tt

@@ -10,8 +10,8 @@ use Rattle.vo_spec.specs.Tables.{CellChange, changed_cells, changed_row, without
 use Rattle.vo_spec.specs.Cells.{whole_cells, whole_entry}
 use Rattle.vo_spec.specs.Parts.{entries}
 use Rattle.vo_spec.specs.Trees.{RowTree, row_family, key_in}
-use Rattle.vo_spec.specs.Inserts.{inserted}
-use Rattle.vo_spec.specs.Removes.{set_cells, set_row, removed, replaced}
+use Rattle.vo_spec.specs.Inserts.{tree_with_entry}
+use Rattle.vo_spec.specs.Removes.{set_cells, set_row, tree_without_key, tree_with_cells}
 use Rattle.vo_spec.specs.Standing.{row_in, rows_in, shown_values, IsTree, Represents}
 use Rattle.vo_laws.specs.Changing.{Inserts, Changes}
 use Rattle.vo_laws.proofs.StandingTrees.{inserted_stands, removed_stands, replaced_stands}
@@ -49,22 +49,22 @@ whole_of_shown t n tree shown counted = record { tree = tree; shown = sym shown 
 stands : (t : RowTree) (n : ℕ) → IsWhole t n → Represents t (rows_in t)
 stands t n w = record { tree = w.tree; rows_are = w.shown }
 
-inserted_tree : (row : Row) (t u : RowTree) (n : ℕ) → IsWhole t n → inserted (whole_entry row) t ≡ Ok u → IsTree row_family u
+inserted_tree : (row : Row) (t u : RowTree) (n : ℕ) → IsWhole t n → tree_with_entry (whole_entry row) t ≡ Ok u → IsTree row_family u
 inserted_tree row t u n w h =
     let P : Result RowTree UpdateFault → Type 0 = λ r. Inserts row (rows_in t) r in
     (subst P h (inserted_stands row t (rows_in t) (stands t n w))).1.tree
 
-removed_tree : (key : List ℕ) (t u : RowTree) (n : ℕ) → IsWhole t n → removed key t ≡ Ok u → IsTree row_family u
+removed_tree : (key : List ℕ) (t u : RowTree) (n : ℕ) → IsWhole t n → tree_without_key key t ≡ Ok u → IsTree row_family u
 removed_tree key t u n w h =
     let P : Result RowTree UpdateFault → Type 0 = λ r. Changes key (rows_in t) (without_row key (rows_in t)) r in
     (subst P h (removed_stands key t (rows_in t) (stands t n w))).1.tree
 
-pub replaced_tree : (key : List ℕ) (changes : List CellChange) (t u : RowTree) (n : ℕ) → IsWhole t n → replaced key changes t ≡ Ok u → IsTree row_family u
+pub replaced_tree : (key : List ℕ) (changes : List CellChange) (t u : RowTree) (n : ℕ) → IsWhole t n → tree_with_cells key changes t ≡ Ok u → IsTree row_family u
 replaced_tree key changes t u n w h =
     let P : Result RowTree UpdateFault → Type 0 = λ r. Changes key (rows_in t) (map (changed_row key changes) (rows_in t)) r in
     (subst P h (replaced_stands key changes t (rows_in t) (stands t n w))).1.tree
 
-pub inserted_whole : (row : Row) (t u : RowTree) (n : ℕ) → IsWhole t n → inserted (whole_entry row) t ≡ Ok u → IsWhole u (n + 1)
+pub inserted_whole : (row : Row) (t u : RowTree) (n : ℕ) → IsWhole t n → tree_with_entry (whole_entry row) t ≡ Ok u → IsWhole u (n + 1)
 inserted_whole row t u n w h =
     let puts = inserted_puts row_family (whole_entry row) t u h in
     whole_of_shown u (n + 1) (inserted_tree row t u n w h)
@@ -75,7 +75,7 @@ pub record Shortened (u : RowTree) (n : ℕ) : Type 0 where
   pub some : 1 ≤ n
   pub whole : IsWhole u (n - 1)
 
-pub removed_whole : (key : List ℕ) (t u : RowTree) (n : ℕ) → IsWhole t n → removed key t ≡ Ok u → Shortened u n
+pub removed_whole : (key : List ℕ) (t u : RowTree) (n : ℕ) → IsWhole t n → tree_without_key key t ≡ Ok u → Shortened u n
 removed_whole key t u n w h =
     let takes = removed_takes row_family key t u h in
     let count = takes_count key_in key (entries t) (entries u) takes in
@@ -102,7 +102,7 @@ set_shown changes e f shown sets =
     let is : whole_entry new ≡ f = ok_same (whole_entry new) f (sym (row_set changes (row_in e)) ∙ ap (set_row changes) shown ∙ sets) in
     ap shown_again (sym is) ∙ whole_again new ∙ is
 
-pub replaced_whole : (key : List ℕ) (changes : List CellChange) (t u : RowTree) (n : ℕ) → IsWhole t n → replaced key changes t ≡ Ok u → IsWhole u n
+pub replaced_whole : (key : List ℕ) (changes : List CellChange) (t u : RowTree) (n : ℕ) → IsWhole t n → tree_with_cells key changes t ≡ Ok u → IsWhole u n
 replaced_whole key changes t u n w h =
     let edits = edited_edits row_family (set_row changes) key t u h in
     let count = edits_count key_in (set_row changes) key (entries t) (entries u) edits in

@@ -14,8 +14,8 @@ use Rattle.vo_spec.specs.Values.{FitsValue}
 use Rattle.vo_spec.specs.Cells.{whole_cells, whole_entry}
 use Rattle.vo_spec.specs.Trees.{RowTree, row_family}
 use Rattle.vo_spec.specs.Fits.{FitsKey, FitsCell, FitsRowPart, FitsEntry, FitsRow, FitsPart}
-use Rattle.vo_spec.specs.Inserts.{inserted}
-use Rattle.vo_spec.specs.Removes.{set_cells, set_row, removed, replaced}
+use Rattle.vo_spec.specs.Inserts.{tree_with_entry}
+use Rattle.vo_spec.specs.Removes.{set_cells, set_row, tree_without_key, tree_with_cells}
 use Rattle.btree.proofs.OkResults.{ok_same}
 use Rattle.btree.proofs.InsertLimits as inserts
 use Rattle.btree.proofs.RemoveLimits as removes
@@ -34,12 +34,12 @@ pub row_fits : (row : Row) → FitsRow row → FitsEntry (whole_entry row)
 row_fits row fits =
     record { key = fits.key; row = (omega (arith, length-map row.cells Shown, fits.cells.count), cells_fit row.cells fits.cells.each) }
 
-pub inserted_fits : (row : Row) (p q : RowTree) → FitsRow row → FitsPart p → inserted (whole_entry row) p ≡ Ok q → FitsPart q
+pub inserted_fits : (row : Row) (p q : RowTree) → FitsRow row → FitsPart p → tree_with_entry (whole_entry row) p ≡ Ok q → FitsPart q
 inserted_fits row p q fits = inserts.inserted_fits row_family FitsEntry key_fits (whole_entry row) (row_fits row fits) p q
 
 -- A removal.
 
-pub removed_fits : (key : List ℕ) (p q : RowTree) → FitsPart p → removed key p ≡ Ok q → FitsPart q
+pub removed_fits : (key : List ℕ) (p q : RowTree) → FitsPart p → tree_without_key key p ≡ Ok q → FitsPart q
 removed_fits = removes.removed_fits row_family FitsEntry key_fits
 
 -- A replacement of cells.
@@ -71,5 +71,5 @@ module _ (changes : List CellChange) (new : AllFit changes) where
   pub set_fits : (e f : PartEntry) → FitsEntry e → set_row changes e ≡ Ok f → FitsEntry f
   set_fits e f fits = row_set_fits e.key e.row f fits.key fits.row
 
-  pub replaced_fits : (key : List ℕ) (p q : RowTree) → FitsPart p → replaced key changes p ≡ Ok q → FitsPart q
+  pub replaced_fits : (key : List ℕ) (p q : RowTree) → FitsPart p → tree_with_cells key changes p ≡ Ok q → FitsPart q
   replaced_fits = replaces.edited_fits row_family FitsEntry (set_row changes) set_fits

@@ -10,8 +10,8 @@ use Rattle.vo_spec.specs.declared.cells.PartEntry.{PartEntry}
 use Rattle.vo_spec.specs.Tables.{CellChange}
 use Rattle.vo_spec.specs.Cells.{whole_cells, whole_entry, CellsPrune, RowPrunes, EntryPrunes}
 use Rattle.vo_spec.specs.Trees.{RowTree, row_family, Prunes}
-use Rattle.vo_spec.specs.Inserts.{inserted}
-use Rattle.vo_spec.specs.Removes.{set_cells, set_row, removed, replaced}
+use Rattle.vo_spec.specs.Inserts.{tree_with_entry}
+use Rattle.vo_spec.specs.Removes.{set_cells, set_row, tree_without_key, tree_with_cells}
 use Rattle.btree.specs.Agreement.{AgreesWithTree}
 use Rattle.mb_update.specs.ChangeResults.{GoesOnPruning}
 use Rattle.btree.specs.Pruning.{KeepsKeys, KeepsAnnotations}
@@ -27,19 +27,19 @@ same_annotation p t z = refl
 
 -- An insertion, and one of a row with every cell shown.
 
-pub inserted_agrees : (e f : PartEntry) (p t : RowTree) → EntryPrunes e f → Prunes p t → GoesOnPruning (inserted e p) (inserted f t)
+pub inserted_agrees : (e f : PartEntry) (p t : RowTree) → EntryPrunes e f → Prunes p t → GoesOnPruning (tree_with_entry e p) (tree_with_entry f t)
 inserted_agrees e f p t new = inserts.inserted_agrees row_family EntryPrunes same_key e f new same_annotation p t
 
 cells_prune : (column : ℕ) (values : List Value) → CellsPrune column (whole_cells values) (whole_cells values)
 cells_prune column [] = tt
 cells_prune column (v ∷ vs) = (refl, cells_prune (column + 1) vs)
 
-pub row_agrees : (row : Row) (p t : RowTree) → Prunes p t → GoesOnPruning (inserted (whole_entry row) p) (inserted (whole_entry row) t)
+pub row_agrees : (row : Row) (p t : RowTree) → Prunes p t → GoesOnPruning (tree_with_entry (whole_entry row) p) (tree_with_entry (whole_entry row) t)
 row_agrees row p t = inserted_agrees (whole_entry row) (whole_entry row) p t (record { key = refl; row = cells_prune 0 row.cells })
 
 -- A removal.
 
-pub removed_agrees : (key : List ℕ) (p t : RowTree) → Prunes p t → GoesOnPruning (removed key p) (removed key t)
+pub removed_agrees : (key : List ℕ) (p t : RowTree) → Prunes p t → GoesOnPruning (tree_without_key key p) (tree_without_key key t)
 removed_agrees = removes.removed_agrees row_family EntryPrunes same_key same_annotation
 
 -- A replacement of some cells.
@@ -63,7 +63,7 @@ module _ (changes : List CellChange) where
   cells_agree j k (Cells cs) (Closed d) same z = absurd z
   cells_agree j k (Cells cs) (Cells ds) same z = record { key = same; row = sets_prune changes cs ds z }
 
-  pub replaced_agrees : (key : List ℕ) (p t : RowTree) → Prunes p t → GoesOnPruning (replaced key changes p) (replaced key changes t)
+  pub replaced_agrees : (key : List ℕ) (p t : RowTree) → Prunes p t → GoesOnPruning (tree_with_cells key changes p) (tree_with_cells key changes t)
   replaced_agrees key =
       replaces.edited_agrees row_family EntryPrunes same_key same_annotation (set_row changes) (set_row changes)
       (λ e f z. cells_agree e.key f.key e.row f.row z.key z.row) key

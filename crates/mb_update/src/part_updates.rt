@@ -2,8 +2,8 @@
 ghost use Rattle.std.specs.Prelude.{◌≡◌, map, IfOk};
 ghost use Rattle.vo_spec.specs.Cells.{whole_entry};
 ghost use Rattle.vo_spec.specs.Fits.{FitsPart, FitsRow};
-ghost use Rattle.vo_spec.specs.Inserts.{inserted};
-ghost use Rattle.vo_spec.specs.Removes.{removed, replaced};
+ghost use Rattle.vo_spec.specs.Inserts.{tree_with_entry};
+ghost use Rattle.vo_spec.specs.Removes.{tree_without_key, tree_with_cells};
 ghost use Rattle.mb_tree.specs.View.{part_of};
 ghost use Rattle.mb_update.specs.ChangeResults.{ChangesTo};
 ghost use Rattle.mb_update.specs.Sets.{change_of, FitsSets};
@@ -23,7 +23,7 @@ fn insert_entry<'b>(
     entry: PartEntry<'b>,
 ) -> Result<PartTree<'b>, UpdateFault>
     requires { FitsPart (part_of tree.now) }
-    ensures { ChangesTo part_of result (inserted entry.entry (part_of tree.now)) }
+    ensures { ChangesTo part_of result (tree_with_entry entry.entry (part_of tree.now)) }
 {
     insert::<PartTree<'b>>(alloc, tree, entry)
 }
@@ -37,7 +37,7 @@ fn replace_cells<'b>(
 ) -> Result<PartTree<'b>, UpdateFault>
     requires { FitsPart (part_of tree.now) }
     ensures { ChangesTo part_of result
-        (replaced key.now (map change_of sets.now) (part_of tree.now)) }
+        (tree_with_cells key.now (map change_of sets.now) (part_of tree.now)) }
 {
     match find::<PartTree<'b>>(tree, key) {
         Ok(old) => match entry_with(alloc, old, sets) {
@@ -55,7 +55,7 @@ fn remove_row<'b>(
     key: &[u8],
 ) -> Result<PartTree<'b>, UpdateFault>
     requires { FitsPart (part_of tree.now) }
-    ensures { ChangesTo part_of result (removed key.now (part_of tree.now)) }
+    ensures { ChangesTo part_of result (tree_without_key key.now (part_of tree.now)) }
 {
     remove::<PartTree<'b>>(alloc, tree, key)
 }
@@ -76,7 +76,7 @@ impl<'b> Updates for PartTree<'b> {
         requires fits { FitsRow row.now }
         requires room { FitsPart (part_of self.now) }
         ensures change { ChangesTo part_of result
-            (inserted (whole_entry row.now) (part_of self.now)) }
+            (tree_with_entry (whole_entry row.now) (part_of self.now)) }
         ensures within { IfOk result (λ change. FitsPart (part_of change)) }
     {
         let entry = entry_of(alloc, row)?;
@@ -92,7 +92,7 @@ impl<'b> Updates for PartTree<'b> {
         requires fits { FitsSets sets.now }
         requires within { FitsPart (part_of self.now) }
         ensures change { ChangesTo part_of result
-            (replaced key.now (map change_of sets.now) (part_of self.now)) }
+            (tree_with_cells key.now (map change_of sets.now) (part_of self.now)) }
         ensures within { IfOk result (λ change. FitsPart (part_of change)) }
     {
         replace_cells(alloc, self, key.as_bytes(), sets)
@@ -100,7 +100,7 @@ impl<'b> Updates for PartTree<'b> {
 
     fn remove(&self, alloc: Global, key: &Key) -> Result<PartTree<'b>, UpdateFault>
         requires { FitsPart (part_of self.now) }
-        ensures change { ChangesTo part_of result (removed key.now (part_of self.now)) }
+        ensures change { ChangesTo part_of result (tree_without_key key.now (part_of self.now)) }
         ensures within { IfOk result (λ change. FitsPart (part_of change)) }
     {
         remove_row(alloc, self, key.as_bytes())

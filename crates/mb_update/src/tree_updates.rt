@@ -1,10 +1,11 @@
 //! The changes of whole trees.
-ghost use Rattle.std.specs.Prelude.{◌≡◌, ◌<◌, ◌^◌, ◌-◌, length, map};
+ghost use Rattle.std.specs.Prelude.{◌≡◌, ◌<◌, length, map};
 ghost use Rattle.vo_spec.specs.Cells.{whole_entry};
 ghost use Rattle.vo_spec.specs.Fits.{FitsRow};
-ghost use Rattle.vo_spec.specs.Inserts.{inserted};
+ghost use Rattle.vo_spec.specs.Inserts.{tree_with_entry};
 ghost use Rattle.vo_spec.specs.Parts.{entries};
-ghost use Rattle.vo_spec.specs.Removes.{removed, replaced};
+ghost use Rattle.vo_spec.specs.Removes.{tree_without_key, tree_with_cells};
+ghost use Rattle.vo_spec.specs.Tables.{max_rows};
 ghost use Rattle.mb_tree.specs.Standing.{IsWhole};
 ghost use Rattle.mb_update.specs.ChangeResults.{ChangesTo, GivesTree, set_entry};
 ghost use Rattle.mb_update.specs.Sets.{change_of, FitsSets};
@@ -21,16 +22,16 @@ use vo_spec::{Key, Row, UpdateFault};
 /// row's leaf.
 pub fn insert_row(alloc: Global, tree: &Tree, row: Row) -> Result<Tree, UpdateFault>
     requires fits { FitsRow row }
-    requires room { length (entries tree.now) < 2 ^ 32 - 1 }
-    ensures { ChangesTo (λ t. t) result (inserted (whole_entry row) tree.now) }
+    requires room { length (entries tree.now) < max_rows }
+    ensures { ChangesTo (λ t. t) result (tree_with_entry (whole_entry row) tree.now) }
 {
     let entry = TreeEntry::of_row(alloc, row)?;
     insert_entry(alloc, tree, entry)
 }
 
 fn insert_entry(alloc: Global, tree: &Tree, entry: TreeEntry) -> Result<Tree, UpdateFault>
-    requires { length (entries tree.now) < 2 ^ 32 - 1 }
-    ensures { ChangesTo (λ t. t) result (inserted (whole_entry entry) tree.now) }
+    requires { length (entries tree.now) < max_rows }
+    ensures { ChangesTo (λ t. t) result (tree_with_entry (whole_entry entry) tree.now) }
 {
     let rows = tree.row_count();
     match insert::<Subtree>(alloc, tree.root(), entry) {
@@ -47,7 +48,7 @@ fn replace_cells(
     sets: &[SetCell],
 ) -> Result<Tree, UpdateFault>
     requires { FitsSets sets.now }
-    ensures { ChangesTo (λ t. t) result (replaced key.now (map change_of sets.now) tree.now) }
+    ensures { ChangesTo (λ t. t) result (tree_with_cells key.now (map change_of sets.now) tree.now) }
 {
     let rows = tree.row_count();
     match find::<Subtree>(tree.root(), key) {
@@ -79,7 +80,7 @@ fn set_entry(
 
 /// The tree without the row of this key.
 fn remove_row(alloc: Global, tree: &Tree, key: &[u8]) -> Result<Tree, UpdateFault>
-    ensures { ChangesTo (λ t. t) result (removed key.now tree.now) }
+    ensures { ChangesTo (λ t. t) result (tree_without_key key.now tree.now) }
 {
     let rows = tree.row_count();
     match remove::<Subtree>(alloc, tree.root(), key) {
@@ -97,7 +98,7 @@ impl Updates for Tree {
 
     ghost changed = { λ tree. tree };
 
-    ghost CanInsert = { λ tree. length (entries tree) < 2 ^ 32 - 1 };
+    ghost CanInsert = { λ tree. length (entries tree) < max_rows };
 
     ghost CanChange = { λ tree. Unit {0} };
 

@@ -3,8 +3,8 @@ ghost use Rattle.std.specs.Prelude.{◌≡◌, map};
 ghost use Rattle.vo_spec.specs.Cells.{whole_entry};
 ghost use Rattle.vo_spec.specs.Trees.{RowTree};
 ghost use Rattle.vo_spec.specs.Fits.{FitsRow};
-ghost use Rattle.vo_spec.specs.Inserts.{inserted};
-ghost use Rattle.vo_spec.specs.Removes.{removed, replaced};
+ghost use Rattle.vo_spec.specs.Inserts.{tree_with_entry};
+ghost use Rattle.vo_spec.specs.Removes.{tree_without_key, tree_with_cells};
 ghost use Rattle.mb_update.specs.ChangeResults.{ChangesTo};
 ghost use Rattle.mb_update.specs.Sets.{change_of, FitsSets};
 
@@ -28,7 +28,7 @@ pub trait Updates {
     fn insert(&self, alloc: Global, row: &Row) -> Result<Self::Change, UpdateFault>
         requires fits { FitsRow row.now }
         requires room { CanInsert self.now }
-        ensures { ChangesTo changed result (inserted (whole_entry row.now) (tree self.now)) };
+        ensures { ChangesTo changed result (tree_with_entry (whole_entry row.now) (tree self.now)) };
 
     /// The tree with these cells in the row of this key. A cell that the row hasn't is passed over.
     fn replace(
@@ -40,10 +40,10 @@ pub trait Updates {
         requires fits { FitsSets sets.now }
         requires within { CanChange self.now }
         ensures { ChangesTo changed result
-            (replaced key.now (map change_of sets.now) (tree self.now)) };
+            (tree_with_cells key.now (map change_of sets.now) (tree self.now)) };
 
     /// The tree without the row of this key.
     fn remove(&self, alloc: Global, key: &Key) -> Result<Self::Change, UpdateFault>
         requires { CanChange self.now }
-        ensures { ChangesTo changed result (removed key.now (tree self.now)) };
+        ensures { ChangesTo changed result (tree_without_key key.now (tree self.now)) };
 }

@@ -11,7 +11,7 @@ use Rattle.vo_spec.specs.declared.checks.Verdict.TheVariants.{Exact}
 use Rattle.vo_spec.specs.Audits.{AuditOf, IsVerdict}
 use Rattle.vo_spec.specs.Checks.{CheckOf, answer_to}
 use Rattle.vo_spec.specs.Conditions.{FitsQuery, Query}
-use Rattle.vo_spec.specs.Honest.{sealed}
+use Rattle.vo_spec.specs.Honest.{seal_batches}
 use Rattle.vo_spec.specs.Journals.{journal_bytes}
 use Rattle.vo_spec.specs.Replies.{Reply, IsReply, reply_bytes, max_reply}
 use Rattle.vo_spec.specs.Secret.{Secret, public_of_secret}
@@ -53,18 +53,18 @@ same_answer a b e = cc
 
 pub audited : (secret : Secret) (batches later : List (List Command)) (q : Query) (r : Reply) (verdict : Result Verdict AuditFault)
     → AreSealable secret (batches ++ later) → FitsQuery q → IsHonestReply secret batches q r
-    → OwnedAuditOf (public_of_secret secret) (journal_bytes (sealed secret (batches ++ later))) q (reply_bytes r) verdict
+    → OwnedAuditOf (public_of_secret secret) (journal_bytes (seal_batches secret (batches ++ later))) q (reply_bytes r) verdict
     → verdict ≡ Ok (Exact (length batches))
 unfolding AuditOf IsOwned IsBadAt
 audited secret batches later q r (Err (BadJournal index)) all numbers honest told =
-    let es = sealed secret (batches ++ later) in
+    let es = seal_batches secret (batches ++ later) in
     absurd (never_bad (public_of_secret secret) (journal_bytes es) es index (owned secret (batches ++ later) all) told)
 audited secret batches later q r (Err (Refused fault)) all numbers honest told =
     let first = sealable_first secret batches later all in
     absurd (never_refused fault (plain_answer batches q) (checked secret batches 0 q r (Err fault) first numbers honest (omega arith) told.2))
 audited secret batches later q r (Err Memory) all numbers honest told = absurd told
 audited secret batches later q r (Ok verdict) all numbers honest told =
-    let es = sealed secret (batches ++ later) in
+    let es = seal_batches secret (batches ++ later) in
     let plain = plain_answer batches q in
     let first = sealable_first secret batches later all in
     let entries : told.0 ≡ es = one_owned (public_of_secret secret) (journal_bytes es) told.0 es told.1 (owned secret (batches ++ later) all) in

@@ -11,7 +11,7 @@ ghost use Rattle.vo_spec.specs.declared.records.Entry.{Entry};
 ghost use Rattle.vo_spec.specs.declared.tables.Command.{Command};
 ghost use Rattle.vo_spec.specs.Checks.{CheckOf};
 ghost use Rattle.vo_spec.specs.Conditions.{FitsQuery, Query};
-ghost use Rattle.vo_spec.specs.Honest.{sealed};
+ghost use Rattle.vo_spec.specs.Honest.{seal_batches};
 ghost use Rattle.vo_spec.specs.Journals.{journal_bytes};
 ghost use Rattle.vo_spec.specs.Replies.{IsReply, Reply, reply_bytes};
 ghost use Rattle.vo_spec.specs.Secret.{Secret, public_of_secret};
@@ -40,7 +40,7 @@ pub fn honest_replies_have_one_answer()
     ensures audited { (secret : Secret) (batches later : List (List Command)) (q : Query)
         (r : Reply) (verdict : Result Verdict AuditFault) → AreSealable secret (batches ++ later)
         → FitsQuery q → IsHonestReply secret batches q r
-        → let journal = journal_bytes (sealed secret (batches ++ later)) in
+        → let journal = journal_bytes (seal_batches secret (batches ++ later)) in
         OwnedAuditOf (public_of_secret secret) journal q (reply_bytes r) verdict
         → verdict ≡ Ok (Exact (length batches)) }
 {}

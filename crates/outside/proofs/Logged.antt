@@ -8,7 +8,7 @@ use Rattle.std.proofs.lemmas.List.Sums.{fold-append}
 use Rattle.outside.specs.declared.mem_disk.done.Done.{Done}
 use Rattle.outside.specs.declared.mem_disk.done.Done.TheVariants.{Write, Sync}
 use Rattle.outside.specs.Done.{seen_next, call_of, seen_after, calls_after, is_within}
-use Rattle.outside.specs.DiskModel.{Wrote, overwritten}
+use Rattle.outside.specs.DiskModel.{Wrote, overwrite_at}
 
 below : (a b : ℕ) → IsTrue (nat_le a b) → a ≤ b
 below a b test = grind (arith, nat_tests)
@@ -26,7 +26,7 @@ same-piece log more from kept within =
 
 same-next : (log more seen : List ℕ) (one : Done) → IsTrue (is_within (length log) one) → seen_next (log ++ more) seen one ≡ seen_next log seen one
 same-next log more seen (Write at from kept lost) within =
-    ap (λ piece. overwritten at piece seen) (same-piece log more from kept (below _ _ within))
+    ap (λ piece. overwrite_at at piece seen) (same-piece log more from kept (below _ _ within))
 same-next log more seen Sync within = refl
 
 pub same_seen : (log more seen : List ℕ) (done : List Done) → IsTrue (list_all (is_within (length log)) done)
@@ -76,11 +76,11 @@ calls_write first log front done at lost within =
 
 pub seen_write : (first log front : List ℕ) (done : List Done) (at lost : ℕ) → IsTrue (list_all (is_within (length log)) done)
     → seen_after (log ++ front) first (done ++ Write at (length log) (length front) lost ∷ [])
-    ≡ overwritten at front (seen_after log first done)
+    ≡ overwrite_at at front (seen_after log first done)
 seen_write first log front done at lost within =
     fold-append (seen_next (log ++ front)) first done (Write at (length log) (length front) lost ∷ [])
-    ∙ ap (λ piece. overwritten at piece (seen_after (log ++ front) first done)) (whole-piece log front)
-    ∙ ap (overwritten at front) (same_seen log front first done within)
+    ∙ ap (λ piece. overwrite_at at piece (seen_after (log ++ front) first done)) (whole-piece log front)
+    ∙ ap (overwrite_at at front) (same_seen log front first done within)
 
 pub within_write : (log front : List ℕ) (done : List Done) (at lost : ℕ) → IsTrue (list_all (is_within (length log)) done)
     → IsTrue (list_all (is_within (length (log ++ front))) (done ++ Write at (length log) (length front) lost ∷ []))

@@ -2,7 +2,7 @@
 use Rattle.std.proofs.Common.{◌≡◌, ℕ, ◌+◌, ◌≤◌, ◌⊎◌, inl, inr, List, [], ◌∷◌, ◌++◌, length, take, Option, Some, None, refl, sym, ap, subst, ◌∙◌, append_assoc, append-nil, arith}
 use Rattle.std.proofs.lemmas.List.{take_all, take-append-le, length-append, ext_get_or}
 use Rattle.std.proofs.lemmas.List.Sums.{fold-append}
-use Rattle.outside.specs.DiskModel.{Call, Wrote, Synced, DiskModel, Down, IsImage, MayLeave, LeftSince, crashed_at, now, down_after, overwritten, write_leaving, write_on, sync_now, torn, wrote}
+use Rattle.outside.specs.DiskModel.{Call, Wrote, Synced, DiskModel, Down, IsImage, MayLeave, LeftSince, crashed_at, now, down_after, overwrite_at, write_leaving, write_on, sync_now, torn, wrote}
 use Rattle.outside.specs.Moments.{IsDown, Torn, LeavesOnly, IfKnown, written_down}
 use Rattle.outside.specs.ImageLaws.{after_write}
 
@@ -103,7 +103,7 @@ pub torn_whole : (place count : ℕ) (contents : List ℕ) → Torn place count 
 torn_whole place count contents = record { no_shorter = omega arith; no_longer = omega arith; stays = λ k within free. refl }
 
 -- a write whose front was kept, and then nothing else
-pub torn_written : (place : ℕ) (piece contents : List ℕ) → Torn place (length piece) contents (overwritten place piece contents)
+pub torn_written : (place : ℕ) (piece contents : List ℕ) → Torn place (length piece) contents (overwrite_at place piece contents)
 torn_written place piece contents =
     after_write (record { contents = contents; ranges = [] }) contents piece place (length piece) (omega arith)
     (record { no_shorter = omega arith; no_longer = omega arith; stays = λ k within free. refl })
@@ -161,4 +161,4 @@ tears_written None (Some new) place piece same = absurd (cc)
 tears_written (Some old) None place piece same = absurd (cc)
 tears_written (Some old) (Some new) place piece same = λ down.
     subst (λ (d : DiskModel). LeavesOnly old d (Torn place (length piece) old.seen)) (known (write_on place piece old) new same)
-    (write_leaves old place (length piece) (overwritten place piece old.seen) down)
+    (write_leaves old place (length piece) (overwrite_at place piece old.seen) down)

@@ -8,8 +8,8 @@ use Rattle.outside.specs.declared.mem_disk.done.Done.{Done}
 use Rattle.outside.proofs.Logged.{calls_push, calls_length}
 
 -- what was down, and is written over, after these calls
-abbrev pub crashed : List ℕ → List ℕ → List Done → Down
-crashed log first done = fold down_after (record { contents = first; ranges = [] }) (calls_after log first done)
+abbrev pub crash_state : List ℕ → List ℕ → List Done → Down
+crash_state log first done = fold down_after (record { contents = first; ranges = [] }) (calls_after log first done)
 
 take-calls : (log seen : List ℕ) (done : List Done) (m : ℕ) → take m (calls_after log seen done) ≡ calls_after log seen (take m done)
 take-calls log seen [] zero = refl
@@ -17,10 +17,10 @@ take-calls log seen [] (suc m) = refl
 take-calls log seen (one ∷ done) zero = refl
 take-calls log seen (one ∷ done) (suc m) = ap (λ calls. call_of seen one ∷ calls) (take-calls log (seen_next log seen one) done m)
 
-crashed-is : (first log : List ℕ) (done : List Done) (m : ℕ) → fold down_after (record { contents = first; ranges = [] }) (take m (calls_after log first done)) ≡ crashed log first (take m done)
-crashed-is first log done m = ap (fold down_after (record { contents = first; ranges = [] })) (take-calls log first done m)
+crash_state-is : (first log : List ℕ) (done : List Done) (m : ℕ) → fold down_after (record { contents = first; ranges = [] }) (take m (calls_after log first done)) ≡ crash_state log first (take m done)
+crash_state-is first log done m = ap (fold down_after (record { contents = first; ranges = [] })) (take-calls log first done m)
 
-pub next_crashed : (log first : List ℕ) (done : List Done) (one : Done) → crashed log first (done ++ one ∷ []) ≡ down_after (crashed log first done) (call_of (seen_after log first done) one)
+pub next_crashed : (log first : List ℕ) (done : List Done) (one : Done) → crash_state log first (done ++ one ∷ []) ≡ down_after (crash_state log first done) (call_of (seen_after log first done) one)
 next_crashed log first done one =
     ap (fold down_after (record { contents = first; ranges = [] })) (calls_push log first done one)
     ∙ fold-append down_after _ (calls_after log first done) (call_of (seen_after log first done) one ∷ [])
@@ -29,17 +29,17 @@ pub next_seen : (log first : List ℕ) (done : List Done) (one : Done) → seen_
 next_seen log first done one = fold-append (seen_next log) first done (one ∷ [])
 
 -- a moment at which a crash may have left the bytes
-pub left_at : (seen first log image : List ℕ) (done : List Done) (since m : ℕ) → since ≤ m → m ≤ length done → IsImage (crashed log first (take m done)) image
+pub left_at : (seen first log image : List ℕ) (done : List Done) (since m : ℕ) → since ≤ m → m ≤ length done → IsImage (crash_state log first (take m done)) image
     → LeftSince (record { seen = seen; first = first; calls = calls_after log first done }) since image
 left_at seen first log image done since m low high is =
-    (m, low, omega (arith, high, calls_length log first done), subst (λ (d : Down). IsImage d image) (sym (crashed-is first log done m)) is)
+    (m, low, omega (arith, high, calls_length log first done), subst (λ (d : Down). IsImage d image) (sym (crash_state-is first log done m)) is)
 
 -- none of them
 pub never_left : (seen first log image : List ℕ) (done : List Done) (since : ℕ)
-    → ((m : ℕ) → since ≤ m → m < length done + 1 → IsImage (crashed log first (take m done)) image → ⊥)
+    → ((m : ℕ) → since ≤ m → m < length done + 1 → IsImage (crash_state log first (take m done)) image → ⊥)
     → LeftSince (record { seen = seen; first = first; calls = calls_after log first done }) since image → ⊥
 never_left seen first log image done since none left =
-    none left.0 left.1 (omega (arith, left.2, calls_length log first done)) (subst (λ (d : Down). IsImage d image) (crashed-is first log done left.0) left.3)
+    none left.0 left.1 (omega (arith, left.2, calls_length log first done)) (subst (λ (d : Down). IsImage d image) (crash_state-is first log done left.0) left.3)
 
 -- One call more.
 
@@ -50,17 +50,17 @@ seen_on log first done i d was is lt before step =
     ∙ ap (seen_after log first) (sym (take_more done i d lt))
 
 pub down_on : (log first : List ℕ) (done : List Done) (i : ℕ) (d : Done) (seen : List ℕ) (was is : Down) → i < length done → seen ≡ seen_after log first (take i done)
-    → was ≡ crashed log first (take i done) → is ≡ down_after was (call_of seen (get_or done i d)) → is ≡ crashed log first (take (i + 1) done)
+    → was ≡ crash_state log first (take i done) → is ≡ down_after was (call_of seen (get_or done i d)) → is ≡ crash_state log first (take (i + 1) done)
 down_on log first done i d seen was is lt at before step =
     step ∙ ap (λ (down : Down). down_after down (call_of seen (get_or done i d))) before
-    ∙ ap (λ (s : List ℕ). down_after (crashed log first (take i done)) (call_of s (get_or done i d))) at
-    ∙ sym (next_crashed log first (take i done) (get_or done i d)) ∙ ap (crashed log first) (sym (take_more done i d lt))
+    ∙ ap (λ (s : List ℕ). down_after (crash_state log first (take i done)) (call_of s (get_or done i d))) at
+    ∙ sym (next_crashed log first (take i done) (get_or done i d)) ∙ ap (crash_state log first) (sym (take_more done i d lt))
 
 -- none up to a moment, and not that one
-pub none_on : (log first image : List ℕ) (done : List Done) (since i : ℕ) (down : Down) → down ≡ crashed log first (take i done)
+pub none_on : (log first image : List ℕ) (done : List Done) (since i : ℕ) (down : Down) → down ≡ crash_state log first (take i done)
     → ((since ≤ i) × IsImage down image → ⊥)
-    → ((m : ℕ) → since ≤ m → m < i → IsImage (crashed log first (take m done)) image → ⊥)
-    → (m : ℕ) → since ≤ m → m < i + 1 → IsImage (crashed log first (take m done)) image → ⊥
+    → ((m : ℕ) → since ≤ m → m < i → IsImage (crash_state log first (take m done)) image → ⊥)
+    → (m : ℕ) → since ≤ m → m < i + 1 → IsImage (crash_state log first (take m done)) image → ⊥
 none_on log first image done since i down at not none m low high is = by_place (below_or_at m i (omega arith))
   where
     below_or_at : (m i : ℕ) → m ≤ i → (m < i) ⊎ (m ≡ i)
@@ -69,11 +69,11 @@ none_on log first image done since i down at not none m low high is = by_place (
     by_place : (m < i) ⊎ (m ≡ i) → ⊥
     by_place (inl below) = none m low below is
     by_place (inr here) =
-        not (omega (arith, low, here), subst (λ (d : Down). IsImage d image) (sym at) (subst (λ (n : ℕ). IsImage (crashed log first (take n done)) image) here is))
+        not (omega (arith, low, here), subst (λ (d : Down). IsImage d image) (sym at) (subst (λ (n : ℕ). IsImage (crash_state log first (take n done)) image) here is))
 
 -- what a crash may leave at a moment, or at the last one
 pub crashed_by : (seen first log : List ℕ) (done : List Done) (i m : ℕ) → (i ≡ m) ⊎ ((length done ≤ i) × (i ≤ m))
-    → crashed log first (take i done) ≡ crashed_at (record { seen = seen; first = first; calls = calls_after log first done }) m
-crashed_by seen first log done i m (inl here) = ap (λ (n : ℕ). crashed log first (take n done)) here ∙ sym (crashed-is first log done m)
+    → crash_state log first (take i done) ≡ crashed_at (record { seen = seen; first = first; calls = calls_after log first done }) m
+crashed_by seen first log done i m (inl here) = ap (λ (n : ℕ). crash_state log first (take n done)) here ∙ sym (crash_state-is first log done m)
 crashed_by seen first log done i m (inr past) =
-    ap (crashed log first) (take_all i done past.0 ∙ sym (take_all m done (omega (arith, past.0, past.1)))) ∙ sym (crashed-is first log done m)
+    ap (crash_state log first) (take_all i done past.0 ∙ sym (take_all m done (omega (arith, past.0, past.1)))) ∙ sym (crash_state-is first log done m)

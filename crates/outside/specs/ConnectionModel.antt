@@ -10,8 +10,8 @@ pub record ConnectionModel : Type 0 where
   pub past : List (List ℕ)  -- the bytes put on each that was closed
 
 -- no connection stands yet, and these are to come
-abbrev pub waiting : List (List ℕ) → ConnectionModel
-waiting queue = record { stands = false; coming = []; sent = []; queue = queue; past = [] }
+abbrev pub with_queue : List (List ℕ) → ConnectionModel
+with_queue queue = record { stands = false; coming = []; sent = []; queue = queue; past = [] }
 
 -- n bytes were taken
 abbrev pub take_from : ℕ → ConnectionModel → ConnectionModel
@@ -48,11 +48,11 @@ got n wire = option_map (take_from n) wire
 abbrev pub sent_on : List ℕ → Option ConnectionModel → Option ConnectionModel
 sent_on piece wire = option_map (send_on piece) wire
 
-abbrev pub closed : Option ConnectionModel → Option ConnectionModel
-closed wire = option_map shut wire
+abbrev pub close_known : Option ConnectionModel → Option ConnectionModel
+close_known wire = option_map shut wire
 
-abbrev pub opened : Option ConnectionModel → Option ConnectionModel
-opened wire = option_map open_next wire
+abbrev pub open_known : Option ConnectionModel → Option ConnectionModel
+open_known wire = option_map open_next wire
 
 -- a call that took n bytes put them in front; with room for some, none is the end
 pub record Gets (n : ℕ) (coming before after : List ℕ) : Type 0 where

@@ -23,8 +23,8 @@ abbrev pub gap : ℕ → List ℕ → List ℕ → ℕ
 gap place piece seen = cond (length piece == 0) 0 (place - length seen)
 
 -- these bytes with the piece written over them
-abbrev pub overwritten : ℕ → List ℕ → List ℕ → List ℕ
-overwritten place piece seen =
+abbrev pub overwrite_at : ℕ → List ℕ → List ℕ → List ℕ
+overwrite_at place piece seen =
     (take place seen ++ replicate (gap place piece seen) 0)
     ++ piece ++ drop (place + length piece) seen
 
@@ -37,7 +37,7 @@ write_leaving place count seen drive = record drive {
 
 abbrev pub write_on : ℕ → List ℕ → DiskModel → DiskModel
 write_on place piece drive =
-    write_leaving place (length piece) (overwritten place piece drive.seen) drive
+    write_leaving place (length piece) (overwrite_at place piece drive.seen) drive
 
 abbrev pub sync_now : DiskModel → DiskModel
 sync_now drive = record drive { calls = drive.calls ++ Synced drive.seen ∷ [] }
@@ -62,11 +62,11 @@ abbrev pub NoLess : Room → Room → Type 0
 NoLess before after = HasRoom before.end before.bytes before.calls after
 
 -- the room that a call which writes so many bytes leaves
-abbrev pub lessened : ℕ → Room → Room
-lessened count room = record room { bytes = room.bytes - count; calls = room.calls - 1 }
+abbrev pub less_room : ℕ → Room → Room
+less_room count room = record room { bytes = room.bytes - count; calls = room.calls - 1 }
 
 abbrev pub room_after : ℕ → Option Room → Option Room
-room_after count room = option_map (lessened count) room
+room_after count room = option_map (less_room count) room
 
 -- what was down at the last sync, and the ranges written since, each as a place and a count
 pub record Down : Type 0 where

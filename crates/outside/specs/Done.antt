@@ -1,12 +1,12 @@
 -- The calls that a disk in memory has kept, oldest first, the bytes of all writes in one log.
 use Rattle.std.specs.Prelude.{ℕ, ◌+◌, Bool, true, List, [], ◌∷◌, take, drop, fold, nat_le}
-use Rattle.outside.specs.DiskModel.{Call, Wrote, Synced, overwritten}
+use Rattle.outside.specs.DiskModel.{Call, Wrote, Synced, overwrite_at}
 use Rattle.outside.specs.declared.mem_disk.done.Done.{Done}
 use Rattle.outside.specs.declared.mem_disk.done.Done.TheVariants.{Write, Sync}
 
 -- what reads give once this was done
 abbrev pub seen_next : List ℕ → List ℕ → Done → List ℕ
-seen_next log seen (Write at from kept lost) = overwritten at (take kept (drop from log)) seen
+seen_next log seen (Write at from kept lost) = overwrite_at at (take kept (drop from log)) seen
 seen_next log seen Sync = seen
 
 -- the same call as a crash sees it, by what reads gave

@@ -5,8 +5,8 @@ use Rattle.std.proofs.lemmas.Bool.Decides.{nat_tests}
 use Rattle.outside.specs.declared.mem_disk.done.Done.{Done}
 use Rattle.outside.specs.declared.mem_disk.done.Done.TheVariants.{Write, Sync}
 use Rattle.outside.specs.Done.{seen_next, call_of, seen_after, calls_after}
-use Rattle.outside.specs.DiskModel.{Call, Wrote, Down, down_after, IsImage, MayLeave, overwritten, has, is_written}
-use Rattle.outside.specs.OverwrittenLaws.{length-overwritten, get_or-overwritten}
+use Rattle.outside.specs.DiskModel.{Call, Wrote, Down, down_after, IsImage, MayLeave, overwrite_at, has, is_written}
+use Rattle.outside.specs.OverwrittenLaws.{length-overwrite_at, get_or-overwrite_at}
 
 neither : (a b : Bool) → IsTrue (not (a || b)) → IsTrue (not a) × IsTrue (not b)
 neither true b free = absurd (cc free)
@@ -35,18 +35,18 @@ end-of-front place few count le = grind (arith, nat_tests)
 -- a write whose front was kept leaves an image
 pub after_write : (down : Down) (seen piece : List ℕ) (place count : ℕ) → length piece ≤ count
     → IsImage down seen
-    → IsImage (down_after down (Wrote place count)) (overwritten place piece seen)
+    → IsImage (down_after down (Wrote place count)) (overwrite_at place piece seen)
 after_write down seen piece place count front image = record {
-  no_shorter = let e = length-overwritten place piece seen in omega arith;
+  no_shorter = let e = length-overwrite_at place piece seen in omega arith;
   no_longer =
-      let e = length-overwritten place piece seen in
+      let e = length-overwrite_at place piece seen in
       let l = end-of-front place (length piece) count front in
       omega arith;
   stays = λ k within free.
       let parts = newest-misses k (place, count) down.ranges free in
       let apart = nearer k place (length piece) count front (outside-range k place count parts.0) in
       let inside : k < length seen = omega arith in
-      get_or-overwritten place piece seen k apart inside ∙ image.stays k within parts.1;
+      get_or-overwrite_at place piece seen k apart inside ∙ image.stays k within parts.1;
 }
 
 -- each thing that was done keeps what reads give an image

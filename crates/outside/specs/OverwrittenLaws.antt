@@ -1,7 +1,7 @@
 -- What a write leaves of the bytes that it goes over.
 use Rattle.std.proofs.Common.{rules, suc, ap, ◌∙◌, min, ◌≡◌, ℕ, ◌+◌, ◌-◌, ◌<◌, ◌≤◌, ◌==◌, ◌⊎◌, inl, inr, max, cond, List, [], ◌∷◌, ◌++◌, length, take, drop, replicate, get_or, arith, refl}
 use Rattle.std.proofs.lemmas.List.{places, length-append, length-take, length-drop, length-replicate}
-use Rattle.outside.specs.DiskModel.{overwritten}
+use Rattle.outside.specs.DiskModel.{overwrite_at}
 
 -- the same with a gap of any length
 abbrev laid : ℕ → ℕ → List ℕ → List ℕ → List ℕ
@@ -27,25 +27,25 @@ some : (n m : ℕ) → cond (suc n == 0) 0 m ≡ m
 some n m = grind arith
 
 gap-some : (place b : ℕ) (bs seen : List ℕ)
-    → overwritten place (b ∷ bs) seen ≡ laid (place - length seen) place (b ∷ bs) seen
+    → overwrite_at place (b ∷ bs) seen ≡ laid (place - length seen) place (b ∷ bs) seen
 gap-some place b bs seen = ap (λ gap. laid gap place (b ∷ bs) seen)
     (some (length bs) (place - length seen))
 
-pub length-overwritten : (place : ℕ) (piece seen : List ℕ)
-    → length (overwritten place piece seen)
+pub length-overwrite_at : (place : ℕ) (piece seen : List ℕ)
+    → length (overwrite_at place piece seen)
     ≡ max (length seen) (cond (length piece == 0) 0 (place + length piece))
-length-overwritten place [] seen = length-laid 0 place [] seen ∙ omega arith
-length-overwritten place (b ∷ bs) seen =
+length-overwrite_at place [] seen = length-laid 0 place [] seen ∙ omega arith
+length-overwrite_at place (b ∷ bs) seen =
     rw (some (length bs) (place + suc (length bs)))
     (ap length (gap-some place b bs seen) ∙ length-laid (place - length seen) place (b ∷ bs) seen ∙
     omega arith)
 
-pub get_or-overwritten : (place : ℕ) (piece seen : List ℕ) (k : ℕ) → (k < place)
+pub get_or-overwrite_at : (place : ℕ) (piece seen : List ℕ) (k : ℕ) → (k < place)
     ⊎ (place + length piece ≤ k) → k < length seen
-    → get_or (overwritten place piece seen) k 0 ≡ get_or seen k 0
-get_or-overwritten place piece seen k (inl before) within =
+    → get_or (overwrite_at place piece seen) k 0 ≡ get_or seen k 0
+get_or-overwrite_at place piece seen k (inl before) within =
     laid-before _ place piece seen k before within
-get_or-overwritten place [] seen k (inr after) within = laid-after place [] seen k after within
-get_or-overwritten place (b ∷ bs) seen k (inr after) within =
+get_or-overwrite_at place [] seen k (inr after) within = laid-after place [] seen k after within
+get_or-overwrite_at place (b ∷ bs) seen k (inr after) within =
     let none : place - length seen ≡ 0 = omega arith in
     rw (gap-some place b bs seen, none) (laid-after place (b ∷ bs) seen k after within)

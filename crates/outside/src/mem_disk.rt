@@ -3,7 +3,7 @@ ghost use Rattle.std.specs.Prelude.{◌≡◌, ℕ, ◌+◌, ◌-◌, ◌≤◌,
 ghost use Rattle.std.specs.List.{list_all};
 ghost use Rattle.outside.specs.declared.room.Room.{Room};
 ghost use Rattle.outside.specs.Done.{seen_after, is_within};
-ghost use Rattle.outside.specs.DiskModel.{HasRoom, IsImage, NoLess, LeftSince, crashed_at, fresh, now, overwritten, write_on, write_leaving, sync_now, lessened};
+ghost use Rattle.outside.specs.DiskModel.{HasRoom, IsImage, NoLess, LeftSince, crashed_at, fresh, now, overwrite_at, write_on, write_leaving, sync_now, less_room};
 ghost use Rattle.outside.specs.Failure.{front_of};
 ghost use Rattle.outside.specs.FaultRose.{FaultRose};
 
@@ -116,8 +116,8 @@ impl<P: Failures> MemDisk<P> {
             (room_of self.old) }
         ensures drive { drive_of self.new
             ≡ write_leaving at (length front.now + lost)
-            (overwritten at front.now (drive_of self.old).seen) (drive_of self.old) }
-        ensures room { room_of self.new ≡ lessened (length front.now + lost) (room_of self.old) }
+            (overwrite_at at front.now (drive_of self.old).seen) (drive_of self.old) }
+        ensures room { room_of self.new ≡ less_room (length front.now + lost) (room_of self.old) }
         ensures plan { plan_of self.new ≡ plan_of self.old }
     {
         overwrite(&mut self.seen, at as usize, front);
@@ -191,14 +191,14 @@ impl<P: Failures> Disk for MemDisk<P> {
         ensures ok { OnOk result (drive_of self.new ≡ write_on at piece.now (drive_of self.old)) }
         ensures err { OnErr result ((seen : List ℕ)
             × (drive_of self.new ≡ write_leaving at (length piece.now) seen (drive_of self.old))) }
-        ensures room { room_of self.new ≡ lessened (length piece.now) (room_of self.old) }
+        ensures room { room_of self.new ≡ less_room (length piece.now) (room_of self.old) }
         ensures counts { P.count (plan_of self.old) ≤ P.count (plan_of self.new) }
         ensures cause { IsErr result
             → FaultRose (P.count (plan_of self.old)) (P.count (plan_of self.new)) }
 
         // A write that is to fail writes the front that its plan says.
         ensures front { OnErr result (drive_of self.new ≡ write_leaving at (length piece.now)
-            (overwritten at (front_of (P.due (plan_of self.old)) piece.now)
+            (overwrite_at at (front_of (P.due (plan_of self.old)) piece.now)
             (drive_of self.old).seen) (drive_of self.old)) }
         ensures due { IsErr result ↔ IsSome (P.due (plan_of self.old)) }
         ensures plan { plan_of self.new ≡ P.after (plan_of self.old) }
@@ -221,7 +221,7 @@ impl<P: Failures> Disk for MemDisk<P> {
         requires { HasRoom 0 0 1 (room_of self.old) }
         ensures ok { OnOk result (drive_of self.new ≡ sync_now (drive_of self.old)) }
         ensures err { OnErr result (drive_of self.new ≡ drive_of self.old) }
-        ensures room { room_of self.new ≡ lessened 0 (room_of self.old) }
+        ensures room { room_of self.new ≡ less_room 0 (room_of self.old) }
         ensures counts { P.count (plan_of self.old) ≤ P.count (plan_of self.new) }
         ensures cause { IsErr result
             → FaultRose (P.count (plan_of self.old)) (P.count (plan_of self.new)) }

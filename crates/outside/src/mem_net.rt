@@ -42,12 +42,12 @@ pub struct MemNet<P> {
 
 impl<P: Failures> MemNet<P> {
     ghost use Rattle.outside.specs.MemNet.{wire_of, misses_of, most_of, plan_of};
-    ghost use Rattle.outside.specs.ConnectionModel.{waiting};
+    ghost use Rattle.outside.specs.ConnectionModel.{with_queue};
 
     /// Takes the room for all that the connections need but the bytes put on them.
     pub fn new(alloc: Global, connections: Vec<Vec<u8>>, failures: P) -> Result<Self, AllocError>
         ensures wire { IfOk result
-            (λ net. wire_of net ≡ waiting (map (λ bytes. bytes.items) connections.items)) }
+            (λ net. wire_of net ≡ with_queue (map (λ bytes. bytes.items) connections.items)) }
         ensures misses { IfOk result (λ net. misses_of net ≡ 0) }
         // One `get` takes all that comes and has a place.
         ensures most { IfOk result (λ net. most_of net ≡ 2 ^ 64 - 1) }

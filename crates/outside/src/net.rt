@@ -2,7 +2,7 @@
 ghost use Rattle.std.specs.Prelude.{◌≡◌, ◌≤◌, [], IfSome, OnOk, OnErr, IsErr};
 ghost use Rattle.outside.specs.Miss.{CountsMiss};
 ghost use Rattle.outside.specs.FaultRose.{FaultRose};
-ghost use Rattle.outside.specs.ConnectionModel.{opened, closed, has_next};
+ghost use Rattle.outside.specs.ConnectionModel.{open_known, close_known, has_next};
 
 use crate::faults::Failed;
 use crate::link::Link;
@@ -11,7 +11,7 @@ use crate::link::Link;
 pub trait Net: Link {
     /// Makes a connection to this address.
     fn connect(&mut self, addr: &str) -> Result<(), Failed>
-        ensures ok { OnOk result (Self.wire self.new ≡ opened (Self.wire self.old)) }
+        ensures ok { OnOk result (Self.wire self.new ≡ open_known (Self.wire self.old)) }
         ensures err { OnErr result (Self.wire self.new ≡ Self.wire self.old) }
         ensures none { IfSome (Self.wire self.old) (λ wire. wire.queue ≡ [] → IsErr result) }
 
@@ -31,7 +31,7 @@ pub trait Net: Link {
 
     /// Takes the next connection that a peer makes.
     fn next(&mut self) -> Result<(), Failed>
-        ensures ok { OnOk result (Self.wire self.new ≡ opened (Self.wire self.old)) }
+        ensures ok { OnOk result (Self.wire self.new ≡ open_known (Self.wire self.old)) }
         ensures err { OnErr result (Self.wire self.new ≡ Self.wire self.old) }
         ensures none { IfSome (Self.wire self.old) (λ wire. wire.queue ≡ [] → IsErr result) }
 
@@ -42,7 +42,7 @@ pub trait Net: Link {
 
     /// Ends the connection, if one stands.
     fn close(&mut self)
-        ensures closed { Self.wire self.new ≡ closed (Self.wire self.old) }
+        ensures closed { Self.wire self.new ≡ close_known (Self.wire self.old) }
         ensures faults { Self.faults self.new ≡ Self.faults self.old }
         ensures misses { IfSome (Self.wire self.old)
             (λ _. Self.misses self.new ≡ Self.misses self.old) };

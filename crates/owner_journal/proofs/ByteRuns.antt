@@ -3,7 +3,7 @@ use Rattle.std.proofs.Common.{◌≡◌, ℕ, zero, suc, ◌+◌, ◌-◌, ◌<�
 use Rattle.std.proofs.lemmas.Bool.Decides.{nat_tests}
 use Rattle.std.proofs.lemmas.List.{take_at, length-append, ext_get_or}
 use Rattle.std.proofs.lemmas.List.Prefix.{front_from_reads, front_reads}
-use Rattle.outside.specs.DiskModel.{overwritten, is_written}
+use Rattle.outside.specs.DiskModel.{overwrite_at, is_written}
 use Rattle.outside.specs.Moments.{Torn}
 use Rattle.std.proofs.Math.Seq.{drop-append-add}
 
@@ -61,7 +61,7 @@ no-gap true n m le = refl
 no-gap false n m le = omega arith
 
 -- a write over what stands behind a front
-pub written_over : (front piece tail : List ℕ) → overwritten (length front) piece (front ++ tail) ≡ front ++ (piece ++ drop (length piece) tail)
+pub written_over : (front piece tail : List ℕ) → overwrite_at (length front) piece (front ++ tail) ≡ front ++ (piece ++ drop (length piece) tail)
 written_over front piece tail =
     let within : length front ≤ length (front ++ tail) = omega (arith, length-append front tail) in
     rw (no-gap (length piece == 0) (length front) (length (front ++ tail)) within, drop-append-add front tail (length piece), take_at front tail (length front) refl)

@@ -2,7 +2,7 @@
 use Rattle.std.proofs.Common.{◌≡◌, ℕ, ◌+◌, inl, inr, List, [], ◌∷◌, ◌++◌, length, Option, Some, None, sym, ap, subst, ◌∙◌, arith}
 use Rattle.vo_spec.specs.declared.records.Entry.{Entry}
 use Rattle.vo_spec.specs.Journals.{FitsEntry, IsJournal}
-use Rattle.outside.specs.DiskModel.{DiskModel, MayLeave, overwritten, sync_now, write_on}
+use Rattle.outside.specs.DiskModel.{DiskModel, MayLeave, overwrite_at, sync_now, write_on}
 use Rattle.outside.specs.Moments.{IsDown, Torn, LeavesOnly, IfKnown, written_down}
 use Rattle.outside.proofs.MomentLaws.{rests, weaker, joins, only_seen, synced_down}
 use Rattle.owner_journal.specs.Slots.{slot_down, WhileSlot}
@@ -71,7 +71,7 @@ slot_ends : (old mid new : DiskModel) (gate : ℕ) (behind : List ℕ) → mid �
 slot_ends old mid new gate behind is first then =
     let P = WhileSlot gate behind old.seen in
     let down : IsDown mid = subst IsDown (sym is) (synced_down (write_on (gate + 1) behind old)) in
-    let seen : mid.seen ≡ overwritten (gate + 1) behind old.seen = ap (λ (d : DiskModel). d.seen) is in
+    let seen : mid.seen ≡ overwrite_at (gate + 1) behind old.seen = ap (λ (d : DiskModel). d.seen) is in
     joins old mid new P (weaker old mid (Torn (gate + 1) (length behind) old.seen) P (λ image torn. inl torn) first)
     (weaker mid new (Torn gate 1 mid.seen) P (λ image torn. inr (subst (λ (t : List ℕ). Torn gate 1 t image) seen torn)) (then down))
 

@@ -5,7 +5,7 @@ use Rattle.std.proofs.lemmas.List.{length-append, flat_map_more}
 use Rattle.vo_spec.specs.declared.records.Entry.{Entry}
 use Rattle.vo_spec.specs.Bytes.{block}
 use Rattle.vo_spec.specs.Journals.{FitsEntry, entry_bytes, slot, IsClosed, IsJournal}
-use Rattle.outside.specs.DiskModel.{overwritten}
+use Rattle.outside.specs.DiskModel.{overwrite_at}
 use Rattle.outside.specs.Moments.{Torn}
 use Rattle.owner_journal.specs.Slots.{WhileSlot}
 use Rattle.owner_journal.specs.Resting.{HoldsWith, behind_gate, end_of}
@@ -43,12 +43,12 @@ abbrev pub written_behind : Entry → List ℕ → List ℕ
 written_behind e more = behind_gate e ++ drop (length (behind_gate e)) more
 
 pub behind_parts : (es : List Entry) (e : Entry) (gate : ℕ) (more : List ℕ)
-    → overwritten (end_of es + 1) (behind_gate e) (flat_map slot es ++ (gate ∷ more)) ≡ flat_map slot es ++ (gate ∷ written_behind e more)
+    → overwrite_at (end_of es + 1) (behind_gate e) (flat_map slot es ++ (gate ∷ more)) ≡ flat_map slot es ++ (gate ∷ written_behind e more)
 behind_parts es e gate more =
     let front : List ℕ = flat_map slot es ++ gate ∷ [] in
     let long : length front ≡ end_of es + 1 = length-append (flat_map slot es) (gate ∷ []) in
-    ap (λ (t : List ℕ). overwritten (end_of es + 1) (behind_gate e) t) (sym (append_assoc (flat_map slot es) (gate ∷ []) more))
-    ∙ ap (λ (n : ℕ). overwritten n (behind_gate e) (front ++ more)) (sym long)
+    ap (λ (t : List ℕ). overwrite_at (end_of es + 1) (behind_gate e) t) (sym (append_assoc (flat_map slot es) (gate ∷ []) more))
+    ∙ ap (λ (n : ℕ). overwrite_at n (behind_gate e) (front ++ more)) (sym long)
     ∙ written_over front (behind_gate e) more
     ∙ append_assoc (flat_map slot es) (gate ∷ []) (written_behind e more)
 
@@ -66,7 +66,7 @@ any_gate es e gate tail image all fits parts (inr shut) =
 
 -- while the gate is opened
 pub holds_gate : (es : List Entry) (e : Entry) (rest image : List ℕ) → AllByRecursion FitsEntry es → FitsEntry e → IsClosed rest
-    → Torn (end_of es) 1 (overwritten (end_of es + 1) (behind_gate e) (flat_map slot es ++ rest)) image → HoldsWith es e image
+    → Torn (end_of es) 1 (overwrite_at (end_of es + 1) (behind_gate e) (flat_map slot es ++ rest)) image → HoldsWith es e image
 holds_gate es e [] image all fits shut torn = absurd shut
 holds_gate es e (gate ∷ more) image all fits shut torn =
     let here = subst (λ (t : List ℕ). Torn (end_of es) 1 t image) (behind_parts es e gate more) torn in
@@ -80,14 +80,14 @@ holds_with es e contents rest image all fits shut parts (inl torn) =
     inl (holds_behind es e rest image all shut (subst (λ (t : List ℕ). Torn (end_of es + 1) (length (behind_gate e)) t image) parts torn))
 holds_with es e contents rest image all fits shut parts (inr torn) =
     holds_gate es e rest image all fits shut
-    (subst (λ (t : List ℕ). Torn (end_of es) 1 (overwritten (end_of es + 1) (behind_gate e) t) image) parts torn)
+    (subst (λ (t : List ℕ). Torn (end_of es) 1 (overwrite_at (end_of es + 1) (behind_gate e) t) image) parts torn)
 
 -- at the end
 pub slot_parts : (es : List Entry) (e : Entry) (contents rest : List ℕ) → AllByRecursion FitsEntry es → FitsEntry e → IsClosed rest → contents ≡ flat_map slot es ++ rest
-    → (tail : List ℕ) × (overwritten (end_of es) (1 ∷ []) (overwritten (end_of es + 1) (behind_gate e) contents) ≡ flat_map slot (es ++ e ∷ []) ++ (0 ∷ tail))
+    → (tail : List ℕ) × (overwrite_at (end_of es) (1 ∷ []) (overwrite_at (end_of es + 1) (behind_gate e) contents) ≡ flat_map slot (es ++ e ∷ []) ++ (0 ∷ tail))
 slot_parts es e contents [] all fits shut parts = absurd shut
 slot_parts es e contents (gate ∷ more) all fits shut parts =
     let tail : List ℕ = drop (length (behind_gate e)) more in
-    let behind = ap (overwritten (end_of es + 1) (behind_gate e)) parts ∙ behind_parts es e gate more in
-    let gate_over = ap (overwritten (end_of es) (1 ∷ [])) behind ∙ written_over (flat_map slot es) (1 ∷ []) (gate ∷ written_behind e more) in
+    let behind = ap (overwrite_at (end_of es + 1) (behind_gate e)) parts ∙ behind_parts es e gate more in
+    let gate_over = ap (overwrite_at (end_of es) (1 ∷ [])) behind ∙ written_over (flat_map slot es) (1 ∷ []) (gate ∷ written_behind e more) in
     (tail, opened _ es e tail all fits gate_over)

@@ -1,6 +1,6 @@
 -- A slot that is written to a disk, and what a crash may leave meanwhile.
 use Rattle.std.specs.Prelude.{◌⊎◌, ℕ, ◌+◌, List, [], ◌∷◌, length, Option}
-use Rattle.outside.specs.DiskModel.{DiskModel, overwritten}
+use Rattle.outside.specs.DiskModel.{DiskModel, overwrite_at}
 use Rattle.outside.specs.Moments.{Torn, written_down}
 
 -- what stands behind a gate was put down, and then the gate as an open one
@@ -10,4 +10,4 @@ slot_down gate behind drive = written_down gate (1 ∷ []) (written_down (gate +
 -- what a crash may leave meanwhile, of a disk that had these contents down
 abbrev pub WhileSlot : ℕ → List ℕ → List ℕ → List ℕ → Type 0
 WhileSlot gate behind contents image = Torn (gate + 1) (length behind) contents image
-    ⊎ Torn gate 1 (overwritten (gate + 1) behind contents) image
+    ⊎ Torn gate 1 (overwrite_at (gate + 1) behind contents) image

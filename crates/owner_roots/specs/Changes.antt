@@ -8,8 +8,8 @@ use Rattle.vo_spec.specs.Values.{key_of}
 use Rattle.vo_spec.specs.Cells.{whole_entry}
 use Rattle.vo_spec.specs.Tables.{CellChange, cell_changes, row_of}
 use Rattle.vo_spec.specs.Trees.{RowTree}
-use Rattle.vo_spec.specs.Inserts.{inserted}
-use Rattle.vo_spec.specs.Removes.{removed, replaced}
+use Rattle.vo_spec.specs.Inserts.{tree_with_entry}
+use Rattle.vo_spec.specs.Removes.{tree_without_key, tree_with_cells}
 use Rattle.mb_update.specs.declared.ops.Op.{Op}
 use Rattle.mb_update.specs.declared.ops.Op.TheVariants.{Insert as PutRow, Replace, Remove}
 use Rattle.mb_update.specs.declared.ops.SetCell.{SetCell}
@@ -29,9 +29,9 @@ operation schema (Delete name column value) = Some (Remove (key_of value))
 
 -- the tree after a change, or why there is none
 abbrev pub changed_tree : Op → RowTree → Result RowTree UpdateFault
-changed_tree (PutRow row) = inserted (whole_entry row)
-changed_tree (Replace key sets) = replaced key (map change_of sets)
-changed_tree (Remove key) = removed key
+changed_tree (PutRow row) = tree_with_entry (whole_entry row)
+changed_tree (Replace key sets) = tree_with_cells key (map change_of sets)
+changed_tree (Remove key) = tree_without_key key
 
 -- how many rows a table has after a change that was not refused
 abbrev pub changed_count : Op → ℕ → ℕ

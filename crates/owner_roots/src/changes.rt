@@ -1,7 +1,7 @@
 //! What a command on rows changes in the tree of its table.
 ghost use Rattle.std.specs.Prelude.{◌≡◌, ◌≤◌, ◌+◌, ◌<◌, ◌^◌, IfOk, IfSome, length, map};
 ghost use Rattle.std.specs.List.{AllByRecursion};
-ghost use Rattle.vo_spec.specs.Batches.{FitsSet};
+ghost use Rattle.vo_spec.specs.Batches.{FitsSet, max_columns};
 ghost use Rattle.vo_spec.specs.Fits.{FitsPart};
 ghost use Rattle.vo_spec.specs.Values.{key_of};
 ghost use Rattle.vo_spec.specs.Tables.{cell_changes};
@@ -27,7 +27,7 @@ fn key_of(alloc: Global, value: &Value) -> Result<Key, AllocError>
 
 /// The cells that SET names.
 fn set_cells(alloc: Global, schema: &Schema, sets: &[SetPart]) -> Result<List<SetCell>, AllocError>
-    requires { length schema.now.columns ≤ 32 }
+    requires { length schema.now.columns ≤ max_columns }
     ensures { IfOk result (λ cells. cells ≡ map set_cell (cell_changes schema.now sets.now)) }
 {
     let mut cells = Vec::with_capacity(alloc, sets.len())?;
@@ -50,7 +50,7 @@ fn replacement(
     value: &Value,
 ) -> Result<Op, AllocError>
     requires fits { AllByRecursion FitsSet sets.now }
-    requires columns { length schema.now.columns ≤ 32 }
+    requires columns { length schema.now.columns ≤ max_columns }
     ensures value { IfOk result (λ op. op
         ≡ Replace (key_of value.now) (map set_cell (cell_changes schema.now sets.now))) }
     ensures fits { IfOk result FitsOp }

@@ -1,7 +1,7 @@
 //! Commands on a catalog's tables, in their order.
 ghost use Rattle.std.specs.Prelude.{◌≡◌, ◌≤◌, ◌+◌, drop, length, map, remove, None, IfOk, OnOk};
 ghost use Rattle.std.specs.List.{AllByRecursion};
-ghost use Rattle.vo_spec.specs.Batches.{FitsCommand};
+ghost use Rattle.vo_spec.specs.Batches.{FitsCommand, max_columns, max_commands};
 ghost use Rattle.vo_spec.specs.Fits.{FitsTree};
 ghost use Rattle.vo_spec.specs.Tables.{refusal};
 ghost use Rattle.mb_tree.specs.View.{part_of};
@@ -24,7 +24,7 @@ fn new_table(
     columns: &[Column],
     key: &Name,
 ) -> Result<CatalogTable, AllocError>
-    requires { length columns.now ≤ 32 }
+    requires { length columns.now ≤ max_columns }
     ensures { IfOk result (λ table. table ≡ made_table name.now columns.now key.now) }
 {
     let number = column_number(columns, key.as_bytes()) as u8;
@@ -130,7 +130,7 @@ pub(crate) fn apply_commands(
 ) -> Result<(), OwnerFault>
     requires within { FitCatalog tables.old.items }
     requires fits { AllByRecursion FitsCommand commands.now }
-    requires count { length commands.now ≤ 1000 }
+    requires count { length commands.now ≤ max_commands }
     requires trees { AllByRecursion FitsTree (map part_of trees.now) }
     ensures answer { Gives (λ _. tables.new.items) result
         (tables_from 0 commands.now (map part_of trees.now) tables.old.items) }

@@ -18,7 +18,7 @@ use Rattle.vo_spec.specs.Tables.{apply_batch, tables_after}
 use Rattle.vo_spec.specs.declared.records.Entry.{Entry}
 use Rattle.vo_spec.specs.Journals.{slot}
 use Rattle.vo_spec.specs.Replies.{FitsProofs, proofs_bytes}
-use Rattle.vo_spec.specs.Honest.{Stored, RepresentTables, after_work, work_all, honest_proofs, honest_record, honest_trees, sealed_entry, sealed}
+use Rattle.vo_spec.specs.Honest.{Stored, RepresentTables, after_work, work_all, honest_proofs, honest_record, honest_trees, sealed_entry, seal_batches}
 use Rattle.vo_laws.proofs.TreeFits.{each_loadable}
 use Rattle.vo_laws.proofs.ListLaws.{each_map}
 use Rattle.vo_laws.proofs.StepLaws.{trees_follow, no_commands_fit, no_trees_before, both_take}
@@ -72,11 +72,11 @@ pub record IsSealed (secret : Secret) (cs : List (List Command)) (n : ℕ) (s : 
   pub within : n ≤ length cs
   pub at : IsAt secret n s
   pub trees : s.tables ≡ honest_trees (take n cs)
-  pub slots_are : s.slots.items ≡ flat_map slot (sealed secret (take n cs))
+  pub slots_are : s.slots.items ≡ flat_map slot (seal_batches secret (take n cs))
   pub left : seal_fault (leaves_of secret.lms) ([] ∷ take n cs) (drop n cs) ≡ seal_fault (leaves_of secret.lms) ([] ∷ []) cs
 
 pub first_sealed : (secret : Secret) (cs : List (List Command)) (s : Sealed) → IsAt secret 0 s → s.tables ≡ [] → s.slots.items ≡ slot (entry_on secret 0 [] []) → IsSealed secret cs 0 s
-unfolding honest_trees sealed
+unfolding honest_trees seal_batches
 first_sealed secret cs s at e f = record {
   within = omega arith;
   at = at;
@@ -175,12 +175,12 @@ next_sealed secret cs n batch before after ok s i done =
           ∙ ap honest_trees (sym (taken_on cs n batch i));
       slots_are = done.2
           ∙ ap (λ (t : List ℕ). t ++ slot (entry_on secret (n + 1) before.tables batch)) s.slots_are
-          ∙ ap (λ (e : Entry). flat_map slot (sealed secret (take n cs)) ++ slot e)
+          ∙ ap (λ (e : Entry). flat_map slot (seal_batches secret (take n cs)) ++ slot e)
           (ap (λ (v : ℕ). entry_on secret v before.tables batch) (sym many) ∙ entry_is secret (Earlier cs n) before.tables batch trees_before)
-          ∙ ap (λ (t : List ℕ). flat_map slot (sealed secret (take n cs)) ++ t) (sym (append-nil (slot (sealed_entry secret (Earlier cs n) batch))))
-          ∙ sym (flat_map-append slot (sealed secret (take n cs)) (sealed_entry secret (Earlier cs n) batch ∷ []))
+          ∙ ap (λ (t : List ℕ). flat_map slot (seal_batches secret (take n cs)) ++ t) (sym (append-nil (slot (sealed_entry secret (Earlier cs n) batch))))
+          ∙ sym (flat_map-append slot (seal_batches secret (take n cs)) (sealed_entry secret (Earlier cs n) batch ∷ []))
           ∙ ap (flat_map slot) (sym (sealed_grows secret (take n cs) batch))
-          ∙ ap (λ (bs : List (List Command)). flat_map slot (sealed secret bs)) (sym (taken_on cs n batch i));
+          ∙ ap (λ (bs : List (List Command)). flat_map slot (seal_batches secret bs)) (sym (taken_on cs n batch i));
       left = ap (λ (bs : List (List Command)). seal_fault (leaves_of secret.lms) ([] ∷ bs) (drop (n + 1) cs)) (taken_on cs n batch i)
           ∙ sym (no_fault_here (leaves_of secret.lms) (Earlier cs n) batch (drop (n + 1) cs) (subst (λ (v : ℕ). v < leaves_of secret.lms) (sym many) done.0) accepted)
           ∙ ap (seal_fault (leaves_of secret.lms) (Earlier cs n)) (sym (left_on cs n batch i))
@@ -215,11 +215,11 @@ not_sealed secret cs n batch before why ok s i told known =
 -- The end.
 
 pub all_sealed : (secret : Secret) (cs : List (List Command)) (n : ℕ) (last : Sealed) → IsSealed secret cs n last → n ≡ length cs
-    → (last.slots.items ≡ flat_map slot (sealed secret cs)) × (seal_fault (leaves_of secret.lms) ([] ∷ []) cs ≡ None)
+    → (last.slots.items ≡ flat_map slot (seal_batches secret cs)) × (seal_fault (leaves_of secret.lms) ([] ∷ []) cs ≡ None)
 unfolding seal_fault
 all_sealed secret cs n last s e =
     let all : take n cs ≡ cs = take_all n cs (omega arith) in (
-      s.slots_are ∙ ap (λ (bs : List (List Command)). flat_map slot (sealed secret bs)) all,
+      s.slots_are ∙ ap (λ (bs : List (List Command)). flat_map slot (seal_batches secret bs)) all,
       sym s.left ∙ ap (seal_fault (leaves_of secret.lms) ([] ∷ take n cs)) (drop_all n cs (omega arith)),
     )
 

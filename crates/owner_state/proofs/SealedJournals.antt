@@ -13,7 +13,7 @@ use Rattle.vo_spec.specs.Tables.{apply_batch, tables_after}
 use Rattle.vo_spec.specs.LmsSets.{leaves_of}
 use Rattle.vo_spec.specs.Lms.{leaf_of, lms_valid}
 use Rattle.vo_spec.specs.Secret.{Secret, public_of_secret, lms_signature}
-use Rattle.vo_spec.specs.Honest.{sealed}
+use Rattle.vo_spec.specs.Honest.{seal_batches}
 use Rattle.vo_spec.specs.Journals.{journal_bytes}
 use Rattle.vo_spec.specs.Owners.{IsLoadable}
 use Rattle.owner_roots.specs.Owners.{IsOwned}
@@ -74,11 +74,11 @@ sealable secret batches signs fit e =
 
 -- and a journal of it is one of the key's owner, and one that a store takes
 pub sealed_journal : (secret : Secret) (batches : List Batch) (bytes : List ℕ) → SignsValidly secret → FitEach batches
-    → seal_fault (leaves_of secret.lms) ([] ∷ []) (commands_of batches) ≡ None → bytes ≡ journal_bytes (sealed secret (commands_of batches))
-    → IsOwned (public_of_secret secret) bytes (sealed secret (commands_of batches)) × IsLoadable (public_of_secret secret) bytes (sealed secret (commands_of batches))
+    → seal_fault (leaves_of secret.lms) ([] ∷ []) (commands_of batches) ≡ None → bytes ≡ journal_bytes (seal_batches secret (commands_of batches))
+    → IsOwned (public_of_secret secret) bytes (seal_batches secret (commands_of batches)) × IsLoadable (public_of_secret secret) bytes (seal_batches secret (commands_of batches))
 sealed_journal secret batches bytes signs fit e is =
     let key = public_of_secret secret in
-    let es = sealed secret (commands_of batches) in
+    let es = seal_batches secret (commands_of batches) in
     let done = sealable secret (commands_of batches) signs (each_fits batches fit) e in (
       subst (λ (text : List ℕ). IsOwned key text es) (sym is) (owned secret (commands_of batches) done),
       subst (λ (text : List ℕ). IsLoadable key text es) (sym is) (loaded secret (commands_of batches) done),

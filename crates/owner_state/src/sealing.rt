@@ -3,7 +3,7 @@ ghost use Rattle.std.specs.Prelude.{◌≡◌, ◌≢◌, [], ◌∷◌, IfOk, I
 ghost use Rattle.vo_spec.specs.LmsSets.{leaves_of};
 ghost use Rattle.vo_spec.specs.Secret.{public_of_secret};
 ghost use Rattle.vo_spec.specs.Journals.{journal_bytes, slot};
-ghost use Rattle.vo_spec.specs.Honest.{sealed};
+ghost use Rattle.vo_spec.specs.Honest.{seal_batches};
 ghost use Rattle.vo_spec.specs.Owners.{IsLoadable};
 ghost use Rattle.owner_roots.specs.Owners.{IsOwned};
 ghost use Rattle.owner_state.specs.Standing.{entry_on};
@@ -48,12 +48,12 @@ impl From<AllocError> for SealFault {
 pub fn seal(alloc: Global, key: &SecretKey, batches: List<Batch>) -> Result<Vec<u8>, SealFault>
     requires { FitEach batches }
     ensures journal { IfOk result (λ journal. journal.items
-        ≡ journal_bytes (sealed key.now (commands_of batches))) }
+        ≡ journal_bytes (seal_batches key.now (commands_of batches))) }
     ensures owned { IfOk result (λ journal.
-        IsOwned (public_of_secret key.now) journal.items (sealed key.now (commands_of batches))) }
+        IsOwned (public_of_secret key.now) journal.items (seal_batches key.now (commands_of batches))) }
     ensures loaded { IfOk result (λ journal.
         IsLoadable (public_of_secret key.now) journal.items
-        (sealed key.now (commands_of batches))) }
+        (seal_batches key.now (commands_of batches))) }
     ensures sealed { IfOk result (λ _.
         seal_fault (leaves_of key.now.lms) ([] ∷ []) (commands_of batches) ≡ None) }
     ensures fault { IfErr result (λ fault. fault ≢ SealFault.Memory
@@ -72,7 +72,7 @@ pub fn seal(alloc: Global, key: &SecretKey, batches: List<Batch>) -> Result<Vec<
 fn seal_each(alloc: Global, key: &SecretKey, batches: &[Batch]) -> Result<Vec<u8>, SealFault>
     requires { FitEach batches.now }
     ensures slots { IfOk result (λ slots. slots.items
-        ≡ flat_map slot (sealed key.now (commands_of batches.now))) }
+        ≡ flat_map slot (seal_batches key.now (commands_of batches.now))) }
     ensures sealed { IfOk result (λ _.
         seal_fault (leaves_of key.now.lms) ([] ∷ []) (commands_of batches.now) ≡ None) }
     ensures fault { IfErr result (λ fault. fault ≢ SealFault.Memory

@@ -7,7 +7,7 @@ use Rattle.vo_spec.specs.declared.needs.Need.{Need}
 use Rattle.vo_spec.specs.Results.{ColumnPlace, bound_source_at}
 use Rattle.vo_spec.specs.Trees.{RowTree}
 use Rattle.vo_spec.specs.Scans.{seen}
-use Rattle.vo_spec.specs.Pruned.{is_missing}
+use Rattle.vo_spec.specs.Pruning.{is_missing}
 use Rattle.vo_spec.specs.Needs.{same_table, tables_used, tree_at, right_tree}
 use Rattle.vo_laws.proofs.ListLaws.{IsIn}
 use Rattle.vo_laws.proofs.ScanLaws.{Shows, complete}

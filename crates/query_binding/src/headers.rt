@@ -1,7 +1,7 @@
 //! The titles of the columns that a query shows.
 ghost use Rattle.std.specs.Prelude.{◌≡◌, map, length, IfOk};
 ghost use Rattle.vo_spec.specs.Tables.{column_at};
-ghost use Rattle.vo_spec.specs.Results.{header, dotted, ref_title, place_title, schema_at, bound_source_at};
+ghost use Rattle.vo_spec.specs.Results.{header, dotted_title, ref_title, place_title, schema_at, bound_source_at};
 ghost use Rattle.query_binding.specs.Sided.{bound_sources_seen, place_seen};
 
 use crate::bound_sources::{BoundSources, ColumnPlace};
@@ -11,8 +11,8 @@ use table_list::name_at as column_name;
 use vo_spec::{Items, List, Ref, Text};
 
 /// `alias.column`
-fn dotted(alloc: Global, alias: &[u8], column: &[u8]) -> Result<Text, AllocError>
-    ensures { IfOk result (λ title. title ≡ dotted alias.now column.now) }
+fn dotted_title(alloc: Global, alias: &[u8], column: &[u8]) -> Result<Text, AllocError>
+    ensures { IfOk result (λ title. title ≡ dotted_title alias.now column.now) }
 {
     let mut title = Vec::from_slice(alloc, alias)?;
     title.push(b'.')?;
@@ -31,7 +31,7 @@ fn ref_title(alloc: Global, reference: &Ref) -> Result<Text, AllocError>
 {
     let column = reference.column.as_bytes();
     match &reference.qualifier {
-        Some(qualifier) => dotted(alloc, qualifier.as_bytes(), column),
+        Some(qualifier) => dotted_title(alloc, qualifier.as_bytes(), column),
         None => text_of(alloc, column),
     }
 }
@@ -69,7 +69,7 @@ fn place_title(
     let name = name_at(bound_sources, place);
     match bound_sources.right {
         None => text_of(alloc, name),
-        Some(_) => dotted(alloc, alias_at(bound_sources, place.bound_source), name),
+        Some(_) => dotted_title(alloc, alias_at(bound_sources, place.bound_source), name),
     }
 }
 

@@ -4,7 +4,7 @@ use Rattle.std.proofs.lemmas.List.{drop_more, drop-drop, drop_all}
 use Rattle.vo_spec.specs.declared.needs.Need.{Need}
 use Rattle.vo_spec.specs.declared.needs.SeenRow.{SeenRow}
 use Rattle.vo_spec.specs.Parts.{none, more}
-use Rattle.vo_spec.specs.Scans.{seen_in, seen_in_each, visits, joined}
+use Rattle.vo_spec.specs.Scans.{seen_in, seen_in_each, visits, append_both}
 use Rattle.mb_tree.specs.declared.parts.PartTree.{PartTree}
 use Rattle.mb_tree.specs.View.{part_of, parts_of}
 use Rattle.std.proofs.Common.{Err}
@@ -29,7 +29,7 @@ rest_at xs i = drop-drop 1 i xs
 
 -- Lists after lists.
 
-pub after_joined : {A : Type 0} (old new : List A) (first rest : Option (List A)) → after old first ≡ Some new → after old (joined first rest) ≡ after new rest
+pub after_joined : {A : Type 0} (old new : List A) (first rest : Option (List A)) → after old first ≡ Some new → after old (append_both first rest) ≡ after new rest
 after_joined old new None rest e = absurd (cc)
 after_joined old new (Some xs) None e = refl
 after_joined old new (Some xs) (Some ys) e =
@@ -43,14 +43,14 @@ module _ (need : Need) (lower : Option (List ℕ)) (ss : List (List ℕ)) (ps : 
   abbrev onward : Option (List SeenRow)
   onward = seen_in_each need (slice_get ss i) (drop (i + 1) ss) (parts_of (drop (i + 1) ps))
 
-  seen_at : (p : PartTree) → i < length ps → p ≡ get_or ps i p → seen_in_each need lower (drop i ss) (parts_of (drop i ps)) ≡ cond (visits need.interval lower (slice_get ss i)) (joined (seen_in need (part_of p)) onward) onward
+  seen_at : (p : PartTree) → i < length ps → p ≡ get_or ps i p → seen_in_each need lower (drop i ss) (parts_of (drop i ps)) ≡ cond (visits need.interval lower (slice_get ss i)) (append_both (seen_in need (part_of p)) onward) onward
   seen_at p lt is = rw (part_at ps i p lt is, first_at ss i, rest_at ss i) refl
 
-  pub seen_visited : (p : PartTree) → i < length ps → p ≡ get_or ps i p → visits need.interval lower (slice_get ss i) ≡ true → seen_in_each need lower (drop i ss) (parts_of (drop i ps)) ≡ joined (seen_in need (part_of p)) onward
-  seen_visited p lt is v = seen_at p lt is ∙ ap (λ b. cond b (joined (seen_in need (part_of p)) onward) onward) v
+  pub seen_visited : (p : PartTree) → i < length ps → p ≡ get_or ps i p → visits need.interval lower (slice_get ss i) ≡ true → seen_in_each need lower (drop i ss) (parts_of (drop i ps)) ≡ append_both (seen_in need (part_of p)) onward
+  seen_visited p lt is v = seen_at p lt is ∙ ap (λ b. cond b (append_both (seen_in need (part_of p)) onward) onward) v
 
   pub seen_passed : (p : PartTree) → i < length ps → p ≡ get_or ps i p → visits need.interval lower (slice_get ss i) ≡ false → seen_in_each need lower (drop i ss) (parts_of (drop i ps)) ≡ onward
-  seen_passed p lt is v = seen_at p lt is ∙ ap (λ b. cond b (joined (seen_in need (part_of p)) onward) onward) v
+  seen_passed p lt is v = seen_at p lt is ∙ ap (λ b. cond b (append_both (seen_in need (part_of p)) onward) onward) v
 
   pub seen_done : length ps ≤ i → seen_in_each need lower (drop i ss) (parts_of (drop i ps)) ≡ Some []
   seen_done h = rw no_part_at refl
@@ -69,7 +69,7 @@ module _ (need : Need) (lower : Option (List ℕ)) (ss : List (List ℕ)) (ps : 
   pub step_missing : (p : PartTree) (old first : List SeenRow) (all : Option (List SeenRow)) → i < length ps → p ≡ get_or ps i p → visits need.interval lower (slice_get ss i) ≡ true
       → seen_in need (part_of p) ≡ None → after old (seen_in_each need lower (drop i ss) (parts_of (drop i ps))) ≡ after first all → all ≡ None
   step_missing p old first all lt is v f e =
-      let g : seen_in_each need lower (drop i ss) (parts_of (drop i ps)) ≡ None = seen_visited p lt is v ∙ ap (λ r. joined r onward) f in
+      let g : seen_in_each need lower (drop i ss) (parts_of (drop i ps)) ≡ None = seen_visited p lt is v ∙ ap (λ r. append_both r onward) f in
       none_from_after first all (sym e ∙ ap (λ r. after old r) g)
 
 -- a fault that is handed on

@@ -10,7 +10,7 @@ use Rattle.vo_spec.specs.declared.trees.ScanFault.TheVariants.{Missing, Memory}
 use Rattle.vo_spec.specs.declared.needs.Need.{Need}
 use Rattle.vo_spec.specs.Parts.{stub, leaf, inner, none, more}
 use Rattle.vo_spec.specs.Trees.{RowTree, RowTrees, digest, row_family, open_parts}
-use Rattle.vo_spec.specs.Pruned.{Walk, walk_for, is_any, is_missing_by, is_missing_in, has_surplus_by, has_surplus_in, pruned_by, pruned_in}
+use Rattle.vo_spec.specs.Pruning.{Walk, walk_for, is_any, is_missing_by, is_missing_in, has_surplus_by, has_surplus_in, pruned_by, pruned_in}
 use Rattle.mb_tree.specs.declared.parts.PartTree.{PartTree}
 use Rattle.mb_tree.specs.View.{part_of, parts_of}
 use Rattle.range_proof.specs.Judging.{JudgesOrMissing}

@@ -2,7 +2,7 @@
 use Rattle.std.specs.Prelude.{◌≡◌, ℕ, true, if◌then◌else◌, List, Option, Some, None}
 use Rattle.vo_spec.specs.declared.needs.Need.{Need}
 use Rattle.vo_spec.specs.Values.{key_lt}
-use Rattle.vo_spec.specs.Pruned.{needed_columns, is_any}
+use Rattle.vo_spec.specs.Pruning.{needed_columns, is_any}
 use Rattle.vo_spec.specs.Standing.{is_between}
 
 pub record NeedsAtNode : Type 0 where

@@ -1,7 +1,7 @@
 //! The needs as they come to a node of a tree.
 ghost use Rattle.std.specs.Prelude.{◌≡◌, ◌≢◌, [], ◌∷◌, length, map, not, IfOk, IfSome, IsNone, OnOk};
 ghost use Rattle.std.specs.Option.{option_copied};
-ghost use Rattle.vo_spec.specs.Pruned.{at_root as first_going, descend as next_going, is_any, needed_columns as named_by};
+ghost use Rattle.vo_spec.specs.Pruning.{at_root as first_going, descend as next_going, is_any, needed_columns as named_by};
 ghost use Rattle.range_proof.specs.Lending.{lent_need};
 
 use crate::intervals::{is_between, max_lower, min_upper};

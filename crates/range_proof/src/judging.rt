@@ -1,7 +1,7 @@
 //! Whether a part of a tree is the proof for some needs.
 ghost use Rattle.std.specs.Prelude.{◌≡◌, not};
 ghost use Rattle.std.specs.List.{list_any};
-ghost use Rattle.vo_spec.specs.Pruned.{is_missing, has_surplus, is_missing_by, is_missing_in, has_surplus_by, has_surplus_in, walk_for};
+ghost use Rattle.vo_spec.specs.Pruning.{is_missing, has_surplus, is_missing_by, is_missing_in, has_surplus_by, has_surplus_in, walk_for};
 ghost use Rattle.mb_tree.specs.View.{part_of, parts_of};
 ghost use Rattle.range_proof.specs.Judging.{JudgesOrMissing};
 

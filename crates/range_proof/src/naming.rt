@@ -1,6 +1,6 @@
 //! Which columns of a row the needs name, and whether a part of the row has these and no others.
 ghost use Rattle.std.specs.Prelude.{◌≡◌, map, IfOk};
-ghost use Rattle.vo_spec.specs.Pruned.{
+ghost use Rattle.vo_spec.specs.Pruning.{
   needed_columns as named_by,
   has_column as is_among,
   hides_any as does_hide,

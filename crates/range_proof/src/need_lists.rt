@@ -1,7 +1,7 @@
 //! The needs whose scans visit a node.
 ghost use Rattle.std.specs.Prelude.{◌≡◌, [], map, IfOk, OnOk};
 ghost use Rattle.std.specs.Option.{option_copied};
-ghost use Rattle.vo_spec.specs.Pruned.{at_root as first_going, descend as next_going};
+ghost use Rattle.vo_spec.specs.Pruning.{at_root as first_going, descend as next_going};
 ghost use Rattle.range_proof.specs.Lending.{lent_need};
 
 use crate::intervals::{is_empty_interval, visits};

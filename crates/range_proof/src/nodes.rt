@@ -3,7 +3,7 @@ ghost use Rattle.std.specs.Prelude.{◌≡◌, map, slice_get, IfOk};
 ghost use Rattle.std.specs.Option.{option_copied};
 ghost use Rattle.vo_spec.specs.Cells.{whole_entry};
 ghost use Rattle.vo_spec.specs.Parts.{inner};
-ghost use Rattle.vo_spec.specs.Pruned.{shown_entry};
+ghost use Rattle.vo_spec.specs.Pruning.{shown_entry};
 ghost use Rattle.mb_tree.specs.View.{part_of};
 
 use crate::active_needs::ActiveNeeds;

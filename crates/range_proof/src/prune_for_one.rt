@@ -1,7 +1,7 @@
 //! The proof that the only need has which visits a node.
 ghost use Rattle.std.specs.Prelude.{◌≡◌, [], ◌∷◌, map, IfOk};
 ghost use Rattle.vo_spec.specs.Trees.{row_family, open_parts};
-ghost use Rattle.vo_spec.specs.Pruned.{pruned_by, pruned_in, walk_for};
+ghost use Rattle.vo_spec.specs.Pruning.{pruned_by, pruned_in, walk_for};
 ghost use Rattle.mb_tree.specs.View.{part_of};
 
 use crate::active_needs::ActiveNeeds;

@@ -1,7 +1,7 @@
 //! The proof for some needs that a whole tree has.
 ghost use Rattle.std.specs.Prelude.{◌≡◌, true, map, IfOk};
 ghost use Rattle.vo_spec.specs.Trees.{row_family, open_parts};
-ghost use Rattle.vo_spec.specs.Pruned.{pruned, pruned_by, pruned_in, walk_for, is_any};
+ghost use Rattle.vo_spec.specs.Pruning.{prune_tree, pruned_by, pruned_in, walk_for, is_any};
 ghost use Rattle.mb_tree.specs.View.{part_of};
 
 use crate::active_needs::ActiveNeeds;
@@ -14,7 +14,7 @@ use vo_spec::Need;
 
 /// The part of the tree that is the proof for these needs.
 pub fn prune<'b>(alloc: Global, tree: &'b Tree, needs: &[Need]) -> Result<PartTree<'b>, AllocError>
-    ensures { IfOk result (λ part. part_of part ≡ pruned needs.now tree.now) }
+    ensures { IfOk result (λ part. part_of part ≡ prune_tree needs.now tree.now) }
 {
     let all = lend_needs(alloc, needs)?;
     let active = ActiveNeeds::at_root(alloc, &all)?;

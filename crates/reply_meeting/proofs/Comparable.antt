@@ -16,10 +16,10 @@ use Rattle.vo_spec.specs.Results.{BoundSource, bound_sources, binding_fault, sch
 use Rattle.vo_spec.specs.Records.{table_headers}
 use Rattle.vo_spec.specs.Trees.{RowTree}
 use Rattle.vo_spec.specs.Scans.{seen}
-use Rattle.vo_spec.specs.Pruned.{IsCanonical, is_missing, has_surplus}
+use Rattle.vo_spec.specs.Pruning.{IsCanonical, is_missing, has_surplus}
 use Rattle.vo_spec.specs.Needs.{tables_used, tree_at, needs, left_need, right_needs, seen_row_view}
 use Rattle.vo_spec.specs.Replies.{Reply, FitsReply}
-use Rattle.vo_spec.specs.Checks.{tables_wanted, root_fault, needed}
+use Rattle.vo_spec.specs.Checks.{tables_wanted, root_fault, needs_with_trees}
 use Rattle.mb_tree.specs.declared.parts.PartTree.{PartTree}
 use Rattle.mb_tree.specs.View.{part_of}
 use Rattle.query_plan.specs.BoundQueries.{bound_query}
@@ -30,7 +30,7 @@ use Rattle.tree_collide.specs.Walks.{walk, AreOneWalk}
 use Rattle.tree_collide.proofs.OneWalk.{walk_complete, walks_seen}
 use Rattle.reply_meeting.specs.Accepting.{HasPassed}
 use Rattle.reply_meeting.specs.Comparing.{AreTwins, AreComparable}
-use Rattle.reply_meeting.proofs.Wanted.{rooted, tables_there, are_twins, are_canonical}
+use Rattle.reply_meeting.proofs.Wanted.{zip_with_tables, tables_there, are_twins, are_canonical}
 
 abbrev missing_of : List (List Need × RowTree) → Option CheckFault
 missing_of ts = if list_any (λ (t : List Need × RowTree). is_missing t.0 t.1) ts then Some Missing else None
@@ -51,7 +51,7 @@ module _ (q : Query) (r : Reply) where
   wanted_by : (b : Bool) → is_some (binding_fault (table_headers r.catalog) q) ≡ b → tables_wanted q r.catalog ≡ (if b then [] else tables_used ss)
   wanted_by b e = ap (λ (x : Bool). if x then [] else tables_used ss) e
 
-  needed_by : (b : Bool) → is_some (binding_fault (table_headers r.catalog) q) ≡ b → needed q r ≡ (if b then [] else zip (needs ss q r.trees) r.trees)
+  needed_by : (b : Bool) → is_some (binding_fault (table_headers r.catalog) q) ≡ b → needs_with_trees q r ≡ (if b then [] else zip (needs ss q r.trees) r.trees)
   needed_by b e = ap (λ (x : Bool). if x then [] else zip (needs ss q r.trees) r.trees) e
 
   pub bound_count : binding_fault (table_headers r.catalog) q ≡ None → HasPassed q r → length r.trees ≡ length (tables_used ss)
@@ -65,8 +65,8 @@ module _ (q : Query) (r : Reply) where
   pub no_trees : (fault : QueryFault) → binding_fault (table_headers r.catalog) q ≡ Some fault → HasPassed q r → r.trees ≡ []
   no_trees fault e passed = empty_by r.trees (passed.count ∙ ap length (wanted_by true (ap is_some e)))
 
-  bound_roots : binding_fault (table_headers r.catalog) q ≡ None → HasPassed q r → first_some (map root_fault (rooted r.catalog (tables_used ss) r.trees)) ≡ None
-  bound_roots e passed = ap (λ (names : List (List ℕ)). first_some (map root_fault (rooted r.catalog names r.trees))) (sym (wanted_by false (ap is_some e))) ∙ passed.roots
+  bound_roots : binding_fault (table_headers r.catalog) q ≡ None → HasPassed q r → first_some (map root_fault (zip_with_tables r.catalog (tables_used ss) r.trees)) ≡ None
+  bound_roots e passed = ap (λ (names : List (List ℕ)). first_some (map root_fault (zip_with_tables r.catalog names r.trees))) (sym (wanted_by false (ap is_some e))) ∙ passed.roots
 
   needs_canonical : binding_fault (table_headers r.catalog) q ≡ None → HasPassed q r → AllZip IsCanonical (needs ss q r.trees) r.trees
   needs_canonical e passed =
@@ -78,7 +78,7 @@ module _ (q : Query) (r : Reply) where
 -- what an accepted reply shows to a query that binds
 record IsShown (c : Catalog) (q : Query) (trees : List RowTree) : Type 0 where
   count : length trees ≡ length (tables_used (bound_sources (table_headers c) q))
-  roots : first_some (map root_fault (rooted c (tables_used (bound_sources (table_headers c) q)) trees)) ≡ None
+  roots : first_some (map root_fault (zip_with_tables c (tables_used (bound_sources (table_headers c) q)) trees)) ≡ None
   canonical : AllZip IsCanonical (run_needs (plan_of (bound_query (bound_sources (table_headers c) q) q)) trees) trees
 
 shown : (q : Query) (r : Reply) → binding_fault (table_headers r.catalog) q ≡ None → HasPassed q r → IsShown r.catalog q r.trees

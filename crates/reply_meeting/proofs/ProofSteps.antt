@@ -4,7 +4,7 @@ use Rattle.std.specs.List.{AllZip}
 use Rattle.std.proofs.lemmas.List.{drop_all}
 use Rattle.vo_spec.specs.declared.needs.Need.{Need}
 use Rattle.vo_spec.specs.Trees.{RowTree}
-use Rattle.vo_spec.specs.Pruned.{IsCanonical}
+use Rattle.vo_spec.specs.Pruning.{IsCanonical}
 use Rattle.mb_tree.specs.declared.parts.PartTree.{PartTree}
 use Rattle.mb_tree.specs.View.{part_of}
 use Rattle.tree_collide.proofs.PruningLaws.{here}

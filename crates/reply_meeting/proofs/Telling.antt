@@ -40,8 +40,8 @@ same_catalogs a b first second f g first_is second_is same =
 -- Two replies that show the same bytes.
 
 -- the one reply with what the other shows
-abbrev showing : Reply → Reply → Reply
-showing r s = record { rec = r.rec; signature = r.signature; catalog = s.catalog; trees = s.trees }
+abbrev with_shown : Reply → Reply → Reply
+with_shown r s = record { rec = r.rec; signature = r.signature; catalog = s.catalog; trees = s.trees }
 
 abbrev head_bytes : Reply → List ℕ
 head_bytes r = codes "VOR1" ++ record_bytes r.rec ++ block r.signature
@@ -50,8 +50,8 @@ reply_parts : (r : Reply) → reply_bytes r ≡ head_bytes r ++ shown_bytes r
 unfolding reply_bytes
 reply_parts r = append_assoc (head_bytes r) (block (catalog_bytes r.catalog)) (length r.trees ∷ flat_map tree_bytes r.trees)
 
-showing_fits : (r s : Reply) → FitsReply r → FitsReply s → FitsReply (showing r s)
-showing_fits r s f g = record { rec = f.rec; signature = f.signature; catalog = g.catalog; count = g.count; trees = g.trees }
+with_shown_fits : (r s : Reply) → FitsReply r → FitsReply s → FitsReply (with_shown r s)
+with_shown_fits r s f g = record { rec = f.rec; signature = f.signature; catalog = g.catalog; count = g.count; trees = g.trees }
 
 -- what is read, or else this
 abbrev reply_in : Reply → Option (Reply × List ℕ) → Reply
@@ -60,9 +60,9 @@ reply_in r (Some read) = read.0
 
 pub shown_told : (r s : Reply) → FitsReply r → FitsReply s → shown_bytes r ≡ shown_bytes s → ShowTheSame r s
 shown_told r s f g same =
-    let bytes : reply_bytes r ≡ reply_bytes (showing r s) = reply_parts r ∙ ap (λ (shown : List ℕ). head_bytes r ++ shown) same ∙ sym (reply_parts (showing r s)) in
-    let whole : r ≡ showing r s =
-    ap (reply_in r) (sym (reply_again r [] f) ∙ ap (λ (b : List ℕ). reply_at (b ++ [])) bytes ∙ reply_again (showing r s) [] (showing_fits r s f g)) in
+    let bytes : reply_bytes r ≡ reply_bytes (with_shown r s) = reply_parts r ∙ ap (λ (shown : List ℕ). head_bytes r ++ shown) same ∙ sym (reply_parts (with_shown r s)) in
+    let whole : r ≡ with_shown r s =
+    ap (reply_in r) (sym (reply_again r [] f) ∙ ap (λ (b : List ℕ). reply_at (b ++ [])) bytes ∙ reply_again (with_shown r s) [] (with_shown_fits r s f g)) in
     (ap (λ (x : Reply). x.catalog) whole, ap (λ (x : Reply). x.trees) whole)
 
 pub shown_same : (r s : Reply) → ShowTheSame r s → shown_bytes r ≡ shown_bytes s

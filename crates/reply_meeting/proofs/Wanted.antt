@@ -19,7 +19,7 @@ use Rattle.vo_spec.specs.Results.{bound_sources, sources, missing_table, binding
 use Rattle.vo_spec.specs.Records.{table_headers}
 use Rattle.vo_spec.specs.Fits.{FitsTree}
 use Rattle.vo_spec.specs.Trees.{RowTree, digest}
-use Rattle.vo_spec.specs.Pruned.{IsCanonical, is_missing, has_surplus}
+use Rattle.vo_spec.specs.Pruning.{IsCanonical, is_missing, has_surplus}
 use Rattle.vo_spec.specs.Needs.{tables_used}
 use Rattle.vo_spec.specs.Checks.{table_named, root_fault}
 use Rattle.vo_laws.proofs.JoinLaws.{is_bytes}
@@ -86,19 +86,19 @@ twins_by : (o : Option CatalogTable) (p q : RowTree) → is_some o ≡ true → 
 twins_by None p q there f g e h = absurd (cc)
 twins_by (Some table) p q there f g e h = record { fits = f.nodes; second_fits = g.nodes; same = sym (root_is table p e) ∙ root_is table q h }
 
-abbrev pub rooted : Catalog → List (List ℕ) → List RowTree → List (Option CatalogTable × RowTree)
-rooted c names trees = zip (map (λ name. table_named name c) names) trees
+abbrev pub zip_with_tables : Catalog → List (List ℕ) → List RowTree → List (Option CatalogTable × RowTree)
+zip_with_tables c names trees = zip (map (λ name. table_named name c) names) trees
 
 pub are_twins : (c : Catalog) (names : List (List ℕ)) (ps qs : List RowTree) → length ps ≡ length names → length qs ≡ length names → AllByRecursion (IsThere c) names
-    → AllByRecursion FitsTree ps → AllByRecursion FitsTree qs → first_some (map root_fault (rooted c names ps)) ≡ None → first_some (map root_fault (rooted c names qs)) ≡ None → AllZip AreTwins ps qs
+    → AllByRecursion FitsTree ps → AllByRecursion FitsTree qs → first_some (map root_fault (zip_with_tables c names ps)) ≡ None → first_some (map root_fault (zip_with_tables c names qs)) ≡ None → AllZip AreTwins ps qs
 are_twins c [] [] [] m n there f g e h = tt
 are_twins c [] (p ∷ ps) qs m n there f g e h = absurd (cc)
 are_twins c [] [] (q ∷ qs) m n there f g e h = absurd (cc)
 are_twins c (name ∷ names) [] qs m n there f g e h = absurd (cc)
 are_twins c (name ∷ names) (p ∷ ps) [] m n there f g e h = absurd (cc)
 are_twins c (name ∷ names) (p ∷ ps) (q ∷ qs) m n there f g e h =
-    let first = none_first (root_fault (table_named name c, p)) (map root_fault (rooted c names ps)) e in
-    let second = none_first (root_fault (table_named name c, q)) (map root_fault (rooted c names qs)) h in
+    let first = none_first (root_fault (table_named name c, p)) (map root_fault (zip_with_tables c names ps)) e in
+    let second = none_first (root_fault (table_named name c, q)) (map root_fault (zip_with_tables c names qs)) h in
     (twins_by (table_named name c) p q there.0 f.0 g.0 first.0 second.0, are_twins c names ps qs (cc) (cc) there.1 f.1 g.1 first.1 second.1)
 
 -- Each is the proof for its needs.

@@ -4,7 +4,7 @@ use Rattle.std.specs.List.{AllZip}
 use Rattle.vo_spec.specs.Collides.{Collides}
 use Rattle.vo_spec.specs.Fits.{FitsPart}
 use Rattle.vo_spec.specs.Trees.{RowTree, digest}
-use Rattle.vo_spec.specs.Pruned.{IsCanonical}
+use Rattle.vo_spec.specs.Pruning.{IsCanonical}
 use Rattle.vo_spec.specs.Needs.{tables_used}
 use Rattle.vo_spec.specs.Replies.{Reply}
 use Rattle.query_plan.specs.Plans.{QueryPlan}

@@ -1,7 +1,7 @@
 //! The trees of two replies, each of them the proof for its needs.
 ghost use Rattle.std.specs.Prelude.{◌≡◌, length, map, IfOk};
 ghost use Rattle.std.specs.List.{AllZip};
-ghost use Rattle.vo_spec.specs.Pruned.{IsCanonical};
+ghost use Rattle.vo_spec.specs.Pruning.{IsCanonical};
 ghost use Rattle.mb_tree.specs.View.{part_of};
 ghost use Rattle.reply_meeting.specs.Comparing.{AreTwins, HoldsUnlessFound};
 

@@ -18,7 +18,7 @@ use Rattle.vo_spec.specs.Values.{key_of}
 use Rattle.vo_spec.specs.Tables.{CellChange, TableHeader, Tests, table_header_named, on_table, insert_tests, update_tests, delete_tests, column_number, row_of, cell_changes, refusal}
 use Rattle.vo_spec.specs.Parts.{leaf}
 use Rattle.vo_spec.specs.Trees.{RowTree, Prunes}
-use Rattle.vo_spec.specs.Removes.{replaced}
+use Rattle.vo_spec.specs.Removes.{tree_with_cells}
 use Rattle.vo_spec.specs.Honest.{Stored, RepresentTables, stored_table_header, catalog_of, tree_after, change_tree, changed_trees, work, proof_on, command_proof, table_of}
 use Rattle.vo_laws.proofs.CommandLaws.{FitsTable, FitTables}
 use Rattle.mb_update.specs.declared.ops.Op.{Op}
@@ -99,7 +99,7 @@ delete_op value schema = Remove (key_of value)
 
 update_is : (name : List ℕ) (sets : List SetPart) (column : List ℕ) (value : Value) (s : Stored)
     → tree_after (Update name sets column value) s ≡ changed_tree (update_op sets value s.schema) s.tree
-update_is name sets column value s = ap (λ changes. replaced (key_of value) changes s.tree) (sym (same_changes (cell_changes s.schema sets)))
+update_is name sets column value s = ap (λ changes. tree_with_cells (key_of value) changes s.tree) (sym (same_changes (cell_changes s.schema sets)))
 
 -- A command that the catalog doesn't refuse.
 

@@ -12,14 +12,14 @@ use Rattle.vo_spec.specs.Secret.{Secret, public_of_secret}
 use Rattle.vo_spec.specs.Journals.{FitsEntry, Holds, batches_of, tables_at}
 use Rattle.vo_spec.specs.Tables.{tables_after}
 use Rattle.vo_spec.specs.Replies.{Reply, FitsReply}
-use Rattle.vo_spec.specs.Honest.{honest_record, honest_reply, honest_trees, reply_of, sealed}
+use Rattle.vo_spec.specs.Honest.{honest_record, honest_reply, honest_trees, reply_of, seal_batches}
 use Rattle.vo_spec.specs.Owners.{IsSigned, AreLoadable}
 use Rattle.vo_laws.specs.Sealing.{AreAcceptedAfter}
 use Rattle.vo_laws.proofs.EntryLaws.{entry_held}
 use Rattle.vo_laws.proofs.ReplyFits.{reply_fits}
 use Rattle.vo_laws.proofs.SealedLaws.{batches_sealed}
 use Rattle.round_trips.specs.Trips.{AreSealable}
-use Rattle.round_trips.proofs.Sealed.{are_loadable, entries_fit, length-sealed}
+use Rattle.round_trips.proofs.Sealed.{are_loadable, entries_fit, length-seal_batches}
 
 -- Lists.
 
@@ -58,24 +58,24 @@ sealable_first secret batches later all = record {
 abbrev batch_of : Entry → List Command
 batch_of e = e.batch.commands
 
-behind_first : (secret : Secret) (batches : List (List Command)) → batches_of (drop 1 (sealed secret batches)) ≡ batches
-behind_first secret batches = sym (drop-map batch_of 1 (sealed secret batches)) ∙ ap (λ (bs : List (List Command)). drop 1 bs) (batches_sealed secret batches)
+behind_first : (secret : Secret) (batches : List (List Command)) → batches_of (drop 1 (seal_batches secret batches)) ≡ batches
+behind_first secret batches = sym (drop-map batch_of 1 (seal_batches secret batches)) ∙ ap (λ (bs : List (List Command)). drop 1 bs) (batches_sealed secret batches)
 
 batches_to : (secret : Secret) (batches : List (List Command)) (version : ℕ)
-    → batches_of (take version (drop 1 (sealed secret batches))) ≡ take version batches
+    → batches_of (take version (drop 1 (seal_batches secret batches))) ≡ take version batches
 batches_to secret batches version =
-    sym (take-map batch_of version (drop 1 (sealed secret batches))) ∙ ap (λ (bs : List (List Command)). take version bs) (behind_first secret batches)
+    sym (take-map batch_of version (drop 1 (seal_batches secret batches))) ∙ ap (λ (bs : List (List Command)). take version bs) (behind_first secret batches)
 
 -- the entry of a version
 pub record IsEntryAt (secret : Secret) (batches : List (List Command)) (version : ℕ) (e : Entry) : Type 0 where
   pub record_is : e.rec ≡ honest_record (public_of_secret secret) version (honest_trees (take version batches))
   pub signed : IsSigned (public_of_secret secret) e.rec e.signature
 
-pub entry_at : (secret : Secret) (batches : List (List Command)) (version : ℕ) (e : Entry) → AreLoadable (public_of_secret secret) (sealed secret batches)
-    → slice_get (sealed secret batches) version ≡ Some e → IsEntryAt secret batches version e
+pub entry_at : (secret : Secret) (batches : List (List Command)) (version : ℕ) (e : Entry) → AreLoadable (public_of_secret secret) (seal_batches secret batches)
+    → slice_get (seal_batches secret batches) version ≡ Some e → IsEntryAt secret batches version e
 entry_at secret batches version e taken found =
     let key = public_of_secret secret in
-    let held = entry_held key (sealed secret batches) version e taken found in
+    let held = entry_held key (seal_batches secret batches) version e taken found in
     record {
       record_is = held.record_is ∙ ap (λ (bs : List (List Command)). honest_record key version (honest_trees bs)) (batches_to secret batches version);
       signed = held.signed;
@@ -95,12 +95,12 @@ abbrev reply_with : Query → List Entry → Entry → Reply
 reply_with q es e = honest_reply q e.rec e.signature (honest_trees (batches_of (drop 1 es)))
 
 pub reply_after : (secret : Secret) (batches : List (List Command)) (q : Query) (r : Reply) → AreSealable secret batches
-    → reply_of q (sealed secret batches) ≡ Some r → IsReplyAfter secret batches q r
+    → reply_of q (seal_batches secret batches) ≡ Some r → IsReplyAfter secret batches q r
 reply_after secret batches q r all e =
-    let es = sealed secret batches in
+    let es = seal_batches secret batches in
     let key = public_of_secret secret in
     let n = length batches in
-    let long : length es ≡ n + 1 = length-sealed secret batches in
+    let long : length es ≡ n + 1 = length-seal_batches secret batches in
     let last : length es - 1 ≡ n = omega arith in
     let found = there es n (omega arith) in
     let held = entry_at secret batches n found.0 (are_loadable secret batches all) found.1 in
@@ -117,10 +117,10 @@ reply_after secret batches q r all e =
 pub within_limits : (secret : Secret) (batches : List (List Command)) (q : Query) (r : Reply) → AllByRecursion FitsBatch batches → IsReplyAfter secret batches q r → FitsReply r
 within_limits secret batches q r fit after = subst FitsReply (sym after.is) (reply_fits batches q after.entry.rec after.entry.signature fit after.fits.rec after.fits.signature)
 
-pub replied : (secret : Secret) (batches : List (List Command)) (q : Query) → IsSome (reply_of q (sealed secret batches))
+pub replied : (secret : Secret) (batches : List (List Command)) (q : Query) → IsSome (reply_of q (seal_batches secret batches))
 replied secret batches q =
-    let es = sealed secret batches in
-    let found = there es (length es - 1) (omega (arith, length-sealed secret batches)) in
+    let es = seal_batches secret batches in
+    let found = there es (length es - 1) (omega (arith, length-seal_batches secret batches)) in
     subst IsSome (sym (ap (option_map (reply_with q es)) found.1)) refl
 
 -- A longer journal.
@@ -133,21 +133,21 @@ version_is secret batches q r after =
     (ap (λ (rec : Record). rec.version) (same ∙ after.record_is), same ∙ after.record_is)
 
 pub holds : (secret : Secret) (batches later : List (List Command)) (q : Query) (r : Reply) → IsReplyAfter secret batches q r
-    → AreSealable secret (batches ++ later) → Holds (sealed secret (batches ++ later)) r.rec
+    → AreSealable secret (batches ++ later) → Holds (seal_batches secret (batches ++ later)) r.rec
 unfolding Holds
 holds secret batches later q r after sealable =
     let all = batches ++ later in
-    let es = sealed secret all in
+    let es = seal_batches secret all in
     let n = length batches in
     let key = public_of_secret secret in
     let v = version_is secret batches q r after in
-    let found = there es n (omega (arith, length-sealed secret all, length-append batches later)) in
+    let found = there es n (omega (arith, length-seal_batches secret all, length-append batches later)) in
     let held = entry_at secret all n found.0 (are_loadable secret all sealable) found.1 in
     let same : found.0.rec ≡ r.rec =
     held.record_is ∙ ap (λ (bs : List (List Command)). honest_record key n (honest_trees bs)) (take_at batches later n refl) ∙ sym v.1 in
     ap (λ (w : ℕ). option_map (λ (e : Entry). e.rec) (slice_get es w)) v.0 ∙ ap (option_map (λ (e : Entry). e.rec)) found.1 ∙ ap (λ (rec : Record). Some rec) same
 
-pub tables_are : (secret : Secret) (batches later : List (List Command)) → tables_at (length batches) (sealed secret (batches ++ later)) ≡ tables_after batches
+pub tables_are : (secret : Secret) (batches later : List (List Command)) → tables_at (length batches) (seal_batches secret (batches ++ later)) ≡ tables_after batches
 unfolding tables_at
 tables_are secret batches later =
     ap tables_after (batches_to secret (batches ++ later) (length batches) ∙ take_at batches later (length batches) refl)

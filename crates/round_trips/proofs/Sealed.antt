@@ -10,7 +10,7 @@ use Rattle.vo_spec.specs.LmsSets.{leaves_of}
 use Rattle.vo_spec.specs.Secret.{Secret, public_of_secret, lms_signature}
 use Rattle.vo_spec.specs.Records.{record_bytes}
 use Rattle.vo_spec.specs.Journals.{max_signature, FitsEntry, IsJournal, batches_of, journal_bytes}
-use Rattle.vo_spec.specs.Honest.{honest_record, honest_trees, sealed, sealed_after, sealed_entry}
+use Rattle.vo_spec.specs.Honest.{honest_record, honest_trees, seal_batches, sealed_after, sealed_entry}
 use Rattle.vo_spec.specs.Owners.{AreLoadable, IsLoadable}
 use Rattle.vo_laws.specs.Sealing.{SignsValidly}
 use Rattle.vo_laws.proofs.SealedLaws.{batches_sealed, sealed_are_loadable, sealed_are_signed, sealed_fit, signatures_short}
@@ -43,16 +43,16 @@ short_after : (secret : Secret) (earlier batches : List (List Command)) → AllB
 short_after secret earlier [] = tt
 short_after secret earlier (batch ∷ batches) = (short secret earlier batch, short_after secret (earlier ++ batch ∷ []) batches)
 
-all_short : (secret : Secret) (batches : List (List Command)) → AllByRecursion (λ (e : Entry). length e.signature ≤ max_signature) (sealed secret batches)
-unfolding sealed
+all_short : (secret : Secret) (batches : List (List Command)) → AllByRecursion (λ (e : Entry). length e.signature ≤ max_signature) (seal_batches secret batches)
+unfolding seal_batches
 all_short secret batches = short_after secret [] ([] ∷ batches)
 
 -- Journals.
 
-pub length-sealed : (secret : Secret) (batches : List (List Command)) → length (sealed secret batches) ≡ length batches + 1
-length-sealed secret batches =
-    let many : length (batches_of (sealed secret batches)) ≡ length (sealed secret batches) = length-map (sealed secret batches) (λ (e : Entry). e.batch.commands) in
-    let same : length (batches_of (sealed secret batches)) ≡ length ([] ∷ batches) = ap length (batches_sealed secret batches) in
+pub length-seal_batches : (secret : Secret) (batches : List (List Command)) → length (seal_batches secret batches) ≡ length batches + 1
+length-seal_batches secret batches =
+    let many : length (batches_of (seal_batches secret batches)) ≡ length (seal_batches secret batches) = length-map (seal_batches secret batches) (λ (e : Entry). e.batch.commands) in
+    let same : length (batches_of (seal_batches secret batches)) ≡ length ([] ∷ batches) = ap length (batches_sealed secret batches) in
     omega (arith, many, same)
 
 closed_behind : (es : List Entry) → AllByRecursion FitsEntry es → 0 < length es → IsJournal (journal_bytes es) es
@@ -60,27 +60,27 @@ unfolding journal_bytes
 closed_behind [] fits some = absurd (omega arith)
 closed_behind (e ∷ es) fits some = (fits, 0 ∷ [], (λ open_gate. omega (arith, open_gate)), refl)
 
-pub entries_fit : (secret : Secret) (batches : List (List Command)) → AreSealable secret batches → AllByRecursion FitsEntry (sealed secret batches)
+pub entries_fit : (secret : Secret) (batches : List (List Command)) → AreSealable secret batches → AllByRecursion FitsEntry (seal_batches secret batches)
 entries_fit secret batches all =
     let wide : 33554432 < 2 ^ 64 = lit< tt in
     sealed_fit secret batches (sixteen secret all.signs) all.fit (omega (arith, all.few, leaves_few secret.lms, wide)) (all_short secret batches)
 
-are_owned : (secret : Secret) (batches : List (List Command)) → AreSealable secret batches → AreOwned (public_of_secret secret) (sealed secret batches)
+are_owned : (secret : Secret) (batches : List (List Command)) → AreSealable secret batches → AreOwned (public_of_secret secret) (seal_batches secret batches)
 are_owned secret batches all = sealed_are_owned secret batches all.fit all.accepted (sealed_are_signed secret batches all.signs all.few)
 
-pub are_loadable : (secret : Secret) (batches : List (List Command)) → AreSealable secret batches → AreLoadable (public_of_secret secret) (sealed secret batches)
+pub are_loadable : (secret : Secret) (batches : List (List Command)) → AreSealable secret batches → AreLoadable (public_of_secret secret) (seal_batches secret batches)
 are_loadable secret batches all = sealed_are_loadable secret batches all.accepted (sealed_are_signed secret batches all.signs all.few)
 
-journal : (secret : Secret) (batches : List (List Command)) → AreSealable secret batches → IsJournal (journal_bytes (sealed secret batches)) (sealed secret batches)
+journal : (secret : Secret) (batches : List (List Command)) → AreSealable secret batches → IsJournal (journal_bytes (seal_batches secret batches)) (seal_batches secret batches)
 journal secret batches all =
-    closed_behind (sealed secret batches) (entries_fit secret batches all) (omega (arith, length-sealed secret batches))
+    closed_behind (seal_batches secret batches) (entries_fit secret batches all) (omega (arith, length-seal_batches secret batches))
 
 pub owned : (secret : Secret) (batches : List (List Command)) → AreSealable secret batches
-    → IsOwned (public_of_secret secret) (journal_bytes (sealed secret batches)) (sealed secret batches)
+    → IsOwned (public_of_secret secret) (journal_bytes (seal_batches secret batches)) (seal_batches secret batches)
 unfolding IsOwned
-owned secret batches all = (journal secret batches all, are_owned secret batches all, omega (arith, length-sealed secret batches))
+owned secret batches all = (journal secret batches all, are_owned secret batches all, omega (arith, length-seal_batches secret batches))
 
 pub loaded : (secret : Secret) (batches : List (List Command)) → AreSealable secret batches
-    → IsLoadable (public_of_secret secret) (journal_bytes (sealed secret batches)) (sealed secret batches)
+    → IsLoadable (public_of_secret secret) (journal_bytes (seal_batches secret batches)) (seal_batches secret batches)
 unfolding IsLoadable
-loaded secret batches all = (journal secret batches all, are_loadable secret batches all, omega (arith, length-sealed secret batches))
+loaded secret batches all = (journal secret batches all, are_loadable secret batches all, omega (arith, length-seal_batches secret batches))

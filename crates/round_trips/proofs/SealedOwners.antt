@@ -12,7 +12,7 @@ use Rattle.vo_spec.specs.Batches.{FitsBatch}
 use Rattle.vo_spec.specs.Tables.{apply_batch, tables_after}
 use Rattle.vo_spec.specs.Secret.{Secret, public_of_secret}
 use Rattle.vo_spec.specs.Replies.{proofs_bytes}
-use Rattle.vo_spec.specs.Honest.{Stored, after_work, honest_proofs, honest_record, honest_trees, sealed, sealed_after, sealed_entry, work_all}
+use Rattle.vo_spec.specs.Honest.{Stored, after_work, honest_proofs, honest_record, honest_trees, seal_batches, sealed_after, sealed_entry, work_all}
 use Rattle.vo_spec.specs.Owners.{IsSigned}
 use Rattle.vo_laws.specs.Sealing.{AreAcceptedAfter}
 use Rattle.vo_laws.proofs.ListLaws.{each_both}
@@ -97,9 +97,9 @@ unfolding honest_trees
 from_none = refl
 
 pub sealed_are_owned : (secret : Secret) (batches : List (List Command)) → AllByRecursion FitsBatch batches → AreAcceptedAfter [] batches
-    → AllByRecursion (λ (e : Entry). IsSigned (public_of_secret secret) e.rec e.signature) (sealed secret batches)
-    → AreOwned (public_of_secret secret) (sealed secret batches)
-unfolding sealed AreOwned AreOwnedTo
+    → AllByRecursion (λ (e : Entry). IsSigned (public_of_secret secret) e.rec e.signature) (seal_batches secret batches)
+    → AreOwned (public_of_secret secret) (seal_batches secret batches)
+unfolding seal_batches AreOwned AreOwnedTo
 sealed_are_owned secret batches fits accepted signed =
     let all = entries_lead secret ([] ∷ []) 0 batches refl (no_commands_fit, tt) fits (accepted_behind [] batches accepted) signed.1 in
     (all.0, (first_is secret signed.0, subst (λ (before : Roots). AreNextEntries (public_of_secret secret) before (sealed_after secret ([] ∷ []) batches) all.0) from_none all.1))

@@ -14,7 +14,7 @@ use Rattle.vo_spec.specs.Checks.{CheckOf, answer_to}
 use Rattle.vo_spec.specs.Conditions.{FitsQuery, Query}
 use Rattle.vo_spec.specs.Results.{result}
 use Rattle.vo_spec.specs.Tables.{tables_after}
-use Rattle.vo_spec.specs.Honest.{honest_record, sealed}
+use Rattle.vo_spec.specs.Honest.{honest_record, seal_batches}
 use Rattle.vo_spec.specs.Journals.{Holds, journal_bytes, tables_at}
 use Rattle.vo_spec.specs.Replies.{Reply, IsReply, reply_bytes, max_reply}
 use Rattle.vo_spec.specs.Secret.{Secret, public_of_secret}
@@ -72,26 +72,26 @@ checked secret batches least q r all numbers honest recent =
     (answer_is secret batches least q r all numbers honest recent) honest.1
 
 right : (secret : Secret) (batches later : List (List Command)) (q : Query)
-    → (plain_answer batches q).outcome ≡ result q (tables_at (length batches) (sealed secret (batches ++ later)))
+    → (plain_answer batches q).outcome ≡ result q (tables_at (length batches) (seal_batches secret (batches ++ later)))
 right secret batches later q = ap (λ (tables : List Table). result q tables) (sym (tables_are secret batches later))
 
 held : (secret : Secret) (batches later : List (List Command)) (q : Query) (r : Reply) → AreSealable secret (batches ++ later)
-    → IsHonestReply secret batches q r → Holds (sealed secret (batches ++ later)) r.rec
+    → IsHonestReply secret batches q r → Holds (seal_batches secret (batches ++ later)) r.rec
 held secret batches later q r all honest =
     holds secret batches later q r (reply_after secret batches q r (sealable_first secret batches later all) honest.0) all
 
 pub only_exact : (secret : Secret) (batches later : List (List Command)) (q : Query) (r : Reply) (verdict : Verdict) → AreSealable secret (batches ++ later)
-    → IsHonestReply secret batches q r → IsVerdict (sealed secret (batches ++ later)) q r (plain_answer batches q) verdict → verdict ≡ Exact (length batches)
+    → IsHonestReply secret batches q r → IsVerdict (seal_batches secret (batches ++ later)) q r (plain_answer batches q) verdict → verdict ≡ Exact (length batches)
 only_exact secret batches later q r verdict all honest v =
-    verdict_is (sealed secret (batches ++ later)) q r (plain_answer batches q) verdict (held secret batches later q r all honest) (right secret batches later q) v
+    verdict_is (seal_batches secret (batches ++ later)) q r (plain_answer batches q) verdict (held secret batches later q r all honest) (right secret batches later q) v
 
 pub audited : (secret : Secret) (batches later : List (List Command)) (q : Query) (r : Reply) → AreSealable secret (batches ++ later) → FitsQuery q
     → IsHonestReply secret batches q r
-    → OwnedAuditOf (public_of_secret secret) (journal_bytes (sealed secret (batches ++ later))) q (reply_bytes r) (Ok (Exact (length batches)))
+    → OwnedAuditOf (public_of_secret secret) (journal_bytes (seal_batches secret (batches ++ later))) q (reply_bytes r) (Ok (Exact (length batches)))
 unfolding AuditOf IsOwned
 audited secret batches later q r all numbers honest =
     let first = sealable_first secret batches later all in
-    let es = sealed secret (batches ++ later) in
+    let es = seal_batches secret (batches ++ later) in
     let plain = plain_answer batches q in (
       es,
       owned secret (batches ++ later) all,

@@ -10,7 +10,7 @@ use Rattle.vo_spec.specs.Results.{result}
 use Rattle.vo_spec.specs.LmsSets.{leaves_of}
 use Rattle.vo_spec.specs.Secret.{Secret}
 use Rattle.vo_spec.specs.Replies.{Reply, reply_bytes, max_reply}
-use Rattle.vo_spec.specs.Honest.{reply_of, sealed}
+use Rattle.vo_spec.specs.Honest.{reply_of, seal_batches}
 use Rattle.vo_laws.specs.Sealing.{AreAcceptedAfter, SignsValidly}
 
 -- the key signs validly, and the batches fit their bytes, are accepted one after the other, and leave it a leaf for
@@ -23,7 +23,7 @@ pub record AreSealable (secret : Secret) (batches : List (List Command)) : Type 
 
 -- a store that has loaded the journal of these batches gives this reply, which isn't over the limit
 abbrev pub IsHonestReply : Secret → List (List Command) → Query → Reply → Type 0
-IsHonestReply secret batches q r = (reply_of q (sealed secret batches) ≡ Some r)
+IsHonestReply secret batches q r = (reply_of q (seal_batches secret batches) ≡ Some r)
     × (length (reply_bytes r) ≤ max_reply)
 
 -- the query's result on the plain tables after these batches, as the version that they make

@@ -8,7 +8,7 @@ ghost use Rattle.vo_spec.specs.declared.tables.Command.{Command};
 ghost use Rattle.vo_spec.specs.Audits.{IsVerdict};
 ghost use Rattle.vo_spec.specs.Checks.{CheckOf, answer_to};
 ghost use Rattle.vo_spec.specs.Conditions.{FitsQuery, Query};
-ghost use Rattle.vo_spec.specs.Honest.{reply_of, sealed};
+ghost use Rattle.vo_spec.specs.Honest.{reply_of, seal_batches};
 ghost use Rattle.vo_spec.specs.Journals.{journal_bytes};
 ghost use Rattle.vo_spec.specs.Replies.{IsReply, Reply, reply_bytes};
 ghost use Rattle.vo_spec.specs.Owners.{IsLoadable};
@@ -19,10 +19,10 @@ ghost use Rattle.round_trips.specs.Trips.{AreSealable, IsHonestReply, plain_answ
 /// What is sealed is a journal of the key's owner, and one that a store of the key takes.
 pub fn sealed_journals_are_loadable()
     ensures owned { (secret : Secret) (batches : List (List Command)) → AreSealable secret batches
-        → let es = sealed secret batches in IsOwned (public_of_secret secret)
+        → let es = seal_batches secret batches in IsOwned (public_of_secret secret)
         (journal_bytes es) es }
     ensures loaded { (secret : Secret) (batches : List (List Command)) → AreSealable secret batches
-        → let es = sealed secret batches in IsLoadable (public_of_secret secret)
+        → let es = seal_batches secret batches in IsLoadable (public_of_secret secret)
         (journal_bytes es) es }
 {}
 
@@ -31,7 +31,7 @@ pub fn sealed_journals_are_loadable()
 /// audit by this journal, or by that of more batches behind these, can only say that this is exact.
 pub fn sealed_batches_are_read_back()
     ensures replied { (secret : Secret) (batches : List (List Command)) (q : Query)
-        → IsSome (reply_of q (sealed secret batches)) }
+        → IsSome (reply_of q (seal_batches secret batches)) }
     ensures read { (secret : Secret) (batches : List (List Command)) (q : Query) (r : Reply)
         → AreSealable secret batches → IsHonestReply secret batches q r
         → IsReply (reply_bytes r) r }
@@ -46,12 +46,12 @@ pub fn sealed_batches_are_read_back()
     ensures exact { (secret : Secret) (batches later : List (List Command)) (q : Query) (r : Reply)
         (verdict : Verdict) → AreSealable secret (batches ++ later)
         → IsHonestReply secret batches q r
-        → IsVerdict (sealed secret (batches ++ later)) q r (plain_answer batches q) verdict
+        → IsVerdict (seal_batches secret (batches ++ later)) q r (plain_answer batches q) verdict
         → verdict ≡ Exact (length batches) }
     ensures audited { (secret : Secret) (batches later : List (List Command)) (q : Query)
         (r : Reply) → AreSealable secret (batches ++ later) → FitsQuery q
         → IsHonestReply secret batches q r
-        → let journal = journal_bytes (sealed secret (batches ++ later)) in
+        → let journal = journal_bytes (seal_batches secret (batches ++ later)) in
         OwnedAuditOf (public_of_secret secret) journal q (reply_bytes r)
         (Ok (Exact (length batches))) }
 {}

@@ -30,7 +30,7 @@ pub fn run_over_changes(
     for at in 0..bytes.len() {
         let file = NamedFile {
             name: String::from_str(alloc, name)?,
-            bytes: changed(alloc, bytes, change, at)?,
+            bytes: change_bytes(alloc, bytes, change, at)?,
         };
         let end = folder.run_with(alloc, words, file)?;
         answers.add(alloc, end_text(alloc, &end)?)?;
@@ -38,7 +38,7 @@ pub fn run_over_changes(
     Ok(answers.text(alloc)?)
 }
 
-fn changed(alloc: Global, bytes: &[u8], change: Change, at: usize) -> Result<Vec<u8>, AllocError> {
+fn change_bytes(alloc: Global, bytes: &[u8], change: Change, at: usize) -> Result<Vec<u8>, AllocError> {
     match change {
         Change::Cut => {
             let (front, _) = bytes.split_at(bytes.len().min(at));

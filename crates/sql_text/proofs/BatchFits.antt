@@ -16,11 +16,11 @@ use Rattle.vo_spec.specs.Values.{FitsValue}
 use Rattle.vo_spec.specs.Batches.{FitsCommand, FitsColumn, FitsSet, FitCounted}
 use Rattle.vo_spec.specs.Conditions.{Condition}
 use Rattle.sql_text.specs.Tokens.{sql, IsToken, Nested}
-use Rattle.sql_text.specs.Rules.{before, closed, listed}
+use Rattle.sql_text.specs.Rules.{before, followed_by, list_of}
 use Rattle.sql_text.specs.Queries.{name, literal, conditions_of}
 use Rattle.sql_text.specs.Commands.{column, key_clause, create, drop_table, insert, set_part, update, delete, command, batch, script}
 use Rattle.sql_text.specs.declared.faults.SqlFault.{SqlFault}
-use Rattle.sql_text.specs.Texts.{unplaced, IsTextOf, AnswersText}
+use Rattle.sql_text.specs.Texts.{without_places, IsTextOf, AnswersText}
 use Rattle.sql_text.specs.Scripts.{IsScript, AnswersScript}
 use Rattle.sql_text.specs.Fits.{FitCommands, AllFit}
 use Rattle.sql_text.proofs.Made.{Made, made, of_before, of_closed, of_parens, few_listed, few_ended, all_mapped}
@@ -69,7 +69,7 @@ insert_fits : (c : Command) → MadeOf insert c → FitsCommand c
 unfolding insert FitsCommand
 insert_fits c (x, m, e) =
     let rest = before_of k.Into _ x (before_of k.Insert _ x m) in
-    let values = of_parens IsSound (λ _. Unit {0}) (listed (Some 31) k.Comma literal) x.1 (before_of k.Values _ x.1 rest.1) in
+    let values = of_parens IsSound (λ _. Unit {0}) (list_of (Some 31) k.Comma literal) x.1 (before_of k.Values _ x.1 rest.1) in
     subst FitsCommand (sym e) (
       named_fits (λ _. Unit {0}) x.0 rest.0,
       counted_fits literal FitsValue (λ v h. literal_fits (λ _. Unit {0}) v h) x.1 (few_listed IsSound (λ _. Unit {0}) 31 k.Comma literal x.1 values),
@@ -79,7 +79,7 @@ update_fits : (c : Command) → MadeOf update c → FitsCommand c
 unfolding update FitsCommand
 update_fits c (x, m, e) =
     let rest = before_of k.Update _ x m in
-    let sets = before_of k.Set (listed (Some 31) k.Comma set_part) x.1.0 rest.1.0 in
+    let sets = before_of k.Set (list_of (Some 31) k.Comma set_part) x.1.0 rest.1.0 in
     let row = set_fits x.1.1 (before_of k.Where set_part x.1.1 rest.1.1) in
     subst FitsCommand (sym e) (
       named_fits (λ _. Unit {0}) x.0 rest.0,
@@ -120,7 +120,7 @@ with_sizes : (batches : List Batch) → AllByRecursion AreCommands batches → A
 with_sizes [] h k = tt
 with_sizes (b ∷ batches) h k = (with_size b h.0 k.0, with_sizes batches h.1 k.1)
 
-pub all_sound : (ps : List Placed) → AllByRecursion IsToken (unplaced ps) → AllByRecursion (λ t. IsUtf8 t.text) (unplaced ps) → AllByRecursion IsSound (unplaced ps)
+pub all_sound : (ps : List Placed) → AllByRecursion IsToken (without_places ps) → AllByRecursion (λ t. IsUtf8 t.text) (without_places ps) → AllByRecursion IsSound (without_places ps)
 all_sound [] h k = tt
 all_sound (p ∷ ps) h k = ((h.0, k.0), all_sound ps h.1 k.1)
 
@@ -132,7 +132,7 @@ no_nested levels n ts c s h = tt
 pub batch_fits : (text : List ℕ) (b : Batch) → AreUtf8 text → IsTextOf 65536 batch text b → FitCommands b.commands
 batch_fits text b utf8 (few, ps, scanned, s) =
     with_size b
-    (batch_made_fits b (made IsSound (λ _. Unit {0}) (NestsIn conditions_of true 32) (no_nested 32) batch (unplaced ps) b s (all_sound ps (tokens_real text ps scanned) (utf8 ps scanned))))
+    (batch_made_fits b (made IsSound (λ _. Unit {0}) (NestsIn conditions_of true 32) (no_nested 32) batch (without_places ps) b s (all_sound ps (tokens_real text ps scanned) (utf8 ps scanned))))
     (text_small text b (few, ps, scanned, s))
 
 pub answer_batch_fits : (text : List ℕ) (r : Result Batch SqlFault) → AnswersText (λ x. x) 65536 batch text r → AreUtf8 text → IfOk r (λ b. FitCommands b.commands)
@@ -143,13 +143,13 @@ each_made : (batches : List Batch) (ts : List Token) → Spells (NestsIn conditi
 unfolding script
 each_made batches ts s sound =
     let m = made IsSound (λ _. Unit {0}) (NestsIn conditions_of true 32) (no_nested 32) script ts batches s sound in
-    all_mapped (MadeOf (closed (closed batch k.Commit) k.Semicolon)) AreCommands batches
-    (λ b h. batch_made_fits b (of_closed IsSound (λ _. Unit {0}) batch k.Commit b (of_closed IsSound (λ _. Unit {0}) (closed batch k.Commit) k.Semicolon b h))) m.1
+    all_mapped (MadeOf (followed_by (followed_by batch k.Commit) k.Semicolon)) AreCommands batches
+    (λ b h. batch_made_fits b (of_closed IsSound (λ _. Unit {0}) batch k.Commit b (of_closed IsSound (λ _. Unit {0}) (followed_by batch k.Commit) k.Semicolon b h))) m.1
 
 -- each batch of a script
 pub script_fits : (text : List ℕ) (batches : List Batch) → AreUtf8 text → IsScript text batches → AllFit batches
 script_fits text batches utf8 (few, ps, scanned, s, short) =
-    with_sizes batches (each_made batches (unplaced ps) s (all_sound ps (tokens_real text ps scanned) (utf8 ps scanned))) (script_small text batches (few, ps, scanned, s, short))
+    with_sizes batches (each_made batches (without_places ps) s (all_sound ps (tokens_real text ps scanned) (utf8 ps scanned))) (script_small text batches (few, ps, scanned, s, short))
 
 pub answer_script_fits : {B : Type 0} (view : B → List Batch) (text : List ℕ) (r : Result B SqlFault) → AnswersScript view text r → AreUtf8 text → IfOk r (λ b. AllFit (view b))
 answer_script_fits view text (Ok b) h utf8 = script_fits text (view b) utf8 h

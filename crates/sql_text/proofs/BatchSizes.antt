@@ -9,14 +9,14 @@ use Rattle.grammar.specs.Rule.{token}
 use Rattle.grammar.specs.Text.{Nests, Spells}
 use Rattle.sql_tokens.specs.declared.kinds.TokenKind.{TokenKind}
 use Rattle.sql_tokens.specs.declared.kinds.TokenKind.TheVariants as k
-use Rattle.sql_tokens.specs.Lex.{Token, single_quotes, unquoted}
+use Rattle.sql_tokens.specs.Lex.{Token, single_quotes, quoted_value}
 use Rattle.vo_spec.specs.declared.values.Value.TheVariants as value
 use Rattle.vo_spec.specs.declared.tables.Batch.{Batch}
 use Rattle.vo_spec.specs.Bytes.{u16_bytes, u64_bytes, short_string}
 use Rattle.vo_spec.specs.Values.{type_byte, value_bytes}
-use Rattle.vo_spec.specs.Batches.{counted, column_bytes, set_bytes, command_bytes, batch_bytes}
+use Rattle.vo_spec.specs.Batches.{list_bytes, column_bytes, set_bytes, command_bytes, batch_bytes}
 use Rattle.sql_text.specs.Tokens.{sql, IsToken}
-use Rattle.sql_text.specs.Rules.{before, closed, in_parens, optional, listed, ended}
+use Rattle.sql_text.specs.Rules.{before, followed_by, in_parens, optional, list_of, list_to_end}
 use Rattle.sql_text.specs.Queries.{name, literal}
 use Rattle.sql_text.specs.Commands.{column_kind, column, key_clause, create, drop_table, insert, set_part, update, delete, command, batch}
 use Rattle.sql_text.proofs.Weights.{weigh, some_byte, total, avoids, Light, light_less, light_zero, light_token, light_both, light_either, light_means, light_before, light_parens, light_listed, light_ended}
@@ -42,7 +42,7 @@ fewer s (b ∷ bytes) = by_quote (λ s2. fewer s2 bytes) (s && b == 39)
     by_quote again true = omega (arith, again false)
     by_quote again false = omega (arith, again (b == 39))
 
-unquoted_size : (text : List ℕ) → length (unquoted text) ≤ length text
+unquoted_size : (text : List ℕ) → length (quoted_value text) ≤ length text
 unquoted_size text =
     omega (arith, fewer false (take (length text - 2) (drop 1 text)), length-take (length text - 2) (drop 1 text), length-drop 1 text)
 
@@ -54,9 +54,9 @@ module _ (N : Nests sql) where
   number_size : (t : Token) → IsToken t → length (value_bytes (value.Int t.number)) ≤ 9 * length t.text
   number_size t real = omega (arith, some_byte t.text t real, u64_size (cast_unsigned w64 t.number))
 
-  quoted_size : (t : Token) → IsToken t → length (value_bytes (value.Text (unquoted t.text))) ≤ 9 * length t.text
+  quoted_size : (t : Token) → IsToken t → length (value_bytes (value.Text (quoted_value t.text))) ≤ 9 * length t.text
   quoted_size t real =
-      omega (arith, some_byte t.text t real, unquoted_size t.text, length-append (u16_bytes (length (unquoted t.text))) (unquoted t.text), u16_size (length (unquoted t.text)))
+      omega (arith, some_byte t.text t real, unquoted_size t.text, length-append (u16_bytes (length (quoted_value t.text))) (quoted_value t.text), u16_size (length (quoted_value t.text)))
 
   worth : Light N literal (λ v. length (value_bytes v))
   unfolding literal
@@ -93,8 +93,8 @@ module _ (N : Nests sql) where
       (light_both N (light_ended N (Some 31) k.Comma column_light) (light_before N k.Primary (light_before N k.Key (light_parens N named))))))))
       (λ x. omega (
         arith,
-        length-append (short_string x.0 ++ counted column_bytes x.1.0) (short_string x.1.1),
-        length-append (short_string x.0) (counted column_bytes x.1.0),
+        length-append (short_string x.0 ++ list_bytes column_bytes x.1.0) (short_string x.1.1),
+        length-append (short_string x.0) (list_bytes column_bytes x.1.0),
         sizes column_bytes x.1.0,
       )))
 
@@ -107,7 +107,7 @@ module _ (N : Nests sql) where
   insert_light =
       light_means N (light_less N
       (light_before N k.Insert (light_before N k.Into (light_both N named (light_before N k.Values (light_parens N (light_listed N (Some 31) k.Comma worth))))))
-      (λ x. omega (arith, length-append (short_string x.0) (counted value_bytes x.1), sizes value_bytes x.1)))
+      (λ x. omega (arith, length-append (short_string x.0) (list_bytes value_bytes x.1), sizes value_bytes x.1)))
 
   update_light : Light N update (λ c. length (command_bytes c))
   unfolding update command_bytes
@@ -116,9 +116,9 @@ module _ (N : Nests sql) where
       (light_before N k.Update (light_both N named (light_both N (light_before N k.Set (light_listed N (Some 31) k.Comma set_light)) (light_before N k.Where set_light))))
       (λ x. omega (
         arith,
-        length-append (short_string x.0 ++ counted set_bytes x.1.0 ++ short_string x.1.1.column) (value_bytes x.1.1.value),
-        length-append (short_string x.0 ++ counted set_bytes x.1.0) (short_string x.1.1.column),
-        length-append (short_string x.0) (counted set_bytes x.1.0),
+        length-append (short_string x.0 ++ list_bytes set_bytes x.1.0 ++ short_string x.1.1.column) (value_bytes x.1.1.value),
+        length-append (short_string x.0 ++ list_bytes set_bytes x.1.0) (short_string x.1.1.column),
+        length-append (short_string x.0) (list_bytes set_bytes x.1.0),
         length-append (short_string x.1.1.column) (value_bytes x.1.1.value),
         sizes set_bytes x.1.0,
       )))
@@ -152,5 +152,5 @@ module _ (N : Nests sql) where
       omega (arith, commands, few, length-append (u16_bytes (length b.commands)) (flat_map command_bytes b.commands), u16_size (length b.commands), sizes command_bytes b.commands)
 
 pub batch_avoids : avoids batch ≡ true
-unfolding batch command create key_clause drop_table insert update delete set_part column column_kind name literal ended listed in_parens closed before optional
+unfolding batch command create key_clause drop_table insert update delete set_part column column_kind name literal list_to_end list_of in_parens followed_by before optional
 batch_avoids = refl

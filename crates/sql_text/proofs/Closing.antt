@@ -1,7 +1,7 @@
 -- The token that closes what was read.
 use Rattle.std.proofs.Common.{◌≡◌, List, [], ◌∷◌, Bool, true, false, Ok, Err, ap}
 use Rattle.std.specs.Prelude.{if◌then◌else◌}
-use Rattle.grammar.specs.Reading.{Found, taken}
+use Rattle.grammar.specs.Reading.{Found, take_token}
 use Rattle.grammar.specs.declared.ParseFault.TheVariants.{Syntax}
 use Rattle.sql_tokens.specs.declared.kinds.TokenKind.{TokenKind}
 use Rattle.sql_tokens.specs.Kinds.{same_kind}
@@ -17,7 +17,7 @@ is_found (Ok t, left) = true
 is_found (Err s, left) = false
 
 -- what is taken is the next token
-pub taken_first : (kind : TokenKind) (left rest : List Token) (t : Token) → taken sql kind left ≡ (Ok t, rest) → taken sql kind left ≡ (Ok (first_of left), rest)
+pub taken_first : (kind : TokenKind) (left rest : List Token) (t : Token) → take_token sql kind left ≡ (Ok t, rest) → take_token sql kind left ≡ (Ok (first_of left), rest)
 taken_first kind [] rest t e = let f : false ≡ true = ap is_found e in absurd (cc)
 taken_first kind (u ∷ left) rest t e = by_kind (same_kind u.kind kind) e
   where

@@ -1,6 +1,6 @@
 -- Reading a condition's parts, in the words of what each step found.
 use Rattle.std.proofs.Common.{◌≡◌, ℕ, ◌+◌, Bool, true, false, List, [], ◌∷◌, None, Result, Ok, Err, refl, sym, ap, ◌∙◌, subst, add-one}
-use Rattle.grammar.specs.Reading.{Found, begins, taken, and_then, read, reader}
+use Rattle.grammar.specs.Reading.{Found, begins, take_token, and_then, read, reader}
 use Rattle.grammar.specs.declared.ParseFault.{ParseFault}
 use Rattle.grammar.specs.declared.ParseFault.TheVariants.{Nesting}
 use Rattle.sql_tokens.specs.declared.kinds.TokenKind.{TokenKind}
@@ -18,7 +18,7 @@ use Rattle.sql_text.specs.declared.parse_error.ParseError.{ParseError}
 use Rattle.sql_text.specs.declared.parse_error.ParseError.TheVariants.{Memory, Fault}
 use Rattle.sql_text.specs.Parsing.{first_of, ReadsAndLeaves}
 use Rattle.sql_text.specs.Tokens.{sql, Nested, whole, primary}
-use Rattle.sql_text.specs.Rules.{closed, listed}
+use Rattle.sql_text.specs.Rules.{followed_by, list_of}
 use Rattle.sql_text.specs.Queries.{comparison, prim, conj, disj, all_of, any_of, conditions_of}
 
 or_false : (a : Bool) → (a || false) ≡ true → a ≡ true
@@ -27,7 +27,7 @@ or_false false e = e
 
 -- with no level left, the token that opens one is the fault
 too_deep : (kind : TokenKind) (n : Nested) (left : List Token) → begins sql (kind ∷ []) left ≡ true
-    → and_then (taken sql kind left) (reader conditions_of 0 n) ≡ (Err Nesting, left)
+    → and_then (take_token sql kind left) (reader conditions_of 0 n) ≡ (Err Nesting, left)
 too_deep kind n [] e = absurd (cc)
 too_deep kind n (t ∷ ts) e =
     let same : kind ≡ t.kind = same_kind_true kind t.kind (or_false (same_kind kind t.kind) e) in
@@ -35,9 +35,9 @@ too_deep kind n (t ∷ ts) e =
     rw f refl
 
 -- a level deeper, the rule of what stands there is read
-opened : (kind : TokenKind) (n : Nested) (left : List Token) (levels m : ℕ) (t : Token) (mid : List Token) → m + 1 ≡ levels → taken sql kind left ≡ (Ok t, mid)
-    → and_then (taken sql kind left) (reader conditions_of levels n) ≡ read (reader conditions_of m) (conditions_of.rule n) mid
-opened kind n left levels m t mid e f = subst (λ z. and_then (taken sql kind left) (reader conditions_of z n) ≡ read (reader conditions_of m) (conditions_of.rule n) mid) (sym (add-one m) ∙ e) (rw f refl)
+opened : (kind : TokenKind) (n : Nested) (left : List Token) (levels m : ℕ) (t : Token) (mid : List Token) → m + 1 ≡ levels → take_token sql kind left ≡ (Ok t, mid)
+    → and_then (take_token sql kind left) (reader conditions_of levels n) ≡ read (reader conditions_of m) (conditions_of.rule n) mid
+opened kind n left levels m t mid e f = subst (λ z. and_then (take_token sql kind left) (reader conditions_of z n) ≡ read (reader conditions_of m) (conditions_of.rule n) mid) (sym (add-one m) ∙ e) (rw f refl)
 
 -- a fault that comes of another, or the end of memory
 pub passed_on : {A B C D : Type 0} (view : B → A) (other : D → C) (found : Found Token A) (next : Found Token C) (halt : ParseError) (left : List Token)
@@ -52,63 +52,63 @@ module _ (levels : ℕ) (left : List Token) where
 
   module _ (m : ℕ) (t : Token) (mid : List Token) (fewer : m + 1 ≡ levels) where
     pub not_done : (v : Condition) (rest : List Token) → begins sql (k.Not ∷ []) left ≡ true
-        → taken sql k.Not left ≡ (Ok t, mid) → read (reader conditions_of m) prim mid ≡ (Ok v, rest) → read (reader conditions_of levels) prim left ≡ (Ok (negated v), rest)
+        → take_token sql k.Not left ≡ (Ok t, mid) → read (reader conditions_of m) prim mid ≡ (Ok v, rest) → read (reader conditions_of levels) prim left ≡ (Ok (negated v), rest)
     unfolding prim conditions_of
     not_done v rest b f h = rw (b, opened k.Not primary left levels m t mid fewer f, h) refl
 
     not_fault : (s : ParseFault) (rest : List Token) → begins sql (k.Not ∷ []) left ≡ true
-        → taken sql k.Not left ≡ (Ok t, mid) → read (reader conditions_of m) prim mid ≡ (Err s, rest) → read (reader conditions_of levels) prim left ≡ (Err s, rest)
+        → take_token sql k.Not left ≡ (Ok t, mid) → read (reader conditions_of m) prim mid ≡ (Err s, rest) → read (reader conditions_of levels) prim left ≡ (Err s, rest)
     unfolding prim conditions_of
     not_fault s rest b f h = rw (b, opened k.Not primary left levels m t mid fewer f, h) refl
 
-    pub not_fails : (halt : ParseError) (rest : List Token) → begins sql (k.Not ∷ []) left ≡ true → taken sql k.Not left ≡ (Ok t, mid)
+    pub not_fails : (halt : ParseError) (rest : List Token) → begins sql (k.Not ∷ []) left ≡ true → take_token sql k.Not left ≡ (Ok t, mid)
         → ReadsAndLeaves {B = Cond} condition_of (read (reader conditions_of m) prim mid) (Err halt) rest → ReadsAndLeaves {B = Cond} condition_of (read (reader conditions_of levels) prim left) (Err halt) rest
     not_fails halt rest b f h = passed_on condition_of condition_of (read (reader conditions_of m) prim mid) _ halt rest (λ s e. not_fault s rest b f e) h
 
     paren_done : (v : Condition) (rest : List Token) (u : Token) (end : List Token) → begins sql (k.Not ∷ []) left ≡ false → begins sql (k.LeftParen ∷ []) left ≡ true
-        → taken sql k.LeftParen left ≡ (Ok t, mid) → read (reader conditions_of m) disj mid ≡ (Ok v, rest) → taken sql k.RightParen rest ≡ (Ok u, end)
+        → take_token sql k.LeftParen left ≡ (Ok t, mid) → read (reader conditions_of m) disj mid ≡ (Ok v, rest) → take_token sql k.RightParen rest ≡ (Ok u, end)
         → read (reader conditions_of levels) prim left ≡ (Ok v, end)
-    unfolding prim conditions_of closed
+    unfolding prim conditions_of followed_by
     paren_done v rest u end a b f h i = rw (a, b, opened k.LeftParen whole left levels m t mid fewer f, h, i) refl
 
     paren_left_open : (v : Condition) (rest : List Token) (s : ParseFault) (end : List Token) → begins sql (k.Not ∷ []) left ≡ false → begins sql (k.LeftParen ∷ []) left ≡ true
-        → taken sql k.LeftParen left ≡ (Ok t, mid) → read (reader conditions_of m) disj mid ≡ (Ok v, rest) → taken sql k.RightParen rest ≡ (Err s, end)
+        → take_token sql k.LeftParen left ≡ (Ok t, mid) → read (reader conditions_of m) disj mid ≡ (Ok v, rest) → take_token sql k.RightParen rest ≡ (Err s, end)
         → read (reader conditions_of levels) prim left ≡ (Err s, end)
-    unfolding prim conditions_of closed
+    unfolding prim conditions_of followed_by
     paren_left_open v rest s end a b f h i = rw (a, b, opened k.LeftParen whole left levels m t mid fewer f, h, i) refl
 
     pub paren_closed : (inner : Cond) (rest : List Token) (found : Result Cond ParseError) (end : List Token) → begins sql (k.Not ∷ []) left ≡ false → begins sql (k.LeftParen ∷ []) left ≡ true
-        → taken sql k.LeftParen left ≡ (Ok t, mid) → read (reader conditions_of m) disj mid ≡ (Ok (condition_of inner), rest)
-        → ReadsAndLeaves {B = Cond} (λ x. first_of rest) (taken sql k.RightParen rest) found end → IfOk found (λ x. x ≡ inner)
+        → take_token sql k.LeftParen left ≡ (Ok t, mid) → read (reader conditions_of m) disj mid ≡ (Ok (condition_of inner), rest)
+        → ReadsAndLeaves {B = Cond} (λ x. first_of rest) (take_token sql k.RightParen rest) found end → IfOk found (λ x. x ≡ inner)
         → ReadsAndLeaves {B = Cond} condition_of (read (reader conditions_of levels) prim left) found end
     paren_closed inner rest (Ok x) end a b f h i same = paren_done (condition_of inner) rest (first_of rest) end a b f h i ∙ ap (λ z. (Ok (condition_of z), end)) (sym same)
     paren_closed inner rest (Err Memory) end a b f h i same = tt
     paren_closed inner rest (Err (Fault s)) end a b f h i same = paren_left_open (condition_of inner) rest s end a b f h i
 
     paren_fault : (s : ParseFault) (rest : List Token) → begins sql (k.Not ∷ []) left ≡ false → begins sql (k.LeftParen ∷ []) left ≡ true
-        → taken sql k.LeftParen left ≡ (Ok t, mid) → read (reader conditions_of m) disj mid ≡ (Err s, rest) → read (reader conditions_of levels) prim left ≡ (Err s, rest)
-    unfolding prim conditions_of closed
+        → take_token sql k.LeftParen left ≡ (Ok t, mid) → read (reader conditions_of m) disj mid ≡ (Err s, rest) → read (reader conditions_of levels) prim left ≡ (Err s, rest)
+    unfolding prim conditions_of followed_by
     paren_fault s rest a b f h = rw (a, b, opened k.LeftParen whole left levels m t mid fewer f, h) refl
 
-    pub paren_fails : (halt : ParseError) (rest : List Token) → begins sql (k.Not ∷ []) left ≡ false → begins sql (k.LeftParen ∷ []) left ≡ true → taken sql k.LeftParen left ≡ (Ok t, mid)
+    pub paren_fails : (halt : ParseError) (rest : List Token) → begins sql (k.Not ∷ []) left ≡ false → begins sql (k.LeftParen ∷ []) left ≡ true → take_token sql k.LeftParen left ≡ (Ok t, mid)
         → ReadsAndLeaves {B = Cond} condition_of (read (reader conditions_of m) disj mid) (Err halt) rest → ReadsAndLeaves {B = Cond} condition_of (read (reader conditions_of levels) prim left) (Err halt) rest
     paren_fails halt rest a b f h = passed_on condition_of condition_of (read (reader conditions_of m) disj mid) _ halt rest (λ s e. paren_fault s rest a b f e) h
 
   pub paren_deep : begins sql (k.Not ∷ []) left ≡ false → begins sql (k.LeftParen ∷ []) left ≡ true → levels ≡ 0 → read (reader conditions_of levels) prim left ≡ (Err Nesting, left)
-  unfolding prim closed
+  unfolding prim followed_by
   paren_deep a b f = subst (λ z. read (reader conditions_of z) prim left ≡ (Err Nesting, left)) (sym f) (rw (a, b, too_deep k.LeftParen whole left b) refl)
 
   pub test_is : begins sql (k.Not ∷ []) left ≡ false → begins sql (k.LeftParen ∷ []) left ≡ false → read (reader conditions_of levels) prim left ≡ read (reader conditions_of levels) comparison left
-  unfolding prim closed
+  unfolding prim followed_by
   test_is a b = rw (a, b) refl
 
 pub ruleset prims = (not_deep, not_done, not_fails, paren_closed, paren_fails, paren_deep, test_is)
 
-pub conj_is : (levels : ℕ) (left : List Token) → read (reader conditions_of levels) conj left ≡ and_then (read (reader conditions_of levels) (listed None k.And prim) left) (λ vs end. (Ok (all_of vs), end))
+pub conj_is : (levels : ℕ) (left : List Token) → read (reader conditions_of levels) conj left ≡ and_then (read (reader conditions_of levels) (list_of None k.And prim) left) (λ vs end. (Ok (all_of vs), end))
 unfolding conj
 conj_is levels left = refl
 
-pub disj_is : (levels : ℕ) (left : List Token) → read (reader conditions_of levels) disj left ≡ and_then (read (reader conditions_of levels) (listed None k.Or conj) left) (λ vs end. (Ok (any_of vs), end))
+pub disj_is : (levels : ℕ) (left : List Token) → read (reader conditions_of levels) disj left ≡ and_then (read (reader conditions_of levels) (list_of None k.Or conj) left) (λ vs end. (Ok (any_of vs), end))
 unfolding disj
 disj_is levels left = refl
 

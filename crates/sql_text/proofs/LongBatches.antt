@@ -27,9 +27,9 @@ use Rattle.sql_text.specs.Faults.{of_tokens}
 use Rattle.sql_text.specs.Tokens.{sql, IsToken}
 use Rattle.sql_text.specs.Parsing.{ReadsAndLeaves, Reads, left_of}
 use Rattle.sql_text.specs.Queries.{conditions_of}
-use Rattle.sql_text.specs.Rules.{closed}
+use Rattle.sql_text.specs.Rules.{followed_by}
 use Rattle.sql_text.specs.Commands.{batch, script}
-use Rattle.sql_text.specs.Texts.{unplaced, place_of, Breaks, AnswersText, Accepts, ended}
+use Rattle.sql_text.specs.Texts.{without_places, place_of, Breaks, AnswersText, Accepts, expect_end}
 use Rattle.sql_text.specs.Scripts.{closes, commits, has_long, AreShort, IsScript, BreaksScript, HasLongBatch, HasScriptFault, AnswersScript, short_len, ended_script}
 use Rattle.sql_text.proofs.Rounds.{with_front, front_none}
 use Rattle.sql_text.proofs.Repeats.{many_of}
@@ -38,10 +38,10 @@ use Rattle.sql_text.proofs.Answered.{answers, accepts, same_ok, unplaced_is, dro
 
 -- the loop over batches, at its begin
 pub script_is : (levels : ℕ) (left : List Token) (none : List Batch) → none ≡ []
-    → read (reader conditions_of levels) script left ≡ with_front (map (λ x. x) none) (many_of None (closed (closed batch k.Commit) k.Semicolon) levels left)
+    → read (reader conditions_of levels) script left ≡ with_front (map (λ x. x) none) (many_of None (followed_by (followed_by batch k.Commit) k.Semicolon) levels left)
 unfolding script many_of
 script_is levels left none e =
-    sym (front_none _) ∙ ap (λ z. with_front (map (λ x. x) z) (read (reader conditions_of levels) (many None (closed (closed batch k.Commit) k.Semicolon)) left)) (sym e)
+    sym (front_none _) ∙ ap (λ z. with_front (map (λ x. x) z) (read (reader conditions_of levels) (many None (followed_by (followed_by batch k.Commit) k.Semicolon)) left)) (sym e)
 
 -- The tokens before the first `;` of a batch that is too long.
 
@@ -137,7 +137,7 @@ take_whole : {X : Type 0} (xs : List X) → take (length xs) xs ≡ xs
 take_whole [] = refl
 take_whole (x ∷ xs) = ap (λ z. x ∷ z) (take_whole xs)
 
-all_take : (m : ℕ) (ps : List Placed) → AllByRecursion IsToken (unplaced ps) → AllByRecursion IsToken (unplaced (take m ps))
+all_take : (m : ℕ) (ps : List Placed) → AllByRecursion IsToken (without_places ps) → AllByRecursion IsToken (without_places (take m ps))
 all_take zero ps h = tt
 all_take (suc m) [] h = tt
 all_take (suc m) (p ∷ ps) h = (h.0, all_take m ps h.1)
@@ -158,7 +158,7 @@ is_none [] = true
 is_none (_ ∷ _) = false
 
 module _ {B : Type 0} (view : B → List Batch) (text : List ℕ) (ps : List Placed) (n : ℕ)
-    (fits : length text ≤ 16777216) (scanned : tokens_of text ≡ Ok ps) (real : AllByRecursion IsToken (unplaced ps)) where
+    (fits : length text ≤ 16777216) (scanned : tokens_of text ≡ Ok ps) (real : AllByRecursion IsToken (without_places ps)) where
   abbrev cut : List Placed
   cut = take (short_len 0 false ps) ps
 
@@ -171,10 +171,10 @@ module _ {B : Type 0} (view : B → List Batch) (text : List ℕ) (ps : List Pla
   cut_short : AreShort cut
   cut_short = subst (λ z. has_long 0 false z ≡ false) (take_whole cut) (prefix_short 0 false (length cut) ps)
 
-  judged_cut : (r : Found Token (List Batch)) → read (reader conditions_of 32) script (unplaced cut) ≡ r → Judges conditions_of 32 script (unplaced cut) (at_end r).0 (at_end r).1
+  judged_cut : (r : Found Token (List Batch)) → read (reader conditions_of 32) script (without_places cut) ≡ r → Judges conditions_of 32 script (without_places cut) (at_end r).0 (at_end r).1
   judged_cut r e =
-      subst (λ z. Judges conditions_of 32 script (unplaced cut) (at_end z).0 (at_end z).1) e
-      (judged sql is_sql conditions_of script script_good 32 (unplaced cut) (all_take (short_len 0 false ps) ps real))
+      subst (λ z. Judges conditions_of 32 script (without_places cut) (at_end z).0 (at_end z).1) e
+      (judged sql is_sql conditions_of script script_good 32 (without_places cut) (all_take (short_len 0 false ps) ps real))
 
   -- no batch is too long
 
@@ -213,14 +213,14 @@ module _ {B : Type 0} (view : B → List Batch) (text : List ℕ) (ps : List Pla
     taken_short =
         subst AreShort (sym (take-append-le n cut behind inside) ∙ ap (take n) cut_and) (prefix_short 0 false n ps)
 
-    split_all : (front : List Token) → unplaced cut ≡ front ++ unplaced (p ∷ left) → unplaced ps ≡ front ++ unplaced (drop n ps)
+    split_all : (front : List Token) → without_places cut ≡ front ++ without_places (p ∷ left) → without_places ps ≡ front ++ without_places (drop n ps)
     split_all front e =
-        ap unplaced (sym cut_and) ∙ map-append (λ (q : Placed). q.token) cut behind
-        ∙ ap (λ z. z ++ unplaced behind) e ∙ append_assoc front (unplaced (p ∷ left)) (unplaced behind)
+        ap without_places (sym cut_and) ∙ map-append (λ (q : Placed). q.token) cut behind
+        ∙ ap (λ z. z ++ without_places behind) e ∙ append_assoc front (without_places (p ∷ left)) (without_places behind)
         ∙ ap (λ z. front ++ z) (sym (map-append (λ (q : Placed). q.token) (p ∷ left) behind))
-        ∙ ap (λ z. front ++ unplaced z) (sym here_all)
+        ∙ ap (λ z. front ++ without_places z) (sym here_all)
 
-    cut_fault : (s : ParseFault) → FaultsAt conditions_of 32 script (unplaced cut) s (unplaced (p ∷ left)) → BreaksScript text s p.at
+    cut_fault : (s : ParseFault) → FaultsAt conditions_of 32 script (without_places cut) s (without_places (p ∷ left)) → BreaksScript text s p.at
     cut_fault s (front, e, begins, stops) = (
       ps,
       scanned,
@@ -230,25 +230,25 @@ module _ {B : Type 0} (view : B → List Batch) (text : List ℕ) (ps : List Pla
         front,
         split_all front e,
         begins,
-        subst (λ z. StopsAt conditions_of 32 script front s (unplaced z)) (sym here_all) (moved s front p.token (unplaced left) (unplaced (left ++ behind)) stops),
+        subst (λ z. StopsAt conditions_of 32 script front s (without_places z)) (sym here_all) (moved s front p.token (without_places left) (without_places (left ++ behind)) stops),
       ),
       taken_short,
     )
 
   -- the first batch that is too long
 
-  begins_found : (r : Result (List Batch) ParseFault) → read (reader conditions_of 32) script (unplaced cut) ≡ (r, []) → Begins conditions_of true 32 script (unplaced cut)
-  begins_found (Ok v) e = ([], v, subst (λ z. IsText conditions_of true 32 script z v) (sym (append-nil (unplaced cut))) (judged_cut (Ok v, []) e))
+  begins_found : (r : Result (List Batch) ParseFault) → read (reader conditions_of 32) script (without_places cut) ≡ (r, []) → Begins conditions_of true 32 script (without_places cut)
+  begins_found (Ok v) e = ([], v, subst (λ z. IsText conditions_of true 32 script z v) (sym (append-nil (without_places cut))) (judged_cut (Ok v, []) e))
   begins_found (Err s) e = of_fault (judged_cut (Err s, []) e)
     where
-      of_fault : FaultsAt conditions_of 32 script (unplaced cut) s [] → Begins conditions_of true 32 script (unplaced cut)
+      of_fault : FaultsAt conditions_of 32 script (without_places cut) s [] → Begins conditions_of true 32 script (without_places cut)
       of_fault (front, f, begins, stops) = subst (Begins conditions_of true 32 script) (sym (f ∙ append-nil front)) begins
 
-  long_fault : (q : Placed) (rest : List Placed) → behind ≡ q ∷ rest → Begins conditions_of true 32 script (unplaced cut) → HasLongBatch text
+  long_fault : (q : Placed) (rest : List Placed) → behind ≡ q ∷ rest → Begins conditions_of true 32 script (without_places cut) → HasLongBatch text
   long_fault q rest e begins = (ps, scanned, cut, rest, q, sym cut_and ∙ ap (λ z. cut ++ z) e, begins, cut_short, next_long 0 false ps q rest e)
 
   cut_answers : (q : Placed) (rest : List Placed) → behind ≡ q ∷ rest → (found : Result B ParseError) (left : List Placed) → drop n cut ≡ left
-      → ReadsAndLeaves view (read (reader conditions_of 32) script (unplaced cut)) found (unplaced left) → AnswersScript view text (ended_script false found left (length text))
+      → ReadsAndLeaves view (read (reader conditions_of 32) script (without_places cut)) found (without_places left) → AnswersScript view text (ended_script false found left (length text))
   cut_answers q rest e (Err Memory) left h f = tt
   cut_answers q rest e (Ok x) [] h f = inr (fits, long_fault q rest e (begins_found (Ok (view x)) f))
   cut_answers q rest e (Ok x) (p ∷ left) h f = (fits, cut_fault p left h stop.Syntax (judged_cut _ f))
@@ -259,22 +259,22 @@ module _ {B : Type 0} (view : B → List Batch) (text : List ℕ) (ps : List Pla
 
   -- all together
 
-  ended_whole : (found : Result B ParseError) (left : List Placed) (end : ℕ) → ended_script true found left end ≡ ended found left end
+  ended_whole : (found : Result B ParseError) (left : List Placed) (end : ℕ) → ended_script true found left end ≡ expect_end found left end
   ended_whole (Ok x) left end = refl
   ended_whole (Err Memory) left end = refl
   ended_whole (Err (Fault s)) left end = refl
 
   pub script_answers : (found : Result B ParseError) (left : List Placed) (tail : List Placed) → behind ≡ tail → drop n cut ≡ left
-      → ReadsAndLeaves view (read (reader conditions_of 32) script (unplaced cut)) found (unplaced left)
+      → ReadsAndLeaves view (read (reader conditions_of 32) script (without_places cut)) found (without_places left)
       → AnswersScript view text (ended_script (is_none tail) found left (length text))
   script_answers found left [] e h f =
       subst (AnswersScript view text) (sym (ended_whole found left (length text)))
       (whole_answers e _ (answers view script script_good 16777216 text ps n fits scanned real found left
-      (subst (λ z. drop n z ≡ left) (same_cut e) h) (subst (λ z. ReadsAndLeaves view (read (reader conditions_of 32) script (unplaced z)) found (unplaced left)) (same_cut e) f)))
+      (subst (λ z. drop n z ≡ left) (same_cut e) h) (subst (λ z. ReadsAndLeaves view (read (reader conditions_of 32) script (without_places z)) found (without_places left)) (same_cut e) f)))
   script_answers found left (q ∷ rest) e h f = cut_answers q rest e found left h f
 
   pub script_accepts : (found : Result B ParseError) (left : List Placed) (tail : List Placed) → behind ≡ tail
-      → ReadsAndLeaves view (read (reader conditions_of 32) script (unplaced cut)) found (unplaced left)
+      → ReadsAndLeaves view (read (reader conditions_of 32) script (without_places cut)) found (without_places left)
       → (batches : List Batch) → IsScript text batches → Accepts view (ended_script (is_none tail) found left (length text)) batches
   script_accepts found left tail e f batches (g, others, h, t, short) =
       let same : others ≡ ps = same_ok others ps (tokens_of text) h scanned in
@@ -282,7 +282,7 @@ module _ {B : Type 0} (view : B → List Batch) (text : List ℕ) (ps : List Pla
       subst (λ z. Accepts view (ended_script (is_none z) found left (length text)) batches) (sym none ∙ e)
       (subst (λ z. Accepts view z batches) (sym (ended_whole found left (length text)))
       (accepts view script script_good 16777216 text ps n fits scanned real found left
-      (subst (λ z. ReadsAndLeaves view (read (reader conditions_of 32) script (unplaced z)) found (unplaced left)) (same_cut none) f) batches (g, others, h, t)))
+      (subst (λ z. ReadsAndLeaves view (read (reader conditions_of 32) script (without_places z)) found (without_places left)) (same_cut none) f) batches (g, others, h, t)))
 
 -- the steps of the loop that looks for the first batch that is too long
 
@@ -338,7 +338,7 @@ whole_script {B} view text bytes list short long left m is_whole old new found r
     fits_so : length text ≤ 16777216
     fits_so = subst (λ z. length z ≤ 16777216) same fits
 
-    real : AllByRecursion IsToken (unplaced ps)
+    real : AllByRecursion IsToken (without_places ps)
     real = tokens_real text ps scanned
 
     cut_is : map placed_of short ≡ cut_ps
@@ -347,18 +347,18 @@ whole_script {B} view text bytes list short long left m is_whole old new found r
     behind_is : drop (short_len 0 false ps) ps ≡ map placed_of long
     behind_is = sym (ap (map placed_of) is_long ∙ sym (drop_placed m list) ∙ ap (λ z. drop z ps) at_m)
 
-    at_start : left_of old ≡ unplaced cut_ps
-    at_start = ap (λ z. map token_of (drop z old.list.now)) at ∙ ap (map token_of) begins ∙ sym (unplaced_is short) ∙ ap unplaced cut_is
+    at_start : left_of old ≡ without_places cut_ps
+    at_start = ap (λ z. map token_of (drop z old.list.now)) at ∙ ap (map token_of) begins ∙ sym (unplaced_is short) ∙ ap without_places cut_is
 
     left_placed : map placed_of (drop new.place new.list.now) ≡ drop new.place cut_ps
     left_placed = ap (λ z. map placed_of (drop new.place z)) (stays ∙ begins) ∙ sym (drop_placed new.place short) ∙ ap (drop new.place) cut_is
 
-    at_stop : left_of new ≡ unplaced (drop new.place cut_ps)
-    at_stop = sym (unplaced_is (drop new.place new.list.now)) ∙ ap unplaced left_placed
+    at_stop : left_of new ≡ without_places (drop new.place cut_ps)
+    at_stop = sym (unplaced_is (drop new.place new.list.now)) ∙ ap without_places left_placed
 
-    finds : ReadsAndLeaves view (read (reader conditions_of 32) script (unplaced cut_ps)) found (unplaced (drop new.place cut_ps))
+    finds : ReadsAndLeaves view (read (reader conditions_of 32) script (without_places cut_ps)) found (without_places (drop new.place cut_ps))
     finds =
-        subst (λ z. ReadsAndLeaves view (read (reader conditions_of 32) script (unplaced cut_ps)) found z) at_stop
+        subst (λ z. ReadsAndLeaves view (read (reader conditions_of 32) script (without_places cut_ps)) found z) at_stop
         (subst (λ z. ReadsAndLeaves view (read (reader conditions_of 32) script z) found (left_of new)) at_start
         (subst (λ z. ReadsAndLeaves view (read (reader conditions_of z) script (left_of old)) found (left_of new)) levels reads))
 

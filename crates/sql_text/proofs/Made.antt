@@ -7,7 +7,7 @@ use Rattle.sql_tokens.specs.declared.kinds.TokenKind.{TokenKind}
 use Rattle.sql_tokens.specs.Lex.{Token}
 use Rattle.vo_spec.specs.Conditions.{Condition}
 use Rattle.sql_text.specs.Tokens.{sql, Nested}
-use Rattle.sql_text.specs.Rules.{before, closed, in_parens, listed, ended}
+use Rattle.sql_text.specs.Rules.{before, followed_by, in_parens, list_of, list_to_end}
 
 pub all_parts : {X : Type 0} (T : X → Type 0) (x y : List X) → AllByRecursion T (x ++ y) → AllByRecursion T x × AllByRecursion T y
 all_parts T [] y h = (tt, h)
@@ -59,30 +59,30 @@ module _ (T : Token → Type 0) (W : Condition → Type 0) where
   unfolding before
   of_before kind p v (x, (t, m), e) = subst (Made p) (sym e) m
 
-  pub of_closed : {A : Type 0} (p : Rule sql A) (kind : TokenKind) (v : A) → Made (closed p kind) v → Made p v
-  unfolding closed
+  pub of_closed : {A : Type 0} (p : Rule sql A) (kind : TokenKind) (v : A) → Made (followed_by p kind) v → Made p v
+  unfolding followed_by
   of_closed p kind v (x, (m, t), e) = subst (Made p) (sym e) m
 
   pub of_parens : {A : Type 0} (p : Rule sql A) (v : A) → Made (in_parens p) v → Made p v
-  unfolding in_parens before closed
+  unfolding in_parens before followed_by
   of_parens p v (x, (t, (y, (m, u), f)), e) = subst (Made p) (sym e) (subst (Made p) (sym f) m)
 
   -- at least one part, and at most so many more
   abbrev pub Parts : {A : Type 0} → ℕ → (A → Type 0) → List A → Type 0
   Parts most M vs = (1 ≤ length vs) × (length vs ≤ suc most) × AllByRecursion M vs
 
-  pub of_listed : {A : Type 0} (most : Option ℕ) (kind : TokenKind) (p : Rule sql A) (vs : List A) → Made (listed most kind p) vs → AllByRecursion (Made p) vs
-  unfolding listed
+  pub of_listed : {A : Type 0} (most : Option ℕ) (kind : TokenKind) (p : Rule sql A) (vs : List A) → Made (list_of most kind p) vs → AllByRecursion (Made p) vs
+  unfolding list_of
   of_listed most kind p vs (x, (m, (fit, others)), e) = subst (AllByRecursion (Made p)) (sym e) (m, all_mapped (Made (before kind p)) (Made p) x.1 (λ v h. of_before kind p v h) others)
 
-  pub few_listed : {A : Type 0} (most : ℕ) (kind : TokenKind) (p : Rule sql A) (vs : List A) → Made (listed (Some most) kind p) vs → Parts most (Made p) vs
-  unfolding listed
+  pub few_listed : {A : Type 0} (most : ℕ) (kind : TokenKind) (p : Rule sql A) (vs : List A) → Made (list_of (Some most) kind p) vs → Parts most (Made p) vs
+  unfolding list_of
   few_listed {A} most kind p vs (x, (m, (fit, others)), e) =
       subst (Parts most (Made p)) (sym e)
       (omega arith, omega (arith, fit), (m, all_mapped (Made (before kind p)) (Made p) x.1 (λ v h. of_before kind p v h) others))
 
-  pub few_ended : {A : Type 0} (most : ℕ) (p : Rule sql A) (kind : TokenKind) (vs : List A) → Made (ended (Some most) p kind) vs → Parts most (Made p) vs
-  unfolding ended
+  pub few_ended : {A : Type 0} (most : ℕ) (p : Rule sql A) (kind : TokenKind) (vs : List A) → Made (list_to_end (Some most) p kind) vs → Parts most (Made p) vs
+  unfolding list_to_end
   few_ended {A} most p kind vs (x, (m, (fit, others)), e) =
       subst (Parts most (Made p)) (sym e)
-      (omega arith, omega (arith, fit), (of_closed p kind x.0 m, all_mapped (Made (closed p kind)) (Made p) x.1 (λ v h. of_closed p kind v h) others))
+      (omega arith, omega (arith, fit), (of_closed p kind x.0 m, all_mapped (Made (followed_by p kind)) (Made p) x.1 (λ v h. of_closed p kind v h) others))

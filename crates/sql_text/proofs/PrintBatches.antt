@@ -22,7 +22,7 @@ use Rattle.sql_text.specs.Queries as query
 use Rattle.sql_text.specs.Queries.{conditions_of}
 use Rattle.sql_text.specs.Commands as command
 use Rattle.sql_text.specs.Texts.{IsTextOf}
-use Rattle.sql_text.specs.Printing.{word, name_token, literal_token, separated, terminated, parens, kind_word, column_tokens, set_tokens, key_tokens, columns_tokens, command_tokens, batch_tokens, query_tokens, spaced, written, query_text, batch_text}
+use Rattle.sql_text.specs.Printing.{word, name_token, literal_token, separate_by, terminate_by, parens, kind_word, column_tokens, set_tokens, key_tokens, columns_tokens, command_tokens, batch_tokens, query_tokens, spaces_between, text_of, query_text, batch_text}
 use Rattle.sql_text.specs.Spellable.{FreeName, SpellableColumn, SpellableSet, SpellableCommand, SpellableBatch, SpellableQuery}
 use Rattle.sql_text.proofs.Made.{all_both}
 use Rattle.sql_text.proofs.PrintTexts.{reads_back}
@@ -81,8 +81,8 @@ spell_create n name columns key h f g = (
         parens (columns_tokens columns key),
         refl,
         spell_name n name h,
-        spell_parens n (both (rule.ended (Some 31) command.column k.Comma) key_rule) (columns_tokens columns key) (columns, key) (
-          terminated k.Comma column_tokens columns,
+        spell_parens n (both (rule.list_to_end (Some 31) command.column k.Comma) key_rule) (columns_tokens columns key) (columns, key) (
+          terminate_by k.Comma column_tokens columns,
           key_tokens key,
           refl,
           spell_ended n 31 command.column k.Comma column_tokens SpellableColumn (word_is k.Comma refl) (spell_column n) columns f,
@@ -108,11 +108,11 @@ spell_insert n name values h f = (
   spell_before n k.Insert _ _ (name, values) (word_is k.Insert refl)
       (spell_before n k.Into _ _ (name, values) (word_is k.Into refl) (
         name_token name ∷ [],
-        word k.Values ∷ parens (separated k.Comma (λ v. literal_token v ∷ []) values),
+        word k.Values ∷ parens (separate_by k.Comma (λ v. literal_token v ∷ []) values),
         refl,
         spell_name n name h,
-        spell_before n k.Values (rule.in_parens (rule.listed (Some 31) k.Comma query.literal)) _ values (word_is k.Values refl)
-            (spell_parens n (rule.listed (Some 31) k.Comma query.literal) (separated k.Comma (λ v. literal_token v ∷ []) values) values
+        spell_before n k.Values (rule.in_parens (rule.list_of (Some 31) k.Comma query.literal)) _ values (word_is k.Values refl)
+            (spell_parens n (rule.list_of (Some 31) k.Comma query.literal) (separate_by k.Comma (λ v. literal_token v ∷ []) values) values
             (spell_listed n 31 k.Comma query.literal (λ v. literal_token v ∷ []) FitsValue (word_is k.Comma refl) (spell_literal n) values f)),
       )),
   refl,
@@ -128,14 +128,14 @@ spell_update n name sets s h f g = (
   (name, (sets, s)),
   spell_before n k.Update _ _ (name, (sets, s)) (word_is k.Update refl) (
     name_token name ∷ [],
-    word k.Set ∷ separated k.Comma set_tokens sets ++ word k.Where ∷ set_tokens s,
+    word k.Set ∷ separate_by k.Comma set_tokens sets ++ word k.Where ∷ set_tokens s,
     refl,
     spell_name n name h,
     (
-      word k.Set ∷ separated k.Comma set_tokens sets,
+      word k.Set ∷ separate_by k.Comma set_tokens sets,
       word k.Where ∷ set_tokens s,
       refl,
-      spell_before n k.Set (rule.listed (Some 31) k.Comma command.set_part) _ sets (word_is k.Set refl)
+      spell_before n k.Set (rule.list_of (Some 31) k.Comma command.set_part) _ sets (word_is k.Set refl)
           (spell_listed n 31 k.Comma command.set_part set_tokens SpellableSet (word_is k.Comma refl) (spell_set n) sets f),
       spell_where n s g,
     ),
@@ -192,8 +192,8 @@ nested_real (suc m) n ts v s = real (NestsIn conditions_of true m) (nested_real 
 
 -- printed texts
 
-read_again : {A : Type 0} (start : Rule sql A) (ts : List Token) (v : A) → IsText conditions_of true 32 start ts v → length (spaced ts) ≤ 65536
-    → IsTextOf 65536 start (spaced ts) v
+read_again : {A : Type 0} (start : Rule sql A) (ts : List Token) (v : A) → IsText conditions_of true 32 start ts v → length (spaces_between ts) ≤ 65536
+    → IsTextOf 65536 start (spaces_between ts) v
 read_again start ts v s size =
     let read = reads_back ts (real (NestsIn conditions_of true 32) (nested_real 32) start ts v s) in
     (size, read.0, read.1, subst (λ z. IsText conditions_of true 32 start z v) (sym read.2) s)
@@ -208,11 +208,11 @@ batch_reads b h = read_again command.batch (batch_tokens b.commands) b (spell_ba
 
 -- what was written from the start on, without its last blank
 
-pub query_printed : (q : Query) (empty out text : List ℕ) → empty ≡ [] → out ≡ empty ++ written (query_tokens q) → ((ts : List Token) → out ≡ written ts → text ≡ spaced ts) → text ≡ query_text q
+pub query_printed : (q : Query) (empty out text : List ℕ) → empty ≡ [] → out ≡ empty ++ text_of (query_tokens q) → ((ts : List Token) → out ≡ text_of ts → text ≡ spaces_between ts) → text ≡ query_text q
 unfolding query_text
-query_printed q empty out text e f last = last (query_tokens q) (f ∙ ap (λ z. z ++ written (query_tokens q)) e)
+query_printed q empty out text e f last = last (query_tokens q) (f ∙ ap (λ z. z ++ text_of (query_tokens q)) e)
 
-pub batch_printed : (commands given : List Command) (empty out text : List ℕ) → empty ≡ [] → given ≡ commands → out ≡ empty ++ written (batch_tokens given) → ((ts : List Token) → out ≡ written ts → text ≡ spaced ts)
+pub batch_printed : (commands given : List Command) (empty out text : List ℕ) → empty ≡ [] → given ≡ commands → out ≡ empty ++ text_of (batch_tokens given) → ((ts : List Token) → out ≡ text_of ts → text ≡ spaces_between ts)
     → text ≡ batch_text commands
 unfolding batch_text
-batch_printed commands given empty out text e g f last = last (batch_tokens commands) (f ∙ ap (λ z. z ++ written (batch_tokens given)) e ∙ ap (λ z. written (batch_tokens z)) g)
+batch_printed commands given empty out text e g f last = last (batch_tokens commands) (f ∙ ap (λ z. z ++ text_of (batch_tokens given)) e ∙ ap (λ z. text_of (batch_tokens z)) g)

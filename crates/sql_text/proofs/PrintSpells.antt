@@ -28,7 +28,7 @@ use Rattle.sql_text.specs.Tokens.{sql, IsToken, whole}
 use Rattle.sql_text.specs.Rules as rule
 use Rattle.sql_text.specs.Queries as query
 use Rattle.sql_text.specs.Queries.{conditions_of, all_of, any_of}
-use Rattle.sql_text.specs.Printing.{word, name_token, literal_token, separated, terminated, parens, reference_tokens, source_tokens, operator, operand_tokens, is_enclosed, enclosed, condition_tokens, parts_tokens, items_tokens, join_tokens, where_tokens, query_tokens}
+use Rattle.sql_text.specs.Printing.{word, name_token, literal_token, separate_by, terminate_by, parens, reference_tokens, source_tokens, operator, operand_tokens, is_enclosed, parenthesize, condition_tokens, parts_tokens, items_tokens, join_tokens, where_tokens, query_tokens}
 use Rattle.sql_text.specs.Spellable.{FreeName, SpellableRef, SpellableSource, SpellableOperand, HasTwo, SpellableCondition, SpellableParts, deeper, levels_of, levels_in, SpellableItems, SpellableJoin, SpellableQuery}
 use Rattle.sql_text.proofs.PrintTokens.{name_folded, name_is, integer_is, quoted_is, unquoted_again}
 
@@ -96,14 +96,14 @@ unfolding rule.before
 spell_before n kind p ts v real s = ((word kind, v), (word kind ∷ [], ts, refl, (real, refl, refl), s), refl)
 
 pub spell_closed : {A : Type 0} (n : ℕ) (p : Rule sql A) (kind : TokenKind) (ts : List Token) (v : A) → IsToken (word kind) → Text n p ts v
-    → Text n (rule.closed p kind) (ts ++ word kind ∷ []) v
-unfolding rule.closed
+    → Text n (rule.followed_by p kind) (ts ++ word kind ∷ []) v
+unfolding rule.followed_by
 spell_closed n p kind ts v real s = ((v, word kind), (ts, word kind ∷ [], refl, s, (real, refl, refl)), refl)
 
 pub spell_parens : {A : Type 0} (n : ℕ) (p : Rule sql A) (ts : List Token) (v : A) → Text n p ts v → Text n (rule.in_parens p) (parens ts) v
 unfolding rule.in_parens
 spell_parens n p ts v s =
-    spell_before n k.LeftParen (rule.closed p k.RightParen) (ts ++ word k.RightParen ∷ []) v (word_is k.LeftParen refl) (spell_closed n p k.RightParen ts v (word_is k.RightParen refl) s)
+    spell_before n k.LeftParen (rule.followed_by p k.RightParen) (ts ++ word k.RightParen ∷ []) v (word_is k.LeftParen refl) (spell_closed n p k.RightParen ts v (word_is k.RightParen refl) s)
 
 pub spell_some : {A : Type 0} (n : ℕ) (p : Rule sql A) (ts : List Token) (v : A) → Text n p ts v → Text n (rule.optional p) ts (Some v)
 unfolding rule.optional
@@ -120,8 +120,8 @@ repeated n p tokens Fits f (v ∷ vs) h = (tokens v, flat_map tokens vs, refl, f
 
 pub spell_listed : {A : Type 0} (n most : ℕ) (kind : TokenKind) (p : Rule sql A) (tokens : A → List Token) (Fits : A → Type 0) → IsToken (word kind)
     → ((v : A) → Fits v → Text n p (tokens v) v)
-    → (vs : List A) → (1 ≤ length vs) × (length vs ≤ suc most) × AllByRecursion Fits vs → Text n (rule.listed (Some most) kind p) (separated kind tokens vs) vs
-unfolding rule.listed
+    → (vs : List A) → (1 ≤ length vs) × (length vs ≤ suc most) × AllByRecursion Fits vs → Text n (rule.list_of (Some most) kind p) (separate_by kind tokens vs) vs
+unfolding rule.list_of
 spell_listed n most kind p tokens Fits real f [] h = absurd (omega (arith, h.0))
 spell_listed n most kind p tokens Fits real f (v ∷ vs) h = (
   (v, vs),
@@ -137,17 +137,17 @@ spell_listed n most kind p tokens Fits real f (v ∷ vs) h = (
 
 pub spell_ended : {A : Type 0} (n most : ℕ) (p : Rule sql A) (kind : TokenKind) (tokens : A → List Token) (Fits : A → Type 0) → IsToken (word kind)
     → ((v : A) → Fits v → Text n p (tokens v) v)
-    → (vs : List A) → (1 ≤ length vs) × (length vs ≤ suc most) × AllByRecursion Fits vs → Text n (rule.ended (Some most) p kind) (terminated kind tokens vs) vs
-unfolding rule.ended
+    → (vs : List A) → (1 ≤ length vs) × (length vs ≤ suc most) × AllByRecursion Fits vs → Text n (rule.list_to_end (Some most) p kind) (terminate_by kind tokens vs) vs
+unfolding rule.list_to_end
 spell_ended n most p kind tokens Fits real f [] h = absurd (omega (arith, h.0))
 spell_ended n most p kind tokens Fits real f (v ∷ vs) h = (
   (v, vs),
   (
     tokens v ++ word kind ∷ [],
-    terminated kind tokens vs,
+    terminate_by kind tokens vs,
     refl,
     spell_closed n p kind (tokens v) v real (f v h.2.0),
-    (omega (arith, h.1), repeated n (rule.closed p kind) (λ y. tokens y ++ word kind ∷ []) Fits (λ y g. spell_closed n p kind (tokens y) y real (f y g)) vs h.2.1),
+    (omega (arith, h.1), repeated n (rule.followed_by p kind) (λ y. tokens y ++ word kind ∷ []) Fits (λ y g. spell_closed n p kind (tokens y) y real (f y g)) vs h.2.1),
   ),
   refl,
 )
@@ -249,11 +249,11 @@ parens_level m ts c s =
 -- AND and OR of one part, and of more.
 
 one_prim : (n : ℕ) (ts : List Token) (c : Condition) → Text n query.prim ts c → Text n query.conj ts c
-unfolding query.conj rule.listed
+unfolding query.conj rule.list_of
 one_prim n ts c s = (c ∷ [], ((c, []), (ts, [], sym (append-nil ts), s, (tt, refl)), refl), refl)
 
 one_conj : (n : ℕ) (ts : List Token) (c : Condition) → Text n query.conj ts c → Text n query.disj ts c
-unfolding query.disj rule.listed
+unfolding query.disj rule.list_of
 one_conj n ts c s = (c ∷ [], ((c, []), (ts, [], sym (append-nil ts), s, (tt, refl)), refl), refl)
 
 list_of : Conditions → List Condition
@@ -268,26 +268,26 @@ conditions_list (more c cs) = ap (more c) (conditions_list cs)
 -- the parts of an AND or an OR, each by this rule
 Each : ℕ → Rule sql Condition → TokenKind → Conditions → Type 0
 Each n p in_word none = Unit {0}
-Each n p in_word (more c cs) = Text n p (enclosed (is_enclosed in_word c) (condition_tokens c)) c × Each n p in_word cs
+Each n p in_word (more c cs) = Text n p (parenthesize (is_enclosed in_word c) (condition_tokens c)) c × Each n p in_word cs
 
 repeated_parts : (n : ℕ) (p : Rule sql Condition) (in_word : TokenKind) → IsToken (word in_word) → (cs : Conditions) → Each n p in_word cs
     → Repeats (Text n (rule.before in_word p)) (parts_tokens in_word cs) (list_of cs)
 unfolding list_of Each
 repeated_parts n p in_word real none h = refl
 repeated_parts n p in_word real (more c cs) h = (
-  word in_word ∷ enclosed (is_enclosed in_word c) (condition_tokens c),
+  word in_word ∷ parenthesize (is_enclosed in_word c) (condition_tokens c),
   parts_tokens in_word cs,
   refl,
-  spell_before n in_word p (enclosed (is_enclosed in_word c) (condition_tokens c)) c real h.0,
+  spell_before n in_word p (parenthesize (is_enclosed in_word c) (condition_tokens c)) c real h.0,
   repeated_parts n p in_word real cs h.1,
 )
 
 listed_parts : (n : ℕ) (p : Rule sql Condition) (in_word : TokenKind) → IsToken (word in_word) → (c : Condition) (cs : Conditions) → Each n p in_word (more c cs)
-    → Text n (rule.listed None in_word p) (drop 1 (parts_tokens in_word (more c cs))) (c ∷ list_of cs)
-unfolding rule.listed Each
+    → Text n (rule.list_of None in_word p) (drop 1 (parts_tokens in_word (more c cs))) (c ∷ list_of cs)
+unfolding rule.list_of Each
 listed_parts n p in_word real c cs h = (
   (c, list_of cs),
-  (enclosed (is_enclosed in_word c) (condition_tokens c), parts_tokens in_word cs, refl, h.0, (tt, repeated_parts n p in_word real cs h.1)),
+  (parenthesize (is_enclosed in_word c) (condition_tokens c), parts_tokens in_word cs, refl, h.0, (tt, repeated_parts n p in_word real cs h.1)),
   refl,
 )
 
@@ -314,10 +314,10 @@ not_as_and (Conditions.test left op right) = refl
 -- a part of an AND or a NOT, and of an OR
 
 abbrev Tight : ℕ → Condition → Type 0
-Tight n c = Text n query.prim (enclosed (is_enclosed k.And c) (condition_tokens c)) c
+Tight n c = Text n query.prim (parenthesize (is_enclosed k.And c) (condition_tokens c)) c
 
 abbrev Loose : ℕ → Condition → Type 0
-Loose n c = Text n query.conj (enclosed (is_enclosed k.Or c) (condition_tokens c)) c
+Loose n c = Text n query.conj (parenthesize (is_enclosed k.Or c) (condition_tokens c)) c
 
 tight_every : (n : ℕ) (cs : Conditions) → HasTwo cs → suc (levels_in k.And cs) ≤ n → ((m : ℕ) → levels_in k.And cs ≤ m → Each m query.prim k.And cs) → Tight n (every cs)
 tight_every n cs two d parts = in_level (λ n. Tight n (every cs)) n (levels_in k.And cs) d (λ m e. parens_level m _ (every cs) (one_conj m _ (every cs) (joined_all m cs two (parts m e))))
@@ -328,7 +328,7 @@ tight_some n cs two d parts = in_level (λ n. Tight n (some cs)) n (levels_in k.
 tight_not : (n : ℕ) (c : Condition) → suc (deeper (is_enclosed k.Not c) (levels_of c)) ≤ n → ((m : ℕ) → deeper (is_enclosed k.And c) (levels_of c) ≤ m → Tight m c) → Tight n (negated c)
 tight_not n c d part =
     in_level (λ n. Tight n (negated c)) n (deeper (is_enclosed k.Not c) (levels_of c)) d
-    (λ m e. not_level m _ c (subst (λ b. Text m query.prim (enclosed b (condition_tokens c)) c) (not_as_and c) (part m (subst (λ b. deeper b (levels_of c) ≤ m) (sym (not_as_and c)) e))))
+    (λ m e. not_level m _ c (subst (λ b. Text m query.prim (parenthesize b (condition_tokens c)) c) (not_as_and c) (part m (subst (λ b. deeper b (levels_of c) ≤ m) (sym (not_as_and c)) e))))
 
 first_most : (a b n : ℕ) → max a b ≤ n → a ≤ n
 first_most a b n h = omega arith

@@ -14,7 +14,7 @@ use Rattle.std.proofs.lemmas.Str.Parse.{IsNumeralModel, numerals_by_value, tells
 use Rattle.sql_tokens.specs.declared.kinds.TokenKind.TheVariants as k
 use Rattle.sql_tokens.specs.declared.lexemes.TokenFault.TheVariants as lapse
 use Rattle.sql_tokens.specs.Kinds.{keyword}
-use Rattle.sql_tokens.specs.Lex.{is_letter, is_word_byte, named, integer_value, integer, closing, single_quotes, unquoted, fits_text, quoted, token_at}
+use Rattle.sql_tokens.specs.Lex.{is_letter, is_word_byte, keyword_or_name, integer_value, integer, closing, single_quotes, quoted_value, fits_text, string_token, token_at}
 use Rattle.sql_tokens.proofs.Alone.{letter_at, digit_at, minus_at, quote_at}
 use Rattle.vo_spec.specs.declared.values.Value.TheVariants as value
 use Rattle.vo_spec.specs.Names.{is_digit, is_name_byte, FitsName}
@@ -83,8 +83,8 @@ name_is (b ∷ name) h free =
     let inner = both _ _ outer.0 in
     let first = both (is_name_byte b) (list_all is_name_byte name) outer.1 in
     letter_at b name (name_letter b first.0 inner.1)
-    ∙ ap (λ w. named (keyword w) w) (run_whole is_word_byte (b ∷ name) (all_of is_name_byte is_word_byte name_word (b ∷ name) outer.1))
-    ∙ ap (λ o. named o (b ∷ name)) free ∙ ap (λ c. cond c (Ok (name_token (b ∷ name))) (Err lapse.Name)) inner.0
+    ∙ ap (λ w. keyword_or_name (keyword w) w) (run_whole is_word_byte (b ∷ name) (all_of is_name_byte is_word_byte name_word (b ∷ name) outer.1))
+    ∙ ap (λ o. keyword_or_name o (b ∷ name)) free ∙ ap (λ c. cond c (Ok (name_token (b ∷ name))) (Err lapse.Name)) inner.0
 
 -- Integers.
 
@@ -187,7 +187,7 @@ doubled_all p h (b ∷ s) e = by_quote (b == 39) (doubled_all p h s (both (p b) 
     by_quote true again = and_true (p 39) _ h (and_true (p 39) _ h again)
     by_quote false again = and_true (p b) _ (both (p b) (list_all p s) e).0 again
 
-pub unquoted_again : (s : List ℕ) → s ≡ unquoted (39 ∷ flat_map quoted_byte s ++ 39 ∷ [])
+pub unquoted_again : (s : List ℕ) → s ≡ quoted_value (39 ∷ flat_map quoted_byte s ++ 39 ∷ [])
 unquoted_again s =
     let size : length (flat_map quoted_byte s ++ 39 ∷ []) ≡ length (flat_map quoted_byte s) + 1 = length-append (flat_map quoted_byte s) (39 ∷ []) in
     let cut : length (39 ∷ flat_map quoted_byte s ++ 39 ∷ []) - 2 ≡ length (flat_map quoted_byte s) = omega (arith, size) in
@@ -201,6 +201,6 @@ quoted_is s h =
     let short = (both _ _ outer.0).0 in
     let whole : take (suc (length z)) (39 ∷ z) ≡ 39 ∷ z = ap (λ y. 39 ∷ y) (take-length z) in
     let fits : fits_text (39 ∷ z) ≡ true = and_true _ _ (ap (λ y. nat_le (length y) 1024) (sym (unquoted_again s)) ∙ short) (doubled_all (λ b. nat_le 32 b) refl s outer.1) in
-    quote_at 39 z refl refl refl refl ∙ ap (λ o. quoted o (39 ∷ z)) (closes_at s)
+    quote_at 39 z refl refl refl refl ∙ ap (λ o. string_token o (39 ∷ z)) (closes_at s)
     ∙ ap (λ y. cond (fits_text y) (Ok (record { kind = k.Quoted; text = y; number = pos 0 })) (Err lapse.Literal)) whole
     ∙ ap (λ c. cond c (Ok (quoted_token s)) (Err lapse.Literal)) fits

@@ -37,7 +37,7 @@ use Rattle.vo_spec.specs.Values.{FitsValue}
 use Rattle.vo_spec.specs.Batches.{FitsColumn, FitsSet, FitsCommand, FitsBatch}
 use Rattle.vo_spec.specs.Conditions.{Condition, Conditions, every, some, negated, none, more, comparisons, comparisons_in, Query}
 use Rattle.vo_spec.specs.Conditions
-use Rattle.sql_text.specs.Printing.{word, name_token, literal_token, quoted_byte, separated, terminated, parens, reference_tokens, source_tokens, operator, operand_tokens, is_enclosed, enclosed, condition_tokens, parts_tokens, items_tokens, join_tokens, where_tokens, query_tokens, kind_word, column_tokens, set_tokens, key_tokens, columns_tokens, command_tokens, batch_tokens, spaced, query_text, batch_text}
+use Rattle.sql_text.specs.Printing.{word, name_token, literal_token, quoted_byte, separate_by, terminate_by, parens, reference_tokens, source_tokens, operator, operand_tokens, is_enclosed, parenthesize, condition_tokens, parts_tokens, items_tokens, join_tokens, where_tokens, query_tokens, kind_word, column_tokens, set_tokens, key_tokens, columns_tokens, command_tokens, batch_tokens, spaces_between, query_text, batch_text}
 use Rattle.sql_text.specs.Printable.{PrintableRef, PrintableSource, PrintableItems, PrintableJoin, PrintableOperand, PrintableSides, PrintableQuery}
 use Rattle.sql_text.proofs.Made.{all_both, all_parts}
 use Rattle.sql_text.proofs.PrintTokens.{name_small}
@@ -120,7 +120,7 @@ flat tokens Fits f (v ∷ vs) h = joined (tokens v) (flat_map tokens vs) (f v h.
 parens_utf8 : (ts : List Token) → AreUtf8 ts → AreUtf8 (parens ts)
 parens_utf8 ts h = joined (word k.LeftParen ∷ ts) (word k.RightParen ∷ []) (word_utf8 k.LeftParen refl, h) (word_utf8 k.RightParen refl, tt)
 
-enclosed_utf8 : (b : Bool) (ts : List Token) → AreUtf8 ts → AreUtf8 (enclosed b ts)
+enclosed_utf8 : (b : Bool) (ts : List Token) → AreUtf8 ts → AreUtf8 (parenthesize b ts)
 enclosed_utf8 true ts h = parens_utf8 ts h
 enclosed_utf8 false ts h = h
 
@@ -129,19 +129,19 @@ rest_utf8 [] h = tt
 rest_utf8 (t ∷ ts) h = h.1
 
 separated_utf8 : {A : Type 0} (kind : TokenKind) (tokens : A → List Token) (Fits : A → Type 0) → IsUtf8 (spelling kind) → ((v : A) → Fits v → AreUtf8 (tokens v))
-    → (vs : List A) → AllByRecursion Fits vs → AreUtf8 (separated kind tokens vs)
+    → (vs : List A) → AllByRecursion Fits vs → AreUtf8 (separate_by kind tokens vs)
 separated_utf8 kind tokens Fits u f [] h = tt
 separated_utf8 kind tokens Fits u f (v ∷ vs) h =
     joined (tokens v) (flat_map (λ y. word kind ∷ tokens y) vs) (f v h.0) (flat (λ y. word kind ∷ tokens y) Fits (λ y g. (u, f y g)) vs h.1)
 
 terminated_utf8 : {A : Type 0} (kind : TokenKind) (tokens : A → List Token) (Fits : A → Type 0) → IsUtf8 (spelling kind) → ((v : A) → Fits v → AreUtf8 (tokens v))
-    → (vs : List A) → AllByRecursion Fits vs → AreUtf8 (terminated kind tokens vs)
+    → (vs : List A) → AllByRecursion Fits vs → AreUtf8 (terminate_by kind tokens vs)
 terminated_utf8 kind tokens Fits u f vs h = flat (λ y. tokens y ++ word kind ∷ []) Fits (λ y g. joined (tokens y) (word kind ∷ []) (f y g) (u, tt)) vs h
 
-spaced_utf8 : (ts : List Token) → AreUtf8 ts → IsUtf8 (spaced ts)
+spaced_utf8 : (ts : List Token) → AreUtf8 ts → IsUtf8 (spaces_between ts)
 spaced_utf8 [] h = IsUtf8-nil
 spaced_utf8 (t ∷ []) h = h.0
-spaced_utf8 (t ∷ u ∷ ts) h = IsUtf8-append t.text (32 ∷ spaced (u ∷ ts)) h.0 (utf8_cons 32 (spaced (u ∷ ts)) (omega arith) (spaced_utf8 (u ∷ ts) h.1))
+spaced_utf8 (t ∷ u ∷ ts) h = IsUtf8-append t.text (32 ∷ spaces_between (u ∷ ts)) h.0 (utf8_cons 32 (spaces_between (u ∷ ts)) (omega arith) (spaced_utf8 (u ∷ ts) h.1))
 
 -- Queries.
 
@@ -181,7 +181,7 @@ mutual
   parts_utf8 in_word u none h = tt
   parts_utf8 in_word u (more c cs) h =
       let parts = all_parts PrintableSides (comparisons c) (comparisons_in cs) h in
-      joined (word in_word ∷ enclosed (is_enclosed in_word c) (condition_tokens c)) (parts_tokens in_word cs)
+      joined (word in_word ∷ parenthesize (is_enclosed in_word c) (condition_tokens c)) (parts_tokens in_word cs)
       (u, enclosed_utf8 (is_enclosed in_word c) (condition_tokens c) (condition_utf8 c parts.0)) (parts_utf8 in_word u cs parts.1)
 
 items_utf8 : (v : Items) → PrintableItems v → AreUtf8 (items_tokens v)
@@ -237,7 +237,7 @@ command_utf8 (command_of.Create name columns key) h = (
     (
       name_utf8 name h.0,
       parens_utf8 (columns_tokens columns key)
-          (joined (terminated k.Comma column_tokens columns) (key_tokens key)
+          (joined (terminate_by k.Comma column_tokens columns) (key_tokens key)
           (terminated_utf8 k.Comma column_tokens FitsColumn (word_utf8 k.Comma refl) column_utf8 columns h.1.2) (key_utf8 key h.2)),
     ),
   ),
@@ -251,14 +251,14 @@ command_utf8 (command_of.Insert name values) h = (
       name_utf8 name h.0,
       (
         word_utf8 k.Values refl,
-        parens_utf8 (separated k.Comma (λ v. literal_token v ∷ []) values)
+        parens_utf8 (separate_by k.Comma (λ v. literal_token v ∷ []) values)
             (separated_utf8 k.Comma (λ v. literal_token v ∷ []) FitsValue (word_utf8 k.Comma refl) (λ v g. (literal_utf8 v g, tt)) values h.1.2),
       ),
     ),
   ),
 )
 command_utf8 (command_of.Update name sets column value) h =
-    joined (word k.Update ∷ name_token name ∷ word k.Set ∷ separated k.Comma set_tokens sets) (word k.Where ∷ set_tokens (record { column = column; value = value }))
+    joined (word k.Update ∷ name_token name ∷ word k.Set ∷ separate_by k.Comma set_tokens sets) (word k.Where ∷ set_tokens (record { column = column; value = value }))
     (word_utf8 k.Update refl, (name_utf8 name h.0, (word_utf8 k.Set refl, separated_utf8 k.Comma set_tokens FitsSet (word_utf8 k.Comma refl) set_utf8 sets h.1.2)))
     (word_utf8 k.Where refl, set_utf8 (record { column = column; value = value }) (h.2, h.3))
 command_utf8 (command_of.Delete name column value) h =

@@ -23,9 +23,9 @@ use Rattle.vo_spec.specs.Names.{FitsName}
 use Rattle.vo_spec.specs.Values.{FitsValue, IsInRange}
 use Rattle.vo_spec.specs.Conditions.{Condition, conditions, comparisons, comparisons_in, Query, query_of, FitsOperand, FitsQuery}
 use Rattle.sql_text.specs.Tokens.{sql, Nested, whole, primary}
-use Rattle.sql_text.specs.Rules.{before, closed, optional}
+use Rattle.sql_text.specs.Rules.{before, followed_by, optional}
 use Rattle.sql_text.specs.Queries.{name, reference, ref_of, source, source_of, operand, comparison, prim, conj, disj, all_of, any_of, conditions_of, items, on_clause, join, query}
-use Rattle.sql_text.specs.Texts.{unplaced, IsTextOf, AnswersText}
+use Rattle.sql_text.specs.Texts.{without_places, IsTextOf, AnswersText}
 use Rattle.sql_text.specs.Printable.{PrintableRef, PrintableSource, PrintableItems, PrintableJoin, PrintableOperand, PrintableSides, PrintableQuery}
 use Rattle.sql_text.proofs.Made.{Made, made, of_before, of_listed, all_both, all_mapped}
 use Rattle.sql_text.proofs.Named.{named_fits, literal_fits}
@@ -77,7 +77,7 @@ unfolding comparison
 test_fits c (x, (r, (o, m)), e) = subst FitsCondition (sym e) ((ref_fits x.0 r, operand_fits x.1.1 m), tt)
 
 prim_fits : (c : Condition) → MadeFit prim c → FitsCondition c
-unfolding prim closed
+unfolding prim followed_by
 prim_fits c (inl (part, m, e)) = subst FitsCondition (sym e) m
 prim_fits c (inr (inl (x, (m, _), e))) = subst FitsCondition (sym e) m
 prim_fits c (inr (inr m)) = test_fits c m
@@ -151,7 +151,7 @@ made_fits q (x, (i, (s, (j, (m, _)))), e) =
 -- the query of a text can be printed
 pub query_fits : (most : ℕ) (text : List ℕ) (q : Query) → AreUtf8 text → IsTextOf most query text q → PrintableQuery q
 query_fits most text q utf8 (_, ps, scanned, s) =
-    made_fits q (made IsSound FitsCondition (NestsIn conditions_of true 32) (nested 32) query (unplaced ps) q s (all_sound ps (tokens_real text ps scanned) (utf8 ps scanned)))
+    made_fits q (made IsSound FitsCondition (NestsIn conditions_of true 32) (nested 32) query (without_places ps) q s (all_sound ps (tokens_real text ps scanned) (utf8 ps scanned)))
 
 pub answer_printable : (most : ℕ) (text : List ℕ) (r : Result QueryText SqlFault) → AreUtf8 text → AnswersText query_of most query text r → IfOk r (λ q. PrintableQuery (query_of q))
 answer_printable most text (Ok q) utf8 h = query_fits most text (query_of q) utf8 h

@@ -13,8 +13,8 @@ use Rattle.sql_tokens.specs.declared.kinds.TokenKind.TheVariants as k
 use Rattle.sql_tokens.specs.declared.lexemes.TokenFault.{TokenFault}
 use Rattle.sql_tokens.specs.declared.lexemes.TokenFault.TheVariants as lapse
 use Rattle.sql_tokens.specs.Kinds.{keyword, spelling}
-use Rattle.sql_tokens.specs.Lex.{Token, Placed, is_blank, is_letter, is_word_byte, closing, named, integer, integer_value, quoted, symbol, symbolic, fits_text, token_at, followed, placed, tokens_from}
-use Rattle.sql_text.specs.Texts.{unplaced}
+use Rattle.sql_tokens.specs.Lex.{Token, Placed, is_blank, is_letter, is_word_byte, closing, keyword_or_name, integer, integer_value, string_token, symbol, symbolic, fits_text, token_at, then_tokens, at_place, tokens_from}
+use Rattle.sql_text.specs.Texts.{without_places}
 use Rattle.sql_text.proofs.TokenFits.{pick, word_of, symbol_text, quote_text, minus_text, minus_or, digit_text, digit_or, cases}
 use Rattle.sql_text.proofs.TokenSounds.{word_small, word_letter, closing_last, closed_at_once, within, text_in, read_ok, read_err, AreUtf8}
 
@@ -139,7 +139,7 @@ integer_ends : (z text : List ℕ) (o : Option ℤ) (t : Token) → EndsAt z tex
 integer_ends z text (Some n) t h e = subst (EndsAt z) (ap text_in e) h
 integer_ends z text None t h e = absurd (cc)
 
-named_ends : (z w : List ℕ) (o : Option TokenKind) (t : Token) → EndsAt z w → named o w ≡ Ok t → EndsAt z t.text
+named_ends : (z w : List ℕ) (o : Option TokenKind) (t : Token) → EndsAt z w → keyword_or_name o w ≡ Ok t → EndsAt z t.text
 named_ends z w (Some kind) t h e = subst (EndsAt z) (ap text_in e) h
 named_ends z w None t h e = by_length (pick (nat_le (length w) 63) _ _ (Ok t) e)
   where
@@ -148,7 +148,7 @@ named_ends z w None t h e = by_length (pick (nat_le (length w) 63) _ _ (Ok t) e)
     by_length (inl (_, f)) = subst (EndsAt z) (ap text_in f) h
     by_length (inr (_, f)) = absurd (cc)
 
-quoted_ends : (z : List ℕ) (o : Option ℕ) (t : Token) → ((len : ℕ) → o ≡ Some len → EndsAt z (take (suc len) z)) → quoted o z ≡ Ok t → EndsAt z t.text
+quoted_ends : (z : List ℕ) (o : Option ℕ) (t : Token) → ((len : ℕ) → o ≡ Some len → EndsAt z (take (suc len) z)) → string_token o z ≡ Ok t → EndsAt z t.text
 quoted_ends z None t h e = absurd (cc)
 quoted_ends z (Some len) t h e = by_fit (pick (fits_text (take (suc len) z)) _ _ (Ok t) e)
   where
@@ -162,7 +162,7 @@ symbolic_ends z None t h e = absurd (cc)
 symbolic_ends z (Some kind) t h e = subst (EndsAt z) (ap text_in e) (h kind refl)
 
 module _ (z : List ℕ) (t : Token) (some : 0 < length z) where
-  by_quote : ((slice_index z 0 == 39) ≡ true) × (quoted (closing false (drop 1 z)) z ≡ Ok t) ⊎ ((slice_index z 0 == 39) ≡ false) × (symbol_text z t ≡ Ok t) → EndsAt z t.text
+  by_quote : ((slice_index z 0 == 39) ≡ true) × (string_token (closing false (drop 1 z)) z ≡ Ok t) ⊎ ((slice_index z 0 == 39) ≡ false) × (symbol_text z t ≡ Ok t) → EndsAt z t.text
   by_quote (inl h) = quoted_ends z (closing false (drop 1 z)) t (λ len e. quote_ends z len h.0 e) h.1
   by_quote (inr h) = symbolic_ends z (symbol (slice_index z 0) (slice_index z 1)) t (λ kind e. symbol_ends z kind (is_symbol _ _ kind e)) h.1
 
@@ -176,7 +176,7 @@ module _ (z : List ℕ) (t : Token) (some : 0 < length z) where
   by_digit (inl h) = integer_ends z (digit_text z t) (integer_value (digit_text z t)) t (run_ends is_ascii_digit digit_small z h.0 some) h.1
   by_digit (inr h) = by_minus (pick (slice_index z 0 == 45 && is_ascii_digit (slice_index z 1)) _ _ (Ok t) h.1)
 
-  by_letter : (is_letter (slice_index z 0) ≡ true) × (named (keyword (word_of z)) (word_of z) ≡ Ok t) ⊎ (is_letter (slice_index z 0) ≡ false) × (digit_or z t ≡ Ok t) → EndsAt z t.text
+  by_letter : (is_letter (slice_index z 0) ≡ true) × (keyword_or_name (keyword (word_of z)) (word_of z) ≡ Ok t) ⊎ (is_letter (slice_index z 0) ≡ false) × (digit_or z t ≡ Ok t) → EndsAt z t.text
   by_letter (inl h) = named_ends z (word_of z) (keyword (word_of z)) t (run_ends is_word_byte word_small z (word_letter (slice_index z 0) h.0) some) h.1
   by_letter (inr h) = by_digit (pick (is_ascii_digit (slice_index z 0)) _ _ (Ok t) h.1)
 
@@ -201,15 +201,15 @@ split_utf8 b z text (m, e, inside, small) u =
     (subst IsUtf8 (sym e) (IsUtf8-take (b ∷ z) (suc m) u cut), subst (λ n. IsUtf8 (drop n z)) (sym size) (IsUtf8-drop (b ∷ z) (suc m) u cut))
 
 abbrev AreGood : Result (List Placed) (TokenFault × ℕ) → Type 0
-AreGood (Ok ps) = AllByRecursion (λ t. IsUtf8 t.text) (unplaced ps)
+AreGood (Ok ps) = AllByRecursion (λ t. IsUtf8 t.text) (without_places ps)
 AreGood (Err e) = Unit {0}
 
-followed_good : (p : Placed) (r : Result (List Placed) (TokenFault × ℕ)) → IsUtf8 p.token.text → AreGood r → AreGood (followed p r)
+followed_good : (p : Placed) (r : Result (List Placed) (TokenFault × ℕ)) → IsUtf8 p.token.text → AreGood r → AreGood (then_tokens p r)
 followed_good p (Ok ps) h g = (h, g)
 followed_good p (Err e) h g = tt
 
 placed_good : (at : ℕ) (r : Result Token TokenFault) (others : ℕ → Result (List Placed) (TokenFault × ℕ)) → ((t : Token) → r ≡ Ok t → IsUtf8 t.text × AreGood (others (length t.text - 1)))
-    → AreGood (placed at r others)
+    → AreGood (at_place at r others)
 placed_good at (Ok t) others h = let one = h t refl in followed_good (record { token = t; at = at }) (others (length t.text - 1)) one.0 one.1
 placed_good at (Err lapse) others h = tt
 
@@ -225,8 +225,8 @@ from_good at zero (b ∷ z) u =
     (placed_good at (token_at (b ∷ z)) (λ n. tokens_from (at + 1) n z)
     (λ t e. let parts = split_utf8 b z t.text (token_ends (b ∷ z) t (omega arith) e) u in (parts.0, from_good (at + 1) (length t.text - 1) z parts.1)))
   where
-    by_blank : (c : Bool) → is_blank b ≡ c → (IsUtf8 z → AreGood (tokens_from (at + 1) 0 z)) → AreGood (placed at (token_at (b ∷ z)) (λ n. tokens_from (at + 1) n z))
-        → AreGood (cond c (tokens_from (at + 1) 0 z) (placed at (token_at (b ∷ z)) (λ n. tokens_from (at + 1) n z)))
+    by_blank : (c : Bool) → is_blank b ≡ c → (IsUtf8 z → AreGood (tokens_from (at + 1) 0 z)) → AreGood (at_place at (token_at (b ∷ z)) (λ n. tokens_from (at + 1) n z))
+        → AreGood (cond c (tokens_from (at + 1) 0 z) (at_place at (token_at (b ∷ z)) (λ n. tokens_from (at + 1) n z)))
     by_blank true e f g = f (IsUtf8-drop (b ∷ z) 1 u (IsCharBoundary-after_ascii (b ∷ z) 0 u (omega arith) (blank_small b e)))
     by_blank false e f g = g
 

@@ -10,7 +10,7 @@ use Rattle.sql_tokens.specs.declared.kinds.TokenKind.TheVariants as k
 use Rattle.sql_tokens.specs.declared.lexemes.TokenFault.{TokenFault}
 use Rattle.sql_tokens.specs.declared.lexemes.TokenFault.TheVariants as lapse
 use Rattle.sql_tokens.specs.Kinds.{keyword}
-use Rattle.sql_tokens.specs.Lex.{Token, is_letter, is_word_byte, closing, symbol, digits, integer_value, named, integer, quoted, symbolic, token_at}
+use Rattle.sql_tokens.specs.Lex.{Token, is_letter, is_word_byte, closing, symbol, digits, integer_value, keyword_or_name, integer, string_token, symbolic, token_at}
 
 pub pick : {X : Type 0} (b : Bool) (x y z : X) → cond b x y ≡ z → ((b ≡ true) × (x ≡ z)) ⊎ ((b ≡ false) × (y ≡ z))
 pick true x y z e = inl (refl, e)
@@ -22,9 +22,9 @@ word_of z = take (prefix_len is_word_byte z) z
 -- how a token was read: as a word, an integer, a text in quotes or a symbol
 abbrev pub ReadAs : List ℕ → Token → Type 0
 ReadAs z t =
-    ((is_letter (slice_index z 0) ≡ true) × (named (keyword (word_of z)) (word_of z) ≡ Ok t))
+    ((is_letter (slice_index z 0) ≡ true) × (keyword_or_name (keyword (word_of z)) (word_of z) ≡ Ok t))
     ⊎ ((text : List ℕ) × (integer (integer_value text) text ≡ Ok t))
-    ⊎ (((slice_index z 0 == 39) ≡ true) × (quoted (closing false (drop 1 z)) z ≡ Ok t))
+    ⊎ (((slice_index z 0 == 39) ≡ true) × (string_token (closing false (drop 1 z)) z ≡ Ok t))
     ⊎ (symbolic (symbol (slice_index z 0) (slice_index z 1)) z ≡ Ok t)
 
 module _ (z : List ℕ) (t : Token) where
@@ -32,7 +32,7 @@ module _ (z : List ℕ) (t : Token) where
   symbol_text = symbolic (symbol (slice_index z 0) (slice_index z 1)) z
 
   abbrev pub quote_text : Result Token TokenFault
-  quote_text = cond (slice_index z 0 == 39) (quoted (closing false (drop 1 z)) z) symbol_text
+  quote_text = cond (slice_index z 0 == 39) (string_token (closing false (drop 1 z)) z) symbol_text
 
   abbrev pub minus_text : List ℕ
   minus_text = take (1 + prefix_len is_ascii_digit (drop 1 z)) z
@@ -46,11 +46,11 @@ module _ (z : List ℕ) (t : Token) where
   abbrev pub digit_or : Result Token TokenFault
   digit_or = cond (is_ascii_digit (slice_index z 0)) (integer (integer_value digit_text) digit_text) minus_or
 
-  pub cases : token_at z ≡ Ok t → cond (is_letter (slice_index z 0)) (named (keyword (word_of z)) (word_of z)) digit_or ≡ Ok t
+  pub cases : token_at z ≡ Ok t → cond (is_letter (slice_index z 0)) (keyword_or_name (keyword (word_of z)) (word_of z)) digit_or ≡ Ok t
   unfolding token_at
   cases h = h
 
-  by_quote : ((slice_index z 0 == 39) ≡ true) × (quoted (closing false (drop 1 z)) z ≡ Ok t) ⊎ ((slice_index z 0 == 39) ≡ false) × (symbol_text ≡ Ok t) → ReadAs z t
+  by_quote : ((slice_index z 0 == 39) ≡ true) × (string_token (closing false (drop 1 z)) z ≡ Ok t) ⊎ ((slice_index z 0 == 39) ≡ false) × (symbol_text ≡ Ok t) → ReadAs z t
   by_quote (inl h) = inr (inr (inl h))
   by_quote (inr h) = inr (inr (inr h.1))
 
@@ -63,7 +63,7 @@ module _ (z : List ℕ) (t : Token) where
   by_digit (inl h) = inr (inl (digit_text, h.1))
   by_digit (inr h) = by_minus (pick (slice_index z 0 == 45 && is_ascii_digit (slice_index z 1)) _ _ (Ok t) h.1)
 
-  by_letter : (is_letter (slice_index z 0) ≡ true) × (named (keyword (word_of z)) (word_of z) ≡ Ok t) ⊎ (is_letter (slice_index z 0) ≡ false) × (digit_or ≡ Ok t) → ReadAs z t
+  by_letter : (is_letter (slice_index z 0) ≡ true) × (keyword_or_name (keyword (word_of z)) (word_of z) ≡ Ok t) ⊎ (is_letter (slice_index z 0) ≡ false) × (digit_or ≡ Ok t) → ReadAs z t
   by_letter (inl h) = inl h
   by_letter (inr h) = by_digit (pick (is_ascii_digit (slice_index z 0)) _ _ (Ok t) h.1)
 
@@ -114,7 +114,7 @@ integer_fits text t None e h = absurd (cc)
 other_number : (z : List ℕ) (t : Token) → (r : Result Token TokenFault) → number_of r ≡ pos 0 → r ≡ Ok t → FitsSigned w64 t.number
 other_number z t r e h = let same : pos 0 ≡ t.number = sym e ∙ ap number_of h in subst (FitsSigned w64) same (size 0 (omega arith))
 
-named_zero : (o : Option TokenKind) (w : List ℕ) → number_of (named o w) ≡ pos 0
+named_zero : (o : Option TokenKind) (w : List ℕ) → number_of (keyword_or_name o w) ≡ pos 0
 named_zero (Some kind) w = refl
 named_zero None w = by_length (nat_le (length w) 63)
   where
@@ -122,7 +122,7 @@ named_zero None w = by_length (nat_le (length w) 63)
     by_length true = refl
     by_length false = refl
 
-quoted_zero : (o : Option ℕ) (w : List ℕ) → number_of (quoted o w) ≡ pos 0
+quoted_zero : (o : Option ℕ) (w : List ℕ) → number_of (string_token o w) ≡ pos 0
 quoted_zero None w = refl
 quoted_zero (Some len) w = by_fit (_)
   where

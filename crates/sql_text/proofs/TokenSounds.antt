@@ -15,12 +15,12 @@ use Rattle.sql_tokens.specs.declared.kinds.TokenKind.TheVariants as k
 use Rattle.sql_tokens.specs.declared.lexemes.TokenFault.{TokenFault}
 use Rattle.sql_tokens.specs.declared.lexemes.TokenFault.TheVariants as lapse
 use Rattle.sql_tokens.specs.Kinds.{keyword, keywords, spelling}
-use Rattle.sql_tokens.specs.Lex.{Token, Placed, closing, single_quotes, unquoted, tokens_of, is_letter, is_word_byte, named, integer, quoted, symbolic, fits_text, token_at}
+use Rattle.sql_tokens.specs.Lex.{Token, Placed, closing, single_quotes, quoted_value, tokens_of, is_letter, is_word_byte, keyword_or_name, integer, string_token, symbolic, fits_text, token_at}
 use Rattle.vo_spec.specs.declared.values.Value.TheVariants as value
 use Rattle.vo_spec.specs.Values.{is_text, FitsValue}
 use Rattle.vo_spec.specs.Names.{is_name, is_digit, is_name_byte, FitsName}
 use Rattle.sql_text.specs.Tokens.{IsToken}
-use Rattle.sql_text.specs.Texts.{unplaced}
+use Rattle.sql_text.specs.Texts.{without_places}
 use Rattle.sql_text.proofs.TokenFits.{ReadAs, read_as, pick, word_of}
 
 -- a word's bytes in small letters are those of names
@@ -160,7 +160,7 @@ no_integer : (o : Option ℤ) (text : List ℕ) (t : Token) → integer o text �
 no_integer (Some n) text t h = ap kind_in h
 no_integer None text t h = absurd (cc)
 
-is_quoted : (o : Option ℕ) (z : List ℕ) (t : Token) → quoted o z ≡ Ok t → k.Quoted ≡ t.kind
+is_quoted : (o : Option ℕ) (z : List ℕ) (t : Token) → string_token o z ≡ Ok t → k.Quoted ≡ t.kind
 is_quoted None z t h = absurd (cc)
 is_quoted (Some len) z t h = by_fit (pick (fits_text (take (suc len) z)) _ _ (Ok t) h)
   where
@@ -169,7 +169,7 @@ is_quoted (Some len) z t h = by_fit (pick (fits_text (take (suc len) z)) _ _ (Ok
     by_fit (inl (_, e)) = ap kind_in e
     by_fit (inr (_, e)) = absurd (cc)
 
-is_named : (w : List ℕ) (t : Token) → named None w ≡ Ok t → k.Name ≡ t.kind
+is_named : (w : List ℕ) (t : Token) → keyword_or_name None w ≡ Ok t → k.Name ≡ t.kind
 is_named w t h = by_length (pick (nat_le (length w) 63) _ _ (Ok t) h)
   where
     by_length : ((nat_le (length w) 63 ≡ true) × (read_ok (record { kind = k.Name; text = w; number = pos 0 }) ≡ Ok t))
@@ -187,7 +187,7 @@ name_fits t real kind = by_reading (read_as t.text t real)
     by_length l (inl (few, e)) = subst (λ z. FitsName (str_to_ascii_lowercase z)) (ap text_in e) (word_is_name t.text l few)
     by_length l (inr (_, e)) = absurd (cc)
 
-    by_keyword : (o : Option TokenKind) → keyword (word_of t.text) ≡ o → is_letter (slice_index t.text 0) ≡ true → named o (word_of t.text) ≡ Ok t → FitsName (str_to_ascii_lowercase t.text)
+    by_keyword : (o : Option TokenKind) → keyword (word_of t.text) ≡ o → is_letter (slice_index t.text 0) ≡ true → keyword_or_name o (word_of t.text) ≡ Ok t → FitsName (str_to_ascii_lowercase t.text)
     by_keyword (Some found) f l e =
         let same : found ≡ k.Name = ap kind_in e ∙ kind in
         absurd (unspelled (word_of t.text) k.Name refl (f ∙ ap Some same))
@@ -286,7 +286,7 @@ single_utf8 : (s : Bool) (bs : List ℕ) → IsUtf8 bs → IsUtf8 (single_quotes
 single_utf8 s bs (cs, (e, f)) = subst (λ z. IsUtf8 (single_quotes s z)) f (singles_utf8 s cs e)
 
 -- what stands between the quotes is UTF-8
-inner_utf8 : (b : ℕ) (ys : List ℕ) (n : ℕ) → b ≡ 39 → IsUtf8 (b ∷ ys) → get_or ys n 0 ≡ 39 → length ys ≡ suc n → IsUtf8 (unquoted (b ∷ ys))
+inner_utf8 : (b : ℕ) (ys : List ℕ) (n : ℕ) → b ≡ 39 → IsUtf8 (b ∷ ys) → get_or ys n 0 ≡ 39 → length ys ≡ suc n → IsUtf8 (quoted_value (b ∷ ys))
 inner_utf8 b ys n e u f len =
     let size : length (b ∷ ys) ≡ n + 2 = omega (arith, len) in
     let first : IsCharBoundary (b ∷ ys) 1 = IsCharBoundary-after_ascii (b ∷ ys) 0 u (omega arith) (omega (arith, e)) in
@@ -309,12 +309,12 @@ all_taken p zero bs e = refl
 all_taken p (suc n) [] e = refl
 all_taken p (suc n) (b ∷ bs) e = and_true (p b) _ (both _ _ e).0 (all_taken p n bs (both _ _ e).1)
 
-unquoted_all : (p : ℕ → Bool) (b : ℕ) (ys : List ℕ) → list_all p (b ∷ ys) ≡ true → list_all p (unquoted (b ∷ ys)) ≡ true
+unquoted_all : (p : ℕ → Bool) (b : ℕ) (ys : List ℕ) → list_all p (b ∷ ys) ≡ true → list_all p (quoted_value (b ∷ ys)) ≡ true
 unquoted_all p b ys e = singles_all p false _ (all_taken p (length (b ∷ ys) - 2) ys (both _ _ e).1)
 
 -- the tokens of the text are UTF-8
 abbrev pub AreUtf8 : List ℕ → Type 0
-AreUtf8 text = (ps : List Placed) → tokens_of text ≡ Ok ps → AllByRecursion (λ t. IsUtf8 t.text) (unplaced ps)
+AreUtf8 text = (ps : List Placed) → tokens_of text ≡ Ok ps → AllByRecursion (λ t. IsUtf8 t.text) (without_places ps)
 
 -- a token of a text, which is UTF-8
 abbrev pub IsSound : Token → Type 0
@@ -325,7 +325,7 @@ within n [] e = absurd (cc)
 within zero (y ∷ ys) e = omega arith
 within (suc n) (y ∷ ys) e = let h = within n ys e in omega arith
 
-text_is : (z : List ℕ) (len : ℕ) → IsUtf8 z → (slice_index z 0 == 39) ≡ true → closing false (drop 1 z) ≡ Some len → take (suc len) z ≡ z → fits_text z ≡ true → is_text (unquoted z) ≡ true
+text_is : (z : List ℕ) (len : ℕ) → IsUtf8 z → (slice_index z 0 == 39) ≡ true → closing false (drop 1 z) ≡ Some len → take (suc len) z ≡ z → fits_text z ≡ true → is_text (quoted_value z) ≡ true
 text_is [] len u q c w f = absurd (cc)
 text_is (b ∷ ys) zero u q c w f = let e : false ≡ true = closed_at_once false ys c in absurd (cc)
 text_is (b ∷ ys) (suc n) u q c w f =
@@ -337,28 +337,28 @@ text_is (b ∷ ys) (suc n) u q c w f =
     and_true _ _ (and_true _ _ parts.0 (is_utf8-from_IsUtf8 _ (inner_utf8 b ys n first u last size))) (unquoted_all (nat_le 32) b ys parts.1)
 
 -- a text fits
-pub value_fits : (t : Token) → IsSound t → t.kind ≡ k.Quoted → FitsValue (value.Text (unquoted t.text))
+pub value_fits : (t : Token) → IsSound t → t.kind ≡ k.Quoted → FitsValue (value.Text (quoted_value t.text))
 value_fits t (real, u) kind = by_reading (read_as t.text t real)
   where
     by_fit : (len : ℕ) → (slice_index t.text 0 == 39) ≡ true → closing false (drop 1 t.text) ≡ Some len
         → ((fits_text (take (suc len) t.text) ≡ true) × (read_ok (record { kind = k.Quoted; text = take (suc len) t.text; number = pos 0 }) ≡ Ok t))
-        ⊎ ((fits_text (take (suc len) t.text) ≡ false) × (read_err lapse.Literal ≡ Ok t)) → FitsValue (value.Text (unquoted t.text))
+        ⊎ ((fits_text (take (suc len) t.text) ≡ false) × (read_err lapse.Literal ≡ Ok t)) → FitsValue (value.Text (quoted_value t.text))
     by_fit len q c (inl (f, e)) =
         let whole : take (suc len) t.text ≡ t.text = ap text_in e in
         text_is t.text len u q c whole (subst (λ z. fits_text z ≡ true) whole f)
     by_fit len q c (inr (_, e)) = absurd (cc)
 
-    by_closing : (o : Option ℕ) → closing false (drop 1 t.text) ≡ o → (slice_index t.text 0 == 39) ≡ true → quoted o t.text ≡ Ok t → FitsValue (value.Text (unquoted t.text))
+    by_closing : (o : Option ℕ) → closing false (drop 1 t.text) ≡ o → (slice_index t.text 0 == 39) ≡ true → string_token o t.text ≡ Ok t → FitsValue (value.Text (quoted_value t.text))
     by_closing None c q e = absurd (cc)
     by_closing (Some len) c q e = by_fit len q c (pick (fits_text (take (suc len) t.text)) _ _ (Ok t) e)
 
-    by_keyword : (o : Option TokenKind) → keyword (word_of t.text) ≡ o → named o (word_of t.text) ≡ Ok t → FitsValue (value.Text (unquoted t.text))
+    by_keyword : (o : Option TokenKind) → keyword (word_of t.text) ≡ o → keyword_or_name o (word_of t.text) ≡ Ok t → FitsValue (value.Text (quoted_value t.text))
     by_keyword (Some found) f e =
         let same : found ≡ k.Quoted = ap kind_in e ∙ kind in
         absurd (unspelled (word_of t.text) k.Quoted refl (f ∙ ap Some same))
     by_keyword None f e = let same : k.Name ≡ k.Quoted = is_named (word_of t.text) t e ∙ kind in absurd (cc)
 
-    by_reading : ReadAs t.text t → FitsValue (value.Text (unquoted t.text))
+    by_reading : ReadAs t.text t → FitsValue (value.Text (quoted_value t.text))
     by_reading (inl (l, e)) = by_keyword (keyword (word_of t.text)) refl e
     by_reading (inr (inl (text, e))) = let same : k.Integer ≡ k.Quoted = no_integer _ text t e ∙ kind in absurd (cc)
     by_reading (inr (inr (inl (q, e)))) = by_closing (closing false (drop 1 t.text)) refl q e

@@ -9,7 +9,7 @@ use Rattle.sql_tokens.specs.declared.kinds.TokenKind.TheVariants as k
 use Rattle.sql_tokens.specs.Kinds.{same_kind}
 use Rattle.sql_tokens.specs.Lex.{Token, token_at}
 use Rattle.sql_text.specs.Tokens.{sql, IsToken}
-use Rattle.sql_text.specs.Rules.{before, closed, in_parens, listed, ended}
+use Rattle.sql_text.specs.Rules.{before, followed_by, in_parens, list_of, list_to_end}
 
 -- how many bytes the tokens have
 abbrev pub weigh : List Token → ℕ
@@ -88,25 +88,25 @@ module _ (N : Nests sql) where
   unfolding before
   light_before {A} kind {p} {f} l = light_means (light_both {p = token kind} {q = p} {f = λ _. 9} {g = f} light_nine l)
 
-  pub light_closed : {A : Type 0} {p : Rule sql A} (kind : TokenKind) {f : A → ℕ} → Light p f → Light (closed p kind) (λ v. f v + 9)
-  unfolding closed
+  pub light_closed : {A : Type 0} {p : Rule sql A} (kind : TokenKind) {f : A → ℕ} → Light p f → Light (followed_by p kind) (λ v. f v + 9)
+  unfolding followed_by
   light_closed {A} {p} kind {f} l = light_means (light_both {p = p} {q = token kind} {f = f} {g = λ _. 9} l light_nine)
 
   pub light_parens : {A : Type 0} {p : Rule sql A} {f : A → ℕ} → Light p f → Light (in_parens p) (λ v. 9 + (f v + 9))
   unfolding in_parens
   light_parens {A} {p} {f} l = light_before k.LeftParen {f = λ v. f v + 9} (light_closed k.RightParen l)
 
-  pub light_listed : {A : Type 0} (most : Option ℕ) (kind : TokenKind) {p : Rule sql A} {f : A → ℕ} → Light p f → Light (listed most kind p) (total f)
-  unfolding listed
+  pub light_listed : {A : Type 0} (most : Option ℕ) (kind : TokenKind) {p : Rule sql A} {f : A → ℕ} → Light p f → Light (list_of most kind p) (total f)
+  unfolding list_of
   light_listed {A} most kind {p} {f} l =
       let more : Light (before kind p) f = light_less (light_before kind l) (λ v. omega arith) in
       light_means (light_both {p = p} {q = many most (before kind p)} {f = f} {g = total f} l (light_many more))
 
-  pub light_ended : {A : Type 0} (most : Option ℕ) {p : Rule sql A} (kind : TokenKind) {f : A → ℕ} → Light p f → Light (ended most p kind) (total f)
-  unfolding ended
+  pub light_ended : {A : Type 0} (most : Option ℕ) {p : Rule sql A} (kind : TokenKind) {f : A → ℕ} → Light p f → Light (list_to_end most p kind) (total f)
+  unfolding list_to_end
   light_ended {A} most {p} kind {f} l =
-      let one : Light (closed p kind) f = light_less (light_closed kind l) (λ v. omega arith) in
-      light_means (light_both {p = closed p kind} {q = many most (closed p kind)} {f = f} {g = total f} one (light_many one))
+      let one : Light (followed_by p kind) f = light_less (light_closed kind l) (λ v. omega arith) in
+      light_means (light_both {p = followed_by p kind} {q = many most (followed_by p kind)} {f = f} {g = total f} one (light_many one))
 
 -- Rules without COMMIT.
 

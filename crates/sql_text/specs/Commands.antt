@@ -12,7 +12,7 @@ use Rattle.vo_spec.specs.declared.tables.Command.TheVariants as command_of
 use Rattle.vo_spec.specs.declared.tables.Batch.{Batch}
 use Rattle.vo_spec.specs.Batches.{max_columns, max_commands}
 use Rattle.sql_text.specs.Tokens.{sql}
-use Rattle.sql_text.specs.Rules.{before, closed, in_parens, optional, listed, ended}
+use Rattle.sql_text.specs.Rules.{before, followed_by, in_parens, optional, list_of, list_to_end}
 use Rattle.sql_text.specs.Queries.{name, literal}
 
 -- BIGINT | TEXT | BOOLEAN
@@ -29,7 +29,7 @@ column = means (λ x. record { name = x.0; kind = x.1.0 })
 
 -- column , { column , }
 abbrev pub columns : Rule sql (List Column)
-columns = ended (Some (max_columns - 1)) column k.Comma
+columns = list_to_end (Some (max_columns - 1)) column k.Comma
 
 -- PRIMARY KEY ( name )
 unfoldable pub key_clause : Rule sql (List ℕ)
@@ -48,7 +48,7 @@ drop_table = means command_of.Drop (before k.Drop (before k.Table name))
 
 -- literal { , literal }
 abbrev pub literals : Rule sql (List Value)
-literals = listed (Some (max_columns - 1)) k.Comma literal
+literals = list_of (Some (max_columns - 1)) k.Comma literal
 
 -- INSERT INTO name VALUES ( literal { , literal } )
 unfoldable pub insert : Rule sql Command
@@ -63,7 +63,7 @@ set_part = means (λ x. record { column = x.0; value = x.1 }) (both name (before
 
 -- part { , part }
 abbrev pub set_parts : Rule sql (List SetPart)
-set_parts = listed (Some (max_columns - 1)) k.Comma set_part
+set_parts = list_of (Some (max_columns - 1)) k.Comma set_part
 
 -- UPDATE name SET part { , part } WHERE name = literal
 unfoldable pub update : Rule sql Command
@@ -83,11 +83,11 @@ command = either create (either drop_table (either insert (either update delete)
 
 -- command ; { command ; }
 abbrev pub commands : Rule sql (List Command)
-commands = ended (Some (max_commands - 1)) command k.Semicolon
+commands = list_to_end (Some (max_commands - 1)) command k.Semicolon
 
 unfoldable pub batch : Rule sql Batch
 batch = means (λ c. record { commands = c }) commands
 
 -- { batch COMMIT ; }
 unfoldable pub script : Rule sql (List Batch)
-script = many None (closed (closed batch k.Commit) k.Semicolon)
+script = many None (followed_by (followed_by batch k.Commit) k.Semicolon)

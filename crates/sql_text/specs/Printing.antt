@@ -58,13 +58,13 @@ literal_token (value.Bool true) = word k.True
 literal_token (value.Bool false) = word k.False
 
 -- the tokens of each, with this one between each two
-abbrev pub separated : {A : Type 0} → TokenKind → (A → List Token) → List A → List Token
-separated separator tokens [] = []
-separated separator tokens (x ∷ xs) = tokens x ++ flat_map (λ y. word separator ∷ tokens y) xs
+abbrev pub separate_by : {A : Type 0} → TokenKind → (A → List Token) → List A → List Token
+separate_by separator tokens [] = []
+separate_by separator tokens (x ∷ xs) = tokens x ++ flat_map (λ y. word separator ∷ tokens y) xs
 
 -- the tokens of each, with this one behind each
-abbrev pub terminated : {A : Type 0} → TokenKind → (A → List Token) → List A → List Token
-terminated end tokens xs = flat_map (λ x. tokens x ++ word end ∷ []) xs
+abbrev pub terminate_by : {A : Type 0} → TokenKind → (A → List Token) → List A → List Token
+terminate_by end tokens xs = flat_map (λ x. tokens x ++ word end ∷ []) xs
 
 abbrev pub parens : List Token → List Token
 parens tokens = word k.LeftParen ∷ tokens ++ word k.RightParen ∷ []
@@ -97,15 +97,15 @@ is_enclosed in_word (some cs) = true
 is_enclosed in_word (negated c) = false
 is_enclosed in_word (test left op right) = false
 
-abbrev pub enclosed : Bool → List Token → List Token
-enclosed true tokens = parens tokens
-enclosed false tokens = tokens
+abbrev pub parenthesize : Bool → List Token → List Token
+parenthesize true tokens = parens tokens
+parenthesize false tokens = tokens
 
 abbrev mutual
   pub condition_tokens : Condition → List Token
   condition_tokens (every cs) = drop 1 (parts_tokens k.And cs)
   condition_tokens (some cs) = drop 1 (parts_tokens k.Or cs)
-  condition_tokens (negated c) = word k.Not ∷ enclosed (is_enclosed k.Not c) (condition_tokens c)
+  condition_tokens (negated c) = word k.Not ∷ parenthesize (is_enclosed k.Not c) (condition_tokens c)
   condition_tokens (test left op right) = reference_tokens left
       ++ word (operator op) ∷ operand_tokens right
 
@@ -113,11 +113,11 @@ abbrev mutual
   pub parts_tokens : TokenKind → Conditions → List Token
   parts_tokens before none = []
   parts_tokens before (more c cs) =
-      word before ∷ enclosed (is_enclosed before c) (condition_tokens c) ++ parts_tokens before cs
+      word before ∷ parenthesize (is_enclosed before c) (condition_tokens c) ++ parts_tokens before cs
 
 abbrev pub items_tokens : Items → List Token
 items_tokens items_of.All = word k.Star ∷ []
-items_tokens (items_of.Refs refs) = separated k.Comma reference_tokens refs
+items_tokens (items_of.Refs refs) = separate_by k.Comma reference_tokens refs
 
 abbrev pub join_tokens : Join → List Token
 join_tokens j = word k.Join ∷ source_tokens j.right ++ word k.On ∷ reference_tokens j.left_ref
@@ -148,7 +148,7 @@ abbrev pub key_tokens : List ℕ → List Token
 key_tokens key = word k.Primary ∷ word k.Key ∷ parens (name_token key ∷ [])
 
 abbrev pub columns_tokens : List Column → List ℕ → List Token
-columns_tokens columns key = terminated k.Comma column_tokens columns ++ key_tokens key
+columns_tokens columns key = terminate_by k.Comma column_tokens columns ++ key_tokens key
 
 abbrev pub command_tokens : Command → List Token
 command_tokens (command_of.Create name columns key) =
@@ -156,33 +156,33 @@ command_tokens (command_of.Create name columns key) =
 command_tokens (command_of.Drop name) = word k.Drop ∷ word k.Table ∷ name_token name ∷ []
 command_tokens (command_of.Insert name values) =
     word k.Insert ∷ word k.Into ∷ name_token name ∷ word k.Values
-    ∷ parens (separated k.Comma (λ v. literal_token v ∷ []) values)
+    ∷ parens (separate_by k.Comma (λ v. literal_token v ∷ []) values)
 command_tokens (command_of.Update name sets column value) =
-    word k.Update ∷ name_token name ∷ word k.Set ∷ separated k.Comma set_tokens sets
+    word k.Update ∷ name_token name ∷ word k.Set ∷ separate_by k.Comma set_tokens sets
     ++ word k.Where ∷ set_tokens (record { column = column; value = value })
 command_tokens (command_of.Delete name column value) =
     word k.Delete ∷ word k.From ∷ name_token name ∷ word k.Where
     ∷ set_tokens (record { column = column; value = value })
 
 abbrev pub batch_tokens : List Command → List Token
-batch_tokens commands = terminated k.Semicolon command_tokens commands
+batch_tokens commands = terminate_by k.Semicolon command_tokens commands
 
 -- Texts.
 
 -- the tokens' texts, with one blank between each two
-abbrev pub spaced : List Token → List ℕ
-spaced [] = []
-spaced (t ∷ []) = t.text
-spaced (t ∷ u ∷ ts) = t.text ++ 32 ∷ spaced (u ∷ ts)
+abbrev pub spaces_between : List Token → List ℕ
+spaces_between [] = []
+spaces_between (t ∷ []) = t.text
+spaces_between (t ∷ u ∷ ts) = t.text ++ 32 ∷ spaces_between (u ∷ ts)
 
 -- the tokens' texts, with a blank behind each
-abbrev pub written : List Token → List ℕ
-written ts = flat_map (λ t. t.text ++ 32 ∷ []) ts
+abbrev pub text_of : List Token → List ℕ
+text_of ts = flat_map (λ t. t.text ++ 32 ∷ []) ts
 
 -- the texts that queries and batches are printed as
 
 unfoldable pub query_text : Query → List ℕ
-query_text q = spaced (query_tokens q)
+query_text q = spaces_between (query_tokens q)
 
 unfoldable pub batch_text : List Command → List ℕ
-batch_text commands = spaced (batch_tokens commands)
+batch_text commands = spaces_between (batch_tokens commands)

@@ -4,7 +4,7 @@ use Rattle.std.specs.Str.{str_to_ascii_lowercase}
 use Rattle.grammar.specs.Rule.{Rule, Grammar, token, both, either, means, inside}
 use Rattle.sql_tokens.specs.declared.kinds.TokenKind.{TokenKind}
 use Rattle.sql_tokens.specs.declared.kinds.TokenKind.TheVariants as k
-use Rattle.sql_tokens.specs.Lex.{unquoted}
+use Rattle.sql_tokens.specs.Lex.{quoted_value}
 use Rattle.vo_spec.specs.declared.values.Value.{Value}
 use Rattle.vo_spec.specs.declared.values.Value.TheVariants as value
 use Rattle.vo_spec.specs.declared.queries.Ref.{Ref}
@@ -20,7 +20,7 @@ use Rattle.vo_spec.specs.Conditions.{Condition, conditions, every, some, negated
 use Rattle.vo_spec.specs.Conditions
 use Rattle.sql_text.specs.Limits.{max_items}
 use Rattle.sql_text.specs.Tokens.{sql, Nested, whole, primary}
-use Rattle.sql_text.specs.Rules.{before, closed, optional, listed}
+use Rattle.sql_text.specs.Rules.{before, followed_by, optional, list_of}
 
 -- a name: its letters small
 unfoldable pub name : Rule sql (List ℕ)
@@ -30,7 +30,7 @@ name = means (λ t. str_to_ascii_lowercase t.text) (token k.Name)
 unfoldable pub literal : Rule sql Value
 literal =
     either (means (λ t. value.Int t.number) (token k.Integer))
-    (either (means (λ t. value.Text (unquoted t.text)) (token k.Quoted))
+    (either (means (λ t. value.Text (quoted_value t.text)) (token k.Quoted))
     (either (means (λ t. value.Bool true) (token k.True))
     (means (λ t. value.Bool false) (token k.False))))
 
@@ -72,7 +72,7 @@ comparison = means (λ x. Conditions.test x.0 x.1.0 x.1.1) (both reference (both
 -- NOT prim | ( cond ) | comparison
 unfoldable pub prim : Rule sql Condition
 prim = either (means negated (inside k.Not primary))
-    (either (closed (inside k.LeftParen whole) k.RightParen) comparison)
+    (either (followed_by (inside k.LeftParen whole) k.RightParen) comparison)
 
 -- one part is itself
 abbrev pub all_of : List Condition → Condition
@@ -85,11 +85,11 @@ any_of parts = some (conditions parts)
 
 -- prim { AND prim }
 unfoldable pub conj : Rule sql Condition
-conj = means all_of (listed None k.And prim)
+conj = means all_of (list_of None k.And prim)
 
 -- conj { OR conj }
 unfoldable pub disj : Rule sql Condition
-disj = means any_of (listed None k.Or conj)
+disj = means any_of (list_of None k.Or conj)
 
 -- what stands in a condition, and what may follow it: the rest of a reference at its end, or a further part
 unfoldable pub conditions_of : Grammar sql
@@ -105,7 +105,7 @@ conditions_of = record { rule = rule; after = after }
 
 -- ref { , ref }
 abbrev pub references : Rule sql (List Ref)
-references = listed (Some (max_items - 1)) k.Comma reference
+references = list_of (Some (max_items - 1)) k.Comma reference
 
 -- * | ref { , ref }
 unfoldable pub items : Rule sql Items

@@ -10,21 +10,21 @@ unfoldable pub before : {A : Type 0} → TokenKind → Rule sql A → Rule sql A
 before kind p = means (λ x. x.1) (both (token kind) p)
 
 -- p, then a token of this kind
-unfoldable pub closed : {A : Type 0} → Rule sql A → TokenKind → Rule sql A
-closed p kind = means (λ x. x.0) (both p (token kind))
+unfoldable pub followed_by : {A : Type 0} → Rule sql A → TokenKind → Rule sql A
+followed_by p kind = means (λ x. x.0) (both p (token kind))
 
 -- ( p )
 unfoldable pub in_parens : {A : Type 0} → Rule sql A → Rule sql A
-in_parens p = before k.LeftParen (closed p k.RightParen)
+in_parens p = before k.LeftParen (followed_by p k.RightParen)
 
 -- [ p ]
 unfoldable pub optional : {A : Type 0} → Rule sql A → Rule sql (Option A)
 optional p = either (means Some p) (nothing None)
 
 -- p { separator p }, with at most so many separators
-unfoldable pub listed : {A : Type 0} → Option ℕ → TokenKind → Rule sql A → Rule sql (List A)
-listed most separator p = means (λ x. x.0 ∷ x.1) (both p (many most (before separator p)))
+unfoldable pub list_of : {A : Type 0} → Option ℕ → TokenKind → Rule sql A → Rule sql (List A)
+list_of most separator p = means (λ x. x.0 ∷ x.1) (both p (many most (before separator p)))
 
 -- p end { p end }, with at most so many after the first
-unfoldable pub ended : {A : Type 0} → Option ℕ → Rule sql A → TokenKind → Rule sql (List A)
-ended most p end = means (λ x. x.0 ∷ x.1) (both (closed p end) (many most (closed p end)))
+unfoldable pub list_to_end : {A : Type 0} → Option ℕ → Rule sql A → TokenKind → Rule sql (List A)
+list_to_end most p end = means (λ x. x.0 ∷ x.1) (both (followed_by p end) (many most (followed_by p end)))

@@ -15,7 +15,7 @@ use Rattle.sql_text.specs.declared.parse_error.ParseError.TheVariants as halt
 use Rattle.sql_text.specs.Limits.{max_nesting, max_script_bytes, max_sql_bytes}
 use Rattle.sql_text.specs.Queries.{conditions_of}
 use Rattle.sql_text.specs.Commands.{script}
-use Rattle.sql_text.specs.Texts.{unplaced, place_of, ended}
+use Rattle.sql_text.specs.Texts.{without_places, place_of, expect_end}
 
 -- this token is the `;` of a COMMIT, which stands before it if `committed`
 abbrev pub closes : Bool → Placed → Bool
@@ -40,14 +40,14 @@ AreShort ps = has_long 0 false ps ≡ false
 abbrev pub IsScript : List ℕ → List Batch → Type 0
 IsScript text batches =
     (length text ≤ max_script_bytes) × (ps : List Placed) × (tokens_of text ≡ Ok ps)
-    × IsText conditions_of true max_nesting script (unplaced ps) batches × AreShort ps
+    × IsText conditions_of true max_nesting script (without_places ps) batches × AreShort ps
 
 -- the text's tokens have this fault, at this place, and no batch is too long before it
 abbrev pub BreaksScript : List ℕ → ParseFault → ℕ → Type 0
 BreaksScript text s at =
     (ps : List Placed) × (tokens_of text ≡ Ok ps)
     × (n : ℕ) × (at ≡ place_of (drop n ps) (length text))
-    × FaultsAt conditions_of max_nesting script (unplaced ps) s (unplaced (drop n ps))
+    × FaultsAt conditions_of max_nesting script (without_places ps) s (without_places (drop n ps))
     × AreShort (take n ps)
 
 -- the tokens before some `;` begin a script, and that one closes the first batch that is too long
@@ -55,7 +55,7 @@ abbrev pub HasLongBatch : List ℕ → Type 0
 HasLongBatch text =
     (ps : List Placed) × (tokens_of text ≡ Ok ps) × (front rest : List Placed) × (p : Placed)
     × (ps ≡ front ++ p ∷ rest)
-    × Begins conditions_of true max_nesting script (unplaced front) × AreShort front
+    × Begins conditions_of true max_nesting script (without_places front) × AreShort front
     × (has_long 0 false (front ++ p ∷ []) ≡ true)
 
 -- when each fault comes: the length first, then the first token that is none, then what comes first of a token that no script
@@ -95,5 +95,5 @@ abbrev pub ended_script : {B : Type 0} → Bool → Result B ParseError → List
     → Result B SqlFault
 ended_script is_whole (Err halt.Memory) left end = Err fault.Memory
 ended_script false found [] end = Err fault.TooLong
-ended_script false found (p ∷ left) end = ended found (p ∷ left) end
-ended_script true found left end = ended found left end
+ended_script false found (p ∷ left) end = expect_end found (p ∷ left) end
+ended_script true found left end = expect_end found left end

@@ -14,14 +14,14 @@ use Rattle.sql_text.specs.Limits.{max_nesting}
 use Rattle.sql_text.specs.Tokens.{sql}
 use Rattle.sql_text.specs.Queries.{conditions_of}
 
-abbrev pub unplaced : List Placed → List Token
-unplaced ps = map (λ p. p.token) ps
+abbrev pub without_places : List Placed → List Token
+without_places ps = map (λ p. p.token) ps
 
 -- a text of at most so many bytes that the rule derives, and its value
 abbrev pub IsTextOf : {A : Type 0} → ℕ → Rule sql A → List ℕ → A → Type 0
 IsTextOf most start text v =
     (length text ≤ most) × (ps : List Placed) × (tokens_of text ≡ Ok ps)
-    × IsText conditions_of true max_nesting start (unplaced ps) v
+    × IsText conditions_of true max_nesting start (without_places ps) v
 
 -- the place of the first of these tokens, or the text's end
 abbrev pub place_of : List Placed → ℕ → ℕ
@@ -33,7 +33,7 @@ abbrev pub Breaks : {A : Type 0} → Rule sql A → List ℕ → ParseFault → 
 Breaks start text s at =
     (ps : List Placed) × (tokens_of text ≡ Ok ps)
     × (n : ℕ) × (at ≡ place_of (drop n ps) (length text))
-    × FaultsAt conditions_of max_nesting start (unplaced ps) s (unplaced (drop n ps))
+    × FaultsAt conditions_of max_nesting start (without_places ps) s (without_places (drop n ps))
 
 -- when each fault comes: the length first, then the first token that is none, then the first token that the rule can't go on with
 abbrev pub HasFault : {A : Type 0} → ℕ → Rule sql A → List ℕ → SqlFault → Type 0
@@ -64,10 +64,10 @@ Accepts view (Err fault.Memory) v = Unit {0}
 Accepts view (Err _) v = ⊥
 
 -- the answer by what the parser found, and the tokens that it left
-abbrev pub ended : {B : Type 0} → Result B ParseError → List Placed → ℕ → Result B SqlFault
-ended (Ok x) [] end = Ok x
-ended (Ok x) (p ∷ _) end = Err (fault.Syntax p.at)
-ended (Err Memory) left end = Err fault.Memory
-ended (Err (Fault stop.Syntax)) left end = Err (fault.Syntax (place_of left end))
-ended (Err (Fault stop.Nesting)) left end = Err fault.Nesting
-ended (Err (Fault stop.TooMany)) left end = Err fault.TooMany
+abbrev pub expect_end : {B : Type 0} → Result B ParseError → List Placed → ℕ → Result B SqlFault
+expect_end (Ok x) [] end = Ok x
+expect_end (Ok x) (p ∷ _) end = Err (fault.Syntax p.at)
+expect_end (Err Memory) left end = Err fault.Memory
+expect_end (Err (Fault stop.Syntax)) left end = Err (fault.Syntax (place_of left end))
+expect_end (Err (Fault stop.Nesting)) left end = Err fault.Nesting
+expect_end (Err (Fault stop.TooMany)) left end = Err fault.TooMany

@@ -13,7 +13,7 @@ ghost use Rattle.vo_spec.specs.declared.tables.Command.{Command};
 ghost use Rattle.vo_spec.specs.declared.tables.Batch.{Batch};
 ghost use Rattle.sql_text.specs.Tokens.{sql};
 ghost use Rattle.sql_text.specs.Parsing.{left_of, Reads, KeepsLevels, KeepsTokens};
-ghost use Rattle.sql_text.specs.Rules.{before, closed, in_parens, optional, listed, ended};
+ghost use Rattle.sql_text.specs.Rules.{before, followed_by, in_parens, optional, list_of, list_to_end};
 ghost use Rattle.sql_text.specs.Queries.{name, literal};
 ghost use Rattle.sql_text.specs.Commands.{column_kind, column, columns, key_clause, create, drop_table, literals, insert, set_part, set_parts, update, delete, command, commands, batch, script};
 
@@ -76,9 +76,9 @@ impl<'a> Parser<'a> {
     }
 
     /// A column and the comma behind it.
-    #[tactic(auto, unfolding(crate::specs::Commands::column, crate::specs::Rules::closed))]
+    #[tactic(auto, unfolding(crate::specs::Commands::column, crate::specs::Rules::followed_by))]
     fn column(&mut self, alloc: Global) -> Result<Column, ParseError>
-        ensures value { Reads (λ x. x) (closed column k.Comma) self.old result self.new }
+        ensures value { Reads (λ x. x) (followed_by column k.Comma) self.old result self.new }
         ensures levels { KeepsLevels self.old self.new }
         ensures list { KeepsTokens self.old self.new }
     {
@@ -105,7 +105,7 @@ impl<'a> Parser<'a> {
     }
 
     /// ( name )
-    #[tactic(auto, unfolding(crate::specs::Rules::before, crate::specs::Rules::in_parens, crate::specs::Rules::closed))]
+    #[tactic(auto, unfolding(crate::specs::Rules::before, crate::specs::Rules::in_parens, crate::specs::Rules::followed_by))]
     fn name_in_parens(&mut self, alloc: Global) -> Result<Name, ParseError>
         ensures value { Reads (λ x. x) (in_parens name) self.old result self.new }
         ensures levels { KeepsLevels self.old self.new }
@@ -129,7 +129,7 @@ impl<'a> Parser<'a> {
     }
 
     /// ( columns and the key )
-    #[tactic(auto, unfolding(crate::specs::Rules::before, crate::specs::Rules::in_parens, crate::specs::Rules::closed))]
+    #[tactic(auto, unfolding(crate::specs::Rules::before, crate::specs::Rules::in_parens, crate::specs::Rules::followed_by))]
     fn table_body(&mut self, alloc: Global) -> Result<(List<Column>, Name), ParseError>
         ensures value { Reads (λ x. x)
             (in_parens (both columns key_clause)) self.old result
@@ -197,7 +197,7 @@ impl<'a> Parser<'a> {
     }
 
     /// ( literals )
-    #[tactic(auto, unfolding(crate::specs::Rules::before, crate::specs::Rules::in_parens, crate::specs::Rules::closed))]
+    #[tactic(auto, unfolding(crate::specs::Rules::before, crate::specs::Rules::in_parens, crate::specs::Rules::followed_by))]
     fn row(&mut self, alloc: Global) -> Result<List<Value>, ParseError>
         ensures value { Reads (λ x. x)
             (in_parens literals) self.old result self.new }
@@ -353,9 +353,9 @@ impl<'a> Parser<'a> {
     }
 
     /// A command and the semicolon behind it.
-    #[tactic(auto, unfolding(crate::specs::Rules::closed))]
+    #[tactic(auto, unfolding(crate::specs::Rules::followed_by))]
     fn closed_command(&mut self, alloc: Global) -> Result<Command, ParseError>
-        ensures value { Reads (λ x. x) (closed command k.Semicolon) self.old result self.new }
+        ensures value { Reads (λ x. x) (followed_by command k.Semicolon) self.old result self.new }
         ensures levels { KeepsLevels self.old self.new }
         ensures list { KeepsTokens self.old self.new }
     {
@@ -403,9 +403,9 @@ impl<'a> Parser<'a> {
     }
 
     /// A batch and its COMMIT.
-    #[tactic(auto, unfolding(crate::specs::Rules::closed))]
+    #[tactic(auto, unfolding(crate::specs::Rules::followed_by))]
     fn ended_batch(&mut self, alloc: Global) -> Result<Batch, ParseError>
-        ensures value { Reads (λ x. x) (closed batch k.Commit) self.old result self.new }
+        ensures value { Reads (λ x. x) (followed_by batch k.Commit) self.old result self.new }
         ensures levels { KeepsLevels self.old self.new }
         ensures list { KeepsTokens self.old self.new }
     {
@@ -414,10 +414,10 @@ impl<'a> Parser<'a> {
     }
 
     /// A batch, its COMMIT and the semicolon behind that.
-    #[tactic(auto, unfolding(crate::specs::Rules::closed))]
+    #[tactic(auto, unfolding(crate::specs::Rules::followed_by))]
     fn committed_batch(&mut self, alloc: Global) -> Result<Batch, ParseError>
         ensures value { Reads (λ x. x)
-            (closed (closed batch k.Commit) k.Semicolon) self.old result self.new }
+            (followed_by (followed_by batch k.Commit) k.Semicolon) self.old result self.new }
         ensures levels { KeepsLevels self.old self.new }
         ensures list { KeepsTokens self.old self.new }
     {

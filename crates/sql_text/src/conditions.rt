@@ -1,7 +1,7 @@
 //! Conditions, by recursive descent. A level is one NOT or one opening parenthesis.
 ghost use Rattle.std.specs.Prelude.{◌≡◌, ◌+◌, ◌<◌, [], ◌∷◌, true, false, map, OnOk, OnErr, IfOk, Ok, Err, length};
 ghost use Rattle.vo_spec.specs.Conditions.{condition_of};
-ghost use Rattle.grammar.specs.Reading.{begins, taken};
+ghost use Rattle.grammar.specs.Reading.{begins, take_token};
 ghost use Rattle.sql_tokens.specs.declared.kinds.TokenKind.TheVariants as k;
 ghost use Rattle.sql_tokens.specs.Lex.{token_of};
 ghost use Rattle.sql_text.specs.Tokens.{sql};
@@ -58,7 +58,7 @@ impl<'a> Parser<'a> {
     fn open(&mut self, kind: TokenKind) -> Result<Lexeme<'a>, ParseError>
         requires { begins sql (kind ∷ []) (left_of self.old) ≡ true }
         ensures opened { IfOk result
-            (λ x. taken sql kind (left_of self.old) ≡ (Ok (token_of x), left_of self.new)) }
+            (λ x. take_token sql kind (left_of self.old) ≡ (Ok (token_of x), left_of self.new)) }
         ensures levels { OnOk result (self.new.levels + 1 ≡ self.old.levels) }
         ensures deep { OnErr result
             ((result ≡ Err (ParseError.Fault ParseFault.Nesting)) × (self.old.levels ≡ 0)

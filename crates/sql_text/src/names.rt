@@ -1,13 +1,13 @@
 //! Names, literals, references and sources.
 ghost use Rattle.std.specs.Prelude.{◌≡◌, OnOk, IfOk, false, List, Some, Vec};
 ghost use Rattle.std.specs.Str.{str_to_ascii_lowercase};
-ghost use Rattle.sql_tokens.specs.Lex.{unquoted, single_quotes};
+ghost use Rattle.sql_tokens.specs.Lex.{quoted_value, single_quotes};
 ghost use Rattle.sql_text.specs.Parsing.{Reads, KeepsLevels, KeepsTokens};
 ghost use Rattle.std.specs.Global.{Global};
 ghost use Rattle.grammar.specs.Rule.{either};
 ghost use Rattle.sql_tokens.specs.declared.kinds.TokenKind.TheVariants as k;
 ghost use Rattle.vo_spec.specs.declared.queries.Ref.{Ref};
-ghost use Rattle.sql_text.specs.Rules.{before, optional, listed};
+ghost use Rattle.sql_text.specs.Rules.{before, optional, list_of};
 ghost use Rattle.sql_text.specs.Queries.{name, literal, reference, source, operator, operand, ref_of, references, source_of};
 
 use crate::limits::MAX_ITEMS;
@@ -46,7 +46,7 @@ fn single_quotes(alloc: Global, text: &[u8]) -> Result<Vec<u8>, AllocError>
 
 /// What a text in its quotes stands for.
 fn unquote(alloc: Global, text: &[u8]) -> Result<Text, AllocError>
-    ensures { IfOk result (λ t. t ≡ unquoted text.now) }
+    ensures { IfOk result (λ t. t ≡ quoted_value text.now) }
 {
     if text.len() < 2 {
         return Ok(Text::from_vec(Vec::new(alloc)));

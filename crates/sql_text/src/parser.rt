@@ -27,7 +27,7 @@ pub fn push_parsed<T: Drop>(
 
 impl<'a> Parser<'a> {
     ghost use Rattle.grammar.specs.Rule.{token};
-    ghost use Rattle.grammar.specs.Reading.{begins, taken};
+    ghost use Rattle.grammar.specs.Reading.{begins, take_token};
     ghost use Rattle.sql_tokens.specs.Lex.{token_of};
     ghost use Rattle.sql_text.specs.Tokens.{sql};
     ghost use Rattle.sql_text.specs.Parsing.{left_of, first_of, Reads, KeepsLevels, KeepsTokens};
@@ -45,7 +45,7 @@ impl<'a> Parser<'a> {
     /// The next token, which is of this kind.
     pub fn take(&mut self, kind: TokenKind) -> Lexeme<'a>
         requires { begins sql (kind ∷ []) (left_of self.old) ≡ true }
-        ensures value { taken sql kind (left_of self.old)
+        ensures value { take_token sql kind (left_of self.old)
             ≡ (Ok (token_of result), left_of self.new) }
         ensures levels { KeepsLevels self.old self.new }
         ensures list { KeepsTokens self.old self.new }

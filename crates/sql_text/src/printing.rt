@@ -1,7 +1,7 @@
 //! Printing: what queries and commands share.
 ghost use Rattle.std.specs.Prelude.{◌≡◌, ℕ, List, [], ◌∷◌, ◌++◌, flat_map, OnOk};
 ghost use Rattle.sql_tokens.specs.Lex.{Token};
-ghost use Rattle.sql_text.specs.Printing.{word, name_token, quoted_byte, quoted_token, literal_token, reference_tokens, separated, terminated, spaced, written};
+ghost use Rattle.sql_text.specs.Printing.{word, name_token, quoted_byte, quoted_token, literal_token, reference_tokens, separate_by, terminate_by, spaces_between, text_of};
 
 use sql_tokens::TokenKind;
 use std::alloc::{AllocError, Global};
@@ -14,7 +14,7 @@ pub trait Print {
 
     /// Prints it at the end of `out`, with a blank behind each token.
     fn print(&self, alloc: Global, out: &mut Vec<u8>) -> Result<(), AllocError>
-        ensures { OnOk result (out.new.items ≡ out.old.items ++ written (tokens self.now)) };
+        ensures { OnOk result (out.new.items ≡ out.old.items ++ text_of (tokens self.now)) };
 }
 
 fn put(out: &mut Vec<u8>, text: &[u8]) -> Result<(), AllocError>
@@ -27,7 +27,7 @@ fn put(out: &mut Vec<u8>, text: &[u8]) -> Result<(), AllocError>
 
 /// Puts a keyword or a symbol at the end.
 pub fn put_word(out: &mut Vec<u8>, kind: TokenKind) -> Result<(), AllocError>
-    ensures { OnOk result (out.new.items ≡ out.old.items ++ written (word kind ∷ [])) }
+    ensures { OnOk result (out.new.items ≡ out.old.items ++ text_of (word kind ∷ [])) }
 {
     put(out, kind.spelling())
 }
@@ -53,7 +53,7 @@ fn put_doubled(out: &mut Vec<u8>, text: &[u8]) -> Result<(), AllocError>
 
 /// Puts a text in quotes at the end, each quote in it doubled.
 fn put_quoted(out: &mut Vec<u8>, text: &[u8]) -> Result<(), AllocError>
-    ensures { OnOk result (out.new.items ≡ out.old.items ++ written (quoted_token text.now ∷ [])) }
+    ensures { OnOk result (out.new.items ≡ out.old.items ++ text_of (quoted_token text.now ∷ [])) }
 {
     out.push(b'\'')?;
     put_doubled(out, text)?;
@@ -101,7 +101,7 @@ pub fn print_separated<P: Print>(
     separator: TokenKind,
 ) -> Result<(), AllocError>
     ensures { OnOk result (out.new.items ≡ out.old.items
-        ++ written (separated separator P.tokens parts.now)) }
+        ++ text_of (separate_by separator P.tokens parts.now)) }
 {
     if let Some((first, others)) = parts.split_first() {
         first.print(alloc, out)?;
@@ -117,7 +117,7 @@ fn print_others<P: Print>(
     separator: TokenKind,
 ) -> Result<(), AllocError>
     ensures { OnOk result (out.new.items ≡ out.old.items
-        ++ written (flat_map (λ part. word separator ∷ P.tokens part) others.now)) }
+        ++ text_of (flat_map (λ part. word separator ∷ P.tokens part) others.now)) }
 {
     for part in others {
         put_word(out, separator)?;
@@ -134,7 +134,7 @@ pub fn print_terminated<P: Print>(
     end: TokenKind,
 ) -> Result<(), AllocError>
     ensures { OnOk result (out.new.items ≡ out.old.items
-        ++ written (terminated end P.tokens parts.now)) }
+        ++ text_of (terminate_by end P.tokens parts.now)) }
 {
     for part in parts {
         part.print(alloc, out)?;
@@ -145,7 +145,7 @@ pub fn print_terminated<P: Print>(
 
 /// The text without the blank behind its last token.
 pub fn without_last_blank(mut out: Vec<u8>) -> Vec<u8>
-    ensures { (tokens : List Token) → out.items ≡ written tokens → result.items ≡ spaced tokens }
+    ensures { (tokens : List Token) → out.items ≡ text_of tokens → result.items ≡ spaces_between tokens }
 {
     out.pop();
     out

@@ -6,7 +6,7 @@ ghost use Rattle.sql_text.specs.Commands.{batch as batch_rule};
 ghost use Rattle.sql_text.specs.Limits.{max_sql_bytes};
 ghost use Rattle.sql_text.specs.Texts.{IsTextOf};
 ghost use Rattle.sql_text.specs.Spellable.{SpellableBatch};
-ghost use Rattle.sql_text.specs.Printing.{word, kind_word, column_tokens, set_tokens, key_tokens, columns_tokens, command_tokens, batch_text, written};
+ghost use Rattle.sql_text.specs.Printing.{word, kind_word, column_tokens, set_tokens, key_tokens, columns_tokens, command_tokens, batch_text, text_of};
 
 use crate::printing::{Print, print_separated, print_terminated, put_word, without_last_blank};
 use sql_tokens::TokenKind;
@@ -40,7 +40,7 @@ fn print_set(
     value: &Value,
 ) -> Result<(), AllocError>
     ensures { OnOk result (out.new.items ≡ out.old.items
-        ++ written (set_tokens (record { column = column.now; value = value.now }))) }
+        ++ text_of (set_tokens (record { column = column.now; value = value.now }))) }
 {
     column.print(alloc, out)?;
     put_word(out, TokenKind::Equal)?;
@@ -57,7 +57,7 @@ impl Print for SetPart {
 
 /// PRIMARY KEY ( name )
 fn print_key(alloc: Global, out: &mut Vec<u8>, key: &Name) -> Result<(), AllocError>
-    ensures { OnOk result (out.new.items ≡ out.old.items ++ written (key_tokens key.now)) }
+    ensures { OnOk result (out.new.items ≡ out.old.items ++ text_of (key_tokens key.now)) }
 {
     put_word(out, TokenKind::Primary)?;
     put_word(out, TokenKind::Key)?;
@@ -74,7 +74,7 @@ fn print_columns(
     key: &Name,
 ) -> Result<(), AllocError>
     ensures { OnOk result (out.new.items ≡ out.old.items
-        ++ written (columns_tokens columns.now key.now)) }
+        ++ text_of (columns_tokens columns.now key.now)) }
 {
     print_terminated(alloc, out, columns, TokenKind::Comma)?;
     print_key(alloc, out, key)
@@ -88,7 +88,7 @@ fn print_create(
     key: &Name,
 ) -> Result<(), AllocError>
     ensures { OnOk result (out.new.items ≡ out.old.items
-        ++ written (command_tokens (Command.Create name.now columns.now key.now))) }
+        ++ text_of (command_tokens (Command.Create name.now columns.now key.now))) }
 {
     put_word(out, TokenKind::Create)?;
     put_word(out, TokenKind::Table)?;
@@ -105,7 +105,7 @@ fn print_insert(
     values: &[Value],
 ) -> Result<(), AllocError>
     ensures { OnOk result (out.new.items ≡ out.old.items
-        ++ written (command_tokens (Command.Insert name.now values.now))) }
+        ++ text_of (command_tokens (Command.Insert name.now values.now))) }
 {
     put_word(out, TokenKind::Insert)?;
     put_word(out, TokenKind::Into)?;
@@ -118,7 +118,7 @@ fn print_insert(
 
 fn print_drop(alloc: Global, out: &mut Vec<u8>, name: &Name) -> Result<(), AllocError>
     ensures { OnOk result (out.new.items ≡ out.old.items
-        ++ written (command_tokens (Command.Drop name.now))) }
+        ++ text_of (command_tokens (Command.Drop name.now))) }
 {
     put_word(out, TokenKind::Drop)?;
     put_word(out, TokenKind::Table)?;
@@ -133,7 +133,7 @@ fn print_where(
     value: &Value,
 ) -> Result<(), AllocError>
     ensures { OnOk result (out.new.items ≡ out.old.items
-        ++ written (word k.Where ∷ set_tokens
+        ++ text_of (word k.Where ∷ set_tokens
         (record { column = column.now; value = value.now }))) }
 {
     put_word(out, TokenKind::Where)?;
@@ -149,7 +149,7 @@ fn print_update(
     value: &Value,
 ) -> Result<(), AllocError>
     ensures { OnOk result (out.new.items ≡ out.old.items
-        ++ written (command_tokens (Command.Update name.now sets.now column.now value.now))) }
+        ++ text_of (command_tokens (Command.Update name.now sets.now column.now value.now))) }
 {
     put_word(out, TokenKind::Update)?;
     name.print(alloc, out)?;
@@ -166,7 +166,7 @@ fn print_delete(
     value: &Value,
 ) -> Result<(), AllocError>
     ensures { OnOk result (out.new.items ≡ out.old.items
-        ++ written (command_tokens (Command.Delete name.now column.now value.now))) }
+        ++ text_of (command_tokens (Command.Delete name.now column.now value.now))) }
 {
     put_word(out, TokenKind::Delete)?;
     put_word(out, TokenKind::From)?;

@@ -7,7 +7,7 @@ ghost use Rattle.sql_text.specs.Limits.{max_sql_bytes};
 ghost use Rattle.sql_text.specs.Texts.{IsTextOf};
 ghost use Rattle.sql_text.specs.Printable.{PrintableQuery};
 ghost use Rattle.sql_text.specs.Spellable.{SpellableQuery};
-ghost use Rattle.sql_text.specs.Printing.{word, reference_tokens, source_tokens, operator, operand_tokens, is_enclosed, enclosed, condition_tokens, parts_tokens, items_tokens, join_tokens, where_tokens, query_tokens, query_text, written};
+ghost use Rattle.sql_text.specs.Printing.{word, reference_tokens, source_tokens, operator, operand_tokens, is_enclosed, parenthesize, condition_tokens, parts_tokens, items_tokens, join_tokens, where_tokens, query_tokens, query_text, text_of};
 
 use crate::printing::{Print, print_separated, put_word, without_last_blank};
 use sql_tokens::TokenKind;
@@ -78,7 +78,7 @@ fn print_test(
     right: &Operand,
 ) -> Result<(), AllocError>
     ensures { OnOk result (out.new.items ≡ out.old.items
-        ++ written (reference_tokens left.now ++ word (operator op) ∷ operand_tokens right.now)) }
+        ++ text_of (reference_tokens left.now ++ word (operator op) ∷ operand_tokens right.now)) }
 {
     left.print(alloc, out)?;
     put_word(out, operator(op))?;
@@ -94,7 +94,7 @@ fn print_part(
     in_word: TokenKind,
 ) -> Result<(), AllocError>
     ensures { OnOk result (out.new.items ≡ out.old.items
-        ++ written (enclosed (is_enclosed in_word (condition_of part.now))
+        ++ text_of (parenthesize (is_enclosed in_word (condition_of part.now))
         (condition_tokens (condition_of part.now)))) }
 {
     if !is_enclosed(in_word, part) {
@@ -114,7 +114,7 @@ fn print_parts(
     word: TokenKind,
 ) -> Result<(), AllocError>
     ensures { OnOk result (out.new.items ≡ out.old.items
-        ++ written (drop 1 (parts_tokens word (conditions (map condition_of parts.now))))) }
+        ++ text_of (drop 1 (parts_tokens word (conditions (map condition_of parts.now))))) }
 {
     if let Some((first, others)) = parts.split_first() {
         print_part(alloc, out, first, word)?;
@@ -132,7 +132,7 @@ fn print_other_parts(
     word: TokenKind,
 ) -> Result<(), AllocError>
     ensures { OnOk result (out.new.items ≡ out.old.items
-        ++ written (parts_tokens word (conditions (map condition_of others.now)))) }
+        ++ text_of (parts_tokens word (conditions (map condition_of others.now)))) }
 {
     for part in others {
         put_word(out, word)?;
@@ -145,7 +145,7 @@ fn print_other_parts(
 #[cycle(print_part)]
 fn print_negated(alloc: Global, out: &mut Vec<u8>, part: &Cond) -> Result<(), AllocError>
     ensures { OnOk result (out.new.items ≡ out.old.items
-        ++ written (condition_tokens (negated (condition_of part.now)))) }
+        ++ text_of (condition_tokens (negated (condition_of part.now)))) }
 {
     put_word(out, TokenKind::Not)?;
     print_part(alloc, out, part, TokenKind::Not)
@@ -155,7 +155,7 @@ fn print_negated(alloc: Global, out: &mut Vec<u8>, part: &Cond) -> Result<(), Al
 #[cycle(print_part)]
 fn print_condition(alloc: Global, out: &mut Vec<u8>, cond: &Cond) -> Result<(), AllocError>
     ensures { OnOk result (out.new.items ≡ out.old.items
-        ++ written (condition_tokens (condition_of cond.now))) }
+        ++ text_of (condition_tokens (condition_of cond.now))) }
 {
     match cond {
         Cond::All(parts) => print_parts(alloc, out, parts.as_slice(), TokenKind::And),
@@ -180,7 +180,7 @@ impl Print for Join {
 
 fn print_join(alloc: Global, out: &mut Vec<u8>, join: &Option<Join>) -> Result<(), AllocError>
     ensures { OnOk result (out.new.items ≡ out.old.items
-        ++ written (option_map_or join_tokens join.now [])) }
+        ++ text_of (option_map_or join_tokens join.now [])) }
 {
     match join {
         Some(join) => join.print(alloc, out),
@@ -190,7 +190,7 @@ fn print_join(alloc: Global, out: &mut Vec<u8>, join: &Option<Join>) -> Result<(
 
 fn print_where(alloc: Global, out: &mut Vec<u8>, cond: &Option<Cond>) -> Result<(), AllocError>
     ensures { OnOk result (out.new.items ≡ out.old.items
-        ++ written (option_map_or where_tokens (option_map condition_of cond.now) [])) }
+        ++ text_of (option_map_or where_tokens (option_map condition_of cond.now) [])) }
 {
     match cond {
         Some(cond) => {

@@ -12,7 +12,7 @@ use crate::faults::{SqlFault, of_tokens};
 use crate::limits::{MAX_SCRIPT_BYTES, MAX_SQL_BYTES};
 use crate::parse_error::ParseError;
 use crate::parser::Parser;
-use crate::texts::ended;
+use crate::texts::expect_end;
 use sql_tokens::{Lexeme, TokenKind, tokens};
 use std::alloc::Global;
 use vo_spec::Batch;
@@ -54,7 +54,7 @@ fn ended_script<T: Drop>(
     match found {
         Err(ParseError::Memory) => Err(SqlFault::Memory),
         _ if !is_whole && left.is_empty() => Err(SqlFault::TooLong),
-        found => ended(found, left, end),
+        found => expect_end(found, left, end),
     }
 }
 

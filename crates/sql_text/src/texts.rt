@@ -6,7 +6,7 @@ ghost use Rattle.vo_spec.specs.declared.tables.Batch.{Batch};
 ghost use Rattle.sql_text.specs.Queries.{query};
 ghost use Rattle.sql_text.specs.Commands.{batch};
 ghost use Rattle.sql_text.specs.Limits.{max_nesting, max_sql_bytes};
-ghost use Rattle.sql_text.specs.Texts.{ended, IsTextOf, AnswersText, Accepts};
+ghost use Rattle.sql_text.specs.Texts.{expect_end, IsTextOf, AnswersText, Accepts};
 ghost use Rattle.sql_text.specs.Fits.{FitCommands};
 ghost use Rattle.sql_text.specs.Printable.{PrintableQuery};
 
@@ -44,12 +44,12 @@ impl<'a> Parser<'a> {
 }
 
 /// The answer by what the parser found: a text has no tokens behind its value.
-pub fn ended<T: Drop>(
+pub fn expect_end<T: Drop>(
     found: Result<T, ParseError>,
     left: &[Lexeme<'_>],
     end: usize,
 ) -> Result<T, SqlFault>
-    ensures { result ≡ ended found (map placed_of left.now) end }
+    ensures { result ≡ expect_end found (map placed_of left.now) end }
 {
     let place = match left.first() {
         Some(next) => next.at,
@@ -83,7 +83,7 @@ pub fn parse_query(alloc: Global, text: &str) -> Result<QueryText, SqlFault>
     };
     let mut parser = Parser::new(list.as_slice());
     let found = parser.query(alloc);
-    ended(found, parser.left(), bytes.len())
+    expect_end(found, parser.left(), bytes.len())
 }
 
 /// The batch that a text is, or the text's first fault.
@@ -103,5 +103,5 @@ pub fn parse_batch(alloc: Global, text: &str) -> Result<Batch, SqlFault>
     };
     let mut parser = Parser::new(list.as_slice());
     let found = parser.batch(alloc);
-    ended(found, parser.left(), bytes.len())
+    expect_end(found, parser.left(), bytes.len())
 }

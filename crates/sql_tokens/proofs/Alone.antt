@@ -10,7 +10,7 @@ use Rattle.sql_tokens.specs.declared.kinds.TokenKind.TheVariants as k
 use Rattle.sql_tokens.specs.declared.lexemes.TokenFault.{TokenFault}
 use Rattle.sql_tokens.specs.declared.lexemes.TokenFault.TheVariants as lapse
 use Rattle.sql_tokens.specs.Kinds.{spelling, keyword}
-use Rattle.sql_tokens.specs.Lex.{Token, Placed, is_blank, is_letter, is_word_byte, named, integer_value, integer, closing, fits_text, quoted, symbol, symbolic, token_at, followed, placed, tokens_from, tokens_of}
+use Rattle.sql_tokens.specs.Lex.{Token, Placed, is_blank, is_letter, is_word_byte, keyword_or_name, integer_value, integer, closing, fits_text, string_token, symbol, symbolic, token_at, then_tokens, at_place, tokens_from, tokens_of}
 
 -- a run of bytes alone is a run
 run_alone : (p : ℕ → Bool) (z : List ℕ) → let w = take (prefix_len p z) z in take (prefix_len p w) w ≡ w
@@ -102,7 +102,7 @@ pub text_of : Result Token TokenFault → List ℕ
 text_of (Ok t) = t.text
 text_of (Err lapse) = []
 
-pub named_text : (o : Option TokenKind) (w : List ℕ) (t : Token) → named o w ≡ Ok t → t.text ≡ w
+pub named_text : (o : Option TokenKind) (w : List ℕ) (t : Token) → keyword_or_name o w ≡ Ok t → t.text ≡ w
 unfolding text_of
 named_text (Some kind) w t e = sym (ap text_of e)
 named_text None w t e = by_length (nat_le (length w) 63) e
@@ -120,7 +120,7 @@ pub symbolic_text : (kind : TokenKind) (z : List ℕ) (t : Token) → symbolic (
 unfolding text_of
 symbolic_text kind z t e = sym (ap text_of e)
 
-pub quoted_text : (len : ℕ) (z : List ℕ) (t : Token) → quoted (Some len) z ≡ Ok t → t.text ≡ take (suc len) z
+pub quoted_text : (len : ℕ) (z : List ℕ) (t : Token) → string_token (Some len) z ≡ Ok t → t.text ≡ take (suc len) z
 unfolding text_of
 quoted_text len z t e = by_fit (fits_text (take (suc len) z)) e
   where
@@ -130,7 +130,7 @@ quoted_text len z t e = by_fit (fits_text (take (suc len) z)) e
 
 -- which token stands first, by the first byte
 
-pub letter_at : (b : ℕ) (z : List ℕ) → is_letter b ≡ true → token_at (b ∷ z) ≡ (let w = take (prefix_len is_word_byte (b ∷ z)) (b ∷ z) in named (keyword w) w)
+pub letter_at : (b : ℕ) (z : List ℕ) → is_letter b ≡ true → token_at (b ∷ z) ≡ (let w = take (prefix_len is_word_byte (b ∷ z)) (b ∷ z) in keyword_or_name (keyword w) w)
 unfolding token_at
 letter_at b z e = rw e refl
 
@@ -145,7 +145,7 @@ unfolding token_at
 minus_at b z e f h = rw (e, f, h) refl
 
 pub quote_at : (b : ℕ) (z : List ℕ) → is_letter b ≡ false → is_ascii_digit b ≡ false → (b == 45 && is_ascii_digit (slice_index z 0)) ≡ false → (b == 39) ≡ true
-    → token_at (b ∷ z) ≡ quoted (closing false z) (b ∷ z)
+    → token_at (b ∷ z) ≡ string_token (closing false z) (b ∷ z)
 unfolding token_at
 quote_at b z e f h i = rw (e, f, h, i) refl
 
@@ -228,13 +228,13 @@ take_again zero z = refl
 take_again (suc n) [] = refl
 take_again (suc n) (b ∷ z) = ap (λ y. b ∷ y) (take_again n z)
 
-quote_token : (z : List ℕ) (t : Token) (o : Option ℕ) → closing false z ≡ o → quoted o (39 ∷ z) ≡ Ok t → token_at t.text ≡ Ok t
+quote_token : (z : List ℕ) (t : Token) (o : Option ℕ) → closing false z ≡ o → string_token o (39 ∷ z) ≡ Ok t → token_at t.text ≡ Ok t
 quote_token z t None e h = absurd (cc)
 quote_token z t (Some len) e h =
     ap token_at (quoted_text len (39 ∷ z) t h) ∙ quote_at 39 (take len z) refl refl refl refl
-    ∙ ap (λ y. quoted y (39 ∷ take len z)) (closing_alone false z len e) ∙ same ∙ h
+    ∙ ap (λ y. string_token y (39 ∷ take len z)) (closing_alone false z len e) ∙ same ∙ h
   where
-    same : quoted (Some len) (39 ∷ take len z) ≡ quoted (Some len) (39 ∷ z)
+    same : string_token (Some len) (39 ∷ take len z) ≡ string_token (Some len) (39 ∷ z)
     same = ap (λ y. cond (fits_text y) (Ok (record { kind = k.Quoted; text = y; number = pos 0 })) (Err lapse.Literal)) (ap (λ y. 39 ∷ y) (take_again len z))
 
 symbol_token : (b : ℕ) (z : List ℕ) (t : Token) (o : Option TokenKind) → is_letter b ≡ false → is_ascii_digit b ≡ false → (b == 39) ≡ false → symbol b (slice_index z 0) ≡ o
@@ -269,7 +269,7 @@ alone (b ∷ z) t h = by_letter (is_letter b) refl
     by_quote : is_letter b ≡ false → is_ascii_digit b ≡ false → (b == 45 && is_ascii_digit (slice_index z 0)) ≡ false → (q : Bool) → (b == 39) ≡ q → token_at t.text ≡ Ok t
     by_quote e f m true g =
         let same : b ≡ 39 = eqb-true b 39 g in
-        let found : quoted (closing false z) (39 ∷ z) ≡ Ok t = ap (λ y. quoted (closing false z) (y ∷ z)) (sym same) ∙ sym (quote_at b z e f m g) ∙ h in
+        let found : string_token (closing false z) (39 ∷ z) ≡ Ok t = ap (λ y. string_token (closing false z) (y ∷ z)) (sym same) ∙ sym (quote_at b z e f m g) ∙ h in
         quote_token z t (closing false z) refl found
     by_quote e f m false g = symbol_token b z t (symbol b (slice_index z 0)) e f g refl (sym (symbol_at b z e f m g) ∙ h)
 
@@ -282,7 +282,7 @@ alone (b ∷ z) t h = by_letter (is_letter b) refl
     by_digit e false f = by_minus e f (b == 45 && is_ascii_digit (slice_index z 0)) refl
 
     by_letter : (l : Bool) → is_letter b ≡ l → token_at t.text ≡ Ok t
-    by_letter true e = run_token is_word_byte (λ w. named (keyword w) w) b z t (word_letter b e) (λ w g. named_text (keyword w) w t g) (λ y. letter_at b y e) h
+    by_letter true e = run_token is_word_byte (λ w. keyword_or_name (keyword w) w) b z t (word_letter b e) (λ w g. named_text (keyword w) w t g) (λ y. letter_at b y e) h
     by_letter false e = by_digit e (is_ascii_digit b) refl
 
 -- all tokens of a text
@@ -290,12 +290,12 @@ abbrev AreAlone : Result (List Placed) (TokenFault × ℕ) → Type 0
 AreAlone (Ok ps) = AllByRecursion (λ t. token_at t.text ≡ Ok t) (map (λ p. p.token) ps)
 AreAlone (Err e) = Unit {0}
 
-followed_alone : (p : Placed) (r : Result (List Placed) (TokenFault × ℕ)) → token_at p.token.text ≡ Ok p.token → AreAlone r → AreAlone (followed p r)
+followed_alone : (p : Placed) (r : Result (List Placed) (TokenFault × ℕ)) → token_at p.token.text ≡ Ok p.token → AreAlone r → AreAlone (then_tokens p r)
 followed_alone p (Ok ps) h k = (h, k)
 followed_alone p (Err e) h k = tt
 
 placed_alone : (at : ℕ) (z : List ℕ) (r : Result Token TokenFault) (others : ℕ → Result (List Placed) (TokenFault × ℕ)) → token_at z ≡ r → ((n : ℕ) → AreAlone (others n))
-    → AreAlone (placed at r others)
+    → AreAlone (at_place at r others)
 placed_alone at z (Ok t) others e k = followed_alone (record { token = t; at = at }) (others (length t.text - 1)) (alone z t e) (k (length t.text - 1))
 placed_alone at z (Err lapse) others e k = tt
 
@@ -305,8 +305,8 @@ from_alone at within [] = tt
 from_alone at (suc within) (b ∷ z) = from_alone (at + 1) within z
 from_alone at zero (b ∷ z) = by_blank (is_blank b) (from_alone (at + 1) 0 z) (placed_alone at (b ∷ z) (token_at (b ∷ z)) (λ n. tokens_from (at + 1) n z) refl (λ n. from_alone (at + 1) n z))
   where
-    by_blank : (c : Bool) → AreAlone (tokens_from (at + 1) 0 z) → AreAlone (placed at (token_at (b ∷ z)) (λ n. tokens_from (at + 1) n z))
-        → AreAlone (cond c (tokens_from (at + 1) 0 z) (placed at (token_at (b ∷ z)) (λ n. tokens_from (at + 1) n z)))
+    by_blank : (c : Bool) → AreAlone (tokens_from (at + 1) 0 z) → AreAlone (at_place at (token_at (b ∷ z)) (λ n. tokens_from (at + 1) n z))
+        → AreAlone (cond c (tokens_from (at + 1) 0 z) (at_place at (token_at (b ∷ z)) (λ n. tokens_from (at + 1) n z)))
     by_blank true h k = h
     by_blank false h k = k
 

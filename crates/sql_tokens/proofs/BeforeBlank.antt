@@ -10,7 +10,7 @@ use Rattle.sql_tokens.specs.declared.kinds.TokenKind.TheVariants as k
 use Rattle.sql_tokens.specs.declared.lexemes.TokenFault.{TokenFault}
 use Rattle.sql_tokens.specs.declared.lexemes.TokenFault.TheVariants as lapse
 use Rattle.sql_tokens.specs.Kinds.{spelling, keyword}
-use Rattle.sql_tokens.specs.Lex.{Token, is_blank, is_letter, is_word_byte, named, integer_value, integer, closing, fits_text, quoted, symbol, symbolic, token_at}
+use Rattle.sql_tokens.specs.Lex.{Token, is_blank, is_letter, is_word_byte, keyword_or_name, integer_value, integer, closing, fits_text, string_token, symbol, symbolic, token_at}
 use Rattle.sql_tokens.proofs.Alone.{Stands, stands, named_text, integer_text, symbolic_text, quoted_text, letter_at, digit_at, minus_at, quote_at, symbol_at, word_letter, both_true, one_more, some_more, none_at_end}
 
 behind : (b : ℕ) (x y : List ℕ) → b ∷ x ≡ b ∷ y → x ≡ y
@@ -73,13 +73,13 @@ closing_before s (b ∷ w) z (suc n) e f = by_end (s && not (b == 39)) refl e (�
         let others = again (one_more (closing (not s && b == 39) w) n h) in
         (ap (λ c. cond {A = Option ℕ} c (Some 0) (option_map suc (closing (not s && b == 39) (w ++ 32 ∷ z)))) g ∙ ap (option_map suc) others.0, ap (λ y. b ∷ y) others.1)
 
-quote_before : (b : ℕ) (w z : List ℕ) (t : Token) (o : Option ℕ) → ((y : List ℕ) → token_at (b ∷ w ++ y) ≡ quoted (closing false (w ++ y)) (b ∷ w ++ y))
-    → closing false w ≡ o → quoted o (b ∷ w) ≡ Ok t → t.text ≡ b ∷ w → token_at (b ∷ w ++ 32 ∷ z) ≡ Ok t
+quote_before : (b : ℕ) (w z : List ℕ) (t : Token) (o : Option ℕ) → ((y : List ℕ) → token_at (b ∷ w ++ y) ≡ string_token (closing false (w ++ y)) (b ∷ w ++ y))
+    → closing false w ≡ o → string_token o (b ∷ w) ≡ Ok t → t.text ≡ b ∷ w → token_at (b ∷ w ++ 32 ∷ z) ≡ Ok t
 quote_before b w z t None at c h is = absurd (cc)
 quote_before b w z t (Some len) at c h is =
     let whole : take len w ≡ w = behind b _ w (sym (quoted_text len (b ∷ w) t h) ∙ is) in
     let further = closing_before false w z len c whole in
-    at (32 ∷ z) ∙ ap (λ o. quoted o (b ∷ w ++ 32 ∷ z)) further.0
+    at (32 ∷ z) ∙ ap (λ o. string_token o (b ∷ w ++ 32 ∷ z)) further.0
     ∙ ap (λ y. cond (fits_text y) (Ok (record { kind = k.Quoted; text = y; number = pos 0 })) (Err lapse.Literal)) (ap (λ y. b ∷ y) (further.1 ∙ sym whole)) ∙ h
 
 -- symbols
@@ -118,7 +118,7 @@ before_blank (b ∷ w) z t h is = by_letter (is_letter b) refl
     by_quote : is_letter b ≡ false → is_ascii_digit b ≡ false → (b == 45 && is_ascii_digit (slice_index w 0)) ≡ false → (q : Bool) → (b == 39) ≡ q → token_at (b ∷ w ++ 32 ∷ z) ≡ Ok t
     by_quote e f m true g =
         let same : b ≡ 39 = eqb-true b 39 g in
-        let at : (y : List ℕ) → token_at (b ∷ w ++ y) ≡ quoted (closing false (w ++ y)) (b ∷ w ++ y) = λ y. quote_at b (w ++ y) e f (ap (λ c. c == 45 && is_ascii_digit (slice_index (w ++ y) 0)) same) g in
+        let at : (y : List ℕ) → token_at (b ∷ w ++ y) ≡ string_token (closing false (w ++ y)) (b ∷ w ++ y) = λ y. quote_at b (w ++ y) e f (ap (λ c. c == 45 && is_ascii_digit (slice_index (w ++ y) 0)) same) g in
         quote_before b w z t (closing false w) at refl (sym (quote_at b w e f m g) ∙ h) is
     by_quote e f m false g =
         symbol_before b w z t (symbol b (slice_index w 0)) (λ y n. symbol_at b y e f (no_minus b _ n) g) refl (sym (symbol_at b w e f m g) ∙ h) is
@@ -132,7 +132,7 @@ before_blank (b ∷ w) z t h is = by_letter (is_letter b) refl
     by_digit e false f = by_minus e f (b == 45 && is_ascii_digit (slice_index w 0)) refl
 
     by_letter : (l : Bool) → is_letter b ≡ l → token_at (b ∷ w ++ 32 ∷ z) ≡ Ok t
-    by_letter true e = run_before is_word_byte (λ u. named (keyword u) u) b w z t refl is (λ u g. named_text (keyword u) u t g) (λ y. letter_at b y e) h
+    by_letter true e = run_before is_word_byte (λ u. keyword_or_name (keyword u) u) b w z t refl is (λ u g. named_text (keyword u) u t g) (λ y. letter_at b y e) h
     by_letter false e = by_digit e (is_ascii_digit b) refl
 
 -- no token begins with a blank

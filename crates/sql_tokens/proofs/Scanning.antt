@@ -4,7 +4,7 @@ use Rattle.std.proofs.Math.Seq.{drop-cons}
 use Rattle.std.proofs.lemmas.List.{append-nil, drop-drop, map-append}
 use Rattle.sql_tokens.specs.declared.lexemes.TokenFault.{TokenFault}
 use Rattle.sql_tokens.specs.declared.lexemes.Lexeme.{Lexeme}
-use Rattle.sql_tokens.specs.Lex.{Token, Placed, is_blank, token_at, followed, placed, tokens_from, token_of, placed_of}
+use Rattle.sql_tokens.specs.Lex.{Token, Placed, is_blank, token_at, then_tokens, at_place, tokens_from, token_of, placed_of}
 
 -- tokens that were read, in front of what is read from there on
 abbrev pub puts : List Placed → Result (List Placed) (TokenFault × ℕ) → Result (List Placed) (TokenFault × ℕ)
@@ -15,7 +15,7 @@ pub puts_none : (r : Result (List Placed) (TokenFault × ℕ)) → puts [] r ≡
 puts_none (Ok ps) = refl
 puts_none (Err e) = refl
 
-puts_one : (front : List Placed) (p : Placed) (r : Result (List Placed) (TokenFault × ℕ)) → puts front (followed p r) ≡ puts (front ++ p ∷ []) r
+puts_one : (front : List Placed) (p : Placed) (r : Result (List Placed) (TokenFault × ℕ)) → puts front (then_tokens p r) ≡ puts (front ++ p ∷ []) r
 puts_one front p (Ok ps) = ap Ok (sym (append_assoc front (p ∷ []) ps))
 puts_one front p (Err e) = refl
 
@@ -38,9 +38,9 @@ behind at zero b z some = absurd (omega arith)
 behind at (suc n) b z some = rw sub-one (skips (at + 1) n z ∙ ap (λ k. tokens_from k 0 (drop n z)) (omega arith))
 
 pub goes : (at b : ℕ) (z : List ℕ) (t : Token) → is_blank b ≡ false → token_at (b ∷ z) ≡ Ok t → 1 ≤ length t.text
-    → tokens_from at 0 (b ∷ z) ≡ followed (record { token = t; at = at }) (tokens_from (at + length t.text) 0 (drop (length t.text) (b ∷ z)))
+    → tokens_from at 0 (b ∷ z) ≡ then_tokens (record { token = t; at = at }) (tokens_from (at + length t.text) 0 (drop (length t.text) (b ∷ z)))
 unfolding tokens_from
-goes at b z t e f some = rw (e, f) (ap (followed (record { token = t; at = at })) (behind at (length t.text) b z some))
+goes at b z t e f some = rw (e, f) (ap (then_tokens (record { token = t; at = at })) (behind at (length t.text) b z some))
 
 -- at a place inside the text
 module _ (text : List ℕ) (at : ℕ) (inside : at < length text) where
@@ -58,9 +58,9 @@ module _ (text : List ℕ) (at : ℕ) (inside : at < length text) where
       ≡ puts (map placed_of (list ++ x ∷ [])) (tokens_from (at + length x.text.now) 0 (drop (at + length x.text.now) text))
   token_goes x list e f place some =
       let len = length x.text.now in
-      let next : tokens_from at 0 (drop at text) ≡ followed (record { token = token_of x; at = at }) (tokens_from (at + len) 0 (drop (at + len) text)) =
+      let next : tokens_from at 0 (drop at text) ≡ then_tokens (record { token = token_of x; at = at }) (tokens_from (at + len) 0 (drop (at + len) text)) =
       ap (tokens_from at 0) here ∙ goes at (get_or text at 0) (drop (suc at) text) (token_of x) e (ap token_at (sym here) ∙ f) some
-      ∙ ap (λ z. followed (record { token = token_of x; at = at }) (tokens_from (at + len) 0 z)) (ap (drop len) (sym here) ∙ drop-drop len at text) in
+      ∙ ap (λ z. then_tokens (record { token = token_of x; at = at }) (tokens_from (at + len) 0 z)) (ap (drop len) (sym here) ∙ drop-drop len at text) in
       ap (puts (map placed_of list)) next ∙ puts_one (map placed_of list) (record { token = token_of x; at = at }) (tokens_from (at + len) 0 (drop (at + len) text))
       ∙ ap (λ z. puts z (tokens_from (at + len) 0 (drop (at + len) text)))
       (ap (λ k. map placed_of list ++ record { token = token_of x; at = k } ∷ []) (sym place) ∙ sym (map-append placed_of list (x ∷ [])))

@@ -37,9 +37,9 @@ abbrev pub is_word_byte : ℕ → Bool
 is_word_byte b = is_letter b || is_ascii_digit b
 
 -- a reserved word, or a name that is not too long
-abbrev pub named : Option TokenKind → List ℕ → Result Token TokenFault
-named (Some kind) word = Ok (record { kind = kind; text = word; number = pos 0 })
-named None word = if nat_le (length word) max_name
+abbrev pub keyword_or_name : Option TokenKind → List ℕ → Result Token TokenFault
+keyword_or_name (Some kind) word = Ok (record { kind = kind; text = word; number = pos 0 })
+keyword_or_name None word = if nat_le (length word) max_name
     then Ok (record { kind = k.Name; text = word; number = pos 0 }) else Err lapse.Name
 
 -- the digits behind a minus, if there is one
@@ -72,16 +72,16 @@ single_quotes second (b ∷ bytes) = if second && b == 39 then single_quotes fal
     else b ∷ single_quotes (b == 39) bytes
 
 -- what a quoted text stands for
-abbrev pub unquoted : List ℕ → List ℕ
-unquoted text = single_quotes false (take (length text - 2) (drop 1 text))
+abbrev pub quoted_value : List ℕ → List ℕ
+quoted_value text = single_quotes false (take (length text - 2) (drop 1 text))
 
 -- it stands for at most 1,024 bytes, and has none below 20 hex
 abbrev pub fits_text : List ℕ → Bool
-fits_text text = nat_le (length (unquoted text)) max_text && list_all (λ b. nat_le 32 b) text
+fits_text text = nat_le (length (quoted_value text)) max_text && list_all (λ b. nat_le 32 b) text
 
-abbrev pub quoted : Option ℕ → List ℕ → Result Token TokenFault
-quoted None bytes = Err lapse.Token
-quoted (Some len) bytes =
+abbrev pub string_token : Option ℕ → List ℕ → Result Token TokenFault
+string_token None bytes = Err lapse.Token
+string_token (Some len) bytes =
     let text = take (suc len) bytes in
     if fits_text text then Ok (record { kind = k.Quoted; text = text; number = pos 0 })
     else Err lapse.Literal
@@ -110,32 +110,32 @@ token_at bytes =
     let first = slice_index bytes 0 in
     let second = slice_index bytes 1 in
     if is_letter first then (let word = take (prefix_len is_word_byte bytes) bytes in
-    named (keyword word) word)
+    keyword_or_name (keyword word) word)
     else (if is_ascii_digit first then (let text = take (prefix_len is_ascii_digit bytes) bytes in
     integer (integer_value text) text)
     else (if first == 45 && is_ascii_digit second then
     (let text = take (1 + prefix_len is_ascii_digit (drop 1 bytes)) bytes in
     integer (integer_value text) text)
-    else (if first == 39 then quoted (closing false (drop 1 bytes)) bytes
+    else (if first == 39 then string_token (closing false (drop 1 bytes)) bytes
     else symbolic (symbol first second) bytes)))
 
-abbrev pub followed : Placed → Result (List Placed) (TokenFault × ℕ)
+abbrev pub then_tokens : Placed → Result (List Placed) (TokenFault × ℕ)
     → Result (List Placed) (TokenFault × ℕ)
-followed p (Ok ps) = Ok (p ∷ ps)
-followed p (Err e) = Err e
+then_tokens p (Ok ps) = Ok (p ∷ ps)
+then_tokens p (Err e) = Err e
 
-abbrev pub placed : ℕ → Result Token TokenFault → (ℕ → Result (List Placed) (TokenFault × ℕ))
+abbrev pub at_place : ℕ → Result Token TokenFault → (ℕ → Result (List Placed) (TokenFault × ℕ))
     → Result (List Placed) (TokenFault × ℕ)
-placed at (Ok token) others = followed (record { token = token; at = at })
+at_place at (Ok token) others = then_tokens (record { token = token; at = at })
     (others (length token.text - 1))
-placed at (Err lapse) others = Err (lapse, at)
+at_place at (Err lapse) others = Err (lapse, at)
 
 -- the tokens of what stands from place `at` on, or the first lapse with its place; the first `within` bytes are still of the token before
 unfoldable pub tokens_from : ℕ → ℕ → List ℕ → Result (List Placed) (TokenFault × ℕ)
 tokens_from at within [] = Ok []
 tokens_from at (suc within) (b ∷ bytes) = tokens_from (at + 1) within bytes
 tokens_from at zero (b ∷ bytes) = if is_blank b then tokens_from (at + 1) 0 bytes
-    else placed at (token_at (b ∷ bytes)) (λ within. tokens_from (at + 1) within bytes)
+    else at_place at (token_at (b ∷ bytes)) (λ within. tokens_from (at + 1) within bytes)
 
 -- the tokens of a text, or its first lapse with its place
 abbrev pub tokens_of : List ℕ → Result (List Placed) (TokenFault × ℕ)

@@ -4,7 +4,7 @@ ghost use Rattle.std.specs.Str.{all_ascii_digits};
 ghost use Rattle.std.specs.List.{prefix_len};
 ghost use Rattle.std.specs.Char.{is_ascii_digit};
 ghost use Rattle.sql_tokens.specs.Kinds.{keyword, spelling};
-ghost use Rattle.sql_tokens.specs.Lex.{is_letter, is_word_byte, closing, symbol, digits, integer_value, named, integer, quoted, symbolic, ReadsToken, token_at};
+ghost use Rattle.sql_tokens.specs.Lex.{is_letter, is_word_byte, closing, symbol, digits, integer_value, keyword_or_name, integer, string_token, symbolic, ReadsToken, token_at};
 
 use crate::kinds::TokenKind;
 use crate::lexemes::{Lexeme, TokenFault};
@@ -16,7 +16,7 @@ fn word<'a>(text: &'a [u8], at: usize) -> Result<Lexeme<'a>, TokenFault>
     requires some { 0 < length text.now }
     requires begins { is_letter (slice_index text.now 0) ≡ true }
     ensures value { let word = take (prefix_len is_word_byte text.now) text.now in
-        ReadsToken result (named (keyword word) word) }
+        ReadsToken result (keyword_or_name (keyword word) word) }
     ensures place { IfOk result (λ x. x.at ≡ at) }
     ensures within { IfOk result (λ x. (1 ≤ length x.text.now)
         × (length x.text.now ≤ length text.now)) }
@@ -56,9 +56,9 @@ fn number<'a>(text: &'a [u8], len: usize, at: usize) -> Result<Lexeme<'a>, Token
 }
 
 /// A text in quotes, of which the first stands first.
-fn quoted<'a>(text: &'a [u8], at: usize) -> Result<Lexeme<'a>, TokenFault>
+fn string_token<'a>(text: &'a [u8], at: usize) -> Result<Lexeme<'a>, TokenFault>
     requires { 0 < length text.now }
-    ensures value { ReadsToken result (quoted (closing false (drop 1 text.now)) text.now) }
+    ensures value { ReadsToken result (string_token (closing false (drop 1 text.now)) text.now) }
     ensures place { IfOk result (λ x. x.at ≡ at) }
     ensures within { IfOk result (λ x. (1 ≤ length x.text.now)
         × (length x.text.now ≤ length text.now)) }
@@ -124,7 +124,7 @@ pub fn token<'a>(text: &'a [u8], at: usize) -> Result<Lexeme<'a>, TokenFault>
         return number(text, 1 + words::digits_len(digits), at);
     }
     if first == b'\'' {
-        return quoted(text, at);
+        return string_token(text, at);
     }
     symbolic(text, at)
 }

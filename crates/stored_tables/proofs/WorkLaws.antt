@@ -7,7 +7,7 @@ use Rattle.vo_spec.specs.declared.tables.Command.{Command}
 use Rattle.vo_spec.specs.declared.tables.CommandFault.{CommandFault}
 use Rattle.vo_spec.specs.Firsts.{and_then, unless}
 use Rattle.vo_spec.specs.Batches.{FitsCommand}
-use Rattle.vo_spec.specs.Tables.{refusal, apply, apply_from, numbered}
+use Rattle.vo_spec.specs.Tables.{refusal, apply, apply_from, with_index}
 use Rattle.vo_spec.specs.Honest.{Stored, RepresentTables, stored_table_header, changed_trees, work, work_all}
 use Rattle.vo_laws.proofs.CommandLaws.{FitTables}
 use Rattle.vo_laws.proofs.StandingLaws.{InStep, FitAfter, command_in_step}
@@ -47,7 +47,7 @@ InStepAt (Err fault) (Err other) = other ≡ fault
 
 next_at : (index : ℕ) (cs : List Command) (r : Result (List Stored) CommandFault) (s : Result (List Table) CommandFault) → InStep r s → FitAfter s
     → ((stored : List Stored) (tables : List Table) → RepresentTables stored tables → FitTables tables → InStepAt (work_from (index + 1) cs stored) (apply_from (index + 1) cs tables))
-    → InStepAt (and_then (work_from (index + 1) cs) (numbered_work index r)) (and_then (apply_from (index + 1) cs) (numbered index s))
+    → InStepAt (and_then (work_from (index + 1) cs) (numbered_work index r)) (and_then (apply_from (index + 1) cs) (with_index index s))
 next_at index cs (Ok stored) (Ok tables) i good next = next stored tables i good
 next_at index cs (Ok stored) (Err fault) i good next = absurd i
 next_at index cs (Err fault) (Ok tables) i good next = absurd i

@@ -8,18 +8,18 @@ use Rattle.vo_spec.specs.declared.tables.CommandFault.{CommandFault}
 use Rattle.vo_spec.specs.declared.tables.CommandFault.TheVariants.{NoTable, DuplicateKey, NoRow}
 use Rattle.vo_spec.specs.Firsts.{first_of, unless, and_then}
 use Rattle.vo_spec.specs.Values.{key_of}
-use Rattle.vo_spec.specs.Tables.{Tests, TableHeader, table_header_of, table_header_named, table_named, on_table, insert_tests, update_tests, delete_tests, refusal, changed, apply, row_of, has_row}
+use Rattle.vo_spec.specs.Tables.{Tests, TableHeader, table_header_of, table_header_named, table_named, on_table, insert_tests, update_tests, delete_tests, refusal, change_tables, apply, row_of, has_row}
 use Rattle.table_list.specs.TableHeaders.{command_name}
 use Rattle.table_list.specs.Changes.{row_fault, fault_by_rows, changed_tables}
 use Rattle.table_list.proofs.PlainLaws.{table_header_by_name}
 
 pub refused : (command : Command) (tables : List Table) (fault : CommandFault) → refusal command (map table_header_of tables) ≡ Some fault → apply command tables ≡ Err fault
 unfolding apply
-refused command tables fault e = ap (λ o. and_then (changed command) (unless o tables)) e
+refused command tables fault e = ap (λ o. and_then (change_tables command) (unless o tables)) e
 
-goes_on : (command : Command) (tables : List Table) → refusal command (map table_header_of tables) ≡ None → apply command tables ≡ changed command tables
+goes_on : (command : Command) (tables : List Table) → refusal command (map table_header_of tables) ≡ None → apply command tables ≡ change_tables command tables
 unfolding apply
-goes_on command tables e = ap (λ o. and_then (changed command) (unless o tables)) e
+goes_on command tables e = ap (λ o. and_then (change_tables command) (unless o tables)) e
 
 -- no table of the name is there only where that refuses the command
 absent : (name : List ℕ) (tests : TableHeader → Tests) (tables : List Table) → table_named name tables ≡ None → on_table name (map table_header_of tables) tests ≡ None → ⊥
@@ -44,15 +44,15 @@ on_false true fault o new e = ap (λ o. unless o new) e
 on_false false fault o new e = ap (λ o. unless o new) e
 
 -- a command that no row refuses
-no_row_test : (command : Command) (tables : List Table) → changed command tables ≡ Ok (changed_tables command tables) → ((t : Table) → row_fault command t ≡ None)
-    → changed command tables ≡ unless (fault_by_rows command tables) (changed_tables command tables)
+no_row_test : (command : Command) (tables : List Table) → change_tables command tables ≡ Ok (changed_tables command tables) → ((t : Table) → row_fault command t ≡ None)
+    → change_tables command tables ≡ unless (fault_by_rows command tables) (changed_tables command tables)
 no_row_test command tables done none = by (table_named (command_name command) tables)
   where
-    by : (o : Option Table) → changed command tables ≡ unless (option_map_or (row_fault command) o None) (changed_tables command tables)
+    by : (o : Option Table) → change_tables command tables ≡ unless (option_map_or (row_fault command) o None) (changed_tables command tables)
     by None = done
     by (Some t) = done ∙ ap (λ o. unless o (changed_tables command tables)) (sym (none t))
 
-change_is : (command : Command) (tables : List Table) → refusal command (map table_header_of tables) ≡ None → changed command tables ≡ unless (fault_by_rows command tables) (changed_tables command tables)
+change_is : (command : Command) (tables : List Table) → refusal command (map table_header_of tables) ≡ None → change_tables command tables ≡ unless (fault_by_rows command tables) (changed_tables command tables)
 change_is (Create name columns key) tables passed = no_row_test (Create name columns key) tables refl (λ t. refl)
 change_is (Drop name) tables passed = no_row_test (Drop name) tables refl (λ t. refl)
 change_is (Insert name values) tables passed = step (table_named name tables) refl

@@ -10,7 +10,7 @@ use Rattle.vo_spec.specs.declared.cells.PartEntry.{PartEntry}
 use Rattle.vo_spec.specs.Cells.{CellPrunes, CellsPrune, RowPrunes, EntryPrunes}
 use Rattle.vo_spec.specs.Parts.{stub, leaf, inner, none, more, PrunesEach}
 use Rattle.vo_spec.specs.Trees.{RowTree, RowTrees, row_family, digest, Prunes}
-use Rattle.vo_spec.specs.Pruned.{IsCanonical}
+use Rattle.vo_spec.specs.Pruning.{IsCanonical}
 use Rattle.vo_laws.proofs.OneProof.{only_canonical}
 use Rattle.tree_collide.specs.Agreements.{is_open}
 use Rattle.tree_collide.specs.Alike.{CellAlike, CellsAlike, RowAlike, EntryAlike, AreAlike, EachAlike}

@@ -8,13 +8,13 @@ use Rattle.vo_spec.specs.declared.cells.PartEntry.{PartEntry}
 use Rattle.vo_spec.specs.Cells.{EntryPrunes}
 use Rattle.vo_spec.specs.Parts.{stub, leaf, inner, none, more, PrunesEach}
 use Rattle.vo_spec.specs.Trees.{RowTree, RowTrees, row_family, Prunes}
-use Rattle.vo_spec.specs.Scans.{in_interval, is_empty_interval, visits, put_before, joined, values_in, with_key, seen_entries, seen_in, seen_in_each, seen}
-use Rattle.vo_spec.specs.Pruned.{is_missing}
+use Rattle.vo_spec.specs.Scans.{in_interval, is_empty_interval, visits, put_before, append_both, values_in, with_key, seen_entries, seen_in, seen_in_each, seen}
+use Rattle.vo_spec.specs.Pruning.{is_missing}
 use Rattle.vo_laws.proofs.ListLaws.{in_right}
 use Rattle.vo_spec.specs.Needs.{all_keys}
 use Rattle.vo_laws.proofs.ScanLaws.{IsNoneOrSame, Shows, sound, complete}
 use Rattle.tree_collide.specs.Alike.{AreAlike}
-use Rattle.tree_collide.specs.Walks.{ScanWalk, ended, stopped, from_row, onward, walk_of_entries, walk_in, walk_in_each, walk, if_ended, AreOneWalk}
+use Rattle.tree_collide.specs.Walks.{ScanWalk, walk_end, walk_stop, from_row, onward, walk_of_entries, walk_in, walk_in_each, walk, if_ended, AreOneWalk}
 use Rattle.tree_collide.proofs.OneTree.{one_tree}
 
 -- What a scan gives is the walk's rows where the walk has an end.
@@ -27,10 +27,10 @@ row_seen (Some row) w = step w.has_end w.rows
     step true rows = refl
     step false rows = refl
 
-parts_seen : (w v : ScanWalk) → joined (if_ended w) (if_ended v) ≡ if_ended (onward w v)
+parts_seen : (w v : ScanWalk) → append_both (if_ended w) (if_ended v) ≡ if_ended (onward w v)
 parts_seen w v = step w.has_end refl v.has_end
   where
-    step : (b : Bool) → w.has_end ≡ b → (c : Bool) → joined (cond b (Some w.rows) None) (cond c (Some v.rows) None)
+    step : (b : Bool) → w.has_end ≡ b → (c : Bool) → append_both (cond b (Some w.rows) None) (cond c (Some v.rows) None)
         ≡ if_ended (cond b (record { rows = w.rows ++ v.rows; has_end = c }) w)
     step true e true = refl
     step true e false = refl
@@ -58,13 +58,13 @@ mutual
   nodes_seen need lower ss (more m p ps) =
       let rest = nodes_seen need (slice_get ss 0) (drop 1 ss) ps in
       choice_seen (visits need.interval lower (slice_get ss 0)) _ _ _ _
-      (ap (λ x. joined x (seen_in_each need (slice_get ss 0) (drop 1 ss) ps)) (node_seen need p)
-      ∙ ap (joined (if_ended (walk_in need p))) rest
+      (ap (λ x. append_both x (seen_in_each need (slice_get ss 0) (drop 1 ss) ps)) (node_seen need p)
+      ∙ ap (append_both (if_ended (walk_in need p))) rest
       ∙ parts_seen (walk_in need p) (walk_in_each need (slice_get ss 0) (drop 1 ss) ps))
       rest
 
 pub walk_seen : (need : Need) (p : RowTree) → seen need p ≡ if_ended (walk need p)
-walk_seen need p = choice_seen (is_empty_interval need.interval) (Some []) (seen_in need p) ended (walk_in need p) refl (node_seen need p)
+walk_seen need p = choice_seen (is_empty_interval need.interval) (Some []) (seen_in need p) walk_end (walk_in need p) refl (node_seen need p)
 
 has_end_of : (w : ScanWalk) → Shows (if_ended w) → w.has_end ≡ true
 has_end_of w s = step w.has_end s
@@ -95,7 +95,7 @@ IsFront false rows v = (later : List SeenRow) × (v.rows ≡ rows ++ later)
 abbrev IsPart : ScanWalk → ScanWalk → Type 0
 IsPart w v = IsFront w.has_end w.rows v
 
-stopped_part : (v : ScanWalk) → IsPart stopped v
+stopped_part : (v : ScanWalk) → IsPart walk_stop v
 stopped_part v = (v.rows, refl)
 
 row_part : (x y : Option SeenRow) (w v : ScanWalk) → IsNoneOrSame x y → IsPart w v → IsPart (from_row x w) (from_row y v)
@@ -168,7 +168,7 @@ mutual
       choice_part (visits need.interval lower (slice_get ss 0)) _ _ _ _ (onward_part _ _ _ _ (node_part need p q g.1) rest) rest
 
 walk_part : (need : Need) (p t : RowTree) → Prunes p t → IsPart (walk need p) (walk need t)
-walk_part need p t g = choice_part (is_empty_interval need.interval) ended ended (walk_in need p) (walk_in need t) refl (node_part need p t g)
+walk_part need p t g = choice_part (is_empty_interval need.interval) walk_end walk_end (walk_in need p) (walk_in need t) refl (node_part need p t g)
 
 -- Two such parts are one walk: the fronts of a list are fronts of each other.
 

@@ -13,15 +13,15 @@ pub record ScanWalk : Type 0 where
   pub rows : List SeenRow
   pub has_end : Bool
 
-abbrev pub ended : ScanWalk
-ended = record { rows = []; has_end = true }
+abbrev pub walk_end : ScanWalk
+walk_end = record { rows = []; has_end = true }
 
-abbrev pub stopped : ScanWalk
-stopped = record { rows = []; has_end = false }
+abbrev pub walk_stop : ScanWalk
+walk_stop = record { rows = []; has_end = false }
 
 -- a row and the walk after it; none, where the row hides a value
 abbrev pub from_row : Option SeenRow → ScanWalk → ScanWalk
-from_row None w = stopped
+from_row None w = walk_stop
 from_row (Some row) w = record { rows = row ∷ w.rows; has_end = w.has_end }
 
 -- the one walk, and the other after its end
@@ -29,7 +29,7 @@ abbrev pub onward : ScanWalk → ScanWalk → ScanWalk
 onward w v = if w.has_end then record { rows = w.rows ++ v.rows; has_end = v.has_end } else w
 
 abbrev pub walk_of_entries : Need → List PartEntry → ScanWalk
-walk_of_entries need [] = ended
+walk_of_entries need [] = walk_end
 walk_of_entries need (e ∷ es) =
     if in_interval need.interval e.key
     then from_row (with_key e.key (values_in e.row need.columns)) (walk_of_entries need es)
@@ -38,19 +38,19 @@ walk_of_entries need (e ∷ es) =
 -- of a visited node, and of the children of one from the one on whose lower separator is given
 abbrev mutual
   pub walk_in : Need → RowTree → ScanWalk
-  walk_in need (stub d) = stopped
+  walk_in need (stub d) = walk_stop
   walk_in need (leaf es) = walk_of_entries need es
   walk_in need (inner ss ps) = walk_in_each need None ss ps
 
   pub walk_in_each : Need → Option (List ℕ) → List (List ℕ) → RowTrees → ScanWalk
-  walk_in_each need lower ss none = ended
+  walk_in_each need lower ss none = walk_end
   walk_in_each need lower ss (more m p ps) =
       if visits need.interval lower (slice_get ss 0)
       then onward (walk_in need p) (walk_in_each need (slice_get ss 0) (drop 1 ss) ps)
       else walk_in_each need (slice_get ss 0) (drop 1 ss) ps
 
 abbrev pub walk : Need → RowTree → ScanWalk
-walk need p = if is_empty_interval need.interval then ended else walk_in need p
+walk need p = if is_empty_interval need.interval then walk_end else walk_in need p
 
 -- what the walk's rows are, if it has an end
 abbrev pub if_ended : ScanWalk → Option (List SeenRow)

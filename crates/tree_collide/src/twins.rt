@@ -4,7 +4,7 @@ ghost use Rattle.vo_spec.specs.declared.needs.Need.{Need as ScanNeed};
 ghost use Rattle.vo_spec.specs.Fits.{FitsPart};
 ghost use Rattle.vo_spec.specs.Trees.{RowTree, digest};
 ghost use Rattle.vo_spec.specs.Scans.{seen};
-ghost use Rattle.vo_spec.specs.Pruned.{IsCanonical, is_missing};
+ghost use Rattle.vo_spec.specs.Pruning.{IsCanonical, is_missing};
 ghost use Rattle.mb_tree.specs.View.{part_of};
 ghost use Rattle.tree_collide.specs.Agreements.{SameOrFound, ToldAre};
 ghost use Rattle.tree_collide.specs.Alike.{AreAlike};

@@ -6,7 +6,7 @@ use Rattle.vo_spec.specs.declared.cells.PartEntry.{PartEntry}
 use Rattle.vo_spec.specs.Values.{key_lt}
 use Rattle.vo_spec.specs.Parts.{stub, leaf, inner, none, more}
 use Rattle.vo_spec.specs.Trees.{RowTree, RowTrees, open_parts}
-use Rattle.vo_spec.specs.Pruned.{is_missing_by, is_missing_in, has_surplus_by, has_surplus_in}
+use Rattle.vo_spec.specs.Pruning.{is_missing_by, is_missing_in, has_surplus_by, has_surplus_in}
 use Rattle.vo_spec.specs.Inserts.{walk_to, insert_is_missing, insert_has_surplus}
 use Rattle.update_proof.specs.OpenParts.{is_open, is_open_outside, opens_other, shows_cells}
 use Rattle.mb_tree.specs.declared.parts.PartTree.{PartTree}

@@ -2,7 +2,7 @@
 use Rattle.std.proofs.Common.{◌≡◌, ℕ, Bool, true, false, List, drop, Option, None, refl, sym, ap, ◌∙◌, slice_get}
 use Rattle.vo_spec.specs.Parts.{stub, leaf, inner, none, more}
 use Rattle.vo_spec.specs.Trees.{RowTree, RowTrees, row_family, Prunes}
-use Rattle.vo_spec.specs.Pruned.{is_missing_by, is_missing_in, has_surplus_by, has_surplus_in, pruned_by, pruned_in}
+use Rattle.vo_spec.specs.Pruning.{is_missing_by, is_missing_in, has_surplus_by, has_surplus_in, pruned_by, pruned_in}
 use Rattle.vo_spec.specs.Inserts.{walk_to, insert_is_missing, insert_has_surplus, insert_proof}
 use Rattle.update_proof.proofs.OpenedChildren.{closed_off_path}
 use Rattle.update_proof.proofs.ClosedParts.{Each, neither, entries_closed}

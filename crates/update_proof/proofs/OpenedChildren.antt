@@ -6,7 +6,7 @@ use Rattle.vo_spec.specs.declared.trees.UpdateFault.{UpdateFault}
 use Rattle.vo_spec.specs.Values.{key_lt}
 use Rattle.vo_spec.specs.Parts.{stub, leaf, inner, none, more}
 use Rattle.vo_spec.specs.Trees.{RowTree, row_family, open_parts}
-use Rattle.vo_spec.specs.Pruned.{pruned_by, pruned_in}
+use Rattle.vo_spec.specs.Pruning.{pruned_by, pruned_in}
 use Rattle.vo_spec.specs.Inserts.{walk_to}
 use Rattle.vo_spec.specs.Removes.{shrink, is_underfull, becomes_underfull, closed_parts, path_to, path_in, opened_row, opened_sibling_if, sibling_first, remove_proof, remove_proof_in, remove_proof_after}
 use Rattle.btree.specs.Steps.{opens_sibling_by}

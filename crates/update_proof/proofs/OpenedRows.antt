@@ -8,7 +8,7 @@ use Rattle.vo_spec.specs.declared.cells.PartEntry.{PartEntry}
 use Rattle.vo_spec.specs.declared.cells.Cell.TheVariants.{Shown, Hidden}
 use Rattle.vo_spec.specs.Cells.{whole_cells, whole_entry, cell_digest}
 use Rattle.vo_spec.specs.Inserts.{closed_entry}
-use Rattle.vo_spec.specs.Pruned.{shown_cells}
+use Rattle.vo_spec.specs.Pruning.{shown_cells}
 use Rattle.vo_spec.specs.Removes.{opened_row, hidden_cells}
 use Rattle.update_proof.specs.OpenParts.{opened_entry}
 

@@ -11,7 +11,7 @@ use Rattle.vo_spec.specs.declared.records.Catalog.{Catalog}
 use Rattle.vo_spec.specs.Bytes.{IsBytes, u16_bytes, u64_bytes, short_string}
 use Rattle.vo_spec.specs.Values.{same_kind}
 use Rattle.vo_spec.specs.Tables.{column_at, has_twice, max_tables}
-use Rattle.vo_spec.specs.Batches.{FitCounted, FitsColumn, counted, column_bytes}
+use Rattle.vo_spec.specs.Batches.{FitCounted, FitsColumn, list_bytes, column_bytes}
 use Rattle.vo_spec.specs.Records.{catalog_table_bytes, catalog_bytes, are_rising, FitsSchema, FitsCatalogTable, FitsCatalog, IsCatalog}
 use Rattle.row_bytes.specs.declared.read_fault.ReadFault.{ReadFault}
 use Rattle.row_bytes.specs.Reading.{byte_at, bytes_at, u16_at, u64_at}
@@ -51,7 +51,7 @@ abbrev schema_of : List Column → ℕ → Schema
 schema_of columns key = record { columns = columns; key = key }
 
 abbrev schema_bytes : Schema → List ℕ
-schema_bytes s = counted column_bytes s.columns ++ one_byte s.key
+schema_bytes s = list_bytes column_bytes s.columns ++ one_byte s.key
 
 abbrev ended : List Column → ℕ → Reader Schema
 ended columns key rest = where_true (is_schema (schema_of columns key)) (schema_of columns key, rest)
@@ -78,12 +78,12 @@ schema_found bytes s rest fits e =
     let k = next_found byte_law (ended cs.0) cs.1 y cs.2.behind cs.4 in
     let t = tested (is_schema (schema_of cs.0 k.0)) (schema_of cs.0 k.0, k.1) y k.4 in
     subst (λ (p : Schema × List ℕ). Took bytes (schema_bytes p.0) p.1 × FitsSchema p.0) t.1
-    (took_then bytes (counted column_bytes cs.0) cs.1 (one_byte k.0) k.1 cs.2 k.2, schema_fits (schema_of cs.0 k.0) cs.3 t.0)
+    (took_then bytes (list_bytes column_bytes cs.0) cs.1 (one_byte k.0) k.1 cs.2 k.2, schema_fits (schema_of cs.0 k.0) cs.3 t.0)
 
 schema_again : (s : Schema) (rest : List ℕ) → FitsSchema s → schema_at (schema_bytes s ++ rest) ≡ Some (s, rest)
 unfolding schema_at
 schema_again s rest fits =
-    ap schema_at (append_assoc (counted column_bytes s.columns) (one_byte s.key) rest)
+    ap schema_at (append_assoc (list_bytes column_bytes s.columns) (one_byte s.key) rest)
     ∙ next_again columns_law key_of s.columns (one_byte s.key ++ rest) fits.columns
     ∙ next_again byte_law (ended s.columns) s.key rest tt
     ∙ rw (schema_is s fits) refl
@@ -109,10 +109,10 @@ abbrev schema_behind : List ℕ → Reader CatalogTable
 schema_behind name bytes = schema_at bytes >>= λ schema. rows_of name schema.0 schema.1
 
 -- the key's byte in front of the number of rows
-regrouped : (name : List ℕ) (s : Schema) (rows root : List ℕ) → short_string name ++ schema_bytes s ++ rows ++ root ≡ short_string name ++ counted column_bytes s.columns ++ s.key ∷ rows ++ root
+regrouped : (name : List ℕ) (s : Schema) (rows root : List ℕ) → short_string name ++ schema_bytes s ++ rows ++ root ≡ short_string name ++ list_bytes column_bytes s.columns ++ s.key ∷ rows ++ root
 regrouped name s rows root =
-    ap (λ (t : List ℕ). t ++ rows ++ root) (sym (append_assoc (short_string name) (counted column_bytes s.columns) (one_byte s.key)))
-    ∙ ap (λ (t : List ℕ). t ++ root) (append_assoc (short_string name ++ counted column_bytes s.columns) (one_byte s.key) rows)
+    ap (λ (t : List ℕ). t ++ rows ++ root) (sym (append_assoc (short_string name) (list_bytes column_bytes s.columns) (one_byte s.key)))
+    ∙ ap (λ (t : List ℕ). t ++ root) (append_assoc (short_string name ++ list_bytes column_bytes s.columns) (one_byte s.key) rows)
 
 Encoded : List ℕ → CatalogTable × List ℕ → Type 0
 Encoded bytes p = Took bytes (catalog_table_bytes p.0) p.1 × FitsCatalogTable p.0

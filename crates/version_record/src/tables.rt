@@ -9,7 +9,7 @@ use batch_format::{put_columns, put_name};
 use row_bytes::{Cursor, ReadFault, take_columns};
 use std::alloc::{AllocError, Global};
 use table_list::{has_twice, kind_at, same_kind};
-use vo_spec::{CatalogTable, Digest, Kind, Name, Schema, u64_bytes};
+use vo_spec::{CatalogTable, Digest, Kind, MAX_ROWS, Name, Schema, u64_bytes};
 
 /// What the catalog says of the table that comes next.
 #[tactic(auto, unfolding(crate::specs::Reading::catalog_table_at))]
@@ -21,7 +21,7 @@ pub fn take_table(alloc: Global, cursor: &mut Cursor<'_>) -> Result<CatalogTable
     let schema = take_schema(alloc, &mut ahead)?;
     let rows = ahead.take_u64().ok_or(ReadFault::BadForm)?;
     let root = ahead.take_chunk::<32>().ok_or(ReadFault::BadForm)?;
-    if rows >= 1 << 32 {
+    if rows > MAX_ROWS {
         return Err(ReadFault::BadForm);
     }
     let name = Name::from_vec(Vec::from_slice(alloc, name)?);

@@ -21,7 +21,7 @@ use Rattle.query_plan.specs.BoundQueries.{BoundQuery, bound_query}
 use Rattle.query_plan.specs.Plans.{QueryPlan, plan_of}
 use Rattle.plan_run.specs.Running.{is_any_missing}
 use Rattle.plan_run.proofs.ByNames.{rows_same, needs_same}
-use Rattle.vo_check.specs.Testing.{GivesIfPassed, PassesTests, paired, number_fault, shapes_fault, trees_fault, missed_fault, excess_fault, needs_fault}
+use Rattle.vo_check.specs.Testing.{GivesIfPassed, PassesTests, tables_with_trees, number_fault, shapes_fault, trees_fault, missed_fault, excess_fault, needs_fault}
 use Rattle.vo_check.specs.Judging.{needed_for, shown_for, bound_fault, record_fault, proof_fault}
 
 -- Lists of faults in groups.
@@ -96,8 +96,8 @@ proof_by b ss q r =
     let needed = if b then [] else needed_by ss q r in
     first_some
     (number_fault wanted r
-    ∷ shapes_fault (paired wanted r)
-    ∷ first_some (map root_fault (paired wanted r))
+    ∷ shapes_fault (tables_with_trees wanted r)
+    ∷ first_some (map root_fault (tables_with_trees wanted r))
     ∷ missed_fault needed
     ∷ excess_fault needed
     ∷ [])
@@ -116,7 +116,7 @@ module _ (q : Query) (r : Reply) where
   bound_parts : faults ≡ None → proof_fault q r ≡ first_some (trees_fault (tables_used ss) r ∷ needs_fault (needed_by ss q r) ∷ [])
   bound_parts e =
       proof_is q r false (ap is_some e)
-      ∙ three_two (number_fault (tables_used ss) r) (shapes_fault (paired (tables_used ss) r)) (first_some (map root_fault (paired (tables_used ss) r)))
+      ∙ three_two (number_fault (tables_used ss) r) (shapes_fault (tables_with_trees (tables_used ss) r)) (first_some (map root_fault (tables_with_trees (tables_used ss) r)))
       (missed_fault (needed_by ss q r)) (excess_fault (needed_by ss q r))
 
   bound_outcome : faults ≡ None → seen_outcome q r.catalog r.trees ≡ shown_rows ss q r
@@ -126,7 +126,7 @@ module _ (q : Query) (r : Reply) where
   wrong_parts : (f : QueryFault) → faults ≡ Some f → proof_fault q r ≡ trees_fault [] r
   wrong_parts f e =
       proof_is q r true (ap is_some e)
-      ∙ three_two (number_fault [] r) (shapes_fault (paired [] r)) (first_some (map root_fault (paired [] r))) None None
+      ∙ three_two (number_fault [] r) (shapes_fault (tables_with_trees [] r)) (first_some (map root_fault (tables_with_trees [] r))) None None
       ∙ none_more (trees_fault [] r)
 
   wrong_outcome : (f : QueryFault) → faults ≡ Some f → seen_outcome q r.catalog r.trees ≡ Wrong f

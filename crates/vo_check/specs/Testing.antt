@@ -8,7 +8,7 @@ use Rattle.vo_spec.specs.declared.needs.Need.{Need}
 use Rattle.vo_spec.specs.Firsts.{first_some}
 use Rattle.vo_spec.specs.Replies.{Reply}
 use Rattle.vo_spec.specs.Trees.{RowTree}
-use Rattle.vo_spec.specs.Pruned.{is_missing, has_surplus}
+use Rattle.vo_spec.specs.Pruning.{is_missing, has_surplus}
 use Rattle.vo_spec.specs.Checks.{table_named, has_table_shape, root_fault}
 use Rattle.mb_tree.specs.View.{part_of}
 use Rattle.vo_check.specs.declared.table_tree.TableTree.{TableTree}
@@ -32,8 +32,8 @@ abbrev pub tree_seen : TableTree → Option CatalogTable × RowTree
 tree_seen t = (option_map (λ table. table.now) t.table, tree_in t)
 
 -- the trees that there are, each with its table
-abbrev pub paired : List (List ℕ) → Reply → List (Option CatalogTable × RowTree)
-paired wanted r = zip (map (λ name. table_named name r.catalog) wanted) r.trees
+abbrev pub tables_with_trees : List (List ℕ) → Reply → List (Option CatalogTable × RowTree)
+tables_with_trees wanted r = zip (map (λ name. table_named name r.catalog) wanted) r.trees
 
 abbrev pub number_fault : List (List ℕ) → Reply → Option CheckFault
 number_fault wanted r = if length r.trees == length wanted then None
@@ -45,8 +45,8 @@ shapes_fault trees = if list_all has_table_shape trees then None else Some Wrong
 abbrev pub trees_fault : List (List ℕ) → Reply → Option CheckFault
 trees_fault wanted r = first_some
     (number_fault wanted r
-    ∷ shapes_fault (paired wanted r)
-    ∷ first_some (map root_fault (paired wanted r))
+    ∷ shapes_fault (tables_with_trees wanted r)
+    ∷ first_some (map root_fault (tables_with_trees wanted r))
     ∷ [])
 
 -- The tests of trees, each with its needs.

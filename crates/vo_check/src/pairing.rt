@@ -3,7 +3,7 @@ ghost use Rattle.std.specs.Prelude.{◌≡◌, length, map, option_map, IfOk};
 ghost use Rattle.vo_spec.specs.Checks.{table_named};
 ghost use Rattle.vo_format.specs.View.{reply_of, trees_of};
 ghost use Rattle.query_plan.specs.Used.{lent_name};
-ghost use Rattle.vo_check.specs.Testing.{tree_in, tree_seen, paired};
+ghost use Rattle.vo_check.specs.Testing.{tree_in, tree_seen, tables_with_trees};
 
 use crate::table_tree::TableTree;
 use std::alloc::{AllocError, Global};
@@ -30,7 +30,7 @@ pub(crate) fn pair_trees<'r, 'b>(
 ) -> Result<Vec<TableTree<'r, 'b>>, AllocError>
     requires { length names.now ≡ length reply.now.trees.items }
     ensures pairs { IfOk result (λ pairs. map tree_seen pairs.items
-        ≡ paired (map lent_name names.now) (reply_of reply.now)) }
+        ≡ tables_with_trees (map lent_name names.now) (reply_of reply.now)) }
     ensures trees { IfOk result (λ pairs. map tree_in pairs.items ≡ trees_of reply.now.trees) }
 {
     let tables = reply.catalog.tables.as_slice();

@@ -17,7 +17,7 @@ use Rattle.vo_spec.specs.Secret.{Secret, secret_of, public_of_secret, lms_of_hei
 use Rattle.vo_spec.specs.Conditions.{Query}
 use Rattle.vo_spec.specs.Journals.{journal_bytes}
 use Rattle.vo_spec.specs.Replies.{Reply, reply_bytes, max_reply}
-use Rattle.vo_spec.specs.Honest.{sealed, reply_of}
+use Rattle.vo_spec.specs.Honest.{seal_batches, reply_of}
 use Rattle.vo_spec.specs.Owners.{IsLoadable, IsUnloadableAt}
 use Rattle.vo_spec.specs.Checks.{CheckOf}
 use Rattle.owner_roots.specs.Owners.{OwnedAuditOf}
@@ -152,7 +152,7 @@ sealed_output (Some seal.Memory) journal = refusal 8 []
 abbrev pub seal_output : Secret → List Batch → Output
 seal_output secret batches =
     sealed_output (seal_fault (leaves_of secret.lms) ([] ∷ []) (commands_of batches))
-    (journal_bytes (sealed secret (commands_of batches)))
+    (journal_bytes (seal_batches secret (commands_of batches)))
 
 -- of a script's bytes
 abbrev pub script_expected : Secret → List ℕ → Expected

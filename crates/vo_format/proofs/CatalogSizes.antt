@@ -7,7 +7,7 @@ use Rattle.vo_spec.specs.declared.records.CatalogTable.{CatalogTable}
 use Rattle.vo_spec.specs.declared.records.Catalog.{Catalog}
 use Rattle.vo_spec.specs.Bytes.{u16_bytes, u64_bytes, short_string}
 use Rattle.vo_spec.specs.Values.{type_byte}
-use Rattle.vo_spec.specs.Batches.{FitsColumn, counted, column_bytes}
+use Rattle.vo_spec.specs.Batches.{FitsColumn, list_bytes, column_bytes}
 use Rattle.vo_spec.specs.Records.{catalog_table_bytes, catalog_bytes, FitsCatalogTable, FitsCatalog}
 use Rattle.row_bytes.proofs.ValueLaws.{u16_length, u64_length}
 use Rattle.batch_format.proofs.Fitting.{name_is_short}
@@ -27,7 +27,7 @@ column_short c fits =
     let name : length c.name ≤ 63 = name_is_short c.name fits in
     omega (arith, name, length-append (short_string c.name) (type_byte c.kind ∷ []))
 
-columns_short : (cs : List Column) → length cs ≤ 32 → AllByRecursion FitsColumn cs → length (counted column_bytes cs) ≤ 2081
+columns_short : (cs : List Column) → length cs ≤ 32 → AllByRecursion FitsColumn cs → length (list_bytes column_bytes cs) ≤ 2081
 columns_short cs few fits =
     let all : length (flat_map column_bytes cs) ≤ length cs * 65 = pieces_short FitsColumn column_bytes 65 column_short cs fits in
     omega (arith, all, few)
@@ -35,9 +35,9 @@ columns_short cs few fits =
 table_short : (t : CatalogTable) → FitsCatalogTable t → length (catalog_table_bytes t) ≤ 2186
 table_short t fits =
     let name : length t.name ≤ 63 = name_is_short t.name fits.name in
-    let columns : length (counted column_bytes t.schema.columns) ≤ 2081 = columns_short t.schema.columns fits.schema.columns.1 fits.schema.columns.2 in
-    let front = short_string t.name ++ counted column_bytes t.schema.columns in
-    let one : length front ≡ length (short_string t.name) + length (counted column_bytes t.schema.columns) = length-append (short_string t.name) (counted column_bytes t.schema.columns) in
+    let columns : length (list_bytes column_bytes t.schema.columns) ≤ 2081 = columns_short t.schema.columns fits.schema.columns.1 fits.schema.columns.2 in
+    let front = short_string t.name ++ list_bytes column_bytes t.schema.columns in
+    let one : length front ≡ length (short_string t.name) + length (list_bytes column_bytes t.schema.columns) = length-append (short_string t.name) (list_bytes column_bytes t.schema.columns) in
     let two : length (front ++ t.schema.key ∷ u64_bytes t.rows) ≡ length front + length (t.schema.key ∷ u64_bytes t.rows) = length-append front (t.schema.key ∷ u64_bytes t.rows) in
     let all : length (catalog_table_bytes t) ≡ length (front ++ t.schema.key ∷ u64_bytes t.rows) + length t.root = length-append (front ++ t.schema.key ∷ u64_bytes t.rows) t.root in
     omega (arith, name, columns, one, two, all, u64_length t.rows, fits.root)

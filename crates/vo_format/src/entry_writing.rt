@@ -2,7 +2,7 @@
 ghost use Rattle.std.specs.Prelude.{◌≡◌, ◌++◌, ◌≤◌, [], ◌∷◌, length, flat_map, OnOk, OnErr, All};
 ghost use Rattle.vo_spec.specs.declared.values.Value.TheVariants.{Int, Text};
 ghost use Rattle.vo_spec.specs.Bytes.{string};
-ghost use Rattle.vo_spec.specs.Values.{value_bytes, FitsValue};
+ghost use Rattle.vo_spec.specs.Values.{value_bytes, max_text, FitsValue};
 ghost use Rattle.vo_spec.specs.Lent.{value_of};
 ghost use Rattle.vo_spec.specs.Fits.{FitsCell, FitsEntry, FitsKey, FitsRowPart, max_cells};
 ghost use Rattle.vo_spec.specs.TreeBytes.{cell_form, entry_form, row_form};
@@ -45,7 +45,7 @@ fn put_int(out: &mut Vec<u8>, number: i64) -> Result<(), AllocError>
 
 #[tactic(auto, using(batch_format::proofs::Fronts::stays_itself, batch_format::proofs::Fronts::stays_before, batch_format::proofs::Fronts::stays_behind))]
 fn put_text(out: &mut Vec<u8>, text: &[u8]) -> Result<(), AllocError>
-    requires { length text.now ≤ 1024 }
+    requires { length text.now ≤ max_text }
     ensures ok { OnOk result (out.new.items ≡ out.old.items ++ value_bytes (Text text.now)) }
     ensures err { OnErr result (StaysInFront out.old.items out.new.items) }
 {

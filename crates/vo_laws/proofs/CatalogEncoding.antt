@@ -13,7 +13,7 @@ use Rattle.vo_spec.specs.Collides.{Collides}
 use Rattle.vo_spec.specs.Bytes.{u16_bytes, u64_bytes, short_string}
 use Rattle.vo_spec.specs.Values.{type_byte}
 use Rattle.vo_spec.specs.Tables.{max_tables}
-use Rattle.vo_spec.specs.Batches.{counted, column_bytes}
+use Rattle.vo_spec.specs.Batches.{list_bytes, column_bytes}
 use Rattle.vo_spec.specs.Records.{catalog_table_bytes, catalog_bytes, catalog_digest, FitsCatalogTable, FitsCatalog}
 use Rattle.vo_laws.proofs.ConditionLaws.{same_kind_is}
 use Rattle.vo_laws.proofs.ValueOrder.{number_length}
@@ -90,7 +90,7 @@ no_limits : (cs : List Column) → AllByRecursion Anything cs
 no_limits [] = tt
 no_limits (c ∷ cs) = (tt, no_limits cs)
 
-columns_told : (cs ds : List Column) (r s : List ℕ) → counted column_bytes cs ++ r ≡ counted column_bytes ds ++ s → (cs ≡ ds) × (r ≡ s)
+columns_told : (cs ds : List Column) (r s : List ℕ) → list_bytes column_bytes cs ++ r ≡ list_bytes column_bytes ds ++ s → (cs ≡ ds) × (r ≡ s)
 columns_told cs ds r s e =
     let len : length cs ≡ length ds = cc in
     let others : flat_map column_bytes cs ++ r ≡ flat_map column_bytes ds ++ s = cc in
@@ -107,8 +107,8 @@ same_table m n cs ds j k x y p q a b c d e = rw (a, b, c, d, e) refl
 
 table_told : Told catalog_table_bytes FitsCatalogTable
 table_told t u r s t_fits u_fits e =
-    let name = short_told t.name u.name _ _ (sym (regrouped (short_string t.name) (counted column_bytes t.schema.columns) t.schema.key (u64_bytes t.rows) t.root r)
-    ∙ e ∙ regrouped (short_string u.name) (counted column_bytes u.schema.columns) u.schema.key (u64_bytes u.rows) u.root s) in
+    let name = short_told t.name u.name _ _ (sym (regrouped (short_string t.name) (list_bytes column_bytes t.schema.columns) t.schema.key (u64_bytes t.rows) t.root r)
+    ∙ e ∙ regrouped (short_string u.name) (list_bytes column_bytes u.schema.columns) u.schema.key (u64_bytes u.rows) u.root s) in
     let columns = columns_told t.schema.columns u.schema.columns (t.schema.key ∷ (u64_bytes t.rows ++ (t.root ++ r))) (u.schema.key ∷ (u64_bytes u.rows ++ (u.root ++ s))) name.1 in
     let key : t.schema.key ≡ u.schema.key = cc in
     let behind : u64_bytes t.rows ++ (t.root ++ r) ≡ u64_bytes u.rows ++ (u.root ++ s) = cc in

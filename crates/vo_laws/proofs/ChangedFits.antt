@@ -11,7 +11,7 @@ use Rattle.vo_spec.specs.Parts.{stub, leaf, inner, none, more, count, entries, e
 use Rattle.vo_spec.specs.Trees.{RowTree, RowTrees, row_family}
 use Rattle.vo_spec.specs.Fits.{FitsKey}
 use Rattle.vo_spec.specs.Inserts.{result_map, goes_here, one, two, Children, take_parts, drop_parts, after_child, has_key, first_key, put_insertion}
-use Rattle.vo_spec.specs.Removes.{joined_parts, is_underfull, settled_root, without_entry, with_left, with_right, settle_first, settle_next, shrink, shrink_in, shrink_after, removed, edit_entry, edited_by, edited_in, set_row, replaced}
+use Rattle.vo_spec.specs.Removes.{joined_parts, is_underfull, settled_root, without_entry, with_left, with_right, settle_first, settle_next, shrink, shrink_in, shrink_after, tree_without_key, edit_entry, edited_by, edited_in, set_row, tree_with_cells}
 use Rattle.vo_laws.proofs.ListLaws.{each_left, each_right, each_both}
 use Rattle.vo_laws.proofs.TreeFits.{Separated, AreSeparated, SeparatedInsertion, SeparatedChildren, SeparatedTree, KeyFits, each_loadable, each_dropped, key_there, parts_taken, parts_dropped, first_fits, put_separated, after_separated, either_separated}
 
@@ -136,7 +136,7 @@ root_separated (inner ss none) s = s
 root_separated (inner ss (more m p none)) s = s.1.0
 root_separated (inner ss (more m p (more n q ps))) s = s
 
-pub removed_separated : (key : List ℕ) (t : RowTree) → AllByRecursion KeyFits (entries t) → Separated t → SeparatedTree (removed key t)
+pub removed_separated : (key : List ℕ) (t : RowTree) → AllByRecursion KeyFits (entries t) → Separated t → SeparatedTree (tree_without_key key t)
 removed_separated key t fits s = step (shrink row_family key t) (node_shrunk_separated key t fits s)
   where
     step : (r : Result RowTree UpdateFault) → SeparatedTree r → SeparatedTree (result_map settled_root r)
@@ -177,5 +177,5 @@ module _ (edit : PartEntry → Result PartEntry UpdateFault) where
         edited_either (goes_here key (slice_get ss 0)) m p ps (edited_by row_family edit key p) (edited_in row_family edit key (drop 1 ss) ps) s.0 s.1
         (edited_separated key p s.0) (each_edited_separated key (drop 1 ss) ps s.1)
 
-pub replaced_separated : (key : List ℕ) (changes : List CellChange) (t : RowTree) → Separated t → SeparatedTree (replaced key changes t)
+pub replaced_separated : (key : List ℕ) (changes : List CellChange) (t : RowTree) → Separated t → SeparatedTree (tree_with_cells key changes t)
 replaced_separated key changes t s = edited_separated (set_row changes) key t s

@@ -25,7 +25,7 @@ use Rattle.vo_spec.specs.Results.{BoundSource, schema_at, bound_sources, no_sche
 use Rattle.vo_spec.specs.Records.{table_headers, record_bytes, catalog_digest}
 use Rattle.vo_spec.specs.Trees.{RowTree, Prunes}
 use Rattle.vo_spec.specs.Scans.{seen}
-use Rattle.vo_spec.specs.Pruned.{is_missing, has_surplus, pruned}
+use Rattle.vo_spec.specs.Pruning.{is_missing, has_surplus, prune_tree}
 use Rattle.vo_spec.specs.Needs.{meets_left, left_need, right_need, named_cells, seen_row_view, right_needs, needs, tables_used, same_table}
 use Rattle.vo_spec.specs.Checks.{table_named, has_table_shape, root_fault, trees_of, key_fault, leaf_fault, signature_fault, age_fault, catalog_fault, count_fault, shape_fault, missing_fault, surplus_fault, check_fault, seen_outcome, answer_to}
 use Rattle.vo_spec.specs.Replies.{Reply}
@@ -43,8 +43,8 @@ use Rattle.vo_laws.proofs.JoinLaws.{is_bytes}
 use Rattle.vo_laws.proofs.Exact.{exact, named_stands, same_table_headers}
 
 -- what is seen of a proof is what is seen of its tree
-pub seen_same : (ns : List Need) (need : Need) (t : RowTree) → IsIn need ns → is_missing ns (pruned ns t) ≡ false → seen need (pruned ns t) ≡ seen need t
-seen_same ns need t i full = step (seen need (pruned ns t)) (complete ns need (pruned ns t) i full) (sound need (pruned ns t) t (pruned_prunes ns t))
+pub seen_same : (ns : List Need) (need : Need) (t : RowTree) → IsIn need ns → is_missing ns (prune_tree ns t) ≡ false → seen need (prune_tree ns t) ≡ seen need t
+seen_same ns need t i full = step (seen need (prune_tree ns t)) (complete ns need (prune_tree ns t) i full) (sound need (prune_tree ns t) t (pruned_prunes ns t))
   where
     step : (o : Option (List SeenRow)) → Shows o → IsNoneOrSame o (seen need t) → o ≡ seen need t
     step None s g = absurd s
@@ -77,7 +77,7 @@ module _ (stored : List Stored) (tables : List Table) (stand : RepresentTables s
   minimal : (names : List (List ℕ)) (nss : List (List Need)) → list_any (λ (t : List Need × RowTree). has_surplus t.0 t.1) (zip nss (pruned_each nss (map tree names))) ≡ false
   minimal names [] = refl
   minimal [] (ns ∷ nss) = refl
-  minimal (name ∷ names) (ns ∷ nss) = or_from (has_surplus ns (pruned ns (tree name))) _ (pruned_bare ns (tree name)) (minimal names nss)
+  minimal (name ∷ names) (ns ∷ nss) = or_from (has_surplus ns (prune_tree ns (tree name))) _ (pruned_bare ns (tree name)) (minimal names nss)
 
   full : (names : List (List ℕ)) (nss : List (List Need)) → AllZip FitNeeds nss names
       → list_any (λ (t : List Need × RowTree). is_missing t.0 t.1) (zip nss (pruned_each nss (map tree names))) ≡ false
@@ -85,7 +85,7 @@ module _ (stored : List Stored) (tables : List Table) (stand : RepresentTables s
   full [] (ns ∷ nss) z = absurd z
   full (name ∷ names) [] z = absurd z
   full (name ∷ names) (ns ∷ nss) z =
-      or_from (is_missing ns (pruned ns (tree name))) _ (pruned_complete z.0.0 ns (tree name) (rows_named name tables) (named_stands name stored tables stand) z.0.1 z.0.2) (full names nss z.1)
+      or_from (is_missing ns (prune_tree ns (tree name))) _ (pruned_complete z.0.0 ns (tree name) (rows_named name tables) (named_stands name stored tables stand) z.0.1 z.0.2) (full names nss z.1)
 
   counted : (names : List (List ℕ)) (nss : List (List Need)) → AllZip FitNeeds nss names → length (pruned_each nss (map tree names)) ≡ length names
   counted [] [] z = refl
@@ -184,13 +184,13 @@ module _ (stored : List Stored) (tables : List Table) (stand : RepresentTables s
         → needs_by b (pruned_each (needs_by b (map tree (names_by b))) (map tree (names_by b))) ≡ needs_by b (map tree (names_by b))
     same_by true z =
         let ns : List Need = left_need both_sources joining ∷ right_needs both_sources joining (tree left.table ∷ []) in
-        let here : seen (left_need both_sources joining) (pruned ns (tree left.table)) ≡ seen (left_need both_sources joining) (tree left.table) =
+        let here : seen (left_need both_sources joining) (prune_tree ns (tree left.table)) ≡ seen (left_need both_sources joining) (tree left.table) =
         seen_same ns (left_need both_sources joining) (tree left.table) (inl refl)
         (pruned_complete z.0.0 ns (tree left.table) (rows_named left.table tables) (named_stands left.table stored tables stand) z.0.1 z.0.2) in
         ap (λ o. (left_need both_sources joining ∷ rights_of o) ∷ []) here
     same_by false z =
         let ns : List Need = left_need both_sources joining ∷ [] in
-        let here : seen (left_need both_sources joining) (pruned ns (tree left.table)) ≡ seen (left_need both_sources joining) (tree left.table) =
+        let here : seen (left_need both_sources joining) (prune_tree ns (tree left.table)) ≡ seen (left_need both_sources joining) (tree left.table) =
         seen_same ns (left_need both_sources joining) (tree left.table) (inl refl)
         (pruned_complete z.0.0 ns (tree left.table) (rows_named left.table tables) (named_stands left.table stored tables stand) z.0.1 z.0.2) in
         ap (λ o. ns ∷ rights_of o ∷ []) here

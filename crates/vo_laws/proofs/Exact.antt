@@ -26,10 +26,10 @@ use Rattle.vo_spec.specs.Parts.{leaf, entries}
 use Rattle.vo_spec.specs.Trees.{RowTree, Prunes}
 use Rattle.vo_spec.specs.Cells.{whole_entry}
 use Rattle.vo_spec.specs.Scans.{in_interval}
-use Rattle.vo_spec.specs.Pruned.{is_missing}
+use Rattle.vo_spec.specs.Pruning.{is_missing}
 use Rattle.vo_spec.specs.Standing.{Represents}
 use Rattle.vo_spec.specs.Needs.{meets_left, left_need, right_need, seen_row_views, seen_lefts, seen_rights, right_needs, needs, tables_used, same_table, right_tree}
-use Rattle.vo_spec.specs.Checks.{key_kind, needed, missing_fault, seen_outcome}
+use Rattle.vo_spec.specs.Checks.{key_kind, needs_with_trees, missing_fault, seen_outcome}
 use Rattle.vo_spec.specs.Replies.{Reply}
 use Rattle.vo_spec.specs.Honest.{Stored, RepresentsTable, RepresentTables, catalog_of, stored_tree, trees_for}
 use Rattle.vo_laws.proofs.ListLaws.{IsIn, in_left, in_map, zip_weaker, zip_filter, flat_map_kept, flat_map_zip, flat_map_map}
@@ -329,7 +329,7 @@ exact q r stored tables stand fits catalog prunes full =
     ap (outcome_by stored tables stand q r.trees) same
     ∙ by_tables stored tables stand q r.trees fits
     (subst (PruneWanted stored tables stand q r.trees) (same_table_headers stored tables stand) prunes)
-    (subst (MissNone stored tables stand q r.trees) same (none_missing (list_any (λ (t : List Need × RowTree). is_missing t.0 t.1) (needed q r)) full))
+    (subst (MissNone stored tables stand q r.trees) same (none_missing (list_any (λ (t : List Need × RowTree). is_missing t.0 t.1) (needs_with_trees q r)) full))
   where
     none_missing : (b : Bool) → cond b (Some Missing) None ≡ None → b ≡ false
     none_missing true e = absurd (cc)

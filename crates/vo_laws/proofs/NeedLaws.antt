@@ -16,7 +16,7 @@ use Rattle.vo_spec.specs.Records.{table_headers}
 use Rattle.vo_spec.specs.Parts.{leaf}
 use Rattle.vo_spec.specs.Trees.{RowTree}
 use Rattle.vo_spec.specs.Scans.{is_empty_interval, seen}
-use Rattle.vo_spec.specs.Pruned.{pruned}
+use Rattle.vo_spec.specs.Pruning.{prune_tree}
 use Rattle.vo_spec.specs.Standing.{Represents}
 use Rattle.vo_spec.specs.Needs.{left_need, right_need, meets_left, seen_row_view, needs, tables_used, same_table, tree_at}
 use Rattle.vo_spec.specs.Honest.{Stored, RepresentTables, catalog_of, stored_tree, trees_for, honest_trees}
@@ -29,7 +29,7 @@ use Rattle.vo_laws.proofs.Complete.{seen_same}
 
 -- For a need whose columns the rows have.
 pub seen_of_proof : (n : ℕ) (need : Need) (t : RowTree) (rows : List Row) → Represents t rows → AllByRecursion (λ column. column < n) need.columns
-    → AllByRecursion (λ (row : Row). length row.cells ≡ n) rows → seen need (pruned (need ∷ []) t) ≡ seen need t
+    → AllByRecursion (λ (row : Row). length row.cells ≡ n) rows → seen need (prune_tree (need ∷ []) t) ≡ seen need t
 seen_of_proof n need t rows stand below cells = seen_same (need ∷ []) need t (inl refl) (pruned_complete n (need ∷ []) t rows stand (below, tt) cells)
 
 -- The needs of a query go by what is seen for its left one alone.
@@ -44,16 +44,16 @@ needs_by_seen ss q trees others same = ap needs_of same
     needs_of o = cond (length (tables_used ss) == 1) ((left_need ss q ∷ rights o) ∷ []) ((left_need ss q ∷ []) ∷ rights o ∷ [])
 
 -- no need shows anything of no rows
-nothing_seen : (need : Need) → seen need (pruned (need ∷ []) (leaf [])) ≡ seen need (leaf [])
+nothing_seen : (need : Need) → seen need (prune_tree (need ∷ []) (leaf [])) ≡ seen need (leaf [])
 nothing_seen need = step (is_empty_interval need.interval) refl
   where
-    step : (b : Bool) → is_empty_interval need.interval ≡ b → seen need (pruned (need ∷ []) (leaf [])) ≡ seen need (leaf [])
+    step : (b : Bool) → is_empty_interval need.interval ≡ b → seen need (prune_tree (need ∷ []) (leaf [])) ≡ seen need (leaf [])
     step true e = rw e refl
     step false e = rw e refl
 
 module _ (stored : List Stored) (tables : List Table) (stand : RepresentTables stored tables) (fit : FitTables tables) (q : Query) where
   abbrev SeesLeft : List TableHeader → Type 0
-  SeesLeft hs = seen (left_need (bound_sources hs q) q) (pruned (left_need (bound_sources hs q) q ∷ []) (stored_tree stored q.left.table)) ≡ seen (left_need (bound_sources hs q) q) (stored_tree stored q.left.table)
+  SeesLeft hs = seen (left_need (bound_sources hs q) q) (prune_tree (left_need (bound_sources hs q) q ∷ []) (stored_tree stored q.left.table)) ≡ seen (left_need (bound_sources hs q) q) (stored_tree stored q.left.table)
 
   left_same : SeesLeft (map table_header_of tables)
   left_same =
@@ -75,7 +75,7 @@ module _ (stored : List Stored) (tables : List Table) (stand : RepresentTables s
   need = left_need (bound_sources (table_headers (catalog_of stored)) q) q
 
   abbrev SeesFirst : List (List ℕ) → Type 0
-  SeesFirst names = seen need (pruned (need ∷ []) (first_tree names)) ≡ seen need (first_tree names)
+  SeesFirst names = seen need (prune_tree (need ∷ []) (first_tree names)) ≡ seen need (first_tree names)
 
   by_names : (b : Bool)
       → SeesFirst (cond b ((bound_source_at (bound_sources (table_headers (catalog_of stored)) q) 0).table ∷ []) ((bound_source_at (bound_sources (table_headers (catalog_of stored)) q) 0).table ∷ (bound_source_at (bound_sources (table_headers (catalog_of stored)) q) 1).table ∷ []))
@@ -86,18 +86,18 @@ module _ (stored : List Stored) (tables : List Table) (stand : RepresentTables s
   by_fault true = nothing_seen need
   by_fault false = by_names (length (bound_sources (table_headers (catalog_of stored)) q) == 1 || same_table (bound_sources (table_headers (catalog_of stored)) q))
 
-  first_seen : seen need (pruned (need ∷ []) (tree_at (trees_for q stored) 0)) ≡ seen need (tree_at (trees_for q stored) 0)
+  first_seen : seen need (prune_tree (need ∷ []) (tree_at (trees_for q stored) 0)) ≡ seen need (tree_at (trees_for q stored) 0)
   first_seen = by_fault (is_some (binding_fault (table_headers (catalog_of stored)) q))
 
-  pub needs_of_left : (others : List RowTree) → needs (bound_sources (table_headers (catalog_of stored)) q) q (pruned (need ∷ []) (tree_at (trees_for q stored) 0) ∷ others)
+  pub needs_of_left : (others : List RowTree) → needs (bound_sources (table_headers (catalog_of stored)) q) q (prune_tree (need ∷ []) (tree_at (trees_for q stored) 0) ∷ others)
       ≡ needs (bound_sources (table_headers (catalog_of stored)) q) q (trees_for q stored)
-  needs_of_left others = needs_by_seen (bound_sources (table_headers (catalog_of stored)) q) q (pruned (need ∷ []) (tree_at (trees_for q stored) 0) ∷ others) (trees_for q stored) first_seen
+  needs_of_left others = needs_by_seen (bound_sources (table_headers (catalog_of stored)) q) q (prune_tree (need ∷ []) (tree_at (trees_for q stored) 0) ∷ others) (trees_for q stored) first_seen
 
 -- From the proof of the left tree for the left need, whatever trees stand behind it, come the needs of the whole trees.
 pub needs_from_proof : (batches : List (List Command)) (q : Query) (others : List RowTree) → AllByRecursion FitsBatch batches
     → let stored : List Stored = honest_trees batches in
     let ss : List BoundSource = bound_sources (table_headers (catalog_of stored)) q in
-    needs ss q (pruned (left_need ss q ∷ []) (tree_at (trees_for q stored) 0) ∷ others) ≡ needs ss q (trees_for q stored)
+    needs ss q (prune_tree (left_need ss q ∷ []) (tree_at (trees_for q stored) 0) ∷ others) ≡ needs ss q (trees_for q stored)
 needs_from_proof batches q others fits =
     let s = stands batches fits in
     needs_of_left (honest_trees batches) (tables_after batches) s.0 s.1 q others

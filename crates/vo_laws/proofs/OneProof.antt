@@ -14,7 +14,7 @@ use Rattle.vo_spec.specs.declared.cells.PartEntry.{PartEntry}
 use Rattle.vo_spec.specs.Cells.{cell_digest, row_digest, whole_cells, whole_entry, whole_row, shown_value, value_in, CellsPrune, RowPrunes, EntryPrunes}
 use Rattle.vo_spec.specs.Trees.{RowTree, row_family, Prunes}
 use Rattle.vo_spec.specs.Scans.{in_interval}
-use Rattle.vo_spec.specs.Pruned.{at_root, is_any, needed_columns, has_column, hides_any, shows_surplus, row_has_surplus, shown_cell, shown_cells, shown_row, shown_entry, walk_for, IsCanonical, pruned}
+use Rattle.vo_spec.specs.Pruning.{at_root, is_any, needed_columns, has_column, hides_any, shows_surplus, row_has_surplus, shown_cell, shown_cells, shown_row, shown_entry, walk_for, IsCanonical, prune_tree}
 use Rattle.vo_spec.specs.Standing.{Represents, fewest_in_root}
 use Rattle.vo_laws.specs.Columns.{HasColumns, HaveColumns}
 use Rattle.vo_laws.proofs.ListLaws.{IsIn, each_of, each_weaker, each_both, any_in, none_any}
@@ -69,7 +69,7 @@ entries_complete needs (row ∷ rows) all = (
   entries_complete needs rows (each_weaker (HaveColumns (row ∷ rows)) (HaveColumns rows) (λ need have. have.1) needs all),
 )
 
-pub pruned_canonical : (needs : List Need) (t : RowTree) (rows : List Row) → Represents t rows → AllByRecursion (HaveColumns rows) needs → IsCanonical needs (pruned needs t)
+pub pruned_canonical : (needs : List Need) (t : RowTree) (rows : List Row) → Represents t rows → AllByRecursion (HaveColumns rows) needs → IsCanonical needs (prune_tree needs t)
 pruned_canonical needs t rows stands have = record {
   complete =
       walk_complete (walk_for needs) (at_root needs) (fewest_in_root row_family t) stands.tree.height None None t stands.tree.shape
@@ -153,5 +153,5 @@ entry_is : (needs : List Need) (e f : PartEntry) → EntryPrunes e f → hides_a
     → e ≡ shown_entry needs f
 entry_is needs e f z h b = row_and_key needs e.key f.key e.row f.row z.key z.row h b
 
-pub only_canonical : (needs : List Need) (p t : RowTree) → Prunes p t → IsCanonical needs p → p ≡ pruned needs t
+pub only_canonical : (needs : List Need) (p t : RowTree) → Prunes p t → IsCanonical needs p → p ≡ prune_tree needs t
 only_canonical needs p t z is = only_part (walk_for needs) row_family EntryPrunes (entry_is needs) (at_root needs) p t is.complete is.minimal z

@@ -14,9 +14,9 @@ use Rattle.vo_spec.specs.Tables.{CellChange}
 use Rattle.vo_spec.specs.Cells.{CellsPrune, RowPrunes, EntryPrunes}
 use Rattle.vo_spec.specs.Parts.{stub, leaf, inner, none, more, PrunesEach}
 use Rattle.vo_spec.specs.Trees.{RowTree, RowTrees, row_family, digest, Prunes}
-use Rattle.vo_spec.specs.Pruned.{pruned_by, pruned_in}
-use Rattle.vo_spec.specs.Inserts.{result_map, goes_here, has_key, put_entry, split_leaf, split_inner, put_insertion, after_child, grow, grow_in, root_of, inserted, closed_entry, walk_to, insert_proof}
-use Rattle.vo_spec.specs.Removes.{hidden_cells, hidden_row, opened_row, closed_parts, path_to, path_in, edit_entry, edited_by, edited_in, set_row, replaced, replace_proof}
+use Rattle.vo_spec.specs.Pruning.{pruned_by, pruned_in}
+use Rattle.vo_spec.specs.Inserts.{result_map, goes_here, has_key, put_entry, split_leaf, split_inner, put_insertion, after_child, grow, grow_in, root_of, tree_with_entry, closed_entry, walk_to, insert_proof}
+use Rattle.vo_spec.specs.Removes.{hidden_cells, hidden_row, opened_row, closed_parts, path_to, path_in, edit_entry, edited_by, edited_in, set_row, tree_with_cells, replace_proof}
 use Rattle.vo_laws.specs.UpdateProofs.{lacks, any_open, shows_cells, is_shown, shows_any, rows_surplus, replace_has_surplus, replace_has_surplus_in}
 
 pub lacks_map : {A B : Type 0} (f : A → B) (r : Result A UpdateFault) → lacks (result_map f r) ≡ lacks r
@@ -67,7 +67,7 @@ module _ (e : PartEntry) where
     grow_in_lacks lower ss (more m p ps) =
         grow_step ss m p ps (goes_here e.key (slice_get ss 0)) (grow_lacks p) (grow_in_lacks (slice_get ss 0) (drop 1 ss) ps)
 
-  pub insertion_lacks : (t : RowTree) → lacks (inserted e (insert_proof e.key t)) ≡ lacks (inserted e t)
+  pub insertion_lacks : (t : RowTree) → lacks (tree_with_entry e (insert_proof e.key t)) ≡ lacks (tree_with_entry e t)
   insertion_lacks t = lacks_same (root_of row_family) (root_of row_family) (grow row_family e (insert_proof e.key t)) (grow row_family e t) (grow_lacks t)
 
 -- Rows that are digests, and subtrees.
@@ -195,7 +195,7 @@ module _ (key : List ℕ) where
         (edited_in row_family (set_row changes) key (drop 1 ss) (path_in (opened_row key) key (drop 1 ss) ps)) (edited_in row_family (set_row changes) key (drop 1 ss) ps) behind)
 
     mutual
-      pub replacement_lacks : (t : RowTree) → lacks (replaced key changes (replace_proof key t)) ≡ lacks (replaced key changes t)
+      pub replacement_lacks : (t : RowTree) → lacks (tree_with_cells key changes (replace_proof key t)) ≡ lacks (tree_with_cells key changes t)
       replacement_lacks (stub d) = refl
       replacement_lacks (leaf es) =
           lacks_same leaf leaf (edit_entry row_family (set_row changes) key (opened_row key es)) (edit_entry row_family (set_row changes) key es) (edit_lacks es)

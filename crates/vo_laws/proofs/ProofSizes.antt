@@ -18,7 +18,7 @@ use Rattle.vo_spec.specs.Batches.{max_commands, FitsCommand, FitsBatch}
 use Rattle.vo_spec.specs.Parts.{stub, leaf, inner, none, more, count, levels, levels_in, leaf_bytes, inner_bytes}
 use Rattle.vo_spec.specs.Trees.{RowTree, RowTrees, row_family}
 use Rattle.vo_spec.specs.Fits.{FitsKey, FitsEntry, FitsEach, FitsPart, FitsTree}
-use Rattle.vo_spec.specs.Pruned.{pruned_by, pruned_in}
+use Rattle.vo_spec.specs.Pruning.{pruned_by, pruned_in}
 use Rattle.vo_spec.specs.Inserts.{result_map, goes_here, closed_entry, walk_to, insert_proof}
 use Rattle.vo_spec.specs.Removes.{replace_proof, remove_proof}
 use Rattle.vo_spec.specs.TreeBytes.{entry_form, row_encoding, tree_bytes, trees_bytes_by}

@@ -15,7 +15,7 @@ use Rattle.vo_spec.specs.Cells.{attribute_bytes, cell_digest, row_bytes, row_dig
 use Rattle.vo_spec.specs.Parts.{stub, leaf, inner, none, more, count, levels, levels_in, leaf_bytes, inner_bytes}
 use Rattle.vo_spec.specs.Trees.{RowTree, RowTrees, row_family, digest}
 use Rattle.vo_spec.specs.Fits.{FitsCell, FitsRowPart, FitsEntry, FitsEach, FitsPart, FitsTree}
-use Rattle.vo_spec.specs.Pruned.{Walk, pruned_by, pruned_in, is_any, needed_columns, has_column, shown_cells, shown_row, walk_for, at_root, pruned}
+use Rattle.vo_spec.specs.Pruning.{Walk, pruned_by, pruned_in, is_any, needed_columns, has_column, shown_cells, shown_row, walk_for, at_root, prune_tree}
 use Rattle.vo_spec.specs.Inserts.{walk_to, insert_proof}
 
 -- A walk that keeps entries within their limits.
@@ -109,9 +109,9 @@ row_closed (Cells cells) fits = length-sha256 (row_bytes cells)
 
 -- The proof for needs, and that of an insertion, fit where the tree does.
 
-pub pruned_fits : (needs : List Need) (t : RowTree) → FitsTree t → FitsTree (pruned needs t)
+pub pruned_fits : (needs : List Need) (t : RowTree) → FitsTree t → FitsTree (prune_tree needs t)
 pruned_fits needs t fits =
-    let low : levels (pruned needs t) ≤ levels t = walk_low (walk_for needs) (at_root needs) t in
+    let low : levels (prune_tree needs t) ≤ levels t = walk_low (walk_for needs) (at_root needs) t in
     record {
       nodes = walk_fits (walk_for needs) (λ e f. record { key = f.key; row = row_kept (needed_columns needs e.key) e.row f.row }) (at_root needs) t fits.nodes;
       depth = omega (arith, fits.depth);

@@ -12,7 +12,7 @@ use Rattle.vo_spec.specs.declared.cells.PartEntry.{PartEntry}
 use Rattle.vo_spec.specs.Cells.{cell_digest, cell_digests, row_digest, entry_bytes, CellPrunes, CellsPrune, RowPrunes, EntryPrunes}
 use Rattle.vo_spec.specs.Parts.{entries}
 use Rattle.vo_spec.specs.Trees.{RowTree, row_family, digest, Prunes}
-use Rattle.vo_spec.specs.Pruned.{Walk, is_missing_by, has_surplus_by, pruned_by, at_root, is_any, needed_columns, has_column, shows_surplus, row_has_surplus, shown_cells, shown_row, walk_for, has_surplus, pruned}
+use Rattle.vo_spec.specs.Pruning.{Walk, is_missing_by, has_surplus_by, pruned_by, at_root, is_any, needed_columns, has_column, shows_surplus, row_has_surplus, shown_cells, shown_row, walk_for, has_surplus, prune_tree}
 use Rattle.vo_spec.specs.Inserts.{walk_to, insert_proof, insert_is_missing, insert_has_surplus}
 use Rattle.vo_spec.specs.Standing.{IsNode, IsTree, fewest_in_root}
 use Rattle.vo_laws.proofs.WalkLaws as walks
@@ -80,7 +80,7 @@ row_shown_prune columns (Cells cells) = step (is_any columns)
     step true = cells_shown_prune columns 0 cells
     step false = refl
 
-pub pruned_prunes : (needs : List Need) (t : RowTree) → Prunes (pruned needs t) t
+pub pruned_prunes : (needs : List Need) (t : RowTree) → Prunes (prune_tree needs t) t
 pruned_prunes needs t = walk_prunes (walk_for needs) (λ e. record { key = refl; row = row_shown_prune (needed_columns needs e.key) e.row }) (at_root needs) t
 
 cells_bare : (columns : List ℕ) (column : ℕ) (cells : List Cell) → shows_surplus columns column (shown_cells columns column cells) ≡ false
@@ -101,7 +101,7 @@ row_bare columns (Cells cells) = step (is_any columns) refl
     step true e = or_from (not (is_any columns)) (shows_surplus columns 0 (shown_cells columns 0 cells)) (not_from_true (is_any columns) e) (cells_bare columns 0 cells)
     step false e = refl
 
-pub pruned_bare : (needs : List Need) (t : RowTree) → has_surplus needs (pruned needs t) ≡ false
+pub pruned_bare : (needs : List Need) (t : RowTree) → has_surplus needs (prune_tree needs t) ≡ false
 pruned_bare needs t = walk_bare (walk_for needs) (λ e. row_bare (needed_columns needs e.key) e.row) (at_root needs) t
 
 -- The proof of an insertion.

@@ -11,7 +11,7 @@ use Rattle.vo_spec.specs.Cells.{EntryPrunes}
 use Rattle.vo_spec.specs.Parts.{stub, leaf, inner, none, more, count, PrunesEach}
 use Rattle.vo_spec.specs.Trees.{RowTree, RowTrees, row_family, digest, Prunes}
 use Rattle.vo_spec.specs.Inserts.{Insertion, one, two, Children, result_map, goes_here, has_key, after_child, put_insertion, closed_entry}
-use Rattle.vo_spec.specs.Removes.{is_underfull, settled_root, without_entry, with_left, with_right, settle_first, settle_next, shrink, shrink_in, shrink_after, removed, closed_parts, opened_sibling, becomes_underfull, opened_sibling_if, sibling_first, remove_proof, remove_proof_in, remove_proof_after}
+use Rattle.vo_spec.specs.Removes.{is_underfull, settled_root, without_entry, with_left, with_right, settle_first, settle_next, shrink, shrink_in, shrink_after, tree_without_key, closed_parts, opened_sibling, becomes_underfull, opened_sibling_if, sibling_first, remove_proof, remove_proof_in, remove_proof_after}
 use Rattle.vo_laws.specs.UpdateProofs.{lacks, any_open, opened_sibling_surplus, sibling_surplus, first_surplus, remove_has_surplus, remove_has_surplus_in, remove_has_surplus_after}
 use Rattle.vo_laws.proofs.PathProofs.{lacks_same, closed_zip, closed_cells, closed_prune, closed_shut}
 
@@ -283,7 +283,7 @@ module _ (key : List ℕ) where
   pub shrink_lacks : (t : RowTree) → lacks (shrink row_family key (remove_proof key t)) ≡ lacks (shrink row_family key t)
   shrink_lacks t = follows_lacks Alike (shrink row_family key (remove_proof key t)) (shrink row_family key t) (shrink_follows t)
 
-  pub removal_lacks : (t : RowTree) → lacks (removed key (remove_proof key t)) ≡ lacks (removed key t)
+  pub removal_lacks : (t : RowTree) → lacks (tree_without_key key (remove_proof key t)) ≡ lacks (tree_without_key key t)
   removal_lacks t = lacks_same settled_root settled_root (shrink row_family key (remove_proof key t)) (shrink row_family key t) (shrink_lacks t)
 
   -- Nothing is open beyond. Whether a child becomes small is the same in the proof and in the tree.

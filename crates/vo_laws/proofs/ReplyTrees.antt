@@ -19,7 +19,7 @@ use Rattle.vo_spec.specs.Tables.{are_of_kinds}
 use Rattle.vo_spec.specs.Cells.{cell_digest, row_digest, whole_cells, whole_row, whole_entry}
 use Rattle.vo_spec.specs.Parts.{leaf, entries}
 use Rattle.vo_spec.specs.Trees.{RowTree, digest}
-use Rattle.vo_spec.specs.Pruned.{at_root, is_any, needed_columns, has_column, shown_cell, shown_cells, shown_row, shown_entry, walk_for, is_missing, pruned}
+use Rattle.vo_spec.specs.Pruning.{at_root, is_any, needed_columns, has_column, shown_cell, shown_cells, shown_row, shown_entry, walk_for, is_missing, prune_tree}
 use Rattle.vo_spec.specs.Standing.{Represents}
 use Rattle.vo_spec.specs.Checks.{key_kind, is_key_of, shows_kind, cells_fit, row_fits, entry_fits, has_shape, table_named, has_table_shape, root_fault}
 use Rattle.vo_spec.specs.Honest.{Stored, RepresentTables, catalog_of, stored_tree}
@@ -42,7 +42,7 @@ rows_have n need [] below cells = tt
 rows_have n need (row ∷ rows) below cells = (λ inside. subst (λ k. AreBelow k need.columns) (sym cells.0) below, rows_have n need rows below cells.1)
 
 pub pruned_complete : (n : ℕ) (needs : List Need) (t : RowTree) (rows : List Row) → Represents t rows → AreBounded n needs → AllByRecursion (HasCells n) rows
-    → is_missing needs (pruned needs t) ≡ false
+    → is_missing needs (prune_tree needs t) ≡ false
 pruned_complete n needs t rows stands all cells =
     (pruned_canonical needs t rows stands
     (each_weaker (λ (need : Need). AreBelow n need.columns) (HaveColumns rows) (λ need below. rows_have n need rows below cells) needs all)).complete
@@ -84,32 +84,32 @@ all_of test [] all = refl
 all_of test (x ∷ xs) all = and_from (test x) (list_all test xs) all.0 (all_of test xs all.1)
 
 pub pruned_shape : (schema : Schema) (needs : List Need) (t : RowTree) (rows : List Row) → Represents t rows → AllByRecursion (HasKinds schema) rows
-    → has_shape schema (pruned needs t) ≡ true
+    → has_shape schema (prune_tree needs t) ≡ true
 pruned_shape schema needs t rows stands kinds =
-    all_of (entry_fits schema) (entries (pruned needs t))
+    all_of (entry_fits schema) (entries (prune_tree needs t))
     (walk_each (walk_for needs) (λ (e : PartEntry). entry_fits schema e ≡ true) (at_root needs) t
     (subst (AllByRecursion (λ (e : PartEntry). entry_fits schema (shown_entry needs e) ≡ true)) (sym stands.rows_are) (entries_shape schema needs rows kinds)))
 
 -- Tables of catalogs by name.
 
-root_right : (needs : List Need) (s : Stored) (rows : ℕ) → root_fault (Some (record { name = s.name; schema = s.schema; rows = rows; root = digest s.tree }), pruned needs s.tree) ≡ None
+root_right : (needs : List Need) (s : Stored) (rows : ℕ) → root_fault (Some (record { name = s.name; schema = s.schema; rows = rows; root = digest s.tree }), prune_tree needs s.tree) ≡ None
 root_right needs s rows =
-    rw ((bytes_eq-Decides (digest s.tree) (digest (pruned needs s.tree))).1 (sym (digest_same (pruned needs s.tree) s.tree (pruned_prunes needs s.tree)))) refl
+    rw ((bytes_eq-Decides (digest s.tree) (digest (prune_tree needs s.tree))).1 (sym (digest_same (prune_tree needs s.tree) s.tree (pruned_prunes needs s.tree)))) refl
 
 -- what holds of the proof, for the table of this name in the catalog
 pub record IsGood (name : List ℕ) (needs : List Need) (stored : List Stored) : Type 0 where
-  pub shape : has_table_shape (table_named name (catalog_of stored), pruned needs (stored_tree stored name)) ≡ true
-  pub root : root_fault (table_named name (catalog_of stored), pruned needs (stored_tree stored name)) ≡ None
+  pub shape : has_table_shape (table_named name (catalog_of stored), prune_tree needs (stored_tree stored name)) ≡ true
+  pub root : root_fault (table_named name (catalog_of stored), prune_tree needs (stored_tree stored name)) ≡ None
 
 abbrev IsGoodBy : List Need → Bool → Stored → List ℕ → List Stored → Type 0
 IsGoodBy needs b s name stored =
     (has_table_shape (
       cond b (Some (record { name = s.name; schema = s.schema; rows = length (entries s.tree); root = digest s.tree })) (table_named name (catalog_of stored)),
-      pruned needs (option_map_or (λ (x : Stored). x.tree) (cond b (Some s) (find (λ (x : Stored). bytes_eq x.name name) stored)) (leaf [])),
+      prune_tree needs (option_map_or (λ (x : Stored). x.tree) (cond b (Some s) (find (λ (x : Stored). bytes_eq x.name name) stored)) (leaf [])),
     ) ≡ true)
     × (root_fault (
       cond b (Some (record { name = s.name; schema = s.schema; rows = length (entries s.tree); root = digest s.tree })) (table_named name (catalog_of stored)),
-      pruned needs (option_map_or (λ (x : Stored). x.tree) (cond b (Some s) (find (λ (x : Stored). bytes_eq x.name name) stored)) (leaf [])),
+      prune_tree needs (option_map_or (λ (x : Stored). x.tree) (cond b (Some s) (find (λ (x : Stored). bytes_eq x.name name) stored)) (leaf [])),
     ) ≡ None)
 
 pub good : (name : List ℕ) (needs : List Need) (stored : List Stored) (tables : List Table) → RepresentTables stored tables → AllByRecursion FitsTable tables → IsGood name needs stored

@@ -19,8 +19,8 @@ use Rattle.vo_spec.specs.Values.{key_lt}
 use Rattle.vo_spec.specs.Cells.{value_in, shown_value, CellsPrune, RowPrunes, EntryPrunes}
 use Rattle.vo_spec.specs.Parts.{stub, leaf, inner, none, more, entries, entries_in, PrunesEach}
 use Rattle.vo_spec.specs.Trees.{RowTree, RowTrees, row_family, Prunes}
-use Rattle.vo_spec.specs.Scans.{is_above, is_below, in_interval, is_empty_interval, ends_above, begins_below, visits, put_before, joined, values_in, with_key, seen_entries, seen_in, seen_in_each, seen}
-use Rattle.vo_spec.specs.Pruned.{walk_for, is_missing_by, is_missing_in, at_root, descend, is_any, needed_columns, hides_any, is_missing}
+use Rattle.vo_spec.specs.Scans.{is_above, is_below, in_interval, is_empty_interval, ends_above, begins_below, visits, put_before, append_both, values_in, with_key, seen_entries, seen_in, seen_in_each, seen}
+use Rattle.vo_spec.specs.Pruning.{walk_for, is_missing_by, is_missing_in, at_root, descend, is_any, needed_columns, hides_any, is_missing}
 use Rattle.vo_spec.specs.Standing.{is_from, is_before, IsNode, AreNodes, IsTree, fewest_in_root}
 use Rattle.vo_spec.specs.Inserts.{min_fill}
 use Rattle.vo_laws.proofs.KeyOrder.{key_lt_back, key_le_le, key_lt_le}
@@ -42,7 +42,7 @@ gives_put None y xs ys g h = tt
 gives_put (Some x) y None ys g h = tt
 gives_put (Some x) y (Some xs) ys g h = rw (g, h) refl
 
-gives_joined : {A : Type 0} (xs ys zs ws : Option (List A)) → IsNoneOrSame xs ys → IsNoneOrSame zs ws → IsNoneOrSame (joined xs zs) (joined ys ws)
+gives_joined : {A : Type 0} (xs ys zs ws : Option (List A)) → IsNoneOrSame xs ys → IsNoneOrSame zs ws → IsNoneOrSame (append_both xs zs) (append_both ys ws)
 gives_joined None ys zs ws g h = tt
 gives_joined (Some xs) ys None ws g h = tt
 gives_joined (Some xs) ys (Some zs) ws g h = rw (g, h) refl
@@ -104,8 +104,8 @@ mutual
   nodes_given need lower ss (more m p ps) none g = absurd g
   nodes_given need lower ss (more m p ps) (more n q qs) g =
       gives_cond (visits need.interval lower (slice_get ss 0))
-      (joined (seen_in need p) (seen_in_each need (slice_get ss 0) (drop 1 ss) ps)) (seen_in_each need (slice_get ss 0) (drop 1 ss) ps)
-      (joined (seen_in need q) (seen_in_each need (slice_get ss 0) (drop 1 ss) qs)) (seen_in_each need (slice_get ss 0) (drop 1 ss) qs)
+      (append_both (seen_in need p) (seen_in_each need (slice_get ss 0) (drop 1 ss) ps)) (seen_in_each need (slice_get ss 0) (drop 1 ss) ps)
+      (append_both (seen_in need q) (seen_in_each need (slice_get ss 0) (drop 1 ss) qs)) (seen_in_each need (slice_get ss 0) (drop 1 ss) qs)
       (gives_joined (seen_in need p) (seen_in need q) (seen_in_each need (slice_get ss 0) (drop 1 ss) ps) (seen_in_each need (slice_get ss 0) (drop 1 ss) qs)
       (node_given need p q g.1) (nodes_given need (slice_get ss 0) (drop 1 ss) ps qs g.2))
       (nodes_given need (slice_get ss 0) (drop 1 ss) ps qs g.2)
@@ -125,7 +125,7 @@ shows_put None xs s t = absurd s
 shows_put (Some x) None s t = absurd t
 shows_put (Some x) (Some xs) s t = tt
 
-shows_joined : {A : Type 0} (xs ys : Option (List A)) → Shows xs → Shows ys → Shows (joined xs ys)
+shows_joined : {A : Type 0} (xs ys : Option (List A)) → Shows xs → Shows ys → Shows (append_both xs ys)
 shows_joined None ys s t = absurd s
 shows_joined (Some xs) None s t = absurd t
 shows_joined (Some xs) (Some ys) s t = tt
@@ -171,10 +171,10 @@ entries_shown needs need (e ∷ es) i h = step (in_interval need.interval e.key)
     step false inside rest = rest
 
 child_shown : (need : Need) (lower upper : Option (List ℕ)) (x y : Option (List SeenRow)) → (visits need.interval lower upper ≡ true → Shows x) → Shows y
-    → Shows (cond (visits need.interval lower upper) (joined x y) y)
+    → Shows (cond (visits need.interval lower upper) (append_both x y) y)
 child_shown need lower upper x y f s = step (visits need.interval lower upper) refl
   where
-    step : (b : Bool) → visits need.interval lower upper ≡ b → Shows (cond b (joined x y) y)
+    step : (b : Bool) → visits need.interval lower upper ≡ b → Shows (cond b (append_both x y) y)
     step true v = shows_joined x y (f v) s
     step false v = s
 
@@ -206,21 +206,21 @@ complete needs need p i h = step (is_empty_interval need.interval) refl
 
 -- Of a whole tree a scan is a filter of its entries.
 
-joined_nothing : (xs : Option (List SeenRow)) → joined (Some []) xs ≡ xs
+joined_nothing : (xs : Option (List SeenRow)) → append_both (Some []) xs ≡ xs
 joined_nothing None = refl
 joined_nothing (Some xs) = refl
 
-put_joined : (x : Option SeenRow) (xs ys : Option (List SeenRow)) → joined (put_before x xs) ys ≡ put_before x (joined xs ys)
+put_joined : (x : Option SeenRow) (xs ys : Option (List SeenRow)) → append_both (put_before x xs) ys ≡ put_before x (append_both xs ys)
 put_joined None xs ys = refl
 put_joined (Some x) None ys = refl
 put_joined (Some x) (Some xs) None = refl
 put_joined (Some x) (Some xs) (Some ys) = refl
 
-cond_joined : (b : Bool) (x y z : Option (List SeenRow)) → joined (cond b x y) z ≡ cond b (joined x z) (joined y z)
+cond_joined : (b : Bool) (x y z : Option (List SeenRow)) → append_both (cond b x y) z ≡ cond b (append_both x z) (append_both y z)
 cond_joined true x y z = refl
 cond_joined false x y z = refl
 
-entries_joined : (need : Need) (es fs : List PartEntry) → seen_entries need (es ++ fs) ≡ joined (seen_entries need es) (seen_entries need fs)
+entries_joined : (need : Need) (es fs : List PartEntry) → seen_entries need (es ++ fs) ≡ append_both (seen_entries need es) (seen_entries need fs)
 entries_joined need [] fs = sym (joined_nothing (seen_entries need fs))
 entries_joined need (e ∷ es) fs =
     rw (
@@ -270,18 +270,18 @@ passed_by interval lower upper key e from before = elim (and_cases (ends_above i
 child_scanned : (need : Need) (near lower upper : Option (List ℕ)) (p : RowTree) (x : Option (List SeenRow))
     → ((key : List ℕ) → is_from lower key ≡ true → is_from near key ≡ true)
     → AllByRecursion (Between row_family lower upper) (entries p) → seen_in need p ≡ seen_entries need (entries p)
-    → cond (visits need.interval near upper) (joined (seen_in need p) x) x ≡ joined (seen_entries need (entries p)) x
+    → cond (visits need.interval near upper) (append_both (seen_in need p) x) x ≡ append_both (seen_entries need (entries p)) x
 child_scanned need near lower upper p x near_is all e = step (visits need.interval near upper) refl
   where
     outside : visits need.interval near upper ≡ false → (f : PartEntry) → Between row_family lower upper f → in_interval need.interval f.key ≡ false
     outside v f b = let parts = and_parts (is_from lower f.key) (is_before upper f.key) b in
         passed_by need.interval near upper f.key v (near_is f.key parts.0) parts.1
 
-    step : (b : Bool) → visits need.interval near upper ≡ b → cond b (joined (seen_in need p) x) x ≡ joined (seen_entries need (entries p)) x
-    step true v = ap (λ z. joined z x) e
+    step : (b : Bool) → visits need.interval near upper ≡ b → cond b (append_both (seen_in need p) x) x ≡ append_both (seen_entries need (entries p)) x
+    step true v = ap (λ z. append_both z x) e
     step false v =
         let none_here : seen_entries need (entries p) ≡ Some [] = none_inside need (entries p) (each_weaker (Between row_family lower upper) (λ (f : PartEntry). in_interval need.interval f.key ≡ false) (outside v) (entries p) all) in
-        sym (ap (λ z. joined z x) none_here ∙ joined_nothing x)
+        sym (ap (λ z. append_both z x) none_here ∙ joined_nothing x)
 
 weaker_upper : (lower upper : Option (List ℕ)) (e : PartEntry) → Between row_family lower upper e → Between row_family lower None e
 weaker_upper lower upper e b = and_from (is_from lower e.key) true (and_parts (is_from lower e.key) (is_before upper e.key) b).0 refl
@@ -289,7 +289,7 @@ weaker_upper lower upper e b = and_from (is_from lower e.key) true (and_parts (i
 last_scanned : (need : Need) (near lower upper : Option (List ℕ)) (p : RowTree)
     → ((key : List ℕ) → is_from lower key ≡ true → is_from near key ≡ true)
     → AllByRecursion (Between row_family lower upper) (entries p) → seen_in need p ≡ seen_entries need (entries p)
-    → cond (visits need.interval near None) (joined (seen_in need p) (Some [])) (Some []) ≡ seen_entries need (entries p ++ [])
+    → cond (visits need.interval near None) (append_both (seen_in need p) (Some [])) (Some []) ≡ seen_entries need (entries p ++ [])
 last_scanned need near lower upper p near_is all e =
     rw (entries_joined need (entries p) [])
     (child_scanned need near lower None p (Some []) near_is (each_weaker (Between row_family lower upper) (Between row_family lower None) (weaker_upper lower upper) (entries p) all) e)

@@ -18,7 +18,7 @@ use Rattle.vo_spec.specs.Lms.{public_bytes, key_lms, key_ots, signature_len_by, 
 use Rattle.vo_spec.specs.Secret.{Secret, tree_node, public_of_secret}
 use Rattle.vo_spec.specs.Records.{record_bytes}
 use Rattle.vo_spec.specs.Journals.{max_signature, FitsEntry, batches_of}
-use Rattle.vo_spec.specs.Honest.{honest_trees, honest_record, sealed_entry, sealed_after, sealed}
+use Rattle.vo_spec.specs.Honest.{honest_trees, honest_record, sealed_entry, sealed_after, seal_batches}
 use Rattle.vo_spec.specs.Owners.{IsSigned, IsLoadableEntry, AreLoadableAfter, AreLoadable}
 use Rattle.vo_laws.specs.Sealing.{AreAcceptedAfter, SignsValidly}
 use Rattle.vo_laws.proofs.StoredFits.{record_fits}
@@ -123,8 +123,8 @@ unfolding sealed_entry
 first_record secret = ap (honest_record (public_of_secret secret) 0) (no_trees_before [])
 
 pub sealed_are_loadable : (secret : Secret) (batches : List (List Command)) → AreAcceptedAfter [] batches
-    → AllByRecursion (λ (e : Entry). IsSigned (public_of_secret secret) e.rec e.signature) (sealed secret batches) → AreLoadable (public_of_secret secret) (sealed secret batches)
-unfolding sealed AreLoadable
+    → AllByRecursion (λ (e : Entry). IsSigned (public_of_secret secret) e.rec e.signature) (seal_batches secret batches) → AreLoadable (public_of_secret secret) (seal_batches secret batches)
+unfolding seal_batches AreLoadable
 sealed_are_loadable secret batches accepted signed =
     (first_record secret, signed.0, loadable_after secret ([] ∷ []) batches (accepted_behind [] batches accepted) signed.1)
 
@@ -143,8 +143,8 @@ signed_each secret earlier (batch ∷ batches) valid few = (
 )
 
 pub sealed_are_signed : (secret : Secret) (batches : List (List Command)) → SignsValidly secret → length batches < leaves_of secret.lms
-    → AllByRecursion (λ (e : Entry). IsSigned (public_of_secret secret) e.rec e.signature) (sealed secret batches)
-unfolding sealed
+    → AllByRecursion (λ (e : Entry). IsSigned (public_of_secret secret) e.rec e.signature) (seal_batches secret batches)
+unfolding seal_batches
 sealed_are_signed secret batches valid few = signed_each secret [] ([] ∷ batches) valid (omega arith)
 
 -- A journal of one more batch.
@@ -161,16 +161,16 @@ insertion_after secret earlier (b ∷ batches) batch =
     ∙ ap (λ bs. sealed_after secret (earlier ++ b ∷ []) batches ++ sealed_entry secret bs batch ∷ []) (append_assoc earlier (b ∷ []) batches))
 
 pub sealed_grows : (secret : Secret) (batches : List (List Command)) (batch : List Command)
-    → sealed secret (batches ++ batch ∷ []) ≡ sealed secret batches ++ sealed_entry secret ([] ∷ batches) batch ∷ []
-unfolding sealed
+    → seal_batches secret (batches ++ batch ∷ []) ≡ seal_batches secret batches ++ sealed_entry secret ([] ∷ batches) batch ∷ []
+unfolding seal_batches
 sealed_grows secret batches batch = insertion_after secret [] ([] ∷ batches) batch
 
 batches_after : (secret : Secret) (earlier batches : List (List Command)) → batches_of (sealed_after secret earlier batches) ≡ batches
 batches_after secret earlier [] = refl
 batches_after secret earlier (batch ∷ batches) = rw (commands_are secret earlier batch, batches_after secret (earlier ++ batch ∷ []) batches) refl
 
-pub batches_sealed : (secret : Secret) (batches : List (List Command)) → batches_of (sealed secret batches) ≡ [] ∷ batches
-unfolding sealed
+pub batches_sealed : (secret : Secret) (batches : List (List Command)) → batches_of (seal_batches secret batches) ≡ [] ∷ batches
+unfolding seal_batches
 batches_sealed secret batches = batches_after secret [] ([] ∷ batches)
 
 -- Its entries fit, where the signatures do.
@@ -189,6 +189,6 @@ fit_after secret earlier (batch ∷ batches) sixteen earlier_fit fits few short 
 )
 
 pub sealed_fit : (secret : Secret) (batches : List (List Command)) → length secret.id ≡ 16 → AllByRecursion FitsBatch batches → length batches < 2 ^ 64
-    → AllByRecursion (λ (e : Entry). length e.signature ≤ max_signature) (sealed secret batches) → AllByRecursion FitsEntry (sealed secret batches)
-unfolding sealed
+    → AllByRecursion (λ (e : Entry). length e.signature ≤ max_signature) (seal_batches secret batches) → AllByRecursion FitsEntry (seal_batches secret batches)
+unfolding seal_batches
 sealed_fit secret batches sixteen fits few short = fit_after secret [] ([] ∷ batches) sixteen tt (no_commands_fit, fits) (omega arith) short

@@ -13,7 +13,7 @@ use Rattle.vo_spec.specs.declared.tables.CommandFault.{CommandFault}
 use Rattle.vo_spec.specs.declared.tables.CommandFault.TheVariants as command
 use Rattle.vo_spec.specs.Firsts.{unless, and_then}
 use Rattle.vo_spec.specs.Values.{key_of}
-use Rattle.vo_spec.specs.Tables.{table_header_of, row_of, has_row, put_row, without_row, changed_row, cell_changes, table_named, rows_named, with_rows, update_tests, delete_tests, refusal, changed, apply, numbered, apply_from, apply_batch, after_batch, tables_after}
+use Rattle.vo_spec.specs.Tables.{table_header_of, row_of, has_row, put_row, without_row, changed_row, cell_changes, table_named, rows_named, with_rows, update_tests, delete_tests, refusal, change_tables, apply, with_index, apply_from, apply_batch, after_batch, tables_after}
 use Rattle.vo_spec.specs.Batches.{FitsCommand, FitsBatch}
 use Rattle.vo_spec.specs.Records.{FitsSchema}
 use Rattle.vo_spec.specs.Honest.{Stored, RepresentsTable, RepresentTables, stored_table_header, changed_trees, work, work_all, after_work, honest_trees}
@@ -57,7 +57,7 @@ schema_named name (u ∷ ts) all t found = step (bytes_eq u.name name) found (sc
     step false f rest = rest f
 
 changed_in_step : (c : Command) (stored : List Stored) (tables : List Table) → FitsCommand c → refusal c (map table_header_of tables) ≡ None
-    → RepresentTables stored tables → FitTables tables → InStep (changed_trees c stored) (changed c tables)
+    → RepresentTables stored tables → FitTables tables → InStep (changed_trees c stored) (change_tables c tables)
 unfolding FitsCommand
 changed_in_step (Create name columns key) stored tables fits e zs good = create_in_step _ _ stored tables (made_stands name columns key) zs
 changed_in_step (Drop name) stored tables fits e zs good =
@@ -70,7 +70,7 @@ changed_in_step (Update name sets column value) stored tables fits e zs good =
 changed_in_step (Delete name column value) stored tables fits e zs good =
     delete_in_step name column value stored tables zs good.rising (table_there name (delete_tests column value) tables e)
 
-changed_fit : (c : Command) (tables : List Table) → FitsCommand c → refusal c (map table_header_of tables) ≡ None → FitTables tables → FitAfter (changed c tables)
+changed_fit : (c : Command) (tables : List Table) → FitsCommand c → refusal c (map table_header_of tables) ≡ None → FitTables tables → FitAfter (change_tables c tables)
 changed_fit (Create name columns key) tables fits e good = created_fit name columns key tables fits e good
 changed_fit (Drop name) tables fits e good = dropped_fit (λ (t : Table). not (bytes_eq t.name name)) tables good
 changed_fit (Insert name values) tables fits e good = step (is_doubled values (table_named name tables))
@@ -91,12 +91,12 @@ pub command_in_step : (c : Command) (stored : List Stored) (tables : List Table)
     → InStep (work c stored) (apply c tables) × FitAfter (apply c tables)
 unfolding work apply
 command_in_step c stored tables fits zs good =
-    subst (λ hs. InStep (and_then (changed_trees c) (unless (refusal c hs) stored)) (and_then (changed c) (unless (refusal c (map table_header_of tables)) tables))
-    × FitAfter (and_then (changed c) (unless (refusal c (map table_header_of tables)) tables)))
+    subst (λ hs. InStep (and_then (changed_trees c) (unless (refusal c hs) stored)) (and_then (change_tables c) (unless (refusal c (map table_header_of tables)) tables))
+    × FitAfter (and_then (change_tables c) (unless (refusal c (map table_header_of tables)) tables)))
     (sym (stored_table_headers stored tables zs)) (step (refusal c (map table_header_of tables)) refl)
   where
     step : (r : Option CommandFault) → refusal c (map table_header_of tables) ≡ r
-        → InStep (and_then (changed_trees c) (unless r stored)) (and_then (changed c) (unless r tables)) × FitAfter (and_then (changed c) (unless r tables))
+        → InStep (and_then (changed_trees c) (unless r stored)) (and_then (change_tables c) (unless r tables)) × FitAfter (and_then (change_tables c) (unless r tables))
     step None e = (changed_in_step c stored tables fits e zs good, changed_fit c tables fits e good)
     step (Some fault) e = (refl, tt)
 
@@ -110,7 +110,7 @@ InStepFrom (Err fault) (Err other) = fault ≡ other.1
 
 next_in_step : (index : ℕ) (cs : List Command) (r : Result (List Stored) CommandFault) (s : Result (List Table) CommandFault) → InStep r s → FitAfter s
     → ((stored : List Stored) (tables : List Table) → RepresentTables stored tables → FitTables tables → InStepFrom (work_all cs stored) (apply_from (index + 1) cs tables))
-    → InStepFrom (and_then (work_all cs) r) (and_then (apply_from (index + 1) cs) (numbered index s))
+    → InStepFrom (and_then (work_all cs) r) (and_then (apply_from (index + 1) cs) (with_index index s))
 next_in_step index cs (Ok stored) (Ok tables) i good next = next stored tables i good
 next_in_step index cs (Ok stored) (Err fault) i good next = absurd i
 next_in_step index cs (Err fault) (Ok tables) i good next = absurd i

@@ -17,8 +17,8 @@ use Rattle.vo_spec.specs.Tables.{CellChange, has_row, put_row, without_row, chan
 use Rattle.vo_spec.specs.Cells.{whole_cells, whole_entry}
 use Rattle.vo_spec.specs.Parts.{entries}
 use Rattle.vo_spec.specs.Trees.{RowTree, key_in, row_family}
-use Rattle.vo_spec.specs.Inserts.{result_map, has_key, put_entry, inserted}
-use Rattle.vo_spec.specs.Removes.{without_entry, edit_entry, set_cells, set_row, removed, replaced}
+use Rattle.vo_spec.specs.Inserts.{result_map, has_key, put_entry, tree_with_entry}
+use Rattle.vo_spec.specs.Removes.{without_entry, edit_entry, set_cells, set_row, tree_without_key, tree_with_cells}
 use Rattle.vo_spec.specs.Standing.{AreRising, Represents}
 pub use Rattle.vo_laws.specs.Changing.{Inserts}
 use Rattle.vo_laws.specs.Changing.{Changes}
@@ -48,8 +48,8 @@ whole_put row (r ∷ rows) = step (key_lt row.key r.key) (whole_put row rows)
     step true rest = refl
     step false rest = ap (λ z. whole_entry r ∷ z) rest
 
-pub inserted_stands : (row : Row) (t : RowTree) (rows : List Row) → Represents t rows → Inserts row rows (inserted (whole_entry row) t)
-inserted_stands row t rows stands = step (inserted (whole_entry row) t) (tree_grows row_family (whole_entry row) t stands.tree)
+pub inserted_stands : (row : Row) (t : RowTree) (rows : List Row) → Represents t rows → Inserts row rows (tree_with_entry (whole_entry row) t)
+inserted_stands row t rows stands = step (tree_with_entry (whole_entry row) t) (tree_grows row_family (whole_entry row) t stands.tree)
   where
     has : has_key row_family row.key (entries t) ≡ has_row row.key rows
     has = has_in row.key t rows stands
@@ -66,8 +66,8 @@ inserted_stands row t rows stands = step (inserted (whole_entry row) t) (tree_gr
 rows_rise : (t : RowTree) (rows : List Row) → Represents t rows → AreRising (keys_in row_family (map whole_entry rows))
 rows_rise t rows stands = subst (λ z. AreRising (keys_in row_family z)) stands.rows_are stands.tree.rising
 
-pub removed_stands : (key : List ℕ) (t : RowTree) (rows : List Row) → Represents t rows → Changes key rows (without_row key rows) (removed key t)
-removed_stands key t rows stands = step (removed key t) (tree_shrinks row_family key t stands.tree)
+pub removed_stands : (key : List ℕ) (t : RowTree) (rows : List Row) → Represents t rows → Changes key rows (without_row key rows) (tree_without_key key t)
+removed_stands key t rows stands = step (tree_without_key key t) (tree_shrinks row_family key t stands.tree)
   where
     has : has_key row_family key (entries t) ≡ has_row key rows
     has = has_in key t rows stands
@@ -128,8 +128,8 @@ set_row_keeps changes e f is = step e.row is
         ap key_in (sym same)
 
 pub replaced_stands : (key : List ℕ) (changes : List CellChange) (t : RowTree) (rows : List Row) → Represents t rows
-    → Changes key rows (map (changed_row key changes) rows) (replaced key changes t)
-replaced_stands key changes t rows stands = step (replaced key changes t) (has_row key rows) refl edited (tree_edits row_family (set_row changes) (set_row_keeps changes) key t stands.tree)
+    → Changes key rows (map (changed_row key changes) rows) (tree_with_cells key changes t)
+replaced_stands key changes t rows stands = step (tree_with_cells key changes t) (has_row key rows) refl edited (tree_edits row_family (set_row changes) (set_row_keeps changes) key t stands.tree)
   where
     edited : edit_entry row_family (set_row changes) key (entries t) ≡ cond (has_row key rows) (Ok (map whole_entry (map (changed_row key changes) rows))) (Err NoRow)
     edited = ap (edit_entry row_family (set_row changes) key) stands.rows_are ∙ whole_edited key changes rows (rows_rise t rows stands)

@@ -23,8 +23,8 @@ use Rattle.vo_spec.specs.Tables.{CellChange, column_number, row_of, has_row, put
 use Rattle.vo_spec.specs.Cells.{whole_entry}
 use Rattle.vo_spec.specs.Parts.{leaf}
 use Rattle.vo_spec.specs.Trees.{RowTree}
-use Rattle.vo_spec.specs.Inserts.{inserted}
-use Rattle.vo_spec.specs.Removes.{removed, replaced}
+use Rattle.vo_spec.specs.Inserts.{tree_with_entry}
+use Rattle.vo_spec.specs.Removes.{tree_without_key, tree_with_cells}
 use Rattle.vo_spec.specs.Standing.{AreRising, Represents}
 use Rattle.vo_spec.specs.Checks.{key_kind}
 use Rattle.vo_spec.specs.Honest.{Stored, RepresentsTable, RepresentTables, put_stored, row_refusal, tree_after, with_tree, behind_stored, change_tree}
@@ -136,8 +136,8 @@ pub insert_in_step : (name : List ℕ) (values : List Value) (stored : List Stor
 insert_in_step name values stored tables zs rising keys =
     subst (InStep (change_tree name (Insert name values) stored)) (same (table_named name tables) (with_rows name (λ t. put_row (row_of t.schema values) t.rows) tables))
     (change_in_step (Insert name values) name (λ t. put_row (row_of t.schema values) t.rows) doubled stored tables zs rising
-    (λ s t found z. subst (λ sch. Follows t (put_row (row_of t.schema values) t.rows) (doubled t) (inserted (whole_entry (row_of sch values)) s.tree)) (sym z.schema)
-    (put_follows t (row_of t.schema values) (inserted (whole_entry (row_of t.schema values)) s.tree) z.keys (keys t found) (inserted_stands (row_of t.schema values) s.tree t.rows z.stands))))
+    (λ s t found z. subst (λ sch. Follows t (put_row (row_of t.schema values) t.rows) (doubled t) (tree_with_entry (whole_entry (row_of sch values)) s.tree)) (sym z.schema)
+    (put_follows t (row_of t.schema values) (tree_with_entry (whole_entry (row_of t.schema values)) s.tree) z.keys (keys t found) (inserted_stands (row_of t.schema values) s.tree t.rows z.stands))))
   where
     doubled : Table → Option CommandFault
     doubled t = cond (has_row (row_of t.schema values).key t.rows) (Some command.DuplicateKey) None
@@ -194,9 +194,9 @@ update_in_step name sets column value stored tables zs rising there =
     subst (InStep (change_tree name (Update name sets column value) stored))
     (found_or_none (key_of value) (table_named name tables) (with_rows name (λ t. map (changed_row (key_of value) (cell_changes t.schema sets)) t.rows) tables) there)
     (change_in_step (Update name sets column value) name (λ t. map (changed_row (key_of value) (cell_changes t.schema sets)) t.rows) (no_row (key_of value)) stored tables zs rising
-    (λ s t found z. row_follows (key_of value) t (map (changed_row (key_of value) (cell_changes t.schema sets)) t.rows) (replaced (key_of value) (cell_changes s.schema sets) s.tree)
+    (λ s t found z. row_follows (key_of value) t (map (changed_row (key_of value) (cell_changes t.schema sets)) t.rows) (tree_with_cells (key_of value) (cell_changes s.schema sets) s.tree)
     (changed_keys (key_kind t.schema) (key_of value) (cell_changes t.schema sets) t.rows z.keys)
-    (subst (λ sch. Changes (key_of value) t.rows (map (changed_row (key_of value) (cell_changes t.schema sets)) t.rows) (replaced (key_of value) (cell_changes sch sets) s.tree)) (sym z.schema)
+    (subst (λ sch. Changes (key_of value) t.rows (map (changed_row (key_of value) (cell_changes t.schema sets)) t.rows) (tree_with_cells (key_of value) (cell_changes sch sets) s.tree)) (sym z.schema)
     (replaced_stands (key_of value) (cell_changes t.schema sets) s.tree t.rows z.stands))))
 
 pub delete_in_step : (name column : List ℕ) (value : Value) (stored : List Stored) (tables : List Table) → RepresentTables stored tables
@@ -207,6 +207,6 @@ delete_in_step name column value stored tables zs rising there =
     subst (InStep (change_tree name (Delete name column value) stored))
     (found_or_none (key_of value) (table_named name tables) (with_rows name (λ t. without_row (key_of value) t.rows) tables) there)
     (change_in_step (Delete name column value) name (λ t. without_row (key_of value) t.rows) (no_row (key_of value)) stored tables zs rising
-    (λ s t found z. row_follows (key_of value) t (without_row (key_of value) t.rows) (removed (key_of value) s.tree)
+    (λ s t found z. row_follows (key_of value) t (without_row (key_of value) t.rows) (tree_without_key (key_of value) s.tree)
     (each_filter (λ (row : Row). IsKeyOf (key_kind t.schema) row.key) (λ (row : Row). not (bytes_eq row.key (key_of value))) t.rows z.keys)
     (removed_stands (key_of value) s.tree t.rows z.stands)))

@@ -9,7 +9,7 @@ use Rattle.vo_spec.specs.declared.trees.UpdateFault.TheVariants.{DuplicateKey}
 use Rattle.vo_spec.specs.Parts.{stub, leaf, inner, none, more, count, entries, entries_in}
 use Rattle.vo_spec.specs.Trees.{RowTree, RowTrees, row_family}
 use Rattle.vo_spec.specs.Fits.{FitsKey, FitsEntry, FitsEach, FitsPart}
-use Rattle.vo_spec.specs.Inserts.{min_fill, result_map, goes_here, Insertion, one, two, Children, take_parts, drop_parts, after_child, has_key, put_entry, first_key, split_leaf, split_inner, put_insertion, grow, grow_in, root_of, inserted}
+use Rattle.vo_spec.specs.Inserts.{min_fill, result_map, goes_here, Insertion, one, two, Children, take_parts, drop_parts, after_child, has_key, put_entry, first_key, split_leaf, split_inner, put_insertion, grow, grow_in, root_of, tree_with_entry}
 use Rattle.vo_spec.specs.Standing.{IsNode, AreNodes, fewest_in_root}
 use Rattle.vo_laws.proofs.ListLaws.{each_left, each_right, each_both}
 use Rattle.vo_laws.proofs.NodeBounds as bounds
@@ -135,7 +135,7 @@ root_separated (Ok (one p)) s = s
 root_separated (Ok (two left key right)) s = ((s.1, tt), (s.0, (s.2, tt)))
 root_separated (Err fault) s = tt
 
-pub tree_separated : (e : PartEntry) (t : RowTree) → FitsKey e.key → AllByRecursion KeyFits (entries t) → Separated t → SeparatedTree (inserted e t)
+pub tree_separated : (e : PartEntry) (t : RowTree) → FitsKey e.key → AllByRecursion KeyFits (entries t) → Separated t → SeparatedTree (tree_with_entry e t)
 tree_separated e t fits all s = root_separated (grow row_family e t) (node_separated e t fits all s)
 
 -- A whole tree with such separators and entries that fit is within the limits.

@@ -6,8 +6,8 @@ use Rattle.vo_spec.specs.declared.trees.UpdateFault.TheVariants.{DuplicateKey, N
 use Rattle.vo_spec.specs.Tables.{CellChange, without_row, changed_row}
 use Rattle.vo_spec.specs.Cells.{whole_entry}
 use Rattle.vo_spec.specs.Trees.{RowTree, row_family}
-use Rattle.vo_spec.specs.Inserts.{inserted, insert_is_missing, insert_has_surplus, insert_proof}
-use Rattle.vo_spec.specs.Removes.{settled_root, shrink, removed, replaced, remove_proof, replace_proof}
+use Rattle.vo_spec.specs.Inserts.{tree_with_entry, insert_is_missing, insert_has_surplus, insert_proof}
+use Rattle.vo_spec.specs.Removes.{settled_root, shrink, tree_without_key, tree_with_cells, remove_proof, replace_proof}
 use Rattle.vo_spec.specs.Standing.{Represents}
 use Rattle.vo_laws.specs.Changing.{Changes, Inserts}
 use Rattle.vo_laws.specs.UpdateProofs.{lacks, replace_is_missing, replace_has_surplus, remove_is_missing, remove_has_surplus, IsUpdateProof}
@@ -34,17 +34,17 @@ change_there key before after (Err Memory) is = refl
 
 -- So nothing is on its proof.
 
-pub insertion_works : (row : Row) (t : RowTree) (rows : List Row) → Represents t rows → lacks (inserted (whole_entry row) (insert_proof row.key t)) ≡ false
+pub insertion_works : (row : Row) (t : RowTree) (rows : List Row) → Represents t rows → lacks (tree_with_entry (whole_entry row) (insert_proof row.key t)) ≡ false
 insertion_works row t rows stands =
-    insertion_lacks (whole_entry row) t ∙ insert_there row rows (inserted (whole_entry row) t) (inserted_stands row t rows stands)
+    insertion_lacks (whole_entry row) t ∙ insert_there row rows (tree_with_entry (whole_entry row) t) (inserted_stands row t rows stands)
 
-pub replacement_works : (key : List ℕ) (changes : List CellChange) (t : RowTree) (rows : List Row) → Represents t rows → lacks (replaced key changes (replace_proof key t)) ≡ false
+pub replacement_works : (key : List ℕ) (changes : List CellChange) (t : RowTree) (rows : List Row) → Represents t rows → lacks (tree_with_cells key changes (replace_proof key t)) ≡ false
 replacement_works key changes t rows stands =
-    replacement_lacks key changes t ∙ change_there key rows (map (changed_row key changes) rows) (replaced key changes t) (replaced_stands key changes t rows stands)
+    replacement_lacks key changes t ∙ change_there key rows (map (changed_row key changes) rows) (tree_with_cells key changes t) (replaced_stands key changes t rows stands)
 
-pub removal_works : (key : List ℕ) (t : RowTree) (rows : List Row) → Represents t rows → lacks (removed key (remove_proof key t)) ≡ false
+pub removal_works : (key : List ℕ) (t : RowTree) (rows : List Row) → Represents t rows → lacks (tree_without_key key (remove_proof key t)) ≡ false
 removal_works key t rows stands =
-    removal_lacks key t ∙ change_there key rows (without_row key rows) (removed key t) (removed_stands key t rows stands)
+    removal_lacks key t ∙ change_there key rows (without_row key rows) (tree_without_key key t) (removed_stands key t rows stands)
 
 pub insertion_proved : (key : List ℕ) (t : RowTree) (rows : List Row) → Represents t rows → IsUpdateProof (insert_is_missing key) (insert_has_surplus key) t (insert_proof key t)
 insertion_proved key t rows stands = record {
@@ -64,6 +64,6 @@ pub removal_proved : (key : List ℕ) (t : RowTree) (rows : List Row) → Repres
 removal_proved key t rows stands = record {
   prunes = remove_prunes key t;
   complete =
-      shrink_lacks key t ∙ sym (lacks_map settled_root (shrink row_family key t)) ∙ change_there key rows (without_row key rows) (removed key t) (removed_stands key t rows stands);
+      shrink_lacks key t ∙ sym (lacks_map settled_root (shrink row_family key t)) ∙ change_there key rows (without_row key rows) (tree_without_key key t) (removed_stands key t rows stands);
   minimal = remove_bare key t;
 }

@@ -14,8 +14,8 @@ use Rattle.vo_spec.specs.Values.{key_of}
 use Rattle.vo_spec.specs.Parts.{stub, leaf, inner, none, more}
 use Rattle.vo_spec.specs.Trees.{RowTree, RowTrees, preimage}
 use Rattle.vo_spec.specs.Scans.{seen}
-use Rattle.vo_spec.specs.Pruned.{is_missing, has_surplus, pruned}
-use Rattle.vo_spec.specs.Inserts.{inserted, insert_proof, insert_is_missing}
+use Rattle.vo_spec.specs.Pruning.{is_missing, has_surplus, prune_tree}
+use Rattle.vo_spec.specs.Inserts.{tree_with_entry, insert_proof, insert_is_missing}
 use Rattle.vo_spec.specs.TreeBytes.{tree_bytes}
 
 -- keys of one byte, and rows of the one text 'x'
@@ -24,7 +24,7 @@ row k = record { key = k ∷ []; row = Cells (Shown (Text (120 ∷ [])) ∷ []) 
 
 abbrev with_rows : List ℕ → RowTree → RowTree
 with_rows [] t = t
-with_rows (k ∷ ks) t = with_rows ks (result_unwrap_or (inserted (row k) t) t)
+with_rows (k ∷ ks) t = with_rows ks (result_unwrap_or (tree_with_entry (row k) t) t)
 
 -- the keys 1 to 17, one after the other
 abbrev tree : RowTree
@@ -63,10 +63,10 @@ root left right = node ((9 ∷ []) ∷ []) (next left (next right end))
 seventeen_rows : short tree ≡ root first_leaf last_leaf
 seventeen_rows = refl
 
-insert_again : inserted (row 8) tree ≡ Err DuplicateKey
+insert_again : tree_with_entry (row 8) tree ≡ Err DuplicateKey
 insert_again = refl
 
-insert_into_stub : inserted (row 8) (stub []) ≡ Err Missing
+insert_into_stub : tree_with_entry (row 8) (stub []) ≡ Err Missing
 insert_into_stub = refl
 
 abbrev need : Bound → Bound → List ℕ → Need
@@ -76,25 +76,25 @@ abbrev key : ℕ → List ℕ
 key k = k ∷ []
 
 -- both leaves are open where the interval ends in the one and begins in the other
-eight_to_nine : short (pruned (need (Inclusive (key 8)) (Inclusive (key 9)) [] ∷ []) tree) ≡ root first_leaf last_leaf
+eight_to_nine : short (prune_tree (need (Inclusive (key 8)) (Inclusive (key 9)) [] ∷ []) tree) ≡ root first_leaf last_leaf
 eight_to_nine = refl
 
 -- a leaf that ends at the lower bound is visited
-above_eight : short (pruned (need (Exclusive (key 8)) Absent [] ∷ []) tree) ≡ root first_leaf last_leaf
+above_eight : short (prune_tree (need (Exclusive (key 8)) Absent [] ∷ []) tree) ≡ root first_leaf last_leaf
 above_eight = refl
 
-nine : short (pruned (need (Inclusive (key 9)) (Inclusive (key 9)) [] ∷ []) tree) ≡ root closed last_leaf
+nine : short (prune_tree (need (Inclusive (key 9)) (Inclusive (key 9)) [] ∷ []) tree) ≡ root closed last_leaf
 nine = refl
 
 -- a leaf that shows the absence
-twenty : short (pruned (need (Inclusive (key 20)) (Inclusive (key 20)) [] ∷ []) tree) ≡ root closed last_leaf
+twenty : short (prune_tree (need (Inclusive (key 20)) (Inclusive (key 20)) [] ∷ []) tree) ≡ root closed last_leaf
 twenty = refl
 
 -- an empty interval visits nothing, the root neither
-none_from_nine : short (pruned (need (Inclusive (key 9)) (Exclusive (key 9)) [] ∷ []) tree) ≡ closed
+none_from_nine : short (prune_tree (need (Inclusive (key 9)) (Exclusive (key 9)) [] ∷ []) tree) ≡ closed
 none_from_nine = refl
 
-no_needs : short (pruned [] tree) ≡ closed
+no_needs : short (prune_tree [] tree) ≡ closed
 no_needs = refl
 
 seen_at_nine : seen (need (Inclusive (key 9)) (Inclusive (key 9)) (0 ∷ [])) tree ≡ Some (record { key = key 9; values = Text (120 ∷ []) ∷ [] } ∷ [])

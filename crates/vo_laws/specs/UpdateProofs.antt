@@ -11,7 +11,7 @@ use Rattle.vo_spec.specs.declared.trees.UpdateFault.TheVariants.{Missing}
 use Rattle.vo_spec.specs.Parts.{stub, leaf, inner, none, more}
 use Rattle.vo_spec.specs.Trees.{RowTree, RowTrees, row_family, Prunes}
 use Rattle.vo_spec.specs.Inserts.{goes_here, stands_as_cells}
-use Rattle.vo_spec.specs.Removes.{replaced, shrink, becomes_underfull}
+use Rattle.vo_spec.specs.Removes.{tree_with_cells, shrink, becomes_underfull}
 
 -- the work looks at a stub, or at what it can't go on with
 abbrev pub lacks : {A : Type 0} → Result A UpdateFault → Bool
@@ -44,7 +44,7 @@ shows_any (Cells cells) = list_any is_shown cells
 
 -- of whatever cells, it looks at a stub or at a row that is a digest
 abbrev pub replace_is_missing : List ℕ → RowTree → Bool
-replace_is_missing key p = lacks (replaced key [] p)
+replace_is_missing key p = lacks (tree_with_cells key [] p)
 
 -- a row other than the first of this key stands as cells, or that one shows a cell
 abbrev pub rows_surplus : List ℕ → List PartEntry → Bool

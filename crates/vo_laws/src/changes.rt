@@ -5,8 +5,8 @@ ghost use Rattle.vo_spec.specs.declared.values.Row.{Row};
 ghost use Rattle.vo_spec.specs.Tables.{CellChange, without_row, changed_row};
 ghost use Rattle.vo_spec.specs.Cells.{whole_entry};
 ghost use Rattle.vo_spec.specs.Trees.{RowTree};
-ghost use Rattle.vo_spec.specs.Inserts.{inserted, insert_is_missing, insert_has_surplus, insert_proof};
-ghost use Rattle.vo_spec.specs.Removes.{removed, replaced, remove_proof, replace_proof};
+ghost use Rattle.vo_spec.specs.Inserts.{tree_with_entry, insert_is_missing, insert_has_surplus, insert_proof};
+ghost use Rattle.vo_spec.specs.Removes.{tree_without_key, tree_with_cells, remove_proof, replace_proof};
 ghost use Rattle.vo_spec.specs.Standing.{Represents};
 ghost use Rattle.vo_laws.specs.Changing.{Changes, Inserts};
 ghost use Rattle.vo_laws.specs.UpdateProofs.{IsUpdateProof, lacks, replace_is_missing, replace_has_surplus, remove_is_missing, remove_has_surplus};
@@ -16,12 +16,12 @@ ghost use Rattle.vo_laws.specs.UpdateProofs.{IsUpdateProof, lacks, replace_is_mi
 /// none has it.
 pub fn trees_stand_after_changes()
     ensures inserted { (row : Row) (t : RowTree) (rows : List Row) → Represents t rows
-        → Inserts row rows (inserted (whole_entry row) t) }
+        → Inserts row rows (tree_with_entry (whole_entry row) t) }
     ensures removed { (key : List ℕ) (t : RowTree) (rows : List Row) → Represents t rows
-        → Changes key rows (without_row key rows) (removed key t) }
+        → Changes key rows (without_row key rows) (tree_without_key key t) }
     ensures replaced { (key : List ℕ) (changes : List CellChange) (t : RowTree) (rows : List Row)
         → Represents t rows
-        → Changes key rows (map (changed_row key changes) rows) (replaced key changes t) }
+        → Changes key rows (map (changed_row key changes) rows) (tree_with_cells key changes t) }
 {}
 
 /// Each change of a tree that stands for rows has a proof, a part of the tree that lacks nothing and has
@@ -34,9 +34,9 @@ pub fn changes_have_proofs()
     ensures removal { (key : List ℕ) (t : RowTree) (rows : List Row) → Represents t rows
         → IsUpdateProof (remove_is_missing key) (remove_has_surplus key) t (remove_proof key t) }
     ensures inserted { (row : Row) (t : RowTree) (rows : List Row) → Represents t rows
-        → lacks (inserted (whole_entry row) (insert_proof row.key t)) ≡ false }
+        → lacks (tree_with_entry (whole_entry row) (insert_proof row.key t)) ≡ false }
     ensures replaced { (key : List ℕ) (changes : List CellChange) (t : RowTree) (rows : List Row)
-        → Represents t rows → lacks (replaced key changes (replace_proof key t)) ≡ false }
+        → Represents t rows → lacks (tree_with_cells key changes (replace_proof key t)) ≡ false }
     ensures removed { (key : List ℕ) (t : RowTree) (rows : List Row) → Represents t rows
-        → lacks (removed key (remove_proof key t)) ≡ false }
+        → lacks (tree_without_key key (remove_proof key t)) ≡ false }
 {}

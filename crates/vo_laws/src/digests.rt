@@ -4,7 +4,7 @@ ghost use Rattle.std.specs.Prelude.{◌≡◌, ℕ, List};
 ghost use Rattle.vo_spec.specs.declared.cells.RowPart.{RowPart};
 ghost use Rattle.vo_spec.specs.declared.cells.PartEntry.{PartEntry};
 ghost use Rattle.vo_spec.specs.Cells.{RowPrunes, EntryPrunes, row_digest, entry_bytes};
-ghost use Rattle.vo_spec.specs.Pruned.{shown_row};
+ghost use Rattle.vo_spec.specs.Pruning.{shown_row};
 ghost use Rattle.vo_spec.specs.Trees.{RowTree, Prunes, digest};
 
 /// A row's digest is the same whichever of its cells are shown, and a tree's whichever of its

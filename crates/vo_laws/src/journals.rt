@@ -20,7 +20,7 @@ ghost use Rattle.vo_spec.specs.Removes.{remove_proof, replace_proof};
 ghost use Rattle.vo_spec.specs.TreeBytes.{tree_bytes};
 ghost use Rattle.vo_spec.specs.Journals.{max_signature, FitsEntry, Holds, batches_of, tables_at};
 ghost use Rattle.vo_spec.specs.Replies.{FitsProofs};
-ghost use Rattle.vo_spec.specs.Honest.{RepresentTables, honest_proofs, honest_record, honest_trees, work_all, after_work, sealed, sealed_entry};
+ghost use Rattle.vo_spec.specs.Honest.{RepresentTables, honest_proofs, honest_record, honest_trees, work_all, after_work, seal_batches, sealed_entry};
 ghost use Rattle.vo_laws.specs.Sealing.{AreAcceptedAfter, SignsValidly};
 
 /// The trees and the tables of one more batch are what it makes of those before it, and one of no commands
@@ -72,8 +72,8 @@ pub fn sealed_entries_are_loadable()
     ensures entries_fit { (secret : Secret) (batches : List (List Command)) → length secret.id ≡ 16
         → AllByRecursion FitsBatch batches
         → length batches < 2 ^ 64 → AllByRecursion
-        (λ (e : Entry). length e.signature ≤ max_signature) (sealed secret batches)
-        → AllByRecursion FitsEntry (sealed secret batches) }
+        (λ (e : Entry). length e.signature ≤ max_signature) (seal_batches secret batches)
+        → AllByRecursion FitsEntry (seal_batches secret batches) }
     ensures entry_is_loadable { (secret : Secret) (earlier : List (List Command))
         (batch : List Command)
         → IsOk (apply_batch batch (tables_after earlier))
@@ -82,17 +82,17 @@ pub fn sealed_entries_are_loadable()
         → IsLoadableEntry (public_of_secret secret) earlier (sealed_entry secret earlier batch) }
     ensures loadable { (secret : Secret) (batches : List (List Command)) → AreAcceptedAfter [] batches
         → AllByRecursion (λ (e : Entry). IsSigned (public_of_secret secret) e.rec e.signature)
-        (sealed secret batches)
-        → AreLoadable (public_of_secret secret) (sealed secret batches) }
+        (seal_batches secret batches)
+        → AreLoadable (public_of_secret secret) (seal_batches secret batches) }
     ensures signed { (secret : Secret) (batches : List (List Command)) → SignsValidly secret
         → length batches < leaves_of secret.lms
         → AllByRecursion (λ (e : Entry). IsSigned (public_of_secret secret) e.rec e.signature)
-        (sealed secret batches) }
+        (seal_batches secret batches) }
     ensures grows { (secret : Secret) (batches : List (List Command)) (batch : List Command)
-        → sealed secret (batches ++ batch ∷ []) ≡ sealed secret batches
+        → seal_batches secret (batches ++ batch ∷ []) ≡ seal_batches secret batches
         ++ sealed_entry secret ([] ∷ batches) batch ∷ [] }
     ensures batches { (secret : Secret) (batches : List (List Command))
-        → batches_of (sealed secret batches) ≡ [] ∷ batches }
+        → batches_of (seal_batches secret batches) ≡ [] ∷ batches }
 {}
 
 /// Journals that a store takes grow entry by entry, and what stands before an entry is such a journal too.

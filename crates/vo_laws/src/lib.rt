@@ -26,7 +26,7 @@ ghost use Rattle.vo_spec.specs.Conditions.{Query, FitsQuery};
 ghost use Rattle.vo_spec.specs.Results.{BoundSource, bound_sources, result as result_of};
 ghost use Rattle.vo_spec.specs.Needs.{left_need, needs, tree_at};
 ghost use Rattle.vo_spec.specs.Scans.{seen};
-ghost use Rattle.vo_spec.specs.Pruned.{pruned};
+ghost use Rattle.vo_spec.specs.Pruning.{prune_tree};
 ghost use Rattle.vo_spec.specs.Standing.{Represents};
 ghost use Rattle.vo_spec.specs.Trees.{RowTree, Prunes};
 ghost use Rattle.vo_spec.specs.Journals.{max_signature};
@@ -78,7 +78,7 @@ pub fn proofs_show_what_their_need_sees()
     ensures seen { (cells : ℕ) (need : Need) (t : RowTree) (rows : List Row) → Represents t rows
         → AllByRecursion (λ column. column < cells) need.columns
         → AllByRecursion (λ (row : Row). length row.cells ≡ cells) rows
-        → seen need (pruned (need ∷ []) t) ≡ seen need t }
+        → seen need (prune_tree (need ∷ []) t) ≡ seen need t }
     ensures by_seen { (ss : List BoundSource) (q : Query) (trees : List RowTree)
         (others : List RowTree)
         → seen (left_need ss q) (tree_at trees 0) ≡ seen (left_need ss q) (tree_at others 0)
@@ -87,7 +87,7 @@ pub fn proofs_show_what_their_need_sees()
         → AllByRecursion FitsBatch batches
         → let stored : List Stored = honest_trees batches in
         let ss : List BoundSource = bound_sources (table_headers (catalog_of stored)) q in
-        needs ss q (pruned (left_need ss q ∷ []) (tree_at (trees_for q stored) 0) ∷ others)
+        needs ss q (prune_tree (left_need ss q ∷ []) (tree_at (trees_for q stored) 0) ∷ others)
         ≡ needs ss q (trees_for q stored) }
 {}
 

@@ -24,8 +24,8 @@ max_columns = 32
 -- Bytes.
 
 -- a byte that says how many, and then each
-abbrev pub counted : {A : Type 0} → (A → List ℕ) → List A → List ℕ
-counted bytes items = length items ∷ flat_map bytes items
+abbrev pub list_bytes : {A : Type 0} → (A → List ℕ) → List A → List ℕ
+list_bytes bytes items = length items ∷ flat_map bytes items
 
 abbrev pub column_bytes : Column → List ℕ
 column_bytes c = short_string c.name ++ type_byte c.kind ∷ []
@@ -34,11 +34,11 @@ abbrev pub set_bytes : SetPart → List ℕ
 set_bytes s = short_string s.column ++ value_bytes s.value
 
 unfoldable pub command_bytes : Command → List ℕ
-command_bytes (Create name columns key) = 1 ∷ short_string name ++ counted column_bytes columns
+command_bytes (Create name columns key) = 1 ∷ short_string name ++ list_bytes column_bytes columns
     ++ short_string key
 command_bytes (Drop name) = 2 ∷ short_string name
-command_bytes (Insert name values) = 3 ∷ short_string name ++ counted value_bytes values
-command_bytes (Update name sets column value) = 4 ∷ short_string name ++ counted set_bytes sets
+command_bytes (Insert name values) = 3 ∷ short_string name ++ list_bytes value_bytes values
+command_bytes (Update name sets column value) = 4 ∷ short_string name ++ list_bytes set_bytes sets
     ++ short_string column ++ value_bytes value
 command_bytes (Delete name column value) = 5 ∷ short_string name ++ short_string column
     ++ value_bytes value

@@ -46,9 +46,9 @@ unfoldable pub id_at : List ℕ → ℕ → List ℕ
 id_at bytes at = take 16 (drop at bytes)
 
 -- piece 0 up to piece n - 1, end to end
-unfoldable pub joined : (ℕ → List ℕ) → ℕ → List ℕ
-joined piece zero = []
-joined piece (suc n) = joined piece n ++ piece n
+unfoldable pub join_pieces : (ℕ → List ℕ) → ℕ → List ℕ
+join_pieces piece zero = []
+join_pieces piece (suc n) = join_pieces piece n ++ piece n
 
 -- bytes behind their length, which is one byte, two or four
 abbrev pub short_string : List ℕ → List ℕ

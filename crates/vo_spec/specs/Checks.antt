@@ -29,7 +29,7 @@ use Rattle.vo_spec.specs.Records.{record_bytes, catalog_digest, table_headers}
 use Rattle.vo_spec.specs.Replies.{Reply, IsReply, IsNoReply, max_reply}
 use Rattle.vo_spec.specs.Parts.{entries}
 use Rattle.vo_spec.specs.Trees.{RowTree, digest}
-use Rattle.vo_spec.specs.Pruned.{is_missing, has_surplus}
+use Rattle.vo_spec.specs.Pruning.{is_missing, has_surplus}
 use Rattle.vo_spec.specs.Needs.{tables_used, needs, seen_lefts, seen_rights}
 
 -- The shape of a tree: the keys of its leaves are keys of the schema, its rows have the schema's cells, and
@@ -117,16 +117,16 @@ root_fault t = option_and_then (λ (table : CatalogTable).
     else Some (WrongRoot table.name table.root (digest t.1))) t.0
 
 -- the trees, each with its needs
-abbrev pub needed : Query → Reply → List (List Need × RowTree)
-needed q r =
+abbrev pub needs_with_trees : Query → Reply → List (List Need × RowTree)
+needs_with_trees q r =
     if is_some (binding_fault (table_headers r.catalog) q) then []
     else zip (needs (bound_sources (table_headers r.catalog) q) q r.trees) r.trees
 
 abbrev pub missing_fault : Query → Reply → Option CheckFault
-missing_fault q r = if list_any (λ t. is_missing t.0 t.1) (needed q r) then Some Missing else None
+missing_fault q r = if list_any (λ t. is_missing t.0 t.1) (needs_with_trees q r) then Some Missing else None
 
 abbrev pub surplus_fault : Query → Reply → Option CheckFault
-surplus_fault q r = if list_any (λ t. has_surplus t.0 t.1) (needed q r) then Some Surplus else None
+surplus_fault q r = if list_any (λ t. has_surplus t.0 t.1) (needs_with_trees q r) then Some Surplus else None
 
 -- the first test that refuses a reply
 unfoldable pub check_fault : List ℕ → ℕ → Query → Reply → Option CheckFault

@@ -29,9 +29,9 @@ use Rattle.vo_spec.specs.Journals.{batches_of}
 use Rattle.vo_spec.specs.Parts.{leaf, entries}
 use Rattle.vo_spec.specs.Trees.{RowTree, digest}
 use Rattle.vo_spec.specs.Cells.{whole_entry}
-use Rattle.vo_spec.specs.Inserts.{result_map, inserted, insert_proof}
-use Rattle.vo_spec.specs.Removes.{removed, replaced, remove_proof, replace_proof}
-use Rattle.vo_spec.specs.Pruned.{pruned}
+use Rattle.vo_spec.specs.Inserts.{result_map, tree_with_entry, insert_proof}
+use Rattle.vo_spec.specs.Removes.{tree_without_key, tree_with_cells, remove_proof, replace_proof}
+use Rattle.vo_spec.specs.Pruning.{prune_tree}
 use Rattle.vo_spec.specs.Needs.{needs}
 use Rattle.vo_spec.specs.Standing.{Represents}
 use Rattle.vo_spec.specs.Checks.{tables_wanted, key_kind}
@@ -69,10 +69,10 @@ row_refusal _ = command.NoRow
 
 -- the tree with what the command changes of its rows
 abbrev pub tree_after : Command → Stored → Result RowTree UpdateFault
-tree_after (Insert name values) s = inserted (whole_entry (row_of s.schema values)) s.tree
+tree_after (Insert name values) s = tree_with_entry (whole_entry (row_of s.schema values)) s.tree
 tree_after (Update name sets column value) s =
-    replaced (key_of value) (cell_changes s.schema sets) s.tree
-tree_after (Delete name column value) s = removed (key_of value) s.tree
+    tree_with_cells (key_of value) (cell_changes s.schema sets) s.tree
+tree_after (Delete name column value) s = tree_without_key (key_of value) s.tree
 tree_after _ s = Ok s.tree
 
 abbrev pub with_tree : Stored → List Stored → Result RowTree UpdateFault
@@ -186,8 +186,8 @@ sealed_after secret earlier (batch ∷ batches) =
     sealed_entry secret earlier batch ∷ sealed_after secret (earlier ++ batch ∷ []) batches
 
 -- The entries of a journal of these batches: version 0 has none of them, its batch is empty.
-unfoldable pub sealed : Secret → List (List Command) → List Entry
-sealed secret batches = sealed_after secret [] ([] ∷ batches)
+unfoldable pub seal_batches : Secret → List (List Command) → List Entry
+seal_batches secret batches = sealed_after secret [] ([] ∷ batches)
 
 -- Replies.
 
@@ -200,7 +200,7 @@ abbrev pub trees_for : Query → List Stored → List RowTree
 trees_for q stored = map (stored_tree stored) (tables_wanted q (catalog_of stored))
 
 abbrev pub pruned_each : List (List Need) → List RowTree → List RowTree
-pruned_each (ns ∷ nss) (t ∷ ts) = pruned ns t ∷ pruned_each nss ts
+pruned_each (ns ∷ nss) (t ∷ ts) = prune_tree ns t ∷ pruned_each nss ts
 pruned_each _ _ = []
 
 -- The one reply to a query: what the entry of this version signs, and its trees with open what the query needs.

@@ -11,7 +11,7 @@ use Rattle.vo_spec.specs.Cells.{row_digest}
 use Rattle.vo_spec.specs.Parts.{Part, Parts, stub, leaf, inner, none, more, Family, count}
 use Rattle.vo_spec.specs.Trees.{RowTree, row_family}
 use Rattle.vo_spec.specs.Fits.{max_fill}
-use Rattle.vo_spec.specs.Pruned.{Walk, is_missing_by, has_surplus_by, pruned_by}
+use Rattle.vo_spec.specs.Pruning.{Walk, is_missing_by, has_surplus_by, pruned_by}
 
 -- how many entries or children a node has at least, and of 17 the left one of two gets
 abbrev pub min_fill : ℕ
@@ -117,8 +117,8 @@ module _ {E M : Type 0} (family : Family E M) where
   inserted_by e t = result_map root_of (grow e t)
 
 -- The tree with the entry, or why it isn't inserted: its key is there, or the work looks at a stub.
-abbrev pub inserted : PartEntry → RowTree → Result RowTree UpdateFault
-inserted = inserted_by row_family
+abbrev pub tree_with_entry : PartEntry → RowTree → Result RowTree UpdateFault
+tree_with_entry = inserted_by row_family
 
 -- The proof of an insertion: the path to the key's leaf alone is open, and its rows are digests.
 

@@ -4,7 +4,7 @@ use Rattle.std.specs.Prelude.{◌==◌, ℕ, zero, suc, ◌+◌, ◌-◌, ◌*�
 use Rattle.sha2.specs.Sha256.{sha256}
 use Rattle.vo_spec.specs.declared.signatures.OtsType.{OtsType}
 use Rattle.vo_spec.specs.OtsSets.{ots_code_of, width_of, count_of, shift_of, ots_signature_len}
-use Rattle.vo_spec.specs.Bytes.{u16_bytes, u32_bytes, u32_at, digest_at, joined}
+use Rattle.vo_spec.specs.Bytes.{u16_bytes, u32_bytes, u32_at, digest_at, join_pieces}
 
 -- digit i of width w of a byte string (3.1.3)
 abbrev pub coef : List ℕ → ℕ → ℕ → ℕ
@@ -64,7 +64,7 @@ public_end id q ots seed i = advance id q i 0 (2 ^ width_of ots - 1) (secret id 
 -- the public key K (4.3)
 unfoldable pub ots_public : List ℕ → ℕ → OtsType → List ℕ → List ℕ
 ots_public id q ots seed = sha256
-    (public_text id q (joined (public_end id q ots seed) (count_of ots)))
+    (public_text id q (join_pieces (public_end id q ots seed) (count_of ots)))
 
 -- what a signature releases of chain i, where these digits are signed
 abbrev pub signed_value : List ℕ → ℕ → OtsType → List ℕ → List ℕ → ℕ → List ℕ
@@ -77,7 +77,7 @@ ots_signature id q ots seed message =
     let random = randomizer id q seed in
     let digits = digits_of id q ots random message in
     u32_bytes (ots_code_of ots) ++ random
-    ++ joined (signed_value id q ots seed digits) (count_of ots)
+    ++ join_pieces (signed_value id q ots seed digits) (count_of ots)
 
 -- a signature's length and typecode are the set's
 unfoldable pub is_ots_form : OtsType → List ℕ → Bool
@@ -94,4 +94,4 @@ candidate_end id q ots digits signature i =
 unfoldable pub ots_candidate : List ℕ → ℕ → OtsType → List ℕ → List ℕ → List ℕ
 ots_candidate id q ots message signature =
     let digits = digits_of id q ots (digest_at signature 4) message in
-    sha256 (public_text id q (joined (candidate_end id q ots digits signature) (count_of ots)))
+    sha256 (public_text id q (join_pieces (candidate_end id q ots digits signature) (count_of ots)))

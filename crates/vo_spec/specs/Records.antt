@@ -12,13 +12,13 @@ use Rattle.vo_spec.specs.Bytes.{u16_bytes, u64_bytes, short_string}
 use Rattle.vo_spec.specs.Values.{key_lt, same_kind}
 use Rattle.vo_spec.specs.Tables.{TableHeader, column_at, has_twice, max_tables, max_rows}
 use Rattle.vo_spec.specs.Names.{FitsName}
-use Rattle.vo_spec.specs.Batches.{FitCounted, FitsColumn, counted, column_bytes}
+use Rattle.vo_spec.specs.Batches.{FitCounted, FitsColumn, list_bytes, column_bytes}
 
 -- Catalogs.
 
 abbrev pub catalog_table_bytes : CatalogTable → List ℕ
 catalog_table_bytes t =
-    short_string t.name ++ counted column_bytes t.schema.columns
+    short_string t.name ++ list_bytes column_bytes t.schema.columns
     ++ t.schema.key ∷ u64_bytes t.rows ++ t.root
 
 unfoldable pub catalog_bytes : Catalog → List ℕ

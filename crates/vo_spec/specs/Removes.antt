@@ -133,8 +133,8 @@ module _ {E M : Type 0} (family : Family E M) where
 
 -- The tree without the row of this key, or why it isn't removed: there is no such row, or the work looks at a
 -- stub, or at a sibling of the other kind.
-abbrev pub removed : List ℕ → RowTree → Result RowTree UpdateFault
-removed = removed_by row_family
+abbrev pub tree_without_key : List ℕ → RowTree → Result RowTree UpdateFault
+tree_without_key = removed_by row_family
 
 -- The tree with other values in some cells of the row of this key. A row that is a digest has no cells.
 
@@ -150,8 +150,8 @@ set_row changes e = set_row_part changes e.key e.row
     set_row_part changes key (Cells cells) =
         Ok (record { key = key; row = Cells (set_cells changes cells) })
 
-abbrev pub replaced : List ℕ → List CellChange → RowTree → Result RowTree UpdateFault
-replaced key changes = edited_by row_family (set_row changes) key
+abbrev pub tree_with_cells : List ℕ → List CellChange → RowTree → Result RowTree UpdateFault
+tree_with_cells key changes = edited_by row_family (set_row changes) key
 
 -- The proofs of these commands: the tree with open exactly the nodes that the work looks at.
 

@@ -169,16 +169,16 @@ shown_places ss All = flat_map (places_in ss) (numbers_from 0 (length ss))
 shown_places ss (Refs rs) = map (place_of ss) rs
 
 -- `alias.column`
-abbrev pub dotted : List ℕ → List ℕ → List ℕ
-dotted alias column = alias ++ 46 ∷ column
+abbrev pub dotted_title : List ℕ → List ℕ → List ℕ
+dotted_title alias column = alias ++ 46 ∷ column
 
 abbrev pub ref_title : Ref → List ℕ
-ref_title r = option_map_or (λ q. dotted q r.column) r.qualifier r.column
+ref_title r = option_map_or (λ q. dotted_title q r.column) r.qualifier r.column
 
 -- a column's title under `*`: its name, and in a join with its source's alias
 abbrev pub place_title : List BoundSource → ColumnPlace → List ℕ
 place_title ss p = let name = (column_at (schema_at ss p.bound_source).columns p.column).name in
-    if length ss == 1 then name else dotted (bound_source_at ss p.bound_source).alias name
+    if length ss == 1 then name else dotted_title (bound_source_at ss p.bound_source).alias name
 
 abbrev pub header : List BoundSource → Items → List (List ℕ)
 header ss All = map (place_title ss) (shown_places ss All)

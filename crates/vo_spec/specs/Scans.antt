@@ -63,9 +63,9 @@ abbrev pub put_before : {A : Type 0} → Option A → Option (List A) → Option
 put_before (Some x) (Some xs) = Some (x ∷ xs)
 put_before _ _ = None
 
-abbrev pub joined : {A : Type 0} → Option (List A) → Option (List A) → Option (List A)
-joined (Some xs) (Some ys) = Some (xs ++ ys)
-joined _ _ = None
+abbrev pub append_both : {A : Type 0} → Option (List A) → Option (List A) → Option (List A)
+append_both (Some xs) (Some ys) = Some (xs ++ ys)
+append_both _ _ = None
 
 -- the row's values in these columns
 abbrev pub values_in : RowPart → List ℕ → Option (List Value)
@@ -94,7 +94,7 @@ abbrev mutual
   seen_in_each need lower ss none = Some []
   seen_in_each need lower ss (more m p ps) =
       if visits need.interval lower (slice_get ss 0)
-      then joined (seen_in need p) (seen_in_each need (slice_get ss 0) (drop 1 ss) ps)
+      then append_both (seen_in need p) (seen_in_each need (slice_get ss 0) (drop 1 ss) ps)
       else seen_in_each need (slice_get ss 0) (drop 1 ss) ps
 
 -- The rows with their keys in the need's interval, and the values of its columns; none where the scan

@@ -3,7 +3,7 @@ use Rattle.std.specs.Prelude.{ℕ, zero, suc, ◌+◌, ◌-◌, ◌*◌, ◌/◌
 use Rattle.vo_spec.specs.declared.signatures.OtsType.{OtsType}
 use Rattle.vo_spec.specs.declared.signatures.LmsType.{LmsType}
 use Rattle.vo_spec.specs.declared.signatures.LmsType.TheVariants.{H5, H10}
-use Rattle.vo_spec.specs.Bytes.{u32_bytes, joined}
+use Rattle.vo_spec.specs.Bytes.{u32_bytes, join_pieces}
 use Rattle.vo_spec.specs.Ots.{ots_public, ots_signature}
 use Rattle.vo_spec.specs.LmsSets.{lms_code_of, height_of}
 use Rattle.vo_spec.specs.Lms.{leaf_node, inner_node, public_bytes}
@@ -50,7 +50,7 @@ path_node key q level = tree_node key (sibling_of ((2 ^ height_of key.lms + q) /
 unfoldable pub lms_signature : Secret → ℕ → List ℕ → List ℕ
 lms_signature key q message =
     u32_bytes q ++ ots_signature key.id q key.ots key.seed message
-    ++ u32_bytes (lms_code_of key.lms) ++ joined (path_node key q) (height_of key.lms)
+    ++ u32_bytes (lms_code_of key.lms) ++ join_pieces (path_node key q) (height_of key.lms)
 
 -- the set of a height that secret keys are made with: 5 or 10
 abbrev pub lms_of_height : ℕ → LmsType

@@ -217,44 +217,44 @@ with_rows name rows = map (λ (t : Table). if bytes_eq t.name name
     then record { name = t.name; schema = t.schema; rows = rows t } else t)
 
 -- what a command that no table header refuses makes of the tables, or the refusal that needs the rows
-abbrev pub changed : Command → List Table → Result (List Table) CommandFault
-changed (Create name columns key) tables =
+abbrev pub change_tables : Command → List Table → Result (List Table) CommandFault
+change_tables (Create name columns key) tables =
     Ok (put_table (record {
       name = name;
       schema = record { columns = columns; key = column_number columns key };
       rows = [];
     }) tables)
-changed (Drop name) tables = Ok (filter (λ (t : Table). not (bytes_eq t.name name)) tables)
-changed (Insert name values) tables =
+change_tables (Drop name) tables = Ok (filter (λ (t : Table). not (bytes_eq t.name name)) tables)
+change_tables (Insert name values) tables =
     if option_map_or (λ (t : Table). has_row (row_of t.schema values).key t.rows)
     (table_named name tables) false
     then Err DuplicateKey
     else Ok (with_rows name (λ t. put_row (row_of t.schema values) t.rows) tables)
-changed (Update name sets column value) tables =
+change_tables (Update name sets column value) tables =
     if has_row (key_of value) (rows_named name tables)
     then Ok (with_rows name (λ t. map (changed_row (key_of value) (cell_changes t.schema sets))
     t.rows) tables)
     else Err NoRow
-changed (Delete name column value) tables =
+change_tables (Delete name column value) tables =
     if has_row (key_of value) (rows_named name tables)
     then Ok (with_rows name (λ t. without_row (key_of value) t.rows) tables)
     else Err NoRow
 
 -- The tables after a command, or its first refusal.
 unfoldable pub apply : Command → List Table → Result (List Table) CommandFault
-apply command tables = and_then (changed command)
+apply command tables = and_then (change_tables command)
     (unless (refusal command (map table_header_of tables)) tables)
 
 -- a refusal with its command's number
-abbrev pub numbered : ℕ → Result (List Table) CommandFault → Result (List Table) (ℕ × CommandFault)
-numbered index (Ok after) = Ok after
-numbered index (Err fault) = Err (index, fault)
+abbrev pub with_index : ℕ → Result (List Table) CommandFault → Result (List Table) (ℕ × CommandFault)
+with_index index (Ok after) = Ok after
+with_index index (Err fault) = Err (index, fault)
 
 -- commands in order, the first of them the one of this number
 abbrev pub apply_from : ℕ → List Command → List Table → Result (List Table) (ℕ × CommandFault)
 apply_from index [] tables = Ok tables
 apply_from index (command ∷ commands) tables =
-    and_then (apply_from (index + 1) commands) (numbered index (apply command tables))
+    and_then (apply_from (index + 1) commands) (with_index index (apply command tables))
 
 -- The tables after a batch; the first refused command refuses it whole.
 abbrev pub apply_batch : List Command → List Table → Result (List Table) (ℕ × CommandFault)

@@ -26,7 +26,7 @@ use Rattle.vo_store.specs.declared.signed_record.SignedRecord.{SignedRecord}
 use Rattle.vo_store.specs.StoreState.{StoreState, new_store, with_installed, with_pending}
 use Rattle.vo_store.specs.HonestStores.{IsHonestStore, IsInstalled, IsPending}
 use Rattle.vo_store.specs.Calls.{install_of, next_version, proposal_of, with_proofs}
-use Rattle.vo_store.specs.Loading.{last_signed, loaded, pending_behind, refused_at, store_behind, taken_as, taken_from, taken_later}
+use Rattle.vo_store.specs.Loading.{last_signed, load_entries, pending_behind, refused_at, store_behind, taken_as, taken_from, taken_later}
 use Rattle.vo_store.proofs.InstallLaws.{install_good, installs}
 
 abbrev pub signed_of : Entry → SignedRecord
@@ -224,16 +224,16 @@ module _ (key : List ℕ) where
           (subst (λ s. TakesAll ((front ++ e ∷ []) ++ rest) (taken_from (length front + 1) rest s)) (sym is.1)
           (subst (λ (n : ℕ). TakesAll ((front ++ e ∷ []) ++ rest) (taken_from n rest (store_behind key (front ++ e ∷ [])))) long (more is.0)))
 
-  takes : (es : List Entry) → AllByRecursion FitsEntry es → TakesAll es (loaded key es)
-  unfolding loaded AreLoadable
+  takes : (es : List Entry) → AllByRecursion FitsEntry es → TakesAll es (load_entries key es)
+  unfolding load_entries AreLoadable
   takes es fit = subst (λ s. TakesAll es (taken_from 0 es s)) behind_none (takes_all [] es tt fit tt)
 
   -- What a call that goes by what a store takes tells of the calls.
 
-  pub loaded_ok : (es : List Entry) → AllByRecursion FitsEntry es → AreLoadable key es → loaded key es ≡ Ok (store_behind key es)
-  loaded_ok es fit loadable = step (loaded key es) refl (takes es fit)
+  pub loaded_ok : (es : List Entry) → AllByRecursion FitsEntry es → AreLoadable key es → load_entries key es ≡ Ok (store_behind key es)
+  loaded_ok es fit loadable = step (load_entries key es) refl (takes es fit)
     where
-      step : (r : Result StoreState ℕ) → loaded key es ≡ r → TakesAll es r → loaded key es ≡ Ok (store_behind key es)
+      step : (r : Result StoreState ℕ) → load_entries key es ≡ r → TakesAll es r → load_entries key es ≡ Ok (store_behind key es)
       step (Ok s) is t = is ∙ ap Ok t.1
       step (Err i) is t = absurd (t.not_on (taken_front key (i + 1) es loadable))
 
@@ -246,10 +246,10 @@ module _ (key : List ℕ) where
       shorter (suc m) (suc n) [] le = refl
       shorter (suc m) (suc n) (x ∷ xs) le = ap (λ ys. x ∷ ys) (shorter m n xs (omega arith))
 
-  pub loaded_err : (es : List Entry) (index : ℕ) → AllByRecursion FitsEntry es → StopsAt (AreLoadable key) es index → loaded key es ≡ Err index
-  loaded_err es index fit stop = step (loaded key es) refl (takes es fit)
+  pub loaded_err : (es : List Entry) (index : ℕ) → AllByRecursion FitsEntry es → StopsAt (AreLoadable key) es index → load_entries key es ≡ Err index
+  loaded_err es index fit stop = step (load_entries key es) refl (takes es fit)
     where
-      step : (r : Result StoreState ℕ) → loaded key es ≡ r → TakesAll es r → loaded key es ≡ Err index
+      step : (r : Result StoreState ℕ) → load_entries key es ≡ r → TakesAll es r → load_entries key es ≡ Err index
       step (Ok s) is t = absurd (stop.not_on (taken_front key (index + 1) es t.0))
       step (Err i) is t =
           let above : i < index → ⊥ = one_stop es i index t stop in

@@ -17,7 +17,7 @@ use Rattle.vo_spec.specs.Results.{BoundSource, bound_source_at, schema_at, bound
 use Rattle.vo_spec.specs.Parts.{entries}
 use Rattle.vo_spec.specs.Trees.{RowTree}
 use Rattle.vo_spec.specs.Scans.{seen}
-use Rattle.vo_spec.specs.Pruned.{is_missing, pruned}
+use Rattle.vo_spec.specs.Pruning.{is_missing, prune_tree}
 use Rattle.vo_spec.specs.Needs.{left_need, right_needs, same_table, tree_at}
 use Rattle.vo_spec.specs.Honest.{Stored, catalog_of, stored_tree, pruned_each}
 use Rattle.vo_laws.proofs.NamedFits.{cells_of, named_fits, named_cells_below}
@@ -107,13 +107,13 @@ module _ (stored : List Stored) (standing : IsStanding stored) (q : Query) where
 
   -- the left table's own proof
   abbrev first : RowTree
-  first = pruned (need ∷ []) (tree 0)
+  first = prune_tree (need ∷ []) (tree 0)
 
   pub narrow : (i : ℕ) → length (schema_at ss i).columns ≤ max_columns
   narrow i = bound_sources_narrow (catalog_of stored) (catalog_fits stored standing.tables standing.stand standing.fit) q i
 
   abbrev IsComplete : List TableHeader → Type 0
-  IsComplete hs = is_missing (left_need (bound_sources hs q) q ∷ []) (pruned (left_need (bound_sources hs q) q ∷ []) (stored_tree stored q.left.table)) ≡ false
+  IsComplete hs = is_missing (left_need (bound_sources hs q) q ∷ []) (prune_tree (left_need (bound_sources hs q) q ∷ []) (stored_tree stored q.left.table)) ≡ false
 
   whole_complete : IsComplete (map table_header_of standing.tables)
   whole_complete =
@@ -135,7 +135,7 @@ module _ (stored : List Stored) (standing : IsStanding stored) (q : Query) where
   names b = cond b ((bound_source_at ss 0).table ∷ []) ((bound_source_at ss 0).table ∷ (bound_source_at ss 1).table ∷ [])
 
   abbrev rights : List (List ℕ) → List Need
-  rights ns = right_needs ss q (pruned (need ∷ []) (tree_at (map (stored_tree stored) ns) 0) ∷ [])
+  rights ns = right_needs ss q (prune_tree (need ∷ []) (tree_at (map (stored_tree stored) ns) 0) ∷ [])
 
   -- by the names of the trees that the needs go by, and of those that the reply has
   abbrev proofs_by : Bool → List (List ℕ) → List RowTree
@@ -152,10 +152,10 @@ module _ (stored : List Stored) (standing : IsStanding stored) (q : Query) where
   bound_proofs : binding_fault (table_headers (catalog_of stored)) q ≡ None → proofs_of q stored ≡ proofs_by is_one (names is_one)
   bound_proofs e = by_first ∙ ap (λ (o : Option QueryFault). proofs_by is_one (cond (is_some o) [] (names is_one))) e
 
-  pub one_proof : binding_fault (table_headers (catalog_of stored)) q ≡ None → is_one ≡ true → proofs_of q stored ≡ pruned (need ∷ right_needs ss q (first ∷ [])) (tree 0) ∷ []
+  pub one_proof : binding_fault (table_headers (catalog_of stored)) q ≡ None → is_one ≡ true → proofs_of q stored ≡ prune_tree (need ∷ right_needs ss q (first ∷ [])) (tree 0) ∷ []
   one_proof e one = bound_proofs e ∙ ap (λ b. proofs_by b (names b)) one
 
-  pub two_proofs : binding_fault (table_headers (catalog_of stored)) q ≡ None → is_one ≡ false → proofs_of q stored ≡ first ∷ pruned (right_needs ss q (first ∷ [])) (tree 1) ∷ []
+  pub two_proofs : binding_fault (table_headers (catalog_of stored)) q ≡ None → is_one ≡ false → proofs_of q stored ≡ first ∷ prune_tree (right_needs ss q (first ∷ [])) (tree 1) ∷ []
   two_proofs e two = bound_proofs e ∙ ap (λ b. proofs_by b (names b)) two
 
   none_each : (nss : List (List Need)) → pruned_each nss [] ≡ []
@@ -175,7 +175,7 @@ module _ (stored : List Stored) (standing : IsStanding stored) (q : Query) where
   same_need = left_need_same ss q
 
   same_proof : left_proof plan stored ≡ first
-  same_proof = ap (λ (n : Need). pruned (n ∷ []) (tree 0)) same_need
+  same_proof = ap (λ (n : Need). prune_tree (n ∷ []) (tree 0)) same_need
 
   same_rights : rights_by_proof plan stored ≡ right_needs ss q (first ∷ [])
   same_rights = right_needs_same ss q (left_proof plan stored) ∙ ap (λ (t : RowTree). right_needs ss q (t ∷ [])) same_proof
@@ -185,19 +185,19 @@ module _ (stored : List Stored) (standing : IsStanding stored) (q : Query) where
   plan_same e = step (length ss == 1) (same_table ss) refl refl
     where
       step : (one same : Bool) → (length ss == 1) ≡ one → same_table ss ≡ same
-          → cond one (left_proof plan stored ∷ []) (cond same (pruned (plan.left_need ∷ rights_by_proof plan stored) (tree 0) ∷ []) (left_proof plan stored ∷ pruned (rights_by_proof plan stored) (tree 1) ∷ []))
+          → cond one (left_proof plan stored ∷ []) (cond same (prune_tree (plan.left_need ∷ rights_by_proof plan stored) (tree 0) ∷ []) (left_proof plan stored ∷ prune_tree (rights_by_proof plan stored) (tree 1) ∷ []))
           ≡ proofs_of q stored
       step true same is f =
           ap (λ (t : RowTree). t ∷ []) same_proof
-          ∙ ap (λ (ns : List Need). pruned (need ∷ ns) (tree 0) ∷ []) (sym (alone (table_headers (catalog_of stored)) q (first ∷ []) (eqb-true (length ss) 1 is)))
+          ∙ ap (λ (ns : List Need). prune_tree (need ∷ ns) (tree 0) ∷ []) (sym (alone (table_headers (catalog_of stored)) q (first ∷ []) (eqb-true (length ss) 1 is)))
           ∙ sym (one_proof e (or_left (length ss == 1) (same_table ss) is))
       step false true is f =
-          ap (λ (n : Need). pruned (n ∷ rights_by_proof plan stored) (tree 0) ∷ []) same_need
-          ∙ ap (λ (ns : List Need). pruned (need ∷ ns) (tree 0) ∷ []) same_rights
+          ap (λ (n : Need). prune_tree (n ∷ rights_by_proof plan stored) (tree 0) ∷ []) same_need
+          ∙ ap (λ (ns : List Need). prune_tree (need ∷ ns) (tree 0) ∷ []) same_rights
           ∙ sym (one_proof e (or_right (length ss == 1) (same_table ss) f))
       step false false is f =
-          ap (λ (t : RowTree). t ∷ pruned (rights_by_proof plan stored) (tree 1) ∷ []) same_proof
-          ∙ ap (λ (ns : List Need). first ∷ pruned ns (tree 1) ∷ []) same_rights
+          ap (λ (t : RowTree). t ∷ prune_tree (rights_by_proof plan stored) (tree 1) ∷ []) same_proof
+          ∙ ap (λ (ns : List Need). first ∷ prune_tree ns (tree 1) ∷ []) same_rights
           ∙ sym (two_proofs e (or_from (length ss == 1) (same_table ss) is f))
 
   -- the left proof shows all that is needed of it
@@ -212,16 +212,16 @@ beside left right = bound_source_seen left ∷ option_to_list (option_map bound_
 module _ (p : QueryPlan) (stored : List Stored) where
   abbrev made : Bool → Bool → List RowTree
   made one same =
-      cond one (left_proof p stored ∷ []) (cond same (pruned (p.left_need ∷ rights_by_proof p stored) (tree_by p stored 0) ∷ []) (left_proof p stored ∷ pruned (rights_by_proof p stored) (tree_by p stored 1) ∷ []))
+      cond one (left_proof p stored ∷ []) (cond same (prune_tree (p.left_need ∷ rights_by_proof p stored) (tree_by p stored 0) ∷ []) (left_proof p stored ∷ prune_tree (rights_by_proof p stored) (tree_by p stored 1) ∷ []))
 
   pub made_alone : (length p.query.bound_sources == 1) ≡ true → left_proof p stored ∷ [] ≡ plan_proofs p stored
   made_alone one = ap (λ b. made b (same_table p.query.bound_sources)) (sym one)
 
   module _ (two : (length p.query.bound_sources == 1) ≡ false) (rights : List Need) (are : rights ≡ rights_by_proof p stored) where
-    pub made_of_both : same_table p.query.bound_sources ≡ true → pruned (p.left_need ∷ rights) (tree_by p stored 0) ∷ [] ≡ plan_proofs p stored
+    pub made_of_both : same_table p.query.bound_sources ≡ true → prune_tree (p.left_need ∷ rights) (tree_by p stored 0) ∷ [] ≡ plan_proofs p stored
     made_of_both same =
-        ap (λ (ns : List Need). pruned (p.left_need ∷ ns) (tree_by p stored 0) ∷ []) are ∙ ap (made false) (sym same) ∙ ap (λ b. made b (same_table p.query.bound_sources)) (sym two)
+        ap (λ (ns : List Need). prune_tree (p.left_need ∷ ns) (tree_by p stored 0) ∷ []) are ∙ ap (made false) (sym same) ∙ ap (λ b. made b (same_table p.query.bound_sources)) (sym two)
 
-    pub made_of_each : same_table p.query.bound_sources ≡ false → left_proof p stored ∷ pruned rights (tree_by p stored 1) ∷ [] ≡ plan_proofs p stored
+    pub made_of_each : same_table p.query.bound_sources ≡ false → left_proof p stored ∷ prune_tree rights (tree_by p stored 1) ∷ [] ≡ plan_proofs p stored
     made_of_each other =
-        ap (λ (ns : List Need). left_proof p stored ∷ pruned ns (tree_by p stored 1) ∷ []) are ∙ ap (made false) (sym other) ∙ ap (λ b. made b (same_table p.query.bound_sources)) (sym two)
+        ap (λ (ns : List Need). left_proof p stored ∷ prune_tree ns (tree_by p stored 1) ∷ []) are ∙ ap (made false) (sym other) ∙ ap (λ b. made b (same_table p.query.bound_sources)) (sym two)

@@ -30,8 +30,8 @@ taken_from index [] s = Ok s
 taken_from index (e ∷ es) s =
     and_then (taken_from (index + 1) es) (refused_at index (taken_as index s e))
 
-unfoldable pub loaded : List ℕ → List Entry → Result StoreState ℕ
-loaded key es = taken_from 0 es (new_store key)
+unfoldable pub load_entries : List ℕ → List Entry → Result StoreState ℕ
+load_entries key es = taken_from 0 es (new_store key)
 
 -- Where a store of the key stands once it has loaded these entries.
 

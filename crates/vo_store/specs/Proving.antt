@@ -5,7 +5,7 @@ use Rattle.vo_spec.specs.Conditions.{Query}
 use Rattle.vo_spec.specs.Results.{BoundSource, bound_sources, bound_source_at}
 use Rattle.vo_spec.specs.Records.{table_headers}
 use Rattle.vo_spec.specs.Trees.{RowTree}
-use Rattle.vo_spec.specs.Pruned.{pruned}
+use Rattle.vo_spec.specs.Pruning.{prune_tree}
 use Rattle.vo_spec.specs.Needs.{needs, same_table}
 use Rattle.vo_spec.specs.Honest.{Stored, catalog_of, stored_tree, trees_for, pruned_each}
 use Rattle.query_plan.specs.Plans.{QueryPlan}
@@ -31,7 +31,7 @@ tree_by p stored i = stored_tree stored (bound_source_at p.query.bound_sources i
 
 -- the left table's own proof
 abbrev pub left_proof : QueryPlan → List Stored → RowTree
-left_proof p stored = pruned (p.left_need ∷ []) (tree_by p stored 0)
+left_proof p stored = prune_tree (p.left_need ∷ []) (tree_by p stored 0)
 
 -- what the left rows that it shows need of the right tree
 abbrev pub rights_by_proof : QueryPlan → List Stored → List Need
@@ -41,5 +41,5 @@ abbrev pub plan_proofs : QueryPlan → List Stored → List RowTree
 plan_proofs p stored =
     if length p.query.bound_sources == 1 then left_proof p stored ∷ []
     else (if same_table p.query.bound_sources
-    then pruned (p.left_need ∷ rights_by_proof p stored) (tree_by p stored 0) ∷ []
-    else left_proof p stored ∷ pruned (rights_by_proof p stored) (tree_by p stored 1) ∷ [])
+    then prune_tree (p.left_need ∷ rights_by_proof p stored) (tree_by p stored 0) ∷ []
+    else left_proof p stored ∷ prune_tree (rights_by_proof p stored) (tree_by p stored 1) ∷ [])

@@ -5,7 +5,7 @@ ghost use Rattle.vo_spec.specs.Journals.{FitsEntry, batches_of};
 ghost use Rattle.vo_spec.specs.Honest.{honest_trees};
 ghost use Rattle.vo_spec.specs.Owners.{AreLoadable};
 ghost use Rattle.owner_state.specs.Walking.{StopsAt};
-ghost use Rattle.vo_store.specs.Loading.{last_signed, loaded, store_behind};
+ghost use Rattle.vo_store.specs.Loading.{last_signed, load_entries, store_behind};
 
 use crate::fault::LoadFault;
 use crate::signed_record::SignedRecord;
@@ -23,9 +23,9 @@ impl Store {
     pub fn load(alloc: Global, key: PublicKey, entries: &[Entry]) -> Result<Store, LoadFault>
         requires { AllByRecursion FitsEntry entries.now }
         // by the store's calls
-        ensures loaded { IfOk result (λ store. loaded key entries.now ≡ Ok store) }
+        ensures loaded { IfOk result (λ store. load_entries key entries.now ≡ Ok store) }
         ensures refused { (index : ℕ) → result ≡ Err (LoadFault.Entry index)
-            → loaded key entries.now ≡ Err index }
+            → load_entries key entries.now ≡ Err index }
         // and by what entries a store takes
         ensures taken { IfOk result (λ _. AreLoadable key entries.now) }
         ensures state { IfOk result (λ store. store ≡ store_behind key entries.now) }

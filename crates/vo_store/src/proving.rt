@@ -4,7 +4,7 @@ ghost use Rattle.vo_spec.specs.Batches.{max_columns};
 ghost use Rattle.vo_spec.specs.Conditions.{query_of};
 ghost use Rattle.vo_spec.specs.Results.{schema_at};
 ghost use Rattle.vo_spec.specs.Scans.{seen};
-ghost use Rattle.vo_spec.specs.Pruned.{pruned};
+ghost use Rattle.vo_spec.specs.Pruning.{prune_tree};
 ghost use Rattle.vo_spec.specs.Honest.{catalog_of, stored_tree};
 ghost use Rattle.mb_tree.specs.View.{part_of};
 ghost use Rattle.query_binding.specs.Sided.{bound_sources_seen};
@@ -59,7 +59,7 @@ fn proof_of_both<'t>(
     left: &Need,
     rights: Vec<Need>,
 ) -> Result<PartTree<'t>, AllocError>
-    ensures { IfOk result (λ proof. part_of proof ≡ pruned (left.now ∷ rights.items) tree.now) }
+    ensures { IfOk result (λ proof. part_of proof ≡ prune_tree (left.now ∷ rights.items) tree.now) }
 {
     let mut needs = rights;
     needs.insert(0, copy_need(alloc, left)?)?;
@@ -95,7 +95,7 @@ fn proofs_of_both<'t>(
     left: &Need,
     rights: Vec<Need>,
 ) -> Result<Vec<PartTree<'t>>, AllocError>
-    ensures { IfOk result (λ proofs. trees_of proofs ≡ pruned (left.now ∷ rights.items) tree.now
+    ensures { IfOk result (λ proofs. trees_of proofs ≡ prune_tree (left.now ∷ rights.items) tree.now
         ∷ []) }
 {
     let proof = proof_of_both(alloc, tree, left, rights)?;
@@ -110,7 +110,7 @@ fn proofs_of_each<'t>(
     rights: &[Need],
 ) -> Result<Vec<PartTree<'t>>, AllocError>
     ensures { IfOk result (λ proofs. trees_of proofs ≡ part_of left.entry
-        ∷ pruned rights.now tree.now ∷ []) }
+        ∷ prune_tree rights.now tree.now ∷ []) }
 {
     let right = prune(alloc, tree, rights)?;
     two_proofs(alloc, left, right)

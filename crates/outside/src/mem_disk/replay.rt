@@ -2,7 +2,7 @@
 ghost use Rattle.std.specs.Prelude.{◌≡◌, ◌↔◌, ℕ, ◌+◌, ◌<◌, ◌≤◌, [], IsTrue, length, not, slice_index, IfOk, OnOk, nat_le};
 ghost use Rattle.std.specs.List.{list_any};
 ghost use Rattle.outside.specs.Done.{seen_next, call_of, is_within};
-ghost use Rattle.outside.specs.DiskModel.{Wrote, IsImage, down_after, furthest, has, is_written, overwritten, range_end};
+ghost use Rattle.outside.specs.DiskModel.{Wrote, IsImage, down_after, furthest, has, is_written, overwrite_at, range_end};
 ghost use Rattle.outside.specs.Replay.{down_of, range_of};
 
 use crate::mem_disk::done::Done;
@@ -83,7 +83,7 @@ impl Replay {
     #[tactic(auto, using(crate::proofs::Replays::onto_push))]
     fn write(&mut self, at: u64, piece: &[u8], lost: usize) -> Result<(), AllocError>
         ensures seen { OnOk result (self.new.seen.items
-            ≡ overwritten at piece.now self.old.seen.items) }
+            ≡ overwrite_at at piece.now self.old.seen.items) }
         ensures down { OnOk result (down_of self.new
             ≡ down_after (down_of self.old) (Wrote at (length piece.now + lost))) }
     {

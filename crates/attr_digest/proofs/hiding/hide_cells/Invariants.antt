@@ -1,6 +1,6 @@
 use Rattle.std.proofs.Common.{◌≡◌, ◌++◌, drop}
 use Rattle.vo_spec.specs.Cells.{whole_cells}
-use Rattle.vo_spec.specs.Pruned.{shown_cells}
+use Rattle.vo_spec.specs.Pruning.{shown_cells}
 use Rattle.attr_digest.proofs.hiding.hide_cells.Given as goal
 
 -- with the cells to come, these are all

@@ -10,11 +10,11 @@ put_answer-requires g c =
 
 pub returns-in-Ok-Some-clause-known : goal.returns-in-Ok-Some-clause-known
 returns-in-Ok-Some-clause-known g c =
-    λ before is. puts_answer g.A.Answers.reply g.A.Answers.next c.args.request.now.kind c.args.request.now.body.items (c.in-Ok-Some.answer.kind, c.in-Ok-Some.answer.body.items)
-    c.put_answer.result (g.A.Answers.state c.args.store.now) (g.A.Answers.state c.answer.new.self) before (g.L.Link.wire c.put_answer.new.link)
-    (replied g.A.Answers.reply (g.A.Answers.state c.args.store.now) c.args.request.now.kind c.deref.result.now c.args.request.now.body.items c.in-Ok-Some.field-0 c.in-Ok-Some.answer
+    λ before is. puts_answer g.A.Responder.reply g.A.Responder.next c.args.request.now.kind c.args.request.now.body.items (c.in-Ok-Some.answer.kind, c.in-Ok-Some.answer.body.items)
+    c.put_answer.result (g.A.Responder.state c.args.store.now) (g.A.Responder.state c.answer.new.self) before (g.L.Link.wire c.put_answer.new.link)
+    (replied g.A.Responder.reply (g.A.Responder.state c.args.store.now) c.args.request.now.kind c.deref.result.now c.args.request.now.body.items c.in-Ok-Some.field-0 c.in-Ok-Some.answer
     c.in-Ok-Some.field-0-is c.deref.ensures.value c.in-Ok-Some.ensures.reply)
-    (goes_next g.A.Answers.next (g.A.Answers.state c.args.store.now) (g.A.Answers.state c.answer.new.self) c.args.request.now.kind c.deref.result.now c.args.request.now.body.items c.in-Ok-Some.field-0 c.in-Ok-Some.answer
+    (goes_next g.A.Responder.next (g.A.Responder.state c.args.store.now) (g.A.Responder.state c.answer.new.self) c.args.request.now.kind c.deref.result.now c.args.request.now.body.items c.in-Ok-Some.field-0 c.in-Ok-Some.answer
     c.in-Ok-Some.field-0-is c.deref.ensures.value c.in-Ok-Some.ensures.next)
     (c.put_answer.ensures.known before is)
 
@@ -23,8 +23,8 @@ returns-in-Ok-Some-clause-misses g c = c.put_answer.ensures.misses
 
 pub returns-in-Ok-None-clause-known : goal.returns-in-Ok-None-clause-known
 returns-in-Ok-None-clause-known g c =
-    λ before is. no_answer g.A.Answers.reply g.A.Answers.next c.args.request.now.kind c.args.request.now.body.items c.len.result (g.A.Answers.state c.args.store.now) (g.A.Answers.state c.answer.new.self) before (g.L.Link.wire c.args.link.now) (search rules)
-    (replied_none g.A.Answers.reply (g.A.Answers.state c.args.store.now) c.args.request.now.kind c.deref.result.now c.args.request.now.body.items c.in-Ok-None.field-0
+    λ before is. no_answer g.A.Responder.reply g.A.Responder.next c.args.request.now.kind c.args.request.now.body.items c.len.result (g.A.Responder.state c.args.store.now) (g.A.Responder.state c.answer.new.self) before (g.L.Link.wire c.args.link.now) (search rules)
+    (replied_none g.A.Responder.reply (g.A.Responder.state c.args.store.now) c.args.request.now.kind c.deref.result.now c.args.request.now.body.items c.in-Ok-None.field-0
     c.in-Ok-None.field-0-is c.deref.ensures.value c.in-Ok-None.ensures.reply)
     (c.in-Ok-None.ensures.none c.in-Ok-None.field-0-is) is
 
@@ -33,7 +33,7 @@ returns-in-Ok-None-clause-misses g c = λ w is stands. refl
 
 pub returns-in-Err-clause-known : goal.returns-in-Err-clause-known
 returns-in-Err-clause-known g c =
-    λ before is. no_memory g.A.Answers.reply g.A.Answers.next c.args.request.now.kind c.args.request.now.body.items (g.A.Answers.state c.args.store.now) (g.A.Answers.state c.answer.new.self) before (g.L.Link.wire c.args.link.now) c.in-Err.ensures.err is
+    λ before is. no_memory g.A.Responder.reply g.A.Responder.next c.args.request.now.kind c.args.request.now.body.items (g.A.Responder.state c.args.store.now) (g.A.Responder.state c.answer.new.self) before (g.L.Link.wire c.args.link.now) c.in-Err.ensures.err is
 
 pub returns-in-Err-clause-misses : goal.returns-in-Err-clause-misses
 returns-in-Err-clause-misses g c = λ w is stands. refl

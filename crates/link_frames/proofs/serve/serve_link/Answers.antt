@@ -4,7 +4,7 @@ use Rattle.link_frames.proofs.serve.serve_link.Goals as goal
 
 pub loop-turn-init : goal.loop-turn-init
 loop-turn-init g c =
-    serving_none g.A.Answers.reply g.A.Answers.next (g.A.Answers.state c.args.store.now) (g.L.Link.wire c.args.link.now)
+    serving_none g.A.Responder.reply g.A.Responder.next (g.A.Responder.state c.args.store.now) (g.L.Link.wire c.args.link.now)
     (g.L.Link.faults c.args.link.now) (g.L.Link.misses c.args.link.now)
 
 pub loop-turn-preserved : goal.loop-turn-preserved

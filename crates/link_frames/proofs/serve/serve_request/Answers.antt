@@ -18,8 +18,8 @@ pub returns-in-Ok-clause-known : goal.returns-in-Ok-clause-known
 returns-in-Ok-clause-known g c =
     λ before is.
     let read = c.in-Ok.ensures.known before is in
-    one_read g.A.Answers.reply g.A.Answers.next (first_frame Request before.coming) c.in-Ok.request.kind c.in-Ok.request.body.items c.answer_request.result (g.A.Answers.state c.args.store.now)
-    (g.A.Answers.state c.answer_request.new.store) before (g.L.Link.wire c.read_frame.new.link) (g.L.Link.wire c.answer_request.new.link)
+    one_read g.A.Responder.reply g.A.Responder.next (first_frame Request before.coming) c.in-Ok.request.kind c.in-Ok.request.body.items c.answer_request.result (g.A.Responder.state c.args.store.now)
+    (g.A.Responder.state c.answer_request.new.store) before (g.L.Link.wire c.read_frame.new.link) (g.L.Link.wire c.answer_request.new.link)
     read.0 read.1 c.answer_request.ensures.known
 
 pub returns-in-Ok-clause-misses : goal.returns-in-Ok-clause-misses
@@ -30,9 +30,9 @@ returns-in-Ok-clause-misses g c =
 pub returns-in-Err-clause-known : goal.returns-in-Err-clause-known
 returns-in-Err-clause-known g c =
     λ before is. subst
-    (λ (e : End). ServesOne g.A.Answers.reply g.A.Answers.next (first_frame Request before.coming) (Err e) (g.A.Answers.state c.args.store.now) (g.A.Answers.state c.args.store.now) before (g.L.Link.wire c.read_frame.new.link))
+    (λ (e : End). ServesOne g.A.Responder.reply g.A.Responder.next (first_frame Request before.coming) (Err e) (g.A.Responder.state c.args.store.now) (g.A.Responder.state c.args.store.now) before (g.L.Link.wire c.read_frame.new.link))
     (sym c.without_request.ensures)
-    (no_request g.A.Answers.reply g.A.Answers.next (first_frame Request before.coming) c.in-Err.fault (g.A.Answers.state c.args.store.now) before (g.L.Link.wire c.read_frame.new.link)
+    (no_request g.A.Responder.reply g.A.Responder.next (first_frame Request before.coming) c.in-Err.fault (g.A.Responder.state c.args.store.now) before (g.L.Link.wire c.read_frame.new.link)
     (c.in-Err.ensures.known before is))
 
 pub returns-in-Err-clause-misses : goal.returns-in-Err-clause-misses

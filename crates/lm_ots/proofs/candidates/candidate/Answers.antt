@@ -1,5 +1,5 @@
 use Rattle.std.proofs.Common.{◌≡◌, length, sym, ◌∙◌, arith}
-use Rattle.vo_spec.specs.Bytes.{joined}
+use Rattle.vo_spec.specs.Bytes.{join_pieces}
 use Rattle.vo_spec.specs.OtsSets.{count_of, ots_signature_len}
 use Rattle.vo_spec.specs.Ots.{candidate_end, ots_candidate, public_text}
 use Rattle.lm_ots.proofs.Forms.{length_by_form}
@@ -13,13 +13,13 @@ digest_at-requires c =
     omega arith
 
 pub loop-i-init : goal.loop-i-init
-unfolding joined
+unfolding join_pieces
 loop-i-init c = c.public_hasher-hasher.ensures
 
 pub loop-i-preserved : goal.loop-i-preserved
 loop-i-preserved c =
     let ends = candidate_end c.args.id.now c.args.q c.args.ots c.digits_of-digits.result c.args.signature.now in
-    let added = c.add.ensures (public_text c.args.id.now c.args.q (joined ends c.loop-i.i)) c.loop-i.invariant in
+    let added = c.add.ensures (public_text c.args.id.now c.args.q (join_pieces ends c.loop-i.i)) c.loop-i.invariant in
     let more = rw (c.as_bytes.ensures.value, c.candidate_end.ensures, public_text_more c.args.id.now c.args.q ends c.loop-i.i) at added in
     more
 

@@ -1,6 +1,6 @@
 use Rattle.std.proofs.Common.{ap, ◌∙◌, sym, subst}
 use Rattle.vo_spec.specs.Trees.{RowTree}
-use Rattle.vo_spec.specs.Removes.{removed}
+use Rattle.vo_spec.specs.Removes.{tree_without_key}
 use Rattle.btree.specs.Shapes.{IsShaped}
 use Rattle.mb_update.proofs.Changes.{fits_shaped, whole_change}
 use Rattle.mb_update.proofs.RowEntries.{removed_whole}
@@ -11,8 +11,8 @@ remove-requires c = let P : RowTree → Type 0 = λ t. IsShaped t in subst P (sy
 
 pub overflow_sub-rows : goal.overflow_sub-rows
 overflow_sub-rows c =
-    (removed_whole c.args.key.now c.args.tree.now c.in-Ok.root c.row_count-rows.result c.row_count-rows.ensures.whole (ap (removed c.args.key.now) (sym c.root.ensures.value) ∙ whole_change c.in-Ok.root _ c.in-Ok.ensures)).some
+    (removed_whole c.args.key.now c.args.tree.now c.in-Ok.root c.row_count-rows.result c.row_count-rows.ensures.whole (ap (tree_without_key c.args.key.now) (sym c.root.ensures.value) ∙ whole_change c.in-Ok.root _ c.in-Ok.ensures)).some
 
 pub of_root-requires : goal.of_root-requires
 of_root-requires c =
-    (removed_whole c.args.key.now c.args.tree.now c.in-Ok.root c.row_count-rows.result c.row_count-rows.ensures.whole (ap (removed c.args.key.now) (sym c.root.ensures.value) ∙ whole_change c.in-Ok.root _ c.in-Ok.ensures)).whole
+    (removed_whole c.args.key.now c.args.tree.now c.in-Ok.root c.row_count-rows.result c.row_count-rows.ensures.whole (ap (tree_without_key c.args.key.now) (sym c.root.ensures.value) ∙ whole_change c.in-Ok.root _ c.in-Ok.ensures)).whole

@@ -2,7 +2,7 @@ use Rattle.std.proofs.Common.{◌≡◌, ℕ, List, [], ◌∷◌, ◌++◌, Non
 use Rattle.vo_spec.specs.declared.tables.Batch.{Batch}
 use Rattle.vo_spec.specs.LmsSets.{leaves_of}
 use Rattle.vo_spec.specs.Journals.{journal_bytes, slot}
-use Rattle.vo_spec.specs.Honest.{sealed}
+use Rattle.vo_spec.specs.Honest.{seal_batches}
 use Rattle.std.specs.Prelude.{flat_map}
 use Rattle.owner_state.specs.Sealing.{commands_of, seal_fault}
 use Rattle.owner_state.proofs.SealedJournals.{sealed_journal, signs_validly}
@@ -12,7 +12,7 @@ pub returns-in-Ok-clause-journal : goal.returns-in-Ok-clause-journal
 unfolding journal_bytes
 returns-in-Ok-clause-journal c =
     c.in_ok-extend_from_slice-in-Ok.ensures.items ∙ ap (λ (t : List ℕ). t ++ 0 ∷ []) c.in-Ok.ensures.slots
-    ∙ ap (λ (bs : List Batch). flat_map slot (sealed c.args.key.now (commands_of bs)) ++ 0 ∷ []) c.as_slice.ensures
+    ∙ ap (λ (bs : List Batch). flat_map slot (seal_batches c.args.key.now (commands_of bs)) ++ 0 ∷ []) c.as_slice.ensures
 
 pub returns-in-Ok-clause-owned : goal.returns-in-Ok-clause-owned
 returns-in-Ok-clause-owned c =

@@ -1,6 +1,6 @@
 use Rattle.std.proofs.Common.{◌≡◌, ◌≤◌, false, ◌||◌, refl, arith, Err}
 use Rattle.vo_spec.specs.Parts.{levels, levels_in}
-use Rattle.vo_spec.specs.Pruned.{walk_for, is_missing_by, has_surplus_by}
+use Rattle.vo_spec.specs.Pruning.{walk_for, is_missing_by, has_surplus_by}
 use Rattle.mb_tree.specs.View.{part_of, parts_of}
 use Rattle.mb_tree.proofs.PartLaws.{child_falls}
 use Rattle.range_proof.specs.Judging.{JudgesOrMissing}

@@ -1,7 +1,7 @@
 use Rattle.std.proofs.Common.{◌≡◌, ◌+◌, ◌*◌, ◌||◌, drop, None}
 use Rattle.std.specs.Option.{option_copied}
 use Rattle.vo_spec.specs.Parts.{levels, levels_in}
-use Rattle.vo_spec.specs.Pruned.{is_missing_in, has_surplus_in, walk_for}
+use Rattle.vo_spec.specs.Pruning.{is_missing_in, has_surplus_in, walk_for}
 use Rattle.mb_tree.specs.View.{part_of, parts_of}
 use Rattle.range_proof.proofs.judging.+judge.Given as goal
 

@@ -1,5 +1,5 @@
 use Rattle.std.proofs.Common.{◌≡◌, drop}
-use Rattle.vo_spec.specs.Pruned.{hides_any}
+use Rattle.vo_spec.specs.Pruning.{hides_any}
 use Rattle.range_proof.proofs.naming.hides_any.Given as goal
 
 -- none of the columns so far is hidden

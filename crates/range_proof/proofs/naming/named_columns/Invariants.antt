@@ -1,5 +1,5 @@
 use Rattle.std.proofs.Common.{◌≡◌, ◌++◌, map, drop}
-use Rattle.vo_spec.specs.Pruned.{needed_columns}
+use Rattle.vo_spec.specs.Pruning.{needed_columns}
 use Rattle.range_proof.specs.Lending.{lent_need}
 use Rattle.range_proof.proofs.naming.named_columns.Given as goal
 

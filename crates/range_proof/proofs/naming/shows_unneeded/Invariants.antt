@@ -1,5 +1,5 @@
 use Rattle.std.proofs.Common.{◌≡◌, drop}
-use Rattle.vo_spec.specs.Pruned.{shows_surplus}
+use Rattle.vo_spec.specs.Pruning.{shows_surplus}
 use Rattle.range_proof.proofs.naming.shows_unneeded.Given as goal
 
 -- no cell so far is shown beyond the columns

@@ -1,5 +1,5 @@
 use Rattle.std.proofs.Common.{◌≡◌, map, take}
-use Rattle.vo_spec.specs.Pruned.{at_root}
+use Rattle.vo_spec.specs.Pruning.{at_root}
 use Rattle.range_proof.specs.Lending.{lent_need}
 use Rattle.range_proof.proofs.need_lists.active_at_root.Given as goal
 

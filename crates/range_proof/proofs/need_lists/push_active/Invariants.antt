@@ -1,6 +1,6 @@
 use Rattle.std.proofs.Common.{◌≡◌, map, take}
 use Rattle.std.specs.Option.{option_copied}
-use Rattle.vo_spec.specs.Pruned.{descend}
+use Rattle.vo_spec.specs.Pruning.{descend}
 use Rattle.range_proof.specs.Lending.{lent_need}
 use Rattle.range_proof.proofs.need_lists.push_active.Given as goal
 

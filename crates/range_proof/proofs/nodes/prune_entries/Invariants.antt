@@ -1,6 +1,6 @@
 use Rattle.std.proofs.Common.{◌≡◌, map, take}
 use Rattle.vo_spec.specs.Cells.{whole_entry}
-use Rattle.vo_spec.specs.Pruned.{shown_entry}
+use Rattle.vo_spec.specs.Pruning.{shown_entry}
 use Rattle.range_proof.proofs.nodes.prune_entries.Given as goal
 
 -- the entries so far

@@ -4,7 +4,7 @@ use Rattle.std.specs.Option.{option_copied}
 use Rattle.vo_spec.specs.Parts.{stub, levels, levels_in}
 use Rattle.vo_spec.specs.Trees.{row_family, open_parts}
 use Rattle.vo_spec.specs.Scans.{visits}
-use Rattle.vo_spec.specs.Pruned.{walk_for, pruned_by, is_any}
+use Rattle.vo_spec.specs.Pruning.{walk_for, pruned_by, is_any}
 use Rattle.mb_tree.proofs.RowLaws.{subtree_falls}
 use Rattle.range_proof.proofs.Visits.{goes_alone, passes_by}
 use Rattle.range_proof.proofs.Walking.{pruned_none, prune_step, prune_end}

@@ -2,7 +2,7 @@ use Rattle.std.proofs.Common.{◌≡◌, ◌+◌, ◌*◌, [], ◌∷◌, map, d
 use Rattle.std.specs.Option.{option_copied}
 use Rattle.vo_spec.specs.Parts.{levels, levels_in}
 use Rattle.vo_spec.specs.Trees.{row_family, open_parts}
-use Rattle.vo_spec.specs.Pruned.{pruned_in, walk_for}
+use Rattle.vo_spec.specs.Pruning.{pruned_in, walk_for}
 use Rattle.mb_tree.specs.View.{part_of}
 use Rattle.range_proof.proofs.Walking.{onto}
 use Rattle.range_proof.proofs.prune_for_one.+prune_for_one.Given as goal

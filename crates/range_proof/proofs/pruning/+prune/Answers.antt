@@ -2,7 +2,7 @@ use Rattle.std.proofs.Common.{◌≡◌, ◌≤◌, false, map, sym, ap, ◌∙�
 use Rattle.std.proofs.lemmas.List.{map_push}
 use Rattle.vo_spec.specs.Parts.{stub, levels, levels_in}
 use Rattle.vo_spec.specs.Trees.{open_parts}
-use Rattle.vo_spec.specs.Pruned.{walk_for, is_any}
+use Rattle.vo_spec.specs.Pruning.{walk_for, is_any}
 use Rattle.mb_tree.proofs.RowLaws.{subtree_falls}
 use Rattle.range_proof.specs.Lending.{lent_need}
 use Rattle.range_proof.proofs.Walking.{pruned_none, none_lent, some_lent, prune_step, prune_end}

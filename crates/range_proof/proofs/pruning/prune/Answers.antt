@@ -1,6 +1,6 @@
 use Rattle.std.proofs.Common.{◌≡◌, false, sym, ◌∙◌}
 use Rattle.std.proofs.lemmas.Bool.{not-true}
-use Rattle.vo_spec.specs.Pruned.{is_any}
+use Rattle.vo_spec.specs.Pruning.{is_any}
 use Rattle.range_proof.proofs.Walking.{pruned_none}
 use Rattle.range_proof.proofs.pruning.prune.Goals as goal
 

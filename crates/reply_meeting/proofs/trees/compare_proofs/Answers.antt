@@ -1,6 +1,6 @@
 use Rattle.std.proofs.Common.{List, length, ◌<◌, sym, subst, arith}
 use Rattle.vo_spec.specs.declared.needs.Need.{Need}
-use Rattle.vo_spec.specs.Pruned.{IsCanonical}
+use Rattle.vo_spec.specs.Pruning.{IsCanonical}
 use Rattle.mb_tree.specs.View.{part_of}
 use Rattle.reply_meeting.proofs.ProofSteps.{twins_here, canonical_here, second_canonical_here, tree_differs, tree_passed, proofs_done}
 use Rattle.reply_meeting.proofs.trees.compare_proofs.Goals as goal

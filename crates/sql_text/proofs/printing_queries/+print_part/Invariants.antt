@@ -1,6 +1,6 @@
 use Rattle.std.proofs.Common.{◌≡◌, ◌+◌, ◌*◌, ◌++◌, map, drop}
 use Rattle.vo_spec.specs.Conditions.{condition_of, conditions}
-use Rattle.sql_text.specs.Printing.{parts_tokens, written}
+use Rattle.sql_text.specs.Printing.{parts_tokens, text_of}
 use Rattle.sql_text.proofs.PrintSizes.{size, sizes_of}
 use Rattle.sql_text.proofs.printing_queries.+print_part.Given as goal
 
@@ -21,5 +21,5 @@ decreases-print_other_parts l = 3 * sizes_of l.others.now
 
 abbrev pub invariant-print_other_parts-loop-part : goal.invariant-print_other_parts-loop-part
 invariant-print_other_parts-loop-part l =
-    l.out.items ++ written (parts_tokens l.word (conditions (map condition_of (drop l.part-index l.others))))
-    ≡ l.initial.out.items ++ written (parts_tokens l.word (conditions (map condition_of l.others)))
+    l.out.items ++ text_of (parts_tokens l.word (conditions (map condition_of (drop l.part-index l.others))))
+    ≡ l.initial.out.items ++ text_of (parts_tokens l.word (conditions (map condition_of l.others)))

@@ -18,16 +18,16 @@ returns-in-Err-clause-found c =
 pub returns-clause-found : goal.returns-clause-found
 returns-clause-found c =
     let fits : length c.as_bytes-bytes.result.now ≤ 65536 = omega arith in
-    (whole (λ x. x) batch batch_good 65536 c.args.text.now c.as_bytes-bytes.result.now c.in-Ok.list.items c.left.result.now c.new-parser.result c.batch-found.new.self c.batch-found.result c.ended.result
+    (whole (λ x. x) batch batch_good 65536 c.args.text.now c.as_bytes-bytes.result.now c.in-Ok.list.items c.left.result.now c.new-parser.result c.batch-found.new.self c.batch-found.result c.expect_end.result
     c.as_bytes-bytes.ensures.value fits c.in-Ok.ensures (c.new-parser.ensures.list ∙ c.as_slice.ensures.value) c.new-parser.ensures.place c.new-parser.ensures.levels
-    c.batch-found.ensures.value c.batch-found.ensures.list c.left.ensures c.ended.ensures).0
+    c.batch-found.ensures.value c.batch-found.ensures.list c.left.ensures c.expect_end.ensures).0
 
 pub returns-clause-only : goal.returns-clause-only
 returns-clause-only c =
     let fits : length c.as_bytes-bytes.result.now ≤ 65536 = omega arith in
-    (whole (λ x. x) batch batch_good 65536 c.args.text.now c.as_bytes-bytes.result.now c.in-Ok.list.items c.left.result.now c.new-parser.result c.batch-found.new.self c.batch-found.result c.ended.result
+    (whole (λ x. x) batch batch_good 65536 c.args.text.now c.as_bytes-bytes.result.now c.in-Ok.list.items c.left.result.now c.new-parser.result c.batch-found.new.self c.batch-found.result c.expect_end.result
     c.as_bytes-bytes.ensures.value fits c.in-Ok.ensures (c.new-parser.ensures.list ∙ c.as_slice.ensures.value) c.new-parser.ensures.place c.new-parser.ensures.levels
-    c.batch-found.ensures.value c.batch-found.ensures.list c.left.ensures c.ended.ensures).1
+    c.batch-found.ensures.value c.batch-found.ensures.list c.left.ensures c.expect_end.ensures).1
 
 pub returns-clause-fits : goal.returns-clause-fits
-returns-clause-fits c = answer_batch_fits c.args.text.now c.ended.result (returns-clause-found c) (utf8_tokens c.args.text.now c.utf8.text)
+returns-clause-fits c = answer_batch_fits c.args.text.now c.expect_end.result (returns-clause-found c) (utf8_tokens c.args.text.now c.utf8.text)

@@ -19,19 +19,19 @@ returns-in-Err-clause-found c =
 pub returns-clause-found : goal.returns-clause-found
 returns-clause-found c =
     let fits : length c.as_bytes-bytes.result.now ≤ 65536 = omega arith in
-    (whole query_of query query_good 65536 c.args.text.now c.as_bytes-bytes.result.now c.in-Ok.list.items c.left.result.now c.new-parser.result c.query-found.new.self c.query-found.result c.ended.result
+    (whole query_of query query_good 65536 c.args.text.now c.as_bytes-bytes.result.now c.in-Ok.list.items c.left.result.now c.new-parser.result c.query-found.new.self c.query-found.result c.expect_end.result
     c.as_bytes-bytes.ensures.value fits c.in-Ok.ensures (c.new-parser.ensures.list ∙ c.as_slice.ensures.value) c.new-parser.ensures.place c.new-parser.ensures.levels
-    c.query-found.ensures.value c.query-found.ensures.list c.left.ensures c.ended.ensures).0
+    c.query-found.ensures.value c.query-found.ensures.list c.left.ensures c.expect_end.ensures).0
 
 pub returns-clause-only : goal.returns-clause-only
 returns-clause-only c =
     let fits : length c.as_bytes-bytes.result.now ≤ 65536 = omega arith in
-    (whole query_of query query_good 65536 c.args.text.now c.as_bytes-bytes.result.now c.in-Ok.list.items c.left.result.now c.new-parser.result c.query-found.new.self c.query-found.result c.ended.result
+    (whole query_of query query_good 65536 c.args.text.now c.as_bytes-bytes.result.now c.in-Ok.list.items c.left.result.now c.new-parser.result c.query-found.new.self c.query-found.result c.expect_end.result
     c.as_bytes-bytes.ensures.value fits c.in-Ok.ensures (c.new-parser.ensures.list ∙ c.as_slice.ensures.value) c.new-parser.ensures.place c.new-parser.ensures.levels
-    c.query-found.ensures.value c.query-found.ensures.list c.left.ensures c.ended.ensures).1
+    c.query-found.ensures.value c.query-found.ensures.list c.left.ensures c.expect_end.ensures).1
 
 pub returns-clause-printable : goal.returns-clause-printable
-returns-clause-printable c = answer_printable 65536 c.args.text.now c.ended.result (utf8_tokens c.args.text.now c.utf8.text) (returns-clause-found c)
+returns-clause-printable c = answer_printable 65536 c.args.text.now c.expect_end.result (utf8_tokens c.args.text.now c.utf8.text) (returns-clause-found c)
 
 pub returns-clause-fits : goal.returns-clause-fits
-returns-clause-fits c = answer_fits c.ended.result (returns-clause-printable c)
+returns-clause-fits c = answer_fits c.expect_end.result (returns-clause-printable c)

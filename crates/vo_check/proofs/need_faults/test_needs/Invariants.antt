@@ -1,6 +1,6 @@
 use Rattle.std.proofs.Common.{◌≡◌, ◌&&◌, map, drop, zip, not}
 use Rattle.std.specs.List.{list_any}
-use Rattle.vo_spec.specs.Pruned.{is_missing, has_surplus}
+use Rattle.vo_spec.specs.Pruning.{is_missing, has_surplus}
 use Rattle.mb_tree.specs.View.{part_of}
 use Rattle.vo_check.proofs.need_faults.test_needs.Given as goal
 

@@ -1,4 +1,4 @@
-use Rattle.vo_spec.specs.Pruned.{shown_row}
+use Rattle.vo_spec.specs.Pruning.{shown_row}
 use Rattle.vo_laws.proofs.PrunedLaws.{row_digest_same, row_shown_prune, entry_bytes_same, digest_same}
 use Rattle.vo_laws.proofs.digests.digests_are_kept.Goals as goal
 

@@ -1,7 +1,7 @@
 use Rattle.std.proofs.Common.{◌≡◌, ◌+◌, ◌*◌, ◌/◌, ◌%◌, ◌^◌, ◌<◌, sym, arith}
 use Rattle.std.proofs.lemmas.List.{append-nil}
 use Rattle.std.proofs.Math.Nat.{div-le_self}
-use Rattle.vo_spec.specs.Bytes.{joined}
+use Rattle.vo_spec.specs.Bytes.{join_pieces}
 use Rattle.vo_spec.specs.LmsSets.{height_of, leaves_of}
 use Rattle.vo_spec.specs.Secret.{path_node}
 use Rattle.lm_ots.proofs.Pieces.{joined_on}
@@ -10,7 +10,7 @@ use Rattle.lms_sign.proofs.Ways.{low_enough, sibling_range}
 use Rattle.lms_sign.proofs.secret_key.SecretKey.put_path.Goals as goal
 
 pub loop-level-init : goal.loop-level-init
-unfolding joined
+unfolding join_pieces
 loop-level-init c = sym (append-nil c.args.bytes.items)
 
 pub sibling_of-requires : goal.sibling_of-requires

@@ -1,6 +1,6 @@
 use Rattle.std.proofs.Common.{subst}
 use Rattle.vo_spec.specs.declared.cells.PartEntry.{PartEntry}
-use Rattle.vo_spec.specs.Inserts.{inserted}
+use Rattle.vo_spec.specs.Inserts.{tree_with_entry}
 use Rattle.mb_tree.specs.View.{part_of}
 use Rattle.mb_update.specs.ChangeResults.{ChangesTo}
 use Rattle.mb_update.proofs.Changes.{insert_keeps}
@@ -8,5 +8,5 @@ use Rattle.mb_update.proofs.part_updates.PartTreeUpdates.insert.Goals as goal
 
 pub returns-clause-within : goal.returns-clause-within
 returns-clause-within c =
-    let P : PartEntry → Type 0 = λ e. ChangesTo part_of c.insert_entry.result (inserted e (part_of c.args.self.now)) in
+    let P : PartEntry → Type 0 = λ e. ChangesTo part_of c.insert_entry.result (tree_with_entry e (part_of c.args.self.now)) in
     insert_keeps c.args.row.now (part_of c.args.self.now) c.insert_entry.result c.requires.fits c.requires.room (subst P c.in_ok-entry.ensures c.insert_entry.ensures)

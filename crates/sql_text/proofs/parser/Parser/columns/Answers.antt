@@ -5,60 +5,60 @@ use Rattle.sql_text.specs.Parsing.{left_of}
 use Rattle.std.specs.Prelude.{Vec}
 use Rattle.std.specs.Global.{Global}
 use Rattle.vo_spec.specs.declared.tables.Column.{Column}
-use Rattle.sql_text.specs.Rules.{closed, ended}
+use Rattle.sql_text.specs.Rules.{followed_by, list_to_end}
 use Rattle.sql_text.specs.Queries.{name}
 use Rattle.sql_text.specs.Commands.{column}
 use Rattle.sql_text.proofs.Repeats.{turn_in, turn_stops, begun_in, begun_stops, push_parsed_len, stops, overfull, fewer_in, no_room}
 use Rattle.sql_text.proofs.parser.Parser.columns.Goals as goal
 
 pub returns-in_err-list-clause-value : goal.returns-in_err-list-clause-value
-unfolding closed ended column name
+unfolding followed_by list_to_end column name
 returns-in_err-list-clause-value c =
-    let f = begun_stops (λ x. x) (Some 31) (closed column k.Comma) (closed column k.Comma) (λ (v : Vec Column Global). v.items) c.args.self.now.levels (left_of c.args.self.now) (left_of c.column.new.self) c.new.result.items c.column.result c.in_err-list.field-0.0 _ (λ z. z) (λ s. refl) refl
+    let f = begun_stops (λ x. x) (Some 31) (followed_by column k.Comma) (followed_by column k.Comma) (λ (v : Vec Column Global). v.items) c.args.self.now.levels (left_of c.args.self.now) (left_of c.column.new.self) c.new.result.items c.column.result c.in_err-list.field-0.0 _ (λ z. z) (λ s. refl) refl
     c.column.ensures.value c.in_err-list.ensures in
     search rules
 
 pub returns-in_err-list-2-clause-value : goal.returns-in_err-list-2-clause-value
-unfolding closed ended column name
+unfolding followed_by list_to_end column name
 returns-in_err-list-2-clause-value c =
     let room : length c.parts.list.items < 32 = omega (arith, c.parts.list.ok.0) in
-    let f = turn_stops (λ x. x) (closed column k.Comma) refl (λ (v : Vec Column Global). v.items) 32 c.parts.self.levels c.parts.self.levels c.parts.list.items c.column-in-parts.result (left_of c.parts.self) (left_of c.column-in-parts.new.self) c.in_err-list-2.field-0.0 _
+    let f = turn_stops (λ x. x) (followed_by column k.Comma) refl (λ (v : Vec Column Global). v.items) 32 c.parts.self.levels c.parts.self.levels c.parts.list.items c.column-in-parts.result (left_of c.parts.self) (left_of c.column-in-parts.new.self) c.in_err-list-2.field-0.0 _
     (λ z. z) (λ s. refl) refl room (sym c.sees.ensures ∙ c.parts-test.true)
-    (begun_in (λ x. x) (Some 31) (closed column k.Comma) (closed column k.Comma) c.args.self.now.levels c.column.new.self.levels (left_of c.args.self.now) (left_of c.column.new.self) c.new.result.items c.column.result c.in_ok-list.list
+    (begun_in (λ x. x) (Some 31) (followed_by column k.Comma) (followed_by column k.Comma) c.args.self.now.levels c.column.new.self.levels (left_of c.args.self.now) (left_of c.column.new.self) c.new.result.items c.column.result c.in_ok-list.list
     c.column.ensures.levels c.column.ensures.value c.new.ensures.items c.in_ok-list.ensures
     ∙ sym c.parts.invariant.2)
     c.column-in-parts.ensures.value c.in_err-list-2.ensures in
     search rules
 
 pub parts-smaller : goal.parts-smaller
-unfolding closed ended column name
-parts-smaller c = fewer_in (λ x. x) (closed column k.Comma) refl c.parts.self.levels c.parts.list.items c.column-in-parts.result c.in_ok-list-2.list (left_of c.parts.self) (left_of c.column-in-parts.new.self) c.column-in-parts.ensures.value c.in_ok-list-2.ensures
+unfolding followed_by list_to_end column name
+parts-smaller c = fewer_in (λ x. x) (followed_by column k.Comma) refl c.parts.self.levels c.parts.list.items c.column-in-parts.result c.in_ok-list-2.list (left_of c.parts.self) (left_of c.column-in-parts.new.self) c.column-in-parts.ensures.value c.in_ok-list-2.ensures
 
 pub parts-preserved : goal.parts-preserved
-unfolding closed ended column name
+unfolding followed_by list_to_end column name
 parts-preserved c =
     let room : length c.parts.list.items < 32 = omega (arith, c.parts.list.ok.0) in (
       c.column-in-parts.ensures.list ∙ c.parts.invariant.0,
       c.column-in-parts.ensures.levels ∙ c.parts.invariant.1,
-      turn_in (λ x. x) (closed column k.Comma) refl 32 c.parts.self.levels c.parts.self.levels c.column-in-parts.new.self.levels c.parts.list.items c.column-in-parts.result c.in_ok-list-2.list (left_of c.parts.self) (left_of c.column-in-parts.new.self)
+      turn_in (λ x. x) (followed_by column k.Comma) refl 32 c.parts.self.levels c.parts.self.levels c.column-in-parts.new.self.levels c.parts.list.items c.column-in-parts.result c.in_ok-list-2.list (left_of c.parts.self) (left_of c.column-in-parts.new.self)
           refl c.column-in-parts.ensures.levels room (sym c.sees.ensures ∙ c.parts-test.true) c.column-in-parts.ensures.value c.in_ok-list-2.ensures
           ∙ c.parts.invariant.2,
       omega (arith, push_parsed_len c.parts.list.items c.column-in-parts.result c.in_ok-list-2.list c.in_ok-list-2.ensures, room),
     )
 
 pub returns-clause-value : goal.returns-clause-value
-unfolding closed ended column name
+unfolding followed_by list_to_end column name
 returns-clause-value c =
-    begun_in (λ x. x) (Some 31) (closed column k.Comma) (closed column k.Comma) c.args.self.now.levels c.column.new.self.levels (left_of c.args.self.now) (left_of c.column.new.self) c.new.result.items c.column.result c.in_ok-list.list
+    begun_in (λ x. x) (Some 31) (followed_by column k.Comma) (followed_by column k.Comma) c.args.self.now.levels c.column.new.self.levels (left_of c.args.self.now) (left_of c.column.new.self) c.new.result.items c.column.result c.in_ok-list.list
     c.column.ensures.levels c.column.ensures.value c.new.ensures.items c.in_ok-list.ensures
     ∙ sym c.parts.invariant.2
-    ∙ stops (λ x. x) (closed column k.Comma) refl (Some (32 - length c.parts.list.items)) c.parts.self.levels c.parts.list.items (left_of c.parts.self) (sym c.sees.ensures ∙ c.parts-test.false) ∙ ap (λ z. (Ok z, left_of c.parts.self)) (map-id c.parts.list.items)
+    ∙ stops (λ x. x) (followed_by column k.Comma) refl (Some (32 - length c.parts.list.items)) c.parts.self.levels c.parts.list.items (left_of c.parts.self) (sym c.sees.ensures ∙ c.parts-test.false) ∙ ap (λ z. (Ok z, left_of c.parts.self)) (map-id c.parts.list.items)
 
 pub returns-then-len-eq-MAX_COLUMNS-clause-value : goal.returns-then-len-eq-MAX_COLUMNS-clause-value
-unfolding closed ended column name
+unfolding followed_by list_to_end column name
 returns-then-len-eq-MAX_COLUMNS-clause-value c =
     let all : length c.parts.list.items ≡ 32 = omega (arith, c.parts.list.ok.0) in
-    begun_in (λ x. x) (Some 31) (closed column k.Comma) (closed column k.Comma) c.args.self.now.levels c.column.new.self.levels (left_of c.args.self.now) (left_of c.column.new.self) c.new.result.items c.column.result c.in_ok-list.list
+    begun_in (λ x. x) (Some 31) (followed_by column k.Comma) (followed_by column k.Comma) c.args.self.now.levels c.column.new.self.levels (left_of c.args.self.now) (left_of c.column.new.self) c.new.result.items c.column.result c.in_ok-list.list
     c.column.ensures.levels c.column.ensures.value c.new.ensures.items c.in_ok-list.ensures
     ∙ sym c.parts.invariant.2
-    ∙ overfull (λ x. x) (closed column k.Comma) refl (Some (32 - length c.parts.list.items)) c.parts.self.levels c.parts.list.items (left_of c.parts.self) (sym c.sees.ensures ∙ c.parts-test.true) (no_room 32 (length c.parts.list.items) all)
+    ∙ overfull (λ x. x) (followed_by column k.Comma) refl (Some (32 - length c.parts.list.items)) c.parts.self.levels c.parts.list.items (left_of c.parts.self) (sym c.sees.ensures ∙ c.parts-test.true) (no_room 32 (length c.parts.list.items) all)

@@ -1,7 +1,7 @@
 use Rattle.std.proofs.Common.{◌≡◌, ◌-◌, ◌≤◌, length, map, Some}
 use Rattle.sql_tokens.specs.declared.kinds.TokenKind.TheVariants as k
 use Rattle.sql_text.specs.Parsing.{left_of}
-use Rattle.sql_text.specs.Rules.{closed}
+use Rattle.sql_text.specs.Rules.{followed_by}
 use Rattle.sql_text.specs.Commands.{column}
 use Rattle.sql_text.proofs.Rounds.{with_front}
 use Rattle.sql_text.proofs.Repeats.{many_of}
@@ -10,8 +10,8 @@ use Rattle.sql_text.proofs.parser.Parser.columns.Given as goal
 abbrev pub invariant-parts : goal.invariant-parts
 invariant-parts l =
     (l.self.list.now ≡ l.initial.self.list.now) × (l.self.levels ≡ l.initial.self.levels)
-    × (with_front (map (λ x. x) l.list.items) (many_of (Some (32 - length l.list.items)) (closed column k.Comma) l.self.levels (left_of l.self))
-    ≡ with_front (map (λ x. x) l.initial.list.items) (many_of (Some 31) (closed column k.Comma) l.initial.self.levels (left_of l.initial.self)))
+    × (with_front (map (λ x. x) l.list.items) (many_of (Some (32 - length l.list.items)) (followed_by column k.Comma) l.self.levels (left_of l.self))
+    ≡ with_front (map (λ x. x) l.initial.list.items) (many_of (Some 31) (followed_by column k.Comma) l.initial.self.levels (left_of l.initial.self)))
     × (length l.list.items ≤ 32)
 
 abbrev pub decreases-parts : goal.decreases-parts

@@ -5,20 +5,20 @@ use Rattle.sql_text.specs.Parsing.{left_of}
 use Rattle.std.specs.Prelude.{Vec}
 use Rattle.std.specs.Global.{Global}
 use Rattle.vo_spec.specs.declared.queries.Ref.{Ref}
-use Rattle.sql_text.specs.Rules.{before, listed}
+use Rattle.sql_text.specs.Rules.{before, list_of}
 use Rattle.sql_text.specs.Queries.{reference}
 use Rattle.sql_text.proofs.Repeats.{turn_in, turn_stops, begun_in, begun_stops, push_parsed_len, stops, overfull, fewer_in, no_room}
 use Rattle.sql_text.proofs.parser.Parser.references.Goals as goal
 
 pub returns-in_err-list-clause-value : goal.returns-in_err-list-clause-value
-unfolding before listed
+unfolding before list_of
 returns-in_err-list-clause-value c =
     let f = begun_stops (λ x. x) (Some 63) (reference) (before k.Comma reference) (λ (v : Vec Ref Global). v.items) c.args.self.now.levels (left_of c.args.self.now) (left_of c.reference.new.self) c.new.result.items c.reference.result c.in_err-list.field-0.0 _ (λ z. z) (λ s. refl) refl
     c.reference.ensures.value c.in_err-list.ensures in
     search rules
 
 pub returns-in_err-list-2-clause-value : goal.returns-in_err-list-2-clause-value
-unfolding before listed
+unfolding before list_of
 returns-in_err-list-2-clause-value c =
     let room : length c.parts.list.items < 64 = omega (arith, c.parts.list.ok.0) in
     let f = turn_stops (λ x. x) (before k.Comma reference) refl (λ (v : Vec Ref Global). v.items) 64 c.parts.self.levels c.parts.self.levels c.parts.list.items c.next_reference.result (left_of c.parts.self) (left_of c.next_reference.new.self) c.in_err-list-2.field-0.0 _
@@ -30,11 +30,11 @@ returns-in_err-list-2-clause-value c =
     search rules
 
 pub parts-smaller : goal.parts-smaller
-unfolding before listed
+unfolding before list_of
 parts-smaller c = fewer_in (λ x. x) (before k.Comma reference) refl c.parts.self.levels c.parts.list.items c.next_reference.result c.in_ok-list-2.list (left_of c.parts.self) (left_of c.next_reference.new.self) c.next_reference.ensures.value c.in_ok-list-2.ensures
 
 pub parts-preserved : goal.parts-preserved
-unfolding before listed
+unfolding before list_of
 parts-preserved c =
     let room : length c.parts.list.items < 64 = omega (arith, c.parts.list.ok.0) in (
       c.next_reference.ensures.list ∙ c.parts.invariant.0,
@@ -46,7 +46,7 @@ parts-preserved c =
     )
 
 pub returns-clause-value : goal.returns-clause-value
-unfolding before listed
+unfolding before list_of
 returns-clause-value c =
     begun_in (λ x. x) (Some 63) (reference) (before k.Comma reference) c.args.self.now.levels c.reference.new.self.levels (left_of c.args.self.now) (left_of c.reference.new.self) c.new.result.items c.reference.result c.in_ok-list.list
     c.reference.ensures.levels c.reference.ensures.value c.new.ensures.items c.in_ok-list.ensures
@@ -54,7 +54,7 @@ returns-clause-value c =
     ∙ stops (λ x. x) (before k.Comma reference) refl (Some (64 - length c.parts.list.items)) c.parts.self.levels c.parts.list.items (left_of c.parts.self) (sym c.sees.ensures ∙ c.parts-test.false) ∙ ap (λ z. (Ok z, left_of c.parts.self)) (map-id c.parts.list.items)
 
 pub returns-then-len-eq-MAX_ITEMS-clause-value : goal.returns-then-len-eq-MAX_ITEMS-clause-value
-unfolding before listed
+unfolding before list_of
 returns-then-len-eq-MAX_ITEMS-clause-value c =
     let all : length c.parts.list.items ≡ 64 = omega (arith, c.parts.list.ok.0) in
     begun_in (λ x. x) (Some 63) (reference) (before k.Comma reference) c.args.self.now.levels c.reference.new.self.levels (left_of c.args.self.now) (left_of c.reference.new.self) c.new.result.items c.reference.result c.in_ok-list.list

@@ -147,5 +147,5 @@ pub record IsCanonical (needs : List Need) (p : RowTree) : Type 0 where
   pub minimal : has_surplus needs p ≡ false
 
 -- the proof for these needs that a tree has
-abbrev pub pruned : List Need → RowTree → RowTree
-pruned needs t = pruned_by (walk_for needs) row_family (at_root needs) t
+abbrev pub prune_tree : List Need → RowTree → RowTree
+prune_tree needs t = pruned_by (walk_for needs) row_family (at_root needs) t

@@ -7,7 +7,7 @@ use crate::frame_kind::FrameKind;
 use std::alloc::{AllocError, Global};
 
 /// A state that requests change, each as a whole.
-pub trait Answers {
+pub trait Responder {
     ghost State: { Type 0 };
 
     ghost state: { Self → State };
