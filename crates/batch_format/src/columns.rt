@@ -47,7 +47,8 @@ fn put_column(out: &mut Vec<u8>, column: &Column) -> Result<(), AllocError>
 #[tactic(auto, using(crate::proofs::Fronts::stays_itself, crate::proofs::Fronts::stays_before, crate::proofs::Fronts::stays_behind))]
 pub fn put_columns(out: &mut Vec<u8>, columns: &[Column]) -> Result<(), AllocError>
     requires { FitCounted FitsColumn columns.now }
-    ensures ok { OnOk result (out.new.items ≡ out.old.items ++ list_bytes column_bytes columns.now) }
+    ensures ok { OnOk result
+        (out.new.items ≡ out.old.items ++ list_bytes column_bytes columns.now) }
     ensures err { OnErr result (StaysInFront out.old.items out.new.items) }
 {
     out.push(columns.len() as u8)?;

@@ -13,7 +13,8 @@ abbrev pub node_of : {E M : Type 0} → Children E M → Part E M
 node_of c = inner c.separators c.parts
 
 module _ {E M : Type 0} (family : Family E M) where
-  -- with this in the place of the children with the numbers from i to j, and of the separators between them
+  -- with this in the place of the children with the numbers from i to j, and of the separators
+  -- between them
   abbrev pub splice : ℕ → ℕ → List (List ℕ) → List (Kid E M) → Insertion E M → Children E M
   splice i j ss ks insertion = record {
     separators = take i ss ++ keys_of insertion ++ drop j ss;
@@ -71,7 +72,8 @@ module _ {E M : Type 0} where
   CanDivide i (leaf es) = i < length es
   CanDivide i (inner ss ps) = (2 ≤ i) × (i + 2 ≤ count ps)
 
--- those of these separators and children, cut after so many; the last of the first separators goes between
+-- those of these separators and children, cut after so many; the last of the first separators goes
+-- between
 pub record AreDivided {K N : Type 0} (at : ℕ) (division : Division K N) (ss : List K)
     (ns : List N) : Type 0 where
   pub first_keys : take at ss ≡ division.before.items ++ division.separator ∷ []

@@ -12,8 +12,8 @@ abbrev pub sibling_of : ℕ → ℕ
 sibling_of zero = 1
 sibling_of (suc i) = i
 
--- Of so many children, when an underfull one and its sibling, of this size, have become one, or two where
--- the sibling has more than it needs. Where the two aren't of one kind, something is missing.
+-- Of so many children, when an underfull one and its sibling, of this size, have become one, or two
+-- where the sibling has more than it needs. Where the two aren't of one kind, something is missing.
 abbrev pub count_of_merged : ℕ → Option ℕ → Result ℕ UpdateFault
 count_of_merged children None = Err Missing
 count_of_merged children (Some size) = Ok (if nat_lt min_fill size then children else children - 1)

@@ -1,5 +1,5 @@
-//! The contents of nodes: how many, a node's once more, and a node made of what has come in its children's
-//! places.
+//! The contents of nodes: how many, a node's once more, and a node made of what has come in its
+//! children's places.
 ghost use Rattle.std.specs.Prelude.{◌≡◌, ◌≤◌, ◌<◌, length, map, IfOk};
 ghost use Rattle.vo_spec.specs.Inserts.{Insertion};
 ghost use Rattle.btree.specs.Nodes.{contents_of, AreSiblings};
@@ -21,8 +21,8 @@ pub fn fill_of<N: TreeNode>(contents: &Contents<N::Key, N::Entry, N>) -> usize
     }
 }
 
-/// The contents of an inner node with these in the place of its children with the numbers from `from` to
-/// `to`.
+/// The contents of an inner node with these in the place of its children with the numbers from
+/// `from` to `to`.
 pub fn put_siblings<N: TreeNode>(
     alloc: Global,
     separators: &[N::Key],

@@ -31,8 +31,8 @@ pub fn position_of<T: KeyedItem>(items: &[T], key: &[u8]) -> usize
     items.len()
 }
 
-/// How many items stand before the first of a greater key. So many separators stand before the child to
-/// which a search for the key goes.
+/// How many items stand before the first of a greater key. So many separators stand before the
+/// child to which a search for the key goes.
 pub fn position_above<T: KeyedItem>(items: &[T], key: &[u8]) -> usize
     ensures place { result ≡ position_or_len (λ item. is_less key.now (T.key item)) items.now }
     ensures within { result ≤ length items.now }

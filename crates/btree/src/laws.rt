@@ -22,8 +22,8 @@ pub trait PruningFamily {
     ghost same_annotation: { KeepsAnnotations family EntryPrunes };
 }
 
-/// Where a part prunes a tree, an insertion into the part is Missing, or it has the fault of the insertion
-/// into the tree, or it gives what prunes the tree that comes of that.
+/// Where a part prunes a tree, an insertion into the part is Missing, or it has the fault of the
+/// insertion into the tree, or it gives what prunes the tree that comes of that.
 pub fn insertions_agree<F: PruningFamily>()
     ensures { (e f : F.Plain) (p t : Part F.Plain F.Annotation) → F.EntryPrunes e f
         → PrunesBy F.family F.EntryPrunes p t
@@ -38,8 +38,8 @@ pub fn removals_agree<F: PruningFamily>()
         (removed_by F.family key t) }
 {}
 
-/// And with a replacement, where what comes in the place of an entry agrees with what comes in the place of
-/// one that it prunes.
+/// And with a replacement, where what comes in the place of an entry agrees with what comes in the
+/// place of one that it prunes.
 pub fn replacements_agree<F: PruningFamily>()
     ensures { (edit other : F.Plain → Result F.Plain UpdateFault) (key : List ℕ)
         (p t : Part F.Plain F.Annotation)

@@ -1,5 +1,5 @@
-//! B-trees of any family: insertion, removal with its rebalancing, and replacement, written once over a
-//! trait for a node.
+//! B-trees of any family: insertion, removal with its rebalancing, and replacement, written once
+//! over a trait for a node.
 #![tactic(auto)]
 
 mod contents;

@@ -30,8 +30,8 @@ pub enum Contents<K, E, N> {
     },
 }
 
-/// A root or a child of a node: a tree, and what its parent holds beside it. A kind of tree says how its
-/// nodes are opened and made, and the work does the rest.
+/// A root or a child of a node: a tree, and what its parent holds beside it. A kind of tree says
+/// how its nodes are opened and made, and the work does the rest.
 pub trait TreeNode: TryClone + Sized + Drop {
     /// The tree alone.
     type Tree;

@@ -165,7 +165,8 @@ fn rebalance_with_right<N: TreeNode>(
     Ok(divide_where_more::<N>(alloc, all, fill, at)?)
 }
 
-/// The two that were merged, divided again before this place where the sibling had more than it needs.
+/// The two that were merged, divided again before this place where the sibling had more than it
+/// needs.
 fn divide_where_more<N: TreeNode>(
     alloc: Global,
     all: Contents<N::Key, N::Entry, N>,

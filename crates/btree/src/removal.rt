@@ -14,8 +14,8 @@ use crate::rebalance::rebalance;
 use std::alloc::{AllocError, Global};
 use vo_spec::UpdateFault;
 
-/// The tree without the first entry of this key in the leaf to which the search for it goes. A node that
-/// is left underfull borrows from its sibling or is merged with it.
+/// The tree without the first entry of this key in the leaf to which the search for it goes. A node
+/// that is left underfull borrows from its sibling or is merged with it.
 pub fn remove<N: TreeNode>(alloc: Global, tree: &N::Tree, key: &[u8]) -> Result<N, UpdateFault>
     requires { IsShaped (N.seen tree.now) }
     ensures { Answers (λ node t. (N.kid node).1 ≡ t) result

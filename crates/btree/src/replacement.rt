@@ -14,8 +14,8 @@ use crate::try_clone::try_clone_all;
 use std::alloc::Global;
 use vo_spec::UpdateFault;
 
-/// The tree with this in the place of the first entry of the key in the leaf to which the search for it
-/// goes.
+/// The tree with this in the place of the first entry of the key in the leaf to which the search
+/// for it goes.
 #[cycle(set)]
 pub fn set<N: TreeNode>(
     alloc: Global,

@@ -64,8 +64,8 @@ fn fill_of<N: TreeNode>(tree: &N::Tree) -> usize
     }
 }
 
-/// Whether a removal leaves the node underfull. One that has more than it needs loses one at most, so
-/// that nothing below it has to be looked at.
+/// Whether a removal leaves the node underfull. One that has more than it needs loses one at most,
+/// so that nothing below it has to be looked at.
 fn is_left_underfull<N: TreeNode>(tree: &N::Tree, key: &[u8]) -> bool
     ensures { result ≡ opens_sibling_by N.family key.now (N.seen tree.now) }
 {
@@ -78,8 +78,8 @@ fn is_left_underfull<N: TreeNode>(tree: &N::Tree, key: &[u8]) -> bool
     }
 }
 
-/// How many entries or children remain in a node when the entry of this key is removed from it or from
-/// below it, and each node below that is underfull then has been rebalanced with its sibling.
+/// How many entries or children remain in a node when the entry of this key is removed from it or
+/// from below it, and each node below that is underfull then has been rebalanced with its sibling.
 #[cycle(remaining)]
 pub fn remaining<N: TreeNode>(tree: &N::Tree, key: &[u8]) -> Result<usize, UpdateFault>
     ensures { result ≡ remaining_by N.family key.now (N.seen tree.now) }

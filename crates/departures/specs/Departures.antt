@@ -8,9 +8,10 @@ use Rattle.owner_roots.specs.declared.roots.Roots.{Roots}
 use Rattle.owner_roots.specs.Next.{NextOf, tables_after, tables_from}
 use Rattle.root_laws.specs.HonestRoots.{honest_roots}
 
--- An owner with the roots of these trees follows the batch, by the proofs that these bytes are; and the batch is
--- refused on these trees, or makes another catalog of them.
-pub record IsDeparture (stored : List Stored) (batch : List Command) (proofs : List ℕ) : Type 0 where
+-- An owner with the roots of these trees follows the batch, by the proofs that these bytes are; and
+-- the batch is refused on these trees, or makes another catalog of them.
+pub record IsDeparture (stored : List Stored) (batch : List Command) (proofs : List ℕ)
+    : Type 0 where
   pub version : ℕ
   pub after : Roots
   pub followed : NextOf (honest_roots version stored) batch proofs (Ok after)

@@ -23,7 +23,8 @@ AreHashedIn stored name p x y =
 -- So do the tree that the command takes and that of its table.
 abbrev pub AreHashedBy : Command → List RowTree → List Stored → OfStrings
 AreHashedBy c trees stored x y =
-    IsSomeAnd (slice_get (take (trees_taken c) trees) 0) (λ p. AreHashedIn stored (table_of c) p x y)
+    IsSomeAnd (slice_get (take (trees_taken c) trees) 0)
+    (λ p. AreHashedIn stored (table_of c) p x y)
 
 -- So it is with some command of these, on the trees after those before it.
 abbrev pub AreHashedInTurn : List Command → List RowTree → List Stored → OfStrings

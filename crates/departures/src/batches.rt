@@ -42,8 +42,9 @@ fn collision_of_commands(
     unreachable!()
 }
 
-/// The two byte strings of one digest that show how an owner with the roots of these tables was fooled: it
-/// followed the batch by these proofs to other roots than those of the tables after the batch.
+/// The two byte strings of one digest that show how an owner with the roots of these tables was
+/// fooled: it followed the batch by these proofs to other roots than those of the tables after the
+/// batch.
 pub fn collision_of_batch(
     alloc: Global,
     tables: &StoredTables,

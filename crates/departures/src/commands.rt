@@ -19,8 +19,8 @@ use stored_tables::{ApplyFault, StoredTables};
 use table_list::command_name;
 use vo_spec::{Collision, Command};
 
-/// Two byte strings of one digest, unless the tree that the command takes, if it takes one, prunes that of its
-/// table.
+/// Two byte strings of one digest, unless the tree that the command takes, if it takes one, prunes
+/// that of its table.
 pub(crate) fn compare_taken(
     alloc: Global,
     tables: &StoredTables,

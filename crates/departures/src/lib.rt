@@ -1,5 +1,5 @@
-//! Where an owner that holds roots alone was fooled: a tree of its proofs that is no part of the honest one, and
-//! the two byte strings of one digest that show it.
+//! Where an owner that holds roots alone was fooled: a tree of its proofs that is no part of the
+//! honest one, and the two byte strings of one digest that show it.
 #![tactic(auto)]
 
 mod batches;

@@ -11,7 +11,8 @@ use stored_tables::StoredTables;
 use tree_collide::{Agreement, agree};
 use vo_spec::Collision;
 
-/// Two byte strings of one digest, unless the tree prunes that of the table of this name, whose digest it has.
+/// Two byte strings of one digest, unless the tree prunes that of the table of this name, whose
+/// digest it has.
 pub fn compare_with_table(
     alloc: Global,
     tables: &StoredTables,

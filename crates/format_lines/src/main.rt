@@ -11,7 +11,8 @@
 //!   `ots_sign` of an identifier, a leaf and a seed, and `candidate` of an identifier, a leaf, a
 //!   message and a signature.
 //! - Keys: `make` of a height, a type, an identifier and a seed has the key that `copy`, `node`,
-//!   `sign`, `seal`, `start`, `step` and `replay` take; `key` reads a public key, `leaf` names the leaf of a signature, and
+//! `sign`, `seal`, `start`, `step` and `replay` take; `key` reads a public key, `leaf` names the
+//! leaf of a signature, and
 //!   `verify` judges it.
 //! - Rows: `value`, `attribute`, `cell`, `row`, `closed` and `whole` are digests; `hide` and
 //!   `hide_cells` hide the values but those of some columns.
@@ -19,9 +20,11 @@
 //!   proofs of so many.
 //! - Journals: `slots`, `entries` and `journal` read and write again, `seal` seals batches, `owned`
 //!   and `taken` read a journal under a public key, and `answer` is a store's reply to a query.
-//! - An owner that holds roots alone: `start` has its first entry, `next` the roots after a version, a
+//! - An owner that holds roots alone: `start` has its first entry, `next` the roots after a
+//! version, a
 //!   catalog, a batch and its proofs, `step` the entry behind a journal of a batch and its proofs,
-//!   `replay` the roots behind a journal, and `owned_entries` counts a journal's first entries that are
+//! `replay` the roots behind a journal, and `owned_entries` counts a journal's first entries that
+//! are
 //!   an owner's.
 #![tactic(auto)]
 

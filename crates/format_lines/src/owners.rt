@@ -94,8 +94,8 @@ fn root_fault_text(
     Ok(format!(in alloc; "(ProofRoot {index} {want} {got})")?)
 }
 
-/// What the owner of the key that was made last makes of a batch and its proofs behind a journal, and its roots
-/// once it has taken that step.
+/// What the owner of the key that was made last makes of a batch and its proofs behind a journal,
+/// and its roots once it has taken that step.
 pub fn step(alloc: Global, state: &State, strings: &[Vec<u8>]) -> Result<String, NoAnswer> {
     let [journal, batch, proofs] = strings else {
         return Err(NoAnswer::NoSuchLine);
@@ -144,7 +144,11 @@ fn step_text(
 }
 
 /// The roots of the owner of the key that was made last behind a journal.
-pub fn replay_entries(alloc: Global, state: &State, strings: &[Vec<u8>]) -> Result<String, NoAnswer> {
+pub fn replay_entries(
+    alloc: Global,
+    state: &State,
+    strings: &[Vec<u8>],
+) -> Result<String, NoAnswer> {
     let [journal] = strings else {
         return Err(NoAnswer::NoSuchLine);
     };

@@ -1,4 +1,5 @@
--- What is spelled is read, in front of whatever it can't go on with: to its value, or to a fault of levels or parts.
+-- What is spelled is read, in front of whatever it can't go on with: to its value, or to a fault of
+-- levels or parts.
 use Rattle.std.proofs.Common.{◌≡◌, ℕ, zero, suc, ◌≤◌, ◌<◌, Bool, true, false, List, [], ◌∷◌, ◌++◌, length, Option, Some, None, Ok, Err, refl, ◌⊎◌, inl, inr, ap, sym, ◌∙◌, subst, arith, append_assoc}
 use Rattle.std.specs.Prelude.{not, ◌&&◌}
 use Rattle.std.proofs.lemmas.List.{length-append}
@@ -49,7 +50,8 @@ module _ (l : Language) (w : IsLanguage l) (g : Grammar l) (N : Nests l) (R : Re
   taken_is : (k : l.Kind) (t : l.Token) (rest : List l.Token) → l.kind t ≡ k → take_token l k (t ∷ rest) ≡ (Ok t, rest)
   taken_is k t rest e = let s : l.same (l.kind t) k ≡ true = subst (λ a. l.same (l.kind t) a ≡ true) e (w.same_self (l.kind t)) in rw s refl
 
-  -- the first can't go on with what the second begins with, nor with what follows where that is empty
+  -- the first can't go on with what the second begins with, nor with what follows where that is
+  -- empty
   not_after_first : {A B : Type 0} (p : Rule l A) (q : Rule l B) (y rest : List l.Token) → are_apart l (goes_on g p) (first q) ≡ true → Starts q y
       → begins l (goes_on g (both p q)) rest ≡ false → begins l (goes_on g p) (y ++ rest) ≡ false
   not_after_first p q [] rest apart s e = begins_not_when l w (is_nullable q) (goes_on g p) rest s (begins_not_right l w (goes_on g q) _ rest e)

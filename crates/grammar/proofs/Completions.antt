@@ -73,7 +73,8 @@ module _ (l : Language) (w : IsLanguage l) (N : Nests l) (counted : Bool) where
   pub begun_part : {A : Type 0} (limit : Option ℕ) (p : Rule l A) (ts : List l.Token) → Within counted limit 1 → Begun N counted p ts → Begun N counted (many limit p) ts
   begun_part limit p ts h (more, v, s) = (more, v ∷ [], (h, (ts ++ more, [], sym (append-nil (ts ++ more)), s, refl)))
 
--- a token that a rule may begin with begins a text, where each nonterminal has a text and limits don't count
+-- a token that a rule may begin with begins a text, where each nonterminal has a text and limits
+-- don't count
 module _ (l : Language) (w : IsLanguage l) (N : Nests l) (has_some : (n : l.Nonterminal) → (ts : List l.Token) × (v : l.Tree) × N n ts v) where
   begun_one : (k : l.Kind) (t : l.Token) → l.IsToken t → l.kind t ≡ k → Begun {l = l} N false (token k) (t ∷ [])
   begun_one k t real e = ([], t, (real, e, refl))

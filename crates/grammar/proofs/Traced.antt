@@ -1,4 +1,5 @@
--- What reading does with any tokens: what it took, what it found there, and that it looked no further than at the next token.
+-- What reading does with any tokens: what it took, what it found there, and that it looked no
+-- further than at the next token.
 use Rattle.std.proofs.Common.{◌≡◌, ℕ, zero, suc, ◌≤◌, ◌<◌, Bool, true, false, List, [], ◌∷◌, ◌++◌, length, Option, Some, None, Result, Ok, Err, refl, ◌⊎◌, inl, inr, ap, sym, ◌∙◌, subst, arith, append_assoc}
 use Rattle.std.specs.Prelude.{not, ◌&&◌}
 use Rattle.std.specs.List.{AllByRecursion}
@@ -40,7 +41,8 @@ abbrev pub Opens : {l : Language} {A : Type 0} → Nests l → Bool → Rule l A
 Opens N counted p x None = ⊥
 Opens N counted p x (Some t) = Begun N counted p (x ++ t ∷ [])
 
--- N nests with the levels that there are, D with one more, and M with one more and without limits of parts
+-- N nests with the levels that there are, D with one more, and M with one more and without limits
+-- of parts
 module _ (l : Language) (w : IsLanguage l) (g : Grammar l) (R : Reader l) (N D M : Nests l) where
   abbrev pub Finds : {A : Type 0} → Rule l A → List l.Token → Result A ParseFault → Option l.Token → Type 0
   Finds p x (Ok v) next = Spells N true p x v

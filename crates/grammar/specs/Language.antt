@@ -14,7 +14,8 @@ pub record Language : Type 1 where
   pub every : (Nonterminal → Bool) → Bool
   pub Tree : Type 0
 
--- the test tells kinds apart, some text has a token of each kind, and `every` tests all nonterminals
+-- the test tells kinds apart, some text has a token of each kind, and `every` tests all
+-- nonterminals
 pub record IsLanguage (l : Language) : Type 0 where
   pub same_true : (a b : l.Kind) → l.same a b ≡ true → a ≡ b
   pub same_self : (a : l.Kind) → l.same a a ≡ true

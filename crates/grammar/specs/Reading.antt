@@ -1,4 +1,5 @@
--- How a rule is read: from the left, one token ahead, to its value or the first fault, with the tokens that are left.
+-- How a rule is read: from the left, one token ahead, to its value or the first fault, with the
+-- tokens that are left.
 use Rattle.std.specs.Prelude.{ℕ, zero, suc, Bool, true, false, if◌then◌else◌, List, [], ◌∷◌, length, Option, Some, None, Result, Ok, Err}
 use Rattle.grammar.specs.Language.{Language}
 use Rattle.grammar.specs.Rule.{Rule, Grammar, nothing, token, both, either, many, means, inside}
@@ -37,7 +38,8 @@ one_less None = None
 one_less (Some zero) = Some zero
 one_less (Some (suc n)) = Some n
 
--- rounds of `next` while `go` holds, at most as many as `fuel`, which the number of tokens is enough for
+-- rounds of `next` while `go` holds, at most as many as `fuel`, which the number of tokens is
+-- enough for
 abbrev pub rounds : {T A : Type 0} → (List T → Bool) → (List T → Found T A) → Option ℕ → ℕ → List T
     → Found T (List A)
 rounds go next limit zero ts = (Ok [], ts)

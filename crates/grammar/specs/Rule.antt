@@ -18,7 +18,8 @@ pub data Rule (l : Language) : Type 0 → Type 1 where
   -- a token of this kind, and what may stand in itself, one level deeper
   inside : l.Kind → l.Nonterminal → Rule l l.Tree
 
--- the rule of each nonterminal, and the kinds of the tokens with which one that has ended could go on
+-- the rule of each nonterminal, and the kinds of the tokens with which one that has ended could go
+-- on
 pub record Grammar (l : Language) : Type 1 where
   pub rule : l.Nonterminal → Rule l l.Tree
   pub after : l.Nonterminal → List l.Kind

@@ -39,7 +39,8 @@ abbrev pub NestsIn : {l : Language} → Grammar l → Bool → ℕ → Nests l
 NestsIn g counted zero n ts v = ⊥
 NestsIn g counted (suc levels) n ts v = Spells (NestsIn g counted levels) counted (g.rule n) ts v
 
--- a text of the rule with at most so many levels inside it; the limits of parts hold where `counted`
+-- a text of the rule with at most so many levels inside it; the limits of parts hold where
+-- `counted`
 abbrev pub IsText : {l : Language} {A : Type 0} → Grammar l → Bool → ℕ → Rule l A → List l.Token
     → A → Type 0
 IsText g counted levels p ts v = Spells (NestsIn g counted levels) counted p ts v
@@ -70,7 +71,8 @@ StopsAt g levels p front TooMany (t ∷ _) =
     Begins g false (suc levels) p (front ++ t ∷ [])
     × ((n : ℕ) → Begins g true n p (front ++ t ∷ []) → ⊥)
 
--- what stands before the fault begins a text, and the token at the fault, the first of `rest`, doesn't go on with it
+-- what stands before the fault begins a text, and the token at the fault, the first of `rest`,
+-- doesn't go on with it
 abbrev pub FaultsAt : {l : Language} {A : Type 0} → Grammar l → ℕ → Rule l A → List l.Token
     → ParseFault → List l.Token → Type 0
 FaultsAt {l} g levels p ts s rest =

@@ -1,8 +1,9 @@
-//! A small language of grammar rules, and the theorem that reading one token ahead is exact for them.
+//! A small language of grammar rules, and the theorem that reading one token ahead is exact for
+//! them.
 //!
-//! A rule is a term (`specs/Rule`). It has two meanings: the texts that it spells, with their values
-//! (`specs/Text`), and how it is read from the left (`specs/Reading`). For a rule that passes the tests of
-//! `specs/Checks` the two agree, with the place and the cause of each fault.
+//! A rule is a term (`specs/Rule`). It has two meanings: the texts that it spells, with their
+//! values (`specs/Text`), and how it is read from the left (`specs/Reading`). For a rule that
+//! passes the tests of `specs/Checks` the two agree, with the place and the cause of each fault.
 #![tactic(auto)]
 
 ghost use Rattle.std.specs.Prelude.{◌≡◌, ℕ, List, [], true, Ok};
@@ -39,8 +40,8 @@ pub trait Predictive {
     ghost good: { is_good grammar start ≡ true };
 }
 
-/// Reading is exact: of any tokens it gives the value that they spell, or the one fault, and it refuses nothing that is
-/// spelled.
+/// Reading is exact: of any tokens it gives the value that they spell, or the one fault, and it
+/// refuses nothing that is spelled.
 pub fn reads_exactly<G: Predictive>()
     ensures judged { (levels : ℕ) (ts : List G.language.Token)
         → AllByRecursion G.language.IsToken ts

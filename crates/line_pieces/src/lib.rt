@@ -1,7 +1,7 @@
 //! What the programs of lines share.
 //!
-//! Calls by their words, byte strings as lines spell them, why a line has no answer, and the form in
-//! which answers are written.
+//! Calls by their words, byte strings as lines spell them, why a line has no answer, and the form
+//! in which answers are written.
 #![tactic(auto)]
 
 mod answers;

@@ -75,9 +75,9 @@ may_come _ _ = false
 abbrev pub frame_bytes : FrameKind → List ℕ → List ℕ
 frame_bytes kind body = u32_bytes (length body + 1) ++ code_of kind ∷ body
 
--- What comes first on a connection: a whole frame; nothing, since it ends; the beginning of a frame,
--- of so many bytes; or what can't be the beginning of one that is awaited, and after how many bytes
--- that shows.
+-- What comes first on a connection: a whole frame; nothing, since it ends; the beginning of a
+-- frame, of so many bytes; or what can't be the beginning of one that is awaited, and after how
+-- many bytes that shows.
 pub data Coming : Type 0 where
   Whole : (kind : FrameKind) (body : List ℕ) → Coming
   Ended : Coming

@@ -50,7 +50,8 @@ unfoldable pub serving_script : {S : Type 0} → Reply S → Next S → ℕ → 
 serving_script reply next zero state coming = record { events = []; value = end.Turns }
 serving_script reply next (suc turns) state coming =
     with_first reply next state (first_frame Request coming)
-    (λ kind body. serving_script reply next turns (next state kind body) (drop (5 + length body) coming))
+    (λ kind body. serving_script reply next turns (next state kind body)
+    (drop (5 + length body) coming))
 
 -- the last of some states, or the one before them
 abbrev pub last_state : {S : Type 0} → S → List S → S

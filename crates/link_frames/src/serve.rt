@@ -7,23 +7,24 @@ ghost use Rattle.link_frames.specs.Frames.{frame_bytes, first_frame};
 ghost use Rattle.link_frames.specs.Reading.{StaysWhereItStands};
 ghost use Rattle.link_frames.specs.Serving.{serving_script, max_turns, ServesKnown, ServesOne, AnswersOne, PutsAnswer};
 
-use crate::responder::Responder;
 use crate::awaits::Awaits;
 use crate::end::End;
 use crate::frame::Frame;
 use crate::put::put_frame;
 use crate::read::read_frame;
+use crate::responder::Responder;
 use outside::{Link, PutFault};
 use std::alloc::Global;
 
 /// How many requests of one connection are answered at most.
 pub const MAX_TURNS: u32 = 1_048_576;
 
-/// Answers the requests that come, one after the other, until the link ends or a frame comes that is
-/// no request.
+/// Answers the requests that come, one after the other, until the link ends or a frame comes that
+/// is no request.
 pub fn serve_link<A: Responder, L: Link>(alloc: Global, store: &mut A, link: &mut L) -> End
     ensures known { (before : ConnectionModel) → L.wire link.old ≡ Some before
-        → ServesKnown (serving_script A.reply A.next max_turns (A.state store.old) before.coming) result
+        → ServesKnown
+        (serving_script A.reply A.next max_turns (A.state store.old) before.coming) result
         (A.state store.old) (A.state store.new) before (L.wire link.new) }
 
     ensures counts { L.faults link.old ≤ L.faults link.new }
@@ -40,7 +41,11 @@ pub fn serve_link<A: Responder, L: Link>(alloc: Global, store: &mut A, link: &mu
 }
 
 /// Answers the next request, or tells how the serving ends.
-fn serve_request<A: Responder, L: Link>(alloc: Global, store: &mut A, link: &mut L) -> Result<(), End>
+fn serve_request<A: Responder, L: Link>(
+    alloc: Global,
+    store: &mut A,
+    link: &mut L,
+) -> Result<(), End>
     ensures known { (before : ConnectionModel) → L.wire link.old ≡ Some before
         → ServesOne A.reply A.next (first_frame Request before.coming) result (A.state store.old)
         (A.state store.new) before (L.wire link.new) }

@@ -16,7 +16,8 @@ fn is_form(ots: OtsType, signature: &[u8]) -> bool
     signature.len() == ots.signature_len() && u32_at(signature, 0) == ots.code()
 }
 
-// The end of chain `i` that the signature's value of it leads to, where these are the digits that are signed.
+// The end of chain `i` that the signature's value of it leads to, where these are the digits that
+// are signed.
 fn candidate_end(
     id: &[u8; 16],
     q: u32,
@@ -34,8 +35,8 @@ fn candidate_end(
     chain(id, q, i, digit, (1 << ots.width()) - 1, &value)
 }
 
-/// The public key that a signature of the message leads to (RFC 8554, algorithm 4b); None exactly where the signature's
-/// length or typecode isn't the set's.
+/// The public key that a signature of the message leads to (RFC 8554, algorithm 4b); None exactly
+/// where the signature's length or typecode isn't the set's.
 pub fn candidate(
     id: &[u8; 16],
     q: u32,

@@ -10,7 +10,8 @@ use vo_spec::{Digest, OtsType, u16_bytes, u32_bytes};
 // What the text of a message begins with, after its leaf's name (RFC 8554, section 4.5).
 const D_MESG: u16 = 0x8181;
 
-/// Digit `i` of `bytes`, where a digit has `w` bits, which are 1, 2, 4 or 8 (RFC 8554, section 3.1.3).
+/// Digit `i` of `bytes`, where a digit has `w` bits, which are 1, 2, 4 or 8 (RFC 8554, section
+/// 3.1.3).
 pub fn coef(bytes: &[u8], i: usize, w: u32) -> u32
     requires width { IsWidth w }
     requires inside { i * w < 8 * length bytes.now }
@@ -48,7 +49,8 @@ fn message_digest(id: &[u8; 16], q: u32, random: &Digest, message: &[u8]) -> Dig
     hasher.end()
 }
 
-/// The bytes whose digits are signed for a message: its digest under the leaf and the randomizer, and the checksum.
+/// The bytes whose digits are signed for a message: its digest under the leaf and the randomizer,
+/// and the checksum.
 pub(crate) fn digits_of(
     id: &[u8; 16],
     q: u32,

@@ -44,8 +44,8 @@ fn put_front(mut bytes: Vec<u8>, ots: OtsType, random: &Digest) -> Result<Vec<u8
     Ok(bytes)
 }
 
-/// The bytes with the signature of the message by a leaf behind them. It takes no memory where they have room for the
-/// signature.
+/// The bytes with the signature of the message by a leaf behind them. It takes no memory where they
+/// have room for the signature.
 pub fn sign_onto(
     bytes: Vec<u8>,
     id: &[u8; 16],
@@ -66,7 +66,8 @@ pub fn sign_onto(
     Ok(signed)
 }
 
-/// The signature of the message by a leaf (RFC 8554, section 4.5), a function of leaf, seed and message.
+/// The signature of the message by a leaf (RFC 8554, section 4.5), a function of leaf, seed and
+/// message.
 pub fn sign_ots(
     alloc: Global,
     id: &[u8; 16],

@@ -5,7 +5,8 @@ ghost use Rattle.vo_spec.specs.Lms.{leaf_node, inner_node, parent};
 use tagged_hash::Hasher;
 use vo_spec::{Digest, u16_bytes, u32_bytes};
 
-// What the texts of a leaf and of an inner node begin with, after the node's name (RFC 8554, section 5.3).
+// What the texts of a leaf and of an inner node begin with, after the node's name (RFC 8554,
+// section 5.3).
 const D_LEAF: u16 = 0x8282;
 
 const D_INTR: u16 = 0x8383;

@@ -127,8 +127,8 @@ impl PublicKey {
         signature_len(self.lms, self.ots)
     }
 
-    /// The leaf that a signature says it is by; None where it has fewer than 4 bytes. Nothing is said of whether the
-    /// signature is valid.
+    /// The leaf that a signature says it is by; None where it has fewer than 4 bytes. Nothing is
+    /// said of whether the signature is valid.
     #[tactic(auto, unfolding(vo_spec::specs::Lms::leaf_of))]
     pub fn leaf_of(&self, signature: &[u8]) -> Option<u64>
         ensures { result ≡ leaf_of self.now signature.now }

@@ -39,7 +39,8 @@ impl Model for SecretKey {
     ghost invariant = { λ key. IsKept key.id key.seed key.ots key.lms key.nodes.items };
 }
 
-// Node `r`, from the nodes above it in number: a leaf from its one-time key, any other from its children.
+// Node `r`, from the nodes above it in number: a leaf from its one-time key, any other from its
+// children.
 fn next_node(
     id: &[u8; 16],
     seed: &[u8; 32],
@@ -123,7 +124,8 @@ impl SecretKey {
         })
     }
 
-    /// Node `r` of the tree: the root is node 1, and the children of node `r` are `2r` and `2r + 1`.
+    /// Node `r` of the tree: the root is node 1, and the children of node `r` are `2r` and `2r +
+    /// 1`.
     pub fn node(&self, r: u32) -> Digest
         requires first { 0 < r }
         requires last { r < 2 * leaves_of self.now.lms }

@@ -66,8 +66,8 @@ impl SecretKey {
         self.put_path(signature, q)
     }
 
-    /// The signature of the message by leaf `q` (RFC 8554, section 5.4), a function of key, leaf and message. Nothing
-    /// here keeps a leaf from signing two messages.
+    /// The signature of the message by leaf `q` (RFC 8554, section 5.4), a function of key, leaf
+    /// and message. Nothing here keeps a leaf from signing two messages.
     pub fn sign(&self, alloc: Global, q: u64, message: &[u8]) -> Result<Vec<u8>, SignFault>
         ensures leaf { (result ≡ Err SignFault.Leaf) ↔ (leaves_of self.now.lms ≤ q) }
         ensures bytes { IfOk result

@@ -64,7 +64,8 @@ fn ots_part(ots: OtsType, signature: &[u8]) -> &[u8]
     &signature[4..4 + ots.signature_len()]
 }
 
-// The root that the signature leads to (RFC 8554, algorithm 6a), if the one-time signature has its form.
+// The root that the signature leads to (RFC 8554, algorithm 6a), if the one-time signature has its
+// form.
 fn candidate_root(
     lms: LmsType,
     ots: OtsType,

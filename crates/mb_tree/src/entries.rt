@@ -52,8 +52,8 @@ impl HashedCells {
     }
 }
 
-/// An entry of a whole tree, which contracts see as its row. Trees that have the row in common share
-/// it.
+/// An entry of a whole tree, which contracts see as its row. Trees that have the row in common
+/// share it.
 #[derive(Drop)]
 pub struct TreeEntry {
     key: TreeKey,

@@ -1,4 +1,5 @@
-//! What the items of nodes know of themselves, for nodes that aren't hashed yet. Nothing of it is left when it runs.
+//! What the items of nodes know of themselves, for nodes that aren't hashed yet. Nothing of it is
+//! left when it runs.
 ghost use Rattle.std.specs.Prelude.{All};
 ghost use Rattle.vo_spec.specs.Fits.{FitsKey, FitsPart, FitsRow};
 

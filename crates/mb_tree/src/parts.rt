@@ -5,8 +5,8 @@ ghost use Rattle.mb_tree.specs.View.{parts_of};
 use std::marker::Model;
 use vo_spec::{Digest, KeyPart, List, PartEntry};
 
-/// A tree of which some subtrees are digests alone. The keys and texts are lent by what the tree was read
-/// from, or owned where an update put them.
+/// A tree of which some subtrees are digests alone. The keys and texts are lent by what the tree
+/// was read from, or owned where an update put them.
 #[cycle(part)]
 #[derive(Drop)]
 pub enum PartTree<'b> {

@@ -18,9 +18,9 @@ use std::rc::Rc;
 use tagged_hash::Hasher;
 use vo_spec::Digest;
 
-/// A node and all below it. Trees share the subtrees that they have in common. Contracts see it as a tree, as
-/// they see parts of trees. Its digest is kept once it is worked, so that a node which the next change
-/// replaces need not be hashed.
+/// A node and all below it. Trees share the subtrees that they have in common. Contracts see it as
+/// a tree, as they see parts of trees. Its digest is kept once it is worked, so that a node which
+/// the next change replaces need not be hashed.
 #[cycle(subtree)]
 #[derive(Drop)]
 pub struct Subtree {

@@ -12,7 +12,8 @@ use std::alloc::{AllocError, Global};
 use std::marker::Model;
 use vo_spec::{Digest, List, Row};
 
-/// A Merkle B-tree of rows, of the shape of such trees and with its keys rising: contracts see its nodes.
+/// A Merkle B-tree of rows, of the shape of such trees and with its keys rising: contracts see its
+/// nodes.
 #[derive(Drop)]
 pub struct Tree {
     root: Subtree,

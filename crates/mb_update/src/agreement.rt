@@ -9,12 +9,13 @@ ghost use Rattle.vo_spec.specs.Tables.{CellChange};
 ghost use Rattle.vo_spec.specs.Removes.{tree_without_key, tree_with_cells};
 ghost use Rattle.mb_update.specs.ChangeResults.{GoesOnPruning};
 
-/// Where a part prunes a tree, an insertion into the part is Missing, or it has the fault of the insertion
-/// into the tree, or it gives what prunes the tree that comes of that. So it is where the part's new entry
-/// has some of its cells hidden, or is the digest of its row.
+/// Where a part prunes a tree, an insertion into the part is Missing, or it has the fault of the
+/// insertion into the tree, or it gives what prunes the tree that comes of that. So it is where the
+/// part's new entry has some of its cells hidden, or is the digest of its row.
 pub fn insertions_agree()
     ensures row { (row : Row) (p t : RowTree) → Prunes p t
-        → GoesOnPruning (tree_with_entry (whole_entry row) p) (tree_with_entry (whole_entry row) t) }
+        → GoesOnPruning (tree_with_entry (whole_entry row) p)
+        (tree_with_entry (whole_entry row) t) }
     ensures entry { (e f : PartEntry) (p t : RowTree) → EntryPrunes e f → Prunes p t
         → GoesOnPruning (tree_with_entry e p) (tree_with_entry f t) }
 {}

@@ -10,7 +10,8 @@ pub enum Op {
     Remove { key: Key },
 }
 
-/// One cell of a replacement: its column, from 0 among those that aren't the key, and the value that it gets.
+/// One cell of a replacement: its column, from 0 among those that aren't the key, and the value
+/// that it gets.
 #[derive(Debug, Drop)]
 pub struct SetCell {
     pub column: u8,

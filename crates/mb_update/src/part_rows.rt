@@ -50,8 +50,8 @@ fn shown_cell<'b>(alloc: Global, value: &Value) -> Result<Cell<'b>, AllocError>
     Ok(Cell::Shown(CellValue::owned(value.copy(alloc)?)))
 }
 
-/// The entry with these cells in its row, which must stand as cells. A set of a column that isn't there
-/// changes nothing.
+/// The entry with these cells in its row, which must stand as cells. A set of a column that isn't
+/// there changes nothing.
 pub fn entry_with<'b>(
     alloc: Global,
     entry: &PartEntry<'b>,

@@ -18,8 +18,8 @@ use mb_tree::{Subtree, Tree, TreeEntry};
 use std::alloc::Global;
 use vo_spec::{Key, Row, UpdateFault};
 
-/// The tree with this row, which is moved into it. It shares with the old one all but the path to the
-/// row's leaf.
+/// The tree with this row, which is moved into it. It shares with the old one all but the path to
+/// the row's leaf.
 pub fn insert_row(alloc: Global, tree: &Tree, row: Row) -> Result<Tree, UpdateFault>
     requires fits { FitsRow row }
     requires room { length (entries tree.now) < max_rows }
@@ -48,7 +48,8 @@ fn replace_cells(
     sets: &[SetCell],
 ) -> Result<Tree, UpdateFault>
     requires { FitsSets sets.now }
-    ensures { ChangesTo (λ t. t) result (tree_with_cells key.now (map change_of sets.now) tree.now) }
+    ensures { ChangesTo (λ t. t) result
+        (tree_with_cells key.now (map change_of sets.now) tree.now) }
 {
     let rows = tree.row_count();
     match find::<Subtree>(tree.root(), key) {
@@ -89,8 +90,8 @@ fn remove_row(alloc: Global, tree: &Tree, key: &[u8]) -> Result<Tree, UpdateFaul
     }
 }
 
-/// The new tree shares with the old one all but what the change makes new: the path to the row's leaf, and
-/// the siblings that gave to a node of it or were merged with one.
+/// The new tree shares with the old one all but what the change makes new: the path to the row's
+/// leaf, and the siblings that gave to a node of it or were merged with one.
 impl Updates for Tree {
     type Change = Tree;
 

@@ -28,7 +28,8 @@ pub trait Updates {
     fn insert(&self, alloc: Global, row: &Row) -> Result<Self::Change, UpdateFault>
         requires fits { FitsRow row.now }
         requires room { CanInsert self.now }
-        ensures { ChangesTo changed result (tree_with_entry (whole_entry row.now) (tree self.now)) };
+        ensures { ChangesTo changed result
+            (tree_with_entry (whole_entry row.now) (tree self.now)) };
 
     /// The tree with these cells in the row of this key. A cell that the row hasn't is passed over.
     fn replace(

@@ -18,8 +18,8 @@ ghost use Rattle.vo_spec.specs.Secret.{Secret, public_of_secret};
 ghost use Rattle.owner_roots.specs.Owners.{IsBadAt, IsOwned, OwnedAuditOf};
 ghost use Rattle.round_trips.specs.Trips.{AreSealable, IsHonestReply, plain_answer};
 
-/// Bytes are one reply at most, and an owner's journal of one list of entries at most, which is then bad
-/// nowhere.
+/// Bytes are one reply at most, and an owner's journal of one list of entries at most, which is
+/// then bad nowhere.
 pub fn bytes_have_one_reading()
     ensures reply { (bytes : List ℕ) (a b : Reply) → IsReply bytes a → IsReply bytes b → a ≡ b }
     ensures journal { (key bytes : List ℕ) (xs es : List Entry) → IsOwned key bytes xs
@@ -28,9 +28,9 @@ pub fn bytes_have_one_reading()
         → IsBadAt key bytes index → ⊥ }
 {}
 
-/// Whatever a client says of the honest reply by the journal of some batches is the query's result on the
-/// plain tables after them; whatever an audit says of it, by this journal or by that of more batches
-/// behind these, is that it is exact.
+/// Whatever a client says of the honest reply by the journal of some batches is the query's result
+/// on the plain tables after them; whatever an audit says of it, by this journal or by that of more
+/// batches behind these, is that it is exact.
 pub fn honest_replies_have_one_answer()
     ensures checked { (secret : Secret) (batches : List (List Command)) (least : ℕ) (q : Query)
         (r : Reply) (answer : Result Answer CheckFault) → AreSealable secret batches

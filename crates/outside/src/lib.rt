@@ -1,5 +1,5 @@
-//! What lies outside the program, as traits: files, output, connections and a disk, with forms of each
-//! in memory.
+//! What lies outside the program, as traits: files, output, connections and a disk, with forms of
+//! each in memory.
 //!
 //! Each object counts its faults, and a call fails only where that count rose in it. What an object
 //! holds is known of the forms in memory; of a real one nothing is known.

@@ -14,11 +14,12 @@ pub trait Link {
     /// How many calls have failed.
     ghost faults: { Self → ℕ };
 
-    /// How many of them wanted a connection that isn't there; it means something where the wire is known.
+    /// How many of them wanted a connection that isn't there; it means something where the wire is
+    /// known.
     ghost misses: { Self → ℕ };
 
-    /// Takes the next bytes into the front of `into`, and tells how many. None in a buffer that isn't
-    /// empty is the end. What the buffer holds after a fault is open.
+    /// Takes the next bytes into the front of `into`, and tells how many. None in a buffer that
+    /// isn't empty is the end. What the buffer holds after a fault is open.
     fn get(&mut self, into: &mut [u8]) -> Result<usize, Failed>
         ensures some { IfOk result (λ n. n ≤ length into.old) }
         ensures taken { IfOk result

@@ -93,8 +93,9 @@ impl<P: Failures> MemDisk<P> {
         Ok(false)
     }
 
-    /// What a crash at a moment may have left, the bytes that it loses being these: they stand where a
-    /// write was begun since the last sync, and past what was down then as far as the writes reach.
+    /// What a crash at a moment may have left, the bytes that it loses being these: they stand
+    /// where a write was begun since the last sync, and past what was down then as far as the
+    /// writes reach.
     pub fn image(&self, alloc: Global, moment: usize, lost: &[u8]) -> Result<Vec<u8>, AllocError>
         ensures { IfOk result (λ image.
             IsImage (crashed_at (drive_of self.now) moment) image.items) }

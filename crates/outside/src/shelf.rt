@@ -15,7 +15,8 @@ pub trait Shelf {
     /// How many calls have failed.
     ghost faults: { Self → ℕ };
 
-    /// How many of them asked for a name that isn't there; it means something where the contents are known.
+    /// How many of them asked for a name that isn't there; it means something where the contents
+    /// are known.
     ghost misses: { Self → ℕ };
 
     /// The bytes under this name, if there are at most `limit` of them.

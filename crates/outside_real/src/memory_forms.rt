@@ -1,6 +1,7 @@
 //! The forms in memory, each once on its plain path and at a failure that was listed.
 //!
-//! They are another crate's, which has no tests of its own, since a crate with tests is proved twice.
+//! They are another crate's, which has no tests of its own, since a crate with tests is proved
+//! twice.
 use outside::{
     Disk, FailAt, Failed, Failure, Link, MemDisk, MemNet, MemShelf, MemSink, NamedFile, Net, Never,
     PutFault, Shelf, Sink, TakeFault,

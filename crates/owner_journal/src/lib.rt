@@ -1,7 +1,7 @@
 //! The owner's journal on a disk, which keeps its entries whatever a crash leaves.
 //!
-//! An entry is written behind a closed gate and put down there before the gate is opened. So at each
-//! moment the disk holds all entries, the new one whole or not at all.
+//! An entry is written behind a closed gate and put down there before the gate is opened. So at
+//! each moment the disk holds all entries, the new one whole or not at all.
 #![tactic(auto)]
 
 mod appending;

@@ -1,5 +1,5 @@
--- Which journals an owner has written: each entry gives the next roots by the proofs of its batch, and has their
--- record, signed by the leaf of its version. Nothing but roots is needed to tell.
+-- Which journals an owner has written: each entry gives the next roots by the proofs of its batch,
+-- and has their record, signed by the leaf of its version. Nothing but roots is needed to tell.
 use Rattle.std.specs.Prelude.{◌≡◌, ℕ, ◌<◌, List, [], ◌∷◌, Result, Ok}
 use Rattle.vo_spec.specs.declared.records.Record.{Record}
 use Rattle.vo_spec.specs.declared.records.Entry.{Entry}
@@ -49,7 +49,8 @@ AreNextEntries key before [] behind = before ≡ behind
 AreNextEntries key before (e ∷ es) behind =
     (after : Roots) × IsNextEntry key before e after × AreNextEntries key after es behind
 
--- Entries from version 0 on that an owner of this key has written, and its roots behind the last of them.
+-- Entries from version 0 on that an owner of this key has written, and its roots behind the last of
+-- them.
 unfoldable pub AreOwnedTo : List ℕ → List Entry → Roots → Type 0
 AreOwnedTo key [] behind = ⊥
 AreOwnedTo key (e ∷ es) behind = IsFirstEntry key e × AreNextEntries key first_roots es behind

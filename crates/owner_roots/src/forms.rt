@@ -11,8 +11,8 @@ use row_bytes::read_key;
 use table_list::kind_at;
 use vo_spec::{Kind, PartEntry, RowPart, Schema};
 
-/// Whether the keys of the tree's leaves are keys of the schema, and the rows that stand as cells have as
-/// many as the schema.
+/// Whether the keys of the tree's leaves are keys of the schema, and the rows that stand as cells
+/// have as many as the schema.
 #[cycle(form)]
 pub(crate) fn has_form(schema: &Schema, tree: &PartTree<'_>) -> bool
     ensures { result ≡ has_form schema.now (part_of tree.now) }

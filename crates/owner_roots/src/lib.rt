@@ -1,4 +1,5 @@
-//! The roots that an owner without its tables holds, and how it follows a batch by the proofs of its commands.
+//! The roots that an owner without its tables holds, and how it follows a batch by the proofs of
+//! its commands.
 #![tactic(auto)]
 
 mod changes;

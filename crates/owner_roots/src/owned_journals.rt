@@ -7,8 +7,8 @@ ghost use Rattle.owner_roots.specs.declared.roots.Roots.{Roots};
 ghost use Rattle.owner_roots.specs.Next.{NextOf};
 ghost use Rattle.owner_roots.specs.Owners.{AreOwned, AreOwnedTo, IsFirstEntry, IsNextEntry, first_roots};
 
-/// Journals of an owner grow entry by entry, and what stands before an entry is such a journal too. The roots
-/// behind the last entry have its version, which is its number.
+/// Journals of an owner grow entry by entry, and what stands before an entry is such a journal too.
+/// The roots behind the last entry have its version, which is its number.
 pub fn owned_journals_grow_by_entries()
     ensures first { (key : List ℕ) (e : Entry) (behind : Roots) → AreOwnedTo key (e ∷ []) behind
         ↔ (IsFirstEntry key e × (first_roots ≡ behind)) }

@@ -6,7 +6,8 @@ use std::alloc::{AllocError, AllocFailed};
 use thiserror::Error;
 use vo_spec::{CommandFault, Digest};
 
-/// Why an owner refuses a batch and its proofs. An index is the number of a command of the batch, from 0.
+/// Why an owner refuses a batch and its proofs. An index is the number of a command of the batch,
+/// from 0.
 #[derive(Clone, Copy, PartialEq, Eq, Debug, Error)]
 pub enum OwnerFault {
     #[error("a refused command")]
@@ -30,7 +31,8 @@ pub enum OwnerFault {
     ProofMissing {
         index: u64,
     },
-    /// More is there than the command looks at; of the number behind the last command, a tree too many.
+    /// More is there than the command looks at; of the number behind the last command, a tree too
+    /// many.
     #[error("a proof with more than is looked at")]
     ProofSurplus {
         index: u64,

@@ -12,7 +12,8 @@ use std::alloc::Global;
 use vo_format::{ReadFault, read_proofs};
 use vo_spec::{Batch, Catalog, List};
 
-/// A version of tables, and what its catalog says of them: among it the digest of each table's tree.
+/// A version of tables, and what its catalog says of them: among it the digest of each table's
+/// tree.
 #[derive(Debug, Drop)]
 pub struct Roots {
     pub version: u64,
@@ -20,8 +21,9 @@ pub struct Roots {
 }
 
 impl Roots {
-    /// The roots after a batch, by the bytes of its proofs, which may be any: a proof is checked against the
-    /// root of its table, and what comes after it is computed of the change of its tree alone.
+    /// The roots after a batch, by the bytes of its proofs, which may be any: a proof is checked
+    /// against the root of its table, and what comes after it is computed of the change of its tree
+    /// alone.
     pub fn next(&self, alloc: Global, batch: &Batch, proofs: &[u8]) -> Result<Roots, OwnerFault>
         requires version { self.now.version < 2 ^ 64 - 1 }
         requires catalog { FitsCatalog self.now.catalog }

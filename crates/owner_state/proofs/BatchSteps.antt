@@ -24,7 +24,8 @@ headers_refuse c stored = refusal c (map stored_table_header stored)
 abbrev behind : List Command → Result (List Stored) CommandFault → List RowTree
 behind cs r = result_unwrap_or (result_map (honest_proofs cs) r) []
 
--- a command that is accepted is refused by no table header, and its proof stands before those of the commands behind it
+-- a command that is accepted is refused by no table header, and its proof stands before those of
+-- the commands behind it
 pub proofs_on : (c : Command) (cs : List Command) (stored after : List Stored) → work c stored ≡ Ok after
     → honest_proofs (c ∷ cs) stored ≡ allowed_proof c stored ++ honest_proofs cs after
 unfolding work
@@ -41,8 +42,8 @@ proofs_up_to c cs stored fault w =
     ap (λ r. cond (is_some (headers_refuse c stored)) [] (command_proof c stored ++ behind cs r)) w
     ∙ ap (cond (is_some (headers_refuse c stored)) []) (append-nil (command_proof c stored))
 
--- What is left to do leads where all of it led; and behind the trees that are written, those that are left are all of
--- the batch.
+-- What is left to do leads where all of it led; and behind the trees that are written, those that
+-- are left are all of the batch.
 pub record IsLeft (index : ℕ) (left all : List Command) (stored before : List Stored) (bytes begun : List ℕ) (count : ℕ) : Type 0 where
   pub answer : work_from index left stored ≡ work_from 0 all before
   pub ends : bytes ++ flat_map tree_bytes (honest_proofs left stored) ≡ begun ++ flat_map tree_bytes (honest_proofs all before)

@@ -17,8 +17,9 @@ abbrev pub AreHonestBelow : List ℕ → ℕ → List Entry → Type 0
 AreHonestBelow key n es = (version : ℕ) (e : Entry) → version < n → slice_get es version ≡ Some e
     → e.rec ≡ honest_record key version (trees_at version es)
 
--- The entry of this number is the least behind which the roots have another catalog than the honest trees.
--- The roots before it have that of these trees, so its proofs lead from honest roots to others.
+-- The entry of this number is the least behind which the roots have another catalog than the honest
+-- trees. The roots before it have that of these trees, so its proofs lead from honest roots to
+-- others.
 pub record DepartsAt (es : List Entry) (index : ℕ) (stored : List Stored) : Type 0 where
   pub entry : Entry
   pub there : slice_get es index ≡ Some entry

@@ -27,7 +27,8 @@ abbrev pub EndsAt : List ℕ → List ℕ → Ending → Type 0
 EndsAt bytes rest (Closed at) = EndsClosed bytes rest × (at ≡ length bytes - length rest)
 EndsAt bytes rest (Damaged at) = (EndsClosed bytes rest → ⊥) × (at ≡ length bytes - length rest)
 
--- The bytes are a journal of these entries whose closed gate stands at this place, or damaged there.
+-- The bytes are a journal of these entries whose closed gate stands at this place, or damaged
+-- there.
 abbrev pub EndsSo : List ℕ → List Entry → Ending → Type 0
 EndsSo bytes es (Closed at) = IsJournal bytes es × (at ≡ behind es)
 EndsSo bytes es (Damaged at) = IsDamaged bytes es × (at ≡ behind es)

@@ -17,8 +17,8 @@ pub record IsAt (secret : Secret) (version : ℕ) (s : Sealed) : Type 0 where
   pub key : s.owner.key ≡ secret
   pub roots : s.owner.roots ≡ honest_roots version s.tables
 
--- The tables behind the batch, which is of this version, the owner at their roots, and the slot of its entry behind
--- those before; or why there is none, unless memory ran out.
+-- The tables behind the batch, which is of this version, the owner at their roots, and the slot of
+-- its entry behind those before; or why there is none, unless memory ran out.
 abbrev pub Seals : Secret → ℕ → Sealed → List Command → Result Sealed SealFault → Type 0
 Seals secret version before batch (Ok after) =
     (version < leaves_of secret.lms) × (work_all batch before.tables ≡ Ok after.tables)

@@ -21,8 +21,8 @@ abbrev pub or_later : Result (List Table) (ℕ × CommandFault) → Option SealF
 or_later (Ok tables) later = later
 or_later (Err refused) later = Some (Refused refused.0 refused.1)
 
--- Why these batches are not sealed after those before, from version 0 on: a version has no leaf left of the key,
--- or its batch is refused, whichever comes first.
+-- Why these batches are not sealed after those before, from version 0 on: a version has no leaf
+-- left of the key, or its batch is refused, whichever comes first.
 unfoldable pub seal_fault : ℕ → List (List Command) → List (List Command) → Option SealFault
 seal_fault leaves earlier [] = None
 seal_fault leaves earlier (batch ∷ batches) =

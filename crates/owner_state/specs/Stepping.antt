@@ -1,4 +1,5 @@
--- What an owner that holds roots alone writes: the entry of version 0, and of each batch that leads it on.
+-- What an owner that holds roots alone writes: the entry of version 0, and of each batch that leads
+-- it on.
 use Rattle.std.specs.Prelude.{◌≡◌, ◌⊎◌, ℕ, ◌+◌, ◌<◌, ◌≤◌, List, [], ◌∷◌, take, Result, Ok, Err}
 use Rattle.std.specs.Result.{result_map_both}
 use Rattle.vo_spec.specs.declared.tables.Command.{Command}
@@ -33,8 +34,9 @@ abbrev pub step_to : Secret → List Command → List ℕ → Roots → Step
 step_to secret batch proofs roots =
     record { entry = signed_entry secret roots batch proofs; roots = roots }
 
--- What an owner of this key, with these roots, makes of a batch and its proofs: nothing where the key has no
--- leaf for another version, and else the entry of the next roots. Want of memory is no answer of this.
+-- What an owner of this key, with these roots, makes of a batch and its proofs: nothing where the
+-- key has no leaf for another version, and else the entry of the next roots. Want of memory is no
+-- answer of this.
 unfoldable pub StepOf : Secret → Roots → List Command → List ℕ → Result Step OwnerFault → Type 0
 StepOf secret roots batch proofs answer =
     ((leaves_of secret.lms ≤ roots.version + 1) × (answer ≡ Err fault.KeySpent))
@@ -53,7 +55,8 @@ AreSteps secret before [] behind = before ≡ behind
 AreSteps secret before (e ∷ es) behind =
     (after : Roots) × IsStepTo secret before e after × AreSteps secret after es behind
 
--- The entries that an owner of this key writes from version 0 on, and its roots behind the last of them.
+-- The entries that an owner of this key writes from version 0 on, and its roots behind the last of
+-- them.
 unfoldable pub AreStepsTo : Secret → List Entry → Roots → Type 0
 AreStepsTo secret [] behind = ⊥
 AreStepsTo secret (e ∷ es) behind = (e ≡ first_entry secret) × AreSteps secret first_roots es behind

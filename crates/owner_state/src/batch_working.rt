@@ -21,8 +21,8 @@ struct TreeList {
     count: u16,
 }
 
-/// The tables after a batch, whose proofs are put at the end of `proofs`. A refused batch has proofs too: those up to
-/// the refused command, its own among them where it has one.
+/// The tables after a batch, whose proofs are put at the end of `proofs`. A refused batch has
+/// proofs too: those up to the refused command, its own among them where it has one.
 #[tactic(auto, unfolding(vo_spec::specs::Replies::proofs_bytes))]
 pub fn work_batch(
     alloc: Global,
@@ -45,7 +45,8 @@ pub fn work_batch(
     after
 }
 
-/// The tables after the commands, with the tree that each looks at, before it, put at the end of the list.
+/// The tables after the commands, with the tree that each looks at, before it, put at the end of
+/// the list.
 fn work_in_turn(
     alloc: Global,
     before: StoredTables,
@@ -76,7 +77,8 @@ fn work_in_turn(
     Ok(tables)
 }
 
-/// Puts the tree that a command looks at at the end, if the catalog allows the command and it looks at one.
+/// Puts the tree that a command looks at at the end, if the catalog allows the command and it looks
+/// at one.
 fn put_allowed_proof(
     alloc: Global,
     trees: &mut TreeList,

@@ -52,7 +52,8 @@ fn has_catalog(alloc: Global, tables: &StoredTables, catalog: &Catalog) -> Resul
     Ok(bytes.as_slice() == honest.as_slice())
 }
 
-/// The honest trees behind one entry more, of this number and with this batch, whose roots have this catalog.
+/// The honest trees behind one entry more, of this number and with this batch, whose roots have
+/// this catalog.
 pub(crate) fn follow(
     alloc: Global,
     before: HonestTrees,

@@ -11,7 +11,8 @@ use std::alloc::{AllocError, Global};
 use stored_tables::{BatchFault, StoredTables};
 use vo_spec::{Batch, Entry};
 
-/// The tables behind an entry of no matter which batch, if its record is that of these tables as this version.
+/// The tables behind an entry of no matter which batch, if its record is that of these tables as
+/// this version.
 pub(crate) fn check_record(
     alloc: Global,
     key: &PublicKey,

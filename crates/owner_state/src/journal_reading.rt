@@ -9,8 +9,8 @@ use std::alloc::{AllocError, Global};
 use thiserror::Error;
 use vo_spec::{Entry, List};
 
-/// Why bytes are no journal: the slot of this number is damaged, whose gate stands at this place; or memory
-/// ran out.
+/// Why bytes are no journal: the slot of this number is damaged, whose gate stands at this place;
+/// or memory ran out.
 #[derive(Clone, Copy, PartialEq, Eq, Debug, Error)]
 pub enum EntriesFault {
     #[error("a damaged journal")]

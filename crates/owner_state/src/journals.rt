@@ -19,7 +19,8 @@ use vo_spec::{Entry, List};
 /// Why bytes are no such journal.
 #[derive(Clone, Copy, Debug, PartialEq, Eq, Error)]
 pub enum JournalFault {
-    /// The first entry that can't be read, isn't of the sort, or is wanted and isn't there, has this number.
+    /// The first entry that can't be read, isn't of the sort, or is wanted and isn't there, has
+    /// this number.
     #[error("a bad journal")]
     BadAt { index: u64 },
     #[error("out of memory")]
@@ -37,8 +38,8 @@ impl From<AllocError> for JournalFault {
     }
 }
 
-/// An owner's journal, the honest tables at the version that was asked for, and where the owner's roots depart
-/// from such tables.
+/// An owner's journal, the honest tables at the version that was asked for, and where the owner's
+/// roots depart from such tables.
 #[derive(Drop)]
 pub struct OwnedJournal {
     pub entries: List<Entry>,

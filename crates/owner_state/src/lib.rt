@@ -1,5 +1,5 @@
-//! What an owner keeps and writes: its roots, the entries that lead them on, journals as bytes, and the sealing of
-//! batches.
+//! What an owner keeps and writes: its roots, the entries that lead them on, journals as bytes, and
+//! the sealing of batches.
 #![tactic(auto)]
 
 mod batch_working;

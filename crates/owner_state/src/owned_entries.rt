@@ -9,7 +9,8 @@ use lms_sign::PublicKey;
 use std::alloc::{AllocError, Global};
 use vo_spec::Entry;
 
-/// How many of the first entries an owner of the key has written, one behind the other from version 0 on.
+/// How many of the first entries an owner of the key has written, one behind the other from version
+/// 0 on.
 pub fn owned(alloc: Global, key: &PublicKey, entries: &[Entry]) -> Result<usize, AllocError>
     requires { AllByRecursion FitsEntry entries.now }
     ensures within { IfOk result (λ count. count ≤ length entries.now) }

@@ -8,7 +8,8 @@ use std::alloc::{AllocError, Global};
 use std::marker::Model;
 use vo_spec::{Batch, Entry, List};
 
-/// An owner: the key that it signs with, and the roots behind the last entry that it took for its own.
+/// An owner: the key that it signs with, and the roots behind the last entry that it took for its
+/// own.
 #[derive(Drop)]
 pub struct Owner {
     pub(crate) key: SecretKey,

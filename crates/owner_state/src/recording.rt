@@ -72,7 +72,8 @@ pub(crate) fn record_of_roots(
     record_of_catalog(alloc, key, roots.version, &roots.catalog)
 }
 
-/// Whether the entry's record is that of these tables as this version, signed by the version's leaf.
+/// Whether the entry's record is that of these tables as this version, signed by the version's
+/// leaf.
 pub(crate) fn is_recorded(
     alloc: Global,
     key: &PublicKey,

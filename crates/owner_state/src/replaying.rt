@@ -17,7 +17,8 @@ use vo_spec::Entry;
 /// Why entries are not those that the owner of a key wrote.
 #[derive(Clone, Copy, Debug, PartialEq, Eq, Error)]
 pub enum ReplayFault {
-    /// The first that isn't what the owner writes there, or is wanted and isn't there, has this number.
+    /// The first that isn't what the owner writes there, or is wanted and isn't there, has this
+    /// number.
     #[error("an entry of another owner")]
     Entry { index: u64 },
     #[error("out of memory")]

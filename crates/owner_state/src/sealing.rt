@@ -43,14 +43,15 @@ impl From<AllocError> for SealFault {
     }
 }
 
-/// The journal of these batches, a version for each, behind version 0, which has no commands: a journal of
-/// the key's owner, and one that a store of the key takes.
+/// The journal of these batches, a version for each, behind version 0, which has no commands: a
+/// journal of the key's owner, and one that a store of the key takes.
 pub fn seal(alloc: Global, key: &SecretKey, batches: List<Batch>) -> Result<Vec<u8>, SealFault>
     requires { FitEach batches }
     ensures journal { IfOk result (λ journal. journal.items
         ≡ journal_bytes (seal_batches key.now (commands_of batches))) }
     ensures owned { IfOk result (λ journal.
-        IsOwned (public_of_secret key.now) journal.items (seal_batches key.now (commands_of batches))) }
+        IsOwned (public_of_secret key.now) journal.items
+        (seal_batches key.now (commands_of batches))) }
     ensures loaded { IfOk result (λ journal.
         IsLoadable (public_of_secret key.now) journal.items
         (seal_batches key.now (commands_of batches))) }

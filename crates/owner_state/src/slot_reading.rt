@@ -11,8 +11,8 @@ use row_bytes::{Cursor, ReadFault};
 use std::alloc::{AllocError, Global};
 use vo_spec::{Entry, List};
 
-/// How a journal ends: with a closed gate, or damaged. The gate that is closed, or that of the first slot
-/// that is damaged, stands at this place.
+/// How a journal ends: with a closed gate, or damaged. The gate that is closed, or that of the
+/// first slot that is damaged, stands at this place.
 #[derive(Clone, Copy, PartialEq, Eq, Debug)]
 pub enum Ending {
     Closed { at: u64 },
@@ -91,7 +91,8 @@ fn ending_at(bytes: &[u8], rest: &[u8]) -> Ending
     }
 }
 
-/// Whether a journal ends where no slot follows any more: it is too short for one, or the gate is closed.
+/// Whether a journal ends where no slot follows any more: it is too short for one, or the gate is
+/// closed.
 fn ends_closed(bytes: &[u8], rest: &[u8]) -> bool
     ensures { IsTrue result ↔ EndsClosed bytes.now rest.now }
 {

@@ -14,7 +14,8 @@ use owner_roots::{OwnerFault, Roots};
 use std::alloc::Global;
 use vo_spec::{Batch, Entry};
 
-/// An entry that leads an owner on, and the roots behind it. The owner stays where it is until it takes the step.
+/// An entry that leads an owner on, and the roots behind it. The owner stays where it is until it
+/// takes the step.
 #[derive(Debug, Drop)]
 pub struct Step {
     pub entry: Entry,
@@ -22,7 +23,8 @@ pub struct Step {
 }
 
 impl Owner {
-    /// The entry of a batch by the bytes of its proofs, which may be any: they are checked, and never trusted.
+    /// The entry of a batch by the bytes of its proofs, which may be any: they are checked, and
+    /// never trusted.
     pub fn step(&self, alloc: Global, batch: &Batch, proofs: &[u8]) -> Result<Step, OwnerFault>
         requires { FitsBatch batch.now.commands }
         ensures answer { (result ≡ Err OwnerFault.Memory)

@@ -66,8 +66,8 @@ fn check_next_of_store(
     }
 }
 
-/// What a walk over an owner's entries finds beside the roots: the honest tables at a version, if the entries
-/// reach it, and where the roots depart from such tables.
+/// What a walk over an owner's entries finds beside the roots: the honest tables at a version, if
+/// the entries reach it, and where the roots depart from such tables.
 #[derive(Drop)]
 pub(crate) struct Walked {
     pub tables: Option<StoredTables>,

@@ -1,4 +1,5 @@
-//! The result of a query on plain tables: it is bound to them, and its rows are those that it shows of theirs.
+//! The result of a query on plain tables: it is bound to them, and its rows are those that it shows
+//! of theirs.
 ghost use Rattle.std.specs.Prelude.{◌≡◌, ◌++◌, [], map, filter, flat_map, option_map, IfOk, OnOk};
 ghost use Rattle.std.specs.Option.{option_map_or};
 ghost use Rattle.vo_spec.specs.declared.queries.Outcome.TheVariants.{Rows};
@@ -42,7 +43,8 @@ fn push_answers(
     }
 }
 
-/// What the query shows of those left rows that meet the left condition, in a join each beside the right rows.
+/// What the query shows of those left rows that meet the left condition, in a join each beside the
+/// right rows.
 fn rows_of(
     alloc: Global,
     query: &Query<'_>,
@@ -111,7 +113,8 @@ fn answer_of<'t>(
     Ok(Outcome::Rows { header, rows })
 }
 
-/// What the query gives on a list of tables: its rows, or the fault of the first test that it fails.
+/// What the query gives on a list of tables: its rows, or the fault of the first test that it
+/// fails.
 #[tactic(auto, unfolding(vo_spec::specs::Results::result))]
 pub fn result_on(alloc: Global, tables: &[Table], query: &QueryText) -> Result<Outcome, AllocError>
     ensures { IfOk result (λ outcome. outcome ≡ result_of (query_of query.now) tables.now) }

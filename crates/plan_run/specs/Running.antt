@@ -42,7 +42,8 @@ abbrev pub group_needs : List BoundSource → Need → List Need → List (List 
 group_needs ss left rights = if length (tables_used ss) == 1 then (left ∷ rights) ∷ []
     else (left ∷ []) ∷ rights ∷ []
 
--- of the trees of a plan: the rows that they show, the needs of each, and whether a scan of them stops
+-- of the trees of a plan: the rows that they show, the needs of each, and whether a scan of them
+-- stops
 
 abbrev pub run_rows : QueryPlan → List RowTree → List (List Value)
 run_rows p trees = plan_rows p (lefts_seen p (tree_at trees 0))
@@ -58,8 +59,8 @@ stops p trees =
     || list_any (is_unseen (right_tree p.query.bound_sources trees))
     (needs_of p (lefts_seen p (tree_at trees 0)))
 
--- Where no scan stops, the rows that the trees show and the needs of each; Missing where one does. A want of
--- memory may come in any case.
+-- Where no scan stops, the rows that the trees show and the needs of each; Missing where one does.
+-- A want of memory may come in any case.
 abbrev pub Runs : Result Ran ScanFault → QueryPlan → List RowTree → Type 0
 Runs (Ok ran) p trees = (stops p trees ≡ false) × (ran.rows ≡ run_rows p trees)
     × (ran.needs ≡ run_needs p trees)
@@ -104,8 +105,8 @@ RanOf (Ok ran) p shown = (ran.rows ≡ shown.rows.items)
 RanOf (Err Missing) p shown = ⊥
 RanOf (Err Memory) p shown = Unit {0}
 
--- The needs of the right tree by the rows that the left one shows, or Missing where the scan of it stops. A
--- query without a join scans nothing.
+-- The needs of the right tree by the rows that the left one shows, or Missing where the scan of it
+-- stops. A query without a join scans nothing.
 abbrev pub FindsNeeds : Result (Vec Need) ScanFault → QueryPlan → RowTree → Type 0
 FindsNeeds (Ok found) p left =
     (IsTrue (is_some p.query.join) → is_unseen left p.left_need ≡ false)

@@ -25,7 +25,8 @@ fn push_need(needs: &mut Vec<Need>, need: Need) -> Result<(), AllocError>
     Ok(())
 }
 
-/// Puts what the query shows of the left row beside each row that was seen for it at the end of the answer.
+/// Puts what the query shows of the left row beside each row that was seen for it at the end of the
+/// answer.
 fn push_rights<'r>(
     alloc: Global,
     plan: &'r Plan<'_, '_>,

@@ -37,8 +37,8 @@ fn show_seen(
     show(alloc, plan, trees, &lefts)
 }
 
-/// The rows that the trees show for the plan, and what it needs of each tree. Trees are those of the tables
-/// that its query uses, the left one first.
+/// The rows that the trees show for the plan, and what it needs of each tree. Trees are those of
+/// the tables that its query uses, the left one first.
 pub fn run_plan(
     alloc: Global,
     plan: &Plan<'_, '_>,

@@ -8,7 +8,8 @@ use Rattle.vo_spec.specs.Results.{BoundSource, item_refs, join_refs, query_refs,
 use Rattle.query_binding.specs.declared.bind_fault.BindFault.{BindFault}
 use Rattle.query_binding.specs.declared.bind_fault.BindFault.TheVariants.{Wrong, Memory}
 
--- a call goes through where the tests find nothing, and else has what they find, unless memory ran out
+-- a call goes through where the tests find nothing, and else has what they find, unless memory ran
+-- out
 abbrev pub PassesBinding : {A : Type 0} → Result A BindFault → Option QueryFault → Type 0
 PassesBinding (Ok _) found = found ≡ None
 PassesBinding (Err (Wrong fault)) found = found ≡ Some fault

@@ -1,4 +1,5 @@
-//! The sources of a query with their tables' schemas, and where a reference's column stands in them.
+//! The sources of a query with their tables' schemas, and where a reference's column stands in
+//! them.
 ghost use Rattle.std.specs.Prelude.{◌≡◌, nat_lt, length, is_some};
 ghost use Rattle.std.specs.Option.{option_map_or};
 ghost use Rattle.std.specs.List.{list_any, count_by, position_or_len};

@@ -35,7 +35,8 @@ abbrev pub left_answers : BoundQuery → List BoundCondition → Option (ColumnP
 left_answers b late None rights left = answer_at b late (place_value (left ∷ []))
 left_answers b late (Some on) rights left = pair_answers b late rights left
 
--- of the left rows of a plan, each with its right rows: the left condition is met, so the late one is asked
+-- of the left rows of a plan, each with its right rows: the left condition is met, so the late one
+-- is asked
 abbrev pub plan_rows : QueryPlan → List RowView → (RowView → List RowView) → List (List Value)
 plan_rows p lefts rights = flat_map
     (λ left. left_answers p.query p.late p.query.join (rights left) left) lefts

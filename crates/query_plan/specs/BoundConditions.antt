@@ -1,4 +1,5 @@
--- Conditions over columns by their numbers: when rows meet one, and what it says of the left source.
+-- Conditions over columns by their numbers: when rows meet one, and what it says of the left
+-- source.
 use Rattle.std.specs.Prelude.{ℕ, Bool, true, false, not, ◌&&◌, ◌||◌, ◌==◌, if◌then◌else◌, List, [], ◌∷◌, ◌++◌}
 use Rattle.std.specs.List.{list_all}
 use Rattle.vo_spec.specs.declared.values.Value.{Value}
@@ -69,8 +70,8 @@ abbrev mutual
   parts_places no_parts = []
   parts_places (part_and c cs) = condition_places c ++ parts_places cs
 
--- The left interval: what the conjuncts of the form `key op literal` share. The key is the left source's
--- column of this number.
+-- The left interval: what the conjuncts of the form `key op literal` share. The key is the left
+-- source's column of this number.
 
 abbrev pub is_left_key : ℕ → ColumnPlace → Bool
 is_left_key key p = p.bound_source == 0 && p.column == key

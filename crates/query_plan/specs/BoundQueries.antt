@@ -1,4 +1,5 @@
--- Queries whose references are columns by their numbers, and what binding makes of a query by names.
+-- Queries whose references are columns by their numbers, and what binding makes of a query by
+-- names.
 use Rattle.std.specs.Prelude.{List, [], ◌∷◌, ◌++◌, Option, option_map}
 use Rattle.std.specs.Option.{option_map_or}
 use Rattle.vo_spec.specs.declared.queries.Operand.{Operand}
@@ -9,8 +10,8 @@ use Rattle.vo_spec.specs.Conditions.{Condition, Conditions, every, some, negated
 use Rattle.vo_spec.specs.Results.{BoundSource, ColumnPlace, place_of, shown_places}
 use Rattle.query_plan.specs.BoundConditions.{BoundTerm, column, literal, BoundCondition, BoundConditions, conjunction, disjunction, negation, comparison, no_parts, part_and, condition_places}
 
--- The sources with their tables' schemas, the items as the text has them (for the titles), the columns that
--- are shown, the two of ON in the order of the text, and the condition.
+-- The sources with their tables' schemas, the items as the text has them (for the titles), the
+-- columns that are shown, the two of ON in the order of the text, and the condition.
 pub record BoundQuery : Type 0 where
   pub bound_sources : List BoundSource
   pub items : Items

@@ -20,8 +20,8 @@ abbrev pub is_named_cell : BoundQuery → ℕ → ℕ → ℕ → Bool
 is_named_cell b bound_source key column = not (column == key)
     && names b (record { bound_source = bound_source; column = column })
 
--- the cells that the query names of the source of this number, by that source's schema: of so many of its
--- columns from one on, and of all
+-- the cells that the query names of the source of this number, by that source's schema: of so many
+-- of its columns from one on, and of all
 abbrev pub cells_from : BoundQuery → ℕ → Schema → ℕ → ℕ → List ℕ
 cells_from b bound_source schema first count =
     map (cell_number schema.key) (filter (is_named_cell b bound_source schema.key)

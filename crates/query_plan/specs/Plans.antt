@@ -10,8 +10,8 @@ use Rattle.query_plan.specs.BoundConditions.{BoundCondition, all_hold, bound_int
 use Rattle.query_plan.specs.BoundQueries.{BoundQuery}
 use Rattle.query_plan.specs.Named.{bound_cells}
 
--- The bound query, the need of the left tree, the cells that each need of the right tree names, and the
--- conjuncts of the left and of the late condition.
+-- The bound query, the need of the left tree, the cells that each need of the right tree names, and
+-- the conjuncts of the left and of the late condition.
 pub record QueryPlan : Type 0 where
   pub query : BoundQuery
   pub left_need : Need

@@ -39,8 +39,8 @@ fn project<V: PlaceValues>(
     Ok(List::from_vec(values))
 }
 
-/// Puts what the query shows of rows that meet the left condition at the end of the answer, where they are
-/// joined and meet the late condition.
+/// Puts what the query shows of rows that meet the left condition at the end of the answer, where
+/// they are joined and meet the late condition.
 fn push_answer<V: PlaceValues>(
     alloc: Global,
     query: &Query<'_>,

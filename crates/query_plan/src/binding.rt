@@ -122,8 +122,8 @@ fn bind_query<'q, S: Schemas>(
     })
 }
 
-/// The query over the columns of its tables, or the first of its tests that fails. Names are looked up here
-/// alone.
+/// The query over the columns of its tables, or the first of its tests that fails. Names are looked
+/// up here alone.
 pub fn bind<'q, S: Schemas>(
     alloc: Global,
     schemas: &'q S,

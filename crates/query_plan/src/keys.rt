@@ -36,8 +36,8 @@ fn int_of_key(key: &[u8]) -> ValueRef<'_>
     }
 }
 
-/// The value of this kind whose key it is. Keys of the shape of their column are read so; others have some
-/// value too.
+/// The value of this kind whose key it is. Keys of the shape of their column are read so; others
+/// have some value too.
 pub fn value_of_key(kind: Kind, key: &[u8]) -> ValueRef<'_>
     ensures { value_of result ≡ value_of_key kind key.now }
 {

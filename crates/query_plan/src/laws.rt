@@ -1,4 +1,5 @@
-//! A bound query means what the query means by names, and so does its plan, over trees and over plain tables.
+//! A bound query means what the query means by names, and so does its plan, over trees and over
+//! plain tables.
 ghost use Rattle.std.specs.Prelude.{◌≡◌, true, List};
 ghost use Rattle.std.specs.Option.{option_map_or};
 ghost use Rattle.vo_spec.specs.declared.queries.Join.{Join};

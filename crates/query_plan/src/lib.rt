@@ -1,4 +1,5 @@
-//! Queries bound to tables, their plans, what these need of the tables' trees, and what they show of rows.
+//! Queries bound to tables, their plans, what these need of the tables' trees, and what they show
+//! of rows.
 #![tactic(auto)]
 
 mod answers;

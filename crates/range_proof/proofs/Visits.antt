@@ -1,4 +1,5 @@
--- Which needs can have a key of a node: those whose scans don't visit it have none of its place in the tree.
+-- Which needs can have a key of a node: those whose scans don't visit it have none of its place in
+-- the tree.
 use Rattle.std.proofs.Common.{◌≡◌, ℕ, Bool, true, false, cond, List, [], ◌∷◌, ◌++◌, Option, Some, None, inl, inr, refl, ap, ◌∙◌}
 use Rattle.std.specs.Prelude.{◌&&◌, not, filter, flat_map}
 use Rattle.std.proofs.lemmas.Bool.{and_parts, and_from, and_cases, not-true, not-false, not_from_false, not_from_true}

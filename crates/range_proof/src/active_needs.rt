@@ -16,8 +16,8 @@ use vo_spec::Need;
 pub struct ActiveNeeds<'n, 'k> {
     all: &'n [&'n Need],
     active: Vec<&'n Need>,
-    // The node's place in the tree, where some visit it: no other need has a key from the one separator on
-    // and before the other.
+    // The node's place in the tree, where some visit it: no other need has a key from the one
+    // separator on and before the other.
     lower: Option<&'k [u8]>,
     upper: Option<&'k [u8]>,
 }
@@ -55,7 +55,8 @@ impl<'n, 'k> ActiveNeeds<'n, 'k> {
         })
     }
 
-    /// Puts into the empty list those of them whose scans go on to the child between these separators.
+    /// Puts into the empty list those of them whose scans go on to the child between these
+    /// separators.
     // Inlined as what it calls is.
     #[inline(always)]
     pub fn push_active(
@@ -138,8 +139,8 @@ impl<'n, 'k> ActiveNeeds<'n, 'k> {
         self.active.is_empty()
     }
 
-    /// The columns that all needs name whose intervals have the key. At a key in the node's place of the tree only
-    /// the active needs are asked, since no other need has it.
+    /// The columns that all needs name whose intervals have the key. At a key in the node's place
+    /// of the tree only the active needs are asked, since no other need has it.
     pub fn named_columns(&self, alloc: Global, key: &[u8]) -> Result<Vec<u8>, AllocError>
         ensures { IfOk result (λ columns. columns.items ≡ named_by self.now.all key.now) }
     {

@@ -79,8 +79,8 @@ pub fn visits(interval: &Interval, lower: Option<&[u8]>, upper: Option<&[u8]>) -
     ends_above(&interval.low, upper) && begins_below(&interval.high, lower)
 }
 
-/// The same, with that asked first which is likely to be false: whether the child ends above the interval's start,
-/// or, past a child that the scan goes on to, whether it begins below its end.
+/// The same, with that asked first which is likely to be false: whether the child ends above the
+/// interval's start, or, past a child that the scan goes on to, whether it begins below its end.
 #[inline(always)]
 pub fn visits_from(
     is_past: bool,

@@ -13,8 +13,8 @@ use mb_tree::PartTree;
 use std::alloc::Global;
 use vo_spec::{KeyPart, Need, PartEntry, ScanFault};
 
-/// Whether the part is the proof for these needs, as far as it alone can tell: with nothing missing, true
-/// exactly where nothing is there beyond what is needed.
+/// Whether the part is the proof for these needs, as far as it alone can tell: with nothing
+/// missing, true exactly where nothing is there beyond what is needed.
 pub fn is_canonical(alloc: Global, tree: &PartTree<'_>, needs: &[Need]) -> Result<bool, ScanFault>
     ensures { JudgesOrMissing result (is_missing needs.now (part_of tree.now))
         (not (has_surplus needs.now (part_of tree.now))) }

@@ -33,7 +33,8 @@ pub fn active_at_root<'n>(alloc: Global, needs: &[&'n Need]) -> Result<Vec<&'n N
     Ok(active)
 }
 
-/// Puts into the empty list those of the needs whose scans go on to the child between these separators.
+/// Puts into the empty list those of the needs whose scans go on to the child between these
+/// separators.
 // Always inlined: most children have none, and a call would take as long as telling that.
 #[inline(always)]
 pub fn push_active<'n>(

@@ -33,7 +33,8 @@ fn prune_for_one<'b>(
     }
 }
 
-/// The node's children, of which the only active need goes on to some. What they show goes by all needs, as ever.
+/// The node's children, of which the only active need goes on to some. What they show goes by all
+/// needs, as ever.
 #[cycle(prune_for_one)]
 pub fn prune_children_for_one<'b>(
     alloc: Global,

@@ -46,7 +46,8 @@ fn open_subtree<'b>(
     }
 }
 
-/// The node's children. Most nodes far from the root have one active need alone, which needs no lists.
+/// The node's children. Most nodes far from the root have one active need alone, which needs no
+/// lists.
 #[cycle(prune)]
 fn prune_children<'b>(
     alloc: Global,

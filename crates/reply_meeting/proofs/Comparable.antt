@@ -1,5 +1,5 @@
--- The trees of two accepted replies of one catalog can be compared; and where the left ones give one walk, the
--- plan needs the same of all.
+-- The trees of two accepted replies of one catalog can be compared; and where the left ones give
+-- one walk, the plan needs the same of all.
 use Rattle.std.proofs.Common.{◌≡◌, ◌==◌, ℕ, suc, ◌<◌, Bool, true, false, if◌then◌else◌, List, [], ◌∷◌, length, map, zip, get_or, Option, Some, None, is_some, refl, sym, ap, ◌∙◌, subst, arith}
 use Rattle.std.specs.Prelude.{filter, unwrap_or}
 use Rattle.std.specs.List.{list_any, AllZip}

@@ -1,4 +1,5 @@
--- The trees that two accepted replies of one catalog have for a query: twins, each the proof for its needs.
+-- The trees that two accepted replies of one catalog have for a query: twins, each the proof for
+-- its needs.
 use Rattle.std.proofs.Common.{◌≡◌, ℕ, Bool, true, false, cond, if◌then◌else◌, List, [], ◌∷◌, ◌++◌, length, map, zip, Option, Some, None, is_some, bytes_eq, refl, sym, ◌∙◌}
 use Rattle.std.specs.List.{list_any, AllByRecursion, AllZip}
 use Rattle.std.proofs.lemmas.Bool.{or_parts}

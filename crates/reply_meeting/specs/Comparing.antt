@@ -10,7 +10,8 @@ use Rattle.vo_spec.specs.Replies.{Reply}
 use Rattle.query_plan.specs.Plans.{QueryPlan}
 use Rattle.plan_run.specs.Running.{run_needs}
 
--- the fact holds exactly where nothing is found; what is found are two different byte strings of one digest
+-- the fact holds exactly where nothing is found; what is found are two different byte strings of
+-- one digest
 abbrev pub HoldsUnlessFound : Option (List ℕ × List ℕ) → Type 0 → Type 0
 HoldsUnlessFound None fact = fact
 HoldsUnlessFound (Some found) fact = (fact → ⊥) × Collides found.0 found.1

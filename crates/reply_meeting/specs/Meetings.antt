@@ -19,8 +19,8 @@ use Rattle.reply_meeting.specs.Accepting.{IsAccepted}
 abbrev pub shown_bytes : Reply → List ℕ
 shown_bytes r = block (catalog_bytes r.catalog) ++ length r.trees ∷ flat_map tree_bytes r.trees
 
--- The versions differ; or else the records do; or the replies show the same, to the byte; or they don't, and here
--- are two different byte strings with one digest.
+-- The versions differ; or else the records do; or the replies show the same, to the byte; or they
+-- don't, and here are two different byte strings with one digest.
 abbrev pub IsMeeting : Reply → Reply → Meeting → Type 0
 IsMeeting r s (Apart one other) = (r.rec.version ≢ s.rec.version) × (one ≡ r.rec.version)
     × (other ≡ s.rec.version)
@@ -38,8 +38,9 @@ abbrev pub second_fault : CheckFault → MeetFault
 second_fault check.Memory = Memory
 second_fault fault = Second fault
 
--- What is said of two replies to a query, by the key: a client who takes any version refuses the first, or the
--- second, so; or takes both, which are these, and they meet so. Want of memory is no answer of this.
+-- What is said of two replies to a query, by the key: a client who takes any version refuses the
+-- first, or the second, so; or takes both, which are these, and they meet so. Want of memory is no
+-- answer of this.
 unfoldable pub RepliesMeet : List ℕ → Query → List ℕ → List ℕ
     → Result (Reply × Reply × Meeting) MeetFault → Type 0
 RepliesMeet key q first second (Err (First fault)) = CheckOf key 0 q first (Err fault)

@@ -13,7 +13,8 @@ use std::alloc::{AllocError, Global};
 use vo_format::Reply;
 use vo_spec::{Collision, QueryText};
 
-/// None where the trees are the same, else two byte strings of one digest. A query that is wrong has none.
+/// None where the trees are the same, else two byte strings of one digest. A query that is wrong
+/// has none.
 fn compare_trees(
     alloc: Global,
     query: &QueryText,

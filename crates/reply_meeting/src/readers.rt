@@ -32,7 +32,8 @@ fn meeting_of(
     requires second_fits { FitsReply (reply_of second.now) }
     requires passed { HasPassed (query_of query.now) (reply_of first.now) }
     requires second_passed { HasPassed (query_of query.now) (reply_of second.now) }
-    ensures { IfOk result (λ meeting. IsMeeting (reply_of first.now) (reply_of second.now) meeting) }
+    ensures { IfOk result
+        (λ meeting. IsMeeting (reply_of first.now) (reply_of second.now) meeting) }
 {
     if first.rec.version != second.rec.version {
         return Ok(Meeting::Apart {
@@ -49,8 +50,9 @@ fn meeting_of(
     }
 }
 
-/// What two readers learn who put their replies to one query side by side, with the owner's key alone: why the
-/// first of the replies is refused, or the second, or else what they are to each other.
+/// What two readers learn who put their replies to one query side by side, with the owner's key
+/// alone: why the first of the replies is refused, or the second, or else what they are to each
+/// other.
 pub fn meet(
     alloc: Global,
     key: &PublicKey,
@@ -67,8 +69,8 @@ pub fn meet(
     }
 }
 
-/// The same, and the two replies, which lend what is evidence: two records of one version, each with its
-/// signature.
+/// The same, and the two replies, which lend what is evidence: two records of one version, each
+/// with its signature.
 pub fn meet_replies<'b>(
     alloc: Global,
     key: &PublicKey,

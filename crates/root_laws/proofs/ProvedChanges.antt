@@ -1,4 +1,5 @@
--- A table's root by a part of its tree: as the change of the tree makes it, or the part is refused as a proof.
+-- A table's root by a part of its tree: as the change of the tree makes it, or the part is refused
+-- as a proof.
 use Rattle.std.proofs.Common.{◌≡◌, ℕ, Bool, true, false, cond, not, List, ◌∷◌, Option, Some, None, Result, Ok, Err, map, length, inl, inr, refl, sym, ap, ◌∙◌, subst, arith}
 use Rattle.std.specs.Prelude.{bytes_eq}
 use Rattle.std.specs.Result.{result_map_both}

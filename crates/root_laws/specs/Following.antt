@@ -1,4 +1,5 @@
--- Proofs that are parts of the honest trees, whatever else they are, and what an owner says of such.
+-- Proofs that are parts of the honest trees, whatever else they are, and what an owner says of
+-- such.
 use Rattle.std.specs.Prelude.{◌≡◌, ◌⊎◌, ℕ, List, [], ◌∷◌, take, drop, find, bytes_eq, IfSome, IfOk, Result}
 use Rattle.std.specs.Result.{IsErrAnd}
 use Rattle.std.specs.List.{AllByRecursion}
@@ -14,7 +15,8 @@ abbrev pub PrunesTable : List Stored → List ℕ → RowTree → Type 0
 PrunesTable stored name p =
     IfSome (find (λ (s : Stored). bytes_eq s.name name) stored) (λ s. Prunes p s.tree)
 
--- Of the trees that are left, the one that the command takes, if it takes one, prunes that of its table.
+-- Of the trees that are left, the one that the command takes, if it takes one, prunes that of its
+-- table.
 abbrev pub TakesPart : Command → List RowTree → List Stored → Type 0
 TakesPart c trees stored =
     AllByRecursion (PrunesTable stored (table_of c)) (take (trees_taken c) trees)

@@ -11,9 +11,10 @@ ghost use Rattle.owner_roots.specs.Next.{tables_after, trees_taken};
 ghost use Rattle.root_laws.specs.Following.{IsOrRefusesProof, TakesPart};
 ghost use Rattle.root_laws.specs.HonestRoots.{honest_tables_after};
 
-/// Where the tree that a command takes prunes its table's, the catalog after it is that of the trees after it,
-/// or the command is refused as on these; or the tree is refused as a proof for what it has open. A command
-/// that isn't refused takes a tree of its table's digest, if it takes one.
+/// Where the tree that a command takes prunes its table's, the catalog after it is that of the
+/// trees after it, or the command is refused as on these; or the tree is refused as a proof for
+/// what it has open. A command that isn't refused takes a tree of its table's digest, if it takes
+/// one.
 pub fn commands_are_followed()
     ensures followed { (index : ℕ) (c : Command) (trees : List RowTree) (stored : List Stored)
         → IsStanding stored → TakesPart c trees stored
@@ -22,7 +23,8 @@ pub fn commands_are_followed()
     ensures accepted { (index : ℕ) (c : Command) (trees : List RowTree) (stored : List Stored)
         (tables : List CatalogTable) → IsStanding stored → TakesPart c trees stored
         → tables_after index c trees (catalog_of stored).tables ≡ Ok tables
-        → (after : List Stored) × (work c stored ≡ Ok after) × (tables ≡ (catalog_of after).tables) }
+        → (after : List Stored) × (work c stored ≡ Ok after)
+        × (tables ≡ (catalog_of after).tables) }
     ensures taken { (index : ℕ) (c : Command) (trees : List RowTree) (stored : List Stored)
         (tables : List CatalogTable)
         → tables_after index c trees (catalog_of stored).tables ≡ Ok tables → trees_taken c ≡ 1

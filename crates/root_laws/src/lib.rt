@@ -1,5 +1,5 @@
-//! Laws of owners that hold roots alone, each the contract of a function that does nothing: they follow honest
-//! trees, and where they don't, a proof is no part of these.
+//! Laws of owners that hold roots alone, each the contract of a function that does nothing: they
+//! follow honest trees, and where they don't, a proof is no part of these.
 #![tactic(auto)]
 
 pub mod commands;
@@ -21,8 +21,8 @@ ghost use Rattle.owner_roots.specs.Next.{NextOf, next_roots};
 ghost use Rattle.root_laws.specs.Following.{IsOrRefusesProof, TakeParts};
 ghost use Rattle.root_laws.specs.HonestRoots.{honest_next_roots, honest_roots};
 
-/// An owner with the roots of honest trees has those of the next ones after an honest store's proofs of a
-/// batch, or refuses it as the plain tables do.
+/// An owner with the roots of honest trees has those of the next ones after an honest store's
+/// proofs of a batch, or refuses it as the plain tables do.
 pub fn honest_proofs_are_followed()
     ensures standing { (stored : List Stored) (version : ℕ) (batch : List Command)
         → IsStanding stored → FitsBatch batch
@@ -45,8 +45,8 @@ pub fn honest_proofs_are_followed()
         (honest_next_roots version batch (honest_trees earlier)) }
 {}
 
-/// So it is with any trees that prune the honest ones, command by command; or one of them is refused as a
-/// proof for what it has open.
+/// So it is with any trees that prune the honest ones, command by command; or one of them is
+/// refused as a proof for what it has open.
 pub fn parts_are_followed()
     ensures { (stored : List Stored) (version : ℕ) (batch : List Command) (trees : List RowTree)
         → IsStanding stored → FitsBatch batch → TakeParts batch trees stored
@@ -54,8 +54,8 @@ pub fn parts_are_followed()
         (honest_next_roots version batch stored) }
 {}
 
-/// The next roots by honest trees are the roots of what the batch makes of these, or its refusal on the plain
-/// tables; and honest trees stand.
+/// The next roots by honest trees are the roots of what the batch makes of these, or its refusal on
+/// the plain tables; and honest trees stand.
 pub fn honest_roots_follow_the_trees()
     ensures accepted { (stored after : List Stored) (version : ℕ) (batch : List Command)
         → work_all batch stored ≡ Ok after

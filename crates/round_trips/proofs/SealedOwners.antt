@@ -1,4 +1,5 @@
--- What is sealed, as an owner that holds roots alone sees it: each entry leads to the roots of the honest trees.
+-- What is sealed, as an owner that holds roots alone sees it: each entry leads to the roots of the
+-- honest trees.
 use Rattle.std.proofs.Common.{◌≡◌, ℕ, ◌+◌, List, [], ◌∷◌, ◌++◌, length, Result, Ok, Err, refl, sym, ap, ◌∙◌, subst, append-nil, append_assoc, arith}
 use Rattle.std.specs.Prelude.{IsOk}
 use Rattle.std.specs.Result.{result_unwrap_or}

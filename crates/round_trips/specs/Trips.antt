@@ -13,8 +13,8 @@ use Rattle.vo_spec.specs.Replies.{Reply, reply_bytes, max_reply}
 use Rattle.vo_spec.specs.Honest.{reply_of, seal_batches}
 use Rattle.vo_laws.specs.Sealing.{AreAcceptedAfter, SignsValidly}
 
--- the key signs validly, and the batches fit their bytes, are accepted one after the other, and leave it a leaf for
--- version 0
+-- the key signs validly, and the batches fit their bytes, are accepted one after the other, and
+-- leave it a leaf for version 0
 pub record AreSealable (secret : Secret) (batches : List (List Command)) : Type 0 where
   pub signs : SignsValidly secret
   pub fit : AllByRecursion FitsBatch batches

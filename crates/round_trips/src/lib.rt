@@ -26,9 +26,10 @@ pub fn sealed_journals_are_loadable()
         (journal_bytes es) es }
 {}
 
-/// What is sealed is read back. The reply of a store that has loaded the journal of some batches is one whose
-/// tests all pass, and its answer is the query's result on the plain tables after these batches; and an
-/// audit by this journal, or by that of more batches behind these, can only say that this is exact.
+/// What is sealed is read back. The reply of a store that has loaded the journal of some batches is
+/// one whose tests all pass, and its answer is the query's result on the plain tables after these
+/// batches; and an audit by this journal, or by that of more batches behind these, can only say
+/// that this is exact.
 pub fn sealed_batches_are_read_back()
     ensures replied { (secret : Secret) (batches : List (List Command)) (q : Query)
         → IsSome (reply_of q (seal_batches secret batches)) }

@@ -1,5 +1,5 @@
--- Readers of the front of bytes, and the laws that each keeps: what it reads is spelled so, and what is spelled so is
--- read. Readers that are put together keep them too.
+-- Readers of the front of bytes, and the laws that each keeps: what it reads is spelled so, and
+-- what is spelled so is read. Readers that are put together keep them too.
 use Rattle.std.proofs.Common.{◌≡◌, ℕ, suc, ◌+◌, Bool, true, false, cond, List, ◌∷◌, ◌++◌, length, take, drop, Result, Ok, Err, refl, subst, arith, inl, inr, ◌⊎◌}
 use Rattle.std.proofs.lemmas.Bool.{cases_lt}
 use Rattle.std.proofs.lemmas.List.{drop_at, length-take, get_or-drop, get_or-take, get_or_past}

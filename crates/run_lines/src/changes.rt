@@ -38,7 +38,12 @@ pub fn run_over_changes(
     Ok(answers.text(alloc)?)
 }
 
-fn change_bytes(alloc: Global, bytes: &[u8], change: Change, at: usize) -> Result<Vec<u8>, AllocError> {
+fn change_bytes(
+    alloc: Global,
+    bytes: &[u8],
+    change: Change,
+    at: usize,
+) -> Result<Vec<u8>, AllocError> {
     match change {
         Change::Cut => {
             let (front, _) = bytes.split_at(bytes.len().min(at));

@@ -1,4 +1,5 @@
--- How many bytes the tokens of a batch have: those of its text, in which they stand one behind the other.
+-- How many bytes the tokens of a batch have: those of its text, in which they stand one behind the
+-- other.
 use Rattle.std.proofs.Common.{◌≡◌, ℕ, zero, suc, ◌+◌, ◌-◌, ◌≤◌, arith, Bool, true, false, cond, List, [], ◌∷◌, ◌++◌, length, Result, Ok, Err, refl, sym, ap, ◌∙◌, subst, append_assoc}
 use Rattle.std.specs.Prelude.{nat_lt, ◌&&◌, ◌||◌}
 use Rattle.std.specs.List.{AllByRecursion}

@@ -1,4 +1,5 @@
--- A batch of a text has room in a journal: each byte of its text stands for at most nine of its bytes.
+-- A batch of a text has room in a journal: each byte of its text stands for at most nine of its
+-- bytes.
 use Rattle.std.proofs.Common.{◌≡◌, ℕ, suc, ◌+◌, ◌-◌, ◌*◌, ◌≤◌, arith, Bool, true, false, cond, List, [], ◌∷◌, ◌++◌, length, take, drop, Some, w64, refl, ap, ◌∙◌}
 use Rattle.std.specs.Prelude.{◌==◌, ◌&&◌}
 use Rattle.std.specs.List.{flat_map}

@@ -1,4 +1,5 @@
--- The query of a text can be printed, and the numbers that it compares with have 64 bits with a sign.
+-- The query of a text can be printed, and the numbers that it compares with have 64 bits with a
+-- sign.
 use Rattle.std.proofs.Common.{ℕ, zero, suc, true, List, [], ◌∷◌, Option, Some, None, sym, subst, inl, inr, Result, Ok, Err, IfOk}
 use Rattle.std.specs.Prelude.{IfSome}
 use Rattle.std.specs.Option.{option_map_or}

@@ -1,4 +1,5 @@
--- A first part, then a repetition of parts q of at most so many in all, as a loop reads it. `view` is what a part of the program is.
+-- A first part, then a repetition of parts q of at most so many in all, as a loop reads it. `view`
+-- is what a part of the program is.
 use Rattle.std.proofs.Common.{Result, ◌≡◌, ℕ, zero, suc, ◌+◌, ◌-◌, ◌≤◌, ◌<◌, true, false, cond, List, [], ◌∷◌, ◌++◌, length, map, Option, Some, Ok, Err, refl, sym, ap, ◌∙◌, subst, arith, append_assoc}
 use Rattle.std.proofs.lemmas.List.{append-nil, map-append, length-append}
 use Rattle.grammar.specs.Rule.{Rule, both, many, means}

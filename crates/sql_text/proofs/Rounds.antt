@@ -77,7 +77,8 @@ pub listed_fails : {A : Type 0} (most : Option ℕ) (kind : TokenKind) (p : Rule
 unfolding list_of
 listed_fails most kind p levels left s rest e = rw e refl
 
--- the same in the words of a loop: `view` is what a part of the program is, `levels` are those at the loop's begin
+-- the same in the words of a loop: `view` is what a part of the program is, `levels` are those at
+-- the loop's begin
 
 next_front : {A B : Type 0} (view : B → A) (front next : List B) (x : B) → next ≡ front ++ x ∷ [] → map view next ≡ map view front ++ view x ∷ []
 next_front view front next x e = ap (map view) e ∙ map-append view front (x ∷ [])

@@ -1,4 +1,5 @@
--- Names and texts of a text's tokens fit: a name has 1 to 63 bytes of names, a text is UTF-8 within its limits.
+-- Names and texts of a text's tokens fit: a name has 1 to 63 bytes of names, a text is UTF-8 within
+-- its limits.
 use Rattle.std.proofs.Common.{◌≡◌, ℕ, zero, suc, ◌+◌, ◌-◌, ◌≤◌, ◌<◌, Bool, true, false, cond, List, [], ◌∷◌, ◌++◌, length, take, drop, get_or, map, Option, Some, None, Result, Ok, Err, ℤ, pos, refl, sym, ap, ◌∙◌, subst, ◌⊎◌, inl, inr, arith}
 use Rattle.std.specs.Prelude.{slice_index, option_map, ◌==◌, nat_le, nat_lt, not, ◌&&◌, ◌||◌, find}
 use Rattle.std.specs.List.{prefix_len, list_all, AllByRecursion}

@@ -1,4 +1,5 @@
--- What a text of a rule may come to in bytes, by the bytes of its tokens; and which tokens it has not.
+-- What a text of a rule may come to in bytes, by the bytes of its tokens; and which tokens it has
+-- not.
 use Rattle.std.proofs.Common.{◌≡◌, ℕ, ◌+◌, ◌*◌, ◌≤◌, arith, Bool, true, false, ◌&&◌, List, [], ◌∷◌, ◌++◌, length, Option, Ok, subst, sym, ap, ◌∙◌, refl, inl, inr}
 use Rattle.std.specs.Prelude.{not}
 use Rattle.std.specs.List.{AllByRecursion}

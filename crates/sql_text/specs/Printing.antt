@@ -105,7 +105,8 @@ abbrev mutual
   pub condition_tokens : Condition → List Token
   condition_tokens (every cs) = drop 1 (parts_tokens k.And cs)
   condition_tokens (some cs) = drop 1 (parts_tokens k.Or cs)
-  condition_tokens (negated c) = word k.Not ∷ parenthesize (is_enclosed k.Not c) (condition_tokens c)
+  condition_tokens (negated c) =
+      word k.Not ∷ parenthesize (is_enclosed k.Not c) (condition_tokens c)
   condition_tokens (test left op right) = reference_tokens left
       ++ word (operator op) ∷ operand_tokens right
 
@@ -113,7 +114,8 @@ abbrev mutual
   pub parts_tokens : TokenKind → Conditions → List Token
   parts_tokens before none = []
   parts_tokens before (more c cs) =
-      word before ∷ parenthesize (is_enclosed before c) (condition_tokens c) ++ parts_tokens before cs
+      word before ∷ parenthesize (is_enclosed before c) (condition_tokens c)
+      ++ parts_tokens before cs
 
 abbrev pub items_tokens : Items → List Token
 items_tokens items_of.All = word k.Star ∷ []

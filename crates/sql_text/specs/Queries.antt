@@ -91,7 +91,8 @@ conj = means all_of (list_of None k.And prim)
 unfoldable pub disj : Rule sql Condition
 disj = means any_of (list_of None k.Or conj)
 
--- what stands in a condition, and what may follow it: the rest of a reference at its end, or a further part
+-- what stands in a condition, and what may follow it: the rest of a reference at its end, or a
+-- further part
 unfoldable pub conditions_of : Grammar sql
 conditions_of = record { rule = rule; after = after }
   where

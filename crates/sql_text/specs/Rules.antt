@@ -27,4 +27,5 @@ list_of most separator p = means (λ x. x.0 ∷ x.1) (both p (many most (before 
 
 -- p end { p end }, with at most so many after the first
 unfoldable pub list_to_end : {A : Type 0} → Option ℕ → Rule sql A → TokenKind → Rule sql (List A)
-list_to_end most p end = means (λ x. x.0 ∷ x.1) (both (followed_by p end) (many most (followed_by p end)))
+list_to_end most p end =
+    means (λ x. x.0 ∷ x.1) (both (followed_by p end) (many most (followed_by p end)))

@@ -24,7 +24,8 @@ closes committed p = committed && same_kind p.token.kind k.Semicolon
 abbrev pub commits : Placed → Bool
 commits p = same_kind p.token.kind k.Commit
 
--- some batch has a text of more than 65,536 bytes, from the end of the `;` of the COMMIT before it, at first `start`, to its own COMMIT's `;`
+-- some batch has a text of more than 65,536 bytes, from the end of the `;` of the COMMIT before it,
+-- at first `start`, to its own COMMIT's `;`
 abbrev pub has_long : ℕ → Bool → List Placed → Bool
 has_long start committed [] = false
 has_long start committed (p ∷ ps) =
@@ -58,8 +59,8 @@ HasLongBatch text =
     × Begins conditions_of true max_nesting script (without_places front) × AreShort front
     × (has_long 0 false (front ++ p ∷ []) ≡ true)
 
--- when each fault comes: the length first, then the first token that is none, then what comes first of a token that no script
--- goes on with and the end of a batch that is too long
+-- when each fault comes: the length first, then the first token that is none, then what comes first
+-- of a token that no script goes on with and the end of a batch that is too long
 abbrev pub HasScriptFault : List ℕ → SqlFault → Type 0
 HasScriptFault text fault.TooLong = (max_script_bytes < length text)
     ⊎ ((length text ≤ max_script_bytes) × HasLongBatch text)
@@ -90,7 +91,8 @@ short_len start committed (p ∷ ps) =
     then (if nat_lt max_sql_bytes (p.at - start) then 0 else suc (short_len (p.at + 1) false ps))
     else suc (short_len start (commits p) ps)
 
--- the answer by what was found in the tokens before the first `;` that closes a batch of too many bytes, which are all tokens if `is_whole`
+-- the answer by what was found in the tokens before the first `;` that closes a batch of too many
+-- bytes, which are all tokens if `is_whole`
 abbrev pub ended_script : {B : Type 0} → Bool → Result B ParseError → List Placed → ℕ
     → Result B SqlFault
 ended_script is_whole (Err halt.Memory) left end = Err fault.Memory

@@ -35,7 +35,8 @@ Breaks start text s at =
     × (n : ℕ) × (at ≡ place_of (drop n ps) (length text))
     × FaultsAt conditions_of max_nesting start (without_places ps) s (without_places (drop n ps))
 
--- when each fault comes: the length first, then the first token that is none, then the first token that the rule can't go on with
+-- when each fault comes: the length first, then the first token that is none, then the first token
+-- that the rule can't go on with
 abbrev pub HasFault : {A : Type 0} → ℕ → Rule sql A → List ℕ → SqlFault → Type 0
 HasFault most start text fault.TooLong = most < length text
 HasFault most start text (fault.Token at) = (length text ≤ most)

@@ -145,7 +145,8 @@ pub fn print_terminated<P: Print>(
 
 /// The text without the blank behind its last token.
 pub fn without_last_blank(mut out: Vec<u8>) -> Vec<u8>
-    ensures { (tokens : List Token) → out.items ≡ text_of tokens → result.items ≡ spaces_between tokens }
+    ensures { (tokens : List Token) → out.items ≡ text_of tokens
+        → result.items ≡ spaces_between tokens }
 {
     out.pop();
     out

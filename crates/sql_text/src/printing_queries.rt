@@ -59,7 +59,8 @@ impl Print for Operand {
     }
 }
 
-/// Whether parentheses stand round a part of a NOT, an AND or an OR: its parts would be read as those of another.
+/// Whether parentheses stand round a part of a NOT, an AND or an OR: its parts would be read as
+/// those of another.
 fn is_enclosed(in_word: TokenKind, part: &Cond) -> bool
     ensures { result ≡ is_enclosed in_word (condition_of part.now) }
 {

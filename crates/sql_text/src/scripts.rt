@@ -42,7 +42,8 @@ fn short_len(list: &[Lexeme<'_>]) -> usize
     place
 }
 
-/// The answer for a script by what was found in the tokens before a batch of too many bytes closes, if one does.
+/// The answer for a script by what was found in the tokens before a batch of too many bytes closes,
+/// if one does.
 fn ended_script<T: Drop>(
     is_whole: bool,
     found: Result<T, ParseError>,

@@ -58,8 +58,8 @@ abbrev pub integer : Option ℤ → List ℕ → Result Token TokenFault
 integer None text = Err lapse.Literal
 integer (Some number) text = Ok (record { kind = k.Integer; text = text; number = number })
 
--- how many bytes a quoted text goes on for behind its first quote, where `second` says that the byte before was a quote that may be its last;
--- two quotes stand for one
+-- how many bytes a quoted text goes on for behind its first quote, where `second` says that the
+-- byte before was a quote that may be its last; two quotes stand for one
 abbrev pub closing : Bool → List ℕ → Option ℕ
 closing second [] = if second then Some 0 else None
 closing second (b ∷ bytes) = if second && not (b == 39) then Some 0
@@ -130,7 +130,8 @@ at_place at (Ok token) others = then_tokens (record { token = token; at = at })
     (others (length token.text - 1))
 at_place at (Err lapse) others = Err (lapse, at)
 
--- the tokens of what stands from place `at` on, or the first lapse with its place; the first `within` bytes are still of the token before
+-- the tokens of what stands from place `at` on, or the first lapse with its place; the first
+-- `within` bytes are still of the token before
 unfoldable pub tokens_from : ℕ → ℕ → List ℕ → Result (List Placed) (TokenFault × ℕ)
 tokens_from at within [] = Ok []
 tokens_from at (suc within) (b ∷ bytes) = tokens_from (at + 1) within bytes

@@ -151,7 +151,8 @@ fn has_no_control(text: &[u8]) -> bool
     text.iter().all(|byte| 32 <= *byte)
 }
 
-/// Whether a text in its quotes, of two bytes or more, is a literal's: not too long, and with no control character.
+/// Whether a text in its quotes, of two bytes or more, is a literal's: not too long, and with no
+/// control character.
 pub fn fits_text(text: &[u8]) -> bool
     requires { 2 ≤ length text.now }
     ensures { result ≡ fits_text text.now }

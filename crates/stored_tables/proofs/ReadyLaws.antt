@@ -1,4 +1,5 @@
--- A command on rows that no table header refuses finds its table, and the table's tree can take the change.
+-- A command on rows that no table header refuses finds its table, and the table's tree can take the
+-- change.
 use Rattle.std.proofs.Common.{◌≡◌, ℕ, ◌<◌, ◌≤◌, true, List, Some, None, length, map, sym, ap, ◌∙◌, subst, arith}
 use Rattle.std.specs.Option.{option_map_or}
 use Rattle.std.specs.List.{AllByRecursion}

@@ -16,7 +16,8 @@ changes_rows (Insert name values) = true
 changes_rows (Update name sets column value) = true
 changes_rows (Delete name column value) = true
 
--- the row of an INSERT fits and has room, the values of an UPDATE fit, and its columns have numbers of a byte
+-- the row of an INSERT fits and has room, the values of an UPDATE fit, and its columns have numbers
+-- of a byte
 abbrev pub IsReady : Command → Stored → Type 0
 IsReady (Insert name values) s = FitsRow (row_of s.schema values)
     × (length (entries s.tree) < max_rows)

@@ -33,8 +33,8 @@ pub(crate) fn share_tables(
     Ok(replace_range(alloc, tables, 0, 0, &[])?)
 }
 
-/// The tables after a list of commands. Their nodes are hashed when all are done: what a later command
-/// replaces never is.
+/// The tables after a list of commands. Their nodes are hashed when all are done: what a later
+/// command replaces never is.
 fn apply_commands(
     alloc: Global,
     tables: &[Rc<StoredTable>],

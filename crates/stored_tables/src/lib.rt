@@ -1,4 +1,5 @@
-//! The tables of an owner or a store, each as its whole tree, and what commands and batches make of them.
+//! The tables of an owner or a store, each as its whole tree, and what commands and batches make of
+//! them.
 #![tactic(auto)]
 
 mod batches;

@@ -15,7 +15,8 @@ fn share<T: Drop>(out: &mut Vec<Rc<T>>, items: &[Rc<T>]) -> Result<(), AllocErro
     Ok(())
 }
 
-/// The items with those from `from` up to `to` exchanged for others. The others are shared, none is copied.
+/// The items with those from `from` up to `to` exchanged for others. The others are shared, none is
+/// copied.
 pub(crate) fn replace_range<T: Drop>(
     alloc: Global,
     items: &[Rc<T>],

@@ -9,7 +9,8 @@ use std::rc::Rc;
 use table_list::TableHeaderRef;
 use vo_spec::{Name, Schema};
 
-/// A table of rows, which its tree has. Its name and schema are shared by all that changes make of it.
+/// A table of rows, which its tree has. Its name and schema are shared by all that changes make of
+/// it.
 #[derive(Drop)]
 pub struct StoredTable {
     pub name: Rc<Name>,

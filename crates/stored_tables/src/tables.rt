@@ -30,8 +30,8 @@ use std::rc::Rc;
 use table_list::{ApplyFault, BatchFault, command_name};
 use vo_spec::{Batch, Catalog, Command, CommandFault, List, Table};
 
-/// Tables, each as its whole tree, which contracts see as the list of them. Tables before and after a
-/// command share what it leaves.
+/// Tables, each as its whole tree, which contracts see as the list of them. Tables before and after
+/// a command share what it leaves.
 #[derive(Drop)]
 pub struct StoredTables {
     tables: Vec<Rc<StoredTable>>,
@@ -113,8 +113,8 @@ impl StoredTables {
         })
     }
 
-    /// Applies the commands of a batch, all or none. A refused batch leaves the tables, and so does want of
-    /// memory.
+    /// Applies the commands of a batch, all or none. A refused batch leaves the tables, and so does
+    /// want of memory.
     pub fn apply_batch(&mut self, alloc: Global, batch: &Batch) -> Result<(), BatchFault>
         requires fits { FitsBatch batch.now.commands }
         ensures answer { BatchGives (λ _. self.new) result

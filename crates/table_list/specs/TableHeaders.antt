@@ -1,4 +1,5 @@
--- What a command's refusal needs of the tables: the table header of the one that it names, and how many there are.
+-- What a command's refusal needs of the tables: the table header of the one that it names, and how
+-- many there are.
 use Rattle.std.specs.Prelude.{ℕ, List}
 use Rattle.vo_spec.specs.declared.tables.Command.{Command}
 use Rattle.vo_spec.specs.declared.tables.Command.TheVariants.{Create, Drop, Insert, Update, Delete}

@@ -122,8 +122,8 @@ pub(crate) fn delete_fault(
     None
 }
 
-/// The first of a command's tests that holds, but for those that need the rows. `found` is the table that
-/// the command names, where it is there, and `tables` how many tables there are.
+/// The first of a command's tests that holds, but for those that need the rows. `found` is the
+/// table that the command names, where it is there, and `tables` how many tables there are.
 pub fn first_refusal(
     command: &Command,
     found: Option<TableHeaderRef<'_>>,

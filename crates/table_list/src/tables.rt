@@ -81,8 +81,8 @@ fn apply_commands(
     Ok(new)
 }
 
-/// Applies the commands of a batch, all or none. A refused batch leaves the tables, and so does want of
-/// memory.
+/// Applies the commands of a batch, all or none. A refused batch leaves the tables, and so does
+/// want of memory.
 pub fn apply_batch(alloc: Global, tables: &mut Tables, batch: &Batch) -> Result<(), BatchFault>
     requires { FitsBatch batch.now.commands }
     ensures answer { BatchGives (λ _. tables.new) result

@@ -11,8 +11,8 @@ use Rattle.vo_spec.specs.Cells.{cell_digest, row_digest}
 use Rattle.vo_spec.specs.Parts.{stub, leaf, inner, none, more}
 use Rattle.vo_spec.specs.Trees.{RowTree, RowTrees, digest}
 
--- the fact holds exactly where nothing is found; what is found are two different byte strings of one digest,
--- which are as said
+-- the fact holds exactly where nothing is found; what is found are two different byte strings of
+-- one digest, which are as said
 abbrev pub HoldsOrCollides : Option (List ℕ × List ℕ) → Type 0 → (List ℕ → List ℕ → Type 0) → Type 0
 HoldsOrCollides None fact Are = fact
 HoldsOrCollides (Some found) fact Are = (fact → ⊥) × Collides found.0 found.1 × Are found.0 found.1
@@ -26,8 +26,8 @@ abbrev pub FoundAre : Agreement → (List ℕ → List ℕ → Type 0) → Type 
 FoundAre Does_prune Are = Unit {0}
 FoundAre (Found found) Are = Are found.0 found.1
 
--- twins are the same only where the one fact holds; else two different byte strings of one digest are found,
--- and the other fact holds
+-- twins are the same only where the one fact holds; else two different byte strings of one digest
+-- are found, and the other fact holds
 abbrev pub SameOrFound : Twins → Type 0 → Type 0 → Type 0
 SameOrFound twins.Same fact other = fact
 SameOrFound (twins.Collides found) fact other = other × Collides found.0 found.1

@@ -1,5 +1,5 @@
--- Two parts of trees of one digest that show the same wherever both are open. Where one of them is closed, it
--- has the digest of what the other has there.
+-- Two parts of trees of one digest that show the same wherever both are open. Where one of them is
+-- closed, it has the digest of what the other has there.
 use Rattle.std.specs.Prelude.{◌≡◌, ℕ, ◌+◌, List, [], ◌∷◌}
 use Rattle.std.specs.List.{AllZip}
 use Rattle.vo_spec.specs.declared.cells.Cell.{Cell}

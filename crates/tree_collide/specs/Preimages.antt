@@ -51,6 +51,7 @@ abbrev mutual
       ⊎ NodesIn ps qs x y
   NodesIn _ _ x y = ⊥
 
--- Two nodes that stand at one place of the trees hash these strings, or two rows or attributes there do.
+-- Two nodes that stand at one place of the trees hash these strings, or two rows or attributes
+-- there do.
 abbrev pub ArePreimages : RowTree → RowTree → OfStrings
 ArePreimages p t x y = NodesOf p t x y ⊎ BelowNodes p t x y

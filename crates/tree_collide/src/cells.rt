@@ -14,7 +14,8 @@ use row_bytes::put_value;
 use std::alloc::{AllocError, Global};
 use vo_spec::{Cell, Collision, Value, ValueRef};
 
-/// None where the cells are these values with some of them hidden, else a collision of what they hash.
+/// None where the cells are these values with some of them hidden, else a collision of what they
+/// hash.
 pub fn collision_of_cells(
     alloc: Global,
     cells: &[Cell<'_>],

@@ -11,8 +11,8 @@ use mb_tree::TreeEntry;
 use std::alloc::{AllocError, Global};
 use vo_spec::{Collision, PartEntry};
 
-/// None where the entries are those of the tree with some of their rows or cells replaced by digests, else
-/// a collision of what they hash.
+/// None where the entries are those of the tree with some of their rows or cells replaced by
+/// digests, else a collision of what they hash.
 pub fn collision_of_entries(
     alloc: Global,
     parts: &[PartEntry<'_>],

@@ -1,5 +1,5 @@
-//! Whether a part tree prunes a whole tree of its digest, and whether two part trees of one digest show the
-//! same, or else two byte strings of one digest.
+//! Whether a part tree prunes a whole tree of its digest, and whether two part trees of one digest
+//! show the same, or else two byte strings of one digest.
 #![tactic(auto)]
 
 mod cells;

@@ -16,8 +16,8 @@ use mb_tree::{Node, PartTree, Subtree, Tree};
 use std::alloc::{AllocError, Global};
 use vo_spec::{Agreement, Collision};
 
-/// Whether the part prunes the tree, whose digest is the same; if not, what shows two byte strings of one
-/// digest.
+/// Whether the part prunes the tree, whose digest is the same; if not, what shows two byte strings
+/// of one digest.
 pub fn agree(alloc: Global, part: &PartTree<'_>, tree: &Tree) -> Result<Agreement, AllocError>
     requires fits { FitsPart (part_of part.now) }
     requires same { digest (part_of part.now) ≡ digest tree.now }

@@ -14,8 +14,8 @@ use mb_tree::HashedCells;
 use std::alloc::{AllocError, Global};
 use vo_spec::{Cell, Collision, RowPart, Value};
 
-/// None where the part is the row with some of its cells, or itself, replaced by their digests, else a
-/// collision of what the two hash.
+/// None where the part is the row with some of its cells, or itself, replaced by their digests,
+/// else a collision of what the two hash.
 pub fn collision_of_row(
     alloc: Global,
     part: &RowPart<'_>,

@@ -15,8 +15,8 @@ use crate::twin_cells::collision_of_twin_cells;
 use std::alloc::{AllocError, Global};
 use vo_spec::{Cell, Collision, PartEntry, RowPart};
 
-/// None where the entries have the same keys, and rows that show the same wherever both are open, else a
-/// collision of what they hash.
+/// None where the entries have the same keys, and rows that show the same wherever both are open,
+/// else a collision of what they hash.
 pub fn collision_of_twin_entries(
     alloc: Global,
     first: &[PartEntry<'_>],

@@ -16,8 +16,8 @@ use mb_tree::PartTree;
 use std::alloc::{AllocError, Global};
 use vo_spec::{Need, Twins};
 
-/// Whether the two give one walk for the need; if not, what shows two byte strings of one digest. All that both
-/// have open is compared, so that the walks for any other need are one too.
+/// Whether the two give one walk for the need; if not, what shows two byte strings of one digest.
+/// All that both have open is compared, so that the walks for any other need are one too.
 pub fn agree_walk(
     alloc: Global,
     first: &PartTree<'_>,
@@ -36,8 +36,8 @@ pub fn agree_walk(
     compare_parts(alloc, first, second)
 }
 
-/// Whether the two, each the proof of some tree for the needs, are the same; if not, what shows two byte
-/// strings of one digest.
+/// Whether the two, each the proof of some tree for the needs, are the same; if not, what shows two
+/// byte strings of one digest.
 pub fn agree_two(
     alloc: Global,
     first: &PartTree<'_>,
@@ -78,9 +78,9 @@ fn compare_parts(
     }
 }
 
-/// A walk has an end exactly where a scan misses nothing, and its rows are then what the scan gives. So the walk
-/// for one of the needs of a tree that misses nothing for them has an end, and where two walks that are one
-/// have ends, the scans give the same.
+/// A walk has an end exactly where a scan misses nothing, and its rows are then what the scan
+/// gives. So the walk for one of the needs of a tree that misses nothing for them has an end, and
+/// where two walks that are one have ends, the scans give the same.
 pub fn walks_show_what_is_seen()
     ensures seen { (need : ScanNeed) (p : RowTree) → seen need p ≡ if_ended (walk need p) }
     ensures complete { (before : List ScanNeed) (need : ScanNeed) (after : List ScanNeed)

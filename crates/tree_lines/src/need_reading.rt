@@ -1,7 +1,7 @@
 //! Needs as bytes.
 //!
-//! The lower bound and the upper one, each its kind (0 none, 1 inclusive, 2 exclusive) and, if it is
-//! one, its key behind the length; and the columns behind their number.
+//! The lower bound and the upper one, each its kind (0 none, 1 inclusive, 2 exclusive) and, if it
+//! is one, its key behind the length; and the columns behind their number.
 use row_bytes::{Cursor, ReadFault};
 use std::alloc::Global;
 use vo_spec::{Bound, Interval, Key, Need, SharedList};

@@ -1,4 +1,5 @@
--- The proof of an insertion is the only part of its tree in which nothing is missing and nothing open beyond.
+-- The proof of an insertion is the only part of its tree in which nothing is missing and nothing
+-- open beyond.
 use Rattle.std.proofs.Common.{◌≡◌, ℕ, Bool, true, false, List, drop, Option, None, refl, sym, ap, ◌∙◌, slice_get}
 use Rattle.vo_spec.specs.Parts.{stub, leaf, inner, none, more}
 use Rattle.vo_spec.specs.Trees.{RowTree, RowTrees, row_family, Prunes}

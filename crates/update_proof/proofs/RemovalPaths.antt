@@ -26,7 +26,8 @@ joined_left false b x y = refl
 one_less : (i : ℕ) → suc i - 1 ≡ i
 one_less i = omega arith
 
--- this child and those after it but for that of this number, which looks at the one before it or not
+-- this child and those after it but for that of this number, which looks at the one before it or
+-- not
 abbrev after : Bool → ℕ → RowTree → List RowTree → Bool
 after looks i left [] = is_open left
 after looks zero left (t ∷ ts) = sibling_surplus looks left || list_any is_open ts

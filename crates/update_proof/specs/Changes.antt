@@ -46,8 +46,8 @@ change_proof Insertion = insert_proof
 change_proof Replacement = replace_proof
 change_proof Removal = remove_proof
 
--- the children closed, but for the one of this number, in whose place this stands, and for the node of
--- its sibling if that is opened
+-- the children closed, but for the one of this number, in whose place this stands, and for the node
+-- of its sibling if that is opened
 abbrev pub opened_along : ℕ → Bool → RowTree → List RowTree → List RowTree
 opened_along i opens p ts =
     if opens

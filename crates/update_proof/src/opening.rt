@@ -34,7 +34,8 @@ pub fn insert_proof<'b>(
     open_along(alloc, tree.root(), key, Change::Insertion)
 }
 
-/// The part of the tree that a replacement in the row of this key looks at. Its keys are lent by the tree.
+/// The part of the tree that a replacement in the row of this key looks at. Its keys are lent by
+/// the tree.
 pub fn replace_proof<'b>(
     alloc: Global,
     tree: &'b Tree,
@@ -56,7 +57,8 @@ pub fn remove_proof<'b>(
     open_along(alloc, tree.root(), key, Change::Removal)
 }
 
-/// The subtree with the path to the key's leaf open, and the siblings of the nodes that are left underfull.
+/// The subtree with the path to the key's leaf open, and the siblings of the nodes that are left
+/// underfull.
 #[cycle(open_along)]
 fn open_along<'b>(
     alloc: Global,
@@ -100,8 +102,8 @@ fn open_children<'b>(
     open_sibling(alloc, children, step, part)
 }
 
-/// The part in the place of the step's child, the node of its sibling if it is opened, and the other
-/// children closed.
+/// The part in the place of the step's child, the node of its sibling if it is opened, and the
+/// other children closed.
 fn open_sibling<'b>(
     alloc: Global,
     children: &'b [Subtree],

@@ -9,7 +9,8 @@ use crate::change::Change;
 use btree::position_of;
 use vo_spec::{Cell, PartEntry, RowPart};
 
-/// Whether a row of the leaf shows more than its digest, or that of a replacement more than its cells'.
+/// Whether a row of the leaf shows more than its digest, or that of a replacement more than its
+/// cells'.
 pub fn rows_have_surplus(entries: &[PartEntry<'_>], key: &[u8], change: Change) -> bool
     ensures { result ≡ any_row_surplus change key.now entries.now }
 {

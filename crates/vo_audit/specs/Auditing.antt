@@ -69,7 +69,8 @@ pub record IsPartOf (q : Query) (r : Reply) (stored : List Stored) : Type 0 wher
 
 -- Journals.
 
--- the entry of a departure is there: an owner followed its batch to other roots than those of these tables
+-- the entry of a departure is there: an owner followed its batch to other roots than those of these
+-- tables
 pub record IsDepartureIn (es : List Entry) (d : Departure) : Type 0 where
   pub entry : Entry
   pub there : slice_get es d.index ≡ Some entry
@@ -82,8 +83,8 @@ abbrev pub IsBefore : ℕ → Option Departure → Type 0
 IsBefore version None = Unit {0}
 IsBefore version (Some d) = version < d.index
 
--- an owner's journal, read with the honest tables of this version, which is before a departure if its record
--- isn't theirs
+-- an owner's journal, read with the honest tables of this version, which is before a departure if
+-- its record isn't theirs
 pub record IsReadAt (version : ℕ) (owned : OwnedJournal) : Type 0 where
   pub some : 0 < length owned.entries
   pub signed : (rec : Record) → Holds owned.entries rec → IsBefore rec.version owned.departure

@@ -1,4 +1,5 @@
-//! The audit of a reply: its reading, the journal, the client's check, and the verdict, in this order.
+//! The audit of a reply: its reading, the journal, the client's check, and the verdict, in this
+//! order.
 ghost use Rattle.std.specs.Prelude.{◌≡◌, ◌⊎◌, Err, IfOk};
 ghost use Rattle.vo_spec.specs.Conditions.{query_of};
 ghost use Rattle.vo_spec.specs.Replies.{FitsReply};
@@ -59,8 +60,8 @@ fn audit_reply(
     }
 }
 
-/// The verdict on the bytes as a reply to the query, by the bytes as the journal of the key's owner. A bad
-/// journal is told before anything of the reply.
+/// The verdict on the bytes as a reply to the query, by the bytes as the journal of the key's
+/// owner. A bad journal is told before anything of the reply.
 pub fn audit(
     alloc: Global,
     key: &PublicKey,

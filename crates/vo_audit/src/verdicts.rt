@@ -104,7 +104,8 @@ fn collision_at(
     }
 }
 
-/// The verdict by the honest tables of a version at which the owner's roots have departed from them.
+/// The verdict by the honest tables of a version at which the owner's roots have departed from
+/// them.
 fn verdict_behind(
     alloc: Global,
     tables: &StoredTables,

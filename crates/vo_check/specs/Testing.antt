@@ -13,7 +13,8 @@ use Rattle.vo_spec.specs.Checks.{table_named, has_table_shape, root_fault}
 use Rattle.mb_tree.specs.View.{part_of}
 use Rattle.vo_check.specs.declared.table_tree.TableTree.{TableTree}
 
--- a call gives the value where the tests find nothing, and else what they find, unless memory ran out
+-- a call gives the value where the tests find nothing, and else what they find, unless memory ran
+-- out
 abbrev pub GivesIfPassed : {A : Type 0} → Result A CheckFault → Option CheckFault → A → Type 0
 GivesIfPassed (Ok x) found value = (found ≡ None) × (x ≡ value)
 GivesIfPassed (Err fault) found value = (fault ≡ Memory) ⊎ (found ≡ Some fault)

@@ -33,8 +33,8 @@ impl Client {
         self.least
     }
 
-    /// The answer of a reply to the query, or the first test that refuses it. The client takes no older
-    /// version from then on.
+    /// The answer of a reply to the query, or the first test that refuses it. The client takes no
+    /// older version from then on.
     #[tactic(auto, unfolding(vo_spec::specs::Checks::CheckOf))]
     pub fn check(
         &mut self,

@@ -140,8 +140,8 @@ fn answer_of(
     }
 }
 
-/// What a client of this key, who takes no version below `least`, says of the reply to the query: its answer,
-/// or the first test that refuses it.
+/// What a client of this key, who takes no version below `least`, says of the reply to the query:
+/// its answer, or the first test that refuses it.
 #[tactic(auto, unfolding(vo_spec::specs::Checks::answer_to))]
 pub fn judge(
     alloc: Global,

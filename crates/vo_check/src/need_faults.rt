@@ -8,8 +8,8 @@ use range_proof::is_canonical;
 use std::alloc::Global;
 use vo_spec::{CheckFault, List, Need, ScanFault};
 
-/// Refuses trees that miss something of their needs, and then those that have more. There is a list of
-/// needs for each tree.
+/// Refuses trees that miss something of their needs, and then those that have more. There is a list
+/// of needs for each tree.
 pub(crate) fn test_needs(
     alloc: Global,
     trees: &[PartTree<'_>],

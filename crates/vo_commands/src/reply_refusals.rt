@@ -11,7 +11,8 @@ use crate::report::{Report, Status};
 use std::alloc::{AllocError, Global};
 use vo_spec::CheckFault;
 
-/// Why a reply is refused, behind a beginning that says which. Want of memory, which is no refusal, has no words.
+/// Why a reply is refused, behind a beginning that says which. Want of memory, which is no refusal,
+/// has no words.
 pub fn reply_refusal<'a>(
     alloc: Global,
     beginning: &'a str,

@@ -1,4 +1,5 @@
--- Fields that are read are spelled so, and what is spelled so is read: blocks, keys, counts, and things behind a byte.
+-- Fields that are read are spelled so, and what is spelled so is read: blocks, keys, counts, and
+-- things behind a byte.
 use Rattle.std.proofs.Common.{◌≡◌, ℕ, ◌^◌, ◌<◌, ◌≤◌, false, ◌&&◌, cond, eqb, leb, ltb, List, [], ◌∷◌, ◌++◌, length, take, drop, Option, Some, None, refl, sym, ap, subst, ◌∙◌, append_assoc, arith, inl, inr}
 use Rattle.std.specs.List.{AllByRecursion, flat_map}
 use Rattle.std.proofs.lemmas.Bool.{eqb-true, ltb-false, le-ltb, leb-true, le-leb}

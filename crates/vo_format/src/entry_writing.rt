@@ -11,7 +11,8 @@ ghost use Rattle.batch_format.specs.Writing.{StaysInFront};
 use std::alloc::AllocError;
 use vo_spec::{Cell, Digest, PartEntry, RowPart, ValueRef, u16_bytes, u64_bytes};
 
-/// Puts what is hidden at the end: a zero, and its digest. Where memory runs out, what was there stays in front.
+/// Puts what is hidden at the end: a zero, and its digest. Where memory runs out, what was there
+/// stays in front.
 // As one piece: most of a reply is this, and each piece that is put takes a call.
 #[tactic(auto, using(batch_format::proofs::Fronts::stays_itself, batch_format::proofs::Fronts::stays_before))]
 pub fn put_hidden(out: &mut Vec<u8>, digest: &Digest) -> Result<(), AllocError>
@@ -23,7 +24,8 @@ pub fn put_hidden(out: &mut Vec<u8>, digest: &Digest) -> Result<(), AllocError>
     out.extend_from_slice(&hidden)
 }
 
-/// Puts a key or a separator behind its length at the end. Where memory runs out, what was there stays in front.
+/// Puts a key or a separator behind its length at the end. Where memory runs out, what was there
+/// stays in front.
 #[tactic(auto, using(batch_format::proofs::Fronts::stays_itself, batch_format::proofs::Fronts::stays_before, batch_format::proofs::Fronts::stays_behind))]
 pub fn put_key(out: &mut Vec<u8>, key: &[u8]) -> Result<(), AllocError>
     requires { FitsKey key.now }

@@ -87,7 +87,8 @@ fn put_children(out: &mut Vec<u8>, children: &[PartTree<'_>]) -> Result<(), Allo
 {
     for child in children {
         match child {
-            // Here, since most children are digests, and a call for each would take as long as writing it.
+            // Here, since most children are digests, and a call for each would take as long as
+            // writing it.
             PartTree::Stub(digest) => put_hidden(out, digest)?,
             _ => put_tree(out, child)?,
         }

@@ -1,5 +1,6 @@
--- The answers of a query, left row by left row: rows that are alike in what the query names give the same
--- answers, and a left row outside the interval, or that fails the left condition, gives none.
+-- The answers of a query, left row by left row: rows that are alike in what the query names give
+-- the same answers, and a left row outside the interval, or that fails the left condition, gives
+-- none.
 use Rattle.std.proofs.Common.{◌≡◌, ℕ, zero, suc, ◌+◌, ◌<◌, ◌≤◌, Bool, true, false, cond, List, [], ◌∷◌, ◌++◌, Option, Some, None, length, map, inl, inr, refl, ap, ◌∙◌, subst, arith}
 use Rattle.std.specs.Prelude.{◌&&◌, ◌⊎◌, ◌==◌, not, flat_map, slice_index_or}
 use Rattle.std.specs.Option.{option_map_or}

@@ -1,4 +1,5 @@
--- Catalogs that fit are told from their bytes, so two of them with one digest give two strings with one digest.
+-- Catalogs that fit are told from their bytes, so two of them with one digest give two strings with
+-- one digest.
 use Rattle.std.proofs.Common.{◌≡◌, ◌≢◌, ℕ, ◌^◌, ◌<◌, ◌≤◌, List, [], ◌∷◌, ◌++◌, length, refl, sym, ap, ◌∙◌, append_assoc, append-nil, arith}
 use Rattle.std.specs.Prelude.{flat_map}
 use Rattle.std.specs.Int.{w16, w64, from_be_bytes}

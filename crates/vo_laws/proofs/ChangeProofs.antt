@@ -1,5 +1,5 @@
--- The proofs of a replacement and of a removal are within the limits of a tree: on each level one node is open, or
--- two siblings.
+-- The proofs of a replacement and of a removal are within the limits of a tree: on each level one
+-- node is open, or two siblings.
 use Rattle.std.proofs.Common.{◌≡◌, ℕ, suc, ◌+◌, ◌*◌, ◌≤◌, Bool, true, false, cond, List, [], ◌∷◌, length, map, refl, sym, ap, ◌∙◌, subst, arith}
 use Rattle.std.specs.Prelude.{flat_map, slice_get, drop, bytes_eq}
 use Rattle.std.specs.List.{AllByRecursion}

@@ -1,5 +1,5 @@
--- Commands on plain tables: what a command that isn't refused keeps of them, and the facts of a row that is
--- inserted.
+-- Commands on plain tables: what a command that isn't refused keeps of them, and the facts of a row
+-- that is inserted.
 use Rattle.std.proofs.Common.{◌≡◌, ℕ, zero, suc, ◌+◌, ◌<◌, ◌≤◌, Bool, true, false, cond, List, [], ◌∷◌, Option, Some, None, length, map, take, drop, inl, inr, refl, sym, ap, ◌∙◌, arith}
 use Rattle.std.specs.Prelude.{◌||◌, ◌==◌, not, nat_le, filter, remove, option_map, bytes_eq, is_some}
 use Rattle.std.specs.Option.{option_map_or}
@@ -64,7 +64,8 @@ pub record IsInsertable (t : Table) (values : List Value) : Type 0 where
   pub short : length (key_of (value_at values t.schema.key)) ≤ max_key
   pub room : length t.rows < max_rows
 
--- the table of a command that no table header refuses is there, and none of the command's tests on it holds
+-- the table of a command that no table header refuses is there, and none of the command's tests on
+-- it holds
 pub table_there : (name : List ℕ) (tests : TableHeader → List (Bool × CommandFault)) (tables : List Table) → on_table name (map table_header_of tables) tests ≡ None
     → is_some (table_named name tables) ≡ true
 table_there name tests tables e = step (table_named name tables) (ap (λ o. option_map_or (λ h. first_of (tests h)) o (Some NoTable)) (sym (table_header_found name tables)) ∙ e)

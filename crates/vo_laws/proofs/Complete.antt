@@ -278,7 +278,8 @@ module _ (stored : List Stored) (tables : List Table) (stand : RepresentTables s
       (cond-false (list_any (λ (t : List Need × RowTree). is_missing t.0 t.1) (needed_if q hs (is_some (binding_fault hs q)))) _ None w.2)
       (cond-false (list_any (λ (t : List Need × RowTree). has_surplus t.0 t.1) (needed_if q hs (is_some (binding_fault hs q)))) _ None w.3)
 
-  -- A client takes it, and its outcome is the query's result on the tables that the trees stand for.
+  -- A client takes it, and its outcome is the query's result on the tables that the trees stand
+  -- for.
   pub answered : (key : List ℕ) (least : ℕ) (q : Query) (rec : Record) (signature : List ℕ) → rec.id ≡ key_id key → rec.catalog ≡ catalog_digest (catalog_of stored)
       → IsSigned key rec signature → least ≤ rec.version → FitsQuery q
       → answer_to key least q (honest_reply q rec signature stored) ≡ Ok (record { version = rec.version; outcome = result q tables })
@@ -292,8 +293,8 @@ module _ (stored : List Stored) (tables : List Table) (stand : RepresentTables s
       ap (λ o. unless o (record { version = rec.version; outcome = seen_outcome q r.catalog r.trees })) (unrefused key least q rec signature id catalog signed recent)
       ∙ ap (λ o. Ok (record { version = rec.version; outcome = o })) outcome_is
 
--- The reply of a store that holds the trees after these batches: a client takes it, with the query's result on
--- the tables after them.
+-- The reply of a store that holds the trees after these batches: a client takes it, with the
+-- query's result on the tables after them.
 pub honest_answer : (batches : List (List Command)) (key : List ℕ) (version least : ℕ) (q : Query) (rec : Record) (signature : List ℕ)
     → AllByRecursion FitsBatch batches → rec ≡ honest_record key version (honest_trees batches) → IsSigned key rec signature
     → least ≤ rec.version → FitsQuery q

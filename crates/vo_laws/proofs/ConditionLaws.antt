@@ -1,5 +1,5 @@
--- Conditions: a condition's truth goes by what its references give; a row that meets one meets its left
--- part, and has its key in the interval.
+-- Conditions: a condition's truth goes by what its references give; a row that meets one meets its
+-- left part, and has its key in the interval.
 use Rattle.std.proofs.Common.{◌≡◌, ℕ, Bool, true, false, cond, List, [], ◌∷◌, Some, None, Ordering, refl, sym, ap, ◌∙◌}
 use Rattle.std.specs.Prelude.{◌==◌, not}
 use Rattle.std.specs.List.{list_all, AllByRecursion}

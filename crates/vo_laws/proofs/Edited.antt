@@ -1,5 +1,5 @@
--- An entry of a whole tree is edited in its place: the tree keeps its shape, and its entries are those of the list
--- in which that entry is edited.
+-- An entry of a whole tree is edited in its place: the tree keeps its shape, and its entries are
+-- those of the list in which that entry is edited.
 use Rattle.std.proofs.Common.{◌≡◌, ℕ, ◌+◌, ◌-◌, ◌<◌, ◌≤◌, Bool, true, false, cond, List, [], ◌∷◌, ◌++◌, Option, Some, None, Result, Ok, Err, length, refl, sym, ap, ◌∙◌, subst, arith}
 use Rattle.std.specs.Prelude.{not, bytes_eq}
 use Rattle.std.specs.List.{AllByRecursion}
@@ -72,7 +72,8 @@ module _ {E M : Type 0} (family : Family E M) (edit : E → Result E UpdateFault
 
   -- In a tree.
 
-  -- what an edit gives of a node with these entries, and of the children of one, behind these separators and so many
+  -- what an edit gives of a node with these entries, and of the children of one, behind these
+  -- separators and so many
   abbrev NodeEdits : List ℕ → ℕ → ℕ → Option (List ℕ) → Option (List ℕ) → List E → Result (Part E M) UpdateFault → Type 0
   NodeEdits key fewest height lower upper es (Ok t) =
       (edit_entry family edit key es ≡ Ok (entries t)) × IsNode family fewest height lower upper t × (fewest_in_root family t ≤ fewest)

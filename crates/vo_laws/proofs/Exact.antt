@@ -1,5 +1,6 @@
--- The outcome that complete proofs show is the query's result: where each tree of a reply prunes the whole
--- tree of its table and misses nothing, and the whole trees stand for the rows of plain tables.
+-- The outcome that complete proofs show is the query's result: where each tree of a reply prunes
+-- the whole tree of its table and misses nothing, and the whole trees stand for the rows of plain
+-- tables.
 use Rattle.std.proofs.Common.{◌≡◌, ℕ, ◌<◌, Bool, true, false, cond, List, [], ◌∷◌, ◌++◌, Option, Some, None, length, map, inl, inr, refl, sym, ap, ◌∙◌, subst, arith}
 use Rattle.std.specs.Prelude.{◌||◌, ◌==◌, filter, flat_map, find, zip, is_some, bytes_eq}
 use Rattle.std.specs.Option.{option_map_or}
@@ -318,8 +319,9 @@ module _ (stored : List Stored) (tables : List Table) (stand : RepresentTables s
       step None e prunes full = ap (outcome None (header (bound_sources (map table_header_of tables) q) q.items)) (both_kinds q.items q.left q.join q.condition trees e fits (prunes, full))
       step (Some fault) e prunes full = refl
 
--- Where each tree of a reply prunes the whole tree of its table, nothing is missing, and the whole trees
--- stand for plain tables, the outcome that the trees show is the query's result on these tables.
+-- Where each tree of a reply prunes the whole tree of its table, nothing is missing, and the whole
+-- trees stand for plain tables, the outcome that the trees show is the query's result on these
+-- tables.
 pub exact : (q : Query) (r : Reply) (stored : List Stored) (tables : List Table) → RepresentTables stored tables → FitsQuery q
     → r.catalog ≡ catalog_of stored → AllZip Prunes r.trees (trees_for q stored) → missing_fault q r ≡ None
     → seen_outcome q r.catalog r.trees ≡ result q tables

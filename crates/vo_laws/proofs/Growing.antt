@@ -1,4 +1,5 @@
--- Entries with one more among them, and nodes that are split: what they keep of a whole tree's shape.
+-- Entries with one more among them, and nodes that are split: what they keep of a whole tree's
+-- shape.
 use Rattle.std.proofs.Common.{◌≡◌, ℕ, zero, suc, ◌+◌, ◌-◌, ◌<◌, ◌≤◌, Bool, true, false, cond, List, [], ◌∷◌, ◌++◌, Option, Some, None, length, map, take, drop, inl, inr, refl, sym, ap, ◌∙◌, subst, arith, append_assoc}
 use Rattle.std.specs.Prelude.{◌||◌, not, nat_le, slice_index_or, bytes_eq}
 use Rattle.std.specs.List.{list_any, AllByRecursion}

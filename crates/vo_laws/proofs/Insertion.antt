@@ -1,4 +1,5 @@
--- Insertion into a whole tree gives the whole tree with the entry among its entries, or finds the key there.
+-- Insertion into a whole tree gives the whole tree with the entry among its entries, or finds the
+-- key there.
 use Rattle.std.proofs.Common.{◌≡◌, ℕ, suc, ◌+◌, ◌-◌, ◌<◌, ◌≤◌, Bool, true, false, cond, List, [], ◌∷◌, ◌++◌, Option, Some, None, Result, Ok, Err, length, refl, sym, ap, ◌∙◌, subst, arith, append_assoc}
 use Rattle.std.specs.Prelude.{not}
 use Rattle.std.specs.List.{AllByRecursion}

@@ -1,5 +1,5 @@
--- Joins: of a left row's right rows none is outside its interval, and those that are seen give the answers
--- that all of them give.
+-- Joins: of a left row's right rows none is outside its interval, and those that are seen give the
+-- answers that all of them give.
 use Rattle.std.proofs.Common.{◌≡◌, ℕ, ◌<◌, Bool, true, false, cond, List, [], ◌∷◌, Some, None, length, map, refl, sym, ap, ◌∙◌, subst, arith}
 use Rattle.std.specs.Prelude.{ℤ, ◌&&◌, ◌==◌, not, flat_map, slice_index_or, bytes_eq, ◌<ℤ◌}
 use Rattle.std.specs.Option.{option_map_or}
@@ -137,7 +137,8 @@ module _ (ss : List BoundSource) (q : Query) (j : Join) (is_join : q.join ≡ So
   rights_outside left [] on keys = tt
   rights_outside left (row ∷ rows) on keys = (right_outside left row on keys.0, rights_outside left rows on keys.1)
 
-  -- What is seen of a left row's right rows gives the answers that all right rows give with the left row.
+  -- What is seen of a left row's right rows gives the answers that all right rows give with the
+  -- left row.
   pub same_rights : (a b : RowView) (seen : List RowView) (rows : List Row) → join_fault ss j ≡ None → 1 < length ss → AlikeIn ss q 0 a b
       → AllByRecursion (λ (row : Row). IsKeyOf (key_kind (schema_at ss 1)) row.key) rows
       → AllZip (AlikeIn ss q 1) seen (map (row_view_of (schema_at ss 1)) (rows_in (right_need ss q j a).interval rows))

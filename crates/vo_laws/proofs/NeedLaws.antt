@@ -1,5 +1,5 @@
--- What a scan gives of a tree's proof for its own need is what it gives of the whole tree; so a query's needs may
--- be found from the proof for its left need.
+-- What a scan gives of a tree's proof for its own need is what it gives of the whole tree; so a
+-- query's needs may be found from the proof for its left need.
 use Rattle.std.proofs.Common.{◌≡◌, ℕ, ◌<◌, Bool, true, false, cond, List, [], ◌∷◌, Option, map, inl, refl, sym, ap, subst}
 use Rattle.std.specs.Prelude.{◌||◌, ◌==◌, filter, flat_map, length, is_some, unwrap_or, option_to_list}
 use Rattle.std.specs.List.{AllByRecursion}
@@ -93,7 +93,8 @@ module _ (stored : List Stored) (tables : List Table) (stand : RepresentTables s
       ≡ needs (bound_sources (table_headers (catalog_of stored)) q) q (trees_for q stored)
   needs_of_left others = needs_by_seen (bound_sources (table_headers (catalog_of stored)) q) q (prune_tree (need ∷ []) (tree_at (trees_for q stored) 0) ∷ others) (trees_for q stored) first_seen
 
--- From the proof of the left tree for the left need, whatever trees stand behind it, come the needs of the whole trees.
+-- From the proof of the left tree for the left need, whatever trees stand behind it, come the needs
+-- of the whole trees.
 pub needs_from_proof : (batches : List (List Command)) (q : Query) (others : List RowTree) → AllByRecursion FitsBatch batches
     → let stored : List Stored = honest_trees batches in
     let ss : List BoundSource = bound_sources (table_headers (catalog_of stored)) q in

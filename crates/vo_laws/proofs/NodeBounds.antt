@@ -1,4 +1,5 @@
--- The keys of a whole tree of any family are between its bounds, and its separators one fewer than its children.
+-- The keys of a whole tree of any family are between its bounds, and its separators one fewer than
+-- its children.
 use Rattle.std.proofs.Common.{◌≡◌, ℕ, ◌+◌, ◌-◌, true, List, [], ◌∷◌, Option, Some, None, length, refl, arith}
 use Rattle.std.specs.Prelude.{not}
 use Rattle.std.specs.List.{AllByRecursion}

@@ -1,5 +1,5 @@
--- The proofs of insertions and replacements, along the path to a key's leaf: the work on them lacks nothing that it
--- doesn't lack on the tree, and nothing is open beyond.
+-- The proofs of insertions and replacements, along the path to a key's leaf: the work on them lacks
+-- nothing that it doesn't lack on the tree, and nothing is open beyond.
 use Rattle.std.proofs.Common.{◌≡◌, ℕ, ◌+◌, Bool, true, false, cond, List, [], ◌∷◌, Option, None, Result, Ok, Err, map, refl, sym, ◌∙◌}
 use Rattle.std.specs.Prelude.{not, slice_get, drop, bytes_eq}
 use Rattle.std.specs.List.{list_any, AllZip}

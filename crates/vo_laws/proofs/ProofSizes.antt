@@ -1,4 +1,5 @@
--- The proofs of an insertion and of a batch are within the limits of their bytes: of each tree one path is open.
+-- The proofs of an insertion and of a batch are within the limits of their bytes: of each tree one
+-- path is open.
 use Rattle.std.proofs.Common.{◌≡◌, ℕ, suc, ◌+◌, ◌*◌, ◌≤◌, Bool, true, false, cond, List, [], ◌∷◌, ◌++◌, Option, Some, None, Result, Ok, Err, length, map, arith}
 use Rattle.std.specs.Prelude.{not, find, flat_map, is_some, slice_get, drop, bytes_eq}
 use Rattle.std.specs.Option.{option_map_or}

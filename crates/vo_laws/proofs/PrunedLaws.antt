@@ -1,4 +1,5 @@
--- The proof that a tree has for some needs: it prunes the tree, misses nothing, and shows nothing more.
+-- The proof that a tree has for some needs: it prunes the tree, misses nothing, and shows nothing
+-- more.
 use Rattle.std.proofs.Common.{◌≡◌, ℕ, suc, ◌+◌, Bool, true, false, cond, List, [], ◌∷◌, Option, None, length, refl, ap}
 use Rattle.std.specs.Prelude.{not}
 use Rattle.std.specs.List.{AllByRecursion}

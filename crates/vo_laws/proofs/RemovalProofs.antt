@@ -1,4 +1,5 @@
--- The proof of a removal: the work on it lacks nothing that it doesn't lack on the tree, and nothing is open beyond.
+-- The proof of a removal: the work on it lacks nothing that it doesn't lack on the tree, and
+-- nothing is open beyond.
 use Rattle.std.proofs.Common.{◌≡◌, ℕ, suc, ◌+◌, Bool, true, false, cond, List, [], ◌∷◌, length, drop, Result, Ok, Err, map, refl, sym, ap, ◌∙◌, subst}
 use Rattle.std.specs.Prelude.{◌||◌, nat_lt, slice_get, slice_index_or, bytes_eq}
 use Rattle.std.proofs.lemmas.Bool.{or_from}

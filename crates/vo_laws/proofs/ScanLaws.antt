@@ -1,5 +1,5 @@
--- Scans: a part tree that misses nothing shows all that a need asks for, what it shows is what the whole
--- tree shows, and of a whole tree a scan is a filter of its entries.
+-- Scans: a part tree that misses nothing shows all that a need asks for, what it shows is what the
+-- whole tree shows, and of a whole tree a scan is a filter of its entries.
 use Rattle.std.proofs.Common.{◌≡◌, ℕ, zero, suc, ◌+◌, ◌-◌, Bool, true, false, cond, List, [], ◌∷◌, ◌++◌, Option, Some, None, inl, inr, refl, sym, ap, ◌∙◌, subst}
 use Rattle.std.specs.Prelude.{◌&&◌, not, slice_get, drop, is_none}
 use Rattle.std.specs.List.{list_any, AllByRecursion, AllZip}

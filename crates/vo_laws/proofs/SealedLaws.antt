@@ -1,4 +1,5 @@
--- What an owner seals: its entries fit their bytes, and a store takes them where their signatures are valid.
+-- What an owner seals: its entries fit their bytes, and a store takes them where their signatures
+-- are valid.
 use Rattle.std.proofs.Common.{◌≡◌, ℕ, ◌+◌, ◌^◌, ◌<◌, ◌≤◌, List, [], ◌∷◌, ◌++◌, Option, Some, None, length, refl, sym, ap, ◌∙◌, subst, append_assoc, arith}
 use Rattle.std.specs.Prelude.{IsOk}
 use Rattle.std.specs.List.{AllByRecursion}

@@ -1,4 +1,5 @@
--- What a part tree shows for a need is, in the columns that the need names, the rows of the interval.
+-- What a part tree shows for a need is, in the columns that the need names, the rows of the
+-- interval.
 use Rattle.std.proofs.Common.{◌≡◌, ℕ, zero, suc, ◌+◌, Bool, true, false, cond, List, [], ◌∷◌, Option, Some, None, map, inl, inr, refl, sym, ap, subst, arith}
 use Rattle.std.specs.Prelude.{◌&&◌, ◌⊎◌, ◌==◌, not, filter, unwrap_or}
 use Rattle.std.specs.List.{AllZip, position_or_len}
@@ -139,8 +140,8 @@ whole_seen need t rows stands = step (is_empty_interval need.interval) refl
     step true e = rw (none_kept need.interval rows e) tt
     step false e = rw (scan_is_filter need t stands.tree, stands.rows_are) (rows_seen need rows)
 
--- What is seen of a part tree that misses nothing, of a tree that stands for these rows, is the rows in the
--- need's interval, as far as their keys and the need's columns go.
+-- What is seen of a part tree that misses nothing, of a tree that stands for these rows, is the
+-- rows in the need's interval, as far as their keys and the need's columns go.
 pub accepted : (schema : Schema) (needs : List Need) (need : Need) (p t : RowTree) (rows : List Row)
     → IsIn need needs → is_missing needs p ≡ false → Prunes p t → Represents t rows
     → AllZip (Alike schema need.columns) (seen_row_views schema need p) (map (row_view_of schema) (rows_in need.interval rows))

@@ -1,4 +1,5 @@
--- Children of which one may have become small: what they settle into stands between the same bounds.
+-- Children of which one may have become small: what they settle into stands between the same
+-- bounds.
 use Rattle.std.proofs.Common.{◌≡◌, ℕ, ◌+◌, ◌≤◌, Bool, true, false, cond, List, [], ◌∷◌, ◌++◌, Option, Some, Result, Ok, Err, length, refl, sym, ap, ◌∙◌, subst, arith, append_assoc}
 use Rattle.std.proofs.lemmas.Bool.{ltb-false}
 use Rattle.vo_spec.specs.declared.trees.UpdateFault.{UpdateFault}

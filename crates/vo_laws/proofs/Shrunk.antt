@@ -1,4 +1,5 @@
--- Removal from a whole tree gives the whole tree without the entry, or finds that there is none of the key.
+-- Removal from a whole tree gives the whole tree without the entry, or finds that there is none of
+-- the key.
 use Rattle.std.proofs.Common.{◌≡◌, ℕ, suc, ◌+◌, ◌-◌, ◌<◌, ◌≤◌, Bool, true, false, cond, List, [], ◌∷◌, ◌++◌, Option, Some, None, Result, Ok, Err, length, refl, sym, ap, ◌∙◌, subst, arith}
 use Rattle.std.specs.Prelude.{not}
 use Rattle.std.specs.List.{AllByRecursion}

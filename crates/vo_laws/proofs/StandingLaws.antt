@@ -1,5 +1,5 @@
--- Trees stand for tables: what commands and batches make of the trees stands for what they make of the
--- tables, and both refuse the same commands.
+-- Trees stand for tables: what commands and batches make of the trees stands for what they make of
+-- the tables, and both refuse the same commands.
 use Rattle.std.proofs.Common.{◌≡◌, ℕ, ◌+◌, Bool, true, false, cond, List, [], ◌∷◌, Option, Some, None, Result, Ok, Err, map, refl, sym, ap, subst, arith}
 use Rattle.std.specs.Prelude.{not, fold, bytes_eq}
 use Rattle.std.specs.Result.{result_unwrap_or}
@@ -85,8 +85,8 @@ changed_fit (Delete name column value) tables fits e good =
     fit_if (has_row (key_of value) (rows_named name tables)) (with_rows name (λ t. without_row (key_of value) t.rows) tables)
     (rows_changed_fit name (λ t. without_row (key_of value) t.rows) tables (λ t found is. removed_table_fits (key_of value) t is) good)
 
--- What the command makes of trees that stand for tables stands for what it makes of the tables; and where it
--- is refused on the one, it is refused on the other for the same reason.
+-- What the command makes of trees that stand for tables stands for what it makes of the tables; and
+-- where it is refused on the one, it is refused on the other for the same reason.
 pub command_in_step : (c : Command) (stored : List Stored) (tables : List Table) → FitsCommand c → RepresentTables stored tables → FitTables tables
     → InStep (work c stored) (apply c tables) × FitAfter (apply c tables)
 unfolding work apply

@@ -1,5 +1,5 @@
--- A whole tree that stands for rows: what an insertion, a removal and a replacement make of it stands for what they
--- make of the rows.
+-- A whole tree that stands for rows: what an insertion, a removal and a replacement make of it
+-- stands for what they make of the rows.
 use Rattle.std.proofs.Common.{◌≡◌, ℕ, zero, suc, Bool, true, false, cond, List, [], ◌∷◌, Result, Ok, Err, map, refl, sym, ap, ◌∙◌, subst}
 use Rattle.std.specs.Prelude.{◌||◌, bytes_eq, slice_set}
 use Rattle.std.specs.List.{AllByRecursion}

@@ -1,4 +1,5 @@
--- Trees and tables batch by batch: what one more makes of them, and that both accept it or refuse it.
+-- Trees and tables batch by batch: what one more makes of them, and that both accept it or refuse
+-- it.
 use Rattle.std.proofs.Common.{◌≡◌, ℕ, List, [], ◌∷◌, ◌++◌, Result, Ok, Err, refl, ap, ◌∙◌, arith}
 use Rattle.std.specs.Prelude.{◌↔◌, IsOk}
 use Rattle.std.specs.List.{AllByRecursion}

@@ -1,5 +1,5 @@
--- Tables and their trees one by one: where a table is made, or rows of one are put, changed or removed, both go on
--- in step, or both refuse for one reason.
+-- Tables and their trees one by one: where a table is made, or rows of one are put, changed or
+-- removed, both go on in step, or both refuse for one reason.
 use Rattle.std.proofs.Common.{◌≡◌, ℕ, Bool, true, false, cond, List, [], ◌∷◌, Option, Some, None, Result, Ok, Err, map, refl, sym, ap, ◌∙◌, subst}
 use Rattle.std.specs.Prelude.{not, is_some, bytes_eq}
 use Rattle.std.specs.Option.{option_map_or}

@@ -1,4 +1,5 @@
--- Trees within the limits of their bytes: a tree that insertion makes keeps them, and so do its proofs.
+-- Trees within the limits of their bytes: a tree that insertion makes keeps them, and so do its
+-- proofs.
 use Rattle.std.proofs.Common.{◌≡◌, ℕ, zero, suc, ◌+◌, ◌-◌, ◌≤◌, Bool, true, false, cond, List, [], ◌∷◌, Option, Some, Result, Ok, Err, length, take, drop, arith}
 use Rattle.std.specs.Prelude.{nat_le, slice_get, slice_index_or}
 use Rattle.std.specs.List.{AllByRecursion}

@@ -33,7 +33,8 @@ int_equal a b same = by_ranked (a <ℤ b) (a ≡ b) (b <ℤ a) (int_cmp a b) (in
 int_greater : (a b : ℤ) → b <ℤ a → int_cmp a b ≡ Greater
 int_greater a b lt = by_ranked (a <ℤ b) (a ≡ b) (b <ℤ a) (int_cmp a b) (int_ranked a b (int_cmp a b) refl) (λ e h. absurd (omega (arith, ints))) (λ e h. absurd (omega (arith, ints))) (λ e h. e)
 
--- Byte strings of one length are in the order of the numbers that they spell, the highest byte first.
+-- Byte strings of one length are in the order of the numbers that they spell, the highest byte
+-- first.
 
 -- the number that the bytes spell behind these that were read
 abbrev encoded : ℕ → List ℕ → ℕ

@@ -1,5 +1,5 @@
--- Trees of any family: what prunes a tree has its digest; and what a walk has open of a tree prunes it, lacks nothing
--- and shows no more, and is the only part of the tree of which this is so.
+-- Trees of any family: what prunes a tree has its digest; and what a walk has open of a tree prunes
+-- it, lacks nothing and shows no more, and is the only part of the tree of which this is so.
 use Rattle.std.proofs.Common.{◌≡◌, ℕ, suc, ◌+◌, ◌-◌, Bool, true, false, cond, List, [], ◌∷◌, Option, Some, None, length, map, refl, ap, ◌∙◌}
 use Rattle.std.specs.Prelude.{not, slice_get, drop, flat_map}
 use Rattle.std.specs.List.{list_any, AllByRecursion, AllZip}
@@ -51,7 +51,8 @@ module _ {E M : Type 0} (family : Family E M) (Narrows : E → E → Type 0) whe
     child_bytes_kept keeps (more m p ps) none z = absurd z
     child_bytes_kept keeps (more m p ps) (more n q qs) z = rw (z.0, digest_kept keeps p q z.1, child_bytes_kept keeps ps qs z.2) refl
 
--- What a walk has open of a tree prunes it, where its entries as they are to be prune the entries as they are.
+-- What a walk has open of a tree prunes it, where its entries as they are to be prune the entries
+-- as they are.
 module _ {E M S : Type 0} (walk : Walk E S) (family : Family E M) (Narrows : E → E → Type 0) where
   shown_prune : ((e : E) → Narrows (walk.shown e) e) → (es : List E) → AllZip Narrows (map walk.shown es) es
   shown_prune f [] = tt
@@ -128,7 +129,8 @@ module _ {E M S : Type 0} (walk : Walk E S) (family : Family E M) (Narrows : E �
         let o = or_parts (has_surplus_by walk onward p) (has_surplus_in walk past (slice_get ss 0) (drop 1 ss) ps) b in
         rw (z.0, only_part just onward p q l.0 o.0 z.1, only_parts just past (slice_get ss 0) (drop 1 ss) ps qs l.1 o.1 z.2) refl
 
--- What holds of the entries that a walk shows, and that what it has open lacks nothing and shows no more.
+-- What holds of the entries that a walk shows, and that what it has open lacks nothing and shows no
+-- more.
 module _ {E M S : Type 0} (walk : Walk E S) (family : Family E M) where
   -- what holds of each entry as it is to be
 

@@ -1,4 +1,5 @@
--- Worked examples of the definitions: bytes of values and keys, refusals of commands, results of queries.
+-- Worked examples of the definitions: bytes of values and keys, refusals of commands, results of
+-- queries.
 use Rattle.std.specs.Prelude.{◌≡◌, refl, ℕ, pos, negsuc, true, List, [], ◌∷◌, Option, Some, None, Ok, Err, codes}
 use Rattle.vo_spec.specs.declared.values.Kind.TheVariants as kind
 use Rattle.vo_spec.specs.declared.values.Value.{Value}

@@ -1,4 +1,5 @@
--- What a part of a tree must have open for a change to be worked on it, and what it has open beyond that.
+-- What a part of a tree must have open for a change to be worked on it, and what it has open beyond
+-- that.
 use Rattle.std.specs.Prelude.{◌≡◌, ℕ, Bool, true, false, ◌||◌, if◌then◌else◌, List, [], ◌∷◌, drop, slice_get, bytes_eq, Result, Ok, Err}
 use Rattle.std.specs.List.{list_any}
 use Rattle.vo_spec.specs.declared.cells.Cell.{Cell}
@@ -53,7 +54,8 @@ rows_surplus key (e ∷ es) =
     if bytes_eq e.key key then shows_any e.row || list_any shows_cells es else shows_cells e
     || rows_surplus key es
 
--- a node is open beside the path to a key's leaf, or a row stands as cells that isn't looked at, or a cell is shown
+-- a node is open beside the path to a key's leaf, or a row stands as cells that isn't looked at, or
+-- a cell is shown
 abbrev mutual
   pub replace_has_surplus : List ℕ → RowTree → Bool
   replace_has_surplus key (stub d) = false
@@ -111,8 +113,8 @@ abbrev mutual
       || (remove_has_surplus key p || any_open ps)
       else is_open left || remove_has_surplus_after key p (drop 1 ss) ps
 
--- The part is a tree's proof of a change: it prunes the tree, with nothing missing that the change looks at and
--- nothing open beyond that.
+-- The part is a tree's proof of a change: it prunes the tree, with nothing missing that the change
+-- looks at and nothing open beyond that.
 pub record IsUpdateProof (is_missing_by has_surplus_by : RowTree → Bool)
     (t p : RowTree) : Type 0 where
   pub prunes : Prunes p t

@@ -11,9 +11,9 @@ ghost use Rattle.vo_spec.specs.Standing.{Represents};
 ghost use Rattle.vo_laws.specs.Changing.{Changes, Inserts};
 ghost use Rattle.vo_laws.specs.UpdateProofs.{IsUpdateProof, lacks, replace_is_missing, replace_has_surplus, remove_is_missing, remove_has_surplus};
 
-/// A whole tree is one after a change too, and stands for the rows as the change makes them of those
-/// before. An insertion is refused only where a row has the key, a removal or a replacement only where
-/// none has it.
+/// A whole tree is one after a change too, and stands for the rows as the change makes them of
+/// those before. An insertion is refused only where a row has the key, a removal or a replacement
+/// only where none has it.
 pub fn trees_stand_after_changes()
     ensures inserted { (row : Row) (t : RowTree) (rows : List Row) → Represents t rows
         → Inserts row rows (tree_with_entry (whole_entry row) t) }
@@ -24,8 +24,8 @@ pub fn trees_stand_after_changes()
         → Changes key rows (map (changed_row key changes) rows) (tree_with_cells key changes t) }
 {}
 
-/// Each change of a tree that stands for rows has a proof, a part of the tree that lacks nothing and has
-/// no surplus, and the change can be worked on it.
+/// Each change of a tree that stands for rows has a proof, a part of the tree that lacks nothing
+/// and has no surplus, and the change can be worked on it.
 pub fn changes_have_proofs()
     ensures insertion { (key : List ℕ) (t : RowTree) (rows : List Row) → Represents t rows
         → IsUpdateProof (insert_is_missing key) (insert_has_surplus key) t (insert_proof key t) }

@@ -23,9 +23,9 @@ ghost use Rattle.vo_spec.specs.Replies.{FitsProofs};
 ghost use Rattle.vo_spec.specs.Honest.{RepresentTables, honest_proofs, honest_record, honest_trees, work_all, after_work, seal_batches, sealed_entry};
 ghost use Rattle.vo_laws.specs.Sealing.{AreAcceptedAfter, SignsValidly};
 
-/// The trees and the tables of one more batch are what it makes of those before it, and one of no commands
-/// before others, as version 0 has, makes no difference; and a batch is accepted on the trees where it is on
-/// the tables, or else refused on both for one reason.
+/// The trees and the tables of one more batch are what it makes of those before it, and one of no
+/// commands before others, as version 0 has, makes no difference; and a batch is accepted on the
+/// trees where it is on the tables, or else refused on both for one reason.
 pub fn trees_follow_batches()
     ensures trees { (batches : List (List Command)) (batch : List Command)
         → honest_trees (batches ++ batch ∷ []) ≡ after_work (honest_trees batches) batch }
@@ -59,8 +59,8 @@ pub fn honest_proofs_fit()
         → FitsBatch batch → FitsProofs (honest_proofs batch (honest_trees earlier)) }
 {}
 
-/// What an owner seals fits its bytes, as long as the signature is no longer than a key's are; and a store takes
-/// it, where its batches are accepted one after the other and its records are signed.
+/// What an owner seals fits its bytes, as long as the signature is no longer than a key's are; and
+/// a store takes it, where its batches are accepted one after the other and its records are signed.
 pub fn sealed_entries_are_loadable()
     ensures signatures_short { (key : List ℕ) → key_signature_len key ≤ max_signature }
     ensures entry_fits { (secret : Secret) (earlier : List (List Command)) (batch : List Command)
@@ -80,7 +80,8 @@ pub fn sealed_entries_are_loadable()
         → IsSigned (public_of_secret secret) (sealed_entry secret earlier batch).rec
         (sealed_entry secret earlier batch).signature
         → IsLoadableEntry (public_of_secret secret) earlier (sealed_entry secret earlier batch) }
-    ensures loadable { (secret : Secret) (batches : List (List Command)) → AreAcceptedAfter [] batches
+    ensures loadable { (secret : Secret) (batches : List (List Command))
+        → AreAcceptedAfter [] batches
         → AllByRecursion (λ (e : Entry). IsSigned (public_of_secret secret) e.rec e.signature)
         (seal_batches secret batches)
         → AreLoadable (public_of_secret secret) (seal_batches secret batches) }
@@ -95,7 +96,8 @@ pub fn sealed_entries_are_loadable()
         → batches_of (seal_batches secret batches) ≡ [] ∷ batches }
 {}
 
-/// Journals that a store takes grow entry by entry, and what stands before an entry is such a journal too.
+/// Journals that a store takes grow entry by entry, and what stands before an entry is such a
+/// journal too.
 pub fn journals_grow_by_entries()
     ensures taken_first { (key : List ℕ) (e : Entry)
         → AreLoadable key (e ∷ []) ↔ ((e.rec ≡ honest_record key 0 (honest_trees []))
@@ -107,8 +109,8 @@ pub fn journals_grow_by_entries()
         → AreLoadable key (take n es) }
 {}
 
-/// Each entry that a store takes holds the record of the honest trees after the batches of its version, signed;
-/// these batches fit, and the trees stand for that version's tables.
+/// Each entry that a store takes holds the record of the honest trees after the batches of its
+/// version, signed; these batches fit, and the trees stand for that version's tables.
 pub fn journals_hold_honest_records()
     ensures record_is { (key : List ℕ) (es : List Entry) (version : ℕ) (e : Entry)
         → AreLoadable key es

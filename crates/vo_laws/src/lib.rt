@@ -1,5 +1,5 @@
-//! Laws of the definitions, each the contract of a function that does nothing: what holds between what a
-//! client sees and what the plain tables say.
+//! Laws of the definitions, each the contract of a function that does nothing: what holds between
+//! what a client sees and what the plain tables say.
 #![tactic(auto)]
 
 pub mod changes;
@@ -34,8 +34,9 @@ ghost use Rattle.vo_spec.specs.Replies.{Reply, FitsReply};
 ghost use Rattle.vo_spec.specs.Checks.{answer_to, seen_outcome, missing_fault};
 ghost use Rattle.vo_spec.specs.Honest.{Stored, RepresentTables, catalog_of, honest_record, honest_reply, honest_trees, trees_for};
 
-/// Where each tree of a reply prunes the whole tree of its table, nothing is missing, and the whole trees
-/// stand for plain tables, the outcome that the trees show is the query's result on these tables.
+/// Where each tree of a reply prunes the whole tree of its table, nothing is missing, and the whole
+/// trees stand for plain tables, the outcome that the trees show is the query's result on these
+/// tables.
 pub fn complete_proofs_show_the_result()
     ensures { (q : Query) (r : Reply) (stored : List Stored) (tables : List Table)
         → RepresentTables stored tables → FitsQuery q
@@ -44,8 +45,8 @@ pub fn complete_proofs_show_the_result()
         → seen_outcome q r.catalog r.trees ≡ result_of q tables }
 {}
 
-/// The trees that an honest owner keeps stand for the plain tables of the same batches, whatever commands these
-/// have; and trees, catalogs and records fit their bytes.
+/// The trees that an honest owner keeps stand for the plain tables of the same batches, whatever
+/// commands these have; and trees, catalogs and records fit their bytes.
 pub fn honest_trees_represent_the_tables()
     ensures stand { (batches : List (List Command)) → AllByRecursion FitsBatch batches
         → RepresentTables (honest_trees batches) (tables_after batches) }
@@ -62,7 +63,8 @@ pub fn honest_trees_represent_the_tables()
         → FitsReply (honest_reply q rec signature (honest_trees batches)) }
 {}
 
-/// A client takes the reply of an honest store, and its outcome is the query's result on the plain tables.
+/// A client takes the reply of an honest store, and its outcome is the query's result on the plain
+/// tables.
 pub fn honest_replies_are_accepted()
     ensures { (batches : List (List Command)) (key : List ℕ) (version : ℕ) (least : ℕ) (q : Query)
         (rec : Record) (signature : List ℕ)
@@ -72,8 +74,8 @@ pub fn honest_replies_are_accepted()
         ≡ Ok (record { version = rec.version; outcome = result_of q (tables_after batches) }) }
 {}
 
-/// A scan of a tree's proof for one need gives what a scan of the whole tree gives, where the rows have the
-/// need's columns; so a store finds a query's needs from the proof for its left need.
+/// A scan of a tree's proof for one need gives what a scan of the whole tree gives, where the rows
+/// have the need's columns; so a store finds a query's needs from the proof for its left need.
 pub fn proofs_show_what_their_need_sees()
     ensures seen { (cells : ℕ) (need : Need) (t : RowTree) (rows : List Row) → Represents t rows
         → AllByRecursion (λ column. column < cells) need.columns
@@ -91,8 +93,8 @@ pub fn proofs_show_what_their_need_sees()
         ≡ needs ss q (trees_for q stored) }
 {}
 
-/// Two catalogs that fit and have the same bytes are the same; so two different ones with one digest give two
-/// different strings with one digest.
+/// Two catalogs that fit and have the same bytes are the same; so two different ones with one
+/// digest give two different strings with one digest.
 pub fn catalogs_are_told_from_their_bytes()
     ensures told { (a : Catalog) (b : Catalog) → FitsCatalog a → FitsCatalog b
         → catalog_bytes a ≡ catalog_bytes b → a ≡ b }

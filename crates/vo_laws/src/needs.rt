@@ -9,8 +9,8 @@ ghost use Rattle.vo_spec.specs.Pruning.{IsCanonical, prune_tree};
 ghost use Rattle.vo_spec.specs.Standing.{Represents};
 ghost use Rattle.vo_laws.specs.Columns.{HaveColumns};
 
-/// What a tree has open for some needs prunes it, and is canonical where the tree stands for rows that
-/// have the columns of the needs; and no other part of the tree is canonical.
+/// What a tree has open for some needs prunes it, and is canonical where the tree stands for rows
+/// that have the columns of the needs; and no other part of the tree is canonical.
 pub fn needs_have_one_proof()
     ensures prunes { (needs : List Need) (t : RowTree) → Prunes (prune_tree needs t) t }
     ensures canonical { (needs : List Need) (t : RowTree) (rows : List Row) → Represents t rows

@@ -8,9 +8,9 @@ ghost use Rattle.vo_spec.specs.Scans.{in_interval, seen};
 ghost use Rattle.vo_spec.specs.Standing.{Represents};
 ghost use Rattle.vo_laws.specs.Columns.{HaveColumns, seen_row};
 
-/// Of a tree that stands for rows, a scan for a need gives the rows with their keys in its interval,
-/// where these have its columns. Of a part of a tree it misses something, or gives what it gives of the
-/// tree.
+/// Of a tree that stands for rows, a scan for a need gives the rows with their keys in its
+/// interval, where these have its columns. Of a part of a tree it misses something, or gives what
+/// it gives of the tree.
 pub fn scans_filter_the_rows()
     ensures whole { (need : Need) (t : RowTree) (rows : List Row) → Represents t rows
         → HaveColumns rows need

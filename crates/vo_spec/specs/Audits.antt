@@ -14,8 +14,8 @@ use Rattle.vo_spec.specs.Replies.{Reply, IsReply}
 use Rattle.vo_spec.specs.Checks.{CheckOf}
 use Rattle.vo_spec.specs.Owners.{IsJournalOf, FailsAt}
 
--- The journal does not hold the record; or it does, and the outcome is the query's result on the tables of
--- that version; or neither, and here are two different byte strings with one digest.
+-- The journal does not hold the record; or it does, and the outcome is the query's result on the
+-- tables of that version; or neither, and here are two different byte strings with one digest.
 unfoldable pub IsVerdict : List Entry → Query → Reply → Answer → Verdict → Type 0
 IsVerdict es q r answer (Unsigned rec signature last) =
     (Holds es r.rec → ⊥) × (rec ≡ r.rec) × (signature ≡ r.signature) × (last ≡ last_version es)
@@ -26,8 +26,8 @@ IsVerdict es q r answer (Collide found) =
     Holds es r.rec × (answer.outcome ≢ result q (tables_at answer.version es))
     × Collides found.0 found.1
 
--- What an audit says of these bytes as the reply to this query, by these bytes as the journal of this key's
--- owner, entries of whom are of this sort. Want of memory is no answer of this.
+-- What an audit says of these bytes as the reply to this query, by these bytes as the journal of
+-- this key's owner, entries of whom are of this sort. Want of memory is no answer of this.
 unfoldable pub AuditOf : (List Entry → Type 0) → List ℕ → List ℕ → Query → List ℕ
     → Result Verdict AuditFault → Type 0
 AuditOf AreOwned key journal q bytes (Err (BadJournal index)) = FailsAt AreOwned journal index

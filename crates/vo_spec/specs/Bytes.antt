@@ -1,5 +1,5 @@
--- Numbers as bytes, the highest first, and what stands at a place of a byte string. What a number has as
--- bytes stays closed here, so that goals speak of numbers.
+-- Numbers as bytes, the highest first, and what stands at a place of a byte string. What a number
+-- has as bytes stays closed here, so that goals speak of numbers.
 use Rattle.std.specs.Prelude.{ℕ, zero, suc, ◌+◌, ◌<◌, List, [], ◌∷◌, ◌++◌, length, take, drop, slice_index}
 use Rattle.std.specs.Int.{w16, w32, w64, to_be_bytes, from_be_bytes}
 

@@ -46,7 +46,8 @@ whole_row values = Cells (whole_cells values)
 abbrev pub whole_entry : Row → PartEntry
 whole_entry row = record { key = row.key; row = whole_row row.cells }
 
--- The value of a cell that is shown. A cell that isn't there, and one of a closed row, counts as hidden.
+-- The value of a cell that is shown. A cell that isn't there, and one of a closed row, counts as
+-- hidden.
 
 abbrev pub shown_value : Option Cell → Option Value
 shown_value (Some (Shown value)) = Some value

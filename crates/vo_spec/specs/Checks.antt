@@ -32,8 +32,8 @@ use Rattle.vo_spec.specs.Trees.{RowTree, digest}
 use Rattle.vo_spec.specs.Pruning.{is_missing, has_surplus}
 use Rattle.vo_spec.specs.Needs.{tables_used, needs, seen_lefts, seen_rights}
 
--- The shape of a tree: the keys of its leaves are keys of the schema, its rows have the schema's cells, and
--- the cells that are shown are of their columns' kinds.
+-- The shape of a tree: the keys of its leaves are keys of the schema, its rows have the schema's
+-- cells, and the cells that are shown are of their columns' kinds.
 
 -- the bytes of a key of this kind
 abbrev pub is_key_of : Kind → List ℕ → Bool
@@ -123,10 +123,12 @@ needs_with_trees q r =
     else zip (needs (bound_sources (table_headers r.catalog) q) q r.trees) r.trees
 
 abbrev pub missing_fault : Query → Reply → Option CheckFault
-missing_fault q r = if list_any (λ t. is_missing t.0 t.1) (needs_with_trees q r) then Some Missing else None
+missing_fault q r = if list_any (λ t. is_missing t.0 t.1) (needs_with_trees q r)
+    then Some Missing else None
 
 abbrev pub surplus_fault : Query → Reply → Option CheckFault
-surplus_fault q r = if list_any (λ t. has_surplus t.0 t.1) (needs_with_trees q r) then Some Surplus else None
+surplus_fault q r = if list_any (λ t. has_surplus t.0 t.1) (needs_with_trees q r)
+    then Some Surplus else None
 
 -- the first test that refuses a reply
 unfoldable pub check_fault : List ℕ → ℕ → Query → Reply → Option CheckFault
@@ -154,8 +156,8 @@ answer_to key least q r =
     unless (check_fault key least q r)
     (record { version = r.rec.version; outcome = seen_outcome q r.catalog r.trees })
 
--- What a client of this key, who accepts no version below `least`, says of these bytes as the reply to this
--- query. Want of memory is no answer of this.
+-- What a client of this key, who accepts no version below `least`, says of these bytes as the reply
+-- to this query. Want of memory is no answer of this.
 unfoldable pub CheckOf : List ℕ → ℕ → Query → List ℕ → Result Answer CheckFault → Type 0
 CheckOf key least q bytes answer =
     ((max_reply < length bytes) × (answer ≡ Err (TooLong (length bytes))))

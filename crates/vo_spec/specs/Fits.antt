@@ -12,7 +12,8 @@ use Rattle.vo_spec.specs.Tables.{max_key}
 use Rattle.vo_spec.specs.Parts.{Part, Parts, stub, leaf, inner, none, more, count, levels}
 use Rattle.vo_spec.specs.Trees.{RowTree}
 
--- how many cells a row has at most, entries or children a node has, and levels a tree that is read has
+-- how many cells a row has at most, entries or children a node has, and levels a tree that is read
+-- has
 abbrev pub max_cells : ℕ
 max_cells = 31
 

@@ -1,5 +1,5 @@
--- What an honest owner and an honest store make of batches: the trees of the tables, the proofs of a batch,
--- catalogs and records, the journal, and the reply to a query.
+-- What an honest owner and an honest store make of batches: the trees of the tables, the proofs of
+-- a batch, catalogs and records, the journal, and the reply to a query.
 use Rattle.std.specs.Prelude.{◌≡◌, ℕ, ◌-◌, not, if◌then◌else◌, List, [], ◌∷◌, ◌++◌, map, length, fold, filter, find, drop, Option, is_some, Result, Ok, Err, slice_get, bytes_eq, option_map}
 use Rattle.std.specs.Option.{option_map_or}
 use Rattle.std.specs.Result.{result_unwrap_or}
@@ -122,8 +122,8 @@ after_work stored batch = result_unwrap_or (work_all batch stored) stored
 unfoldable pub honest_trees : List (List Command) → List Stored
 honest_trees batches = fold after_work [] batches
 
--- The proofs of a batch: for each command that changes rows and that the catalog doesn't refuse, the tree
--- before it with open what the work looks at; up to the command that is refused.
+-- The proofs of a batch: for each command that changes rows and that the catalog doesn't refuse,
+-- the tree before it with open what the work looks at; up to the command that is refused.
 
 abbrev pub proof_on : Command → Stored → List RowTree
 proof_on (Create name columns key) s = []
@@ -203,7 +203,8 @@ abbrev pub pruned_each : List (List Need) → List RowTree → List RowTree
 pruned_each (ns ∷ nss) (t ∷ ts) = prune_tree ns t ∷ pruned_each nss ts
 pruned_each _ _ = []
 
--- The one reply to a query: what the entry of this version signs, and its trees with open what the query needs.
+-- The one reply to a query: what the entry of this version signs, and its trees with open what the
+-- query needs.
 unfoldable pub honest_reply : Query → Record → List ℕ → List Stored → Reply
 honest_reply q rec signature stored =
     let trees = trees_for q stored in

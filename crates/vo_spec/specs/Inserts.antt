@@ -69,8 +69,8 @@ module _ {E M : Type 0} (family : Family E M) where
   first_key [] = []
   first_key (e ∷ es) = family.key e
 
-  -- A node of 17 is split into 8 and 9. Between leaves stands the right one's first key; between inner
-  -- nodes, the separator that stood between these children.
+  -- A node of 17 is split into 8 and 9. Between leaves stands the right one's first key; between
+  -- inner nodes, the separator that stood between these children.
   abbrev pub split_leaf : List E → Insertion E M
   split_leaf es =
       if nat_le (length es) max_fill then one (leaf es)

@@ -42,14 +42,15 @@ IsClosed (gate ∷ rest) = gate ≢ 1
 abbrev pub Begins : List ℕ → List Entry → Type 0
 Begins bytes es = AllByRecursion FitsEntry es × (rest : List ℕ) × (bytes ≡ flat_map slot es ++ rest)
 
--- The bytes are a journal of these entries: slots of them, and a closed gate, behind which anything may
--- stand. One byte, or none, is a journal of no entries.
+-- The bytes are a journal of these entries: slots of them, and a closed gate, behind which anything
+-- may stand. One byte, or none, is a journal of no entries.
 abbrev pub IsJournal : List ℕ → List Entry → Type 0
 IsJournal bytes [] = (length bytes < 2) ⊎ IsClosed bytes
 IsJournal bytes (e ∷ es) = AllByRecursion FitsEntry (e ∷ es) × (rest : List ℕ) × IsClosed rest
     × (bytes ≡ flat_map slot (e ∷ es) ++ rest)
 
--- Bytes that are damaged: behind slots of these entries stands no gate, or an open one that no entry follows whole.
+-- Bytes that are damaged: behind slots of these entries stands no gate, or an open one that no
+-- entry follows whole.
 abbrev pub IsDamaged : List ℕ → List Entry → Type 0
 IsDamaged bytes es = Begins bytes es × ((more : List Entry) → IsJournal bytes more → ⊥)
     × ((e : Entry) → Begins bytes (es ++ e ∷ []) → ⊥)

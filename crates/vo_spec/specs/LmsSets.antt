@@ -34,6 +34,7 @@ height_of H25 = 25
 abbrev pub leaves_of : LmsType → ℕ
 leaves_of lms = 2 ^ height_of lms
 
--- the bytes of a signature: the leaf's number, the one-time signature, a typecode, and a digest for each level
+-- the bytes of a signature: the leaf's number, the one-time signature, a typecode, and a digest for
+-- each level
 abbrev pub lms_signature_len : LmsType → OtsType → ℕ
 lms_signature_len lms ots = 8 + ots_signature_len ots + 32 * height_of lms

@@ -1,5 +1,5 @@
--- What a query needs of its tables' trees: of the left one an interval of keys, of the right one a row for
--- each left row that meets the query so far, and of both the columns that the query names.
+-- What a query needs of its tables' trees: of the left one an interval of keys, of the right one a
+-- row for each left row that meets the query so far, and of both the columns that the query names.
 use Rattle.std.specs.Prelude.{ℕ, zero, suc, ◌+◌, Bool, true, false, not, ◌&&◌, ◌||◌, ◌==◌, if◌then◌else◌, List, [], ◌∷◌, ◌++◌, map, length, slice_index_or, filter, flat_map, Option, Some, None, option_map, option_to_list, unwrap_or, bytes_eq}
 use Rattle.std.specs.Option.{option_map_or}
 use Rattle.std.specs.List.{list_any, list_all, position_or_len}
@@ -26,8 +26,8 @@ use Rattle.vo_spec.specs.Parts.{leaf}
 use Rattle.vo_spec.specs.Trees.{RowTree}
 use Rattle.vo_spec.specs.Scans.{seen}
 
--- Intervals: what keys a comparison with a literal lets through, and what two intervals share. Of equal
--- bounds the exclusive one counts.
+-- Intervals: what keys a comparison with a literal lets through, and what two intervals share. Of
+-- equal bounds the exclusive one counts.
 
 abbrev pub all_keys : Interval
 all_keys = record { low = Absent; high = Absent }
@@ -100,8 +100,8 @@ abbrev mutual
 abbrev pub meets_left : List BoundSource → Query → RowView → Bool
 meets_left ss q left = option_map_or (left_truth ss (ref_value ss (left ∷ []))) q.condition true
 
--- The cells of a side that the query names: those of all its columns but the key under `*`, else those that
--- some reference means.
+-- The cells of a side that the query names: those of all its columns but the key under `*`, else
+-- those that some reference means.
 
 abbrev pub is_place : ColumnPlace → ColumnPlace → Bool
 is_place a b = a.bound_source == b.bound_source && a.column == b.column
@@ -152,7 +152,8 @@ seen_row_view schema cells row column =
 abbrev pub seen_row_views : Schema → Need → RowTree → List RowView
 seen_row_views schema need p = map (seen_row_view schema need.columns) (unwrap_or (seen need p) [])
 
--- The trees of a query: one for each of its tables, the left one first. A table joined with itself has one.
+-- The trees of a query: one for each of its tables, the left one first. A table joined with itself
+-- has one.
 
 abbrev pub same_table : List BoundSource → Bool
 same_table ss = bytes_eq (bound_source_at ss 0).table (bound_source_at ss 1).table
@@ -170,7 +171,8 @@ tree_at trees i = slice_index_or trees i no_tree
 abbrev pub right_tree : List BoundSource → List RowTree → RowTree
 right_tree ss trees = if same_table ss then tree_at trees 0 else tree_at trees 1
 
--- the left rows that are seen and meet the left condition; and of one of them, the right rows that are seen
+-- the left rows that are seen and meet the left condition; and of one of them, the right rows that
+-- are seen
 abbrev pub seen_lefts : List BoundSource → Query → List RowTree → List RowView
 seen_lefts ss q trees = filter (meets_left ss q)
     (seen_row_views (schema_at ss 0) (left_need ss q) (tree_at trees 0))

@@ -1,5 +1,6 @@
--- One-time signatures, LM-OTS over SHA-256 with n = 32 (RFC 8554, section 4). A key pair is named by the
--- identifier I of its tree and its leaf's number q. Secrets are made from a seed as in appendix A.
+-- One-time signatures, LM-OTS over SHA-256 with n = 32 (RFC 8554, section 4). A key pair is named
+-- by the identifier I of its tree and its leaf's number q. Secrets are made from a seed as in
+-- appendix A.
 use Rattle.std.specs.Prelude.{◌==◌, ℕ, zero, suc, ◌+◌, ◌-◌, ◌*◌, ◌/◌, ◌%◌, ◌^◌, Bool, ◌&&◌, List, [], ◌∷◌, ◌++◌, length, bit_and, slice_index}
 use Rattle.sha2.specs.Sha256.{sha256}
 use Rattle.vo_spec.specs.declared.signatures.OtsType.{OtsType}
@@ -41,7 +42,8 @@ advance id q i from (suc n) value = step id q i (from + n) (advance id q i from 
 abbrev pub secret : List ℕ → ℕ → List ℕ → ℕ → List ℕ
 secret id q seed i = step id q i 0xff seed
 
--- the randomizer C. It is made from the seed too, so that one message by one leaf always has one signature
+-- the randomizer C. It is made from the seed too, so that one message by one leaf always has one
+-- signature
 abbrev pub randomizer : List ℕ → ℕ → List ℕ → List ℕ
 randomizer id q seed = step id q 0xfffd 0xff seed
 

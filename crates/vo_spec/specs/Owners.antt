@@ -1,5 +1,6 @@
--- Which journals a store takes: each entry signed by the leaf of its version, and its record that of the honest
--- trees. And where bytes fail to be the journal of a sort of entries, this one or another.
+-- Which journals a store takes: each entry signed by the leaf of its version, and its record that
+-- of the honest trees. And where bytes fail to be the journal of a sort of entries, this one or
+-- another.
 use Rattle.std.specs.Prelude.{◌≡◌, ℕ, ◌<◌, List, [], ◌∷◌, ◌++◌, length, Some, IsOk, IsTrue}
 use Rattle.vo_spec.specs.declared.tables.Command.{Command}
 use Rattle.vo_spec.specs.declared.records.Record.{Record}
@@ -27,8 +28,8 @@ AreLoadableAfter key earlier [] = Unit {0}
 AreLoadableAfter key earlier (e ∷ es) = IsLoadableEntry key earlier e
     × AreLoadableAfter key (earlier ++ e.batch.commands ∷ []) es
 
--- Entries from version 0 on that a store takes: it looks at no proofs, and of version 0 at the record and the
--- signature alone.
+-- Entries from version 0 on that a store takes: it looks at no proofs, and of version 0 at the
+-- record and the signature alone.
 unfoldable pub AreLoadable : List ℕ → List Entry → Type 0
 AreLoadable key [] = Unit {0}
 AreLoadable key (e ∷ es) =
@@ -39,7 +40,8 @@ AreLoadable key (e ∷ es) =
 abbrev pub IsJournalOf : (List Entry → Type 0) → List ℕ → List Entry → Type 0
 IsJournalOf Are bytes es = IsJournal bytes es × Are es × (0 < length es)
 
--- The first entry that can't be read, isn't of this sort, or is wanted and isn't there, has this number.
+-- The first entry that can't be read, isn't of this sort, or is wanted and isn't there, has this
+-- number.
 abbrev pub FailsAt : (List Entry → Type 0) → List ℕ → ℕ → Type 0
 FailsAt Are bytes index = (es : List Entry) × Begins bytes es × Are es × (length es ≡ index)
     × (IsJournalOf Are bytes es → ⊥)

@@ -1,6 +1,6 @@
--- Merkle B-trees, whole or in part: their nodes, digests, and what a part may leave out of a tree. One
--- type has them all. A family of trees says what its entries are, and what a node holds of each child
--- beside the child itself (its annotation: nothing, in the trees of rows).
+-- Merkle B-trees, whole or in part: their nodes, digests, and what a part may leave out of a tree.
+-- One type has them all. A family of trees says what its entries are, and what a node holds of each
+-- child beside the child itself (its annotation: nothing, in the trees of rows).
 use Rattle.std.specs.Prelude.{◌≡◌, ℕ, ◌+◌, max, List, [], ◌∷◌, ◌++◌, length, flat_map}
 use Rattle.std.specs.List.{AllZip}
 use Rattle.sha2.specs.Sha256.{sha256}
@@ -17,8 +17,8 @@ mutual
     none : Parts E M
     more : M → Part E M → Parts E M → Parts E M
 
--- What a family has of its own: the first bytes of its preimages, its entries' keys, and the bytes of
--- its entries and of its annotations.
+-- What a family has of its own: the first bytes of its preimages, its entries' keys, and the bytes
+-- of its entries and of its annotations.
 pub record Family (E M : Type 0) : Type 0 where
   pub leaf_tag : ℕ
   pub inner_tag : ℕ
@@ -83,8 +83,8 @@ module _ {E M : Type 0} (family : Family E M) where
   preimage_by (leaf es) = leaf_bytes es
   preimage_by (inner ss ps) = inner_bytes ss ps
 
-  -- The one is the other with some of its subtrees replaced by their digests, and its entries so far as
-  -- the relation says.
+  -- The one is the other with some of its subtrees replaced by their digests, and its entries so
+  -- far as the relation says.
   module _ (EntryPrunes : E → E → Type 0) where
     abbrev mutual
       pub PrunesBy : Part E M → Part E M → Type 0

@@ -1,4 +1,5 @@
--- The proof for some needs: what of a tree must be open, what must not, and the one part of it that is so.
+-- The proof for some needs: what of a tree must be open, what must not, and the one part of it that
+-- is so.
 use Rattle.std.specs.Prelude.{◌≡◌, ℕ, ◌+◌, Bool, true, false, not, ◌&&◌, ◌||◌, ◌==◌, if◌then◌else◌, List, [], ◌∷◌, filter, flat_map, map, slice_get, drop, Option, None, is_none}
 use Rattle.std.specs.List.{list_any}
 use Rattle.vo_spec.specs.declared.needs.Need.{Need}
@@ -12,10 +13,10 @@ use Rattle.vo_spec.specs.Parts.{Part, Parts, stub, leaf, inner, none, more, Fami
 use Rattle.vo_spec.specs.Trees.{RowTree, row_family}
 use Rattle.vo_spec.specs.Scans.{in_interval, is_empty_interval, visits}
 
--- A walk through a tree, by a state with which it comes to each node: whether the node is to be open, the
--- states with which it goes on to the child between two separators and to the children after that one,
--- whether an entry of an open leaf hides what is to be shown or shows what isn't, and the entry as it is
--- to be.
+-- A walk through a tree, by a state with which it comes to each node: whether the node is to be
+-- open, the states with which it goes on to the child between two separators and to the children
+-- after that one, whether an entry of an open leaf hides what is to be shown or shows what isn't,
+-- and the entry as it is to be.
 pub record Walk (E S : Type 0) : Type 0 where
   pub opens : S → Bool
   pub onward : S → Option (List ℕ) → Option (List ℕ) → S
@@ -68,8 +69,8 @@ module _ {E M S : Type 0} (walk : Walk E S) where
           more m (pruned_by (walk.onward s lower (slice_get ss 0)) p)
           (pruned_in (walk.past s lower (slice_get ss 0)) (slice_get ss 0) (drop 1 ss) ps)
 
--- The walk for a list of needs. Its state is the needs whose scans visit the node; what an entry shows goes
--- by all needs and by the entry's key alone.
+-- The walk for a list of needs. Its state is the needs whose scans visit the node; what an entry
+-- shows goes by all needs and by the entry's key alone.
 
 abbrev pub at_root : List Need → List Need
 at_root = filter (λ need. not (is_empty_interval need.interval))

@@ -37,9 +37,10 @@ module _ {E M : Type 0} (family : Family E M) where
   without_entry key [] = []
   without_entry key (e ∷ es) = if bytes_eq (family.key e) key then es else e ∷ without_entry key es
 
-  -- A small node and its left sibling. A sibling with more than it needs gives its last entry, or its
-  -- last child: then the separator between the two comes down beside that child, and the one before it
-  -- goes up. Else the two become one, inner nodes with the separator between their children.
+  -- A small node and its left sibling. A sibling with more than it needs gives its last entry, or
+  -- its last child: then the separator between the two comes down beside that child, and the one
+  -- before it goes up. Else the two become one, inner nodes with the separator between their
+  -- children.
   abbrev pub with_left : Part E M → List ℕ → Part E M → Result (Insertion E M) UpdateFault
   with_left (leaf ls) s (leaf rs) = Ok (
       if nat_lt min_fill (length ls)
@@ -54,7 +55,8 @@ module _ {E M : Type 0} (family : Family E M) where
       else one (inner (ls ++ s ∷ rs) (joined_parts ps qs)))
   with_left _ s _ = Err Missing
 
-  -- A small node that is the first child, and its right sibling, which gives its first entry or child.
+  -- A small node that is the first child, and its right sibling, which gives its first entry or
+  -- child.
   abbrev pub with_right : Part E M → List ℕ → Part E M → Result (Insertion E M) UpdateFault
   with_right (leaf ls) s (leaf rs) = Ok (
       if nat_lt min_fill (length rs)
@@ -131,12 +133,13 @@ module _ {E M : Type 0} (family : Family E M) where
           then result_map (λ q. more (family.annotation q) q ps) (edited_by key p)
           else result_map (more m p) (edited_in key (drop 1 ss) ps)
 
--- The tree without the row of this key, or why it isn't removed: there is no such row, or the work looks at a
--- stub, or at a sibling of the other kind.
+-- The tree without the row of this key, or why it isn't removed: there is no such row, or the work
+-- looks at a stub, or at a sibling of the other kind.
 abbrev pub tree_without_key : List ℕ → RowTree → Result RowTree UpdateFault
 tree_without_key = removed_by row_family
 
--- The tree with other values in some cells of the row of this key. A row that is a digest has no cells.
+-- The tree with other values in some cells of the row of this key. A row that is a digest has no
+-- cells.
 
 abbrev pub set_cells : List CellChange → List Cell → List Cell
 set_cells changes cells = fold

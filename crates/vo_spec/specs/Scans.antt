@@ -28,7 +28,8 @@ is_below (Exclusive high) key = key_lt key high
 abbrev pub in_interval : Interval → List ℕ → Bool
 in_interval interval key = is_above interval.low key && is_below interval.high key
 
--- the bounds leave no key: the lower one is above the upper one, or they are equal and one is exclusive
+-- the bounds leave no key: the lower one is above the upper one, or they are equal and one is
+-- exclusive
 abbrev pub are_crossed : Bound → Bound → Bool
 are_crossed Absent high = false
 are_crossed low Absent = false
@@ -40,9 +41,9 @@ are_crossed (Exclusive low) (Exclusive high) = not (key_lt low high)
 abbrev pub is_empty_interval : Interval → Bool
 is_empty_interval interval = are_crossed interval.low interval.high
 
--- A scan that visits a node goes on to the child between these two separators where the upper one is above
--- the lower bound, and the lower one at or below the upper bound (below it where that is exclusive). A
--- missing bound or separator lets it pass.
+-- A scan that visits a node goes on to the child between these two separators where the upper one
+-- is above the lower bound, and the lower one at or below the upper bound (below it where that is
+-- exclusive). A missing bound or separator lets it pass.
 
 abbrev pub ends_above : Bound → Option (List ℕ) → Bool
 ends_above (Inclusive low) (Some separator) = key_lt low separator
@@ -97,7 +98,7 @@ abbrev mutual
       then append_both (seen_in need p) (seen_in_each need (slice_get ss 0) (drop 1 ss) ps)
       else seen_in_each need (slice_get ss 0) (drop 1 ss) ps
 
--- The rows with their keys in the need's interval, and the values of its columns; none where the scan
--- visits a stub, or such a row hides one of these columns.
+-- The rows with their keys in the need's interval, and the values of its columns; none where the
+-- scan visits a stub, or such a row hides one of these columns.
 abbrev pub seen : Need → RowTree → Option (List SeenRow)
 seen need p = if is_empty_interval need.interval then Some [] else seen_in need p

@@ -46,7 +46,8 @@ sibling_of r = if r % 2 == 0 then r + 1 else r - 1
 abbrev pub path_node : Secret → ℕ → ℕ → List ℕ
 path_node key q level = tree_node key (sibling_of ((2 ^ height_of key.lms + q) / 2 ^ level))
 
--- the signature of a message by the leaf q (5.4): q, the one-time signature, a typecode and the path
+-- the signature of a message by the leaf q (5.4): q, the one-time signature, a typecode and the
+-- path
 unfoldable pub lms_signature : Secret → ℕ → List ℕ → List ℕ
 lms_signature key q message =
     u32_bytes q ++ ots_signature key.id q key.ots key.seed message

@@ -41,8 +41,9 @@ AreRising [] = Unit {0}
 AreRising (key ∷ keys) = AllByRecursion (λ k. IsTrue (key_lt key k)) keys × AreRising keys
 
 module _ {E M : Type 0} (family : Family E M) where
-  -- A node of no stub, with at least so many entries or children, with its leaves so many levels below it,
-  -- and with its keys between these separators. A parent holds of each child the annotation of that child.
+  -- A node of no stub, with at least so many entries or children, with its leaves so many levels
+  -- below it, and with its keys between these separators. A parent holds of each child the
+  -- annotation of that child.
   abbrev mutual
     pub IsNode : ℕ → ℕ → Option (List ℕ) → Option (List ℕ) → Part E M → Type 0
     IsNode fewest height lower upper (stub d) = ⊥

@@ -100,7 +100,8 @@ abbrev pub suits : List Column → List ℕ → Value → Bool
 suits columns name value = same_kind (column_at columns (column_number columns name)).kind
     (kind_of value)
 
--- The tests of each command, in their order, but for those that need the rows (DuplicateKey, NoRow).
+-- The tests of each command, in their order, but for those that need the rows (DuplicateKey,
+-- NoRow).
 
 abbrev pub Tests : Type 0
 Tests = List (Bool × CommandFault)
@@ -216,7 +217,8 @@ abbrev pub with_rows : List ℕ → (Table → List Row) → List Table → List
 with_rows name rows = map (λ (t : Table). if bytes_eq t.name name
     then record { name = t.name; schema = t.schema; rows = rows t } else t)
 
--- what a command that no table header refuses makes of the tables, or the refusal that needs the rows
+-- what a command that no table header refuses makes of the tables, or the refusal that needs the
+-- rows
 abbrev pub change_tables : Command → List Table → Result (List Table) CommandFault
 change_tables (Create name columns key) tables =
     Ok (put_table (record {
@@ -246,7 +248,8 @@ apply command tables = and_then (change_tables command)
     (unless (refusal command (map table_header_of tables)) tables)
 
 -- a refusal with its command's number
-abbrev pub with_index : ℕ → Result (List Table) CommandFault → Result (List Table) (ℕ × CommandFault)
+abbrev pub with_index : ℕ → Result (List Table) CommandFault
+    → Result (List Table) (ℕ × CommandFault)
 with_index index (Ok after) = Ok after
 with_index index (Err fault) = Err (index, fault)
 

@@ -10,7 +10,8 @@ use Rattle.vo_spec.specs.Values.{value_bytes}
 use Rattle.vo_spec.specs.Parts.{Part, Parts, stub, leaf, inner, none, more, count}
 use Rattle.vo_spec.specs.Trees.{RowTree}
 
--- what a family's trees are spelled with: the first bytes of open nodes, and the bytes of entries and annotations
+-- what a family's trees are spelled with: the first bytes of open nodes, and the bytes of entries
+-- and annotations
 pub record Encoding (E M : Type 0) : Type 0 where
   pub leaf_byte : ℕ
   pub inner_byte : ℕ

@@ -1,5 +1,5 @@
--- The trees of rows: the first bytes of a leaf are 03 and the count of its entries, those of an inner node
--- 04 and the count of its children. Of a child its parent holds its digest alone.
+-- The trees of rows: the first bytes of a leaf are 03 and the count of its entries, those of an
+-- inner node 04 and the count of its children. Of a child its parent holds its digest alone.
 use Rattle.std.specs.Prelude.{ℕ, List, [], ◌∷◌}
 use Rattle.vo_spec.specs.declared.cells.PartEntry.{PartEntry}
 use Rattle.vo_spec.specs.Cells.{entry_bytes, EntryPrunes}

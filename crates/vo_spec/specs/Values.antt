@@ -73,8 +73,8 @@ key_cmp = slice_cmp nat_cmp
 abbrev pub key_lt : List ℕ → List ℕ → Bool
 key_lt a b = is_lt (key_cmp a b)
 
--- The order of a kind: numbers, texts by their bytes, FALSE before TRUE. Values of two kinds are compared
--- nowhere; they go by their kinds.
+-- The order of a kind: numbers, texts by their bytes, FALSE before TRUE. Values of two kinds are
+-- compared nowhere; they go by their kinds.
 abbrev pub value_cmp : Value → Value → Ordering
 value_cmp (Int a) (Int b) = int_cmp a b
 value_cmp (Text a) (Text b) = slice_cmp nat_cmp a b

@@ -14,8 +14,8 @@ pub struct Answer {
     pub outcome: Outcome,
 }
 
-/// Why a client refuses a reply, in the order of its tests. `want` is what the client goes by, and `got`
-/// what the reply has.
+/// Why a client refuses a reply, in the order of its tests. `want` is what the client goes by, and
+/// `got` what the reply has.
 #[derive(Debug, Drop, Error)]
 pub enum CheckFault {
     #[error("a reply over the limit")]

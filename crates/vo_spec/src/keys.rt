@@ -7,8 +7,8 @@ use std::alloc::{AllocError, Global};
 use std::cmp::Ordering;
 use std::marker::Model;
 
-/// The bytes of a key, which order it: those of a BIGINT are big-endian with the sign bit flipped, those
-/// of a TEXT are its own.
+/// The bytes of a key, which order it: those of a BIGINT are big-endian with the sign bit flipped,
+/// those of a TEXT are its own.
 #[derive(Debug, Drop)]
 pub struct Key {
     bytes: Vec<u8>,

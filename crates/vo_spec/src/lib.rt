@@ -1,8 +1,8 @@
 //! The plain types of the system, and the definitions that its contracts cite.
 //!
-//! Contracts see these types as themselves: a list as the list of its items, a text, a name, a key and
-//! a digest as their bytes, and every struct and enum as the record or the cases that stand here. So the
-//! definitions in `specs/` speak of the very values that the program passes.
+//! Contracts see these types as themselves: a list as the list of its items, a text, a name, a key
+//! and a digest as their bytes, and every struct and enum as the record or the cases that stand
+//! here. So the definitions in `specs/` speak of the very values that the program passes.
 #![tactic(auto)]
 
 mod cells;

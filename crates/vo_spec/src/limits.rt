@@ -1,4 +1,5 @@
-//! The limits of tables and of formats. The definitions have each under the same name in small letters.
+//! The limits of tables and of formats. The definitions have each under the same name in small
+//! letters.
 
 /// Bytes of a name.
 pub const MAX_NAME: usize = 63;

@@ -3,8 +3,8 @@ use crate::keys::{Interval, Key};
 use crate::lists::{List, SharedList};
 use crate::values::Value;
 
-/// The rows of an interval of keys, with the columns that are named. Columns have their numbers among
-/// those that aren't the key.
+/// The rows of an interval of keys, with the columns that are named. Columns have their numbers
+/// among those that aren't the key.
 #[derive(Debug, Drop)]
 pub struct Need {
     pub interval: Interval,

@@ -27,7 +27,8 @@ pub struct Record {
     pub catalog: Digest,
 }
 
-/// One version in the owner's journal: its batch, the proofs that went with it, and what was signed.
+/// One version in the owner's journal: its batch, the proofs that went with it, and what was
+/// signed.
 #[derive(Debug, Drop)]
 pub struct Entry {
     pub batch: Batch,

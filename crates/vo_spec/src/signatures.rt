@@ -1,4 +1,5 @@
-//! The parameter sets of one-time and of tree signatures over SHA-256 with 32 bytes (RFC 8554, sections 4.1 and 5.1).
+//! The parameter sets of one-time and of tree signatures over SHA-256 with 32 bytes (RFC 8554,
+//! sections 4.1 and 5.1).
 ghost use Rattle.std.specs.Prelude.{◌≡◌};
 ghost use Rattle.vo_spec.specs.OtsSets.{ots_of, ots_code_of, width_of, count_of, shift_of, ots_signature_len};
 ghost use Rattle.vo_spec.specs.LmsSets.{lms_of, lms_code_of, height_of};

@@ -1,4 +1,5 @@
--- A store that takes entries by its calls stands behind those that a store takes, and refuses the first that isn't one.
+-- A store that takes entries by its calls stands behind those that a store takes, and refuses the
+-- first that isn't one.
 use Rattle.std.proofs.Common.{◌≡◌, ℕ, zero, suc, ◌+◌, ◌-◌, ◌<◌, ◌≤◌, Bool, false, cond, List, [], ◌∷◌, ◌++◌, Option, Some, None, Result, Ok, Err, length, take, drop, refl, sym, ap, subst, ◌∙◌, append_assoc, append-nil, arith}
 use Rattle.std.specs.Prelude.{◌==◌, is_none, option_map, slice_get}
 use Rattle.std.specs.List.{AllByRecursion}

@@ -1,4 +1,5 @@
--- The proofs of a query by the left table's own proof, which shows all that the query needs of that table.
+-- The proofs of a query by the left table's own proof, which shows all that the query needs of that
+-- table.
 use Rattle.std.proofs.Common.{◌≡◌, ℕ, zero, suc, ◌<◌, ◌≤◌, Bool, true, false, cond, List, [], ◌∷◌, ◌++◌, Option, Some, None, length, map, inl, refl, sym, ap, ◌∙◌, subst, arith}
 use Rattle.std.specs.Prelude.{◌||◌, ◌==◌, find, is_some, is_none, bytes_eq, option_map, option_to_list}
 use Rattle.std.specs.Option.{option_map_or}

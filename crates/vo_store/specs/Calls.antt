@@ -36,14 +36,15 @@ answer_of s q = option_map_or (λ (e : SignedRecord). within_limit
 
 -- Proposals.
 
--- what is seen of the trees after a batch, with its proofs; or the refused command, with the proofs up to it
+-- what is seen of the trees after a batch, with its proofs; or the refused command, with the proofs
+-- up to it
 abbrev pub with_proofs : {X : Type 0} → (List Stored → X) → List ℕ
     → Result (List Stored) (ℕ × CommandFault) → Result (X × List ℕ) StoreFault
 with_proofs view proofs (Ok after) = Ok (view after, proofs)
 with_proofs view proofs (Err refused) = Err (fault.Command refused.0 refused.1 proofs)
 
--- The store behind a proposal, and the batch's proofs. A refused proposal leaves the store, and with it what was
--- proposed before.
+-- The store behind a proposal, and the batch's proofs. A refused proposal leaves the store, and
+-- with it what was proposed before.
 unfoldable pub proposal_of : StoreState → List Command → Result (StoreState × List ℕ) StoreFault
 proposal_of s batch = if is_none s.installed then Err fault.Empty
     else with_proofs (λ after. with_pending after s)

@@ -9,7 +9,8 @@ use Rattle.vo_store.specs.declared.signed_record.SignedRecord.{SignedRecord}
 use Rattle.vo_store.specs.StoreState.{StoreState, new_store}
 use Rattle.vo_store.specs.Calls.{proposal_of, install_of}
 
--- the store behind an entry of a version after 0: its batch is proposed, and then its record installed
+-- the store behind an entry of a version after 0: its batch is proposed, and then its record
+-- installed
 abbrev pub taken_later : StoreState → Entry → Result StoreState StoreFault
 taken_later s e = and_then
     (λ (proposal : StoreState × List ℕ). install_of proposal.0 e.rec e.signature)
@@ -24,7 +25,8 @@ abbrev pub refused_at : ℕ → Result StoreState StoreFault → Result StoreSta
 refused_at index (Ok after) = Ok after
 refused_at index (Err why) = Err index
 
--- the store behind the entries, the first of them of this number; or the number of the first that is refused
+-- the store behind the entries, the first of them of this number; or the number of the first that
+-- is refused
 abbrev pub taken_from : ℕ → List Entry → StoreState → Result StoreState ℕ
 taken_from index [] s = Ok s
 taken_from index (e ∷ es) s =

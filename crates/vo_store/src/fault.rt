@@ -11,8 +11,9 @@ use vo_spec::{CommandFault, List, Record};
 /// Why a store refuses a call. It stands where it did before.
 #[derive(Debug, Drop, Error)]
 pub enum StoreFault {
-    /// The command of this number in the batch is refused. The proofs, as bytes, are those up to this command, its
-    /// own among them where it has one: by them an owner without tables finds the refusal too.
+    /// The command of this number in the batch is refused. The proofs, as bytes, are those up to
+    /// this command, its own among them where it has one: by them an owner without tables finds the
+    /// refusal too.
     #[error("a refused command")]
     Command {
         index: u64,

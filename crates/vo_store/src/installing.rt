@@ -22,8 +22,8 @@ pub(crate) fn next_version(installed: &Option<SignedRecord>) -> u64
     }
 }
 
-/// The record with its signature, if it is that of these tables as this version, and the signature is valid and by
-/// the version's leaf.
+/// The record with its signature, if it is that of these tables as this version, and the signature
+/// is valid and by the version's leaf.
 pub(crate) fn signed_record(
     alloc: Global,
     key: &PublicKey,

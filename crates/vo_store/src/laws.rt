@@ -1,5 +1,5 @@
-//! Laws of stores, each the contract of a function that does nothing: what they keep call by call, and that clients
-//! and owners take what they say.
+//! Laws of stores, each the contract of a function that does nothing: what they keep call by call,
+//! and that clients and owners take what they say.
 
 ghost use Rattle.std.specs.Prelude.{◌≡◌, ℕ, ◌+◌, ◌≤◌, List, [], ◌∷◌, ◌++◌, Some, None, Ok, Err, IsOk};
 ghost use Rattle.vo_spec.specs.declared.records.Record.{Record};
@@ -21,9 +21,9 @@ ghost use Rattle.vo_store.specs.StoreState.{StoreState, new_store};
 ghost use Rattle.vo_store.specs.HonestStores.{IsHonestAfter};
 ghost use Rattle.vo_store.specs.Calls.{answer_of, install_of, proposal_of};
 
-/// A store's trees stand for the plain tables after the batches of the versions that it has installed: a proposal
-/// leaves them, and an install makes the proposed batch's work on them. A batch is refused where the plain tables
-/// refuse it, for the same command and the same reason.
+/// A store's trees stand for the plain tables after the batches of the versions that it has
+/// installed: a proposal leaves them, and an install makes the proposed batch's work on them. A
+/// batch is refused where the plain tables refuse it, for the same command and the same reason.
 pub fn stores_stay_honest()
     ensures new { (key : List ℕ) → IsHonestAfter [] (new_store key) }
     ensures stand { (batches : List (List Command)) (s : StoreState) → IsHonestAfter batches s
@@ -45,8 +45,8 @@ pub fn stores_stay_honest()
         → IsHonestAfter (batches ++ batch ∷ []) next × (next.tables ≡ after_work s.tables batch) }
 {}
 
-/// What a store answers is taken by each client of its key that takes the installed version, and is the query's
-/// result on the plain tables.
+/// What a store answers is taken by each client of its key that takes the installed version, and is
+/// the query's result on the plain tables.
 pub fn answers_are_accepted()
     ensures { (batches : List (List Command)) (s : StoreState) (installed : SignedRecord)
         (least : ℕ) (q : Query) (bytes : List ℕ) → IsHonestAfter batches s
@@ -58,8 +58,9 @@ pub fn answers_are_accepted()
         })) }
 {}
 
-/// Where an owner stands at a store's tables, the store's proofs lead it on to the roots of the tables behind the
-/// batch, and the store takes the entry that the owner signs for these; or both refuse the batch for one reason.
+/// Where an owner stands at a store's tables, the store's proofs lead it on to the roots of the
+/// tables behind the batch, and the store takes the entry that the owner signs for these; or both
+/// refuse the batch for one reason.
 pub fn owners_follow_stores()
     ensures accepted { (batches : List (List Command)) (batch : List Command) (version : ℕ)
         (s pending : StoreState) (proofs : List ℕ) → IsHonestAfter batches s → FitsBatch batch

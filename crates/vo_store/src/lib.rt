@@ -1,4 +1,5 @@
-//! A store of whole trees: it takes the versions that an owner signs, and answers queries by the last of them.
+//! A store of whole trees: it takes the versions that an owner signs, and answers queries by the
+//! last of them.
 #![tactic(auto)]
 
 mod answering;

@@ -17,9 +17,9 @@ use stored_tables::StoredTables;
 use vo_spec::{Entry, List};
 
 impl Store {
-    /// A store of the key that has taken these entries, from entry 0 on: of it the record is installed, of each later
-    /// one the batch is proposed and then the record installed. Entry 0's batch and the entries' proofs are not
-    /// looked at.
+    /// A store of the key that has taken these entries, from entry 0 on: of it the record is
+    /// installed, of each later one the batch is proposed and then the record installed. Entry 0's
+    /// batch and the entries' proofs are not looked at.
     pub fn load(alloc: Global, key: PublicKey, entries: &[Entry]) -> Result<Store, LoadFault>
         requires { AllByRecursion FitsEntry entries.now }
         // by the store's calls

@@ -35,7 +35,8 @@ fn tree_of<'t>(tables: &'t StoredTables, name: &Name) -> &'t Tree
     }
 }
 
-/// What the query needs of the right tree, by the proof of the left one for its need, which shows all of it.
+/// What the query needs of the right tree, by the proof of the left one for its need, which shows
+/// all of it.
 fn needs_by_proof(
     alloc: Global,
     plan: &Plan<'_, '_>,

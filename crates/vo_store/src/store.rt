@@ -63,8 +63,8 @@ impl Store {
         })
     }
 
-    /// Proposes the next version, of this batch, in the place of one that was proposed before, and gives the batch's
-    /// proofs as bytes.
+    /// Proposes the next version, of this batch, in the place of one that was proposed before, and
+    /// gives the batch's proofs as bytes.
     pub fn propose(&mut self, alloc: Global, batch: &Batch) -> Result<Vec<u8>, StoreFault>
         requires { FitsBatch batch.now.commands }
         ensures answer { Gives (λ proofs. (self.new, proofs.items)) result

@@ -114,8 +114,8 @@ impl Replay {
         self.contents.len() <= image.len() && self.reaches(image.len()) && self.keeps(image)
     }
 
-    /// What a crash at this moment may leave, the bytes that it loses being these: they stand where a
-    /// write was begun, and past what was down as far as the writes reach.
+    /// What a crash at this moment may leave, the bytes that it loses being these: they stand where
+    /// a write was begun, and past what was down as far as the writes reach.
     pub fn image(&self, alloc: Global, lost: &[u8]) -> Result<Vec<u8>, AllocError>
         ensures { IfOk result (λ image. IsImage (down_of self.now) image.items) }
     {

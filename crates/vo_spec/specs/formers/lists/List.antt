@@ -1,4 +1,5 @@
--- How a `List` holds its items, so that a type may hold lists of itself: as the `Vec` inside it does.
+-- How a `List` holds its items, so that a type may hold lists of itself: as the `Vec` inside it
+-- does.
 use mathlib.Core.Path.{◌≡◌, refl, sym}
 use mathlib.Core.List as core
 use mathlib.Core.Former.{Former, this, list, via, children}
