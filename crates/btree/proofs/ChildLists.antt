@@ -1,4 +1,4 @@
--- The children of a node, as a list and as parts.
+-- Lists of children, and children as parts, one for the other.
 use Rattle.std.proofs.Common.{◌≡◌, ℕ, zero, suc, ◌+◌, ◌<◌, ◌≤◌, List, [], ◌∷◌, ◌++◌, length, map, take, drop, get_or, refl, sym, ap, ◌∙◌, subst, arith}
 use Rattle.std.proofs.lemmas.List.{length-map, take-map, drop-map, map-append, get_or-map}
 use Rattle.vo_spec.specs.Parts.{Part, inner, more, count, levels, levels_in}

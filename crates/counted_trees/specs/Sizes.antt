@@ -1,4 +1,4 @@
--- The children of a node have fewer levels than it.
+-- The levels of a counted tree, and of its children.
 use Rattle.std.specs.Prelude.{◌+◌, ◌≤◌, List, [], ◌∷◌, map}
 use Rattle.std.proofs.Common.{arith}
 use denote.Param.Weighed.{most}

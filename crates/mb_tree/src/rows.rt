@@ -1,4 +1,4 @@
-//! The rows of whole trees.
+//! The rows that stand below a subtree, in order.
 ghost use Rattle.std.specs.Prelude.{◌≡◌, ◌++◌, OnOk, IfOk, flat_map};
 ghost use Rattle.vo_spec.specs.Trees.{open_parts};
 ghost use Rattle.vo_spec.specs.Standing.{rows_in};

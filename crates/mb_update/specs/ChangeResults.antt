@@ -1,4 +1,4 @@
--- What changes of trees answer.
+-- When the answer of a change to a tree is the one due.
 use Rattle.std.specs.Prelude.{◌≡◌, ℕ, List, Result, Ok, Err}
 use Rattle.vo_spec.specs.declared.cells.PartEntry.{PartEntry}
 use Rattle.vo_spec.specs.declared.trees.UpdateFault.{UpdateFault}

@@ -1,5 +1,6 @@
 //! A place in a byte string, from which what stands there is taken.
 ghost use Rattle.std.specs.Prelude.{◌≡◌, ◌↔◌, [], IsTrue};
+ghost use Rattle.vo_spec.specs.Bytes.{IsBytes};
 ghost use Rattle.row_bytes.specs.Reading.{byte_at, bytes_at, u16_at, u32_at, u64_at};
 ghost use Rattle.row_bytes.specs.Fields.{Found};
 
@@ -14,10 +15,13 @@ pub struct Cursor<'b> {
 
 impl<'b> Model for Cursor<'b> {
     ghost use Rattle.std.specs.Prelude.{List, ℕ};
+    ghost use Rattle.vo_spec.specs.Bytes.{IsBytes};
 
     ghost Value = { List ℕ };
 
     ghost view = { λ cursor. cursor.rest.now };
+
+    ghost invariant = { λ cursor. IsBytes cursor.rest.now };
 }
 
 impl<'b> Cursor<'b> {
@@ -36,7 +40,8 @@ impl<'b> Cursor<'b> {
 
     /// Another cursor at this place.
     pub fn copy(&self) -> Cursor<'b>
-        ensures { result ≡ self.now }
+        ensures place { result ≡ self.now }
+        ensures bytes { IsBytes self.now }
     {
         Cursor { rest: self.rest }
     }

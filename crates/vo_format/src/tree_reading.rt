@@ -32,15 +32,7 @@ pub fn take_tree<'b>(alloc: Global, cursor: &mut Cursor<'b>) -> Result<PartTree<
     // What reading gives, unless memory runs out.
     ensures exact { FoundOr part_of result cursor.old cursor.new (tree_at max_levels cursor.old) }
 {
-    are_bytes(cursor.rest());
-    take_levels(alloc, cursor, MAX_LEVELS as u8)
-}
-
-/// A slice of bytes holds bytes.
-fn are_bytes(bytes: &[u8])
-    ensures { IsBytes bytes.now }
-{
-    let _count = bytes.len();
+    take_node(alloc, cursor, MAX_LEVELS as u8 - 1)
 }
 
 /// The tree that comes next, of at most so many levels.
@@ -66,7 +58,9 @@ fn take_node<'b>(
     cursor: &mut Cursor<'b>,
     levels: u8,
 ) -> Result<PartTree<'b>, ReadFault>
-    ensures { FoundOr part_of result cursor.old cursor.new (node_at (tree_at levels) cursor.old) }
+    ensures exact { FoundOr part_of result cursor.old cursor.new
+        (node_at (tree_at levels) cursor.old) }
+    ensures bytes { IsBytes cursor.old }
 {
     let mut ahead = cursor.copy();
     let node = match ahead.take_byte() {

@@ -26,4 +26,4 @@ take_levels-returns-then-levels-eq0 t c =
 pub take_levels-returns : goal.take_levels-returns
 take_levels-returns t c =
     let some_left : 0 < c.args.levels = omega arith in
-    subst (FoundOr part_of c.take_node.result c.args.cursor.now c.take_node.new.cursor) (sym (level_at c.args.levels c.args.cursor.now some_left)) c.take_node.ensures
+    subst (FoundOr part_of c.take_node.result c.args.cursor.now c.take_node.new.cursor) (sym (level_at c.args.levels c.args.cursor.now some_left)) c.take_node.ensures.exact
