@@ -33,4 +33,5 @@ pub use laws::frames_read_back;
 pub use limits::MAX_QUERY;
 pub use put::put_frame;
 pub use read::{read_body, read_frame};
+pub use responder::Responder;
 pub use serve::{MAX_TURNS, serve_link};
