@@ -1,5 +1,5 @@
 -- What a question and its answer are as a request.
-use Rattle.std.proofs.Common.{◌≡◌, ℕ, List, [], ◌∷◌, length, Option, Some, IfSome, Result, Ok, Err, IsErr, IsTrue, refl, sym, ap, ◌∙◌, subst, inr, zero-add, rules, tests}
+use Rattle.std.proofs.Common.{◌≡◌, ℕ, ◌+◌, ◌<◌, ◌^◌, List, [], ◌∷◌, length, Option, Some, IfSome, IfOk, Result, Ok, Err, IsErr, IsTrue, refl, sym, ap, ◌∙◌, subst, inr, zero-add, rules, tests}
 use Rattle.std.specs.Prelude.{nat_lt}
 use Rattle.std.specs.Result.{result_map_both}
 use Rattle.std.specs.Global.{Vec}
@@ -67,6 +67,12 @@ unanswered frame first (no_frame.BadFrame length) before after h =
     (answer_bad first length h.0.0 h.0.1, took_span first (send_on frame before) after h.1)
 unanswered frame first no_frame.LinkFault before after h = h
 unanswered frame first no_frame.Memory before after h = h
+
+-- a body that was read is not too long for a frame
+pub short_body : (result : Result (Vec ℕ) WireFault) (body : Vec ℕ) → IfOk result (λ bytes. bytes ≡ body)
+    → length body.items + 1 < 2 ^ 32 → IfOk result (λ bytes. length bytes.items + 1 < 2 ^ 32)
+short_body (Ok bytes) body same fits = subst (λ (v : Vec ℕ). length v.items + 1 < 2 ^ 32) (sym same) fits
+short_body (Err why) body same fits = tt
 
 -- Connections that are made.
 

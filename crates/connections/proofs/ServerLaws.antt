@@ -102,8 +102,7 @@ pub one_served : {S : Type 0} (reply : Reply S) (next : Next S) (end : End) (old
     → ServesKnown (serving_script reply next max_turns old before.coming) end old new before last)
     → later ≡ close_known last → AreServedKnown reply next (end ∷ []) old new wire later
 one_served reply next end old new wire opened last later came opens serves closes = λ before is.
-    let s = serves (open_next before) (opens ∙ ap open_known is) in
-    (
+    let s = serves (open_next before) (opens ∙ ap open_known is) in (
       shut s.0,
       closes ∙ ap close_known s.1,
       (

@@ -1,5 +1,5 @@
 //! Answers to requests.
-ghost use Rattle.std.specs.Prelude.{◌≡◌, ◌+◌, ◌<◌, ◌≤◌, ◌^◌, length, Some, Ok, Err, IsErrOf};
+ghost use Rattle.std.specs.Prelude.{◌≡◌, ◌+◌, ◌<◌, ◌≤◌, ◌^◌, length, Some, IfOk, IsErrOf};
 ghost use Rattle.std.specs.Result.{result_map_both};
 ghost use Rattle.outside.specs.ConnectionModel.{ConnectionModel};
 ghost use Rattle.outside.specs.FaultRose.{FaultRose};
@@ -26,6 +26,7 @@ pub fn answer_body<L: Link>(
         → Requests (λ bytes. bytes.items) (frame_bytes kind body.now)
         (first_frame awaits before.coming) (answer_in (first_frame awaits before.coming)) result
         before (L.wire link.new) }
+    ensures short { IfOk result (λ bytes. length bytes.items + 1 < 2 ^ 32) }
 
     ensures counts { L.faults link.old ≤ L.faults link.new }
     ensures cause { IsErrOf result WireFault.LinkFault
@@ -40,8 +41,9 @@ pub fn answer_body<L: Link>(
 
 /// The body of an answer that isn't a refusal.
 fn body_of(answer: Frame) -> Result<Vec<u8>, WireFault>
-    ensures { result_map_both (λ bytes. bytes.items) (λ why. why) result
+    ensures value { result_map_both (λ bytes. bytes.items) (λ why. why) result
         ≡ body_of answer.kind answer.body.items }
+    ensures body { IfOk result (λ bytes. bytes ≡ answer.body) }
 {
     match answer.kind {
         FrameKind::Refusal => Err(WireFault::Refused {

@@ -1,9 +1,9 @@
 //! A reply that is asked for over a connection of its own.
-ghost use Rattle.std.specs.Prelude.{◌≡◌, ◌+◌, ◌<◌, ◌≤◌, ◌^◌, length, Some, true, IsTrue, IsErrOf};
+ghost use Rattle.std.specs.Prelude.{◌≡◌, ◌≤◌, length, Some, true, IsTrue, IsErrOf};
 ghost use Rattle.outside.specs.ConnectionModel.{ConnectionModel, has_next};
 ghost use Rattle.outside.specs.FaultRose.{FaultRose};
 ghost use Rattle.link_frames.specs.declared.frame_kind.FrameKind.TheVariants.{Query};
-ghost use Rattle.link_frames.specs.Frames.{frame_bytes};
+ghost use Rattle.link_frames.specs.Frames.{frame_bytes, max_query};
 ghost use Rattle.connections.specs.Fetching.{Fetches};
 
 use crate::answers::answer_body;
@@ -20,7 +20,8 @@ pub fn fetch_reply<N: Net>(
     address: &str,
     text: &[u8],
 ) -> Result<Vec<u8>, WireFault>
-    requires { length text.now + 1 < 2 ^ 32 }
+    requires some { 1 ≤ length text.now }
+    requires fits { length text.now ≤ max_query }
     ensures known { (before : ConnectionModel) → N.wire net.old ≡ Some before
         → Fetches (frame_bytes Query text.now) result before (N.wire net.new) }
 

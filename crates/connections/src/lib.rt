@@ -16,3 +16,6 @@ pub use fetch::fetch_reply;
 pub use serve_fault::ServeFault;
 pub use server::serve_all;
 pub use wire_fault::WireFault;
+
+#[cfg(test)]
+mod tests;
