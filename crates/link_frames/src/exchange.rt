@@ -1,8 +1,8 @@
 //! Asking: one frame is put, and its answer read.
-ghost use Rattle.std.specs.Prelude.{◌≡◌, ◌+◌, ◌<◌, ◌≤◌, ◌^◌, length, Some, IsErrOf};
+ghost use Rattle.std.specs.Prelude.{◌≡◌, ◌+◌, ◌<◌, ◌≤◌, ◌^◌, ◌&&◌, length, Some, IsTrue, IfOk, IsErrOf};
 ghost use Rattle.outside.specs.ConnectionModel.{ConnectionModel};
 ghost use Rattle.outside.specs.FaultRose.{FaultRose};
-ghost use Rattle.link_frames.specs.Frames.{frame_bytes, first_frame};
+ghost use Rattle.link_frames.specs.Frames.{frame_bytes, first_frame, may_come, is_length};
 ghost use Rattle.link_frames.specs.Reading.{Asks, StaysWhereItStands};
 
 use crate::awaits::Awaits;
@@ -26,6 +26,8 @@ pub fn ask<L: Link>(
     ensures known { (before : ConnectionModel) → L.wire link.old ≡ Some before
         → Asks (frame_bytes kind body.now) (first_frame awaits before.coming) result before
         (L.wire link.new) }
+    ensures allowed { IfOk result (λ frame. IsTrue (may_come awaits frame.kind
+        && is_length frame.kind (length frame.body.items))) }
 
     ensures counts { L.faults link.old ≤ L.faults link.new }
     ensures cause { IsErrOf result NoFrame.LinkFault

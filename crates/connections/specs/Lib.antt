@@ -1,0 +1,4 @@
+pub mod Lines
+pub mod Requesting
+pub mod Fetching
+pub mod Serving
