@@ -31,6 +31,11 @@ check_app = command_of (codes "check")
     (word_rule (codes "key") ∷ word_rule (codes "query") ∷ word_rule (codes "reply")
     ∷ option_rule (codes "least") ∷ [])
 
+abbrev pub ask_app : App
+ask_app = command_of (codes "ask")
+    (word_rule (codes "address") ∷ word_rule (codes "key") ∷ word_rule (codes "query")
+    ∷ option_rule (codes "least") ∷ [])
+
 abbrev pub audit_app : App
 audit_app = command_of (codes "audit")
     (word_rule (codes "key") ∷ word_rule (codes "journal") ∷ word_rule (codes "query")
@@ -59,7 +64,8 @@ with_store program = with_command program answer_app
 -- what clients and auditors do
 abbrev pub with_client : App → App
 with_client program =
-    with_command (with_command (with_command program check_app) audit_app) meet_app
+    with_command (with_command (with_command (with_command program check_app) ask_app) audit_app)
+    meet_app
 
 abbrev pub program_app : App
 program_app = with_client (with_store (with_owner empty_app))

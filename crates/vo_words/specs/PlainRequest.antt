@@ -7,12 +7,13 @@ use Rattle.clap.specs.Kinds.{Kinds}
 use Rattle.vo_words.specs.Commands.{program_app}
 use Rattle.vo_words.specs.Numbers.{written_number}
 
--- a command and its words, files by their names
+-- a command and its words, files by their names and peers by their addresses
 pub data PlainRequest : Type 0 where
   Keygen : (seed : Text) (height : ℕ) → PlainRequest
   Seal : (seed script : Text) (height : ℕ) → PlainRequest
   Answer : (key journal query : Text) → PlainRequest
   Check : (key query reply : Text) (least : ℕ) → PlainRequest
+  Ask : (address key query : Text) (least : ℕ) → PlainRequest
   Audit : (key journal query reply : Text) → PlainRequest
   Meet : (key query first second : Text) → PlainRequest
 
@@ -53,6 +54,12 @@ check_request rows = with_word (codes "key") rows (λ key. with_word (codes "que
     with_word (codes "reply") rows (λ reply. option_map (Check key query reply)
     (given_least rows))))
 
+abbrev pub ask_request : List Row → Option PlainRequest
+ask_request rows =
+    with_word (codes "address") rows (λ address. with_word (codes "key") rows (λ key.
+    with_word (codes "query") rows (λ query. option_map (Ask address key query)
+    (given_least rows))))
+
 abbrev pub audit_request : List Row → Option PlainRequest
 audit_request rows =
     with_word (codes "key") rows (λ key. with_word (codes "journal") rows (λ journal.
@@ -65,13 +72,14 @@ meet_request rows = with_word (codes "key") rows (λ key. with_word (codes "quer
     Some (Meet key query first second)))))
 
 -- what a command about a query and its replies asks for
-abbrev pub reply_request : Text → List Row → Option PlainRequest
+unfoldable pub reply_request : Text → List Row → Option PlainRequest
 reply_request name rows =
     if bytes_eq name (codes "answer") then answer_request rows
     else (if bytes_eq name (codes "check") then check_request rows
     else (if bytes_eq name (codes "audit") then audit_request rows
     else (if bytes_eq name (codes "meet") then meet_request rows
-    else None)))
+    else (if bytes_eq name (codes "ask") then ask_request rows
+    else None))))
 
 -- what a command asks for, by its name and its words
 abbrev pub command_request : Text → List Row → Option PlainRequest

@@ -25,7 +25,7 @@ enum Argument<'a> {
 
 use Argument::{Named, Word};
 
-const FORMS: [Form<'static>; 6] = [
+const FORMS: [Form<'static>; 7] = [
     Form {
         name: "keygen",
         takes: &[Word("seed"), Named("height")],
@@ -41,6 +41,10 @@ const FORMS: [Form<'static>; 6] = [
     Form {
         name: "check",
         takes: &[Word("key"), Word("query"), Word("reply"), Named("least")],
+    },
+    Form {
+        name: "ask",
+        takes: &[Word("address"), Word("key"), Word("query"), Named("least")],
     },
     Form {
         name: "audit",

@@ -1,7 +1,7 @@
 //! The words, read by the commands.
 ghost use Rattle.std.specs.Prelude.{◌≡◌, map, option_map, string_bytes, IfOk, IsTrue, ◌↔◌};
 ghost use Rattle.clap.specs.Words.{kind_of, found_of, rows_of, first_of, subcommand_rows_of};
-ghost use Rattle.vo_words.specs.PlainRequest.{request_in, used_request, keygen_request, seal_request, answer_request, check_request, audit_request, meet_request, reply_request, given_height, given_least, height_number};
+ghost use Rattle.vo_words.specs.PlainRequest.{request_in, used_request, keygen_request, seal_request, answer_request, check_request, audit_request, meet_request, reply_request, ask_request, given_height, given_least, height_number};
 ghost use Rattle.vo_words.specs.Height.{number_of};
 ghost use Rattle.vo_words.specs.Request.{plain_request};
 
@@ -50,6 +50,7 @@ fn used_request<'a>(matches: &ArgMatches<'a>) -> Option<Request<'a>>
 }
 
 /// What a command about a query and its replies asks for.
+#[tactic(auto, unfolding(crate::specs::PlainRequest::reply_request))]
 fn reply_request<'a>(name: &str, used: &ArgMatches<'a>) -> Option<Request<'a>>
     ensures { option_map plain_request result
         ≡ reply_request name.now (rows_of (found_of used.now)) }
@@ -62,6 +63,8 @@ fn reply_request<'a>(name: &str, used: &ArgMatches<'a>) -> Option<Request<'a>>
         audit_request(used)
     } else if name == "meet" {
         meet_request(used)
+    } else if name == "ask" {
+        ask_request(used)
     } else {
         None
     }
@@ -112,6 +115,21 @@ fn check_request<'a>(used: &ArgMatches<'a>) -> Option<Request<'a>>
         key,
         query,
         reply,
+        least,
+    })
+}
+
+fn ask_request<'a>(used: &ArgMatches<'a>) -> Option<Request<'a>>
+    ensures { option_map plain_request result ≡ ask_request (rows_of (found_of used.now)) }
+{
+    let address = text_of(used, "address")?;
+    let key = text_of(used, "key")?;
+    let query = text_of(used, "query")?;
+    let least = least_of(used)?;
+    Some(Request::Ask {
+        address,
+        key,
+        query,
         least,
     })
 }

@@ -21,7 +21,8 @@ impl Height {
     }
 }
 
-/// A command and its words. A file is given by its name, and a query by its text.
+/// A command and its words. A file is given by its name, a peer by its address, and a query by its
+/// text.
 #[derive(Clone, Copy, Debug)]
 pub enum Request<'a> {
     Keygen {
@@ -43,6 +44,13 @@ pub enum Request<'a> {
         key: &'a str,
         query: &'a str,
         reply: &'a str,
+        least: u64,
+    },
+    /// The same of the reply that a store sends.
+    Ask {
+        address: &'a str,
+        key: &'a str,
+        query: &'a str,
         least: u64,
     },
     Audit {
