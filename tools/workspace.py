@@ -7,9 +7,10 @@ TOP = os.path.dirname(os.path.dirname(os.path.abspath(__file__)))
 
 # What is built: all that docs/FORMATS.md has. The other implementation counts its own steps, of
 # which these are the first 7 (tables, queries and joins, signed versions, an owner with roots alone,
-# and the commands keygen, seal, answer, check and audit) and the 12th (the command meet). Still to
-# come are a served store, NULL, indexes and totals.
+# and the commands keygen, seal, answer, check and audit) and the 12th (the command meet). Of the 8th
+# the command ask is built. Still to come are a served store, NULL, indexes and totals.
 STAGE = "7+12"
+BUILT_EARLY = ("ask",)
 
 # It signs what comparisons and benches make, one journal after the other: nothing that is kept may
 # be signed by it.
@@ -44,3 +45,6 @@ def load_reference(tool):
     os.environ["PYTHONPATH"] = REFERENCE
     sys.dont_write_bytecode = True
     sys.path.insert(0, REFERENCE)
+    from vo_ref import cli
+    for command in BUILT_EARLY:
+        cli.COMMAND_SINCE[command] = 1

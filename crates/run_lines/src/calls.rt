@@ -1,7 +1,7 @@
 //! What the calls answer.
 use crate::changes::run_over_changes;
 use crate::folder::{Attempt, Folder, RunEnd};
-use crate::line::{Line, Splice, read_line};
+use crate::line::{Frame, Line, Splice, read_line};
 use line_pieces::NoAnswer;
 use std::alloc::Global;
 use std::io;
@@ -23,7 +23,9 @@ fn answer_line(alloc: Global, folder: &mut Folder, line: &str) -> Result<String,
         }
         Line::Keep(name, bytes) => keep_file(alloc, folder, name, bytes),
         Line::Splice(name, splice) => keep_splice(alloc, folder, name, &splice),
+        Line::Frame(name, frame) => keep_frame(alloc, folder, name, &frame),
         Line::Run(attempt) => run_once(alloc, folder, attempt),
+        Line::Talk(attempt) => run_with_peer(alloc, folder, attempt),
         Line::Make(name, attempt) => run_and_keep(alloc, folder, name, attempt),
         Line::Each(change, name, words) => run_over_changes(alloc, folder, change, &name, &words),
         Line::Words(words) => request_text(alloc, &words),
@@ -60,6 +62,12 @@ fn request_form(alloc: Global, request: Request<'_>) -> Result<String, NoAnswer>
             reply,
             least,
         } => format!(in alloc; "(check {key:?} {query:?} {reply:?} {least})")?,
+        Request::Ask {
+            address,
+            key,
+            query,
+            least,
+        } => format!(in alloc; "(ask {address:?} {key:?} {query:?} {least})")?,
         Request::Audit {
             key,
             journal,
@@ -109,9 +117,34 @@ fn splice_file(alloc: Global, folder: &Folder, splice: &Splice) -> Result<Vec<u8
     Ok(all)
 }
 
+/// Keeps the bytes of a frame: how many follow, its kind, and its body.
+fn keep_frame(
+    alloc: Global,
+    folder: &mut Folder,
+    name: String,
+    frame: &Frame,
+) -> Result<String, NoAnswer> {
+    let Some(body) = folder.find(&frame.body) else {
+        return Err(NoAnswer::NoSuchLine);
+    };
+    let length = (frame.kind.len() as u32).wrapping_add(body.len() as u32);
+    let mut bytes = Vec::from_slice(alloc, &length.to_be_bytes())?;
+    bytes.extend_from_slice(&frame.kind)?;
+    bytes.extend_from_slice(body)?;
+    keep_file(alloc, folder, name, bytes)
+}
+
 fn run_once(alloc: Global, folder: &Folder, attempt: Attempt) -> Result<String, NoAnswer> {
     let end = folder.run(alloc, attempt)?;
     end_text(alloc, &end)
+}
+
+/// The same, and what was put on the connection.
+fn run_with_peer(alloc: Global, folder: &Folder, attempt: Attempt) -> Result<String, NoAnswer> {
+    let end = folder.run(alloc, attempt)?;
+    let text = end_text(alloc, &end)?;
+    let digits = hex::encode(alloc, end.put.as_slice())?;
+    Ok(format!(in alloc; "{text} put {digits}")?)
 }
 
 /// Runs the program, and keeps what it writes.

@@ -3,20 +3,31 @@ use outside::{FailAt, Failure, MemDisk, MemNet, MemShelf, MemSink, NamedFile, Ne
 use std::alloc::{AllocError, Global};
 use vo_commands::run;
 
-/// The words that the program is run with, and which of its calls of the files and of the output
-/// fail.
+/// The words that the program is run with, which of its calls of the files and of the output fail,
+/// and whom it can talk to.
 #[derive(Drop)]
 pub struct Attempt {
     pub words: Vec<String>,
     pub take_failures: Vec<Failure>,
     pub put_failures: Vec<Failure>,
+    pub peer: Option<Peer>,
 }
 
-/// What a run ended with, and what it wrote.
+/// Who makes or takes the one connection: the bytes that come from it are those of a file, in
+/// pieces of at most so many, and some calls of the network fail.
+#[derive(Drop)]
+pub struct Peer {
+    pub file: String,
+    pub piece: usize,
+    pub failures: Vec<Failure>,
+}
+
+/// What a run ended with, what it wrote, and what it put on its connection.
 #[derive(Drop)]
 pub struct RunEnd {
     pub status: u8,
     pub written: Vec<u8>,
+    pub put: Vec<u8>,
 }
 
 /// Files by their names. Of two with one name the later one counts.
@@ -50,8 +61,28 @@ impl Folder {
     pub fn run(&self, alloc: Global, attempt: Attempt) -> Result<RunEnd, AllocError> {
         let files = copies(alloc, &self.files)?;
         let mut shelf = MemShelf::new(files, FailAt::new(attempt.take_failures));
+        let mut net = self.net_to(alloc, attempt.peer)?;
         let put_failures = FailAt::new(attempt.put_failures);
-        run_over(alloc, &attempt.words, &mut shelf, put_failures)
+        run_over(alloc, &attempt.words, &mut shelf, &mut net, put_failures)
+    }
+
+    /// A network on which this peer, if there is one, can be talked to once.
+    fn net_to(&self, alloc: Global, peer: Option<Peer>) -> Result<MemNet<FailAt>, AllocError> {
+        let mut connections = Vec::new(alloc);
+        let Some(
+            Peer {
+                file,
+                piece,
+                failures,
+            },
+        ) = peer
+        else {
+            return MemNet::new(alloc, connections, FailAt::new(Vec::new(alloc)));
+        };
+        let coming = self.find(&file).unwrap_or(&[]);
+        connections.push(Vec::from_slice(alloc, coming)?)?;
+        let net = MemNet::new(alloc, connections, FailAt::new(failures))?;
+        Ok(net.in_pieces(piece))
     }
 
     /// A run that never fails, with this file in the place of the one of its name.
@@ -64,24 +95,32 @@ impl Folder {
         let mut files = copies(alloc, &self.files)?;
         files.insert(0, file)?;
         let mut shelf = MemShelf::new(files, FailAt::new(Vec::new(alloc)));
-        run_over(alloc, words, &mut shelf, FailAt::new(Vec::new(alloc)))
+        let mut net = self.net_to(alloc, None)?;
+        run_over(
+            alloc,
+            words,
+            &mut shelf,
+            &mut net,
+            FailAt::new(Vec::new(alloc)),
+        )
     }
 }
 
-/// Runs the program over these, with nothing on its disk and nobody to talk to.
+/// Runs the program over these, with nothing on its disk.
 fn run_over(
     alloc: Global,
     words: &[String],
     shelf: &mut MemShelf<FailAt>,
+    net: &mut MemNet<FailAt>,
     put_failures: FailAt,
 ) -> Result<RunEnd, AllocError> {
     let mut disk = MemDisk::new(alloc, Vec::new(alloc), Never)?;
-    let mut net = MemNet::new(alloc, Vec::new(alloc), Never)?;
     let mut out = MemSink::new(alloc, put_failures);
-    let status = run(alloc, words, shelf, &mut disk, &mut net, &mut out);
+    let status = run(alloc, words, shelf, &mut disk, net, &mut out);
     Ok(RunEnd {
         status,
         written: Vec::from_slice(alloc, out.written())?,
+        put: Vec::from_slice(alloc, net.sent())?,
     })
 }
 

@@ -1,6 +1,6 @@
 //! A line: the word of a call, and what it is asked of.
 use crate::changes::Change;
-use crate::folder::Attempt;
+use crate::folder::{Attempt, Peer};
 use crate::pieces::{Pieces, take_bytes, take_name, take_number, take_words};
 use line_pieces::NoAnswer;
 use outside::Failure;
@@ -12,7 +12,9 @@ pub enum Line {
     Clear,
     Keep(String, Vec<u8>),
     Splice(String, Splice),
+    Frame(String, Frame),
     Run(Attempt),
+    Talk(Attempt),
     Make(String, Attempt),
     Each(Change, String, Vec<String>),
     Words(Vec<String>),
@@ -27,6 +29,13 @@ pub struct Splice {
     pub bytes: Vec<u8>,
 }
 
+/// A frame of a kind, whose body is a file.
+#[derive(Drop)]
+pub struct Frame {
+    pub kind: Vec<u8>,
+    pub body: String,
+}
+
 /// What a line asks for.
 pub fn read_line(alloc: Global, line: &str) -> Result<Line, NoAnswer> {
     let mut pieces = line.split(' ');
@@ -39,10 +48,13 @@ fn line_of(alloc: Global, word: &str, pieces: &mut Pieces<'_>) -> Result<Line, N
         "clear" => Line::Clear,
         "keep" => Line::Keep(take_name(alloc, pieces)?, take_bytes(alloc, pieces)?),
         "splice" => Line::Splice(take_name(alloc, pieces)?, take_splice(alloc, pieces)?),
+        "frame" => Line::Frame(take_name(alloc, pieces)?, take_frame(alloc, pieces)?),
         "run" => Line::Run(take_run(alloc, pieces)?),
         "make" => Line::Make(take_name(alloc, pieces)?, take_run(alloc, pieces)?),
         "each_cut" => take_changes(alloc, Change::Cut, pieces)?,
         "each_turn" => take_changes(alloc, Change::Turn, pieces)?,
+        "talk" => Line::Talk(take_run_with_peer(alloc, pieces)?),
+        "fail_talk" => Line::Talk(take_run_with_broken_peer(alloc, pieces)?),
         "fail_files" => Line::Run(take_run_without_file(alloc, pieces)?),
         "fail_output" => Line::Run(take_run_with_short_output(alloc, pieces)?),
         "words" => Line::Words(take_words(alloc, pieces)?),
@@ -64,12 +76,44 @@ fn take_splice(alloc: Global, pieces: &mut Pieces<'_>) -> Result<Splice, NoAnswe
     })
 }
 
+fn take_frame(alloc: Global, pieces: &mut Pieces<'_>) -> Result<Frame, NoAnswer> {
+    Ok(Frame {
+        body: take_name(alloc, pieces)?,
+        kind: take_bytes(alloc, pieces)?,
+    })
+}
+
 fn take_run(alloc: Global, pieces: &mut Pieces<'_>) -> Result<Attempt, NoAnswer> {
     Ok(Attempt {
         words: take_words(alloc, pieces)?,
         take_failures: Vec::new(alloc),
         put_failures: Vec::new(alloc),
+        peer: None,
     })
+}
+
+/// A run with a peer, whose bytes are those of a file, in pieces of at most so many.
+fn take_run_with_peer(alloc: Global, pieces: &mut Pieces<'_>) -> Result<Attempt, NoAnswer> {
+    let file = take_name(alloc, pieces)?;
+    let piece = take_number(pieces)?;
+    let failures = Vec::new(alloc);
+    let mut attempt = take_run(alloc, pieces)?;
+    attempt.peer = Some(Peer {
+        file,
+        piece,
+        failures,
+    });
+    Ok(attempt)
+}
+
+/// The same where the call of the network with a number, from 0 on, fails.
+fn take_run_with_broken_peer(alloc: Global, pieces: &mut Pieces<'_>) -> Result<Attempt, NoAnswer> {
+    let call = take_number(pieces)? as u64;
+    let mut attempt = take_run_with_peer(alloc, pieces)?;
+    if let Some(peer) = &mut attempt.peer {
+        peer.failures.push(Failure { call, after: 0 })?;
+    }
+    Ok(attempt)
 }
 
 /// A run that can't read the file that it takes with a number, the first one having 0.

@@ -2,13 +2,16 @@
 //!
 //! A line is a word and what it is asked of. `keep NAME BYTES` keeps a file, and `splice NAME FROM
 //! AT CUT BYTES` one that is the file FROM with these bytes in the place of CUT others from AT on;
-//! both say how long it is, and `clear` has no files again. `run WORDS` runs the program, its name
+//! `frame NAME FROM KIND` one that is the frame of this kind with the file FROM as its body; they
+//! say how long it is, and `clear` has no files again. `run WORDS` runs the program, its name
 //! first, and says the status and the output; `make NAME WORDS` keeps the output besides,
 //! `fail_files CALL WORDS` runs it where the file that it takes with this number, from 0 on, is not
-//! read, and `fail_output AFTER WORDS` where the output breaks off behind so many bytes. `each_cut
-//! NAME WORDS` runs it for each shorter front of the file NAME, which stands in its place, and
-//! `each_turn NAME WORDS` for the file with the lowest bit of each of its bytes turned. `words
-//! WORDS` says what the words ask for.
+//! read, and `fail_output AFTER WORDS` where the output breaks off behind so many bytes. `talk NAME
+//! PIECE WORDS` runs it with one connection, on which the bytes of the file NAME come in pieces of
+//! at most PIECE, and says besides what was put there; `fail_talk CALL NAME PIECE WORDS` does so
+//! where the call of the network with this number fails. `each_cut NAME WORDS` runs it for each
+//! shorter front of the file NAME, which stands in its place, and `each_turn NAME WORDS` for the
+//! file with the lowest bit of each of its bytes turned. `words WORDS` says what the words ask for.
 //!
 //! Bytes are in hexadecimal, in pieces with a blank between; digits of a piece that stands several
 //! times are written as `DIGITS*COUNT`. Each of the words is such a piece. Output is said as a text

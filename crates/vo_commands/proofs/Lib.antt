@@ -2,4 +2,5 @@ pub mod Endings
 pub mod Steps
 pub mod TextSteps
 pub mod FileSteps
+pub mod NetSteps
 pub mod CommandSteps

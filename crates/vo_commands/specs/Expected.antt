@@ -1,9 +1,15 @@
 -- What a run of the program must print, by its words and by the files that it takes.
-use Rattle.std.specs.Prelude.{◌≡◌, ◌⊎◌, ℕ, Bool, ◌&&◌, ◌==◌, nat_lt, if◌then◌else◌, List, [], ◌∷◌, length, take, drop, codes, decimal, Option, Some, None, option_map, is_some, IsSome, Result}
+use Rattle.std.specs.Prelude.{◌≡◌, ◌⊎◌, ℕ, Bool, ◌&&◌, ◌==◌, nat_lt, if◌then◌else◌, List, [], ◌∷◌, length, take, drop, codes, decimal, Option, Some, None, option_map, option_and_then, is_some, IsSome, slice_index, Result}
 use Rattle.std.specs.Option.{option_map_or}
 use Rattle.std.specs.Str.{is_utf8}
 use Rattle.outside.specs.Shelf.{Files}
 use Rattle.outside.specs.Sink.{added}
+use Rattle.outside.specs.ConnectionModel.{ConnectionModel, open_next}
+use Rattle.link_frames.specs.declared.awaits.Awaits.TheVariants.{Reply as ReplyAwaited}
+use Rattle.link_frames.specs.declared.frame_kind.FrameKind.{FrameKind}
+use Rattle.link_frames.specs.declared.frame_kind.FrameKind.TheVariants.{Query as QueryFrame, Refusal}
+use Rattle.link_frames.specs.Frames.{Coming, Whole, Ended, Cut, Bad, first_frame, frame_bytes}
+use Rattle.link_frames.specs.Reading.{IsHalfAsked}
 use Rattle.vo_spec.specs.declared.signatures.OtsType.TheVariants.{W8}
 use Rattle.vo_spec.specs.declared.tables.Batch.{Batch}
 use Rattle.vo_spec.specs.declared.records.Entry.{Entry}
@@ -27,9 +33,9 @@ use Rattle.reply_meeting.specs.Meetings.{RepliesMeet}
 use Rattle.owner_state.specs.declared.sealing.SealFault.{SealFault}
 use Rattle.owner_state.specs.declared.sealing.SealFault.TheVariants as seal
 use Rattle.owner_state.specs.Sealing.{commands_of, seal_fault}
-use Rattle.vo_words.specs.PlainRequest.{PlainRequest, Keygen, Seal, Answer, Check, Audit, Meet}
+use Rattle.vo_words.specs.PlainRequest.{PlainRequest, Keygen, Seal, Answer, Check, Ask, Audit, Meet}
 use Rattle.sql_text.specs.Scripts.{IsScript}
-use Rattle.vo_commands.specs.Lines.{Output, line, success, refusal, input_refusal, check_output, audit_output, meet_output, bad_journal, command_output, spent_key}
+use Rattle.vo_commands.specs.Lines.{Output, line, success, refusal, input_refusal, check_output, audit_output, meet_output, bad_journal, command_output, spent_key, store_refusal, bad_frame, cut_off}
 use Rattle.vo_commands.specs.Texts.{IsQueryText, IsRefusedQuery, IsRefusedScript}
 
 -- These lines; or what is expected of the query or the script that a text is; or what a relation
@@ -159,7 +165,30 @@ abbrev pub script_expected : Secret → List ℕ → Expected
 script_expected secret =
     with_text (λ text. OfScript text (λ batches. Exactly (seal_output secret batches)))
 
--- What each command comes to, the files in the order of its words and a query at its place.
+-- the rest of the work on the body of an answer, which a refusal is not
+abbrev pub with_body : FrameKind → List ℕ → (List ℕ → Expected) → Expected
+with_body Refusal body rest = Exactly (store_refusal (slice_index body 0))
+with_body _ body rest = rest body
+
+-- on the answer that comes first; a peer that ends before it has cut it off
+abbrev pub with_answer : Coming → (List ℕ → Expected) → Expected
+with_answer (Whole kind body) rest = with_body kind body rest
+with_answer Ended rest = Exactly (cut_off 0)
+with_answer (Cut got) rest = Exactly (cut_off got)
+with_answer (Bad length taken) rest = Exactly (bad_frame length)
+
+-- on the first of the connections to come, each by the bytes to come on it; without one it fails
+abbrev pub with_connection : List (List ℕ) → (List ℕ → Expected) → Expected
+with_connection [] rest = Exactly outside_failure
+with_connection (coming ∷ queue) rest = rest coming
+
+-- on the reply that a store sends there
+abbrev pub with_reply : List (List ℕ) → (List ℕ → Expected) → Expected
+with_reply queue rest =
+    with_connection queue (λ coming. with_answer (first_frame ReplyAwaited coming) rest)
+
+-- What each command comes to, the files in the order of its words, a query at its place and the
+-- network behind them.
 
 abbrev pub seal_expected : List ℕ → List ℕ → ℕ → Files → Expected
 seal_expected seed script height files =
@@ -176,6 +205,10 @@ check_expected key query reply least files =
     with_key files key
     (λ k. OfQuery query (λ q. with_file files reply reply_limit (λ r. Checks k least q r)))
 
+abbrev pub ask_expected : List ℕ → List ℕ → ℕ → Files → List (List ℕ) → Expected
+ask_expected key query least files queue =
+    with_key files key (λ k. OfQuery query (λ q. with_reply queue (λ r. Checks k least q r)))
+
 abbrev pub audit_expected : List ℕ → List ℕ → List ℕ → List ℕ → Files → Expected
 audit_expected key journal query reply files =
     with_key files key (λ k. with_file files journal journal_limit (λ j. OfQuery query (λ q.
@@ -186,18 +219,49 @@ meet_expected key query first second files =
     with_key files key (λ k. OfQuery query (λ q. with_file files first reply_limit (λ r.
     with_file files second reply_limit (λ s. Meets k q r s))))
 
-abbrev pub command_expected : PlainRequest → Files → Expected
-command_expected (Keygen seed height) = keygen_expected seed height
-command_expected (Seal seed script height) = seal_expected seed script height
-command_expected (Answer key journal query) = answer_expected key journal query
-command_expected (Check key query reply least) = check_expected key query reply least
-command_expected (Audit key journal query reply) = audit_expected key journal query reply
-command_expected (Meet key query first second) = meet_expected key query first second
+-- where the files are known, and for a command that asks the connections to come
+abbrev pub command_expected : PlainRequest → Option Files → Option (List (List ℕ))
+    → Option Expected
+command_expected (Keygen seed height) files queue = option_map (keygen_expected seed height) files
+command_expected (Seal seed script height) files queue =
+    option_map (seal_expected seed script height) files
+command_expected (Answer key journal query) files queue =
+    option_map (answer_expected key journal query) files
+command_expected (Check key query reply least) files queue =
+    option_map (check_expected key query reply least) files
+command_expected (Ask address key query least) files queue = option_and_then
+    (λ queue. option_map (λ files. ask_expected key query least files queue) files) queue
+command_expected (Audit key journal query reply) files queue =
+    option_map (audit_expected key journal query reply) files
+command_expected (Meet key query first second) files queue =
+    option_map (meet_expected key query first second) files
 
--- what is expected of the words, where the files are known
-abbrev pub expected_of : Option Files → Option PlainRequest → Option Expected
-expected_of files None = Some (Exactly words_refusal)
-expected_of files (Some request) = option_map (command_expected request) files
+-- the connections to come, where they are known
+abbrev pub queue_of : Option ConnectionModel → Option (List (List ℕ))
+queue_of wire = option_map (λ before. before.queue) wire
+
+-- what is expected of the words
+abbrev pub expected_of : Option PlainRequest → Option Files → Option (List (List ℕ))
+    → Option Expected
+expected_of None files queue = Some (Exactly words_refusal)
+expected_of (Some request) files queue = command_expected request files queue
+
+-- A command may make no connection and leave the network; or it makes one, on which it puts a
+-- frame, or a front of it, and takes bytes only once all of the frame was put.
+abbrev pub AsksOnly : List ℕ → ConnectionModel → Option ConnectionModel → Type 0
+AsksOnly frame before after =
+    (after ≡ Some before) ⊎ IsHalfAsked frame (open_next before) after
+
+-- what a command does on the network: it asks its query, or does nothing
+abbrev pub UsesNet : Option PlainRequest → ConnectionModel → Option ConnectionModel → Type 0
+UsesNet (Some (Ask address key query least)) before after =
+    AsksOnly (frame_bytes QueryFrame query) before after
+UsesNet _ before after = after ≡ Some before
+
+-- how many connections a command makes at most
+abbrev pub connections_of : Option PlainRequest → ℕ
+connections_of (Some (Ask address key query least)) = 1
+connections_of _ = 0
 
 -- What is written after an end with this output: all of it was put; or the output failed, and a
 -- front of it was; or memory ran out, and nothing was.
@@ -220,6 +284,7 @@ files_of_request (Keygen seed height) = seed ∷ []
 files_of_request (Seal seed script height) = seed ∷ script ∷ []
 files_of_request (Answer key journal query) = key ∷ journal ∷ []
 files_of_request (Check key query reply least) = key ∷ reply ∷ []
+files_of_request (Ask address key query least) = key ∷ []
 files_of_request (Audit key journal query reply) = key ∷ journal ∷ reply ∷ []
 files_of_request (Meet key query first second) = key ∷ first ∷ second ∷ []
 

@@ -116,6 +116,19 @@ abbrev pub check_output : Result Answer CheckFault → Output
 check_output (Ok answer) = success (version_line answer.version ++ outcome_lines answer.outcome)
 check_output (Err fault) = refusal 1 (fault_words fault)
 
+-- What a store answers over a network in place of a reply.
+
+-- a refusal, by its code
+abbrev pub store_refusal : ℕ → Output
+store_refusal code = refusal 1 (codes "store" ∷ decimal code ∷ [])
+
+-- a frame that is no answer, and an answer that is cut off
+abbrev pub bad_frame : ℕ → Output
+bad_frame length = line_output (codes "bad frame") 9 (decimal length ∷ [])
+
+abbrev pub cut_off : ℕ → Output
+cut_off got = line_output (codes "cut") 9 (decimal got ∷ [])
+
 -- Refusals of texts.
 
 abbrev pub sql_words : SqlFault → List (List ℕ)

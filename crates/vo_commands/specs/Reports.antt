@@ -1,11 +1,13 @@
 -- Reports as the output of the program.
 use Rattle.std.specs.Prelude.{◌≡◌, ℕ, Bool, true, false, Result, Ok, Err}
 use Rattle.vo_commands.specs.declared.report.Status.{Status}
-use Rattle.vo_commands.specs.declared.report.Status.TheVariants.{Done, RefusedReply, RefusedInput, Collision, Unsigned, BadJournal, RefusedCommand}
+use Rattle.vo_commands.specs.declared.report.Status.TheVariants.{Done, RefusedReply, RefusedInput, Collision, Unsigned, BadJournal, RefusedCommand, BadAnswer}
 use Rattle.vo_commands.specs.declared.report.Report.{Report}
 use Rattle.vo_commands.specs.declared.report.Stop.{Stop}
 use Rattle.vo_commands.specs.declared.report.Stop.TheVariants.{Refused, Outside, Memory}
-use Rattle.vo_commands.specs.Lines.{Output}
+use Rattle.connections.specs.declared.wire_fault.WireFault.{WireFault}
+use Rattle.connections.specs.declared.wire_fault.WireFault.TheVariants as fault
+use Rattle.vo_commands.specs.Lines.{Output, store_refusal, bad_frame, cut_off}
 use Rattle.vo_commands.specs.Expected.{Expected, Exactly, Allows}
 
 abbrev pub status_code : Status → ℕ
@@ -16,6 +18,7 @@ status_code Collision = 5
 status_code Unsigned = 6
 status_code BadJournal = 7
 status_code RefusedCommand = 8
+status_code BadAnswer = 9
 
 abbrev pub output_of : Report → Output
 output_of report = record { status = status_code report.status; bytes = report.bytes.items }
@@ -36,6 +39,20 @@ GoesOn {B = B} view expected (Err (Refused report)) =
 GoesOn view expected (Err Outside) = Unit {0}
 GoesOn view expected (Err Memory) = Unit {0}
 
+-- these lines are printed
+abbrev pub Prints : Output → Stop → Type 0
+Prints output (Refused report) = output_of report ≡ output
+Prints output Outside = ⊥
+Prints output Memory = ⊥
+
+-- Where there is no answer, its refusal is printed, or the outside failed, or memory ran out.
+abbrev pub StopsWithout : WireFault → Stop → Type 0
+StopsWithout (fault.Refused code) stop = Prints (store_refusal code) stop
+StopsWithout (fault.BadFrame length) stop = Prints (bad_frame length) stop
+StopsWithout (fault.Cut got) stop = Prints (cut_off got) stop
+StopsWithout fault.LinkFault stop = stop ≡ Outside
+StopsWithout fault.Memory stop = stop ≡ Memory
+
 -- The text is this; or it is nothing of the sort, and the output says why.
 abbrev pub ReadsText : {A B : Type 0} → (A → B) → (B → Type 0) → (Output → Type 0) → Result A Stop
     → Type 0
@@ -44,12 +61,6 @@ ReadsText {B = B} view Is IsRefused (Err (Refused report)) =
     ((b : B) → Is b → ⊥) × IsRefused (output_of report)
 ReadsText view Is IsRefused (Err Outside) = ⊥
 ReadsText view Is IsRefused (Err Memory) = Unit {0}
-
--- these lines are printed
-abbrev pub Prints : Output → Stop → Type 0
-Prints output (Refused report) = output_of report ≡ output
-Prints output Outside = ⊥
-Prints output Memory = ⊥
 
 -- after a fault of a text: this is printed, unless memory ended
 abbrev pub StopsWith : Bool → Output → Stop → Type 0

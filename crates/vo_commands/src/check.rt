@@ -69,7 +69,8 @@ fn check_file<F: Shelf>(
     }
 }
 
-fn check_report(
+/// The answer that a client of the key accepts from these bytes, or why it refuses them.
+pub fn check_report(
     alloc: Global,
     key: PublicKey,
     least: u64,

@@ -3,6 +3,7 @@
 
 mod answer;
 mod answers;
+mod ask;
 mod audit;
 mod check;
 mod files;
@@ -16,6 +17,7 @@ mod refusals;
 mod reply_refusals;
 mod report;
 mod seal;
+mod store_replies;
 mod text_refusals;
 mod texts;
 mod top;

@@ -19,6 +19,8 @@ pub enum Status {
     BadJournal,
     /// A command is refused, or the key is spent.
     RefusedCommand,
+    /// What a store sent is no answer, or not all of one.
+    BadAnswer,
 }
 
 impl Status {
@@ -35,6 +37,7 @@ impl Status {
             Status::Unsigned => 6,
             Status::BadJournal => 7,
             Status::RefusedCommand => 8,
+            Status::BadAnswer => 9,
         }
     }
 }

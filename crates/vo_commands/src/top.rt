@@ -1,12 +1,14 @@
 //! The top call.
-ghost use Rattle.std.specs.Prelude.{◌≡◌, ◌≢◌, ◌⊎◌, ℕ, ◌≤◌, map, string_bytes, IfSome, IsErrOf};
+ghost use Rattle.std.specs.Prelude.{◌≡◌, ◌≢◌, ◌⊎◌, ℕ, ◌≤◌, length, map, string_bytes, Some, IfSome, IsErrOf};
+ghost use Rattle.outside.specs.ConnectionModel.{ConnectionModel};
 ghost use Rattle.outside.specs.FaultRose.{FaultRose};
 ghost use Rattle.vo_words.specs.PlainRequest.{request_in};
 ghost use Rattle.vo_words.specs.Request.{plain_request};
-ghost use Rattle.vo_commands.specs.Expected.{expected_of, command_expected, Ends, Writes, HoldsEach, files_of_request, file_words};
+ghost use Rattle.vo_commands.specs.Expected.{expected_of, command_expected, queue_of, connections_of, UsesNet, Ends, Writes, HoldsEach, files_of_request, file_words};
 ghost use Rattle.vo_commands.specs.Reports.{Answers, output_of};
 
 use crate::answer::answer;
+use crate::ask::ask;
 use crate::audit::audit;
 use crate::check::check;
 use crate::keygen::keygen;
@@ -29,27 +31,37 @@ pub fn run<F: Shelf, D: Disk, N: Net, S: Sink>(
     net: &mut N,
     out: &mut S,
 ) -> u8
-    // Where the contents of the files are known, it ends with the expected output, or a fault rose,
-    // or memory ran out.
-    ensures lines { IfSome (expected_of (F.contents files.old)
-        (request_in (map string_bytes words.now)))
-        (λ expected.
-        Ends expected (FaultRose (F.faults files.old) (F.faults files.new))
+    // Where the contents of the files are known, and for a command that asks the connections to
+    // come, it ends with the expected output, or a fault rose, or memory ran out.
+    ensures lines { IfSome (expected_of (request_in (map string_bytes words.now))
+        (F.contents files.old) (queue_of (N.wire net.old)))
+        (λ expected. Ends expected (FaultRose (F.faults files.old) (F.faults files.new)
+        ⊎ FaultRose (N.faults net.old) (N.faults net.new))
         (FaultRose (S.faults out.old) (S.faults out.new))
         result (S.written out.old) (S.written out.new)) }
     ensures outside { result ≡ 3
         → FaultRose (F.faults files.old) (F.faults files.new)
+        ⊎ FaultRose (N.faults net.old) (N.faults net.new)
         ⊎ FaultRose (S.faults out.old) (S.faults out.new) }
     ensures memory { result ≡ 4 → S.written out.new ≡ S.written out.old }
+
+    // What it does to the outside.
+    ensures files { F.contents files.new ≡ F.contents files.old }
+    ensures disk { disk.new ≡ disk.old }
+    ensures net { connections_of (request_in (map string_bytes words.now)) ≡ 0
+        → net.new ≡ net.old }
+    ensures asks { (before : ConnectionModel) → N.wire net.old ≡ Some before
+        → UsesNet (request_in (map string_bytes words.now)) before (N.wire net.new) }
+
+    // What is there is not missed.
     ensures misses { IfSome (F.contents files.old) (λ known.
         HoldsEach known (file_words (request_in (map string_bytes words.now)))
         → F.misses files.new ≡ F.misses files.old) }
-
-    ensures files { F.contents files.new ≡ F.contents files.old }
-    ensures disk { disk.new ≡ disk.old }
-    ensures net { net.new ≡ net.old }
+    ensures net_misses { (before : ConnectionModel) → N.wire net.old ≡ Some before
+        → connections_of (request_in (map string_bytes words.now)) ≤ length before.queue
+        → N.misses net.new ≡ N.misses net.old }
 {
-    match do_request(alloc, words, files) {
+    match do_request(alloc, words, files, net) {
         Ok(report) => print_report(out, &report),
         Err(Stop::Refused(report)) => print_report(out, &report),
         Err(Stop::Outside) => write(out, 3, b"fault: outside\n"),
@@ -58,35 +70,64 @@ pub fn run<F: Shelf, D: Disk, N: Net, S: Sink>(
 }
 
 /// What the words ask for, done.
-fn do_request<F: Shelf>(alloc: Global, words: &[String], files: &mut F) -> Result<Report, Stop>
-    ensures known { IfSome (expected_of (F.contents files.old)
-        (request_in (map string_bytes words.now)))
+fn do_request<F: Shelf, N: Net>(
+    alloc: Global,
+    words: &[String],
+    files: &mut F,
+    net: &mut N,
+) -> Result<Report, Stop>
+    ensures known { IfSome (expected_of (request_in (map string_bytes words.now))
+        (F.contents files.old) (queue_of (N.wire net.old)))
         (λ expected. Answers expected result) }
     ensures kept { F.contents files.new ≡ F.contents files.old }
+    ensures net { connections_of (request_in (map string_bytes words.now)) ≡ 0
+        → net.new ≡ net.old }
+    ensures asks { (before : ConnectionModel) → N.wire net.old ≡ Some before
+        → UsesNet (request_in (map string_bytes words.now)) before (N.wire net.new) }
+
     ensures counts { F.faults files.old ≤ F.faults files.new }
+    ensures net_counts { N.faults net.old ≤ N.faults net.new }
     ensures cause { IsErrOf result Stop.Outside
-        → FaultRose (F.faults files.old) (F.faults files.new) }
+        → FaultRose (F.faults files.old) (F.faults files.new)
+        ⊎ FaultRose (N.faults net.old) (N.faults net.new) }
     ensures misses { IfSome (F.contents files.old) (λ known.
         HoldsEach known (file_words (request_in (map string_bytes words.now)))
         → F.misses files.new ≡ F.misses files.old) }
+    ensures net_misses { (before : ConnectionModel) → N.wire net.old ≡ Some before
+        → connections_of (request_in (map string_bytes words.now)) ≤ length before.queue
+        → N.misses net.new ≡ N.misses net.old }
 {
     match read_words(alloc, words)? {
-        Some(request) => run_command(alloc, request, files),
+        Some(request) => run_command(alloc, request, files, net),
         None => Ok(refusal(alloc, Status::RefusedInput, &[Word::Phrase("words")])?),
     }
 }
 
 /// What a command comes to.
-fn run_command<F: Shelf>(alloc: Global, request: Request<'_>, files: &mut F) -> Result<Report, Stop>
-    ensures known { IfSome (F.contents files.old)
-        (λ known. Answers (command_expected (plain_request request.entry) known) result) }
+fn run_command<F: Shelf, N: Net>(
+    alloc: Global,
+    request: Request<'_>,
+    files: &mut F,
+    net: &mut N,
+) -> Result<Report, Stop>
+    ensures known { IfSome (command_expected (plain_request request.entry) (F.contents files.old)
+        (queue_of (N.wire net.old))) (λ expected. Answers expected result) }
     ensures kept { F.contents files.new ≡ F.contents files.old }
+    ensures net { connections_of (Some (plain_request request.entry)) ≡ 0 → net.new ≡ net.old }
+    ensures asks { (before : ConnectionModel) → N.wire net.old ≡ Some before
+        → UsesNet (Some (plain_request request.entry)) before (N.wire net.new) }
+
     ensures counts { F.faults files.old ≤ F.faults files.new }
+    ensures net_counts { N.faults net.old ≤ N.faults net.new }
     ensures cause { IsErrOf result Stop.Outside
-        → FaultRose (F.faults files.old) (F.faults files.new) }
+        → FaultRose (F.faults files.old) (F.faults files.new)
+        ⊎ FaultRose (N.faults net.old) (N.faults net.new) }
     ensures misses { IfSome (F.contents files.old) (λ known.
         HoldsEach known (files_of_request (plain_request request.entry))
         → F.misses files.new ≡ F.misses files.old) }
+    ensures net_misses { (before : ConnectionModel) → N.wire net.old ≡ Some before
+        → connections_of (Some (plain_request request.entry)) ≤ length before.queue
+        → N.misses net.new ≡ N.misses net.old }
 {
     match request {
         Request::Keygen { seed, height } => keygen(alloc, files, seed, height),
@@ -106,6 +147,12 @@ fn run_command<F: Shelf>(alloc: Global, request: Request<'_>, files: &mut F) -> 
             reply,
             least,
         } => check(alloc, files, key, query, reply, least),
+        Request::Ask {
+            address,
+            key,
+            query,
+            least,
+        } => ask(alloc, files, net, address, key, query, least),
         Request::Audit {
             key,
             journal,

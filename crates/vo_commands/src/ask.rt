@@ -1,0 +1,108 @@
+//! `ask`: the answer that a client takes from the reply of a store, over a network.
+ghost use Rattle.std.specs.Prelude.{◌≡◌, ◌⊎◌, ◌≤◌, [], ◌∷◌, length, Some, IsTrue, IfSome, IsErrOf};
+ghost use Rattle.outside.specs.ConnectionModel.{ConnectionModel, has_next};
+ghost use Rattle.outside.specs.FaultRose.{FaultRose};
+ghost use Rattle.link_frames.specs.declared.frame_kind.FrameKind.TheVariants.{Query};
+ghost use Rattle.link_frames.specs.Frames.{frame_bytes, max_query};
+ghost use Rattle.vo_spec.specs.Conditions.{query_of};
+ghost use Rattle.vo_commands.specs.Expected.{AsksOnly, Checks, HoldsEach, OfQuery, ask_expected, with_reply};
+ghost use Rattle.vo_commands.specs.Reports.{Answers};
+
+use crate::check::check_report;
+use crate::files::take_key;
+use crate::report::{Report, Stop};
+use crate::store_replies::take_reply;
+use crate::texts::query_in;
+use lms_sign::PublicKey;
+use outside::{Net, Shelf};
+use std::alloc::Global;
+use vo_spec::QueryText;
+
+/// The answer that a client of the key accepts from the store at this address, of no version below
+/// `least`, or why it refuses the reply.
+pub fn ask<F: Shelf, N: Net>(
+    alloc: Global,
+    files: &mut F,
+    net: &mut N,
+    address: &str,
+    key: &str,
+    query: &str,
+    least: u64,
+) -> Result<Report, Stop>
+    ensures known { (before : ConnectionModel) → N.wire net.old ≡ Some before
+        → IfSome (F.contents files.old) (λ known.
+        Answers (ask_expected key.now query.now least known before.queue) result) }
+    ensures asks { (before : ConnectionModel) → N.wire net.old ≡ Some before
+        → AsksOnly (frame_bytes Query query.now) before (N.wire net.new) }
+    ensures kept { F.contents files.new ≡ F.contents files.old }
+
+    ensures counts { F.faults files.old ≤ F.faults files.new }
+    ensures net_counts { N.faults net.old ≤ N.faults net.new }
+    ensures cause { IsErrOf result Stop.Outside
+        → FaultRose (F.faults files.old) (F.faults files.new)
+        ⊎ FaultRose (N.faults net.old) (N.faults net.new) }
+    ensures misses { IfSome (F.contents files.old) (λ known. HoldsEach known (key.now ∷ [])
+        → F.misses files.new ≡ F.misses files.old) }
+    ensures net_misses { (before : ConnectionModel) → N.wire net.old ≡ Some before
+        → IsTrue (has_next before) → N.misses net.new ≡ N.misses net.old }
+{
+    let key = take_key(alloc, files, key)?;
+    ask_by_key(alloc, net, address, key, query, least)
+}
+
+/// The same by a key that was taken.
+fn ask_by_key<N: Net>(
+    alloc: Global,
+    net: &mut N,
+    address: &str,
+    key: PublicKey,
+    query: &str,
+    least: u64,
+) -> Result<Report, Stop>
+    ensures known { (before : ConnectionModel) → N.wire net.old ≡ Some before
+        → Answers (OfQuery query.now (λ q. with_reply before.queue
+        (λ reply. Checks key least q reply))) result }
+    ensures asks { (before : ConnectionModel) → N.wire net.old ≡ Some before
+        → AsksOnly (frame_bytes Query query.now) before (N.wire net.new) }
+
+    ensures counts { N.faults net.old ≤ N.faults net.new }
+    ensures cause { IsErrOf result Stop.Outside
+        → FaultRose (N.faults net.old) (N.faults net.new) }
+    ensures misses { (before : ConnectionModel) → N.wire net.old ≡ Some before
+        → IsTrue (has_next before) → N.misses net.new ≡ N.misses net.old }
+{
+    match query_in(alloc, query) {
+        Ok(text) => ask_store(alloc, net, address, key, query, &text, least),
+        Err(stop) => Err(stop),
+    }
+}
+
+/// The same of a query, which was read from its text.
+fn ask_store<N: Net>(
+    alloc: Global,
+    net: &mut N,
+    address: &str,
+    key: PublicKey,
+    text: &str,
+    query: &QueryText,
+    least: u64,
+) -> Result<Report, Stop>
+    requires some { 1 ≤ length text.now }
+    requires fits { length text.now ≤ max_query }
+    ensures known { (before : ConnectionModel) → N.wire net.old ≡ Some before
+        → Answers (with_reply before.queue
+        (λ reply. Checks key least (query_of query.now) reply)) result }
+    ensures asks { (before : ConnectionModel) → N.wire net.old ≡ Some before
+        → AsksOnly (frame_bytes Query text.now) before (N.wire net.new) }
+
+    ensures counts { N.faults net.old ≤ N.faults net.new }
+    ensures cause { IsErrOf result Stop.Outside
+        → FaultRose (N.faults net.old) (N.faults net.new) }
+    ensures misses { (before : ConnectionModel) → N.wire net.old ≡ Some before
+        → IsTrue (has_next before) → N.misses net.new ≡ N.misses net.old }
+{
+    match take_reply(alloc, net, address, text) {
+        Ok(reply) => check_report(alloc, key, least, query, &reply),
+        Err(stop) => Err(stop),
+    }
+}

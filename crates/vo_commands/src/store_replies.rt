@@ -1,0 +1,64 @@
+//! Taking a reply from a store, over a network.
+ghost use Rattle.std.specs.Prelude.{◌≡◌, ◌≤◌, length, Some, IsTrue, IfOk, IsErrOf};
+ghost use Rattle.outside.specs.ConnectionModel.{ConnectionModel, has_next};
+ghost use Rattle.outside.specs.FaultRose.{FaultRose};
+ghost use Rattle.link_frames.specs.declared.frame_kind.FrameKind.TheVariants.{Query};
+ghost use Rattle.link_frames.specs.Frames.{frame_bytes, max_query};
+ghost use Rattle.vo_commands.specs.Expected.{AsksOnly, with_reply};
+ghost use Rattle.vo_commands.specs.Reports.{GoesOn, StopsWithout};
+
+use crate::piece::Word;
+use crate::refusals::{line_report, refusal};
+use crate::report::{Status, Stop};
+use connections::{WireFault, fetch_reply};
+use outside::Net;
+use std::alloc::{AllocError, Global};
+
+/// The reply to a query, given as text, of the store at this address.
+pub fn take_reply<N: Net>(
+    alloc: Global,
+    net: &mut N,
+    address: &str,
+    query: &str,
+) -> Result<Vec<u8>, Stop>
+    requires some { 1 ≤ length query.now }
+    requires fits { length query.now ≤ max_query }
+    ensures known { (before : ConnectionModel) → N.wire net.old ≡ Some before
+        → GoesOn (λ bytes. bytes.items) (with_reply before.queue) result }
+    ensures asks { (before : ConnectionModel) → N.wire net.old ≡ Some before
+        → AsksOnly (frame_bytes Query query.now) before (N.wire net.new) }
+
+    ensures counts { N.faults net.old ≤ N.faults net.new }
+    ensures cause { IsErrOf result Stop.Outside
+        → FaultRose (N.faults net.old) (N.faults net.new) }
+    ensures misses { (before : ConnectionModel) → N.wire net.old ≡ Some before
+        → IsTrue (has_next before) → N.misses net.new ≡ N.misses net.old }
+{
+    match fetch_reply(alloc, net, address, query.as_bytes()) {
+        Ok(reply) => Ok(reply),
+        Err(fault) => Err(stop_without(alloc, fault)?),
+    }
+}
+
+/// What the program ends with where there is no reply.
+fn stop_without(alloc: Global, fault: WireFault) -> Result<Stop, AllocError>
+    ensures { IfOk result (λ stop. StopsWithout fault stop) }
+{
+    let report = match fault {
+        WireFault::BadFrame { length } => {
+            let words = [Word::Number(length as u64)];
+            line_report(alloc, Status::BadAnswer, "bad frame", &words)?
+        }
+        WireFault::Cut { got } => {
+            let words = [Word::Number(got as u64)];
+            line_report(alloc, Status::BadAnswer, "cut", &words)?
+        }
+        WireFault::Refused { code } => {
+            let words = [Word::Phrase("store"), Word::Number(code as u64)];
+            refusal(alloc, Status::RefusedReply, &words)?
+        }
+        WireFault::LinkFault => return Ok(Stop::Outside),
+        WireFault::Memory => return Ok(Stop::Memory),
+    };
+    Ok(Stop::Refused(report))
+}
