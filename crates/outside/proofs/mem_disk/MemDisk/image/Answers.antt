@@ -1,6 +1,6 @@
 use Rattle.std.proofs.Common.{◌≡◌, ◌<◌, ◌≤◌, length, inl, inr, arith, ap, subst, ◌∙◌, IfOk}
-use Rattle.outside.specs.DiskModel.{Down, IsImageWith}
 use Rattle.std.proofs.lemmas.Result.{IfOk-weaker}
+use Rattle.outside.specs.DiskModel.{Down, IsImageWith}
 use Rattle.outside.proofs.LostBytes.{image_with}
 use Rattle.outside.proofs.ReplayLaws.{replay_on, crashed_by}
 use Rattle.outside.proofs.mem_disk.MemDisk.image.Goals as goal
