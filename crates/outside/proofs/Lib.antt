@@ -1,3 +1,4 @@
+pub mod LostBytes
 pub mod Logged
 pub mod MomentLaws
 pub mod RoomLaws

@@ -41,20 +41,23 @@ pub never_left : (seen first log image : List ℕ) (done : List Done) (since : �
 never_left seen first log image done since none left =
     none left.0 left.1 (omega (arith, left.2, calls_length log first done)) (subst (λ (d : Down). IsImage d image) (crash_state-is first log done left.0) left.3)
 
--- One call more.
+-- what a replay has, once so many of these calls were done again
+pub record IsReplayed (log first : List ℕ) (done : List Done) (i : ℕ) (contents : List ℕ) (state : Down) : Type 0 where
+  pub seen : contents ≡ seen_after log first (take i done)
+  pub down : state ≡ crash_state log first (take i done)
 
-pub seen_on : (log first : List ℕ) (done : List Done) (i : ℕ) (d : Done) (was is : List ℕ) → i < length done → was ≡ seen_after log first (take i done)
-    → is ≡ seen_next log was (get_or done i d) → is ≡ seen_after log first (take (i + 1) done)
-seen_on log first done i d was is lt before step =
-    step ∙ ap (λ (seen : List ℕ). seen_next log seen (get_or done i d)) before ∙ sym (next_seen log first (take i done) (get_or done i d))
-    ∙ ap (seen_after log first) (sym (take_more done i d lt))
-
-pub down_on : (log first : List ℕ) (done : List Done) (i : ℕ) (d : Done) (seen : List ℕ) (was is : Down) → i < length done → seen ≡ seen_after log first (take i done)
-    → was ≡ crash_state log first (take i done) → is ≡ down_after was (call_of seen (get_or done i d)) → is ≡ crash_state log first (take (i + 1) done)
-down_on log first done i d seen was is lt at before step =
-    step ∙ ap (λ (down : Down). down_after down (call_of seen (get_or done i d))) before
-    ∙ ap (λ (s : List ℕ). down_after (crash_state log first (take i done)) (call_of s (get_or done i d))) at
-    ∙ sym (next_crashed log first (take i done) (get_or done i d)) ∙ ap (crash_state log first) (sym (take_more done i d lt))
+-- one call more
+pub replay_on : (log first : List ℕ) (done : List Done) (i : ℕ) (d : Done) (was is : List ℕ) (before after : Down) → i < length done
+    → IsReplayed log first done i was before → is ≡ seen_next log was (get_or done i d) → after ≡ down_after before (call_of was (get_or done i d))
+    → IsReplayed log first done (i + 1) is after
+replay_on log first done i d was is before after lt at seen down =
+    let more = sym (take_more done i d lt) in
+    let one = get_or done i d in
+    record {
+      seen = seen ∙ ap (λ (s : List ℕ). seen_next log s one) at.seen ∙ sym (next_seen log first (take i done) one) ∙ ap (seen_after log first) more;
+      down = down ∙ ap (λ (d : Down). down_after d (call_of was one)) at.down ∙ ap (λ (s : List ℕ). down_after (crash_state log first (take i done)) (call_of s one)) at.seen
+          ∙ sym (next_crashed log first (take i done) one) ∙ ap (crash_state log first) more;
+    }
 
 -- none up to a moment, and not that one
 pub none_on : (log first image : List ℕ) (done : List Done) (since i : ℕ) (down : Down) → down ≡ crash_state log first (take i done)

@@ -1,5 +1,5 @@
 -- A disk with one file: what reads give, what was done to it, and what a crash may leave.
-use Rattle.std.specs.Prelude.{◌≡◌, ℕ, ◌+◌, ◌-◌, ◌<◌, ◌≤◌, ◌==◌, ◌&&◌, max, cond, Bool, not, IsTrue, List, [], ◌∷◌, ◌++◌, length, take, drop, replicate, fold, Option, option_map, nat_lt, nat_le, slice_index}
+use Rattle.std.specs.Prelude.{◌≡◌, ℕ, ◌+◌, ◌-◌, ◌<◌, ◌≤◌, ◌==◌, ◌&&◌, ◌||◌, max, min, cond, Bool, not, IsTrue, List, [], ◌∷◌, ◌++◌, length, take, drop, replicate, fold, Option, option_map, nat_lt, nat_le, slice_index}
 use Rattle.std.specs.List.{list_any}
 use Rattle.outside.specs.declared.room.Room.{Room}
 
@@ -52,7 +52,7 @@ wrote place piece drive = option_map (write_on place piece) drive
 abbrev pub put_down : Option DiskModel → Option DiskModel
 put_down drive = option_map sync_now drive
 
--- room for contents up to end, and for so many calls that write so many bytes in all
+-- room for contents up to end, and for so many writes and syncs that write so many bytes in all
 pub record HasRoom (end bytes calls : ℕ) (room : Room) : Type 0 where
   pub to_end : end ≤ room.end
   pub for_bytes : bytes ≤ room.bytes
@@ -108,6 +108,25 @@ pub record IsImage (down : Down) (image : List ℕ) : Type 0 where
   pub no_longer : length image ≤ furthest (length down.contents) down.ranges
   pub stays : (k : ℕ) → k < length down.contents → IsTrue (not (is_written k down.ranges))
       → slice_index image k ≡ slice_index down.contents k
+
+-- a crash takes this byte from the lost ones: one is there, and a write was begun at its place or
+-- what was down ends before it
+abbrev pub is_lost : Down → List ℕ → ℕ → Bool
+is_lost down lost k =
+    nat_lt k (length lost) && (is_written k down.ranges || nat_le (length down.contents) k)
+
+-- the byte at a place of what a crash leaves with these lost bytes
+abbrev pub byte_after : Down → List ℕ → ℕ → ℕ
+byte_after down lost k =
+    cond (is_lost down lost k) (slice_index lost k) (slice_index down.contents k)
+
+-- of the images, the one that these lost bytes make: it is as long as what was down, or as the lost
+-- bytes and the writes both reach where that is further
+pub record IsImageWith (down : Down) (lost image : List ℕ) : Type 0 where
+  pub long : length image
+      ≡ max (length down.contents)
+      (min (length lost) (furthest (length down.contents) down.ranges))
+  pub bytes : (k : ℕ) → k < length image → slice_index image k ≡ byte_after down lost k
 
 -- a crash now may leave it
 abbrev pub MayLeave : DiskModel → List ℕ → Type 0

@@ -56,8 +56,8 @@ pub trait Disk {
         ensures counts { faults self.old ≤ faults self.new }
         ensures cause { IsErr result → FaultRose (faults self.old) (faults self.new) };
 
-    /// Makes room for contents up to `end`, and for `calls` calls of `len`, `read`, `write_at` and
-    /// `sync` that write `bytes` bytes in all.
+    /// Makes room for contents up to `end`, and for `calls` writes and syncs that write `bytes`
+    /// bytes in all. `len` and `read` use none.
     fn reserve(&mut self, end: u64, bytes: u64, calls: u64) -> Result<(), AllocError>
         ensures ok { OnOk result (IfSome (room self.new) (HasRoom end bytes calls)) }
         ensures kept { drive self.new ≡ drive self.old }

@@ -3,7 +3,7 @@ ghost use Rattle.std.specs.Prelude.{◌≡◌, ℕ, ◌+◌, ◌-◌, ◌≤◌,
 ghost use Rattle.std.specs.List.{list_all};
 ghost use Rattle.outside.specs.declared.room.Room.{Room};
 ghost use Rattle.outside.specs.Done.{seen_after, is_within};
-ghost use Rattle.outside.specs.DiskModel.{HasRoom, IsImage, NoLess, LeftSince, crashed_at, fresh, now, overwrite_at, write_on, write_leaving, sync_now, less_room};
+ghost use Rattle.outside.specs.DiskModel.{HasRoom, IsImage, IsImageWith, NoLess, LeftSince, crashed_at, fresh, now, overwrite_at, write_on, write_leaving, sync_now, less_room};
 ghost use Rattle.outside.specs.Failure.{front_of};
 ghost use Rattle.outside.specs.FaultRose.{FaultRose};
 
@@ -97,8 +97,10 @@ impl<P: Failures> MemDisk<P> {
     /// where a write was begun since the last sync, and past what was down then as far as the
     /// writes reach.
     pub fn image(&self, alloc: Global, moment: usize, lost: &[u8]) -> Result<Vec<u8>, AllocError>
-        ensures { IfOk result (λ image.
+        ensures image { IfOk result (λ image.
             IsImage (crashed_at (drive_of self.now) moment) image.items) }
+        ensures lost { IfOk result (λ image.
+            IsImageWith (crashed_at (drive_of self.now) moment) lost.now image.items) }
     {
         let mut replay = Replay::new(alloc, &self.first)?;
         for (place, one) in self.done.iter().enumerate() {

@@ -1,6 +1,6 @@
 //! Room that a disk has kept ready.
 
-/// Room for contents up to `end`, and for `calls` device calls that write `bytes` bytes in all.
+/// Room for contents up to `end`, and for `calls` writes and syncs that write `bytes` bytes in all.
 #[derive(Clone, Copy, Debug, PartialEq, Eq)]
 pub struct Room {
     pub end: u64,

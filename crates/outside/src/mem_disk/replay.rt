@@ -1,8 +1,8 @@
 //! What a crash leaves of a disk in memory, found by doing its calls again.
-ghost use Rattle.std.specs.Prelude.{◌≡◌, ◌↔◌, ℕ, ◌+◌, ◌<◌, ◌≤◌, [], IsTrue, length, not, slice_index, IfOk, OnOk, nat_le};
+ghost use Rattle.std.specs.Prelude.{◌≡◌, ◌↔◌, ℕ, ◌+◌, ◌-◌, ◌<◌, ◌≤◌, [], ◌++◌, IsTrue, length, take, not, slice_index, IfOk, OnOk, nat_le};
 ghost use Rattle.std.specs.List.{list_any};
 ghost use Rattle.outside.specs.Done.{seen_next, call_of, is_within};
-ghost use Rattle.outside.specs.DiskModel.{Wrote, IsImage, down_after, furthest, has, is_written, overwrite_at, range_end};
+ghost use Rattle.outside.specs.DiskModel.{Wrote, IsImage, IsImageWith, byte_after, down_after, furthest, has, is_written, overwrite_at, range_end};
 ghost use Rattle.outside.specs.Replay.{down_of, range_of};
 
 use crate::mem_disk::done::Done;
@@ -117,7 +117,8 @@ impl Replay {
     /// What a crash at this moment may leave, the bytes that it loses being these: they stand where
     /// a write was begun, and past what was down as far as the writes reach.
     pub fn image(&self, alloc: Global, lost: &[u8]) -> Result<Vec<u8>, AllocError>
-        ensures { IfOk result (λ image. IsImage (down_of self.now) image.items) }
+        ensures { IfOk result (λ image.
+            IsImageWith (down_of self.now) lost.now image.items) }
     {
         let mut image = self.with_lost(alloc, lost)?;
         self.extend(&mut image, &lost[self.contents.len().min(lost.len())..])?;
@@ -128,27 +129,35 @@ impl Replay {
     fn with_lost(&self, alloc: Global, lost: &[u8]) -> Result<Vec<u8>, AllocError>
         ensures length { IfOk result (λ image. length image.items
             ≡ length self.now.contents.items) }
-        ensures stays { IfOk result (λ image. (k : ℕ) → k < length self.now.contents.items
-            → IsTrue (not (is_written k (down_of self.now).ranges))
-            → slice_index image.items k ≡ slice_index self.now.contents.items k) }
+        ensures bytes { IfOk result (λ image. (k : ℕ) → k < length self.now.contents.items
+            → slice_index image.items k ≡ byte_after (down_of self.now) lost.now k) }
     {
         let mut image = Vec::new(alloc);
-        for (place, byte) in self.contents.iter().enumerate() {
-            let is_lost = place < lost.len() && self.has_written(place);
-            image.push(if is_lost { lost[place] } else { *byte })?;
+        for place in 0..self.contents.len() {
+            image.push(self.byte_after(lost, place))?;
         }
         Ok(image)
+    }
+
+    /// The byte of what a crash leaves with these lost bytes, at a place of what was down.
+    fn byte_after(&self, lost: &[u8], place: usize) -> u8
+        requires { place < length self.now.contents.items }
+        ensures { result ≡ byte_after (down_of self.now) lost.now place }
+    {
+        if place < lost.len() && self.has_written(place) {
+            lost[place]
+        } else {
+            self.contents[place]
+        }
     }
 
     /// Puts more bytes at the end, as far as the writes reach.
     fn extend(&self, image: &mut Vec<u8>, more: &[u8]) -> Result<(), AllocError>
         requires { length image.old.items
             ≤ furthest (length self.now.contents.items) (down_of self.now).ranges }
-        ensures longer { OnOk result (length image.old.items ≤ length image.new.items) }
-        ensures within { OnOk result (length image.new.items
-            ≤ furthest (length self.now.contents.items) (down_of self.now).ranges) }
-        ensures front { OnOk result ((k : ℕ) → k < length image.old.items
-            → slice_index image.new.items k ≡ slice_index image.old.items k) }
+        ensures { OnOk result (image.new.items ≡ image.old.items
+            ++ take (furthest (length self.now.contents.items) (down_of self.now).ranges
+            - length image.old.items) more.now) }
     {
         for byte in more {
             if !self.reaches(image.len() + 1) {

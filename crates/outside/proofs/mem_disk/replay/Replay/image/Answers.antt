@@ -1,5 +1,6 @@
-use Rattle.std.proofs.Common.{length, arith, [], ◌∙◌}
-use Rattle.outside.specs.Replay.{onto}
+use Rattle.std.proofs.Common.{arith, length, []}
+use Rattle.outside.specs.Replay.{down_of, onto}
+use Rattle.outside.proofs.LostBytes.{joined_image}
 use Rattle.outside.proofs.Replays.{furthest_from}
 use Rattle.outside.proofs.mem_disk.replay.Replay.image.Goals as goal
 
@@ -8,9 +9,6 @@ extend-requires c =
     omega (arith, furthest_from (length c.args.self.now.contents.items) (onto [] c.args.self.now.writes.items), c.in_ok-image.ensures.length)
 
 pub returns : goal.returns
-returns c = record {
-  no_shorter = omega (arith, c.in_ok-image.ensures.length, c.in_ok-extend.ensures.longer);
-  no_longer = c.in_ok-extend.ensures.within;
-  stays = λ k within free.
-      c.in_ok-extend.ensures.front k (omega (arith, within, c.in_ok-image.ensures.length)) ∙ c.in_ok-image.ensures.stays k within free;
-}
+returns c =
+    joined_image (down_of c.args.self.now) c.args.lost.now c.in_ok-image.image.items c.extend.new.image.items c.min.result (omega arith)
+    c.in_ok-image.ensures.length c.in_ok-image.ensures.bytes c.in_ok-extend.ensures
