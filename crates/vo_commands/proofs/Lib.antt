@@ -2,5 +2,6 @@ pub mod Endings
 pub mod Steps
 pub mod TextSteps
 pub mod FileSteps
+pub mod QueryTexts
 pub mod NetSteps
 pub mod CommandSteps

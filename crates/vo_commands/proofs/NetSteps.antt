@@ -1,10 +1,10 @@
 -- Work on the reply of a store over a network.
-use Rattle.std.proofs.Common.{◌≡◌, ℕ, zero, suc, ◌<◌, ◌≤◌, List, [], ◌∷◌, length, Option, Some, None, Result, Ok, Err, refl, sym, ap, ◌∙◌, subst, true, false}
+use Rattle.std.proofs.Common.{◌≡◌, ℕ, List, [], ◌∷◌, length, Option, Some, None, Result, Ok, Err, refl, sym, ap, ◌∙◌, subst}
 use mathlib.Core.Logic.{inl, inr}
-use Rattle.std.specs.Prelude.{◌⊎◌, IfSome, IsTrue, nat_lt, slice_index, slice_index_or, option_map, option_and_then}
+use Rattle.std.specs.Prelude.{IfSome, IsTrue, nat_lt, slice_index, slice_index_or, option_map, option_and_then}
 use Rattle.std.specs.Global.{Vec}
 use Rattle.outside.specs.Shelf.{Files}
-use Rattle.outside.specs.ConnectionModel.{ConnectionModel, open_next, has_next, send_on}
+use Rattle.outside.specs.ConnectionModel.{ConnectionModel, open_next, has_next}
 use Rattle.link_frames.specs.declared.awaits.Awaits.TheVariants.{Reply}
 use Rattle.link_frames.specs.declared.frame_kind.FrameKind.{FrameKind}
 use Rattle.link_frames.specs.declared.frame_kind.FrameKind.TheVariants as kind
@@ -12,7 +12,7 @@ use Rattle.link_frames.specs.Frames.{Coming, Whole, Ended, Cut, Bad, span, first
 use Rattle.connections.specs.declared.wire_fault.WireFault.{WireFault}
 use Rattle.connections.specs.declared.wire_fault.WireFault.TheVariants as fault
 use Rattle.connections.specs.Requesting.{body_of, answer_in}
-use Rattle.connections.specs.Fetching.{Fetches, RequestsReply}
+use Rattle.connections.specs.Fetching.{Fetches}
 use Rattle.vo_commands.specs.declared.report.Stop.{Stop}
 use Rattle.vo_commands.specs.declared.report.Stop.TheVariants.{Refused, Outside, Memory}
 use Rattle.vo_commands.specs.Lines.{Output, store_refusal, bad_frame, cut_off}
@@ -20,61 +20,57 @@ use Rattle.vo_commands.specs.Expected.{Expected, Exactly, AsksOnly, with_answer,
 use Rattle.vo_commands.specs.Reports.{GoesOn, StopsWithout, output_of}
 
 body_goes : (k : FrameKind) (body bytes : List ℕ) → body_of k body ≡ Ok bytes → (rest : List ℕ → Expected) → with_body k body rest ≡ rest bytes
-body_goes kind.Query body bytes refl rest = refl
-body_goes kind.Status body bytes refl rest = refl
-body_goes kind.Propose body bytes refl rest = refl
-body_goes kind.Install body bytes refl rest = refl
-body_goes kind.Reply body bytes refl rest = refl
-body_goes kind.Standing body bytes refl rest = refl
-body_goes kind.Proofs body bytes refl rest = refl
-body_goes kind.Installed body bytes refl rest = refl
+body_goes kind.Query body bytes e rest = let same : body ≡ bytes = cc in ap rest same
+body_goes kind.Status body bytes e rest = let same : body ≡ bytes = cc in ap rest same
+body_goes kind.Propose body bytes e rest = let same : body ≡ bytes = cc in ap rest same
+body_goes kind.Install body bytes e rest = let same : body ≡ bytes = cc in ap rest same
+body_goes kind.Reply body bytes e rest = let same : body ≡ bytes = cc in ap rest same
+body_goes kind.Standing body bytes e rest = let same : body ≡ bytes = cc in ap rest same
+body_goes kind.Proofs body bytes e rest = let same : body ≡ bytes = cc in ap rest same
+body_goes kind.Installed body bytes e rest = let same : body ≡ bytes = cc in ap rest same
 body_goes kind.Refusal body bytes e rest = absurd (cc)
 
-body_refused : (k : FrameKind) (body : List ℕ) (code : ℕ) → body_of k body ≡ Err (fault.Refused code) → (rest : List ℕ → Expected) → with_body k body rest ≡ Exactly (store_refusal code)
-body_refused kind.Query body code e rest = absurd (cc)
-body_refused kind.Status body code e rest = absurd (cc)
-body_refused kind.Propose body code e rest = absurd (cc)
-body_refused kind.Install body code e rest = absurd (cc)
-body_refused kind.Reply body code e rest = absurd (cc)
-body_refused kind.Standing body code e rest = absurd (cc)
-body_refused kind.Proofs body code e rest = absurd (cc)
-body_refused kind.Installed body code e rest = absurd (cc)
-body_refused kind.Refusal body code refl rest = refl
-
 -- a body has no fault but a refusal
-body_whole : (k : FrameKind) (body : List ℕ) (why : WireFault) → body_of k body ≡ Err why → why ≡ fault.Refused (slice_index body 0)
-body_whole kind.Query body why e = absurd (cc)
-body_whole kind.Status body why e = absurd (cc)
-body_whole kind.Propose body why e = absurd (cc)
-body_whole kind.Install body why e = absurd (cc)
-body_whole kind.Reply body why e = absurd (cc)
-body_whole kind.Standing body why e = absurd (cc)
-body_whole kind.Proofs body why e = absurd (cc)
-body_whole kind.Installed body why e = absurd (cc)
-body_whole kind.Refusal body why refl = refl
+body_stops : (k : FrameKind) (body : List ℕ) (why : WireFault) → body_of k body ≡ Err why
+    → (why ≡ fault.Refused (slice_index body 0)) × ((rest : List ℕ → Expected) → with_body k body rest ≡ Exactly (store_refusal (slice_index body 0)))
+body_stops kind.Query body why e = absurd (cc)
+body_stops kind.Status body why e = absurd (cc)
+body_stops kind.Propose body why e = absurd (cc)
+body_stops kind.Install body why e = absurd (cc)
+body_stops kind.Reply body why e = absurd (cc)
+body_stops kind.Standing body why e = absurd (cc)
+body_stops kind.Proofs body why e = absurd (cc)
+body_stops kind.Installed body why e = absurd (cc)
+body_stops kind.Refusal body why e = (let same : why ≡ fault.Refused (slice_index body 0) = cc in same, λ rest. refl)
 
 answer_goes : (first : Coming) (bytes : List ℕ) → answer_in first ≡ Ok bytes → (rest : List ℕ → Expected) → with_answer first rest ≡ rest bytes
 unfolding answer_in
 answer_goes (Whole k body) bytes e rest = body_goes k body bytes e rest
 answer_goes Ended bytes e rest = absurd (cc)
 answer_goes (Cut got) bytes e rest = absurd (cc)
-answer_goes (Bad length taken) bytes e rest = absurd (cc)
+answer_goes (Bad size taken) bytes e rest = absurd (cc)
 
 -- what is printed where there is no answer
 abbrev Says : WireFault → Output → Type 0
 Says (fault.Refused code) output = output ≡ store_refusal code
-Says (fault.BadFrame length) output = output ≡ bad_frame length
+Says (fault.BadFrame size) output = output ≡ bad_frame size
 Says (fault.Cut got) output = output ≡ cut_off got
 Says _ output = Unit {0}
+
+said : (why due : WireFault) (output : Output) → why ≡ due → Says why output → Says due output
+said why due output e says = subst (λ w. Says w output) e says
 
 answer_stops : (first : Coming) (why : WireFault) → answer_in first ≡ Err why → (output : Output) → Says why output → (rest : List ℕ → Expected) → with_answer first rest ≡ Exactly output
 unfolding answer_in
 answer_stops (Whole k body) why e output says rest =
-    let refused = body_whole k body why e in
-    body_refused k body (slice_index body 0) (e ∙ ap Err refused) rest ∙ ap Exactly (sym (subst (λ w. Says w output) refused says))
-answer_stops Ended why refl output says rest = ap Exactly (sym says)
-answer_stops (Cut got) why refl output says rest = ap Exactly (sym says)
-answer_stops (Bad length taken) why refl output says rest = ap Exactly (sym says)
+    let stops = body_stops k body why e in
+    stops.1 rest ∙ ap Exactly (sym (said why (fault.Refused (slice_index body 0)) output stops.0 says))
+answer_stops Ended why e output says rest =
+    let same : why ≡ fault.Cut 0 = cc in ap Exactly (sym (said why (fault.Cut 0) output same says))
+answer_stops (Cut got) why e output says rest =
+    let same : why ≡ fault.Cut got = cc in ap Exactly (sym (said why (fault.Cut got) output same says))
+answer_stops (Bad size taken) why e output says rest =
+    let same : why ≡ fault.BadFrame size = cc in ap Exactly (sym (said why (fault.BadFrame size) output same says))
 
 -- the first of the connections to come
 on_first : (before : ConnectionModel) → IsTrue (has_next before) → (rest : List ℕ → Expected) → with_connection before.queue rest ≡ rest (open_next before).coming
@@ -105,9 +101,9 @@ reply_stops frame why before after Memory fetches stops = tt
 reply_stops frame (fault.Refused code) before after (Refused report) (inl fails) stops = absurd (cc)
 reply_stops frame (fault.Refused code) before after (Refused report) (inr asked) stops =
     says_why frame (fault.Refused code) before after (output_of report) asked.1.0 asked.0 stops
-reply_stops frame (fault.BadFrame length) before after (Refused report) (inl fails) stops = absurd (cc)
-reply_stops frame (fault.BadFrame length) before after (Refused report) (inr asked) stops =
-    says_why frame (fault.BadFrame length) before after (output_of report) asked.1.0 asked.0 stops
+reply_stops frame (fault.BadFrame size) before after (Refused report) (inl fails) stops = absurd (cc)
+reply_stops frame (fault.BadFrame size) before after (Refused report) (inr asked) stops =
+    says_why frame (fault.BadFrame size) before after (output_of report) asked.1.0 asked.0 stops
 reply_stops frame (fault.Cut got) before after (Refused report) (inl fails) stops = absurd (cc)
 reply_stops frame (fault.Cut got) before after (Refused report) (inr asked) stops =
     says_why frame (fault.Cut got) before after (output_of report) asked.1.0 asked.0 stops
@@ -118,7 +114,7 @@ pub asks_only : (frame : List ℕ) (r : Result (Vec ℕ) WireFault) (before : Co
 asks_only frame r before after (inl fails) = inl fails.1
 asks_only frame (Ok reply) before after (inr asked) = inr (inr (span (first_frame Reply (open_next before).coming), asked.1.1))
 asks_only frame (Err (fault.Refused code)) before after (inr asked) = inr (inr (span (first_frame Reply (open_next before).coming), asked.1.1))
-asks_only frame (Err (fault.BadFrame length)) before after (inr asked) = inr (inr (span (first_frame Reply (open_next before).coming), asked.1.1))
+asks_only frame (Err (fault.BadFrame size)) before after (inr asked) = inr (inr (span (first_frame Reply (open_next before).coming), asked.1.1))
 asks_only frame (Err (fault.Cut got)) before after (inr asked) = inr (inr (span (first_frame Reply (open_next before).coming), asked.1.1))
 asks_only frame (Err fault.LinkFault) before after (inr asked) = inr asked.1
 asks_only frame (Err fault.Memory) before after (inr asked) = inr asked.1
