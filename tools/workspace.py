@@ -8,9 +8,10 @@ TOP = os.path.dirname(os.path.dirname(os.path.abspath(__file__)))
 # What is built: all that docs/FORMATS.md has. The other implementation counts its own steps, of
 # which these are the first 7 (tables, queries and joins, signed versions, an owner with roots alone,
 # and the commands keygen, seal, answer, check and audit) and the 12th (the command meet). Of the 8th
-# the command ask is built. Still to come are a served store, NULL, indexes and totals.
+# the commands serve and ask are built. Still to come are an owner who commits to a store, NULL,
+# indexes and totals.
 STAGE = "7+12"
-BUILT_EARLY = ("ask",)
+BUILT_EARLY = ("ask", "serve")
 
 # It signs what comparisons and benches make, one journal after the other: nothing that is kept may
 # be signed by it.

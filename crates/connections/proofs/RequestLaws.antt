@@ -36,24 +36,27 @@ answer_bad : (first : Coming) (length taken : ℕ) → first ≡ Bad length take
 unfolding answer_in
 answer_bad first length taken is = ap answer_in is
 
+-- what came first was taken, and the answer is what it says
+pub requested : {X Y : Type 0} (view : X → Y) (frame : List ℕ) (first : Coming) (answer : Result Y WireFault)
+    (result : Result X WireFault) (before : ConnectionModel) (after : Option ConnectionModel)
+    → result_map_both view (λ why. why) result ≡ answer → Took (span first) (send_on frame before) after
+    → Requests view frame first answer result before after
+requested view frame first answer (Ok x) before after gives took = (sym gives, took)
+requested view frame first answer (Err fault.LinkFault) before after gives took = inr (span first, took)
+requested view frame first answer (Err fault.Memory) before after gives took = inr (span first, took)
+requested view frame first answer (Err (fault.BadFrame length)) before after gives took = (sym gives, took)
+requested view frame first answer (Err (fault.Cut got)) before after gives took = (sym gives, took)
+requested view frame first answer (Err (fault.Refused code)) before after gives took = (sym gives, took)
+
 -- an answer was read whole
 pub whole_requested : (frame : List ℕ) (first : Coming) (kind : FrameKind) (body : List ℕ)
     (result : Result (Vec ℕ) WireFault) (before : ConnectionModel) (after : Option ConnectionModel)
     → (first ≡ Whole kind body) × TookRest 0 first (send_on frame before) after
     → result_map_both (λ bytes. bytes.items) (λ why. why) result ≡ body_of kind body
     → Requests (λ bytes. bytes.items) frame first (answer_in first) result before after
-whole_requested frame first kind body (Ok bytes) before after h gives =
-    (answer_whole first kind body h.0 ∙ sym gives, took_span first (send_on frame before) after h.1)
-whole_requested frame first kind body (Err fault.LinkFault) before after h gives =
-    inr (span first, took_span first (send_on frame before) after h.1)
-whole_requested frame first kind body (Err fault.Memory) before after h gives =
-    inr (span first, took_span first (send_on frame before) after h.1)
-whole_requested frame first kind body (Err (fault.BadFrame length)) before after h gives =
-    (answer_whole first kind body h.0 ∙ sym gives, took_span first (send_on frame before) after h.1)
-whole_requested frame first kind body (Err (fault.Cut got)) before after h gives =
-    (answer_whole first kind body h.0 ∙ sym gives, took_span first (send_on frame before) after h.1)
-whole_requested frame first kind body (Err (fault.Refused code)) before after h gives =
-    (answer_whole first kind body h.0 ∙ sym gives, took_span first (send_on frame before) after h.1)
+whole_requested frame first kind body result before after h gives =
+    requested (λ bytes. bytes.items) frame first (answer_in first) result before after
+    (gives ∙ sym (answer_whole first kind body h.0)) (took_span first (send_on frame before) after h.1)
 
 -- no frame was read
 pub unanswered : (frame : List ℕ) (first : Coming) (why : NoFrame) (before : ConnectionModel)

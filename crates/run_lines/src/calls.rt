@@ -5,7 +5,7 @@ use crate::line::{Frame, Line, Splice, read_line};
 use line_pieces::NoAnswer;
 use std::alloc::Global;
 use std::io;
-use vo_words::{Request, read_words};
+use vo_words::{Command, Request, read_words};
 
 /// The answer to a line.
 pub fn answer(alloc: Global, folder: &mut Folder, line: &str) -> io::Result<String> {
@@ -40,41 +40,52 @@ fn request_text(alloc: Global, words: &[String]) -> Result<String, NoAnswer> {
     }
 }
 
-/// The command and its words in quotes, and what its option gives.
 fn request_form(alloc: Global, request: Request<'_>) -> Result<String, NoAnswer> {
-    Ok(match request {
-        Request::Keygen { seed, height } => {
+    match request {
+        Request::Command(command) => command_form(alloc, command),
+        Request::Serve(service) => {
+            let (address, key) = (service.address, service.key);
+            let (journal, count) = (service.journal, service.count);
+            Ok(format!(in alloc; "(serve {address:?} {key:?} {journal:?} {count})")?)
+        }
+    }
+}
+
+/// The command and its words in quotes, and what its option gives.
+fn command_form(alloc: Global, command: Command<'_>) -> Result<String, NoAnswer> {
+    Ok(match command {
+        Command::Keygen { seed, height } => {
             format!(in alloc; "(keygen {seed:?} {})", height.number())?
         }
-        Request::Seal {
+        Command::Seal {
             seed,
             script,
             height,
         } => format!(in alloc; "(seal {seed:?} {script:?} {})", height.number())?,
-        Request::Answer {
+        Command::Answer {
             key,
             journal,
             query,
         } => format!(in alloc; "(answer {key:?} {journal:?} {query:?})")?,
-        Request::Check {
+        Command::Check {
             key,
             query,
             reply,
             least,
         } => format!(in alloc; "(check {key:?} {query:?} {reply:?} {least})")?,
-        Request::Ask {
+        Command::Ask {
             address,
             key,
             query,
             least,
         } => format!(in alloc; "(ask {address:?} {key:?} {query:?} {least})")?,
-        Request::Audit {
+        Command::Audit {
             key,
             journal,
             query,
             reply,
         } => format!(in alloc; "(audit {key:?} {journal:?} {query:?} {reply:?})")?,
-        Request::Meet {
+        Command::Meet {
             key,
             query,
             first,

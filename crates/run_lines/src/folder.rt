@@ -13,16 +13,16 @@ pub struct Attempt {
     pub peer: Option<Peer>,
 }
 
-/// Who makes or takes the one connection: the bytes that come from it are those of a file, in
-/// pieces of at most so many, and some calls of the network fail.
+/// Who makes or takes connections, one after the other: the bytes that come on each are those of a
+/// file, in pieces of at most so many, and some calls of the network fail.
 #[derive(Drop)]
 pub struct Peer {
-    pub file: String,
+    pub files: Vec<String>,
     pub piece: usize,
     pub failures: Vec<Failure>,
 }
 
-/// What a run ended with, what it wrote, and what it put on its connection.
+/// What a run ended with, what it wrote, and what it put on its connections.
 #[derive(Drop)]
 pub struct RunEnd {
     pub status: u8,
@@ -66,23 +66,18 @@ impl Folder {
         run_over(alloc, &attempt.words, &mut shelf, &mut net, put_failures)
     }
 
-    /// A network on which this peer, if there is one, can be talked to once.
+    /// A network with the connections of this peer, if there is one.
     fn net_to(&self, alloc: Global, peer: Option<Peer>) -> Result<MemNet<FailAt>, AllocError> {
         let mut connections = Vec::new(alloc);
-        let Some(
-            Peer {
-                file,
-                piece,
-                failures,
-            },
-        ) = peer
-        else {
+        let Some(peer) = peer else {
             return MemNet::new(alloc, connections, FailAt::new(Vec::new(alloc)));
         };
-        let coming = self.find(&file).unwrap_or(&[]);
-        connections.push(Vec::from_slice(alloc, coming)?)?;
-        let net = MemNet::new(alloc, connections, FailAt::new(failures))?;
-        Ok(net.in_pieces(piece))
+        for file in &peer.files {
+            let coming = self.find(file).unwrap_or(&[]);
+            connections.push(Vec::from_slice(alloc, coming)?)?;
+        }
+        let net = MemNet::new(alloc, connections, FailAt::new(peer.failures))?;
+        Ok(net.in_pieces(peer.piece))
     }
 
     /// A run that never fails, with this file in the place of the one of its name.
@@ -120,8 +115,18 @@ fn run_over(
     Ok(RunEnd {
         status,
         written: Vec::from_slice(alloc, out.written())?,
-        put: Vec::from_slice(alloc, net.sent())?,
+        put: all_put(alloc, net)?,
     })
+}
+
+/// What was put on all connections, in order.
+fn all_put(alloc: Global, net: &MemNet<FailAt>) -> Result<Vec<u8>, AllocError> {
+    let mut all = Vec::new(alloc);
+    for put in net.past() {
+        all.extend_from_slice(put)?;
+    }
+    all.extend_from_slice(net.sent())?;
+    Ok(all)
 }
 
 fn copies(alloc: Global, files: &[NamedFile]) -> Result<Vec<NamedFile>, AllocError> {

@@ -1,7 +1,7 @@
 //! A line: the word of a call, and what it is asked of.
 use crate::changes::Change;
 use crate::folder::{Attempt, Peer};
-use crate::pieces::{Pieces, take_bytes, take_name, take_number, take_words};
+use crate::pieces::{Pieces, take_bytes, take_name, take_names, take_number, take_words};
 use line_pieces::NoAnswer;
 use outside::Failure;
 use std::alloc::Global;
@@ -92,14 +92,15 @@ fn take_run(alloc: Global, pieces: &mut Pieces<'_>) -> Result<Attempt, NoAnswer>
     })
 }
 
-/// A run with a peer, whose bytes are those of a file, in pieces of at most so many.
+/// A run with a peer, whose bytes are those of files, one for each connection, in pieces of at most
+/// so many.
 fn take_run_with_peer(alloc: Global, pieces: &mut Pieces<'_>) -> Result<Attempt, NoAnswer> {
-    let file = take_name(alloc, pieces)?;
+    let files = take_names(alloc, pieces)?;
     let piece = take_number(pieces)?;
     let failures = Vec::new(alloc);
     let mut attempt = take_run(alloc, pieces)?;
     attempt.peer = Some(Peer {
-        file,
+        files,
         piece,
         failures,
     });

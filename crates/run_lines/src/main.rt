@@ -6,17 +6,18 @@
 //! say how long it is, and `clear` has no files again. `run WORDS` runs the program, its name
 //! first, and says the status and the output; `make NAME WORDS` keeps the output besides,
 //! `fail_files CALL WORDS` runs it where the file that it takes with this number, from 0 on, is not
-//! read, and `fail_output AFTER WORDS` where the output breaks off behind so many bytes. `talk NAME
-//! PIECE WORDS` runs it with one connection, on which the bytes of the file NAME come in pieces of
-//! at most PIECE, and says besides what was put there; `fail_talk CALL NAME PIECE WORDS` does so
-//! where the call of the network with this number fails. `each_cut NAME WORDS` runs it for each
-//! shorter front of the file NAME, which stands in its place, and `each_turn NAME WORDS` for the
-//! file with the lowest bit of each of its bytes turned. `words WORDS` says what the words ask for.
+//! read, and `fail_output AFTER WORDS` where the output breaks off behind so many bytes. `talk
+//! NAMES PIECE WORDS` runs it with connections, on which the bytes of these files come, one file
+//! for each, in pieces of at most PIECE, and says besides what was put there; `fail_talk CALL NAMES
+//! PIECE WORDS` does so where the call of the network with this number fails. `each_cut NAME WORDS`
+//! runs it for each shorter front of the file NAME, which stands in its place, and `each_turn NAME
+//! WORDS` for the file with the lowest bit of each of its bytes turned. `words WORDS` says what the
+//! words ask for.
 //!
 //! Bytes are in hexadecimal, in pieces with a blank between; digits of a piece that stands several
 //! times are written as `DIGITS*COUNT`. Each of the words is such a piece. Output is said as a text
-//! in quotes, if it is one, or else in hexadecimal. Of many runs the answers are said in order,
-//! each behind the number of runs that gave it one after the other.
+//! in quotes, if it is one, or else in hexadecimal. Names have `+` between each two. Of many runs
+//! the answers are said in order, each behind the number of runs that gave it one after the other.
 #![tactic(auto)]
 
 mod calls;

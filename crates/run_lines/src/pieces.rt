@@ -13,6 +13,15 @@ pub fn take_name(alloc: Global, pieces: &mut Pieces<'_>) -> Result<String, NoAns
     }
 }
 
+/// The names in the next piece, with `+` between each two.
+pub fn take_names(alloc: Global, pieces: &mut Pieces<'_>) -> Result<Vec<String>, NoAnswer> {
+    let mut names = Vec::new(alloc);
+    for name in pieces.next().unwrap_or("").split('+') {
+        names.push(String::from_str(alloc, name)?)?;
+    }
+    Ok(names)
+}
+
 /// The number that the next piece is.
 pub fn take_number(pieces: &mut Pieces<'_>) -> Result<usize, NoAnswer> {
     let Some(piece) = pieces.next() else {

@@ -1,25 +1,62 @@
 -- How a run ends, from what its work answered and from what was put.
-use Rattle.std.specs.Prelude.{ℕ, List, Option, Some, None, IfSome, refl}
+use Rattle.std.proofs.Common.{◌≡◌, subst}
+use Rattle.std.specs.Prelude.{ℕ, List, Option, Some, None, IfSome, Result, Ok, Err, IsErrOf, refl}
 use mathlib.Core.Logic.{inl, inr}
-use Rattle.vo_commands.specs.Lines.{Output}
-use Rattle.vo_commands.specs.Expected.{Expected, Allows, Ends, Writes, outside_failure}
-
--- with an expected output
-pub ends_with : (o : Option Expected) (output : Output) (outside_rose out_rose : Type 0) (status : ℕ) (before after : Option (List ℕ))
-    → IfSome o (λ expected. Allows expected output) → Writes output out_rose status before after
-    → IfSome o (λ expected. Ends expected outside_rose out_rose status before after)
-ends_with None output outside_rose out_rose status before after fits wrote = fits
-ends_with (Some expected) output outside_rose out_rose status before after fits wrote = inr (inl (output, fits, wrote))
-
--- with a fault of the outside
-pub ends_outside : (o : Option Expected) (outside_rose out_rose : Type 0) (status : ℕ) (before after : Option (List ℕ))
-    → outside_rose → Writes outside_failure out_rose status before after
-    → IfSome o (λ expected. Ends expected outside_rose out_rose status before after)
-ends_outside None outside_rose out_rose status before after rose wrote = _
-ends_outside (Some expected) outside_rose out_rose status before after rose wrote = inr (inr (rose, wrote))
+use Rattle.outside.specs.Shelf.{Files}
+use Rattle.outside.specs.ConnectionModel.{ConnectionModel}
+use Rattle.vo_words.specs.PlainRequest.{PlainRequest, Keygen, Seal, Answer, Serve, Check, Ask, Audit, Meet}
+use Rattle.vo_commands.specs.declared.report.Report.{Report}
+use Rattle.vo_commands.specs.declared.report.Stop.{Stop}
+use Rattle.vo_commands.specs.declared.report.Stop.TheVariants.{Refused, Outside, Memory}
+use Rattle.vo_commands.specs.Expected.{Expected, Ends, UsesNet, command_expected, expected_of}
+use Rattle.vo_commands.specs.Reports.{Answers, WritesOutcome, output_of}
+use Rattle.vo_commands.specs.Serving.{ServeEnds}
 
 -- with nothing, for want of memory
 pub ends_empty : (o : Option Expected) (outside_rose out_rose : Type 0) (before : Option (List ℕ))
     → IfSome o (λ expected. Ends expected outside_rose out_rose 4 before before)
 ends_empty None outside_rose out_rose before = _
 ends_empty (Some expected) outside_rose out_rose before = inl (refl, refl)
+
+-- with what a command came to
+outcome_ends : (expected : Expected) (outcome : Result Report Stop) (outside_rose out_rose : Type 0) (status : ℕ) (before after : Option (List ℕ))
+    → Answers expected outcome → (IsErrOf outcome Outside → outside_rose) → WritesOutcome outcome out_rose status before after
+    → Ends expected outside_rose out_rose status before after
+outcome_ends expected (Ok report) outside_rose out_rose status before after answers rose wrote = inr (inl (output_of report, answers, wrote))
+outcome_ends expected (Err (Refused report)) outside_rose out_rose status before after answers rose wrote = inr (inl (output_of report, answers, wrote))
+outcome_ends expected (Err Outside) outside_rose out_rose status before after answers rose wrote = inr (inr (rose refl, wrote))
+outcome_ends expected (Err Memory) outside_rose out_rose status before after answers rose wrote = inl wrote
+
+some_ends : (o : Option Expected) (outcome : Result Report Stop) (outside_rose out_rose : Type 0) (status : ℕ) (before after : Option (List ℕ))
+    → IfSome o (λ expected. Answers expected outcome) → (IsErrOf outcome Outside → outside_rose) → WritesOutcome outcome out_rose status before after
+    → IfSome o (λ expected. Ends expected outside_rose out_rose status before after)
+some_ends None outcome outside_rose out_rose status before after answers rose wrote = _
+some_ends (Some expected) outcome outside_rose out_rose status before after answers rose wrote =
+    outcome_ends expected outcome outside_rose out_rose status before after answers rose wrote
+
+pub command_ends : (command : PlainRequest) (request : Option PlainRequest) (files : Option Files) (queue : Option (List (List ℕ)))
+    (outcome : Result Report Stop) (outside_rose out_rose : Type 0) (status : ℕ) (before after : Option (List ℕ)) → Some command ≡ request
+    → IfSome (command_expected command files queue) (λ expected. Answers expected outcome) → (IsErrOf outcome Outside → outside_rose)
+    → WritesOutcome outcome out_rose status before after
+    → IfSome (expected_of request files queue) (λ expected. Ends expected outside_rose out_rose status before after)
+command_ends command request files queue outcome outside_rose out_rose status before after is answers rose wrote =
+    subst (λ r. IfSome (expected_of r files queue) (λ expected. Ends expected outside_rose out_rose status before after)) is
+    (some_ends (command_expected command files queue) outcome outside_rose out_rose status before after answers rose wrote)
+
+-- the same of `serve`
+pub serve_ends_empty : (o : Option Expected) (outside_rose out_rose : Type 0) (faults : ℕ) (wire : Option ConnectionModel) (before : Option (List ℕ))
+    → IfSome o (λ expected. ServeEnds expected outside_rose out_rose 4 faults faults wire wire before before)
+serve_ends_empty None outside_rose out_rose faults wire before = _
+serve_ends_empty (Some expected) outside_rose out_rose faults wire before = inl (inl (refl, refl))
+
+-- nothing was done on the network
+pub asks_nothing : (request : Option PlainRequest) (before : ConnectionModel) (wire : Option ConnectionModel) → wire ≡ Some before → UsesNet request before wire
+asks_nothing None before wire is = is
+asks_nothing (Some (Keygen seed height)) before wire is = is
+asks_nothing (Some (Seal seed script height)) before wire is = is
+asks_nothing (Some (Answer key journal query)) before wire is = is
+asks_nothing (Some (Serve address key journal count)) before wire is = tt
+asks_nothing (Some (Check key query reply least)) before wire is = is
+asks_nothing (Some (Ask address key query least)) before wire is = inl is
+asks_nothing (Some (Audit key journal query reply)) before wire is = is
+asks_nothing (Some (Meet key query first second)) before wire is = is

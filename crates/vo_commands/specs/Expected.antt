@@ -1,5 +1,5 @@
 -- What a run of the program must print, by its words and by the files that it takes.
-use Rattle.std.specs.Prelude.{◌≡◌, ◌⊎◌, ℕ, Bool, ◌&&◌, ◌==◌, nat_lt, if◌then◌else◌, List, [], ◌∷◌, length, take, drop, codes, decimal, Option, Some, None, option_map, option_and_then, is_some, IsSome, slice_index, Result}
+use Rattle.std.specs.Prelude.{◌≡◌, ◌⊎◌, ℕ, Bool, true, false, ◌&&◌, ◌==◌, nat_lt, if◌then◌else◌, List, [], ◌∷◌, length, take, drop, codes, decimal, Option, Some, None, option_map, option_and_then, is_some, IsSome, slice_index, Result}
 use Rattle.std.specs.Option.{option_map_or}
 use Rattle.std.specs.Str.{is_utf8}
 use Rattle.outside.specs.Shelf.{Files}
@@ -21,7 +21,7 @@ use Rattle.vo_spec.specs.LmsSets.{leaves_of}
 use Rattle.vo_spec.specs.Lms.{key_lms, key_ots}
 use Rattle.vo_spec.specs.Secret.{Secret, secret_of, public_of_secret, lms_of_height}
 use Rattle.vo_spec.specs.Conditions.{Query}
-use Rattle.vo_spec.specs.Journals.{journal_bytes}
+use Rattle.vo_spec.specs.Journals.{IsJournal, journal_bytes}
 use Rattle.vo_spec.specs.Replies.{Reply, reply_bytes, max_reply}
 use Rattle.vo_spec.specs.Honest.{seal_batches, reply_of}
 use Rattle.vo_spec.specs.Owners.{IsLoadable, IsUnloadableAt}
@@ -33,14 +33,14 @@ use Rattle.reply_meeting.specs.Meetings.{RepliesMeet}
 use Rattle.owner_state.specs.declared.sealing.SealFault.{SealFault}
 use Rattle.owner_state.specs.declared.sealing.SealFault.TheVariants as seal
 use Rattle.owner_state.specs.Sealing.{commands_of, seal_fault}
-use Rattle.vo_words.specs.PlainRequest.{PlainRequest, Keygen, Seal, Answer, Check, Ask, Audit, Meet}
+use Rattle.vo_words.specs.PlainRequest.{PlainRequest, Keygen, Seal, Answer, Serve, Check, Ask, Audit, Meet}
 use Rattle.sql_text.specs.Scripts.{IsScript}
 use Rattle.vo_commands.specs.Lines.{Output, line, success, refusal, input_refusal, check_output, audit_output, meet_output, bad_journal, command_output, spent_key, store_refusal, bad_frame, cut_off}
 use Rattle.vo_commands.specs.Texts.{IsQueryText, IsRefusedQuery, IsRefusedScript}
 
 -- These lines; or what is expected of the query or the script that a text is; or what a relation
--- allows: the reply to a query by a journal, what a client or an auditor answers to one, and what
--- two replies are to each other.
+-- allows: the reply to a query by a journal, what a client or an auditor answers to one, what two
+-- replies are to each other, and why no store of a journal serves connections.
 pub data Expected : Type 0 where
   Exactly : (output : Output) → Expected
   OfQuery : (text : List ℕ) (rest : Query → Expected) → Expected
@@ -49,6 +49,7 @@ pub data Expected : Type 0 where
   Checks : (key : List ℕ) (least : ℕ) (q : Query) (reply : List ℕ) → Expected
   Audits : (key journal : List ℕ) (q : Query) (reply : List ℕ) → Expected
   Meets : (key : List ℕ) (q : Query) (first second : List ℕ) → Expected
+  Serves : (key journal : List ℕ) (count : ℕ) → Expected
 
 -- the reply of a store, where it isn't over the limit
 abbrev pub reply_output : List ℕ → Output
@@ -62,6 +63,11 @@ IsStoreOutput key journal q output =
     ((index : ℕ) × IsUnloadableAt key journal index × (output ≡ bad_journal index))
     ⊎ ((es : List Entry) × (r : Reply) × IsLoadable key journal es × (reply_of q es ≡ Some r)
     × (output ≡ reply_output (reply_bytes r)))
+
+-- A journal of some entries fails at this one, for a store.
+abbrev pub IsUnservableAt : List ℕ → List ℕ → ℕ → Type 0
+IsUnservableAt key journal index =
+    IsUnloadableAt key journal index × (IsJournal journal [] → ⊥)
 
 abbrev pub Allows : Expected → Output → Type 0
 Allows (Exactly expected) output = output ≡ expected
@@ -81,6 +87,8 @@ Allows (Audits key journal q reply) output =
 Allows (Meets key q first second) output =
     (met : Result (Reply × Reply × Meeting) MeetFault) × RepliesMeet key q first second met
     × (output ≡ meet_output met)
+Allows (Serves key journal count) output =
+    (index : ℕ) × IsUnservableAt key journal index × (output ≡ bad_journal index)
 
 -- the outside failed
 abbrev pub outside_failure : Output
@@ -219,7 +227,8 @@ meet_expected key query first second files =
     with_key files key (λ k. OfQuery query (λ q. with_file files first reply_limit (λ r.
     with_file files second reply_limit (λ s. Meets k q r s))))
 
--- where the files are known, and for a command that asks the connections to come
+-- where the files are known, and for `ask` the connections to come; what `serve` comes to is told
+-- apart, since it writes as it works
 abbrev pub command_expected : PlainRequest → Option Files → Option (List (List ℕ))
     → Option Expected
 command_expected (Keygen seed height) files queue = option_map (keygen_expected seed height) files
@@ -227,6 +236,7 @@ command_expected (Seal seed script height) files queue =
     option_map (seal_expected seed script height) files
 command_expected (Answer key journal query) files queue =
     option_map (answer_expected key journal query) files
+command_expected (Serve address key journal count) files queue = None
 command_expected (Check key query reply least) files queue =
     option_map (check_expected key query reply least) files
 command_expected (Ask address key query least) files queue = option_and_then
@@ -252,14 +262,22 @@ abbrev pub AsksOnly : List ℕ → ConnectionModel → Option ConnectionModel �
 AsksOnly frame before after =
     (after ≡ Some before) ⊎ IsHalfAsked frame (open_next before) after
 
--- what a command does on the network: it asks its query, or does nothing
+-- what a command but `serve` does on the network: it asks its query, or does nothing
 abbrev pub UsesNet : Option PlainRequest → ConnectionModel → Option ConnectionModel → Type 0
+UsesNet (Some (Serve address key journal count)) before after = Unit {0}
 UsesNet (Some (Ask address key query least)) before after =
     AsksOnly (frame_bytes QueryFrame query) before after
 UsesNet _ before after = after ≡ Some before
 
--- how many connections a command makes at most
+-- a command that makes or takes connections
+abbrev pub uses_net : Option PlainRequest → Bool
+uses_net (Some (Serve address key journal count)) = true
+uses_net (Some (Ask address key query least)) = true
+uses_net _ = false
+
+-- how many of them at most
 abbrev pub connections_of : Option PlainRequest → ℕ
+connections_of (Some (Serve address key journal count)) = count
 connections_of (Some (Ask address key query least)) = 1
 connections_of _ = 0
 
@@ -283,6 +301,7 @@ abbrev pub files_of_request : PlainRequest → List (List ℕ)
 files_of_request (Keygen seed height) = seed ∷ []
 files_of_request (Seal seed script height) = seed ∷ script ∷ []
 files_of_request (Answer key journal query) = key ∷ journal ∷ []
+files_of_request (Serve address key journal count) = key ∷ journal ∷ []
 files_of_request (Check key query reply least) = key ∷ reply ∷ []
 files_of_request (Ask address key query least) = key ∷ []
 files_of_request (Audit key journal query reply) = key ∷ journal ∷ reply ∷ []

@@ -3,3 +3,4 @@ pub mod Words
 pub mod Texts
 pub mod Reports
 pub mod Expected
+pub mod Serving

@@ -1,5 +1,5 @@
 -- Reports as the output of the program.
-use Rattle.std.specs.Prelude.{◌≡◌, ℕ, Bool, true, false, Result, Ok, Err}
+use Rattle.std.specs.Prelude.{◌≡◌, ℕ, Bool, true, false, List, Option, Result, Ok, Err}
 use Rattle.vo_commands.specs.declared.report.Status.{Status}
 use Rattle.vo_commands.specs.declared.report.Status.TheVariants.{Done, RefusedReply, RefusedInput, Collision, Unsigned, BadJournal, RefusedCommand, BadAnswer}
 use Rattle.vo_commands.specs.declared.report.Report.{Report}
@@ -8,7 +8,7 @@ use Rattle.vo_commands.specs.declared.report.Stop.TheVariants.{Refused, Outside,
 use Rattle.connections.specs.declared.wire_fault.WireFault.{WireFault}
 use Rattle.connections.specs.declared.wire_fault.WireFault.TheVariants as fault
 use Rattle.vo_commands.specs.Lines.{Output, store_refusal, bad_frame, cut_off}
-use Rattle.vo_commands.specs.Expected.{Expected, Exactly, Allows}
+use Rattle.vo_commands.specs.Expected.{Expected, Exactly, Allows, Writes, outside_failure}
 
 abbrev pub status_code : Status → ℕ
 status_code Done = 0
@@ -66,3 +66,14 @@ ReadsText view Is IsRefused (Err Memory) = Unit {0}
 abbrev pub StopsWith : Bool → Output → Stop → Type 0
 StopsWith true output stop = stop ≡ Memory
 StopsWith false output stop = Prints output stop
+
+-- what is written of a command's answer
+abbrev pub WritesOutcome : Result Report Stop → Type 0 → ℕ → Option (List ℕ) → Option (List ℕ)
+    → Type 0
+WritesOutcome (Ok report) out_rose status before after =
+    Writes (output_of report) out_rose status before after
+WritesOutcome (Err (Refused report)) out_rose status before after =
+    Writes (output_of report) out_rose status before after
+WritesOutcome (Err Outside) out_rose status before after =
+    Writes outside_failure out_rose status before after
+WritesOutcome (Err Memory) out_rose status before after = (status ≡ 4) × (after ≡ before)

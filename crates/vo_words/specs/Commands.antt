@@ -26,6 +26,11 @@ abbrev pub answer_app : App
 answer_app = command_of (codes "answer")
     (word_rule (codes "key") ∷ word_rule (codes "journal") ∷ word_rule (codes "query") ∷ [])
 
+abbrev pub serve_app : App
+serve_app = command_of (codes "serve")
+    (word_rule (codes "address") ∷ word_rule (codes "key") ∷ word_rule (codes "journal")
+    ∷ word_rule (codes "count") ∷ [])
+
 abbrev pub check_app : App
 check_app = command_of (codes "check")
     (word_rule (codes "key") ∷ word_rule (codes "query") ∷ word_rule (codes "reply")
@@ -59,7 +64,7 @@ with_owner program = with_command (with_command program keygen_app) seal_app
 
 -- what the store does
 abbrev pub with_store : App → App
-with_store program = with_command program answer_app
+with_store program = with_command (with_command program answer_app) serve_app
 
 -- what clients and auditors do
 abbrev pub with_client : App → App

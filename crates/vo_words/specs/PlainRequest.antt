@@ -1,5 +1,5 @@
 -- What words ask for, as contracts see it.
-use Rattle.std.specs.Prelude.{ℕ, List, [], ◌∷◌, Option, Some, None, option_map, option_and_then, codes, if◌then◌else◌}
+use Rattle.std.specs.Prelude.{ℕ, ◌^◌, ◌&&◌, nat_le, nat_lt, List, [], ◌∷◌, Option, Some, None, option_map, option_and_then, codes, if◌then◌else◌}
 use Rattle.std.specs.Option.{option_map_or}
 use Rattle.std.specs.Str.{bytes_eq}
 use Rattle.clap.specs.Words.{Row, Text, first_of, fault_of, subcommand_of}
@@ -12,6 +12,7 @@ pub data PlainRequest : Type 0 where
   Keygen : (seed : Text) (height : ℕ) → PlainRequest
   Seal : (seed script : Text) (height : ℕ) → PlainRequest
   Answer : (key journal query : Text) → PlainRequest
+  Serve : (address key journal : Text) (count : ℕ) → PlainRequest
   Check : (key query reply : Text) (least : ℕ) → PlainRequest
   Ask : (address key query : Text) (least : ℕ) → PlainRequest
   Audit : (key journal query reply : Text) → PlainRequest
@@ -31,6 +32,12 @@ given_height rows = option_map_or height_number (first_of (codes "height") rows)
 abbrev pub given_least : List Row → Option ℕ
 given_least rows = option_map_or written_number (first_of (codes "least") rows) (Some 0)
 
+-- how many connections are served: at least one, and fewer than 2 ^ 32
+abbrev pub connection_count : Text → Option ℕ
+connection_count text = option_and_then
+    (λ count. if nat_le 1 count && nat_lt count (2 ^ 32) then Some count else None)
+    (written_number text)
+
 -- the rest, with the word of that name
 abbrev pub with_word : Text → List Row → (Text → Option PlainRequest) → Option PlainRequest
 with_word id rows rest = option_and_then rest (first_of id rows)
@@ -48,6 +55,12 @@ abbrev pub answer_request : List Row → Option PlainRequest
 answer_request rows =
     with_word (codes "key") rows (λ key. with_word (codes "journal") rows (λ journal.
     with_word (codes "query") rows (λ query. Some (Answer key journal query))))
+
+abbrev pub serve_request : List Row → Option PlainRequest
+serve_request rows =
+    with_word (codes "address") rows (λ address. with_word (codes "key") rows (λ key.
+    with_word (codes "journal") rows (λ journal. with_word (codes "count") rows (λ count.
+    option_map (Serve address key journal) (connection_count count)))))
 
 abbrev pub check_request : List Row → Option PlainRequest
 check_request rows = with_word (codes "key") rows (λ key. with_word (codes "query") rows (λ query.
@@ -81,15 +94,20 @@ reply_request name rows =
     else (if bytes_eq name (codes "ask") then ask_request rows
     else None))))
 
--- what a command asks for, by its name and its words
-abbrev pub command_request : Text → List Row → Option PlainRequest
+-- what a command asks for that writes once, as it ends
+unfoldable pub command_request : Text → List Row → Option PlainRequest
 command_request name rows =
     if bytes_eq name (codes "keygen") then keygen_request rows
     else (if bytes_eq name (codes "seal") then seal_request rows
     else reply_request name rows)
 
+-- what a command asks for, by its name and its words
+abbrev pub named_request : Text → List Row → Option PlainRequest
+named_request name rows =
+    if bytes_eq name (codes "serve") then serve_request rows else command_request name rows
+
 abbrev pub used_request : Option (Text × List Row) → Option PlainRequest
-used_request used = option_and_then (λ used. command_request used.0 used.1) used
+used_request used = option_and_then (λ used. named_request used.0 used.1) used
 
 -- nothing, where the words have a fault
 abbrev pub request_unless : Kinds → Option PlainRequest → Option PlainRequest

@@ -2,14 +2,25 @@
 use Rattle.vo_words.specs.PlainRequest.{PlainRequest}
 use Rattle.vo_words.specs.PlainRequest as is
 use Rattle.vo_words.specs.Height.{number_of}
+use Rattle.vo_words.specs.declared.request.Command.{Command}
+use Rattle.vo_words.specs.declared.request.Command.TheVariants.{Keygen, Seal, Answer, Check, Ask, Audit, Meet}
+use Rattle.vo_words.specs.declared.request.Service.{Service}
 use Rattle.vo_words.specs.declared.request.Request.{Request}
-use Rattle.vo_words.specs.declared.request.Request.TheVariants.{Keygen, Seal, Answer, Check, Ask, Audit, Meet}
+use Rattle.vo_words.specs.declared.request.Request.TheVariants.{Command as OfCommand, Serve}
+
+abbrev pub plain_command : Command → PlainRequest
+plain_command (Keygen seed height) = is.Keygen seed.now (number_of height)
+plain_command (Seal seed script height) = is.Seal seed.now script.now (number_of height)
+plain_command (Answer key journal query) = is.Answer key.now journal.now query.now
+plain_command (Check key query reply least) = is.Check key.now query.now reply.now least
+plain_command (Ask address key query least) = is.Ask address.now key.now query.now least
+plain_command (Audit key journal query reply) = is.Audit key.now journal.now query.now reply.now
+plain_command (Meet key query first second) = is.Meet key.now query.now first.now second.now
+
+abbrev pub plain_service : Service → PlainRequest
+plain_service service =
+    is.Serve service.address.now service.key.now service.journal.now service.count
 
 abbrev pub plain_request : Request → PlainRequest
-plain_request (Keygen seed height) = is.Keygen seed.now (number_of height)
-plain_request (Seal seed script height) = is.Seal seed.now script.now (number_of height)
-plain_request (Answer key journal query) = is.Answer key.now journal.now query.now
-plain_request (Check key query reply least) = is.Check key.now query.now reply.now least
-plain_request (Ask address key query least) = is.Ask address.now key.now query.now least
-plain_request (Audit key journal query reply) = is.Audit key.now journal.now query.now reply.now
-plain_request (Meet key query first second) = is.Meet key.now query.now first.now second.now
+plain_request (OfCommand command) = plain_command command
+plain_request (Serve service) = plain_service service

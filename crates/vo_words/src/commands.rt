@@ -25,7 +25,7 @@ enum Argument<'a> {
 
 use Argument::{Named, Word};
 
-const FORMS: [Form<'static>; 7] = [
+const FORMS: [Form<'static>; 8] = [
     Form {
         name: "keygen",
         takes: &[Word("seed"), Named("height")],
@@ -37,6 +37,10 @@ const FORMS: [Form<'static>; 7] = [
     Form {
         name: "answer",
         takes: &[Word("key"), Word("journal"), Word("query")],
+    },
+    Form {
+        name: "serve",
+        takes: &[Word("address"), Word("key"), Word("journal"), Word("count")],
     },
     Form {
         name: "check",

@@ -10,4 +10,4 @@ mod read;
 mod request;
 
 pub use read::read_words;
-pub use request::{Height, Request};
+pub use request::{Command, Height, Request, Service};

@@ -1,13 +1,13 @@
 //! The words, read by the commands.
 ghost use Rattle.std.specs.Prelude.{◌≡◌, map, option_map, string_bytes, IfOk, IsTrue, ◌↔◌};
 ghost use Rattle.clap.specs.Words.{kind_of, found_of, rows_of, first_of, subcommand_rows_of};
-ghost use Rattle.vo_words.specs.PlainRequest.{request_in, used_request, keygen_request, seal_request, answer_request, check_request, audit_request, meet_request, reply_request, ask_request, given_height, given_least, height_number};
+ghost use Rattle.vo_words.specs.PlainRequest.{request_in, used_request, command_request, keygen_request, seal_request, answer_request, check_request, audit_request, meet_request, reply_request, serve_request, ask_request, connection_count, given_height, given_least, height_number};
 ghost use Rattle.vo_words.specs.Height.{number_of};
-ghost use Rattle.vo_words.specs.Request.{plain_request};
+ghost use Rattle.vo_words.specs.Request.{plain_command, plain_request, plain_service};
 
 use crate::commands::program;
 use crate::numbers::number_in;
-use crate::request::{Height, Request};
+use crate::request::{Command, Height, Request, Service};
 use clap::error::ErrorKind;
 use clap::{ArgMatches, Error};
 use std::alloc::{AllocError, Global};
@@ -40,6 +40,19 @@ fn used_request<'a>(matches: &ArgMatches<'a>) -> Option<Request<'a>>
     ensures { option_map plain_request result ≡ used_request (subcommand_rows_of matches.now) }
 {
     let (name, used) = matches.subcommand()?;
+    if name == "serve" {
+        Some(Request::Serve(serve_request(used)?))
+    } else {
+        Some(Request::Command(command_request(name, used)?))
+    }
+}
+
+/// What a command asks for that writes once, as it ends.
+#[tactic(auto, unfolding(crate::specs::PlainRequest::command_request))]
+fn command_request<'a>(name: &str, used: &ArgMatches<'a>) -> Option<Command<'a>>
+    ensures { option_map plain_command result
+        ≡ command_request name.now (rows_of (found_of used.now)) }
+{
     if name == "keygen" {
         keygen_request(used)
     } else if name == "seal" {
@@ -51,8 +64,8 @@ fn used_request<'a>(matches: &ArgMatches<'a>) -> Option<Request<'a>>
 
 /// What a command about a query and its replies asks for.
 #[tactic(auto, unfolding(crate::specs::PlainRequest::reply_request))]
-fn reply_request<'a>(name: &str, used: &ArgMatches<'a>) -> Option<Request<'a>>
-    ensures { option_map plain_request result
+fn reply_request<'a>(name: &str, used: &ArgMatches<'a>) -> Option<Command<'a>>
+    ensures { option_map plain_command result
         ≡ reply_request name.now (rows_of (found_of used.now)) }
 {
     if name == "answer" {
@@ -70,48 +83,63 @@ fn reply_request<'a>(name: &str, used: &ArgMatches<'a>) -> Option<Request<'a>>
     }
 }
 
-fn keygen_request<'a>(used: &ArgMatches<'a>) -> Option<Request<'a>>
-    ensures { option_map plain_request result ≡ keygen_request (rows_of (found_of used.now)) }
+fn keygen_request<'a>(used: &ArgMatches<'a>) -> Option<Command<'a>>
+    ensures { option_map plain_command result ≡ keygen_request (rows_of (found_of used.now)) }
 {
     let seed = text_of(used, "seed")?;
     let height = height_of(used)?;
-    Some(Request::Keygen { seed, height })
+    Some(Command::Keygen { seed, height })
 }
 
-fn seal_request<'a>(used: &ArgMatches<'a>) -> Option<Request<'a>>
-    ensures { option_map plain_request result ≡ seal_request (rows_of (found_of used.now)) }
+fn seal_request<'a>(used: &ArgMatches<'a>) -> Option<Command<'a>>
+    ensures { option_map plain_command result ≡ seal_request (rows_of (found_of used.now)) }
 {
     let seed = text_of(used, "seed")?;
     let script = text_of(used, "script")?;
     let height = height_of(used)?;
-    Some(Request::Seal {
+    Some(Command::Seal {
         seed,
         script,
         height,
     })
 }
 
-fn answer_request<'a>(used: &ArgMatches<'a>) -> Option<Request<'a>>
-    ensures { option_map plain_request result ≡ answer_request (rows_of (found_of used.now)) }
+fn answer_request<'a>(used: &ArgMatches<'a>) -> Option<Command<'a>>
+    ensures { option_map plain_command result ≡ answer_request (rows_of (found_of used.now)) }
 {
     let key = text_of(used, "key")?;
     let journal = text_of(used, "journal")?;
     let query = text_of(used, "query")?;
-    Some(Request::Answer {
+    Some(Command::Answer {
         key,
         journal,
         query,
     })
 }
 
-fn check_request<'a>(used: &ArgMatches<'a>) -> Option<Request<'a>>
-    ensures { option_map plain_request result ≡ check_request (rows_of (found_of used.now)) }
+fn serve_request<'a>(used: &ArgMatches<'a>) -> Option<Service<'a>>
+    ensures { option_map plain_service result ≡ serve_request (rows_of (found_of used.now)) }
+{
+    let address = text_of(used, "address")?;
+    let key = text_of(used, "key")?;
+    let journal = text_of(used, "journal")?;
+    let count = connection_count(text_of(used, "count")?)?;
+    Some(Service {
+        address,
+        key,
+        journal,
+        count,
+    })
+}
+
+fn check_request<'a>(used: &ArgMatches<'a>) -> Option<Command<'a>>
+    ensures { option_map plain_command result ≡ check_request (rows_of (found_of used.now)) }
 {
     let key = text_of(used, "key")?;
     let query = text_of(used, "query")?;
     let reply = text_of(used, "reply")?;
     let least = least_of(used)?;
-    Some(Request::Check {
+    Some(Command::Check {
         key,
         query,
         reply,
@@ -119,14 +147,14 @@ fn check_request<'a>(used: &ArgMatches<'a>) -> Option<Request<'a>>
     })
 }
 
-fn ask_request<'a>(used: &ArgMatches<'a>) -> Option<Request<'a>>
-    ensures { option_map plain_request result ≡ ask_request (rows_of (found_of used.now)) }
+fn ask_request<'a>(used: &ArgMatches<'a>) -> Option<Command<'a>>
+    ensures { option_map plain_command result ≡ ask_request (rows_of (found_of used.now)) }
 {
     let address = text_of(used, "address")?;
     let key = text_of(used, "key")?;
     let query = text_of(used, "query")?;
     let least = least_of(used)?;
-    Some(Request::Ask {
+    Some(Command::Ask {
         address,
         key,
         query,
@@ -134,14 +162,14 @@ fn ask_request<'a>(used: &ArgMatches<'a>) -> Option<Request<'a>>
     })
 }
 
-fn audit_request<'a>(used: &ArgMatches<'a>) -> Option<Request<'a>>
-    ensures { option_map plain_request result ≡ audit_request (rows_of (found_of used.now)) }
+fn audit_request<'a>(used: &ArgMatches<'a>) -> Option<Command<'a>>
+    ensures { option_map plain_command result ≡ audit_request (rows_of (found_of used.now)) }
 {
     let key = text_of(used, "key")?;
     let journal = text_of(used, "journal")?;
     let query = text_of(used, "query")?;
     let reply = text_of(used, "reply")?;
-    Some(Request::Audit {
+    Some(Command::Audit {
         key,
         journal,
         query,
@@ -149,14 +177,14 @@ fn audit_request<'a>(used: &ArgMatches<'a>) -> Option<Request<'a>>
     })
 }
 
-fn meet_request<'a>(used: &ArgMatches<'a>) -> Option<Request<'a>>
-    ensures { option_map plain_request result ≡ meet_request (rows_of (found_of used.now)) }
+fn meet_request<'a>(used: &ArgMatches<'a>) -> Option<Command<'a>>
+    ensures { option_map plain_command result ≡ meet_request (rows_of (found_of used.now)) }
 {
     let key = text_of(used, "key")?;
     let query = text_of(used, "query")?;
     let first = text_of(used, "first")?;
     let second = text_of(used, "second")?;
-    Some(Request::Meet {
+    Some(Command::Meet {
         key,
         query,
         first,
@@ -186,6 +214,16 @@ fn least_of(used: &ArgMatches<'_>) -> Option<u64>
     match text_of(used, "least") {
         None => Some(0),
         Some(text) => number_in(text),
+    }
+}
+
+fn connection_count(text: &str) -> Option<u32>
+    ensures { result ≡ connection_count text.now }
+{
+    match number_in(text)?.try_into() {
+        Ok(0) => None,
+        Ok(count) => Some(count),
+        Err(_) => None,
     }
 }
 

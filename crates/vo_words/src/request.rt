@@ -25,6 +25,25 @@ impl Height {
 /// text.
 #[derive(Clone, Copy, Debug)]
 pub enum Request<'a> {
+    /// One that writes once, as it ends.
+    Command(Command<'a>),
+    /// One that writes as it works.
+    Serve(Service<'a>),
+}
+
+/// The journal that a store loads, and the address where it serves so many connections, one after
+/// the other.
+#[derive(Clone, Copy, Debug)]
+pub struct Service<'a> {
+    pub address: &'a str,
+    pub key: &'a str,
+    pub journal: &'a str,
+    pub count: u32,
+}
+
+/// A command that writes once.
+#[derive(Clone, Copy, Debug)]
+pub enum Command<'a> {
     Keygen {
         seed: &'a str,
         height: Height,

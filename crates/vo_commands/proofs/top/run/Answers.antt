@@ -1,17 +1,22 @@
-use Rattle.std.proofs.Common.{refl}
-use Rattle.vo_commands.proofs.Endings.{ends_with, ends_outside, ends_empty}
+use Rattle.std.proofs.Common.{◌≡◌, Some, sym, ap, ◌∙◌, option_map, map, string_bytes}
+use Rattle.vo_words.specs.PlainRequest.{request_in}
+use Rattle.vo_words.specs.Request.{plain_command, plain_request}
+use Rattle.vo_commands.proofs.Endings.{asks_nothing, command_ends, ends_empty, serve_ends_empty}
 use Rattle.vo_commands.proofs.top.run.Goals as goal
 
-pub returns-in-Ok-clause-lines : goal.returns-in-Ok-clause-lines
-returns-in-Ok-clause-lines g c = ends_with _ _ _ _ _ _ _ c.in-Ok.ensures.known c.print_report.ensures.wrote
+pub returns-in-Ok-Some-Command-clause-lines : goal.returns-in-Ok-Some-Command-clause-lines
+returns-in-Ok-Some-Command-clause-lines g c =
+    let some = c.in-Ok-Some-Command.field-0-is ∙ ap Some c.in-Ok-Some-Command.field-0-0-is in
+    let asked : Some (plain_command c.in-Ok-Some-Command.command) ≡ request_in (map string_bytes c.args.words.now) =
+    sym (ap (option_map plain_request) some) ∙ c.in-Ok-Some-Command.ensures in
+    command_ends (plain_command c.in-Ok-Some-Command.command) (request_in (map string_bytes c.args.words.now)) _ _ c.run_command-outcome.result _ _ _ _ _
+    asked c.run_command-outcome.ensures.known c.run_command-outcome.ensures.cause c.print_outcome.ensures.wrote
 
-pub returns-in-Err-Refused-clause-lines : goal.returns-in-Err-Refused-clause-lines
-returns-in-Err-Refused-clause-lines g c =
-    ends_with _ _ _ _ _ _ _ (rw c.in-Err-Refused.field-0-is at c.in-Err-Refused.ensures.known) c.print_report-in-Err-Refused.ensures.wrote
+pub returns-in-Err-clause-lines : goal.returns-in-Err-clause-lines
+returns-in-Err-clause-lines g c = ends_empty _ _ _ _
 
-pub returns-in-Err-Outside-clause-lines : goal.returns-in-Err-Outside-clause-lines
-returns-in-Err-Outside-clause-lines g c =
-    ends_outside _ _ _ _ _ _ (c.in-Err-Outside.ensures.cause (rw c.in-Err-Outside.field-0-is refl)) c.write.ensures.wrote
+pub returns-in-Err-clause-serves : goal.returns-in-Err-clause-serves
+returns-in-Err-clause-serves g c = serve_ends_empty _ _ _ _ _ _
 
-pub returns-in-Err-Memory-clause-lines : goal.returns-in-Err-Memory-clause-lines
-returns-in-Err-Memory-clause-lines g c = ends_empty _ _ _ _
+pub returns-in-Err-clause-asks : goal.returns-in-Err-clause-asks
+returns-in-Err-clause-asks g c = λ before is. asks_nothing _ before _ is

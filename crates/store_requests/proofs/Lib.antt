@@ -1,0 +1,3 @@
+pub mod TextReadings
+pub mod BatchReadings
+pub mod BodyLaws

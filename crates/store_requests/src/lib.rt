@@ -1,0 +1,16 @@
+//! What clients and owners ask a store over a link, and how it is spelled.
+//!
+//! Each call puts one frame and takes its answer. What the bodies of requests are is read here too,
+//! for the store: a query, a batch, a signed record to install.
+#![tactic(auto)]
+
+mod batches;
+mod bodies;
+mod queries;
+mod requests;
+
+pub use batches::read_proposal;
+pub use bodies::{SignedBody, install_body, read_install, read_standing, standing_body};
+pub use connections::WireFault;
+pub use queries::read_query;
+pub use requests::{ask_link, install_link, propose_link, status_link};

@@ -1,0 +1,43 @@
+//! The query that the body of a request is.
+ghost use Rattle.std.specs.Prelude.{◌≡◌, ◌≢◌, None, IfOk, option_map};
+ghost use Rattle.vo_spec.specs.Conditions.{query_of};
+ghost use Rattle.store_requests.specs.Texts.{query_in};
+
+use sql_text::{SqlFault, parse_query};
+use std::alloc::{AllocError, Global};
+use vo_spec::QueryText;
+
+/// None where the bytes are no text, or it is no query.
+pub fn read_query(alloc: Global, body: &[u8]) -> Result<Option<QueryText>, AllocError>
+    ensures { IfOk result (λ query. option_map query_of query ≡ query_in body.now) }
+{
+    match std::str::from_utf8(body) {
+        Ok(text) => query_of_text(alloc, text),
+        Err(_) => Ok(None),
+    }
+}
+
+fn query_of_text(alloc: Global, text: &str) -> Result<Option<QueryText>, AllocError>
+    ensures { IfOk result (λ query. option_map query_of query ≡ query_in text.now) }
+{
+    match parse_query(alloc, text) {
+        Ok(query) => Ok(Some(query)),
+        Err(fault) => no_query(fault),
+    }
+}
+
+/// None for a text that is no query, which want of memory doesn't tell.
+fn no_query(fault: SqlFault) -> Result<Option<QueryText>, AllocError>
+    ensures { IfOk result (λ query. (query ≡ None) × (fault ≢ SqlFault.Memory)) }
+{
+    match fault {
+        SqlFault::Memory => Err(AllocError),
+        SqlFault::TooLong
+        | SqlFault::Token { .. }
+        | SqlFault::Syntax { .. }
+        | SqlFault::Literal { .. }
+        | SqlFault::Nesting
+        | SqlFault::Name
+        | SqlFault::TooMany => Ok(None),
+    }
+}

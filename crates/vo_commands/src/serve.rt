@@ -1,0 +1,172 @@
+//! `serve`: the store of a journal, over a network.
+ghost use Rattle.std.specs.Prelude.{◌≡◌, ◌⊎◌, ℕ, ◌≤◌, [], ◌∷◌, length, Some, IfOk, IfSome, IsErrOf};
+ghost use Rattle.outside.specs.ConnectionModel.{ConnectionModel};
+ghost use Rattle.outside.specs.FaultRose.{FaultRose};
+ghost use Rattle.vo_commands.specs.Expected.{HoldsEach, Writes};
+ghost use Rattle.vo_commands.specs.Serving.{FailsToListen, IsServedFrom, Loads, LoadsStore, ServeEnds, served_output, service_expected};
+
+use crate::files::{take_file, take_key};
+use crate::limits::JOURNAL_LIMIT;
+use crate::lines::push_words;
+use crate::output::{print_outcome, write};
+use crate::piece::Word;
+use crate::refusals::bad_entry;
+use crate::report::Stop;
+use lms_sign::PublicKey;
+use outside::{Net, Shelf, Sink};
+use owner_state::{Ending, read_slots};
+use std::alloc::{AllocError, Global};
+use vo_store::{LoadFault, Store};
+use vo_wire::{ServeFault, serve_all};
+use vo_words::Service;
+
+/// Serves connections with a store that has loaded the journal; a line is written as each ends, and
+/// one behind them. Returns the exit status.
+pub fn serve<F: Shelf, N: Net, S: Sink>(
+    alloc: Global,
+    files: &mut F,
+    net: &mut N,
+    out: &mut S,
+    service: &Service<'_>,
+) -> u8
+    ensures ends { IfSome (F.contents files.old) (λ known.
+        ServeEnds (service_expected service.now.key.now service.now.journal.now service.now.count
+        known)
+        (FaultRose (F.faults files.old) (F.faults files.new)
+        ⊎ FaultRose (N.faults net.old) (N.faults net.new))
+        (FaultRose (S.faults out.old) (S.faults out.new)) result
+        (N.faults net.old) (N.faults net.new) (N.wire net.old) (N.wire net.new)
+        (S.written out.old) (S.written out.new)) }
+    ensures kept { F.contents files.new ≡ F.contents files.old }
+
+    ensures outside { result ≡ 3
+        → FaultRose (F.faults files.old) (F.faults files.new)
+        ⊎ FaultRose (N.faults net.old) (N.faults net.new)
+        ⊎ FaultRose (S.faults out.old) (S.faults out.new) }
+    ensures misses { IfSome (F.contents files.old) (λ known.
+        HoldsEach known (service.now.key.now ∷ service.now.journal.now ∷ [])
+        → F.misses files.new ≡ F.misses files.old) }
+    ensures net_misses { (before : ConnectionModel) → N.wire net.old ≡ Some before
+        → service.now.count ≤ length before.queue → N.misses net.new ≡ N.misses net.old }
+{
+    match load_store(alloc, files, service.key, service.journal) {
+        Ok(store) => serve_store(alloc, store, net, out, service.address, service.count),
+        Err(stop) => print_outcome(out, Err(stop)),
+    }
+}
+
+/// A store that has loaded the journal in a file.
+fn load_store<F: Shelf>(
+    alloc: Global,
+    files: &mut F,
+    key: &str,
+    journal: &str,
+) -> Result<Store, Stop>
+    ensures known { (count : ℕ) → IfSome (F.contents files.old)
+        (λ known. Loads (service_expected key.now journal.now count known) count result) }
+    ensures kept { F.contents files.new ≡ F.contents files.old }
+    ensures counts { F.faults files.old ≤ F.faults files.new }
+    ensures cause { IsErrOf result Stop.Outside
+        → FaultRose (F.faults files.old) (F.faults files.new) }
+    ensures misses { IfSome (F.contents files.old)
+        (λ known. HoldsEach known (key.now ∷ journal.now ∷ [])
+        → F.misses files.new ≡ F.misses files.old) }
+{
+    let key = take_key(alloc, files, key)?;
+    let journal = take_file(alloc, files, journal, JOURNAL_LIMIT)?;
+    store_of(alloc, key, &journal)
+}
+
+/// The store of a journal; one without entries has an empty store.
+fn store_of(alloc: Global, key: PublicKey, journal: &[u8]) -> Result<Store, Stop>
+    ensures known { LoadsStore key journal.now result }
+    ensures inside { IsErrOf result Stop.Outside → ⊥ }
+{
+    let slots = read_slots(alloc, journal)?;
+    match Store::load(alloc, key, slots.entries.as_slice()) {
+        Ok(store) => match slots.ending {
+            Ending::Closed { .. } => Ok(store),
+            Ending::Damaged { .. } => {
+                let index = slots.entries.len() as u64;
+                Err(Stop::Refused(bad_entry(alloc, index)?))
+            }
+        },
+        Err(LoadFault::Entry { index }) => Err(Stop::Refused(bad_entry(alloc, index)?)),
+        Err(LoadFault::Memory) => Err(Stop::Memory),
+    }
+}
+
+/// Serves so many connections at this address.
+fn serve_store<N: Net, S: Sink>(
+    alloc: Global,
+    store: Store,
+    net: &mut N,
+    out: &mut S,
+    address: &str,
+    count: u32,
+) -> u8
+    ensures ends { FailsToListen (FaultRose (N.faults net.old) (N.faults net.new))
+        (FaultRose (S.faults out.old) (S.faults out.new)) result
+        (S.written out.old) (S.written out.new)
+        ⊎ IsServedFrom store count (FaultRose (N.faults net.old) (N.faults net.new))
+        (FaultRose (S.faults out.old) (S.faults out.new)) result
+        (N.faults net.old) (N.faults net.new) (N.wire net.old) (N.wire net.new)
+        (S.written out.old) (S.written out.new) }
+
+    ensures outside { result ≡ 3 → FaultRose (N.faults net.old) (N.faults net.new)
+        ⊎ FaultRose (S.faults out.old) (S.faults out.new) }
+    ensures misses { (before : ConnectionModel) → N.wire net.old ≡ Some before
+        → count ≤ length before.queue → N.misses net.new ≡ N.misses net.old }
+{
+    match net.listen(address) {
+        Ok(()) => serve_connections(alloc, store, net, out, count),
+        Err(_) => write(out, 3, b"fault: outside\n"),
+    }
+}
+
+fn serve_connections<N: Net, S: Sink>(
+    alloc: Global,
+    mut store: Store,
+    net: &mut N,
+    out: &mut S,
+    count: u32,
+) -> u8
+    ensures ends { IsServedFrom store count (FaultRose (N.faults net.old) (N.faults net.new))
+        (FaultRose (S.faults out.old) (S.faults out.new)) result
+        (N.faults net.old) (N.faults net.new) (N.wire net.old) (N.wire net.new)
+        (S.written out.old) (S.written out.new) }
+
+    ensures counts { N.faults net.old ≤ N.faults net.new }
+    ensures outside { result ≡ 3 → FaultRose (N.faults net.old) (N.faults net.new)
+        ⊎ FaultRose (S.faults out.old) (S.faults out.new) }
+    ensures misses { (before : ConnectionModel) → N.wire net.old ≡ Some before
+        → count ≤ length before.queue → N.misses net.new ≡ N.misses net.old }
+{
+    match serve_all(alloc, &mut store, net, out, count) {
+        Ok(()) => write_served(alloc, out, count),
+        Err(ServeFault::Network) => write(out, 3, b"fault: outside\n"),
+        Err(ServeFault::Output) => 3,
+        Err(ServeFault::Memory) => 4,
+    }
+}
+
+/// Writes the last line.
+fn write_served<S: Sink>(alloc: Global, out: &mut S, count: u32) -> u8
+    ensures wrote { Writes (served_output count) (FaultRose (S.faults out.old) (S.faults out.new))
+        result (S.written out.old) (S.written out.new) }
+    ensures outside { result ≡ 3 → FaultRose (S.faults out.old) (S.faults out.new) }
+{
+    match served_line(alloc, count) {
+        Ok(line) => write(out, 0, &line),
+        Err(_) => 4,
+    }
+}
+
+fn served_line(alloc: Global, count: u32) -> Result<Vec<u8>, AllocError>
+    ensures { IfOk result (λ line. line.items ≡ (served_output count).bytes) }
+{
+    let mut line = Vec::new(alloc);
+    let words = [Word::Phrase("served"), Word::Number(count as u64)];
+    push_words(alloc, &mut line, &words)?;
+    Ok(line)
+}

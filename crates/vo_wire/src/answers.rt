@@ -1,0 +1,41 @@
+//! Answers as frames, and the codes of refusals.
+ghost use Rattle.std.specs.Prelude.{◌≡◌, Some, IfOk, IsErr};
+ghost use Rattle.vo_store.specs.declared.fault.StoreFault.TheVariants.{Memory};
+ghost use Rattle.vo_wire.specs.Answering.{FitsFrame, refusal, code_of, seen};
+
+use link_frames::{Frame, FrameKind};
+use std::alloc::{AllocError, Global};
+use vo_store::StoreFault;
+
+/// The code of a text that is no query.
+pub(crate) const NO_QUERY: u8 = 1;
+
+/// A refusal with this code.
+pub(crate) fn refusal(alloc: Global, code: u8) -> Result<Option<Frame>, AllocError>
+    ensures answer { IfOk result (λ answer. seen answer ≡ Some (refusal code)) }
+    ensures fits { IfOk result FitsFrame }
+{
+    let mut body = Vec::new(alloc);
+    body.push(code)?;
+    Ok(Some(Frame {
+        kind: FrameKind::Refusal,
+        body,
+    }))
+}
+
+/// A refusal of a store's, but for want of memory.
+pub(crate) fn refusal_by(alloc: Global, fault: StoreFault) -> Result<Option<Frame>, AllocError>
+    ensures answer { IfOk result (λ answer. seen answer ≡ Some (refusal (code_of fault))) }
+    ensures fits { IfOk result FitsFrame }
+    ensures memory { fault ≡ Memory → IsErr result }
+{
+    match fault {
+        StoreFault::Empty => refusal(alloc, 2),
+        StoreFault::TooLarge { .. } => refusal(alloc, 3),
+        StoreFault::NothingProposed => refusal(alloc, 4),
+        StoreFault::WrongRecord { .. } => refusal(alloc, 5),
+        StoreFault::BadSignature => refusal(alloc, 6),
+        StoreFault::Command { .. } => refusal(alloc, 0),
+        StoreFault::Memory => Err(AllocError),
+    }
+}

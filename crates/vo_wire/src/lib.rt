@@ -1,0 +1,24 @@
+//! A store that serves connections, and what is asked of one.
+//!
+//! Each request of a connection is answered by one call of the store; the store is changed by whole
+//! requests alone.
+#![tactic(auto)]
+
+mod answers;
+mod link_serving;
+mod loan;
+mod net_serving;
+mod proof_sizes;
+mod queries;
+mod responder;
+mod statuses;
+mod versions;
+
+pub use connections::{ServeFault, fetch_reply};
+pub use link_frames::End;
+pub use link_serving::serve_link;
+pub use net_serving::serve_all;
+pub use store_requests::{WireFault, ask_link, install_link, propose_link, status_link};
+
+#[cfg(test)]
+mod tests;
