@@ -1,11 +1,12 @@
 //! The program: an owner, a store, clients and auditors of outsourced tables.
 #![tactic(auto)]
 
-ghost use Rattle.std.specs.Prelude.{◌≡◌, ◌≢◌, map, string_bytes, IfOk, IfErr, IfSome};
+ghost use Rattle.std.specs.Prelude.{◌≡◌, ◌≢◌, ◌⊎◌, map, string_bytes, IfOk, IfErr, IfSome};
 ghost use Rattle.std.specs.IoError.{error_kind};
 ghost use Rattle.outside.specs.FaultRose.{FaultRose};
 ghost use Rattle.vo_words.specs.PlainRequest.{request_in};
-ghost use Rattle.vo_commands.specs.Expected.{Exactly, Ends, expected_of, words_refusal};
+ghost use Rattle.vo_commands.specs.Expected.{Exactly, Ends, expected_of, queue_of, words_refusal};
+ghost use Rattle.vo_commands.specs.Serving.{ServeEnds, serve_expected};
 
 use outside::{Disk, Net, Shelf, Sink};
 use outside_real::{FolderFiles, JournalFile, StandardOutput, Tcp};
@@ -48,16 +49,25 @@ fn run_on_words<F: Shelf, D: Disk, N: Net, S: Sink>(
     out: &mut S,
 ) -> u8
     ensures lines { IfOk words (λ words.
-        IfSome (expected_of (F.contents files.old) (request_in (map string_bytes words.items)))
-        (λ expected.
-        Ends expected (FaultRose (F.faults files.old) (F.faults files.new))
+        IfSome (expected_of (request_in (map string_bytes words.items)) (F.contents files.old)
+        (queue_of (N.wire net.old))) (λ expected.
+        Ends expected (FaultRose (F.faults files.old) (F.faults files.new)
+        ⊎ FaultRose (N.faults net.old) (N.faults net.new))
         (FaultRose (S.faults out.old) (S.faults out.new))
         result (S.written out.old) (S.written out.new))) }
+    ensures serves { IfOk words (λ words.
+        IfSome (serve_expected (request_in (map string_bytes words.items)) (F.contents files.old))
+        (λ expected. ServeEnds expected (FaultRose (F.faults files.old) (F.faults files.new)
+        ⊎ FaultRose (N.faults net.old) (N.faults net.new))
+        (FaultRose (S.faults out.old) (S.faults out.new)) result
+        (N.faults net.old) (N.faults net.new) (N.wire net.old) (N.wire net.new)
+        (S.written out.old) (S.written out.new))) }
     ensures memory { IfErr words (λ error. error_kind error ≡ ErrorKind.OutOfMemory → result ≡ 4) }
     ensures silent { IfErr words (λ error. error_kind error ≡ ErrorKind.OutOfMemory
         → out.new ≡ out.old) }
     ensures no_text { IfErr words (λ error. error_kind error ≢ ErrorKind.OutOfMemory
-        → Ends (Exactly words_refusal) (FaultRose (F.faults files.old) (F.faults files.new))
+        → Ends (Exactly words_refusal) (FaultRose (F.faults files.old) (F.faults files.new)
+        ⊎ FaultRose (N.faults net.old) (N.faults net.new))
         (FaultRose (S.faults out.old) (S.faults out.new)) result (S.written out.old)
         (S.written out.new)) }
 {

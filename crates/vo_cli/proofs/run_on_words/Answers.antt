@@ -1,0 +1,4 @@
+use Rattle.vo_cli.proofs.run_on_words.Goals as goal
+
+pub returns-in-Ok-clause-lines : goal.returns-in-Ok-clause-lines
+returns-in-Ok-clause-lines g c = rw c.in-Ok.is (rw c.deref.ensures.value at c.run.ensures.lines)
