@@ -10,10 +10,13 @@ import forms
 from vo_ref import lms
 from vo_ref.audit import read_owned
 from vo_ref.catalog import catalog_digest, read_catalog, read_record
-from vo_ref.faults import AuditFault, BadForm, EntriesFault, EntryFault, KeyFault, OwnerFault, SignFault, StoreFault
+from vo_ref.faults import (AuditFault, BadForm, EntriesFault, EntryFault, JournalFault, KeyFault, OwnerFault, SignFault,
+                           StoreFault)
 from vo_ref.formats import (entry_bytes, journal_bytes, read_batch, read_entries, read_proofs, read_reply, slot_bytes,
                             walk_journal, write_proofs, write_reply)
 from vo_ref.hashing import sha256
+from vo_ref.journal import Journal
+from vo_ref.outside import MemDisk
 from vo_ref.owner import Owner, Roots, owned, replay
 from vo_ref.sql import parse_query
 from vo_ref.store import Store
@@ -76,6 +79,39 @@ def load_store(key, journal):
     if damaged is not None or not entries:
         raise EntryFault("Entry", index=len(entries))
     return store, len(entries)
+
+
+def append_rest(disk, journal, entries):
+    """Appends those of the entries behind as many as there are, before the disk fails; and how many there are then."""
+    try:
+        for entry in entries[len(journal.entries()):]:
+            journal.append(disk, entry)
+    except JournalFault:
+        pass
+    return len(journal.entries())
+
+
+def image_with(moment, lost):
+    """The image that lost bytes make: they stand where a write was begun and past the old end, as far as writes reach."""
+    down, ranges = moment
+    furthest = max([len(down), *(end for _, end in ranges)])
+    image = bytearray(down) + lost[len(down):furthest]
+    for at, end in ranges:
+        for place in range(at, min(end, len(lost), len(image))):
+            image[place] = lost[place]
+    return bytes(image)
+
+
+def found_text(image, data, entries):
+    """How many entries an image has, which takes the rest of a journal of these bytes and entries."""
+    disk = MemDisk(image)
+    try:
+        journal = Journal.open(disk)
+    except JournalFault as fault:
+        return damage_form(fault)
+    count = len(journal.entries())
+    append_rest(disk, journal, entries)
+    return str(count) if bytes(disk.data[:len(data)]) == data else "others"
 
 
 class Calls:
@@ -227,6 +263,15 @@ class Calls:
             return journal_bytes(read_entries(data)).hex()
         except EntriesFault as fault:
             return damage_form(fault)
+
+    def images(self, call, after, lost, journal):
+        disk, entries = MemDisk(failing=[number(call) + 1], torn=number(after)), read_entries(journal)
+        try:
+            count = append_rest(disk, Journal.open(disk), entries)
+        except JournalFault:
+            count = 0
+        images = (image_with(moment, lost) for moment in disk.moments)
+        return " ".join([str(count), *(found_text(image, journal, entries) for image in images)])
 
     def seal(self, *batches):
         try:

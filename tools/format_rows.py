@@ -1,4 +1,5 @@
 """The rows of the stored run of crates/format_lines: chosen cases, each the word of a call and its byte strings."""
+import random
 from dataclasses import replace
 
 from format_answers import load_store, number, seal_batches
@@ -597,6 +598,32 @@ def replayed_rows(secret, public):
     yield "owned_entries", turned(public, 55), owned.journal()
 
 
+# -- a journal on a disk
+
+def small_journal(count):
+    """The journal of so many small entries, with proofs and signatures that are none."""
+    slots = []
+    for version in range(count):
+        record = b"VREC" + ID + bytes(7) + bytes([version]) + bytes([version]) * 32
+        entry = b"VOE1" + counted(b"\0\1\2\1t") + counted(b"p" * version) + record + counted(b"s" * (9 - version))
+        slots.append(b"\1" + counted(entry))
+    return b"".join(slots) + b"\0"
+
+
+def image_rows():
+    """A disk that holds 1 to 6 entries or fails before: each call in turn, and none, the first of which are those of
+    opening, and then four to an entry, of which the third opens its gate. What a write still writes, and lost bytes that
+    are open gates, closed ones and others."""
+    run = random.Random(4)
+    for count in range(1, 7):
+        journal = small_journal(count)
+        yield "keep", journal
+        for call in range(4 + 4 * count + 1):
+            for lost in b"\1", bytes(1), run.randbytes(3):
+                after = run.choice([0, 1, run.randrange(90)])
+                yield "images", bytes([call]), bytes([after]), lost * run.choice([0, 20, 200, 400]), journal
+
+
 def rows():
     yield from digest_rows()
     yield from one_time_rows()
@@ -613,3 +640,4 @@ def rows():
     yield from journal_rows()
     yield from owner_rows()
     yield from answer_rows()
+    yield from image_rows()

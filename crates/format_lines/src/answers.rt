@@ -1,5 +1,6 @@
 //! The answer to a line: bytes in hexadecimal, numbers, words, and written forms.
 use crate::call::Call;
+use crate::disk_images::images;
 use crate::hashing::{collision, digest, hash};
 use crate::journals::{entries, journal, owned_journal, seal, slots, taken_journal};
 use crate::keys::{copy, key, leaf, make, node, sign, verify};
@@ -77,6 +78,7 @@ fn by_formats(alloc: Global, call: Call, strings: &[Vec<u8>]) -> Result<String, 
         Call::Slots => slots(alloc, strings),
         Call::Entries => entries(alloc, strings),
         Call::Journal => journal(alloc, strings),
+        Call::Images => images(alloc, strings),
         Call::Owned => owned_journal(alloc, strings),
         Call::Taken => taken_journal(alloc, strings),
         Call::Answer => answer_by(alloc, strings),

@@ -36,6 +36,7 @@ pub enum Call {
     Slots,
     Entries,
     Journal,
+    Images,
     Seal,
     Owned,
     Taken,
@@ -48,7 +49,7 @@ pub enum Call {
 }
 
 /// The calls by their words.
-const CALLS: [(&str, Call); 41] = [
+const CALLS: [(&str, Call); 42] = [
     ("digest", Call::Digest),
     ("hash", Call::Hash),
     ("collision", Call::Collision),
@@ -81,6 +82,7 @@ const CALLS: [(&str, Call); 41] = [
     ("slots", Call::Slots),
     ("entries", Call::Entries),
     ("journal", Call::Journal),
+    ("images", Call::Images),
     ("seal", Call::Seal),
     ("owned", Call::Owned),
     ("taken", Call::Taken),
