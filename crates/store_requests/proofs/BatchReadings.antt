@@ -1,5 +1,5 @@
 -- What reading a batch says of bytes is what they are.
-use Rattle.std.proofs.Common.{◌≡◌, ℕ, List, Option, Some, None, Result, Ok, Err, refl, sym, ap, ◌∙◌}
+use Rattle.std.proofs.Common.{◌≡◌, ℕ, List, Option, Some, None, Err, refl, ap, ◌∙◌}
 use Rattle.vo_spec.specs.declared.tables.Command.{Command}
 use Rattle.vo_spec.specs.Bytes.{IsBytes}
 use Rattle.vo_spec.specs.Batches.{IsBatch}

@@ -1,10 +1,10 @@
 -- Answers that are read on.
-use Rattle.std.proofs.Common.{◌≡◌, ℕ, List, take, Option, Some, Result, Ok, Err, refl, sym, ap, ◌∙◌, subst, inl, append-nil}
+use Rattle.std.proofs.Common.{◌≡◌, ℕ, List, Option, Some, Result, Ok, Err, refl, sym, ap, ◌∙◌, inl, append-nil}
 use Rattle.std.specs.Result.{result_map_both}
 use Rattle.vo_spec.specs.Firsts.{and_then}
-use Rattle.outside.specs.ConnectionModel.{ConnectionModel, send_on}
-use Rattle.link_frames.specs.Frames.{Coming, span}
-use Rattle.link_frames.specs.Reading.{Took, IsHalfAsked}
+use Rattle.outside.specs.ConnectionModel.{ConnectionModel}
+use Rattle.link_frames.specs.Frames.{Coming}
+use Rattle.link_frames.specs.Reading.{IsHalfAsked}
 use Rattle.connections.specs.declared.wire_fault.WireFault.{WireFault}
 use Rattle.connections.specs.declared.wire_fault.WireFault.TheVariants as fault
 use Rattle.connections.specs.Requesting.{Requests, answer_in}

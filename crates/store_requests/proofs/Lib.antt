@@ -1,3 +1,4 @@
 pub mod TextReadings
 pub mod BatchReadings
 pub mod BodyLaws
+pub mod BodyRounds

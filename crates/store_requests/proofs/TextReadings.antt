@@ -1,9 +1,9 @@
 -- What the parser says of a text is what the text is.
-use Rattle.std.proofs.Common.{◌≡◌, ℕ, ◌≤◌, Bool, true, false, List, [], length, Option, Some, None, Result, Ok, Err, IfOk, refl, sym, ap, ◌∙◌, subst, arith, leb-true}
+use Rattle.std.proofs.Common.{◌≡◌, ℕ, ◌≤◌, Bool, true, false, List, [], length, Option, Some, None, Result, Ok, Err, IfOk, refl, sym, subst, leb-true, le-leb}
 use Rattle.std.specs.Prelude.{nat_le, option_map, ◌&&◌, if◌then◌else◌}
 use Rattle.std.specs.Result.{result_ok}
-use Rattle.std.proofs.lemmas.Bool.{le-leb}
 use Rattle.std.specs.Str.{is_utf8, IsUtf8}
+use Rattle.std.specs.declared.alloc.AllocError.{AllocError}
 use Rattle.vo_spec.specs.declared.queries.QueryText.{QueryText}
 use Rattle.vo_spec.specs.Conditions.{Query, query_of}
 use Rattle.grammar.specs.Reading.{Found, parse}
@@ -58,7 +58,7 @@ chosen true found q e = (refl, e)
 chosen false found q e = absurd (cc)
 
 -- what is read is a text of the rule
-query_text : (text : List ℕ) (q : Query) → query_in text ≡ Some q → IsQueryText text q
+pub query_text : (text : List ℕ) (q : Query) → query_in text ≡ Some q → IsQueryText text q
 unfolding query_in
 query_text text q e =
     let h = chosen (is_utf8 text && nat_le (length text) max_sql_bytes) (query_of_tokens (tokens_of text)) q e in
@@ -75,7 +75,7 @@ refuses fault.Name other q h = h
 refuses fault.TooMany other q h = h
 
 -- a text that is refused is no query
-pub no_query : (text : List ℕ) (why : SqlFault) → (why ≡ fault.Memory → ⊥)
+no_query : (text : List ℕ) (why : SqlFault) → (why ≡ fault.Memory → ⊥)
     → ((q : Query) → IsQueryText text q → Accepts query_of (Err why) q) → query_in text ≡ None
 no_query text why other only = none_of (query_in text) refl
   where
@@ -83,12 +83,14 @@ no_query text why other only = none_of (query_in text) refl
     none_of None e = e
     none_of (Some q) e = absurd (refuses why other q (only q (query_text text q e)))
 
+pub refused_query : (text : List ℕ) (why : SqlFault) (result : Result (Option QueryText) AllocError)
+    → IfOk result (λ found. (found ≡ None) × (why ≡ fault.Memory → ⊥))
+    → ((q : Query) → IsQueryText text q → Accepts query_of (Err why) q) → IfOk result (λ found. option_map query_of found ≡ query_in text)
+refused_query text why (Ok found) h only =
+    subst (λ (o : Option QueryText). option_map query_of o ≡ query_in text) (sym h.0) (sym (no_query text why h.1 only))
+refused_query text why (Err failed) h only = tt
+
 -- bytes that are no text are no query
-pub not_text : (text : List ℕ) → (IsUtf8 text → ⊥) → query_in text ≡ None
+pub not_text : (text : List ℕ) → ¬ (IsUtf8 text) → query_in text ≡ None
 unfolding query_in
 not_text text no_text = rw (sym (fails text no_text)) refl
-
-pub refused : {E : Type 0} (text : List ℕ) (why : SqlFault) (r : Result (Option QueryText) E) → IfOk r (λ found. (found ≡ None) × (why ≡ fault.Memory → ⊥))
-    → ((q : Query) → IsQueryText text q → Accepts query_of (Err why) q) → IfOk r (λ found. option_map query_of found ≡ query_in text)
-refused text why (Ok found) h only = ap (option_map query_of) h.0 ∙ sym (no_query text why h.1 only)
-refused text why (Err e) h only = h

@@ -6,6 +6,7 @@
 
 mod batches;
 mod bodies;
+pub mod laws;
 mod queries;
 mod requests;
 

@@ -22,22 +22,16 @@ fn query_of_text(alloc: Global, text: &str) -> Result<Option<QueryText>, AllocEr
 {
     match parse_query(alloc, text) {
         Ok(query) => Ok(Some(query)),
-        Err(fault) => no_query(fault),
+        Err(fault) => without_query(fault),
     }
 }
 
-/// None for a text that is no query, which want of memory doesn't tell.
-fn no_query(fault: SqlFault) -> Result<Option<QueryText>, AllocError>
+/// There is no query where a text has a fault, but for want of memory.
+fn without_query(fault: SqlFault) -> Result<Option<QueryText>, AllocError>
     ensures { IfOk result (λ query. (query ≡ None) × (fault ≢ SqlFault.Memory)) }
 {
     match fault {
         SqlFault::Memory => Err(AllocError),
-        SqlFault::TooLong
-        | SqlFault::Token { .. }
-        | SqlFault::Syntax { .. }
-        | SqlFault::Literal { .. }
-        | SqlFault::Nesting
-        | SqlFault::Name
-        | SqlFault::TooMany => Ok(None),
+        _ => Ok(None),
     }
 }

@@ -1,5 +1,5 @@
 -- What calls of a store gave, as answers.
-use Rattle.std.proofs.Common.{◌≡◌, ℕ, ◌+◌, ◌<◌, ◌≤◌, ◌^◌, Bool, true, false, List, [], ◌∷◌, length, Option, Some, None, Result, Ok, Err, IfOk, IfSome, IsErr, OnOk, refl, sym, ap, ◌∙◌, subst, arith, leb-true}
+use Rattle.std.proofs.Common.{◌≡◌, ℕ, ◌+◌, ◌<◌, ◌≤◌, ◌^◌, Bool, true, false, List, length, Option, Some, None, Result, Ok, Err, IfOk, IfSome, IsErr, OnOk, refl, sym, ap, ◌∙◌, subst, arith, leb-true}
 use Rattle.std.specs.Prelude.{nat_le, if◌then◌else◌}
 use Rattle.std.specs.Option.{option_map_or}
 use Rattle.std.specs.declared.alloc.AllocError.{AllocError}

@@ -1,5 +1,5 @@
 -- Proofs that an owner reads fit into a frame.
-use Rattle.std.proofs.Common.{◌≡◌, ℕ, ◌+◌, ◌<◌, ◌≤◌, ◌^◌, List, length, Result, Ok, Err, subst, sym, arith, inl, inr}
+use Rattle.std.proofs.Common.{ℕ, ◌+◌, ◌<◌, ◌≤◌, ◌^◌, List, length, Ok, Err, subst, sym, arith, inl, inr}
 use Rattle.vo_spec.specs.declared.tables.Command.{Command}
 use Rattle.vo_spec.specs.declared.tables.CommandFault.{CommandFault}
 use Rattle.vo_spec.specs.Journals.{max_proofs}

@@ -1,4 +1,4 @@
-use Rattle.std.proofs.Common.{ℕ, List, Result, Err, refl, sym, ap, ◌∙◌, subst, Some}
+use Rattle.std.proofs.Common.{ℕ, List, refl, sym, ap, ◌∙◌, Some}
 use Rattle.link_frames.specs.declared.frame_kind.FrameKind.TheVariants.{Installed}
 use Rattle.vo_wire.specs.Answering.{Answer, version_answer, store_after}
 use Rattle.vo_wire.proofs.AnswerLaws.{refused, stayed}
