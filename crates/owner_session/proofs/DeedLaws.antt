@@ -2,47 +2,47 @@
 use Rattle.std.proofs.Common.{◌≡◌, ℕ, List, [], ◌∷◌, ◌++◌, Option, Some, None, refl, sym, ap, ◌∙◌, append_assoc, append-nil}
 use Rattle.outside.specs.Sink.{added}
 use Rattle.link_frames.specs.Scripts.{Event, Puts, Takes, Does, behind, others}
-use Rattle.owner_session.specs.Work.{Made, Deed, Steps, Appends, Says, Work}
-use Rattle.owner_session.specs.Runs.{At, Did, AreMade, IsNext, Wrote, lines_of, entries_of, state_after}
+use Rattle.owner_session.specs.Work.{Judgement, Deed, Steps, Appends, Says, Work}
+use Rattle.owner_session.specs.Runs.{Snapshot, LeadsTo, AreJudgements, IsNext, HasWritten, lines_of, entries_of, state_after}
 
 lines_of-append : {S B E : Type 0} (ds es : List (Deed S B E)) → lines_of (ds ++ es) ≡ lines_of ds ++ lines_of es
 lines_of-append [] es = refl
-lines_of-append (Steps before batch proofs made ∷ ds) es = lines_of-append ds es
+lines_of-append (Steps before batch proofs judgement ∷ ds) es = lines_of-append ds es
 lines_of-append (Appends entry next ∷ ds) es = lines_of-append ds es
 lines_of-append (Says line ∷ ds) es =
     ap (λ (bytes : List ℕ). line ++ bytes) (lines_of-append ds es) ∙ sym (append_assoc line (lines_of ds) (lines_of es))
 
 entries_of-append : {S B E : Type 0} (ds es : List (Deed S B E)) → entries_of (ds ++ es) ≡ entries_of ds ++ entries_of es
 entries_of-append [] es = refl
-entries_of-append (Steps before batch proofs made ∷ ds) es = entries_of-append ds es
+entries_of-append (Steps before batch proofs judgement ∷ ds) es = entries_of-append ds es
 entries_of-append {E = E} (Appends entry next ∷ ds) es = ap (λ (xs : List E). entry ∷ xs) (entries_of-append ds es)
 entries_of-append (Says line ∷ ds) es = entries_of-append ds es
 
 state_after-append : {S B E : Type 0} (s : S) (ds es : List (Deed S B E))
     → state_after s (ds ++ es) ≡ state_after (state_after s ds) es
 state_after-append s [] es = refl
-state_after-append s (Steps before batch proofs made ∷ ds) es = state_after-append s ds es
+state_after-append s (Steps before batch proofs judgement ∷ ds) es = state_after-append s ds es
 state_after-append s (Appends entry next ∷ ds) es = state_after-append next ds es
 state_after-append s (Says line ∷ ds) es = state_after-append s ds es
 
-pub made-append : {S B E : Type 0} (IsMade : S → B → List ℕ → Made S E → Type 0) (ds es : List (Deed S B E))
-    → AreMade IsMade ds → AreMade IsMade es → AreMade IsMade (ds ++ es)
-made-append IsMade [] es h k = k
-made-append IsMade (Steps before batch proofs made ∷ ds) es h k = (h.0, made-append IsMade ds es h.1 k)
-made-append IsMade (Appends entry next ∷ ds) es h k = made-append IsMade ds es h k
-made-append IsMade (Says line ∷ ds) es h k = made-append IsMade ds es h k
+pub judgements-append : {S B E : Type 0} (IsJudgement : S → B → List ℕ → Judgement S E → Type 0) (ds es : List (Deed S B E))
+    → AreJudgements IsJudgement ds → AreJudgements IsJudgement es → AreJudgements IsJudgement (ds ++ es)
+judgements-append IsJudgement [] es h k = k
+judgements-append IsJudgement (Steps before batch proofs judgement ∷ ds) es h k = (h.0, judgements-append IsJudgement ds es h.1 k)
+judgements-append IsJudgement (Appends entry next ∷ ds) es h k = judgements-append IsJudgement ds es h k
+judgements-append IsJudgement (Says line ∷ ds) es h k = judgements-append IsJudgement ds es h k
 
-pub did-append : {S B E : Type 0} (ds es : List (Deed S B E)) (a b c : At S E) → Did ds a b → Did es b c
-    → Did (ds ++ es) a c
-did-append {S} {B} {E} ds es a b c f s = record {
+pub leads-append : {S B E : Type 0} (ds es : List (Deed S B E)) (a b c : Snapshot S E) → LeadsTo ds a b → LeadsTo es b c
+    → LeadsTo (ds ++ es) a c
+leads-append {S} {B} {E} ds es a b c f s = record {
   state = s.state ∙ ap (λ (state : S). state_after state es) f.state ∙ sym (state_after-append a.state ds es);
   entries = s.entries ∙ ap (λ (xs : List E). xs ++ entries_of es) f.entries
       ∙ append_assoc a.entries (entries_of ds) (entries_of es)
       ∙ ap (λ (xs : List E). a.entries ++ xs) (sym (entries_of-append ds es));
 }
 
-pub did-nothing : {S B E : Type 0} (a : At S E) → Did {B = B} [] a a
-did-nothing a = record { state = refl; entries = sym (append-nil a.entries) }
+pub leads-nothing : {S B E : Type 0} (a : Snapshot S E) → LeadsTo {B = B} [] a a
+leads-nothing a = record { state = refl; entries = sym (append-nil a.entries) }
 
 pub added-nil : (written : Option (List ℕ)) → written ≡ added written []
 added-nil None = refl
@@ -53,8 +53,8 @@ pub added-added : (written : Option (List ℕ)) (first second : List ℕ)
 added-added None first second = refl
 added-added (Some bytes) first second = ap (λ (b : List ℕ). Some b) (append_assoc bytes first second)
 
-pub wrote-append : {S B E : Type 0} (ds es : List (Deed S B E)) (besides : List ℕ) (a b c : At S E)
-    → Wrote ds [] a b → Wrote es besides b c → Wrote (ds ++ es) besides a c
+pub wrote-append : {S B E : Type 0} (ds es : List (Deed S B E)) (besides : List ℕ) (a b c : Snapshot S E)
+    → HasWritten ds [] a b → HasWritten es besides b c → HasWritten (ds ++ es) besides a c
 wrote-append ds es besides a b c f s =
     s ∙ ap (λ (w : Option (List ℕ)). added w (lines_of es ++ besides)) f
     ∙ added-added a.written (lines_of ds ++ []) (lines_of es ++ besides)

@@ -1,16 +1,16 @@
 -- One exchange, by what was read.
-use Rattle.std.proofs.Common.{◌≡◌, ℕ, ◌+◌, Bool, true, false, List, Option, Some, Result, Ok, Err, slice_index, refl, sym, ap, ◌∙◌, subst, inl, inr, arith, if◌then◌else◌}
+use Rattle.std.proofs.Common.{◌≡◌, ℕ, Bool, true, false, List, Option, Some, Result, Ok, Err, slice_index, sym, ap, ◌∙◌, subst, inr, arith, if◌then◌else◌}
 use Rattle.std.specs.Global.{Vec}
 use Rattle.outside.specs.ConnectionModel.{ConnectionModel, take_from, send_on}
 use Rattle.link_frames.specs.declared.frame.NoFrame.{NoFrame}
 use Rattle.link_frames.specs.declared.frame.NoFrame.TheVariants as no_frame
 use Rattle.link_frames.specs.declared.frame_kind.FrameKind.{FrameKind}
-use Rattle.link_frames.specs.Frames.{Coming, Whole, Ended, Cut, Bad, span}
+use Rattle.link_frames.specs.Frames.{Coming, Whole, span}
 use Rattle.link_frames.specs.Reading.{TookRest, Took, Asks}
 use Rattle.owner_session.specs.declared.stop.Stop.{Stop}
 use Rattle.owner_session.specs.declared.stop.Stop.TheVariants as stop
 use Rattle.owner_session.specs.Endings.{Ending, StoreRefuses, BadAnswer, CutAnswer, StopsWith}
-use Rattle.owner_session.specs.Work.{Answer, Body, NoBody, answer_of, is_refusal}
+use Rattle.owner_session.specs.Work.{Body, NoBody, answer_of, is_refusal}
 use Rattle.owner_session.specs.Runs.{Trades, AnswersBody}
 
 -- all of what came first was taken

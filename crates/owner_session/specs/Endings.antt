@@ -47,7 +47,10 @@ output_of (StoreRefuses code) =
 output_of StandsElsewhere =
     record { status = 1; bytes = line (codes "refused: store stands elsewhere") }
 output_of (OwnerRefuses cause lines) = record { status = status_of cause; bytes = lines }
-output_of (BadAnswer length) = record { status = 9; bytes = number_line (codes "bad frame ") length }
+output_of (BadAnswer length) = record {
+  status = 9;
+  bytes = number_line (codes "bad frame ") length;
+}
 output_of (CutAnswer got) = record { status = 9; bytes = number_line (codes "cut ") got }
 
 -- the outside failed

@@ -16,57 +16,61 @@ use Rattle.owner_session.specs.declared.stop.Stop.TheVariants as stop
 use Rattle.owner_session.specs.declared.place.Place.{Place}
 use Rattle.owner_session.specs.declared.place.Place.TheVariants.{Holds, Elsewhere, NoStanding}
 use Rattle.owner_session.specs.Endings.{Ending, StandsElsewhere, BadAnswer, OwnerRefuses, Reports, StopsWith}
-use Rattle.owner_session.specs.Work.{Made, Makes, Refuses, Deed, Steps, Appends, Says, Work, Input, Answer, Body, NoBody, answer_of}
+use Rattle.owner_session.specs.Work.{Judgement, Makes, Refuses, Deed, Steps, Appends, Says, Work, Input, Body, NoBody, answer_of}
 
 -- What deeds leave.
 
 abbrev pub lines_of : {S B E : Type 0} → List (Deed S B E) → List ℕ
 lines_of [] = []
-lines_of (Steps before batch proofs made ∷ deeds) = lines_of deeds
+lines_of (Steps before batch proofs judgement ∷ deeds) = lines_of deeds
 lines_of (Appends entry next ∷ deeds) = lines_of deeds
 lines_of (Says line ∷ deeds) = line ++ lines_of deeds
 
 abbrev pub entries_of : {S B E : Type 0} → List (Deed S B E) → List E
 entries_of [] = []
-entries_of (Steps before batch proofs made ∷ deeds) = entries_of deeds
+entries_of (Steps before batch proofs judgement ∷ deeds) = entries_of deeds
 entries_of (Appends entry next ∷ deeds) = entry ∷ entries_of deeds
 entries_of (Says line ∷ deeds) = entries_of deeds
 
 abbrev pub state_after : {S B E : Type 0} → S → List (Deed S B E) → S
 state_after state [] = state
-state_after state (Steps before batch proofs made ∷ deeds) = state_after state deeds
+state_after state (Steps before batch proofs judgement ∷ deeds) = state_after state deeds
 state_after state (Appends entry next ∷ deeds) = state_after next deeds
 state_after state (Says line ∷ deeds) = state_after state deeds
 
 -- the owner made of each batch what it is said to have made
-abbrev pub AreMade : {S B E : Type 0} → (S → B → List ℕ → Made S E → Type 0) → List (Deed S B E)
-    → Type 0
-AreMade IsMade [] = Unit {0}
-AreMade IsMade (Steps before batch proofs made ∷ deeds) =
-    IsMade before batch proofs made × AreMade IsMade deeds
-AreMade IsMade (Appends entry next ∷ deeds) = AreMade IsMade deeds
-AreMade IsMade (Says line ∷ deeds) = AreMade IsMade deeds
+abbrev pub AreJudgements : {S B E : Type 0} → (S → B → List ℕ → Judgement S E → Type 0)
+    → List (Deed S B E) → Type 0
+AreJudgements IsJudgement [] = Unit {0}
+AreJudgements IsJudgement (Steps before batch proofs judgement ∷ deeds) =
+    IsJudgement before batch proofs judgement × AreJudgements IsJudgement deeds
+AreJudgements IsJudgement (Appends entry next ∷ deeds) = AreJudgements IsJudgement deeds
+AreJudgements IsJudgement (Says line ∷ deeds) = AreJudgements IsJudgement deeds
 
 -- what there is at a moment: the connection, what is written, where the owner stands, and the
 -- entries of its journal
-pub record At (S E : Type 0) : Type 0 where
+pub record Snapshot (S E : Type 0) : Type 0 where
   pub wire : ConnectionModel
   pub written : Option (List ℕ)
   pub state : S
   pub entries : List E
 
-abbrev pub at : {S E : Type 0} → ConnectionModel → Option (List ℕ) → S → List E → At S E
-at wire written state entries =
+abbrev pub snapshot_of : {S E : Type 0} → ConnectionModel → Option (List ℕ) → S → List E
+    → Snapshot S E
+snapshot_of wire written state entries =
     record { wire = wire; written = written; state = state; entries = entries }
 
 -- owner and journal are as the deeds leave them
-pub record Did {S B E : Type 0} (deeds : List (Deed S B E)) (before after : At S E) : Type 0 where
+pub record LeadsTo {S B E : Type 0} (deeds : List (Deed S B E)) (before after : Snapshot S E)
+    : Type 0 where
   pub state : after.state ≡ state_after before.state deeds
   pub entries : after.entries ≡ before.entries ++ entries_of deeds
 
 -- the output has the deeds' lines, and this besides
-abbrev pub Wrote : {S B E : Type 0} → List (Deed S B E) → List ℕ → At S E → At S E → Type 0
-Wrote deeds besides before after = after.written ≡ added before.written (lines_of deeds ++ besides)
+abbrev pub HasWritten : {S B E : Type 0} → List (Deed S B E) → List ℕ → Snapshot S E → Snapshot S E
+    → Type 0
+HasWritten deeds besides before after =
+    after.written ≡ added before.written (lines_of deeds ++ besides)
 
 -- the next of the work's deeds is this
 abbrev pub IsNext : {S B E : Type 0} → Deed S B E → List (Deed S B E) → Work S B E → Type 0
@@ -79,78 +83,84 @@ abbrev pub Piece : (S B E G : Type 0) → Type 0
 Piece S B E G = Input S E → G → Work S B E
 
 -- nothing is left of it: the rest follows, and is handed what was given
-abbrev pub on : {S B E : Type 0} → Piece S B E (Input S E → Work S B E)
-on input go = go input
+abbrev pub continuation : {S B E : Type 0} → Piece S B E (Input S E → Work S B E)
+continuation input go = go input
 
-abbrev pub on_with : {S B E X : Type 0} → X → Piece S B E (X → Input S E → Work S B E)
-on_with given input go = go given input
+abbrev pub continuation_with : {S B E X : Type 0} → X → Piece S B E (X → Input S E → Work S B E)
+continuation_with given input go = go given input
 
-abbrev pub input_at : {S E : Type 0} → At S E → List (Made S E) → Input S E
-input_at at made = record { coming = at.wire.coming; made = made }
+abbrev pub input_of : {S E : Type 0} → Snapshot S E → List (Judgement S E) → Input S E
+input_of snapshot judgements =
+    record { coming = snapshot.wire.coming; judgements = judgements }
 
 -- The first piece came to the second: events were done in between, and for these the owner made
 -- something.
-pub record Reaches {S B E G : Type 0} (IsMade : S → B → List ℕ → Made S E → Type 0)
-    (work rest : Piece S B E G) (before after : At S E) : Type 0 where
-  pub made : List (Made S E)
+pub record Reaches {S B E G : Type 0} (IsJudgement : S → B → List ℕ → Judgement S E → Type 0)
+    (work rest : Piece S B E G) (before after : Snapshot S E) : Type 0 where
+  pub judgements : List (Judgement S E)
   pub events : List (Event (Deed S B E))
   pub deeds : List (Deed S B E)
-  pub goes_on : (more : List (Made S E)) (go : G)
-      → work (input_at before (made ++ more)) go ≡ behind events (rest (input_at after more) go)
+  pub goes_on : (more : List (Judgement S E)) (go : G)
+      → work (input_of before (judgements ++ more)) go
+      ≡ behind events (rest (input_of after more) go)
   pub done : IsDone events deeds before.wire after.wire
-  pub are_made : AreMade IsMade deeds
-  pub did : Did deeds before after
-  pub wrote : Wrote deeds [] before after
+  pub are_judgements : AreJudgements IsJudgement deeds
+  pub leads : LeadsTo deeds before after
+  pub wrote : HasWritten deeds [] before after
 
 -- The work stopped so: it was done; or it stopped in the midst of an event, where after a failing
 -- disk the entry that was next has Kept.
 abbrev pub Halts : {S B E : Type 0} → (E → Type 0) → Work S B E → Stop → List (Deed S B E)
-    → At S E → At S E → Type 0
+    → Snapshot S E → Snapshot S E → Type 0
 Halts Kept work (stop.Refused report) deeds before after =
     ((ending : Ending) × (work.value ≡ Some ending) × Reports report ending)
-    × IsDone work.events deeds before.wire after.wire × Wrote deeds [] before after
+    × IsDone work.events deeds before.wire after.wire × HasWritten deeds [] before after
 Halts Kept work stop.LinkFault deeds before after =
-    Stops work.events deeds before.wire after.wire × Wrote deeds [] before after
+    Stops work.events deeds before.wire after.wire × HasWritten deeds [] before after
 Halts Kept work stop.DiskFault deeds before after =
-    Stops work.events deeds before.wire after.wire × Wrote deeds [] before after
+    Stops work.events deeds before.wire after.wire × HasWritten deeds [] before after
     × ((entry : _) × (next : _) × IsNext (Appends entry next) deeds work × Kept entry)
 Halts Kept work stop.OutputFault deeds before after =
     Stops work.events deeds before.wire after.wire
     × ((line : List ℕ) × (n : ℕ) × IsNext (Says line) deeds work
-    × Wrote deeds (take n line) before after)
+    × HasWritten deeds (take n line) before after)
 Halts Kept work stop.Memory deeds before after =
-    Stops work.events deeds before.wire after.wire × Wrote deeds [] before after
+    Stops work.events deeds before.wire after.wire × HasWritten deeds [] before after
 
 -- the piece stopped so, whatever the rest is
-pub record Fails {S B E G : Type 0} (IsMade : S → B → List ℕ → Made S E → Type 0)
-    (Kept : E → Type 0) (work : Piece S B E G) (why : Stop) (before after : At S E) : Type 0 where
-  pub made : List (Made S E)
+pub record Fails {S B E G : Type 0} (IsJudgement : S → B → List ℕ → Judgement S E → Type 0)
+    (Kept : E → Type 0) (work : Piece S B E G) (why : Stop) (before after : Snapshot S E)
+    : Type 0 where
+  pub judgements : List (Judgement S E)
   pub deeds : List (Deed S B E)
-  pub are_made : AreMade IsMade deeds
-  pub did : Did deeds before after
-  pub halts : (more : List (Made S E)) (go : G)
-      → Halts Kept (work (input_at before (made ++ more)) go) why deeds before after
+  pub are_judgements : AreJudgements IsJudgement deeds
+  pub leads : LeadsTo deeds before after
+  pub halts : (more : List (Judgement S E)) (go : G)
+      → Halts Kept (work (input_of before (judgements ++ more)) go) why deeds before after
 
 -- a call did the piece, and what it gave is handed to the rest; or the piece stopped
-abbrev pub Runs : {S B E G T : Type 0} → (S → B → List ℕ → Made S E → Type 0) → (E → Type 0)
-    → Piece S B E G → (T → Piece S B E G) → Result T Stop → At S E → At S E → Type 0
-Runs IsMade Kept work rest (Ok given) before after = Reaches IsMade work (rest given) before after
-Runs IsMade Kept work rest (Err why) before after = Fails IsMade Kept work why before after
+abbrev pub Runs : {S B E G T : Type 0} → (S → B → List ℕ → Judgement S E → Type 0) → (E → Type 0)
+    → Piece S B E G → (T → Piece S B E G) → Result T Stop → Snapshot S E → Snapshot S E → Type 0
+Runs IsJudgement Kept work rest (Ok given) before after =
+    Reaches IsJudgement work (rest given) before after
+Runs IsJudgement Kept work rest (Err why) before after =
+    Fails IsJudgement Kept work why before after
 
 -- the same of a call that does something to the connection alone
-abbrev pub RunsOnWire : {S B E G T : Type 0} → (S → B → List ℕ → Made S E → Type 0)
-    → Piece S B E G → (T → Piece S B E G) → Result T Stop → At S E → Option ConnectionModel → Type 0
-RunsOnWire IsMade work rest result before wire =
+abbrev pub RunsOnWire : {S B E G T : Type 0} → (S → B → List ℕ → Judgement S E → Type 0)
+    → Piece S B E G → (T → Piece S B E G) → Result T Stop → Snapshot S E → Option ConnectionModel
+    → Type 0
+RunsOnWire IsJudgement work rest result before wire =
     (later : ConnectionModel) × (wire ≡ Some later)
-    × Runs IsMade (λ entry. ⊥) work rest result before (record before { wire = later })
+    × Runs IsJudgement (λ entry. ⊥) work rest result before (record before { wire = later })
 
 -- the same of a call after which there is this
-abbrev pub RunsTo : {S B E G T : Type 0} → (S → B → List ℕ → Made S E → Type 0) → (E → Type 0)
-    → Piece S B E G → (T → Piece S B E G) → Result T Stop → At S E
+abbrev pub RunsTo : {S B E G T : Type 0} → (S → B → List ℕ → Judgement S E → Type 0) → (E → Type 0)
+    → Piece S B E G → (T → Piece S B E G) → Result T Stop → Snapshot S E
     → Option ConnectionModel → Option (List ℕ) → S → List E → Type 0
-RunsTo IsMade Kept work rest result before wire written state entries =
+RunsTo IsJudgement Kept work rest result before wire written state entries =
     (later : ConnectionModel) × (wire ≡ Some later)
-    × Runs IsMade Kept work rest result before (at later written state entries)
+    × Runs IsJudgement Kept work rest result before (snapshot_of later written state entries)
 
 -- One exchange.
 
@@ -158,7 +168,8 @@ RunsTo IsMade Kept work rest result before wire written state entries =
 abbrev pub Trades : List ℕ → Coming → Result (Vec ℕ) Stop → ConnectionModel
     → Option ConnectionModel → Type 0
 Trades frame first (Ok body) before wire =
-    (answer_of first ≡ Body body.items) × (wire ≡ Some (take_from (span first) (send_on frame before)))
+    (answer_of first ≡ Body body.items)
+    × (wire ≡ Some (take_from (span first) (send_on frame before)))
 Trades frame first (Err (stop.Refused report)) before wire =
     ((ending : Ending) × (answer_of first ≡ NoBody ending) × Reports report ending)
     × (wire ≡ Some (take_from (span first) (send_on frame before)))
@@ -185,12 +196,13 @@ HoldsSome NoStanding length (Err why) = StopsWith (BadAnswer (length + 1)) why
 HoldsSome (Holds count) length (Err why) = ⊥
 
 -- what the owner makes of a batch; where it makes no entry, so the session ends
-abbrev pub TakesStep : {S E T : Type 0} → (Made S E → Type 0) → (T → E) → (T → S) → Result T Stop
-    → Type 0
-TakesStep IsMade entry_of next_of (Ok step) = IsMade (Makes (entry_of step) (next_of step))
-TakesStep IsMade entry_of next_of (Err why) =
+abbrev pub TakesStep : {S E T : Type 0} → (Judgement S E → Type 0) → (T → E) → (T → S)
+    → Result T Stop → Type 0
+TakesStep IsJudgement entry_of next_of (Ok step) =
+    IsJudgement (Makes (entry_of step) (next_of step))
+TakesStep IsJudgement entry_of next_of (Err why) =
     (why ≡ stop.Memory)
-    ⊎ ((cause : RefusalCause) × (lines : List ℕ) × IsMade (Refuses cause lines)
+    ⊎ ((cause : RefusalCause) × (lines : List ℕ) × IsJudgement (Refuses cause lines)
     × (report : Report) × (why ≡ stop.Refused report) × Reports report (OwnerRefuses cause lines))
 
 -- a line was put, or a front of it where the output failed

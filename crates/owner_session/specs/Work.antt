@@ -1,5 +1,5 @@
 -- The work of a session, as a script: by the bytes that come, and by what the owner makes of them.
-use Rattle.std.specs.Prelude.{ℕ, zero, suc, ◌+◌, ◌==◌, if◌then◌else◌, Bool, true, false, bytes_eq, List, [], ◌∷◌, length, drop, slice_index, Option, Some, None, Result, Ok, Err}
+use Rattle.std.specs.Prelude.{ℕ, zero, suc, ◌+◌, if◌then◌else◌, Bool, true, false, bytes_eq, List, [], ◌∷◌, length, drop, slice_index, Option, Some, None, Result, Ok, Err}
 use Rattle.vo_spec.specs.Bytes.{u64_bytes}
 use Rattle.link_frames.specs.declared.awaits.Awaits.{Awaits}
 use Rattle.link_frames.specs.declared.awaits.Awaits.TheVariants as awaits
@@ -25,22 +25,22 @@ pub record Forms (B E : Type 0) : Type 0 where
   pub place : List E → List ℕ → Place
 
 -- what an owner makes of a batch by its proofs: an entry, behind which it stands so; or a refusal
-pub data Made (S E : Type 0) : Type 0 where
-  Makes : (entry : E) (next : S) → Made S E
-  Refuses : (cause : RefusalCause) (lines : List ℕ) → Made S E
+pub data Judgement (S E : Type 0) : Type 0 where
+  Makes : (entry : E) (next : S) → Judgement S E
+  Refuses : (cause : RefusalCause) (lines : List ℕ) → Judgement S E
 
 -- what a step answered is what the owner makes; want of memory says nothing
-abbrev pub StepsTo : {S E T : Type 0} → (Made S E → Type 0) → (T → E) → (T → S) → Result T NoStep
-    → Type 0
-StepsTo IsMade entry_of next_of (Ok step) = IsMade (Makes (entry_of step) (next_of step))
-StepsTo IsMade entry_of next_of (Err (no_step.Refused refusal)) =
-    IsMade (Refuses refusal.cause refusal.lines.items)
-StepsTo IsMade entry_of next_of (Err no_step.Memory) = Unit {0}
+abbrev pub StepsTo : {S E T : Type 0} → (Judgement S E → Type 0) → (T → E) → (T → S)
+    → Result T NoStep → Type 0
+StepsTo IsJudgement entry_of next_of (Ok step) = IsJudgement (Makes (entry_of step) (next_of step))
+StepsTo IsJudgement entry_of next_of (Err (no_step.Refused refusal)) =
+    IsJudgement (Refuses refusal.cause refusal.lines.items)
+StepsTo IsJudgement entry_of next_of (Err no_step.Memory) = Unit {0}
 
 -- What is done beside the connection: the owner, standing so, makes this of a batch by the proofs
 -- that came; an entry is appended to the journal, and the owner stands behind it; a line is written.
 pub data Deed (S B E : Type 0) : Type 0 where
-  Steps : (before : S) (batch : B) (proofs : List ℕ) (made : Made S E) → Deed S B E
+  Steps : (before : S) (batch : B) (proofs : List ℕ) (judgement : Judgement S E) → Deed S B E
   Appends : (entry : E) (next : S) → Deed S B E
   Says : (line : List ℕ) → Deed S B E
 
@@ -56,7 +56,7 @@ ends_with ending = record { events = []; value = Some ending }
 -- what is to come: the bytes on the connection, and what the owner makes, in order
 pub record Input (S E : Type 0) : Type 0 where
   pub coming : List ℕ
-  pub made : List (Made S E)
+  pub judgements : List (Judgement S E)
 
 -- the same once n bytes were taken
 abbrev pub input_after : {S E : Type 0} → ℕ → Input S E → Input S E
@@ -148,23 +148,23 @@ unfoldable pub commit : {S B E : Type 0} → Forms B E → E → S → Input S E
 commit forms entry next input go =
     behind (Does (Appends entry next) ∷ []) (publication forms entry input (go next))
 
-abbrev pub with_made : {S B E : Type 0} → Forms B E → Made S E → Input S E
+abbrev pub with_judgement : {S B E : Type 0} → Forms B E → Judgement S E → Input S E
     → (S → Input S E → Work S B E) → Work S B E
-with_made forms (Makes entry next) input go = commit forms entry next input go
-with_made forms (Refuses cause lines) input go = ends_with (OwnerRefuses cause lines)
+with_judgement forms (Makes entry next) input go = commit forms entry next input go
+with_judgement forms (Refuses cause lines) input go = ends_with (OwnerRefuses cause lines)
 
 -- the owner makes the first of these of the batch
-abbrev pub with_first_made : {S B E : Type 0} → Forms B E → S → B → List ℕ → List ℕ
-    → List (Made S E) → (S → Input S E → Work S B E) → Work S B E
-with_first_made forms state batch proofs coming [] go = record { events = []; value = None }
-with_first_made forms state batch proofs coming (made ∷ left) go =
-    behind (Does (Steps state batch proofs made) ∷ [])
-    (with_made forms made (record { coming = coming; made = left }) go)
+abbrev pub with_first_judgement : {S B E : Type 0} → Forms B E → S → B → List ℕ → List ℕ
+    → List (Judgement S E) → (S → Input S E → Work S B E) → Work S B E
+with_first_judgement forms state batch proofs coming [] go = record { events = []; value = None }
+with_first_judgement forms state batch proofs coming (judgement ∷ left) go =
+    behind (Does (Steps state batch proofs judgement) ∷ [])
+    (with_judgement forms judgement (record { coming = coming; judgements = left }) go)
 
 unfoldable pub step : {S B E : Type 0} → Forms B E → S → B → List ℕ → Input S E
     → (S → Input S E → Work S B E) → Work S B E
 step forms state batch proofs input go =
-    with_first_made forms state batch proofs input.coming input.made go
+    with_first_judgement forms state batch proofs input.coming input.judgements go
 
 unfoldable pub batch_commit : {S B E : Type 0} → Forms B E → S → B → Input S E
     → (S → Input S E → Work S B E) → Work S B E

@@ -6,7 +6,7 @@ ghost use Rattle.link_frames.specs.declared.frame_kind.FrameKind.TheVariants.{St
 ghost use Rattle.link_frames.specs.Reading.{StaysWhereItStands};
 ghost use Rattle.owner_session.specs.Endings.{IsOfLink};
 ghost use Rattle.owner_session.specs.Work.{standing, delivery, deliveries, catch_up};
-ghost use Rattle.owner_session.specs.Runs.{At, RunsOnWire, HoldsSome, on, on_with};
+ghost use Rattle.owner_session.specs.Runs.{Snapshot, RunsOnWire, HoldsSome, continuation, continuation_with};
 
 use crate::install::install_entry;
 use crate::lines::{bad_answer, stands_elsewhere};
@@ -21,8 +21,8 @@ use std::alloc::Global;
 
 /// Asks where the store stands, and gives it what it lacks.
 pub fn catch_up<O: Owner, L: Link>(alloc: Global, owner: &O, link: &mut L) -> Result<(), Stop>
-    ensures known { (before : At O.State O.Entry) → L.wire link.old ≡ Some before.wire
-        → RunsOnWire O.IsMade (catch_up O.forms (O.entries owner.now)) (λ _. on) result before
+    ensures known { (before : Snapshot O.State O.Entry) → L.wire link.old ≡ Some before.wire
+        → RunsOnWire O.IsJudgement (catch_up O.forms (O.entries owner.now)) (λ _. continuation) result before
         (L.wire link.new) }
 
     ensures counts { L.faults link.old ≤ L.faults link.new }
@@ -39,8 +39,8 @@ pub fn catch_up<O: Owner, L: Link>(alloc: Global, owner: &O, link: &mut L) -> Re
 
 /// Asks how many entries the store holds.
 fn ask_standing<O: Owner, L: Link>(alloc: Global, owner: &O, link: &mut L) -> Result<usize, Stop>
-    ensures known { (before : At O.State O.Entry) → L.wire link.old ≡ Some before.wire
-        → RunsOnWire O.IsMade (standing O.forms (O.entries owner.now)) on_with result before
+    ensures known { (before : Snapshot O.State O.Entry) → L.wire link.old ≡ Some before.wire
+        → RunsOnWire O.IsJudgement (standing O.forms (O.entries owner.now)) continuation_with result before
         (L.wire link.new) }
 
     ensures counts { L.faults link.old ≤ L.faults link.new }
@@ -74,8 +74,8 @@ fn deliver<O: Owner, L: Link>(
     held: usize,
     link: &mut L,
 ) -> Result<(), Stop>
-    ensures known { (before : At O.State O.Entry) → L.wire link.old ≡ Some before.wire
-        → RunsOnWire O.IsMade (deliveries O.forms held (drop held (O.entries owner.now))) (λ _. on)
+    ensures known { (before : Snapshot O.State O.Entry) → L.wire link.old ≡ Some before.wire
+        → RunsOnWire O.IsJudgement (deliveries O.forms held (drop held (O.entries owner.now))) (λ _. continuation)
         result before (L.wire link.new) }
 
     ensures counts { L.faults link.old ≤ L.faults link.new }
@@ -101,9 +101,9 @@ fn deliver_entry<O: Owner, L: Link>(
     link: &mut L,
 ) -> Result<(), Stop>
     requires { index < length (O.entries owner.now) }
-    ensures known { (entry : O.Entry) (before : At O.State O.Entry)
+    ensures known { (entry : O.Entry) (before : Snapshot O.State O.Entry)
         → slice_get (O.entries owner.now) index ≡ Some entry → L.wire link.old ≡ Some before.wire
-        → RunsOnWire O.IsMade (delivery O.forms index entry) (λ _. on) result before
+        → RunsOnWire O.IsJudgement (delivery O.forms index entry) (λ _. continuation) result before
         (L.wire link.new) }
 
     ensures counts { L.faults link.old ≤ L.faults link.new }

@@ -4,7 +4,7 @@ ghost use Rattle.outside.specs.ConnectionModel.{ConnectionModel};
 ghost use Rattle.outside.specs.FaultRose.{FaultRose};
 ghost use Rattle.link_frames.specs.Reading.{StaysWhereItStands};
 ghost use Rattle.owner_session.specs.Work.{publication, commit, step, batch_commit, commits};
-ghost use Rattle.owner_session.specs.Runs.{RunsTo, TakesStep, UnlessDisk, at, on, on_with};
+ghost use Rattle.owner_session.specs.Runs.{RunsTo, TakesStep, UnlessDisk, snapshot_of, continuation, continuation_with};
 
 use crate::announce::announce;
 use crate::install::install_entry;
@@ -27,9 +27,9 @@ pub fn commit_batches<O: Owner, L: Link, S: Sink>(
     requires batches { All O.CanPropose batches.now }
     requires works { O.Works owner.old }
     ensures known { (before : ConnectionModel) → L.wire link.old ≡ Some before
-        → RunsTo O.IsMade (λ entry. O.Keeps owner.old → O.KeepsWith owner.new entry)
-        (commits O.forms (O.state owner.old) batches.now) (λ _. on) result
-        (at before (S.written out.old) (O.state owner.old) (O.entries owner.old))
+        → RunsTo O.IsJudgement (λ entry. O.Keeps owner.old → O.KeepsWith owner.new entry)
+        (commits O.forms (O.state owner.old) batches.now) (λ _. continuation) result
+        (snapshot_of before (S.written out.old) (O.state owner.old) (O.entries owner.old))
         (L.wire link.new) (S.written out.new) (O.state owner.new) (O.entries owner.new) }
     ensures keeps { O.Keeps owner.old → UnlessDisk result (O.Keeps owner.new) }
 
@@ -64,9 +64,9 @@ fn commit_batch<O: Owner, L: Link, S: Sink>(
     requires batch { O.CanPropose batch.now }
     requires works { O.Works owner.old }
     ensures known { (before : ConnectionModel) → L.wire link.old ≡ Some before
-        → RunsTo O.IsMade (λ entry. O.Keeps owner.old → O.KeepsWith owner.new entry)
-        (batch_commit O.forms (O.state owner.old) batch.now) (λ _. on_with (O.state owner.new))
-        result (at before (S.written out.old) (O.state owner.old) (O.entries owner.old))
+        → RunsTo O.IsJudgement (λ entry. O.Keeps owner.old → O.KeepsWith owner.new entry)
+        (batch_commit O.forms (O.state owner.old) batch.now) (λ _. continuation_with (O.state owner.new))
+        result (snapshot_of before (S.written out.old) (O.state owner.old) (O.entries owner.old))
         (L.wire link.new) (S.written out.new) (O.state owner.new) (O.entries owner.new) }
     ensures works { OnOk result (O.Works owner.new) }
     ensures keeps { O.Keeps owner.old → UnlessDisk result (O.Keeps owner.new) }
@@ -100,9 +100,9 @@ fn commit_by_proofs<O: Owner, L: Link, S: Sink>(
     requires batch { O.CanPropose batch.now }
     requires works { O.Works owner.old }
     ensures known { (before : ConnectionModel) → L.wire link.old ≡ Some before
-        → RunsTo O.IsMade (λ entry. O.Keeps owner.old → O.KeepsWith owner.new entry)
-        (step O.forms (O.state owner.old) batch.now proofs.now) (λ _. on_with (O.state owner.new))
-        result (at before (S.written out.old) (O.state owner.old) (O.entries owner.old))
+        → RunsTo O.IsJudgement (λ entry. O.Keeps owner.old → O.KeepsWith owner.new entry)
+        (step O.forms (O.state owner.old) batch.now proofs.now) (λ _. continuation_with (O.state owner.new))
+        result (snapshot_of before (S.written out.old) (O.state owner.old) (O.entries owner.old))
         (L.wire link.new) (S.written out.new) (O.state owner.new) (O.entries owner.new) }
     ensures works { OnOk result (O.Works owner.new) }
     ensures keeps { O.Keeps owner.old → UnlessDisk result (O.Keeps owner.new) }
@@ -132,7 +132,7 @@ fn take_step<O: Owner>(
     proofs: &[u8],
 ) -> Result<O::Step, Stop>
     requires { O.CanPropose batch.now }
-    ensures answer { TakesStep (O.IsMade (O.state owner.now) batch.now proofs.now) O.entry_of
+    ensures answer { TakesStep (O.IsJudgement (O.state owner.now) batch.now proofs.now) O.entry_of
         O.next_of result }
     ensures follows { IfOk result (O.Follows (O.state owner.now)) }
 {
@@ -154,9 +154,9 @@ fn commit_step<O: Owner, L: Link, S: Sink>(
     requires follows { O.Follows (O.state owner.old) step }
     requires works { O.Works owner.old }
     ensures known { (before : ConnectionModel) → L.wire link.old ≡ Some before
-        → RunsTo O.IsMade (λ entry. O.Keeps owner.old → O.KeepsWith owner.new entry)
-        (commit O.forms (O.entry_of step) (O.next_of step)) (λ _. on_with (O.state owner.new))
-        result (at before (S.written out.old) (O.state owner.old) (O.entries owner.old))
+        → RunsTo O.IsJudgement (λ entry. O.Keeps owner.old → O.KeepsWith owner.new entry)
+        (commit O.forms (O.entry_of step) (O.next_of step)) (λ _. continuation_with (O.state owner.new))
+        result (snapshot_of before (S.written out.old) (O.state owner.old) (O.entries owner.old))
         (L.wire link.new) (S.written out.new) (O.state owner.new) (O.entries owner.new) }
     ensures works { OnOk result (O.Works owner.new) }
     ensures keeps { O.Keeps owner.old → UnlessDisk result (O.Keeps owner.new) }
@@ -190,8 +190,8 @@ fn publish<O: Owner, L: Link, S: Sink>(
     ensures known { (entry : O.Entry) (before : ConnectionModel)
         → slice_get (O.entries owner.now) (length (O.entries owner.now) - 1) ≡ Some entry
         → L.wire link.old ≡ Some before
-        → RunsTo O.IsMade (λ entry. ⊥) (publication O.forms entry) (λ _. on) result
-        (at before (S.written out.old) (O.state owner.now) (O.entries owner.now))
+        → RunsTo O.IsJudgement (λ entry. ⊥) (publication O.forms entry) (λ _. continuation) result
+        (snapshot_of before (S.written out.old) (O.state owner.now) (O.entries owner.now))
         (L.wire link.new) (S.written out.new) (O.state owner.now) (O.entries owner.now) }
     ensures inside { IsErrOf result Stop.DiskFault → ⊥ }
 

@@ -7,7 +7,7 @@ ghost use Rattle.link_frames.specs.declared.frame_kind.FrameKind.TheVariants.{In
 ghost use Rattle.vo_spec.specs.Bytes.{u64_bytes};
 ghost use Rattle.owner_session.specs.Endings.{IsOfLink};
 ghost use Rattle.owner_session.specs.Work.{exchange, installation};
-ghost use Rattle.owner_session.specs.Runs.{At, RunsOnWire, ChecksVersion, on, on_with};
+ghost use Rattle.owner_session.specs.Runs.{Snapshot, RunsOnWire, ChecksVersion, continuation, continuation_with};
 
 use crate::lines::stands_elsewhere;
 use crate::owner::Owner;
@@ -26,9 +26,9 @@ pub fn install_entry<O: Owner, L: Link>(
     link: &mut L,
 ) -> Result<(), Stop>
     requires { index < length (O.entries owner.now) }
-    ensures known { (entry : O.Entry) (before : At O.State O.Entry)
+    ensures known { (entry : O.Entry) (before : Snapshot O.State O.Entry)
         → slice_get (O.entries owner.now) index ≡ Some entry → L.wire link.old ≡ Some before.wire
-        → RunsOnWire O.IsMade (installation O.forms entry) (λ _. on) result before
+        → RunsOnWire O.IsJudgement (installation O.forms entry) (λ _. continuation) result before
         (L.wire link.new) }
 
     ensures counts { L.faults link.old ≤ L.faults link.new }
@@ -51,10 +51,10 @@ fn put_install<O: Owner, L: Link>(
     link: &mut L,
 ) -> Result<Vec<u8>, Stop>
     requires { index < length (O.entries owner.now) }
-    ensures known { (entry : O.Entry) (before : At O.State O.Entry)
+    ensures known { (entry : O.Entry) (before : Snapshot O.State O.Entry)
         → slice_get (O.entries owner.now) index ≡ Some entry → L.wire link.old ≡ Some before.wire
-        → RunsOnWire O.IsMade (exchange Install (O.forms.install entry) Installed)
-        (λ body. on_with body.items) result before (L.wire link.new) }
+        → RunsOnWire O.IsJudgement (exchange Install (O.forms.install entry) Installed)
+        (λ body. continuation_with body.items) result before (L.wire link.new) }
 
     ensures counts { L.faults link.old ≤ L.faults link.new }
     ensures cause { IsErrOf result Stop.LinkFault

@@ -18,10 +18,9 @@ mod propose;
 mod refusals;
 mod session;
 mod stop;
-mod trade;
-
 #[cfg(test)]
 mod tests;
+mod trade;
 
 pub use laws::sessions_in_order;
 pub use owner::Owner;

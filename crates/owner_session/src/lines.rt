@@ -72,7 +72,7 @@ fn number_line(alloc: Global, phrase: &str, number: u64) -> Result<Vec<u8>, Allo
 }
 
 fn stop_with(status: Status, line: Result<Vec<u8>, AllocError>) -> Stop
-    ensures made { StopsAs status line result }
+    ensures judgement { StopsAs status line result }
     ensures inside { IsOfLink result }
 {
     match line {

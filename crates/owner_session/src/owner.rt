@@ -1,7 +1,7 @@
 //! An owner, as a session sees it: where it stands, its journal, and what it makes of a batch.
 ghost use Rattle.std.specs.Prelude.{◌≡◌, ℕ, ◌+◌, ◌<◌, ◌≤◌, ◌^◌, List, [], ◌∷◌, ◌++◌, length, slice_get, Some, IfOk, OnOk, OnErr, IsErrOf};
 ghost use Rattle.outside.specs.FaultRose.{FaultRose};
-ghost use Rattle.owner_session.specs.Work.{Forms, Made, StepsTo};
+ghost use Rattle.owner_session.specs.Work.{Forms, Judgement, StepsTo};
 ghost use Rattle.owner_session.specs.Runs.{KeepsBy};
 
 use crate::place::Place;
@@ -29,7 +29,7 @@ pub trait Owner {
     ghost CanPropose: { Self.Batch → Type 0 };
 
     /// What the owner, standing so, makes of a batch by the bytes of its proofs.
-    ghost IsMade: { State → Self.Batch → List ℕ → Made State Entry → Type 0 };
+    ghost IsJudgement: { State → Self.Batch → List ℕ → Judgement State Entry → Type 0 };
 
     ghost entry_of: { Self.Step → Entry };
 
@@ -89,7 +89,7 @@ pub trait Owner {
     /// What the owner makes of a batch. It stays where it is.
     fn step(&self, alloc: Global, batch: &Self::Batch, proofs: &[u8]) -> Result<Self::Step, NoStep>
         requires { CanPropose batch.now }
-        ensures answer { StepsTo (IsMade (state self.now) batch.now proofs.now) entry_of next_of
+        ensures answer { StepsTo (IsJudgement (state self.now) batch.now proofs.now) entry_of next_of
             result }
         ensures follows { IfOk result (Follows (state self.now)) };
 

@@ -4,7 +4,7 @@ ghost use Rattle.outside.specs.FaultRose.{FaultRose};
 ghost use Rattle.link_frames.specs.Reading.{StaysWhereItStands};
 ghost use Rattle.owner_session.specs.Endings.{IsOfLink};
 ghost use Rattle.owner_session.specs.Work.{proposal};
-ghost use Rattle.owner_session.specs.Runs.{At, RunsOnWire, on_with};
+ghost use Rattle.owner_session.specs.Runs.{Snapshot, RunsOnWire, continuation_with};
 
 use crate::owner::Owner;
 use crate::stop::Stop;
@@ -21,8 +21,8 @@ pub fn propose_batch<O: Owner, L: Link>(
     link: &mut L,
 ) -> Result<Vec<u8>, Stop>
     requires { O.CanPropose batch.now }
-    ensures known { (before : At O.State O.Entry) → L.wire link.old ≡ Some before.wire
-        → RunsOnWire O.IsMade (proposal O.forms batch.now) (λ proofs. on_with proofs.items) result
+    ensures known { (before : Snapshot O.State O.Entry) → L.wire link.old ≡ Some before.wire
+        → RunsOnWire O.IsJudgement (proposal O.forms batch.now) (λ proofs. continuation_with proofs.items) result
         before (L.wire link.new) }
 
     ensures counts { L.faults link.old ≤ L.faults link.new }
@@ -45,10 +45,10 @@ pub fn propose_entry<O: Owner, L: Link>(
     link: &mut L,
 ) -> Result<Vec<u8>, Stop>
     requires { index < length (O.entries owner.now) }
-    ensures known { (entry : O.Entry) (before : At O.State O.Entry)
+    ensures known { (entry : O.Entry) (before : Snapshot O.State O.Entry)
         → slice_get (O.entries owner.now) index ≡ Some entry → L.wire link.old ≡ Some before.wire
-        → RunsOnWire O.IsMade (proposal O.forms (O.forms.batch entry))
-        (λ proofs. on_with proofs.items) result before (L.wire link.new) }
+        → RunsOnWire O.IsJudgement (proposal O.forms (O.forms.batch entry))
+        (λ proofs. continuation_with proofs.items) result before (L.wire link.new) }
 
     ensures counts { L.faults link.old ≤ L.faults link.new }
     ensures cause { IsErrOf result Stop.LinkFault

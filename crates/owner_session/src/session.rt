@@ -3,7 +3,7 @@ ghost use Rattle.std.specs.Prelude.{◌≡◌, ◌≤◌, ◌⊎◌, All, Some, 
 ghost use Rattle.outside.specs.ConnectionModel.{ConnectionModel};
 ghost use Rattle.outside.specs.FaultRose.{FaultRose};
 ghost use Rattle.link_frames.specs.Reading.{StaysWhereItStands};
-ghost use Rattle.owner_session.specs.Runs.{RunsTo, UnlessDisk, at, on};
+ghost use Rattle.owner_session.specs.Runs.{RunsTo, UnlessDisk, snapshot_of, continuation};
 ghost use Rattle.owner_session.specs.Work.{session_on};
 ghost use Rattle.owner_session.specs.Sessions.{SessionRuns};
 
@@ -28,14 +28,14 @@ pub fn run_session<O: Owner, L: Link, S: Sink>(
     requires works { O.Works owner.old }
     ensures known { (before : ConnectionModel) → L.wire link.old ≡ Some before
         → (after : ConnectionModel) × (L.wire link.new ≡ Some after)
-        × SessionRuns O.forms O.IsMade batches.now
+        × SessionRuns O.forms O.IsJudgement batches.now
         (FaultRose (L.faults link.old) (L.faults link.new))
         (FaultRose (O.faults owner.old) (O.faults owner.new))
         (FaultRose (S.faults out.old) (S.faults out.new))
         (O.Keeps owner.old → O.Keeps owner.new)
         (λ entry. O.Keeps owner.old → O.KeepsWith owner.new entry) result
-        (at before (S.written out.old) (O.state owner.old) (O.entries owner.old))
-        (at after (S.written out.new) (O.state owner.new) (O.entries owner.new)) }
+        (snapshot_of before (S.written out.old) (O.state owner.old) (O.entries owner.old))
+        (snapshot_of after (S.written out.new) (O.state owner.new) (O.entries owner.new)) }
 
     // A status of 3 comes only where the outside failed, whether or not its contents are known.
     ensures outside { result ≡ 3 → FaultRose (L.faults link.old) (L.faults link.new)
@@ -66,9 +66,9 @@ fn do_session<O: Owner, L: Link, S: Sink>(
     requires batches { All O.CanPropose batches.now }
     requires works { O.Works owner.old }
     ensures known { (before : ConnectionModel) → L.wire link.old ≡ Some before
-        → RunsTo O.IsMade (λ entry. O.Keeps owner.old → O.KeepsWith owner.new entry)
-        (session_on O.forms (O.state owner.old) (O.entries owner.old) batches.now) (λ _. on) result
-        (at before (S.written out.old) (O.state owner.old) (O.entries owner.old))
+        → RunsTo O.IsJudgement (λ entry. O.Keeps owner.old → O.KeepsWith owner.new entry)
+        (session_on O.forms (O.state owner.old) (O.entries owner.old) batches.now) (λ _. continuation) result
+        (snapshot_of before (S.written out.old) (O.state owner.old) (O.entries owner.old))
         (L.wire link.new) (S.written out.new) (O.state owner.new) (O.entries owner.new) }
     ensures keeps { O.Keeps owner.old → UnlessDisk result (O.Keeps owner.new) }
 

@@ -17,6 +17,7 @@ struct Numbers {
 
 impl Owner for Numbers {
     type Batch = u64;
+
     type Step = u64;
 
     ghost State = { Unit {0} };
@@ -39,7 +40,7 @@ impl Owner for Numbers {
 
     ghost CanPropose = { λ _. Unit {0} };
 
-    ghost IsMade = { λ _ _ _ _. Unit {0} };
+    ghost IsJudgement = { λ _ _ _ _. Unit {0} };
 
     ghost entry_of = { λ step. step };
 
@@ -154,7 +155,10 @@ fn commits_two_batches_with_a_new_store(rt: HostRuntime) -> Result<(), Fail> {
         \0\0\0\x09\x03\0\0\0\0\0\0\0\x02\0\0\0\x09\x04\0\0\0\0\0\0\0\x02";
     let outcome = session(&rt, &[0], &[1, 2], coming)?;
     assert_eq!(rt; outcome.status, 0);
-    assert_eq!(rt; outcome.written.as_slice(), b"version 1\nversion 2\n".as_slice());
+    assert_eq!(rt;
+        outcome.written.as_slice(),
+        b"version 1\nversion 2\n".as_slice()
+    );
     assert_eq!(rt; outcome.sent.as_slice(), sent.as_slice());
     assert_eq!(rt; outcome.entries.as_slice(), [0, 1, 2].as_slice());
     Ok(())
@@ -202,10 +206,18 @@ fn refuses_a_store_that_stands_elsewhere(rt: HostRuntime) -> Result<(), Fail> {
 #[test]
 fn ends_at_each_answer_that_it_does_not_want(rt: HostRuntime) -> Result<(), Fail> {
     let cases = [
-        (b"\0\0\0\x02\x8f\x02".as_slice(), 9, b"bad frame 2\n".as_slice()),
+        (
+            b"\0\0\0\x02\x8f\x02".as_slice(),
+            9,
+            b"bad frame 2\n".as_slice(),
+        ),
         (b"\0\0\0\x02\x82", 9, b"cut 5\n"),
         (b"\0\0\0\x02\x82\0", 9, b"cut 0\n"),
-        (b"\0\0\0\x02\x82\0\0\0\0\x02\x8f\x06", 1, b"refused: store 6\n"),
+        (
+            b"\0\0\0\x02\x82\0\0\0\0\x02\x8f\x06",
+            1,
+            b"refused: store 6\n",
+        ),
         (
             b"\0\0\0\x02\x82\0\0\0\0\x09\x84\0\0\0\0\0\0\0\x01",
             1,

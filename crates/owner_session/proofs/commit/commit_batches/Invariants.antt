@@ -5,7 +5,7 @@ use Rattle.owner_session.proofs.commit.commit_batches.Given as goal
 
 abbrev pub invariant-loop-batch : goal.invariant-loop-batch
 invariant-loop-batch g l = record {
-  known : CommittedTo g.O.Owner.IsMade g.O.Owner.forms l.batches l.batch-index (g.L.Link.wire l.initial.link) (g.L.Link.wire l.link)
+  known : CommittedTo g.O.Owner.IsJudgement g.O.Owner.forms l.batches l.batch-index (g.L.Link.wire l.initial.link) (g.L.Link.wire l.link)
       (g.S.Sink.written l.initial.out) (g.S.Sink.written l.out) (g.O.Owner.state l.initial.owner) (g.O.Owner.state l.owner)
       (g.O.Owner.entries l.initial.owner) (g.O.Owner.entries l.owner);
   works : g.O.Owner.Works l.owner;

@@ -1,5 +1,4 @@
 use Rattle.std.proofs.Common.{refl}
-use Rattle.outside.specs.ConnectionModel.{send_on}
 use Rattle.link_frames.specs.declared.frame.NoFrame.TheVariants as no_frame
 use Rattle.link_frames.specs.Frames.{first_frame, frame_bytes}
 use Rattle.owner_session.specs.declared.stop.Stop.TheVariants as stop
