@@ -19,20 +19,25 @@ pub trait Owner {
 
     ghost Entry: { Type 0 };
 
+    /// Where the owner stands: what its next step goes by.
     ghost state: { Self → State };
 
     /// The journal's entries, oldest first.
     ghost entries: { Self → List Entry };
 
+    /// How batches and entries stand in frames, and where a store stands.
     ghost forms: { Forms Self.Batch Entry };
 
+    /// The batch has a body that proposes it.
     ghost CanPropose: { Self.Batch → Type 0 };
 
     /// What the owner, standing so, makes of a batch by the bytes of its proofs.
     ghost IsJudgement: { State → Self.Batch → List ℕ → Judgement State Entry → Type 0 };
 
+    /// A step's entry.
     ghost entry_of: { Self.Step → Entry };
 
+    /// Where the owner stands behind it.
     ghost next_of: { Self.Step → State };
 
     /// The step is one of an owner that stands so.
