@@ -1,0 +1,39 @@
+use Rattle.std.proofs.Common.{ℕ}
+use Rattle.std.specs.Global.{Vec}
+use Rattle.owner_session.specs.Work.{proposal}
+use Rattle.owner_session.specs.Runs.{snapshot_of, continuation_with}
+use Rattle.owner_session.proofs.RunLaws.{no_disk_fault, no_output_fault}
+use Rattle.owner_session.proofs.WireLaws.{stays_then}
+use Rattle.owner_session.proofs.CommitLaws.{batch_committed, batch_not_proposed}
+use Rattle.owner_session.proofs.commit.commit_batch.Goals as goal
+
+pub returns-in-Ok-clause-known : goal.returns-in-Ok-clause-known
+returns-in-Ok-clause-known g c =
+    λ before is.
+    let a = snapshot_of before (g.S.Sink.written c.args.out.now) (g.O.Owner.state c.args.owner.now) (g.O.Owner.entries c.args.owner.now) in
+    batch_committed {T = Unit {0}} g.O.Owner.IsJudgement (λ (e : g.O.Owner.Entry). g.O.Owner.Keeps c.args.owner.now → g.O.Owner.KeepsWith c.commit_by_proofs.new.owner e)
+    g.O.Owner.forms c.args.batch.now c.in-Ok.proofs c.deref.result.now (λ done. continuation_with (g.O.Owner.state c.commit_by_proofs.new.owner))
+    c.commit_by_proofs.result a (g.L.Link.wire c.propose_batch.new.link) (g.L.Link.wire c.commit_by_proofs.new.link)
+    (g.S.Sink.written c.commit_by_proofs.new.out) (g.O.Owner.state c.commit_by_proofs.new.owner) (g.O.Owner.entries c.commit_by_proofs.new.owner)
+    c.deref.ensures.value (c.in-Ok.ensures.known a is) c.commit_by_proofs.ensures.known
+
+pub returns-in-Ok-clause-misses : goal.returns-in-Ok-clause-misses
+returns-in-Ok-clause-misses g c =
+    stays_then g.O.Owner.IsJudgement (proposal g.O.Owner.forms c.args.batch.now) (λ (given : Vec ℕ). continuation_with given.items) c.in-Ok.proofs
+    (g.O.Owner.state c.args.owner.now) (g.O.Owner.entries c.args.owner.now) (g.L.Link.wire c.args.link.now) (g.L.Link.wire c.propose_batch.new.link)
+    (g.L.Link.misses c.args.link.now) (g.L.Link.misses c.propose_batch.new.link) (g.L.Link.misses c.commit_by_proofs.new.link)
+    c.in-Ok.ensures.known c.in-Ok.ensures.misses c.commit_by_proofs.ensures.misses
+
+pub returns-in-Err-clause-known : goal.returns-in-Err-clause-known
+returns-in-Err-clause-known g c =
+    λ before is.
+    let a = snapshot_of before (g.S.Sink.written c.args.out.now) (g.O.Owner.state c.args.owner.now) (g.O.Owner.entries c.args.owner.now) in
+    batch_not_proposed {T = Unit {0}} g.O.Owner.IsJudgement (λ (e : g.O.Owner.Entry). g.O.Owner.Keeps c.args.owner.now → g.O.Owner.KeepsWith c.args.owner.now e)
+    g.O.Owner.forms c.args.batch.now (λ done. continuation_with (g.O.Owner.state c.args.owner.now)) c.in-Err.stop a (g.L.Link.wire c.propose_batch.new.link)
+    (c.in-Err.ensures.known a is)
+
+pub returns-in-Err-clause-disk_cause : goal.returns-in-Err-clause-disk_cause
+returns-in-Err-clause-disk_cause g c = no_disk_fault c.in-Err.stop _ c.in-Err.ensures.inside
+
+pub returns-in-Err-clause-out_cause : goal.returns-in-Err-clause-out_cause
+returns-in-Err-clause-out_cause g c = no_output_fault c.in-Err.stop _ c.in-Err.ensures.inside

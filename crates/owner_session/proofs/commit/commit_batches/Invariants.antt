@@ -1,0 +1,17 @@
+use Rattle.std.proofs.Common.{◌≤◌}
+use Rattle.link_frames.specs.Reading.{StaysWhereItStands}
+use Rattle.owner_session.proofs.CommitLaws.{CommittedTo}
+use Rattle.owner_session.proofs.commit.commit_batches.Given as goal
+
+abbrev pub invariant-loop-batch : goal.invariant-loop-batch
+invariant-loop-batch g l = record {
+  known : CommittedTo g.O.Owner.IsJudgement g.O.Owner.forms l.batches l.batch-index (g.L.Link.wire l.initial.link) (g.L.Link.wire l.link)
+      (g.S.Sink.written l.initial.out) (g.S.Sink.written l.out) (g.O.Owner.state l.initial.owner) (g.O.Owner.state l.owner)
+      (g.O.Owner.entries l.initial.owner) (g.O.Owner.entries l.owner);
+  works : g.O.Owner.Works l.owner;
+  keeps : g.O.Owner.Keeps l.initial.owner → g.O.Owner.Keeps l.owner;
+  link_counts : g.L.Link.faults l.initial.link ≤ g.L.Link.faults l.link;
+  disk_counts : g.O.Owner.faults l.initial.owner ≤ g.O.Owner.faults l.owner;
+  out_counts : g.S.Sink.faults l.initial.out ≤ g.S.Sink.faults l.out;
+  stays : StaysWhereItStands (g.L.Link.wire l.initial.link) (g.L.Link.misses l.initial.link) (g.L.Link.misses l.link);
+}

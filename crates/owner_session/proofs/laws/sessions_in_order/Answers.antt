@@ -1,0 +1,11 @@
+use Rattle.owner_session.proofs.OrderLaws.{alternates, keeps_first, steps_first}
+use Rattle.owner_session.proofs.laws.sessions_in_order.Goals as goal
+
+pub returns-clause-alternates : goal.returns-clause-alternates
+returns-clause-alternates g c = λ state entries batches input. alternates g.O.Owner.forms state entries batches input
+
+pub returns-clause-keeps_first : goal.returns-clause-keeps_first
+returns-clause-keeps_first g c = λ state entries batches input. keeps_first g.O.Owner.forms state entries batches input
+
+pub returns-clause-steps_first : goal.returns-clause-steps_first
+returns-clause-steps_first g c = λ state entries batches input. steps_first g.O.Owner.forms state entries batches input

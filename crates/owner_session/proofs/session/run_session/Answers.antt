@@ -1,0 +1,120 @@
+use Rattle.std.proofs.Common.{ap, Err}
+use Rattle.outside.specs.FaultRose.{FaultRose}
+use Rattle.owner_session.specs.declared.stop.Stop.{Stop}
+use Rattle.owner_session.specs.declared.stop.Stop.TheVariants as stop
+use Rattle.owner_session.specs.Runs.{snapshot_of}
+use Rattle.owner_session.proofs.SessionLaws.{rose_later, unless_disk, session_finishes, session_refused, session_link_fault, session_disk_fault, session_output_fault, session_wants}
+use Rattle.owner_session.proofs.session.run_session.Goals as goal
+
+pub returns-in-Ok-clause-known : goal.returns-in-Ok-clause-known
+returns-in-Ok-clause-known g c =
+    λ before is.
+    let r = c.in-Ok.ensures.known before is in (
+      r.0,
+      r.1,
+      session_finishes g.O.Owner.IsJudgement g.O.Owner.forms c.args.batches.now
+          (FaultRose (g.L.Link.faults c.args.link.now) (g.L.Link.faults c.do_session.new.link))
+          (FaultRose (g.O.Owner.faults c.args.owner.now) (g.O.Owner.faults c.do_session.new.owner))
+          (FaultRose (g.S.Sink.faults c.args.out.now) (g.S.Sink.faults c.do_session.new.out))
+          (g.O.Owner.Keeps c.args.owner.now → g.O.Owner.Keeps c.do_session.new.owner)
+          (λ (e : g.O.Owner.Entry). g.O.Owner.Keeps c.args.owner.now → g.O.Owner.KeepsWith c.do_session.new.owner e)
+          (snapshot_of before (g.S.Sink.written c.args.out.now) (g.O.Owner.state c.args.owner.now) (g.O.Owner.entries c.args.owner.now))
+          (snapshot_of r.0 (g.S.Sink.written c.do_session.new.out) (g.O.Owner.state c.do_session.new.owner) (g.O.Owner.entries c.do_session.new.owner))
+          r.2 c.in-Ok.ensures.keeps,
+    )
+
+pub returns-in-Err-Refused-clause-known : goal.returns-in-Err-Refused-clause-known
+returns-in-Err-Refused-clause-known g c =
+    λ before is.
+    let r = c.in-Err-Refused.ensures.known before is in (
+      r.0,
+      r.1,
+      session_refused g.O.Owner.IsJudgement g.O.Owner.forms c.args.batches.now
+          (FaultRose (g.L.Link.faults c.args.link.now) (g.L.Link.faults c.do_session.new.link))
+          (FaultRose (g.O.Owner.faults c.args.owner.now) (g.O.Owner.faults c.do_session.new.owner))
+          (FaultRose (g.S.Sink.faults c.args.out.now) (g.S.Sink.faults c.write_last.new.out))
+          (g.O.Owner.Keeps c.args.owner.now → g.O.Owner.Keeps c.do_session.new.owner)
+          (λ (e : g.O.Owner.Entry). g.O.Owner.Keeps c.args.owner.now → g.O.Owner.KeepsWith c.do_session.new.owner e)
+          (snapshot_of before (g.S.Sink.written c.args.out.now) (g.O.Owner.state c.args.owner.now) (g.O.Owner.entries c.args.owner.now))
+          (snapshot_of r.0 (g.S.Sink.written c.do_session.new.out) (g.O.Owner.state c.do_session.new.owner) (g.O.Owner.entries c.do_session.new.owner))
+          c.in-Err-Refused.field-0 c.in-Err-Refused.report (FaultRose (g.S.Sink.faults c.do_session.new.out) (g.S.Sink.faults c.write_last.new.out)) c.write_last.result c.code.result c.deref.result.now
+          (g.S.Sink.written c.write_last.new.out) c.in-Err-Refused.field-0-is c.code.ensures.value c.deref.ensures.value r.2
+          (λ keeps. unless_disk c.in-Err-Refused.field-0 (stop.Refused c.in-Err-Refused.report) (g.O.Owner.Keeps c.do_session.new.owner) c.in-Err-Refused.field-0-is (c.in-Err-Refused.ensures.keeps keeps))
+          (rose_later (g.S.Sink.faults c.args.out.now) (g.S.Sink.faults c.do_session.new.out) (g.S.Sink.faults c.write_last.new.out) c.in-Err-Refused.ensures.out_counts) c.write_last.ensures.wrote,
+    )
+
+pub returns-in-Err-LinkFault-clause-known : goal.returns-in-Err-LinkFault-clause-known
+returns-in-Err-LinkFault-clause-known g c =
+    λ before is.
+    let r = c.in-Err-LinkFault.ensures.known before is in (
+      r.0,
+      r.1,
+      session_link_fault g.O.Owner.IsJudgement g.O.Owner.forms c.args.batches.now
+          (FaultRose (g.L.Link.faults c.args.link.now) (g.L.Link.faults c.do_session.new.link))
+          (FaultRose (g.O.Owner.faults c.args.owner.now) (g.O.Owner.faults c.do_session.new.owner))
+          (FaultRose (g.S.Sink.faults c.args.out.now) (g.S.Sink.faults c.write_last-in-Err-LinkFault.new.out))
+          (g.O.Owner.Keeps c.args.owner.now → g.O.Owner.Keeps c.do_session.new.owner)
+          (λ (e : g.O.Owner.Entry). g.O.Owner.Keeps c.args.owner.now → g.O.Owner.KeepsWith c.do_session.new.owner e)
+          (snapshot_of before (g.S.Sink.written c.args.out.now) (g.O.Owner.state c.args.owner.now) (g.O.Owner.entries c.args.owner.now))
+          (snapshot_of r.0 (g.S.Sink.written c.do_session.new.out) (g.O.Owner.state c.do_session.new.owner) (g.O.Owner.entries c.do_session.new.owner))
+          c.in-Err-LinkFault.field-0 (FaultRose (g.S.Sink.faults c.do_session.new.out) (g.S.Sink.faults c.write_last-in-Err-LinkFault.new.out)) c.write_last-in-Err-LinkFault.result (g.S.Sink.written c.write_last-in-Err-LinkFault.new.out) c.in-Err-LinkFault.field-0-is r.2
+          (c.in-Err-LinkFault.ensures.link_cause (ap (λ (s : Stop). Err s) c.in-Err-LinkFault.field-0-is))
+          (λ keeps. unless_disk c.in-Err-LinkFault.field-0 stop.LinkFault (g.O.Owner.Keeps c.do_session.new.owner) c.in-Err-LinkFault.field-0-is (c.in-Err-LinkFault.ensures.keeps keeps))
+          (rose_later (g.S.Sink.faults c.args.out.now) (g.S.Sink.faults c.do_session.new.out) (g.S.Sink.faults c.write_last-in-Err-LinkFault.new.out) c.in-Err-LinkFault.ensures.out_counts) c.write_last-in-Err-LinkFault.ensures.wrote,
+    )
+
+pub returns-in-Err-DiskFault-clause-known : goal.returns-in-Err-DiskFault-clause-known
+returns-in-Err-DiskFault-clause-known g c =
+    λ before is.
+    let r = c.in-Err-DiskFault.ensures.known before is in (
+      r.0,
+      r.1,
+      session_disk_fault g.O.Owner.IsJudgement g.O.Owner.forms c.args.batches.now
+          (FaultRose (g.L.Link.faults c.args.link.now) (g.L.Link.faults c.do_session.new.link))
+          (FaultRose (g.O.Owner.faults c.args.owner.now) (g.O.Owner.faults c.do_session.new.owner))
+          (FaultRose (g.S.Sink.faults c.args.out.now) (g.S.Sink.faults c.write_last-in-Err-DiskFault.new.out))
+          (g.O.Owner.Keeps c.args.owner.now → g.O.Owner.Keeps c.do_session.new.owner)
+          (λ (e : g.O.Owner.Entry). g.O.Owner.Keeps c.args.owner.now → g.O.Owner.KeepsWith c.do_session.new.owner e)
+          (snapshot_of before (g.S.Sink.written c.args.out.now) (g.O.Owner.state c.args.owner.now) (g.O.Owner.entries c.args.owner.now))
+          (snapshot_of r.0 (g.S.Sink.written c.do_session.new.out) (g.O.Owner.state c.do_session.new.owner) (g.O.Owner.entries c.do_session.new.owner))
+          c.in-Err-DiskFault.field-0 (FaultRose (g.S.Sink.faults c.do_session.new.out) (g.S.Sink.faults c.write_last-in-Err-DiskFault.new.out)) c.write_last-in-Err-DiskFault.result (g.S.Sink.written c.write_last-in-Err-DiskFault.new.out) c.in-Err-DiskFault.field-0-is r.2
+          (c.in-Err-DiskFault.ensures.disk_cause (ap (λ (s : Stop). Err s) c.in-Err-DiskFault.field-0-is))
+          (rose_later (g.S.Sink.faults c.args.out.now) (g.S.Sink.faults c.do_session.new.out) (g.S.Sink.faults c.write_last-in-Err-DiskFault.new.out) c.in-Err-DiskFault.ensures.out_counts) c.write_last-in-Err-DiskFault.ensures.wrote,
+    )
+
+pub returns-in-Err-OutputFault-clause-known : goal.returns-in-Err-OutputFault-clause-known
+returns-in-Err-OutputFault-clause-known g c =
+    λ before is.
+    let r = c.in-Err-OutputFault.ensures.known before is in (
+      r.0,
+      r.1,
+      session_output_fault g.O.Owner.IsJudgement g.O.Owner.forms c.args.batches.now
+          (FaultRose (g.L.Link.faults c.args.link.now) (g.L.Link.faults c.do_session.new.link))
+          (FaultRose (g.O.Owner.faults c.args.owner.now) (g.O.Owner.faults c.do_session.new.owner))
+          (FaultRose (g.S.Sink.faults c.args.out.now) (g.S.Sink.faults c.do_session.new.out))
+          (g.O.Owner.Keeps c.args.owner.now → g.O.Owner.Keeps c.do_session.new.owner)
+          (λ (e : g.O.Owner.Entry). g.O.Owner.Keeps c.args.owner.now → g.O.Owner.KeepsWith c.do_session.new.owner e)
+          (snapshot_of before (g.S.Sink.written c.args.out.now) (g.O.Owner.state c.args.owner.now) (g.O.Owner.entries c.args.owner.now))
+          (snapshot_of r.0 (g.S.Sink.written c.do_session.new.out) (g.O.Owner.state c.do_session.new.owner) (g.O.Owner.entries c.do_session.new.owner))
+          c.in-Err-OutputFault.field-0 c.in-Err-OutputFault.field-0-is r.2
+          (c.in-Err-OutputFault.ensures.out_cause (ap (λ (s : Stop). Err s) c.in-Err-OutputFault.field-0-is))
+          (λ keeps. unless_disk c.in-Err-OutputFault.field-0 stop.OutputFault (g.O.Owner.Keeps c.do_session.new.owner) c.in-Err-OutputFault.field-0-is (c.in-Err-OutputFault.ensures.keeps keeps)),
+    )
+
+pub returns-in-Err-Memory-clause-known : goal.returns-in-Err-Memory-clause-known
+returns-in-Err-Memory-clause-known g c =
+    λ before is.
+    let r = c.in-Err-Memory.ensures.known before is in (
+      r.0,
+      r.1,
+      session_wants g.O.Owner.IsJudgement g.O.Owner.forms c.args.batches.now
+          (FaultRose (g.L.Link.faults c.args.link.now) (g.L.Link.faults c.do_session.new.link))
+          (FaultRose (g.O.Owner.faults c.args.owner.now) (g.O.Owner.faults c.do_session.new.owner))
+          (FaultRose (g.S.Sink.faults c.args.out.now) (g.S.Sink.faults c.do_session.new.out))
+          (g.O.Owner.Keeps c.args.owner.now → g.O.Owner.Keeps c.do_session.new.owner)
+          (λ (e : g.O.Owner.Entry). g.O.Owner.Keeps c.args.owner.now → g.O.Owner.KeepsWith c.do_session.new.owner e)
+          (snapshot_of before (g.S.Sink.written c.args.out.now) (g.O.Owner.state c.args.owner.now) (g.O.Owner.entries c.args.owner.now))
+          (snapshot_of r.0 (g.S.Sink.written c.do_session.new.out) (g.O.Owner.state c.do_session.new.owner) (g.O.Owner.entries c.do_session.new.owner))
+          c.in-Err-Memory.field-0 c.in-Err-Memory.field-0-is r.2
+          (λ keeps. unless_disk c.in-Err-Memory.field-0 stop.Memory (g.O.Owner.Keeps c.do_session.new.owner) c.in-Err-Memory.field-0-is (c.in-Err-Memory.ensures.keeps keeps)),
+    )

@@ -1,0 +1,5 @@
+pub mod Endings
+pub mod Work
+pub mod Runs
+pub mod Sessions
+pub mod Orders

@@ -1,0 +1,53 @@
+//! Writing what a session says.
+ghost use Rattle.std.specs.Prelude.{◌≡◌, ◌≢◌, ◌≤◌, IsErrOf};
+ghost use Rattle.outside.specs.FaultRose.{FaultRose};
+ghost use Rattle.owner_session.specs.Endings.{version_line};
+ghost use Rattle.owner_session.specs.Runs.{PutsLine};
+ghost use Rattle.owner_session.specs.Sessions.{Writes};
+
+use crate::lines::version_line;
+use crate::stop::Stop;
+use outside::{PutFault, Sink};
+use std::alloc::Global;
+
+/// Writes that a version is installed.
+pub fn announce<S: Sink>(alloc: Global, version: u64, out: &mut S) -> Result<(), Stop>
+    ensures puts { PutsLine (version_line version) result (S.written out.old) (S.written out.new) }
+    ensures counts { S.faults out.old ≤ S.faults out.new }
+    ensures cause { IsErrOf result Stop.OutputFault
+        → FaultRose (S.faults out.old) (S.faults out.new) }
+{
+    match version_line(alloc, version) {
+        Ok(line) => put_line(out, &line),
+        Err(_) => Err(Stop::Memory),
+    }
+}
+
+fn put_line<S: Sink>(out: &mut S, line: &[u8]) -> Result<(), Stop>
+    ensures puts { PutsLine line.now result (S.written out.old) (S.written out.new) }
+    ensures counts { S.faults out.old ≤ S.faults out.new }
+    ensures cause { IsErrOf result Stop.OutputFault
+        → FaultRose (S.faults out.old) (S.faults out.new) }
+{
+    match out.put(line) {
+        Ok(()) => Ok(()),
+        Err(PutFault::Failed) => Err(Stop::OutputFault),
+        Err(PutFault::Memory) => Err(Stop::Memory),
+    }
+}
+
+/// Writes the last lines, and gives the exit status that they come with; 3 where the output fails.
+pub fn write_last<S: Sink>(out: &mut S, status: u8, bytes: &[u8]) -> u8
+    ensures wrote { Writes (record { status = status; bytes = bytes.now })
+        (FaultRose (S.faults out.old) (S.faults out.new))
+        result (S.written out.old) (S.written out.new) }
+    ensures counts { S.faults out.old ≤ S.faults out.new }
+    ensures outside { status ≢ 3 → result ≡ 3 → FaultRose (S.faults out.old) (S.faults out.new) }
+    ensures memory { status ≢ 4 → result ≡ 4 → S.written out.new ≡ S.written out.old }
+{
+    match out.put(bytes) {
+        Ok(()) => status,
+        Err(PutFault::Failed) => 3,
+        Err(PutFault::Memory) => 4,
+    }
+}

@@ -1,0 +1,21 @@
+//! Laws of sessions, as contracts of a function that does nothing.
+ghost use Rattle.std.specs.Prelude.{List};
+ghost use Rattle.owner_session.specs.Work.{Input, session};
+ghost use Rattle.owner_session.specs.Orders.{Alternates, KeepsFirst, StepsFirst};
+
+use crate::owner::Owner;
+
+/// Whatever comes and whatever the owner makes: each frame is followed by its answer, no entry is
+/// installed before the journal has it, and none is appended but what the owner just made.
+pub fn sessions_in_order<O: Owner>()
+    ensures alternates { (state : O.State) (entries : List O.Entry) (batches : List O.Batch)
+        (input : Input O.State O.Entry)
+        → Alternates (session O.forms state entries batches input).events }
+    ensures keeps_first { (state : O.State) (entries : List O.Entry) (batches : List O.Batch)
+        (input : Input O.State O.Entry)
+        → KeepsFirst O.forms.install entries
+        (session O.forms state entries batches input).events }
+    ensures steps_first { (state : O.State) (entries : List O.Entry) (batches : List O.Batch)
+        (input : Input O.State O.Entry)
+        → StepsFirst state (session O.forms state entries batches input).events }
+{}

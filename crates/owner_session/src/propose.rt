@@ -1,0 +1,63 @@
+//! Proposing a batch: the store answers with its proofs.
+ghost use Rattle.std.specs.Prelude.{◌≡◌, ◌<◌, ◌≤◌, length, slice_get, Some, IfErr, IsErrOf};
+ghost use Rattle.outside.specs.FaultRose.{FaultRose};
+ghost use Rattle.link_frames.specs.Reading.{StaysWhereItStands};
+ghost use Rattle.owner_session.specs.Endings.{IsOfLink};
+ghost use Rattle.owner_session.specs.Work.{proposal};
+ghost use Rattle.owner_session.specs.Runs.{Snapshot, RunsOnWire, continuation_with};
+
+use crate::owner::Owner;
+use crate::stop::Stop;
+use crate::trade::trade;
+use link_frames::{Awaits, FrameKind};
+use outside::Link;
+use std::alloc::Global;
+
+/// Proposes a batch, and gives the bytes of its proofs.
+pub fn propose_batch<O: Owner, L: Link>(
+    alloc: Global,
+    owner: &O,
+    batch: &O::Batch,
+    link: &mut L,
+) -> Result<Vec<u8>, Stop>
+    requires { O.CanPropose batch.now }
+    ensures known { (before : Snapshot O.State O.Entry) → L.wire link.old ≡ Some before.wire
+        → RunsOnWire O.IsJudgement (proposal O.forms batch.now) (λ proofs. continuation_with proofs.items) result
+        before (L.wire link.new) }
+
+    ensures counts { L.faults link.old ≤ L.faults link.new }
+    ensures cause { IsErrOf result Stop.LinkFault
+        → FaultRose (L.faults link.old) (L.faults link.new) }
+    ensures misses { StaysWhereItStands (L.wire link.old) (L.misses link.old) (L.misses link.new) }
+    ensures inside { IfErr result IsOfLink }
+{
+    match owner.batch_proposal(alloc, batch) {
+        Ok(body) => trade(alloc, link, FrameKind::Propose, &body, Awaits::Proofs),
+        Err(_) => Err(Stop::Memory),
+    }
+}
+
+/// Proposes an entry's batch, and gives the bytes of its proofs.
+pub fn propose_entry<O: Owner, L: Link>(
+    alloc: Global,
+    owner: &O,
+    index: usize,
+    link: &mut L,
+) -> Result<Vec<u8>, Stop>
+    requires { index < length (O.entries owner.now) }
+    ensures known { (entry : O.Entry) (before : Snapshot O.State O.Entry)
+        → slice_get (O.entries owner.now) index ≡ Some entry → L.wire link.old ≡ Some before.wire
+        → RunsOnWire O.IsJudgement (proposal O.forms (O.forms.batch entry))
+        (λ proofs. continuation_with proofs.items) result before (L.wire link.new) }
+
+    ensures counts { L.faults link.old ≤ L.faults link.new }
+    ensures cause { IsErrOf result Stop.LinkFault
+        → FaultRose (L.faults link.old) (L.faults link.new) }
+    ensures misses { StaysWhereItStands (L.wire link.old) (L.misses link.old) (L.misses link.new) }
+    ensures inside { IfErr result IsOfLink }
+{
+    match owner.entry_proposal(alloc, index) {
+        Ok(body) => trade(alloc, link, FrameKind::Propose, &body, Awaits::Proofs),
+        Err(_) => Err(Stop::Memory),
+    }
+}

@@ -1,0 +1,90 @@
+//! A whole session, with its exit status.
+ghost use Rattle.std.specs.Prelude.{◌≡◌, ◌≤◌, ◌⊎◌, All, Some, OnOk, IsErrOf};
+ghost use Rattle.outside.specs.ConnectionModel.{ConnectionModel};
+ghost use Rattle.outside.specs.FaultRose.{FaultRose};
+ghost use Rattle.link_frames.specs.Reading.{StaysWhereItStands};
+ghost use Rattle.owner_session.specs.Runs.{RunsTo, UnlessDisk, snapshot_of, continuation};
+ghost use Rattle.owner_session.specs.Work.{session_on};
+ghost use Rattle.owner_session.specs.Sessions.{SessionRuns};
+
+use crate::announce::write_last;
+use crate::catch_up::catch_up;
+use crate::commit::commit_batches;
+use crate::owner::Owner;
+use crate::stop::Stop;
+use outside::{Link, Sink};
+use std::alloc::Global;
+
+/// Gives the store at the other end what it lacks of the owner's journal, and commits the batches;
+/// for each a line goes to `out`. Returns the exit status: 0 only where all is done.
+pub fn run_session<O: Owner, L: Link, S: Sink>(
+    alloc: Global,
+    owner: &mut O,
+    batches: &[O::Batch],
+    link: &mut L,
+    out: &mut S,
+) -> u8
+    requires batches { All O.CanPropose batches.now }
+    requires works { O.Works owner.old }
+    ensures known { (before : ConnectionModel) → L.wire link.old ≡ Some before
+        → (after : ConnectionModel) × (L.wire link.new ≡ Some after)
+        × SessionRuns O.forms O.IsJudgement batches.now
+        (FaultRose (L.faults link.old) (L.faults link.new))
+        (FaultRose (O.faults owner.old) (O.faults owner.new))
+        (FaultRose (S.faults out.old) (S.faults out.new))
+        (O.Keeps owner.old → O.Keeps owner.new)
+        (λ entry. O.Keeps owner.old → O.KeepsWith owner.new entry) result
+        (snapshot_of before (S.written out.old) (O.state owner.old) (O.entries owner.old))
+        (snapshot_of after (S.written out.new) (O.state owner.new) (O.entries owner.new)) }
+
+    // A status of 3 comes only where the outside failed, whether or not its contents are known.
+    ensures outside { result ≡ 3 → FaultRose (L.faults link.old) (L.faults link.new)
+        ⊎ FaultRose (O.faults owner.old) (O.faults owner.new)
+        ⊎ FaultRose (S.faults out.old) (S.faults out.new) }
+    ensures misses { StaysWhereItStands (L.wire link.old) (L.misses link.old) (L.misses link.new) }
+    ensures link_counts { L.faults link.old ≤ L.faults link.new }
+    ensures disk_counts { O.faults owner.old ≤ O.faults owner.new }
+    ensures out_counts { S.faults out.old ≤ S.faults out.new }
+{
+    match do_session(alloc, owner, batches, link, out) {
+        Ok(()) => 0,
+        Err(Stop::Refused(report)) => write_last(out, report.status.code(), &report.bytes),
+        Err(Stop::LinkFault) => write_last(out, 3, b"fault: outside\n"),
+        Err(Stop::DiskFault) => write_last(out, 3, b"fault: outside\n"),
+        Err(Stop::OutputFault) => 3,
+        Err(Stop::Memory) => 4,
+    }
+}
+
+fn do_session<O: Owner, L: Link, S: Sink>(
+    alloc: Global,
+    owner: &mut O,
+    batches: &[O::Batch],
+    link: &mut L,
+    out: &mut S,
+) -> Result<(), Stop>
+    requires batches { All O.CanPropose batches.now }
+    requires works { O.Works owner.old }
+    ensures known { (before : ConnectionModel) → L.wire link.old ≡ Some before
+        → RunsTo O.IsJudgement (λ entry. O.Keeps owner.old → O.KeepsWith owner.new entry)
+        (session_on O.forms (O.state owner.old) (O.entries owner.old) batches.now) (λ _. continuation) result
+        (snapshot_of before (S.written out.old) (O.state owner.old) (O.entries owner.old))
+        (L.wire link.new) (S.written out.new) (O.state owner.new) (O.entries owner.new) }
+    ensures keeps { O.Keeps owner.old → UnlessDisk result (O.Keeps owner.new) }
+
+    ensures link_counts { L.faults link.old ≤ L.faults link.new }
+    ensures link_cause { IsErrOf result Stop.LinkFault
+        → FaultRose (L.faults link.old) (L.faults link.new) }
+    ensures misses { StaysWhereItStands (L.wire link.old) (L.misses link.old) (L.misses link.new) }
+    ensures disk_counts { O.faults owner.old ≤ O.faults owner.new }
+    ensures disk_cause { IsErrOf result Stop.DiskFault
+        → FaultRose (O.faults owner.old) (O.faults owner.new) }
+    ensures out_counts { S.faults out.old ≤ S.faults out.new }
+    ensures out_cause { IsErrOf result Stop.OutputFault
+        → FaultRose (S.faults out.old) (S.faults out.new) }
+{
+    match catch_up(alloc, owner, link) {
+        Ok(()) => commit_batches(alloc, owner, batches, link, out),
+        Err(stop) => Err(stop),
+    }
+}

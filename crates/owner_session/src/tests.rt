@@ -1,0 +1,238 @@
+//! Sessions of an owner whose entries are numbers with stores whose answers are written out.
+ghost use Rattle.std.specs.Prelude.{ℕ, ◌+◌, ◌==◌, nat_lt, if◌then◌else◌, length, slice_index};
+ghost use Rattle.vo_spec.specs.Bytes.{u64_bytes};
+ghost use Rattle.owner_session.specs.declared.place.Place.TheVariants.{Holds, Elsewhere};
+
+use crate::{NoAppend, NoStep, Owner, Place, Refusal, RefusalCause, run_session};
+use outside::{MemNet, MemSink, Net, Never};
+use std::alloc::{AllocError, Global};
+use std::test::Fail;
+use vo_spec::u64_bytes;
+
+/// A journal of numbers. Each is its own version, its own batch, and where the owner stands.
+#[derive(Drop)]
+struct Numbers {
+    entries: Vec<u64>,
+}
+
+impl Owner for Numbers {
+    type Batch = u64;
+
+    type Step = u64;
+
+    ghost State = { Unit {0} };
+
+    ghost Entry = { ℕ };
+
+    ghost state = { λ _. tt };
+
+    ghost entries = { λ owner. owner.entries.items };
+
+    ghost forms = { record {
+      proposal = u64_bytes;
+      batch = λ entry. entry;
+      install = u64_bytes;
+      version = λ entry. entry;
+      place = λ entries standing. if length standing == 1 then Holds 0
+          else if nat_lt (slice_index standing 60) (length entries)
+          then Holds (slice_index standing 60 + 1) else Elsewhere;
+    } };
+
+    ghost CanPropose = { λ _. Unit {0} };
+
+    ghost IsJudgement = { λ _ _ _ _. Unit {0} };
+
+    ghost entry_of = { λ step. step };
+
+    ghost next_of = { λ _. tt };
+
+    ghost Follows = { λ _ _. Unit {0} };
+
+    ghost Works = { λ _. Unit {0} };
+
+    ghost Keeps = { λ _. Unit {0} };
+
+    ghost KeepsWith = { λ _ _. Unit {0} };
+
+    ghost faults = { λ _. 0 };
+
+    fn entry_count(&self) -> usize {
+        self.entries.len()
+    }
+
+    fn place(&self, standing: &[u8]) -> Place {
+        if standing.len() == 1 {
+            return Place::Holds { count: 0 };
+        }
+        let last = standing.get(60).copied().unwrap_or(0) as usize;
+        if last < self.entries.len() {
+            Place::Holds { count: last + 1 }
+        } else {
+            Place::Elsewhere
+        }
+    }
+
+    fn version(&self, index: usize) -> u64 {
+        self.entries[index]
+    }
+
+    fn install_body(&self, alloc: Global, index: usize) -> Result<Vec<u8>, AllocError> {
+        Vec::from_slice(alloc, &u64_bytes(self.entries[index]))
+    }
+
+    fn entry_proposal(&self, alloc: Global, index: usize) -> Result<Vec<u8>, AllocError> {
+        Vec::from_slice(alloc, &u64_bytes(self.entries[index]))
+    }
+
+    fn batch_proposal(&self, alloc: Global, batch: &u64) -> Result<Vec<u8>, AllocError> {
+        Vec::from_slice(alloc, &u64_bytes(*batch))
+    }
+
+    /// Refuses proofs of no bytes.
+    fn step(&self, alloc: Global, batch: &u64, proofs: &[u8]) -> Result<u64, NoStep> {
+        if !proofs.is_empty() {
+            return Ok(*batch);
+        }
+        match Vec::from_slice(alloc, b"refused: proof missing 0\n") {
+            Ok(lines) => Err(NoStep::Refused(Refusal {
+                cause: RefusalCause::Proofs,
+                lines,
+            })),
+            Err(_) => Err(NoStep::Memory),
+        }
+    }
+
+    fn append(&mut self, _alloc: Global, step: u64) -> Result<(), NoAppend> {
+        match self.entries.push(step) {
+            Ok(()) => Ok(()),
+            Err(_) => Err(NoAppend::Memory),
+        }
+    }
+}
+
+/// What is known once a session ended: its status, the output, what was put, and the entries.
+#[derive(Debug, Drop)]
+struct Outcome {
+    status: u8,
+    written: Vec<u8>,
+    sent: Vec<u8>,
+    entries: Vec<u64>,
+}
+
+/// A session of an owner with these entries, who commits these batches while this comes.
+fn session(
+    rt: &HostRuntime,
+    entries: &[u64],
+    batches: &[u64],
+    coming: &[u8],
+) -> Result<Outcome, Fail> {
+    let alloc = rt.alloc();
+    let mut owner = Numbers {
+        entries: Vec::from_slice(alloc, entries)?,
+    };
+    let connections = vec![in alloc; Vec::from_slice(alloc, coming)?]?;
+    let mut net = MemNet::new(alloc, connections, Never)?.in_pieces(1);
+    net.connect("")?;
+    let mut out = MemSink::new(alloc, Never);
+    let status = run_session(alloc, &mut owner, batches, &mut net, &mut out);
+    Ok(Outcome {
+        status,
+        written: Vec::from_slice(alloc, out.written())?,
+        sent: Vec::from_slice(alloc, net.sent())?,
+        entries: Vec::from_slice(alloc, &owner.entries)?,
+    })
+}
+
+#[test]
+fn commits_two_batches_with_a_new_store(rt: HostRuntime) -> Result<(), Fail> {
+    let coming = b"\0\0\0\x02\x82\0\
+        \0\0\0\x09\x84\0\0\0\0\0\0\0\0\
+        \0\0\0\x02\x83p\0\0\0\x09\x84\0\0\0\0\0\0\0\x01\
+        \0\0\0\x03\x83pp\0\0\0\x09\x84\0\0\0\0\0\0\0\x02";
+    let sent = b"\0\0\0\x01\x02\
+        \0\0\0\x09\x04\0\0\0\0\0\0\0\0\
+        \0\0\0\x09\x03\0\0\0\0\0\0\0\x01\0\0\0\x09\x04\0\0\0\0\0\0\0\x01\
+        \0\0\0\x09\x03\0\0\0\0\0\0\0\x02\0\0\0\x09\x04\0\0\0\0\0\0\0\x02";
+    let outcome = session(&rt, &[0], &[1, 2], coming)?;
+    assert_eq!(rt; outcome.status, 0);
+    assert_eq!(rt;
+        outcome.written.as_slice(),
+        b"version 1\nversion 2\n".as_slice()
+    );
+    assert_eq!(rt; outcome.sent.as_slice(), sent.as_slice());
+    assert_eq!(rt; outcome.entries.as_slice(), [0, 1, 2].as_slice());
+    Ok(())
+}
+
+/// A standing whose record ends with this byte.
+fn standing(rt: &HostRuntime, last: u8) -> Result<Vec<u8>, Fail> {
+    let mut bytes = Vec::from_slice(rt.alloc(), b"\0\0\0\x3e\x82\x01")?;
+    for _ in 0..59 {
+        bytes.push(0)?;
+    }
+    bytes.push(last)?;
+    Ok(bytes)
+}
+
+#[test]
+fn gives_a_store_what_it_lacks(rt: HostRuntime) -> Result<(), Fail> {
+    let mut coming = standing(&rt, 0)?;
+    coming.extend_from_slice(
+        b"\0\0\0\x01\x83\0\0\0\x09\x84\0\0\0\0\0\0\0\x01\
+        \0\0\0\x01\x83\0\0\0\x09\x84\0\0\0\0\0\0\0\x02",
+    )?;
+    let sent = b"\0\0\0\x01\x02\
+        \0\0\0\x09\x03\0\0\0\0\0\0\0\x01\0\0\0\x09\x04\0\0\0\0\0\0\0\x01\
+        \0\0\0\x09\x03\0\0\0\0\0\0\0\x02\0\0\0\x09\x04\0\0\0\0\0\0\0\x02";
+    let outcome = session(&rt, &[0, 1, 2], &[], &coming)?;
+    assert_eq!(rt; outcome.status, 0);
+    assert!(rt; outcome.written.is_empty());
+    assert_eq!(rt; outcome.sent.as_slice(), sent.as_slice());
+    Ok(())
+}
+
+#[test]
+fn refuses_a_store_that_stands_elsewhere(rt: HostRuntime) -> Result<(), Fail> {
+    let outcome = session(&rt, &[0, 1], &[2], &standing(&rt, 2)?)?;
+    assert_eq!(rt; outcome.status, 1);
+    assert_eq!(rt;
+        outcome.written.as_slice(),
+        b"refused: store stands elsewhere\n".as_slice()
+    );
+    assert_eq!(rt; outcome.sent.as_slice(), b"\0\0\0\x01\x02".as_slice());
+    Ok(())
+}
+
+#[test]
+fn ends_at_each_answer_that_it_does_not_want(rt: HostRuntime) -> Result<(), Fail> {
+    let cases = [
+        (
+            b"\0\0\0\x02\x8f\x02".as_slice(),
+            9,
+            b"bad frame 2\n".as_slice(),
+        ),
+        (b"\0\0\0\x02\x82", 9, b"cut 5\n"),
+        (b"\0\0\0\x02\x82\0", 9, b"cut 0\n"),
+        (
+            b"\0\0\0\x02\x82\0\0\0\0\x02\x8f\x06",
+            1,
+            b"refused: store 6\n",
+        ),
+        (
+            b"\0\0\0\x02\x82\0\0\0\0\x09\x84\0\0\0\0\0\0\0\x01",
+            1,
+            b"refused: store stands elsewhere\n",
+        ),
+        (
+            b"\0\0\0\x02\x82\0\0\0\0\x09\x84\0\0\0\0\0\0\0\0\0\0\0\x01\x83",
+            1,
+            b"refused: proof missing 0\n",
+        ),
+    ];
+    for (coming, status, written) in cases {
+        let outcome = session(&rt, &[0], &[1], coming)?;
+        assert_eq!(rt; outcome.status, status);
+        assert_eq!(rt; outcome.written.as_slice(), written);
+    }
+    Ok(())
+}
