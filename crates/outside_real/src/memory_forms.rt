@@ -136,11 +136,7 @@ fn disk_fails_at_its_call(rt: HostRuntime) -> Result<(), Fail> {
 fn disk_leaves_images(rt: HostRuntime) -> Result<(), Fail> {
     let mut disk = MemDisk::new(rt.alloc(), bytes(rt.alloc(), "abc")?, Never)?;
     disk.reserve(5, 3, 3)?;
-    let done = (
-        disk.write_at(1, b"B"),
-        disk.sync(),
-        disk.write_at(3, b"de"),
-    );
+    let done = (disk.write_at(1, b"B"), disk.sync(), disk.write_at(3, b"de"));
     assert_eq!(rt; done, (Ok(()), Ok(()), Ok(())));
     // A moment, what is left with these lost bytes, and whether that is so after the sync too.
     for (moment, image, is_later) in [
@@ -154,7 +150,10 @@ fn disk_leaves_images(rt: HostRuntime) -> Result<(), Fail> {
             disk.has_left(rt.alloc(), moment, &made)?,
             disk.has_left(rt.alloc(), 2, &made)?,
         );
-        assert_eq!(rt; (made.as_slice(), found), (image.as_bytes(), (true, is_later)));
+        assert_eq!(rt;
+            (made.as_slice(), found),
+            (image.as_bytes(), (true, is_later))
+        );
     }
     Ok(())
 }
