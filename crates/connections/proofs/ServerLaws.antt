@@ -1,9 +1,9 @@
 -- Connections that were served, and one more.
-use Rattle.std.proofs.Common.{◌≡◌, ◌≢◌, ℕ, ◌+◌, ◌-◌, ◌<◌, ◌≤◌, ◌^◌, List, [], ◌∷◌, ◌++◌, length, take, drop, Option, Some, None, IfSome, Result, Ok, Err, IsTrue, true, refl, sym, ap, ◌∙◌, subst, inl, inr, arith, append_assoc, append-nil, length-append, add-zero, rules, tests}
+use Rattle.std.proofs.Common.{◌≡◌, ◌≢◌, ℕ, ◌+◌, ◌<◌, ◌≤◌, List, [], ◌∷◌, ◌++◌, length, take, drop, Option, Some, None, IfSome, Result, Ok, Err, IsTrue, refl, sym, ap, ◌∙◌, subst, inl, inr, arith, append_assoc, append-nil, length-append, add-zero, rules, tests}
 use Rattle.std.proofs.lemmas.List.{drop-drop, length-drop}
 use Rattle.std.specs.Prelude.{nat_lt}
 use Rattle.std.specs.List.{AllByRecursion}
-use Rattle.outside.specs.ConnectionModel.{ConnectionModel, open_next, shut, has_next, take_from, send_on, open_known, close_known}
+use Rattle.outside.specs.ConnectionModel.{ConnectionModel, open_next, shut, has_next, open_known, close_known}
 use Rattle.outside.specs.FaultRose.{FaultRose}
 use Rattle.outside.specs.Miss.{CountsMiss}
 use Rattle.outside.specs.Sink.{added}
@@ -15,7 +15,7 @@ use Rattle.link_frames.specs.Reading.{StaysWhereItStands}
 use Rattle.connections.specs.declared.serve_fault.ServeFault.{ServeFault}
 use Rattle.connections.specs.declared.serve_fault.ServeFault.TheVariants as fault
 use Rattle.connections.specs.Lines.{HasLine, end_line, end_lines}
-use Rattle.connections.specs.Serving.{IsServed, AreServed, AreServedKnown, AreWritten, WritesLines, WritesLine, CountsFault, ServesAll, ServesNext}
+use Rattle.connections.specs.Serving.{IsServed, AreServed, AreServedKnown, AreWritten, WritesLine, CountsFault, ServesAll, ServesNext}
 
 -- The connections to come stay while one is served.
 

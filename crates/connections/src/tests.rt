@@ -1,5 +1,5 @@
 //! A server that refuses all requests, and the other side of a connection to one.
-ghost use Rattle.std.specs.Prelude.{[], ◌∷◌, Some, Unit};
+ghost use Rattle.std.specs.Prelude.{[], ◌∷◌, Some};
 ghost use Rattle.link_frames.specs.declared.frame_kind.FrameKind.TheVariants.{Refusal};
 
 use crate::{ServeFault, WireFault, fetch_reply, serve_all};

@@ -1,4 +1,4 @@
-use Rattle.std.proofs.Common.{arith, ap, ◌∙◌}
+use Rattle.std.proofs.Common.{arith}
 use Rattle.connections.proofs.RequestLaws.{came}
 use Rattle.connections.proofs.ServerLaws.{one_served, next_served, next_misses, fault_counted}
 use Rattle.connections.proofs.server.serve_next.Goals as goal
