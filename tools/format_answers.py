@@ -264,8 +264,8 @@ class Calls:
         except EntriesFault as fault:
             return damage_form(fault)
 
-    def images(self, call, after, lost, journal):
-        disk, entries = MemDisk(failing=[number(call) + 1], torn=number(after)), read_entries(journal)
+    def images(self, call, after, lost, first, journal):
+        disk, entries = MemDisk(first, [number(call) + 1], number(after)), read_entries(journal)
         try:
             count = append_rest(disk, Journal.open(disk), entries)
         except JournalFault:

@@ -600,28 +600,34 @@ def replayed_rows(secret, public):
 
 # -- a journal on a disk
 
-def small_journal(count):
-    """The journal of so many small entries, with proofs and signatures that are none."""
-    slots = []
+def small_slots(count):
+    """The slots of so many small entries, with proofs and signatures that are none."""
     for version in range(count):
         record = b"VREC" + ID + bytes(7) + bytes([version]) + bytes([version]) * 32
         entry = b"VOE1" + counted(b"\0\1\2\1t") + counted(b"p" * version) + record + counted(b"s" * (9 - version))
-        slots.append(b"\1" + counted(entry))
-    return b"".join(slots) + b"\0"
+        yield b"\1" + counted(entry)
 
 
 def image_rows():
-    """A disk that holds 1 to 6 entries or fails before: each call in turn, and none, the first of which are those of
-    opening, and then four to an entry, of which the third opens its gate. What a write still writes, and lost bytes that
-    are open gates, closed ones and others."""
     run = random.Random(4)
     for count in range(1, 7):
-        journal = small_journal(count)
-        yield "keep", journal
-        for call in range(4 + 4 * count + 1):
-            for lost in b"\1", bytes(1), run.randbytes(3):
-                after = run.choice([0, 1, run.randrange(90)])
-                yield "images", bytes([call]), bytes([after]), lost * run.choice([0, 20, 200, 400]), journal
+        slots = list(small_slots(count))
+        yield "keep", b"".join(slots) + b"\0"
+        # an empty disk makes four calls to open and four to an entry, of which the third opens its gate
+        yield from failing_rows(run, b"", 4 + 4 * count, slots)
+    # a disk that has the first entries, and behind its closed gate another, or less or more than one, makes three to open
+    for count, behind in (0, slots[0][1:]), (1, b"\1"), (2, slots[2][1:50]), (4, slots[4][1:] + slots[5]):
+        yield from failing_rows(run, b"".join(slots[:count]) + b"\0" + behind, 3 + 4 * (6 - count), slots)
+
+
+def failing_rows(run, first, calls, slots):
+    """Each call fails in turn, and then none: what a write still writes, and lost bytes that are open gates, closed ones
+    and others."""
+    for call in range(calls + 1):
+        for lost in b"\1", bytes(1), run.randbytes(3):
+            after = run.choice([0, 1, run.randrange(90)])
+            lost_bytes = lost * run.choice([0, 20, 200, 400])
+            yield "images", bytes([call]), bytes([after]), lost_bytes, first, b"".join(slots) + b"\0"
 
 
 def rows():

@@ -13,36 +13,41 @@ use std::alloc::Global;
 // A journal takes no more.
 const MOST_ENTRIES: usize = 1 << 32;
 
-/// How many entries of a journal an empty disk took, of which a call with a number fails and still
-/// writes so many bytes; and for each moment how many the image of these lost bytes has. Each image
-/// is opened, and takes the rest of the journal.
+/// A disk that begins with given bytes is to take a journal, but for a call with a number, which
+/// fails and still writes so many bytes: how many entries are known to be there in the end, and for
+/// each moment how many are on the image of these lost bytes. Each image then takes the rest.
 pub fn images(alloc: Global, strings: &[Vec<u8>]) -> Result<String, NoAnswer> {
-    let [call, after, lost, journal] = strings else {
+    let [call, after, lost, first, journal] = strings else {
         return Err(NoAnswer::NoSuchLine);
     };
-    let failing = failing_call(alloc, number_of(call)?, number_of(after)?)?;
+    let disk = failing_disk(alloc, first, number_of(call)?, number_of(after)?)?;
     match read_entries(alloc, journal) {
-        Ok(entries) => images_text(alloc, failing, lost, journal, entries.as_slice()),
+        Ok(entries) => images_text(alloc, disk, lost, journal, entries.as_slice()),
         Err(fault) => damage_text(alloc, fault),
     }
 }
 
-fn failing_call(alloc: Global, call: u64, after: u64) -> Result<FailAt, NoAnswer> {
+fn failing_disk(
+    alloc: Global,
+    first: &[u8],
+    call: u64,
+    after: u64,
+) -> Result<MemDisk<FailAt>, NoAnswer> {
     let after = after as usize;
-    Ok(FailAt::new(vec![in alloc; Failure { call, after }]?))
+    let failing = FailAt::new(vec![in alloc; Failure { call, after }]?);
+    Ok(MemDisk::new(alloc, Vec::from_slice(alloc, first)?, failing)?)
 }
 
 fn images_text(
     alloc: Global,
-    failing: FailAt,
+    mut disk: MemDisk<FailAt>,
     lost: &[u8],
     bytes: &[u8],
     entries: &[Entry],
 ) -> Result<String, NoAnswer>
     requires { AllByRecursion FitsEntry entries.now }
 {
-    let mut disk = MemDisk::new(alloc, Vec::new(alloc), failing)?;
-    let count = appended_count(alloc, &mut disk, entries)?;
+    let count = end_count(alloc, &mut disk, entries)?;
     let mut line = format!(in alloc; "{count}")?;
     for moment in 0..=disk.moment() {
         let image = disk.image(alloc, moment, lost)?;
@@ -52,12 +57,8 @@ fn images_text(
     Ok(line)
 }
 
-/// How many entries were appended before the disk failed.
-fn appended_count<D: Disk>(
-    alloc: Global,
-    disk: &mut D,
-    entries: &[Entry],
-) -> Result<usize, NoAnswer>
+/// How many entries are known to be on a disk, once it took the rest of these or failed.
+fn end_count<D: Disk>(alloc: Global, disk: &mut D, entries: &[Entry]) -> Result<usize, NoAnswer>
     requires { AllByRecursion FitsEntry entries.now }
 {
     match Journal::open(alloc, disk) {

@@ -21,7 +21,8 @@
 //! - Journals: `slots`, `entries` and `journal` read and write again, `seal` seals batches, `owned`
 //!   and `taken` read a journal under a public key, and `answer` is a store's reply to a query.
 //!   `images` puts a journal on a disk of which a call fails, and has what crashes leave there: of
-//!   the call's number, how many bytes it still writes, lost bytes, and the journal.
+//!   the call's number, how many bytes it still writes, lost bytes, what is on the disk before, and
+//!   the journal.
 //! - An owner that holds roots alone: `start` has its first entry, `next` the roots after a
 //! version, a
 //!   catalog, a batch and its proofs, `step` the entry behind a journal of a batch and its proofs,

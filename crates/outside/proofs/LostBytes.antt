@@ -21,7 +21,7 @@ image_with down lost image is = record {
       ∙ byte-unwritten (nat_lt k (length lost)) (is_written k down.ranges) (nat_le (length down.contents) k) (get_or lost k 0) (get_or down.contents k 0) free before;
 }
 
--- what was down with some bytes changed, and the lost ones from its end on as far as the writes reach
+-- what was down with some bytes changed, and behind it the lost ones as far as the writes reach
 abbrev joined : ℕ → ℕ → List ℕ → List ℕ → List ℕ
 joined old end lost front = front ++ take (end - length front) (drop (min old (length lost)) lost)
 
