@@ -92,7 +92,8 @@ pub record SessionIsDone {S B E : Type 0} (forms : Forms B E)
   pub deeds : List (Deed S B E)
   pub are_judgements : AreJudgements IsJudgement deeds
   pub leads : LeadsTo deeds before after
-  pub ending : (session forms before.state before.entries batches (input_of before judgements)).value
+  pub ending :
+      (session forms before.state before.entries batches (input_of before judgements)).value
       ≡ Some Done
   pub done : IsDone
       (session forms before.state before.entries batches (input_of before judgements)).events

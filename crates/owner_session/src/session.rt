@@ -74,7 +74,8 @@ fn do_session<O: Owner, L: Link, S: Sink>(
     requires works { O.Works owner.old }
     ensures known { (before : ConnectionModel) → L.wire link.old ≡ Some before
         → RunsTo O.IsJudgement (λ entry. O.Keeps owner.old → O.KeepsWith owner.new entry)
-        (session_on O.forms (O.state owner.old) (O.entries owner.old) batches.now) (λ _. continuation) result
+        (session_on O.forms (O.state owner.old) (O.entries owner.old) batches.now)
+        (λ _. continuation) result
         (snapshot_of before (S.written out.old) (O.state owner.old) (O.entries owner.old))
         (L.wire link.new) (S.written out.new) (O.state owner.new) (O.entries owner.new) }
     ensures keeps { O.Keeps owner.old → UnlessDisk result (O.Keeps owner.new) }
