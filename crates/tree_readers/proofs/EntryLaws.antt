@@ -20,7 +20,7 @@ use Rattle.tree_readers.proofs.Fields.{bytes_read, few_read, keys_read, tagged_f
 
 -- Cells.
 
-cell_found : (bytes : List ℕ) (c : Cell) (rest : List ℕ) → IsBytes bytes → cell_at bytes ≡ Some (c, rest) → Took bytes (cell_form c) rest × FitsCell c
+pub cell_found : (bytes : List ℕ) (c : Cell) (rest : List ℕ) → IsBytes bytes → cell_at bytes ≡ Some (c, rest) → Took bytes (cell_form c) rest × FitsCell c
 unfolding cell_at
 cell_found [] c rest fits e = absurd cc
 cell_found (byte ∷ bytes) c rest fits e =
@@ -31,7 +31,7 @@ cell_found (byte ∷ bytes) c rest fits e =
     (λ e1. pick P byte 1 (one Shown any_value_at bytes) None y e1 (tagged_found values_read Shown cell_form FitsCell 1 (λ v. refl) (λ v good. good) bytes c rest behind)
     (λ e2. absurd (no_some y e2)))
 
-cell_again : (c : Cell) (rest : List ℕ) → FitsCell c → cell_at (cell_form c ++ rest) ≡ Some (c, rest)
+pub cell_again : (c : Cell) (rest : List ℕ) → FitsCell c → cell_at (cell_form c ++ rest) ≡ Some (c, rest)
 unfolding cell_at
 cell_again (Hidden d) rest fits = tagged_again (bytes_read 32) Hidden d rest fits
 cell_again (Shown v) rest fits = tagged_again values_read Shown v rest fits
@@ -56,7 +56,7 @@ row_found (byte ∷ bytes) r rest fits e =
     (λ e1. pick P byte 1 (one Cells cells_at bytes) None y e1 (tagged_found many_cells Cells row_form FitsRowPart 1 (λ cells. refl) (λ cells good. (good.0, All-from_recursion FitsCell cells good.1)) bytes r rest behind)
     (λ e2. absurd (no_some y e2)))
 
-row_again : (r : RowPart) (rest : List ℕ) → FitsRowPart r → row_at (row_form r ++ rest) ≡ Some (r, rest)
+pub row_again : (r : RowPart) (rest : List ℕ) → FitsRowPart r → row_at (row_form r ++ rest) ≡ Some (r, rest)
 unfolding row_at
 row_again (Closed d) rest fits = tagged_again (bytes_read 32) Closed d rest fits
 row_again (Cells cells) rest fits = tagged_again many_cells Cells cells rest (fits.0, recursion_from_All FitsCell cells fits.1)

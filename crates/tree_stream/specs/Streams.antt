@@ -1,0 +1,8 @@
+-- What comes of a stream and of the bytes to come: those of a token that isn't whole are not taken yet.
+use Rattle.std.specs.Prelude.{ℕ, List, ◌++◌, Option}
+use Rattle.tree_stream.specs.declared.findings.Summary.{Summary}
+use Rattle.tree_stream.specs.declared.stream.TreeStream.{TreeStream}
+use Rattle.tree_stream.specs.Machines.{summary_of_machine}
+
+unfoldable pub summary_of : TreeStream → List ℕ → Option Summary
+summary_of stream bytes = summary_of_machine stream.machine (stream.partial.items ++ bytes)
