@@ -1,5 +1,5 @@
 -- Up to the ancestors of a node that ends, and down to their next children.
-use Rattle.std.proofs.Common.{◌≡◌, ℕ, zero, suc, ◌+◌, ◌-◌, Bool, List, [], ◌∷◌, ◌++◌, length, flat_map, Option, Some, None, refl, sym, ap, ◌∙◌, append_assoc, append-nil, arith}
+use Rattle.std.proofs.Common.{◌≡◌, ℕ, ◌-◌, Bool, List, [], ◌∷◌, ◌++◌, length, flat_map, Option, Some, None, sym, ap, ◌∙◌, append_assoc, append-nil, arith}
 use Rattle.std.specs.Prelude.{reverse}
 use Rattle.std.proofs.lemmas.List.{reverse-append, length-reverse, length-append}
 use Rattle.sha2.specs.Sha256.{sha256}
@@ -14,7 +14,7 @@ use Rattle.tree_stream.specs.Findings.{combine, tree_findings, children_findings
 use Rattle.tree_stream.specs.Remaining.{summary, with_findings, nothing_more, tree_summary, summary_at, children_summary, rest_of_children}
 use Rattle.tree_stream.specs.Summaries.{levels_below, summary_after, summary_with}
 use Rattle.tree_stream.proofs.Binds.{bind_assoc, bind_same}
-use Rattle.tree_stream.proofs.Remainders.{found_with, same_with, summary_behind}
+use Rattle.tree_stream.proofs.Remainders.{found_with, summary_behind}
 
 abbrev End : Type 0
 End = Summary × List ℕ

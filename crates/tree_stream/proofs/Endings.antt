@@ -1,5 +1,5 @@
 -- From each place of a tree there is a way on: some bytes make a whole tree of it.
-use Rattle.std.proofs.Common.{◌≡◌, ℕ, zero, suc, ◌+◌, ◌-◌, ◌≤◌, Bool, List, [], ◌∷◌, ◌++◌, length, Option, Some, None, refl, sym, ap, ◌∙◌, append_assoc, arith, inl, inr}
+use Rattle.std.proofs.Common.{◌≡◌, ℕ, zero, suc, ◌+◌, ◌≤◌, Bool, List, [], ◌∷◌, ◌++◌, length, Option, Some, refl, ap, ◌∙◌, append_assoc, arith, inl, inr}
 use Rattle.std.specs.Prelude.{reverse}
 use Rattle.std.proofs.lemmas.List.{length-reverse}
 use Rattle.sha2.specs.Sha256.{sha256}
@@ -11,8 +11,7 @@ use Rattle.vo_spec.specs.declared.cells.PartEntry.{PartEntry}
 use Rattle.vo_spec.specs.Cells.{cell_digest, cell_digests}
 use Rattle.vo_spec.specs.Pruned.{has_column}
 use Rattle.vo_spec.specs.Parts.{stub}
-use Rattle.vo_spec.specs.Trees.{RowTree}
-use Rattle.vo_spec.specs.TreeBytes.{cell_form, entry_form, tree_bytes}
+use Rattle.vo_spec.specs.TreeBytes.{cell_form, entry_form}
 use Rattle.row_bytes.specs.Fields.{◌>>=◌, times}
 use Rattle.batch_format.specs.BatchReading.{Reader, one}
 use Rattle.tree_readers.specs.TreeReading.{cell_at, entry_at, tree_at}
@@ -23,7 +22,7 @@ use Rattle.tree_stream.specs.declared.findings.CellFindings.{CellFindings}
 use Rattle.tree_stream.specs.declared.findings.Summary.{Summary}
 use Rattle.tree_stream.specs.declared.state.InnerNode.{InnerNode}
 use Rattle.tree_stream.specs.Findings.{combine, combine_cells, columns_at, cell_findings, cells_findings, closed_row_findings, row_head_findings, entry_findings_by}
-use Rattle.tree_stream.specs.Parsing.{IsCellBegun, IsRowBegun}
+use Rattle.tree_stream.specs.Parsing.{BeginsCell, BeginsRow}
 use Rattle.tree_stream.specs.Remaining.{summary, with_findings, leaf_summary, rest_of_leaf, children_summary, rest_of_children, rest_of_row, rest_of_cells}
 use Rattle.tree_stream.specs.Summaries.{levels_below, summary_after, summary_with, CanEnd}
 use Rattle.tree_stream.proofs.LeafLaws.{closed_row_taken, open_row_taken, cell_taken}
@@ -40,14 +39,13 @@ repeated : {A : Type 0} (read : Reader A) (n : ℕ) → CanRead read → CanRead
 repeated {A} read zero can = ([], [], λ rest. refl)
 repeated {A} read (suc n) can =
     let others = repeated read n can in
-    let rest_of : A × List ℕ → Option (List A × List ℕ) = λ first. times read n first.1 >>= λ xs. Some (first.0 ∷ xs.0, xs.1) in
-    (
+    let rest_of : A × List ℕ → Option (List A × List ℕ) = λ first. times read n first.1 >>= λ xs. Some (first.0 ∷ xs.0, xs.1) in (
       can.0 ++ others.0,
       can.1 ∷ others.1,
       λ rest.
-      ap (times read (suc n)) (append_assoc can.0 others.0 rest)
-      ∙ ap (λ (o : Option (A × List ℕ)). o >>= rest_of) (can.2 (others.0 ++ rest))
-      ∙ ap (λ (o : Option (List A × List ℕ)). o >>= λ xs. Some (can.1 ∷ xs.0, xs.1)) (others.2 rest),
+          ap (times read (suc n)) (append_assoc can.0 others.0 rest)
+          ∙ ap (λ (o : Option (A × List ℕ)). o >>= rest_of) (can.2 (others.0 ++ rest))
+          ∙ ap (λ (o : Option (List A × List ℕ)). o >>= λ xs. Some (can.1 ∷ xs.0, xs.1)) (others.2 rest),
     )
 
 mapped : {A B : Type 0} (make : A → B) (read : Reader A) → CanRead read → CanRead (one make read)
@@ -56,14 +54,13 @@ mapped {A} {B} make read can = (can.0, make can.1, λ rest. ap (λ (o : Option (
 -- and then others, by what was read
 then_read : {A B : Type 0} (read : Reader A) (next : A → Reader B) → CanRead read → ((x : A) → CanRead (next x)) → CanRead (λ bytes. read bytes >>= λ x. next x.0 x.1)
 then_read {A} {B} read next can others =
-    let behind = others can.1 in
-    (
+    let behind = others can.1 in (
       can.0 ++ behind.0,
       behind.1,
       λ rest.
-      ap (λ (bytes : List ℕ). read bytes >>= λ x. next x.0 x.1) (append_assoc can.0 behind.0 rest)
-      ∙ ap (λ (o : Option (A × List ℕ)). o >>= λ x. next x.0 x.1) (can.2 (behind.0 ++ rest))
-      ∙ behind.2 rest,
+          ap (λ (bytes : List ℕ). read bytes >>= λ x. next x.0 x.1) (append_assoc can.0 behind.0 rest)
+          ∙ ap (λ (o : Option (A × List ℕ)). o >>= λ x. next x.0 x.1) (can.2 (behind.0 ++ rest))
+          ∙ behind.2 rest,
     )
 
 -- Nodes.
@@ -106,8 +103,7 @@ unfolding summary_after
 after_can need [] d found few = ([], summary d found, refl)
 after_can need (node ∷ ancestors) d found few =
     let can = children_can need (levels_below (node ∷ ancestors)) (node.hasher ++ d) node.child_visits.items (omega (arith, few)) in
-    let above = after_can need ancestors can.1.digest (combine found can.1.findings) (omega (arith, few)) in
-    (
+    let above = after_can need ancestors can.1.digest (combine found can.1.findings) (omega (arith, few)) in (
       can.0 ++ above.0,
       above.1,
       ap (λ (o : Option (Summary × List ℕ)). o >>= λ end. summary_after need ancestors end.0.digest (combine found end.0.findings) end.1) (can.2 above.0) ∙ above.2,
@@ -116,8 +112,7 @@ after_can need (node ∷ ancestors) d found few =
 with_can : (need : Need) (ancestors : List InnerNode) (found : Findings) (read : Reader Summary) → length ancestors ≤ 10 → CanRead read → CanEnd (summary_with need ancestors found read)
 unfolding summary_with
 with_can need ancestors found read few can =
-    let above = after_can need (reverse ancestors) can.1.digest (combine found can.1.findings) (omega (arith, few, length-reverse ancestors)) in
-    (
+    let above = after_can need (reverse ancestors) can.1.digest (combine found can.1.findings) (omega (arith, few, length-reverse ancestors)) in (
       can.0 ++ above.0,
       above.1,
       ap (λ (o : Option (Summary × List ℕ)). o >>= summary_behind need ancestors found) (can.2 above.0) ∙ above.2,
@@ -130,7 +125,7 @@ module _ (need : Need) (ancestors : List InnerNode) (found : Findings) (few : le
   abbrev by_row : List ℕ → Option Summary
   by_row = summary_with need ancestors found (rest_of_row need hashed key left)
 
-  pub row_can : (token : List ℕ) → IsRowBegun token → CanEnd (λ rest. by_row (token ++ rest))
+  pub row_can : (token : List ℕ) → BeginsRow token → CanEnd (λ rest. by_row (token ++ rest))
   unfolding summary_with
   row_can token (inl digest) =
       let f : Findings = entry_findings_by need key (closed_row_findings (columns_at need key)) in
@@ -147,7 +142,7 @@ module _ (need : Need) (ancestors : List InnerNode) (found : Findings) (few : le
       ∙ ap (λ (o : Option (Summary × List ℕ)). o >>= summary_behind need ancestors found) (open_row_taken need hashed key left count.0 rest count.2))
       (with_can need ancestors found read few (cells_can need hashed key left (2 ∷ count.0 ∷ []) 0 f count.0))
 
-  pub cell_can : (row_hashed : List ℕ) (column : ℕ) (f : CellFindings) (cells_left : ℕ) (token : List ℕ) → IsCellBegun token
+  pub cell_can : (row_hashed : List ℕ) (column : ℕ) (f : CellFindings) (cells_left : ℕ) (token : List ℕ) → BeginsCell token
       → CanEnd (λ rest. summary_with need ancestors found (rest_of_cells need hashed key left row_hashed column f (suc cells_left)) (token ++ rest))
   unfolding summary_with
   cell_can row_hashed column f cells_left token cell =

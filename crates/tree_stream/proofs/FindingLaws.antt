@@ -1,6 +1,6 @@
 -- What is found in a tree says whether it is missing something, or has a surplus, as the proof for the need.
-use Rattle.std.proofs.Common.{◌≡◌, ℕ, zero, suc, ◌+◌, ◌<◌, ◌≤◌, Bool, true, false, ◌||◌, ◌&&◌, cond, eqb, leb, List, [], ◌∷◌, ◌++◌, length, Option, Some, None, refl, sym, ap, ◌∙◌, append-nil, arith}
-use Rattle.std.specs.Prelude.{not, filter, flat_map, slice_get, is_none}
+use Rattle.std.proofs.Common.{◌≡◌, ℕ, zero, suc, ◌+◌, ◌<◌, ◌≤◌, Bool, true, false, ◌||◌, cond, eqb, leb, List, [], ◌∷◌, length, Option, Some, None, refl, sym, ap, ◌∙◌, append-nil, arith}
+use Rattle.std.specs.Prelude.{not, flat_map, slice_get, is_none}
 use Rattle.std.specs.List.{list_any}
 use Rattle.std.proofs.lemmas.Bool.{ne_eqb, eq-eqb, le-leb, lt-leb}
 use Rattle.std.proofs.Math.Dec.{leb-suc-suc}
@@ -10,16 +10,13 @@ use Rattle.vo_spec.specs.declared.cells.Cell.TheVariants.{Shown, Hidden}
 use Rattle.vo_spec.specs.declared.cells.RowPart.{RowPart}
 use Rattle.vo_spec.specs.declared.cells.RowPart.TheVariants.{Digest as Closed, Cells}
 use Rattle.vo_spec.specs.declared.cells.PartEntry.{PartEntry}
-use Rattle.vo_spec.specs.Cells.{value_in, shown_value}
+use Rattle.vo_spec.specs.Cells.{shown_value}
 use Rattle.vo_spec.specs.Fits.{FitsEntry, FitsPart, FitsEach}
 use Rattle.vo_spec.specs.Parts.{stub, leaf, inner, none, more, count}
-use Rattle.vo_spec.specs.Pruned.{Walk, is_missing_by, is_missing_in, has_surplus_by, has_surplus_in, at_root, descend, is_any, needed_columns, has_column, hides_any, shows_surplus, row_has_surplus, walk_for, is_missing, has_surplus}
-use Rattle.vo_spec.specs.Scans.{in_interval, is_empty_interval, visits}
+use Rattle.vo_spec.specs.Pruned.{Walk, is_missing_by, is_missing_in, has_surplus_by, has_surplus_in, descend, is_any, needed_columns, has_column, hides_any, shows_surplus, row_has_surplus, walk_for, is_missing, has_surplus}
+use Rattle.vo_spec.specs.Scans.{in_interval, is_empty_interval}
 use Rattle.vo_spec.specs.Trees.{RowTree, RowTrees}
-use Rattle.tree_stream.specs.declared.findings.Findings.{Findings}
-use Rattle.tree_stream.specs.declared.findings.CellFindings.{CellFindings}
 use Rattle.tree_stream.specs.Findings.{columns_at, cells_findings, row_findings, entry_findings, entries_findings, visits_child, child_visits, tree_findings, children_findings}
-use Rattle.tree_stream.proofs.Sums.{or_false}
 
 -- Tests.
 

@@ -1,5 +1,5 @@
 -- The entries of a leaf, one token after another: keys, rows and cells.
-use Rattle.std.proofs.Common.{◌≡◌, ℕ, zero, suc, ◌+◌, ◌≤◌, List, [], ◌∷◌, ◌++◌, length, flat_map, Option, Some, None, refl, sym, ap, ◌∙◌, append_assoc, append-nil, arith}
+use Rattle.std.proofs.Common.{◌≡◌, ℕ, suc, ◌+◌, ◌≤◌, List, [], ◌∷◌, ◌++◌, length, flat_map, Option, Some, None, sym, ap, ◌∙◌, append_assoc, append-nil, arith}
 use Rattle.sha2.specs.Sha256.{sha256}
 use Rattle.vo_spec.specs.declared.needs.Need.{Need}
 use Rattle.vo_spec.specs.declared.cells.Cell.{Cell}
@@ -7,14 +7,13 @@ use Rattle.vo_spec.specs.declared.cells.RowPart.{RowPart}
 use Rattle.vo_spec.specs.declared.cells.RowPart.TheVariants.{Digest as Closed, Cells}
 use Rattle.vo_spec.specs.declared.cells.PartEntry.{PartEntry}
 use Rattle.vo_spec.specs.Bytes.{string}
-use Rattle.vo_spec.specs.Cells.{cell_digest, cell_digests, row_digest, row_bytes, entry_bytes}
+use Rattle.vo_spec.specs.Cells.{cell_digest, cell_digests, row_digest, entry_bytes}
 use Rattle.vo_spec.specs.Fits.{max_cells, FitsCell}
 use Rattle.vo_spec.specs.Tables.{max_key}
 use Rattle.vo_spec.specs.TreeBytes.{cell_form}
 use Rattle.vo_spec.specs.Pruned.{has_column}
-use Rattle.row_bytes.specs.Reading.{bytes_at}
 use Rattle.row_bytes.specs.Fields.{◌>>=◌, times}
-use Rattle.batch_format.specs.BatchReading.{Reader, one, two}
+use Rattle.batch_format.specs.BatchReading.{one}
 use Rattle.tree_readers.specs.TreeReading.{cell_at, cells_at, row_at, key_at, part_entry, entry_at}
 use Rattle.tree_readers.proofs.Fields.{bytes_read, counts_read, keys_read}
 use Rattle.tree_readers.proofs.EntryLaws.{cell_again}
@@ -24,7 +23,7 @@ use Rattle.tree_stream.specs.declared.findings.Summary.{Summary}
 use Rattle.tree_stream.specs.Findings.{combine, combine_cells, columns_at, cell_findings, cells_findings, row_head_findings, closed_row_findings, entry_findings_by, row_findings, entries_findings}
 use Rattle.tree_stream.specs.Remaining.{summary, with_findings, nothing_more, leaf_summary, rest_of_leaf, rest_of_row, rest_of_cells}
 use Rattle.tree_stream.proofs.Sums.{combine_cells_none, combine_cells_assoc}
-use Rattle.tree_stream.proofs.Binds.{bind_assoc, bind_same, bind_at, bind_is, bind_none, times_length}
+use Rattle.tree_stream.proofs.Binds.{bind_assoc, bind_same, bind_at, bind_is, times_length}
 
 abbrev End : Type 0
 End = Summary × List ℕ

@@ -1,5 +1,5 @@
 -- A node that begins with a token: what is left of it then; and the separators of an inner node.
-use Rattle.std.proofs.Common.{◌≡◌, ℕ, zero, suc, ◌+◌, ◌-◌, ◌≤◌, Bool, List, [], ◌∷◌, ◌++◌, length, flat_map, Option, Some, None, refl, sym, ap, ◌∙◌, append_assoc, append-nil, arith}
+use Rattle.std.proofs.Common.{◌≡◌, ℕ, suc, ◌-◌, ◌≤◌, Bool, List, [], ◌∷◌, ◌++◌, length, flat_map, Option, Some, None, refl, sym, ap, ◌∙◌, append_assoc, append-nil, arith}
 use Rattle.sha2.specs.Sha256.{sha256}
 use Rattle.vo_spec.specs.declared.needs.Need.{Need}
 use Rattle.vo_spec.specs.declared.cells.PartEntry.{PartEntry}
@@ -7,9 +7,8 @@ use Rattle.vo_spec.specs.Bytes.{string}
 use Rattle.vo_spec.specs.Cells.{entry_bytes}
 use Rattle.vo_spec.specs.Fits.{max_fill}
 use Rattle.vo_spec.specs.Tables.{max_key}
-use Rattle.vo_spec.specs.Parts.{Parts, stub, leaf, inner, count, child_bytes}
-use Rattle.vo_spec.specs.Trees.{RowTree, RowTrees, digest, open_parts, row_family}
-use Rattle.row_bytes.specs.Reading.{bytes_at}
+use Rattle.vo_spec.specs.Parts.{stub, leaf, count, child_bytes}
+use Rattle.vo_spec.specs.Trees.{RowTree, digest, open_parts, row_family}
 use Rattle.row_bytes.specs.Fields.{◌>>=◌, times}
 use Rattle.batch_format.specs.BatchReading.{Reader, one, two}
 use Rattle.tree_readers.specs.TreeReading.{key_at, entry_at, leaf_at, inner_at, inner_node, node_at, tree_at}
@@ -20,7 +19,7 @@ use Rattle.tree_stream.specs.declared.findings.Summary.{Summary}
 use Rattle.tree_stream.specs.Findings.{combine, entries_findings, stub_findings, open_node_findings, visits_child, child_visits, children_findings}
 use Rattle.tree_stream.specs.Remaining.{summary, with_findings, nothing_more, tree_summary, summary_at, leaf_summary, rest_of_leaf, children_summary, rest_of_children, rest_of_inner}
 use Rattle.tree_stream.proofs.Sums.{combine_none}
-use Rattle.tree_stream.proofs.Binds.{bind_assoc, bind_same, bind_at, bind_is, bind_none, times_length}
+use Rattle.tree_stream.proofs.Binds.{bind_assoc, bind_same, bind_at, bind_is, times_length}
 
 abbrev End : Type 0
 End = Summary × List ℕ

@@ -1,5 +1,5 @@
 -- Findings before those of what is read: none, some before others, and those that stand in the context.
-use Rattle.std.proofs.Common.{◌≡◌, ℕ, List, [], ◌∷◌, ◌++◌, Option, Some, None, refl, sym, ap, ◌∙◌}
+use Rattle.std.proofs.Common.{◌≡◌, ℕ, List, Option, Some, None, sym, ap, ◌∙◌}
 use Rattle.std.specs.Prelude.{reverse}
 use Rattle.vo_spec.specs.declared.needs.Need.{Need}
 use Rattle.row_bytes.specs.Fields.{◌>>=◌}
@@ -7,7 +7,7 @@ use Rattle.batch_format.specs.BatchReading.{Reader}
 use Rattle.tree_stream.specs.declared.findings.Findings.{Findings}
 use Rattle.tree_stream.specs.declared.findings.Summary.{Summary}
 use Rattle.tree_stream.specs.declared.state.InnerNode.{InnerNode}
-use Rattle.tree_stream.specs.Findings.{no_findings, combine}
+use Rattle.tree_stream.specs.Findings.{combine}
 use Rattle.tree_stream.specs.Remaining.{summary, with_findings, nothing_more}
 use Rattle.tree_stream.specs.Summaries.{summary_after, summary_with}
 use Rattle.tree_stream.proofs.Sums.{combine_none, combine_assoc}

@@ -1,8 +1,8 @@
 -- Where nothing is missing and there is no surplus, the rows that are found are those that the scan gives.
-use Rattle.std.proofs.Common.{◌≡◌, ℕ, zero, suc, ◌+◌, ◌-◌, ◌<◌, ◌≤◌, Bool, true, false, ◌||◌, ◌&&◌, cond, eqb, leb, List, [], ◌∷◌, ◌++◌, length, Option, Some, None, refl, sym, ap, subst, ◌∙◌, arith, inl, inr}
+use Rattle.std.proofs.Common.{◌≡◌, ℕ, suc, ◌+◌, ◌-◌, ◌<◌, ◌≤◌, Bool, true, false, ◌||◌, cond, leb, List, [], ◌∷◌, ◌++◌, length, Option, Some, None, refl, sym, ap, subst, ◌∙◌, arith, inl, inr}
 use Rattle.std.specs.Prelude.{not, slice_get}
 use Rattle.std.specs.List.{list_any}
-use Rattle.std.proofs.lemmas.Bool.{cases_Bool, cases_eq, ne_eqb, eq-eqb, le-leb, false≢true}
+use Rattle.std.proofs.lemmas.Bool.{cases_eq, ne_eqb, eq-eqb, le-leb, false≢true}
 use Rattle.vo_spec.specs.declared.values.Value.{Value}
 use Rattle.vo_spec.specs.declared.needs.Need.{Need}
 use Rattle.vo_spec.specs.declared.needs.SeenRow.{SeenRow}
@@ -14,12 +14,12 @@ use Rattle.vo_spec.specs.declared.cells.PartEntry.{PartEntry}
 use Rattle.vo_spec.specs.Cells.{shown_value}
 use Rattle.vo_spec.specs.Fits.{FitsEntry, FitsPart, FitsEach}
 use Rattle.vo_spec.specs.Parts.{stub, leaf, inner, none, more, count}
-use Rattle.vo_spec.specs.Pruned.{has_column, is_any}
+use Rattle.vo_spec.specs.Pruned.{has_column}
 use Rattle.vo_spec.specs.Scans.{in_interval, is_empty_interval, visits, put_before, joined, values_in, with_key, seen_entries, seen_in, seen_in_each, seen}
 use Rattle.vo_spec.specs.Trees.{RowTree, RowTrees}
 use Rattle.tree_stream.specs.declared.findings.Findings.{Findings}
 use Rattle.tree_stream.specs.declared.findings.CellFindings.{CellFindings}
-use Rattle.tree_stream.specs.Findings.{columns_at, combine_cells, cell_findings, cells_findings, row_findings, entry_findings, entry_findings_by, entries_findings, visits_child, child_visits, tree_findings, children_findings, Rises}
+use Rattle.tree_stream.specs.Findings.{combine_cells, cell_findings, cells_findings, row_findings, entry_findings, entries_findings, child_visits, tree_findings, children_findings, Rises}
 
 -- what is found in a cell, and in those behind it
 abbrev and_cells_of : Bool → Cell → CellFindings → CellFindings

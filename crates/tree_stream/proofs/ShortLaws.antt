@@ -1,8 +1,8 @@
 -- Bytes that are less than a token: nothing is read of them.
-use Rattle.std.proofs.Common.{◌≡◌, ℕ, zero, suc, ◌+◌, ◌-◌, ◌<◌, ◌≤◌, Bool, true, false, eqb, leb, ltb, List, [], ◌∷◌, ◌++◌, length, take, drop, Option, Some, None, refl, sym, ap, ◌∙◌, append-nil, arith, inl, inr}
+use Rattle.std.proofs.Common.{◌≡◌, ℕ, zero, suc, ◌+◌, ◌-◌, ◌<◌, ◌≤◌, Bool, eqb, leb, ltb, List, [], ◌∷◌, ◌++◌, length, take, drop, Option, Some, None, refl, sym, ap, ◌∙◌, append-nil, arith, inl, inr}
 use Rattle.std.specs.Prelude.{not}
 use Rattle.std.specs.Result.{result_ok}
-use Rattle.std.proofs.lemmas.Bool.{cases_Bool, lt-ltb, ltb-false, le-leb, leb-true}
+use Rattle.std.proofs.lemmas.Bool.{cases_Bool, lt-ltb, ltb-false}
 use Rattle.std.proofs.lemmas.List.{length-drop}
 use Rattle.vo_spec.specs.declared.needs.Need.{Need}
 use Rattle.vo_spec.specs.Bytes.{u16_of}
@@ -11,7 +11,7 @@ use Rattle.vo_spec.specs.Tables.{max_key}
 use Rattle.vo_spec.specs.Trees.{RowTree}
 use Rattle.vo_spec.specs.Scans.{is_empty_interval}
 use Rattle.row_bytes.specs.Reading.{byte_at, bytes_at, u16_at, value_at, int_at, text_at, bool_at}
-use Rattle.row_bytes.specs.Fields.{◌>>=◌, where_true, string_at, whole}
+use Rattle.row_bytes.specs.Fields.{◌>>=◌, string_at, whole}
 use Rattle.batch_format.specs.BatchReading.{Reader, any_value_at}
 use Rattle.tree_readers.specs.TreeReading.{key_at, cell_at, cells_at, row_at, leaf_at, inner_at, node_at, tree_at}
 use Rattle.tree_stream.specs.declared.findings.Findings.{Findings}

@@ -1,6 +1,6 @@
 -- The sizes of tokens: so many of the bytes have that size themselves, and more bytes make it no smaller.
-use Rattle.std.proofs.Common.{◌≡◌, ℕ, zero, suc, ◌+◌, ◌<◌, ◌≤◌, Bool, true, false, cond, eqb, leb, ltb, List, [], ◌∷◌, ◌++◌, length, take, refl, sym, ap, ◌∙◌, arith, inl, inr}
-use Rattle.std.proofs.lemmas.Bool.{cases_Bool, ltb-true, ltb-false, leb-true}
+use Rattle.std.proofs.Common.{◌≡◌, ℕ, suc, ◌+◌, ◌<◌, ◌≤◌, Bool, true, false, cond, eqb, leb, ltb, List, [], ◌∷◌, ◌++◌, length, take, refl, sym, ap, ◌∙◌, arith, inl, inr}
+use Rattle.std.proofs.lemmas.Bool.{cases_Bool, ltb-false, leb-true}
 use Rattle.std.proofs.lemmas.List.{take-append-le, take-take, length-append, length-take-le}
 use Rattle.vo_spec.specs.Bytes.{u16_of}
 use Rattle.vo_spec.specs.Values.{max_text}

@@ -1,5 +1,5 @@
 -- What comes of each state is what comes of reading the rest of its node.
-use Rattle.std.proofs.Common.{◌≡◌, Bool, ℕ, zero, suc, ◌+◌, ◌≤◌, List, [], ◌∷◌, ◌++◌, length, Option, Some, None, Result, Ok, Err, refl, sym, ap, ◌∙◌, arith}
+use Rattle.std.proofs.Common.{◌≡◌, Bool, ℕ, suc, ◌≤◌, List, [], ◌∷◌, ◌++◌, length, Option, Result, Ok, Err, refl, sym, ap, ◌∙◌, arith}
 use Rattle.std.specs.Prelude.{IfOk}
 use Rattle.std.specs.declared.alloc.AllocError.{AllocError}
 use Rattle.vo_spec.specs.Tables.{max_key}
@@ -10,7 +10,7 @@ use Rattle.tree_stream.specs.declared.state.InnerHead.{InnerHead}
 use Rattle.tree_stream.specs.declared.state.OpenLeaf.{OpenLeaf}
 use Rattle.tree_stream.specs.declared.state.OpenRow.{OpenRow}
 use Rattle.tree_stream.specs.declared.context.Context.{Context}
-use Rattle.tree_stream.specs.Parsing.{IsCellBegun, IsRowBegun}
+use Rattle.tree_stream.specs.Parsing.{BeginsCell, BeginsRow}
 use Rattle.tree_stream.specs.Remaining.{rest_of_node}
 use Rattle.tree_stream.specs.Summaries.{summary_after, summary_with, summary_from, Yields, CanEnd}
 use Rattle.tree_stream.specs.Tokens.{node_size, string_size, row_size, cell_size, token_size}
@@ -65,13 +65,13 @@ unfolding summary_from summary_with rest_of_node
 invalid_step context new state token is =
     yields_invalid new (λ rest. summary_from context state (token ++ rest)) (λ rest. ap (λ (s : State). summary_from context s (token ++ rest)) is)
 
-pub row_way : (context : Context) (state : State) (leaf : OpenLeaf) (token : List ℕ) → state ≡ Row leaf → length context.ancestors.items ≤ 10 → IsRowBegun token → CanEnd (λ rest. summary_from context state (token ++ rest))
+pub row_way : (context : Context) (state : State) (leaf : OpenLeaf) (token : List ℕ) → state ≡ Row leaf → length context.ancestors.items ≤ 10 → BeginsRow token → CanEnd (λ rest. summary_from context state (token ++ rest))
 row_way context state leaf token is few begun =
     can_same (λ rest. summary_from context state (token ++ rest)) _
     (λ rest. ap (λ (s : State). summary_from context s (token ++ rest)) is ∙ (yields_row context leaf).each (token ++ rest))
     (row_can context.need context.ancestors.items context.findings few leaf.hasher context.last_key.items leaf.left token begun)
 
-pub cell_way : (context : Context) (state : State) (row : OpenRow) (token : List ℕ) → state ≡ Cell row → length context.ancestors.items ≤ 10 → IsCellBegun token → CanEnd (λ rest. summary_from context state (token ++ rest))
+pub cell_way : (context : Context) (state : State) (row : OpenRow) (token : List ℕ) → state ≡ Cell row → length context.ancestors.items ≤ 10 → BeginsCell token → CanEnd (λ rest. summary_from context state (token ++ rest))
 cell_way context state row token is few begun =
     can_same (λ rest. summary_from context state (token ++ rest)) _
     (λ rest. ap (λ (s : State). summary_from context s (token ++ rest)) is ∙ (yields_cell context row (suc row.left) refl).each (token ++ rest))

@@ -1,5 +1,5 @@
 -- The steps of the machine: what comes of the new state is what came of the old one with the token in front.
-use Rattle.std.proofs.Common.{◌≡◌, ℕ, zero, suc, ◌+◌, ◌-◌, ◌<◌, ◌≤◌, Bool, List, [], ◌∷◌, ◌++◌, length, get_or, Option, Some, None, Result, Ok, Err, refl, sym, ap, ◌∙◌, arith}
+use Rattle.std.proofs.Common.{◌≡◌, ℕ, suc, ◌+◌, ◌-◌, ◌<◌, ◌≤◌, Bool, List, [], ◌∷◌, ◌++◌, length, get_or, Option, Some, None, Result, Ok, Err, refl, sym, ap, ◌∙◌, arith}
 use Rattle.std.specs.Prelude.{IfOk, reverse, remove}
 use Rattle.std.specs.declared.alloc.AllocError.{AllocError}
 use Rattle.sha2.specs.Sha256.{sha256}
@@ -11,7 +11,6 @@ use Rattle.vo_spec.specs.Fits.{max_cells, max_fill, FitsCell}
 use Rattle.vo_spec.specs.Tables.{max_key}
 use Rattle.vo_spec.specs.TreeBytes.{cell_form}
 use Rattle.vo_spec.specs.Pruned.{has_column}
-use Rattle.tree_readers.specs.TreeReading.{key_at}
 use Rattle.tree_stream.specs.declared.findings.Findings.{Findings}
 use Rattle.tree_stream.specs.declared.findings.CellFindings.{CellFindings}
 use Rattle.tree_stream.specs.declared.findings.Summary.{Summary}
@@ -25,7 +24,7 @@ use Rattle.tree_stream.specs.declared.context.Context.{Context}
 use Rattle.tree_stream.specs.Findings.{combine, combine_cells, columns_at, cell_findings, row_head_findings, closed_row_findings, entry_findings_by, stub_findings, open_node_findings, visits_child}
 use Rattle.tree_stream.specs.Remaining.{with_findings, nothing_more, summary_at, rest_of_leaf, rest_of_children, rest_of_inner, rest_of_row, rest_of_cells, lower_separator, rest_of_node}
 use Rattle.tree_stream.specs.Summaries.{levels_below, summary_after, summary_with, summary_by, summary_from, Yields}
-use Rattle.tree_stream.proofs.Remainders.{found_with, nothing_with, same_with, none_with}
+use Rattle.tree_stream.proofs.Remainders.{found_with, nothing_with, same_with}
 use Rattle.tree_stream.proofs.NodeLaws.{stub_begins, leaf_begins, inner_begins, separator_taken, separators_end}
 use Rattle.tree_stream.proofs.LeafLaws.{leaf_end, key_taken, closed_row_taken, open_row_taken, cells_end, cell_taken}
 use Rattle.tree_stream.proofs.AncestorLaws as ancestor

@@ -1,5 +1,5 @@
 -- Bytes have a summary exactly where they are the encoding of a tree, and then it is the tree's.
-use Rattle.std.proofs.Common.{◌≡◌, ℕ, Bool, List, [], ◌∷◌, ◌++◌, Option, Some, None, refl, sym, ap, ◌∙◌, append-nil}
+use Rattle.std.proofs.Common.{◌≡◌, ℕ, Bool, List, [], ◌∷◌, ◌++◌, Option, Some, None, sym, ap, ◌∙◌, append-nil}
 use Rattle.std.specs.Prelude.{not}
 use Rattle.vo_spec.specs.declared.needs.Need.{Need}
 use Rattle.vo_spec.specs.Bytes.{IsBytes}
@@ -39,8 +39,7 @@ module _ (need : Need) where
       let all = bound (tree_at max_levels bytes) sum (s, []) (whole_is (tree_at max_levels bytes >>= sum) s e) in
       let f = trees_read.found bytes all.0.0 all.0.1 fits all.1 in
       let end : Summary × List ℕ = (tree_summary need visited all.0.0, all.0.1) in
-      let is : end ≡ (s, []) = some_is end (s, []) all.2 in
-      (
+      let is : end ≡ (s, []) = some_is end (s, []) all.2 in (
         all.0.0,
         f.1,
         f.0.parts ∙ ap (λ (q : Summary × List ℕ). tree_bytes all.0.0 ++ q.1) is ∙ append-nil (tree_bytes all.0.0),

@@ -1,9 +1,9 @@
 -- What whole tokens are the encoding of, and which begin nothing.
-use Rattle.std.proofs.Common.{◌≡◌, ℕ, zero, suc, ◌+◌, ◌-◌, ◌<◌, ◌≤◌, ◌^◌, Bool, true, false, cond, eqb, leb, ltb, List, [], ◌∷◌, ◌++◌, length, take, drop, Option, Some, None, Result, Ok, Err, refl, sym, ap, ◌∙◌, append_assoc, append-nil, arith, inl, inr}
+use Rattle.std.proofs.Common.{◌≡◌, ℕ, suc, ◌+◌, ◌-◌, ◌<◌, ◌≤◌, Bool, true, false, cond, eqb, leb, ltb, List, [], ◌∷◌, ◌++◌, length, take, drop, Option, Some, None, Result, Err, refl, sym, ap, ◌∙◌, append_assoc, append-nil, arith, inl, inr}
 use Rattle.std.specs.Int.{w64, cast_signed}
 use Rattle.std.specs.Result.{result_ok}
 use Rattle.std.proofs.lemmas.Bool.{cases_lt, cases_Bool, ltb-false, lt-ltb, le-ltb, leb-true, le-leb, lt-leb, ne_eqb}
-use Rattle.std.proofs.lemmas.List.{take_at, take-append-drop, take-append-le, drop-append-le, length-append, length-take, length-take-le, length-drop}
+use Rattle.std.proofs.lemmas.List.{take_at, take-append-drop, take-append-le, drop-append-le, length-append, length-take-le, length-drop}
 use Rattle.vo_spec.specs.declared.values.Value.{Value}
 use Rattle.vo_spec.specs.declared.values.Value.TheVariants.{Int, Text, Bool as Truth}
 use Rattle.vo_spec.specs.declared.cells.Cell.{Cell}
@@ -11,7 +11,7 @@ use Rattle.vo_spec.specs.declared.cells.Cell.TheVariants.{Shown}
 use Rattle.vo_spec.specs.declared.cells.RowPart.{RowPart}
 use Rattle.vo_spec.specs.declared.cells.RowPart.TheVariants.{Cells}
 use Rattle.vo_spec.specs.Bytes.{IsBytes, u16_bytes, u16_of, u64_of, string}
-use Rattle.vo_spec.specs.Values.{value_bytes, FitsValue, is_text, max_text}
+use Rattle.vo_spec.specs.Values.{value_bytes, FitsValue, max_text}
 use Rattle.vo_spec.specs.Firsts.{unless}
 use Rattle.vo_spec.specs.Tables.{max_key}
 use Rattle.vo_spec.specs.Parts.{leaf}
@@ -27,7 +27,7 @@ use Rattle.batch_format.specs.BatchReading.{Reader, one, two, any_value_at}
 use Rattle.batch_format.proofs.ReaderLaws.{all_true}
 use Rattle.tree_readers.specs.TreeReading.{count_within, key_at, cell_at, cells_at, row_at, entry_at, leaf_at, inner_at, inner_node, node_at}
 use Rattle.tree_stream.specs.Tokens.{string_size, value_size}
-use Rattle.tree_stream.proofs.Binds.{bind_is, bind_none}
+use Rattle.tree_stream.proofs.Binds.{bind_none}
 
 -- Nodes, rows and cells that are none.
 
@@ -88,11 +88,10 @@ pub key_token : (token : List ℕ) → IsBytes token → length token ≡ string
     → (token ≡ string (drop 2 token)) × (length (drop 2 token) ≤ max_key)
 key_token token fits len few =
     let long : 2 ≤ length token = string_long max_key token len in
-    let all : length (drop 2 token) ≡ u16_of (take 2 token) = string_whole max_key token len few in
-    (
+    let all : length (drop 2 token) ≡ u16_of (take 2 token) = string_whole max_key token len few in (
       sym (take-append-drop 2 token)
-      ∙ ap (λ (t : List ℕ). t ++ drop 2 token) (sym (u16_same (take 2 token) (length-take-le 2 token long) (IsBytes-take 2 token fits)))
-      ∙ ap (λ (n : ℕ). u16_bytes n ++ drop 2 token) (sym all),
+          ∙ ap (λ (t : List ℕ). t ++ drop 2 token) (sym (u16_same (take 2 token) (length-take-le 2 token long) (IsBytes-take 2 token fits)))
+          ∙ ap (λ (n : ℕ). u16_bytes n ++ drop 2 token) (sym all),
       omega (arith, all, few),
     )
 

@@ -17,44 +17,44 @@ use Rattle.tree_stream.specs.declared.parse.NodeToken.TheVariants.{Stub, Leaf, I
 use Rattle.tree_stream.specs.declared.parse.RowToken.{RowToken}
 use Rattle.tree_stream.specs.declared.parse.RowToken.TheVariants.{Digest as Closed, Cells, Invalid as NoRow}
 
--- whatever comes behind it
-abbrev pub IsNever : {A : Type 0} → Reader A → List ℕ → Type 0
-IsNever read token = (rest : List ℕ) → read (token ++ rest) ≡ None
+-- nothing is read of these bytes, whatever comes behind them
+abbrev pub NeverReads : {A : Type 0} → Reader A → List ℕ → Type 0
+NeverReads read token = (rest : List ℕ) → read (token ++ rest) ≡ None
 
 abbrev pub IsNodeToken : NodeToken → List ℕ → Type 0
 IsNodeToken (Stub digest) token = (token ≡ 0 ∷ digest) × (length digest ≡ 32)
 IsNodeToken (Leaf count) token = (token ≡ 1 ∷ count ∷ []) × (count ≤ max_fill)
 IsNodeToken (Inner count) token =
     (token ≡ 2 ∷ count ∷ []) × (2 ≤ count) × (count ≤ max_fill)
-IsNodeToken NoNode token = (child : Reader RowTree) → IsNever (node_at child) token
+IsNodeToken NoNode token = (child : Reader RowTree) → NeverReads (node_at child) token
 
 abbrev pub IsRowToken : RowToken → List ℕ → Type 0
 IsRowToken (Closed digest) token = (token ≡ 0 ∷ digest) × (length digest ≡ 32)
 IsRowToken (Cells count) token = (token ≡ 1 ∷ count ∷ []) × (count ≤ max_cells)
-IsRowToken NoRow token = IsNever row_at token
+IsRowToken NoRow token = NeverReads row_at token
 
 abbrev pub IsCount : ℕ → ℕ → Option ℕ → List ℕ → Type 0
 IsCount least most (Some count) bytes = (bytes ≡ count ∷ []) × (least ≤ count) × (count ≤ most)
-IsCount least most None bytes = IsNever (count_within least most) bytes
+IsCount least most None bytes = NeverReads (count_within least most) bytes
 
 abbrev pub IsKeyToken : Option (Bor (List ℕ)) → List ℕ → Type 0
 IsKeyToken (Some key) token = (token ≡ string key.now) × (length key.now ≤ max_key)
-IsKeyToken None token = IsNever key_at token
+IsKeyToken None token = NeverReads key_at token
 
 abbrev pub IsValueToken : Option ValueRef → List ℕ → Type 0
 IsValueToken (Some v) bytes = (bytes ≡ value_bytes (value_of v)) × FitsValue (value_of v)
-IsValueToken None bytes = IsNever any_value_at bytes
+IsValueToken None bytes = NeverReads any_value_at bytes
 
 abbrev pub IsCellToken : Option Cell → List ℕ → Type 0
 IsCellToken (Some cell) token = (token ≡ cell_form cell) × FitsCell cell
-IsCellToken None token = IsNever cell_at token
+IsCellToken None token = NeverReads cell_at token
 
--- a cell is read of it, whatever comes behind it
-abbrev pub IsCellBegun : List ℕ → Type 0
-IsCellBegun token = (cell : Cell) × (token ≡ cell_form cell) × FitsCell cell
+-- a whole cell
+abbrev pub BeginsCell : List ℕ → Type 0
+BeginsCell token = (cell : Cell) × (token ≡ cell_form cell) × FitsCell cell
 
 -- a row's digest, or the count of its cells
-abbrev pub IsRowBegun : List ℕ → Type 0
-IsRowBegun token =
+abbrev pub BeginsRow : List ℕ → Type 0
+BeginsRow token =
     ((digest : List ℕ) × (token ≡ 0 ∷ digest) × (length digest ≡ 32))
     ⊎ ((count : ℕ) × (token ≡ 1 ∷ count ∷ []) × (count ≤ max_cells))

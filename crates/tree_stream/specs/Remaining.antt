@@ -1,6 +1,6 @@
 -- What reading the bytes to come gives of a node that is read in part: its digest, and what is found in the
 -- rest of it.
-use Rattle.std.specs.Prelude.{ℕ, suc, ◌-◌, Bool, true, false, if◌then◌else◌, List, [], ◌∷◌, ◌++◌, length, flat_map, Option, Some, None}
+use Rattle.std.specs.Prelude.{ℕ, suc, ◌-◌, Bool, if◌then◌else◌, List, ◌++◌, length, flat_map, Option, Some, None}
 use Rattle.sha2.specs.Sha256.{sha256}
 use Rattle.vo_spec.specs.declared.needs.Need.{Need}
 use Rattle.vo_spec.specs.declared.cells.PartEntry.{PartEntry}

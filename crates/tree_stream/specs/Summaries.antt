@@ -8,7 +8,7 @@ use Rattle.batch_format.specs.BatchReading.{Reader}
 use Rattle.tree_stream.specs.declared.findings.Findings.{Findings}
 use Rattle.tree_stream.specs.declared.findings.Summary.{Summary}
 use Rattle.tree_stream.specs.declared.state.State.{State}
-use Rattle.tree_stream.specs.declared.state.State.TheVariants.{Node, Separator, Key, Row, Cell, Complete, Invalid}
+use Rattle.tree_stream.specs.declared.state.State.TheVariants.{Complete}
 use Rattle.tree_stream.specs.declared.state.InnerNode.{InnerNode}
 use Rattle.tree_stream.specs.declared.context.Context.{Context}
 use Rattle.tree_stream.specs.Findings.{combine}

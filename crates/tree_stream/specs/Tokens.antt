@@ -1,6 +1,6 @@
 -- Tokens of a tree's bytes, one of which is taken at a time: how many bytes the next one has, as far as the
 -- first bytes of it tell. A length beyond its limit ends its token.
-use Rattle.std.specs.Prelude.{ℕ, suc, ◌+◌, ◌||◌, ◌==◌, nat_lt, nat_le, if◌then◌else◌, List, [], ◌∷◌, length, take}
+use Rattle.std.specs.Prelude.{ℕ, suc, ◌+◌, ◌==◌, nat_lt, nat_le, if◌then◌else◌, List, [], ◌∷◌, length, take}
 use Rattle.vo_spec.specs.Bytes.{u16_of}
 use Rattle.vo_spec.specs.Values.{max_text}
 use Rattle.vo_spec.specs.Tables.{max_key}

@@ -17,9 +17,15 @@ pub(crate) fn next_child(context: &mut Context, node: InnerNode) -> State
     if context.ancestors.is_full() {
         return State::Invalid;
     }
-    let InnerNode { hasher, mut child_visits } = node;
+    let InnerNode {
+        hasher,
+        mut child_visits,
+    } = node;
     let visited = child_visits.remove(0);
-    context.ancestors.push(InnerNode { hasher, child_visits });
+    context.ancestors.push(InnerNode {
+        hasher,
+        child_visits,
+    });
     State::Node(visited)
 }
 
@@ -30,12 +36,23 @@ pub(crate) fn end_node(context: &mut Context, digest: Digest) -> State
 {
     match context.ancestors.pop() {
         None => State::Complete(digest),
-        Some(InnerNode { mut hasher, child_visits }) => {
+        Some(
+            InnerNode {
+                mut hasher,
+                child_visits,
+            },
+        ) => {
             hasher.add(digest.as_bytes());
             if child_visits.is_empty() {
                 end_node(context, hasher.digest())
             } else {
-                next_child(context, InnerNode { hasher, child_visits })
+                next_child(
+                    context,
+                    InnerNode {
+                        hasher,
+                        child_visits,
+                    },
+                )
             }
         },
     }

@@ -3,13 +3,13 @@ ghost use Rattle.std.specs.Prelude.{◌≡◌, ◌++◌, suc, length, IfOk, IsEr
 ghost use Rattle.vo_spec.specs.Cells.{cell_digest};
 ghost use Rattle.vo_spec.specs.Fits.{FitsCell, max_cells};
 ghost use Rattle.vo_spec.specs.TreeBytes.{cell_form};
-ghost use Rattle.tree_stream.specs.Parsing.{IsCellBegun};
+ghost use Rattle.tree_stream.specs.Parsing.{BeginsCell};
 ghost use Rattle.tree_stream.specs.Remaining.{rest_of_cells};
 ghost use Rattle.tree_stream.specs.Summaries.{Yields, summary_by};
 ghost use Rattle.tree_stream.specs.Tokens.{cell_size};
 
+use crate::accumulate::{add_cell, columns_at, has_column};
 use crate::context::Context;
-use crate::finding::{add_cell, columns_at, has_column};
 use crate::leaves::next_cell;
 use crate::parse::parse_cell;
 use crate::state::{OpenRow, State};
@@ -43,7 +43,7 @@ pub(crate) fn take_cell(
     ensures ok { IfOk result (λ state. Yields context.new state (λ rest. summary_by context.old
         (rest_of_cells context.old.need row.leaf.hasher context.old.last_key.items row.leaf.left
         row.hasher row.column row.findings (suc row.left)) (token.now ++ rest))) }
-    ensures good { IsErr result → IsCellBegun token.now }
+    ensures good { IsErr result → BeginsCell token.now }
 {
     match parse_cell(token) {
         None => Ok(State::Invalid),
@@ -64,7 +64,13 @@ fn add_whole_cell(
         (rest_of_cells context.old.need row.leaf.hasher context.old.last_key.items row.leaf.left
         row.hasher row.column row.findings (suc row.left)) (token.now ++ rest))) }
 {
-    let OpenRow { leaf, mut hasher, column, left, mut findings } = row;
+    let OpenRow {
+        leaf,
+        mut hasher,
+        column,
+        left,
+        mut findings,
+    } = row;
     let named = columns_at(&context.need, context.last_key.as_slice());
     let is_named = has_column(named, column);
     hash_cell(&mut hasher, column, cell, token);

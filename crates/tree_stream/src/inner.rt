@@ -24,12 +24,7 @@ fn lower_separator(has_lower: bool, last_key: &[u8]) -> Option<&[u8]>
     if has_lower { Some(last_key) } else { None }
 }
 
-fn visits_child(
-    need: &Need,
-    visited: bool,
-    lower: Option<&[u8]>,
-    upper: Option<&[u8]>,
-) -> bool
+fn visits_child(need: &Need, visited: bool, lower: Option<&[u8]>, upper: Option<&[u8]>) -> bool
     ensures { result ≡ visits_between need.now visited (option_copied lower.entry)
         (option_copied upper.entry) }
 {
@@ -61,7 +56,13 @@ pub(crate) fn next_separator(
     }
     let lower = lower_separator(has_lower, context.last_key.as_slice());
     child_visits.push(visits_child(&context.need, visited, lower, None));
-    next_child(context, InnerNode { hasher, child_visits })
+    next_child(
+        context,
+        InnerNode {
+            hasher,
+            child_visits,
+        },
+    )
 }
 
 pub(crate) fn take_separator(context: &mut Context, head: InnerHead, token: &[u8]) -> State
@@ -75,7 +76,13 @@ pub(crate) fn take_separator(context: &mut Context, head: InnerHead, token: &[u8
     match parse_key(token) {
         None => State::Invalid,
         Some(separator) => {
-            let InnerHead { mut hasher, visited, has_lower, mut child_visits, left } = head;
+            let InnerHead {
+                mut hasher,
+                visited,
+                has_lower,
+                mut child_visits,
+                left,
+            } = head;
             hasher.add(token);
             let lower = lower_separator(has_lower, context.last_key.as_slice());
             child_visits.push(visits_child(&context.need, visited, lower, Some(separator)));

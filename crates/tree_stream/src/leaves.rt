@@ -3,14 +3,14 @@ ghost use Rattle.std.specs.Prelude.{◌≡◌, ◌∷◌, ◌++◌, ◌≤◌, �
 ghost use Rattle.vo_spec.specs.Fits.{max_cells};
 ghost use Rattle.vo_spec.specs.Tables.{max_key};
 ghost use Rattle.tree_stream.specs.Findings.{entry_findings_by};
-ghost use Rattle.tree_stream.specs.Parsing.{IsRowBegun};
+ghost use Rattle.tree_stream.specs.Parsing.{BeginsRow};
 ghost use Rattle.tree_stream.specs.Remaining.{rest_of_cells, rest_of_leaf, rest_of_row, with_findings};
 ghost use Rattle.tree_stream.specs.Summaries.{Yields, summary_by};
 ghost use Rattle.tree_stream.specs.Tokens.{row_size, string_size};
 
+use crate::accumulate::{add_entry, begin_cells, closed_row, columns_at};
 use crate::ancestors::end_node;
 use crate::context::Context;
-use crate::finding::{add_entry, begin_cells, closed_row, columns_at};
 use crate::findings::CellFindings;
 use crate::parse::{RowToken, parse_key, parse_row};
 use crate::state::{OpenLeaf, OpenRow, State};
@@ -119,7 +119,7 @@ pub(crate) fn take_row(
     ensures ok { IfOk result (λ state. Yields context.new state (λ rest. summary_by context.old
         (rest_of_row context.old.need leaf.hasher context.old.last_key.items leaf.left)
         (token.now ++ rest))) }
-    ensures good { IsErr result → IsRowBegun token.now }
+    ensures good { IsErr result → BeginsRow token.now }
 {
     match parse_row(token) {
         RowToken::Digest(digest) => take_closed_row(context, alloc, leaf, digest),

@@ -2,10 +2,10 @@
 //! need finds in it.
 #![tactic(auto)]
 
+mod accumulate;
 mod ancestors;
 mod cells;
 mod context;
-mod finding;
 mod findings;
 mod inner;
 mod laws;
@@ -17,6 +17,8 @@ mod pieces;
 mod state;
 mod stream;
 mod take;
+#[cfg(test)]
+mod tests;
 mod tokens;
 
 pub use findings::{Findings, Summary};

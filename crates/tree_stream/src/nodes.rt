@@ -5,9 +5,9 @@ ghost use Rattle.tree_stream.specs.Remaining.{summary_at};
 ghost use Rattle.tree_stream.specs.Summaries.{Yields, levels_below, summary_by};
 ghost use Rattle.tree_stream.specs.Tokens.{node_size};
 
+use crate::accumulate::{add_open_node, add_stub};
 use crate::ancestors::end_node;
 use crate::context::Context;
-use crate::finding::{add_open_node, add_stub};
 use crate::inner::next_separator;
 use crate::leaves::next_entry;
 use crate::parse::{NodeToken, parse_node};

@@ -55,13 +55,13 @@ pub(crate) fn parse_node(token: &[u8]) -> NodeToken
     ensures { IsNodeToken result token.now }
 {
     match token.split_first() {
-        Some((first, rest)) => node_behind(*first, rest),
+        Some((first, rest)) => parse_node_kind(*first, rest),
         None => unreachable!(),
     }
 }
 
 #[tactic(auto, unfolding(crate::specs::Tokens::node_size))]
-fn node_behind(first: u8, rest: &[u8]) -> NodeToken
+fn parse_node_kind(first: u8, rest: &[u8]) -> NodeToken
     requires { suc (length rest.now) ≡ node_size (first ∷ rest.now) }
     ensures { IsNodeToken result (first ∷ rest.now) }
 {
@@ -69,15 +69,15 @@ fn node_behind(first: u8, rest: &[u8]) -> NodeToken
         return NodeToken::Stub(digest_in(rest));
     }
     if first == 1 {
-        return leaf_behind(rest);
+        return parse_leaf(rest);
     }
     if first == 2 {
-        return inner_behind(rest);
+        return parse_inner(rest);
     }
     NodeToken::Invalid
 }
 
-fn leaf_behind(rest: &[u8]) -> NodeToken
+fn parse_leaf(rest: &[u8]) -> NodeToken
     requires { length rest.now ≡ 1 }
     ensures { IsNodeToken result (1 ∷ rest.now) }
 {
@@ -87,7 +87,7 @@ fn leaf_behind(rest: &[u8]) -> NodeToken
     }
 }
 
-fn inner_behind(rest: &[u8]) -> NodeToken
+fn parse_inner(rest: &[u8]) -> NodeToken
     requires { length rest.now ≡ 1 }
     ensures { IsNodeToken result (2 ∷ rest.now) }
 {
@@ -103,13 +103,13 @@ pub(crate) fn parse_row(token: &[u8]) -> RowToken
     ensures { IsRowToken result token.now }
 {
     match token.split_first() {
-        Some((first, rest)) => row_behind(*first, rest),
+        Some((first, rest)) => parse_row_kind(*first, rest),
         None => unreachable!(),
     }
 }
 
 #[tactic(auto, unfolding(crate::specs::Tokens::row_size))]
-fn row_behind(first: u8, rest: &[u8]) -> RowToken
+fn parse_row_kind(first: u8, rest: &[u8]) -> RowToken
     requires { suc (length rest.now) ≡ row_size (first ∷ rest.now) }
     ensures { IsRowToken result (first ∷ rest.now) }
 {
@@ -117,12 +117,12 @@ fn row_behind(first: u8, rest: &[u8]) -> RowToken
         return RowToken::Digest(digest_in(rest));
     }
     if first == 1 {
-        return cells_behind(rest);
+        return parse_cells(rest);
     }
     RowToken::Invalid
 }
 
-fn cells_behind(rest: &[u8]) -> RowToken
+fn parse_cells(rest: &[u8]) -> RowToken
     requires { length rest.now ≡ 1 }
     ensures { IsRowToken result (1 ∷ rest.now) }
 {
@@ -166,13 +166,13 @@ pub(crate) fn parse_cell(token: &[u8]) -> Option<Cell<'_>>
     ensures { IsCellToken result token.now }
 {
     match token.split_first() {
-        Some((first, rest)) => cell_behind(*first, rest),
+        Some((first, rest)) => parse_cell_kind(*first, rest),
         None => unreachable!(),
     }
 }
 
 #[tactic(auto, unfolding(crate::specs::Tokens::cell_size))]
-fn cell_behind(first: u8, rest: &[u8]) -> Option<Cell<'_>>
+fn parse_cell_kind(first: u8, rest: &[u8]) -> Option<Cell<'_>>
     requires { suc (length rest.now) ≡ cell_size (first ∷ rest.now) }
     ensures { IsCellToken result (first ∷ rest.now) }
 {
@@ -180,12 +180,12 @@ fn cell_behind(first: u8, rest: &[u8]) -> Option<Cell<'_>>
         return Some(Cell::Hidden(digest_in(rest)));
     }
     if first == 1 {
-        return shown_behind(rest);
+        return parse_shown(rest);
     }
     None
 }
 
-fn shown_behind(rest: &[u8]) -> Option<Cell<'_>>
+fn parse_shown(rest: &[u8]) -> Option<Cell<'_>>
     requires { length rest.now ≡ value_size rest.now }
     ensures { IsCellToken result (1 ∷ rest.now) }
 {

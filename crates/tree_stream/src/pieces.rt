@@ -5,8 +5,8 @@ ghost use Rattle.tree_stream.specs.Summaries.{CanEnd};
 ghost use Rattle.tree_stream.specs.Tokens.{token_size as size_of_token};
 
 use crate::machine::Machine;
-use crate::take::take;
 use crate::state::State;
+use crate::take::take;
 use crate::tokens::token_size;
 use arrayvec::ArrayVec;
 use std::alloc::{AllocError, Global};

@@ -3,8 +3,8 @@ ghost use Rattle.std.specs.Prelude.{◌≡◌, ◌<◌, ◌++◌, ℕ, List, [],
 ghost use Rattle.tree_stream.specs.Summaries.{complete_digest as digest_where_complete, summary_of_tree};
 ghost use Rattle.tree_stream.specs.Tokens.{token_size};
 
+use crate::accumulate::empty_findings;
 use crate::context::Context;
-use crate::finding::empty_findings;
 use crate::findings::Summary;
 use crate::machine::Machine;
 use crate::pieces::feed_piece;

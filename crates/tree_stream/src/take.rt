@@ -39,11 +39,7 @@ fn next_state(
 }
 
 /// Takes a whole token. Where memory runs out, the machine takes nothing from then on.
-pub(crate) fn take(
-    machine: &mut Machine,
-    alloc: Global,
-    token: &[u8],
-) -> Result<(), AllocError>
+pub(crate) fn take(machine: &mut Machine, alloc: Global, token: &[u8]) -> Result<(), AllocError>
     requires { length token.now ≡ token_size machine.old.state token.now }
     ensures ok { OnOk result (Takes machine.old machine.new token.now) }
     ensures err { OnErr result (machine.new.state ≡ State.Invalid) }

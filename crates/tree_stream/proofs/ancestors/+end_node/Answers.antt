@@ -7,7 +7,7 @@ use Rattle.tree_stream.proofs.ancestors.+end_node.Goals as goal
 pub returns-in-None : goal.returns-in-None
 returns-in-None t c =
     root_step c.args.context.now _ c.args.digest
-    (elim (cases_lt 0 (length c.args.context.now.ancestors.items)) [ | inl some ↦ absurd (false≢true (c.in-None.ensures.variant.1 some)) | inr none ↦ none ]) refl refl
+    (elim (cases_lt 0 (length c.args.context.now.ancestors.items)) [ inl some ↦ absurd (false≢true (c.in-None.ensures.variant.1 some)) | inr none ↦ none ]) refl refl
 
 pub returns-then-is_empty : goal.returns-then-is_empty
 returns-then-is_empty t c =

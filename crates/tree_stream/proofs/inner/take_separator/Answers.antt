@@ -1,4 +1,4 @@
-use Rattle.std.proofs.Common.{List, ℕ, ◌-◌, ◌++◌, suc, Option, Some, refl, ap, ◌∙◌}
+use Rattle.std.proofs.Common.{List, ℕ, ◌-◌, ◌++◌, suc, Option, Some, ap, ◌∙◌}
 use Rattle.tree_stream.specs.Findings.{visits_child}
 use Rattle.tree_stream.specs.Remaining.{rest_of_inner, lower_separator}
 use Rattle.tree_stream.specs.Summaries.{levels_below}

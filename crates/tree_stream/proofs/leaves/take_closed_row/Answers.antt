@@ -1,4 +1,4 @@
-use Rattle.std.proofs.Common.{List, ℕ, ap, ◌∙◌}
+use Rattle.std.proofs.Common.{ap, ◌∙◌}
 use Rattle.tree_stream.specs.Findings.{closed_row_findings, columns_at}
 use Rattle.tree_stream.proofs.Remainders.{same_with}
 use Rattle.tree_stream.proofs.Steps.{ok_then, closed_step}

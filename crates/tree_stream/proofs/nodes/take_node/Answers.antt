@@ -1,4 +1,4 @@
-use Rattle.std.proofs.Common.{ℕ, ◌-◌, suc, ◌++◌, ap, ◌∙◌, arith}
+use Rattle.std.proofs.Common.{ℕ, ◌-◌, ◌++◌, ap, ◌∙◌, arith}
 use Rattle.tree_stream.specs.Remaining.{summary_at}
 use Rattle.tree_stream.specs.Summaries.{levels_below}
 use Rattle.tree_stream.proofs.NodeLaws.{no_node_begins}

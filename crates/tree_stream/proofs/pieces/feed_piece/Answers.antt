@@ -1,4 +1,4 @@
-use Rattle.std.proofs.Common.{List, ℕ, ◌++◌, length, subst, sym, ap, ◌∙◌, arith}
+use Rattle.std.proofs.Common.{List, ℕ, ◌++◌, subst, sym, ◌∙◌}
 use Rattle.tree_stream.specs.Machines.{Advances}
 use Rattle.tree_stream.proofs.PieceLaws.{empty_short, invalid_advances, ok_advances, way_behind, no_length}
 use Rattle.tree_stream.proofs.pieces.feed_piece.Goals as goal

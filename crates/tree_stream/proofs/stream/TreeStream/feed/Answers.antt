@@ -1,4 +1,4 @@
-use Rattle.std.proofs.Common.{List, ℕ, ◌++◌}
+use Rattle.std.proofs.Common.{◌++◌}
 use Rattle.tree_stream.specs.Machines.{summary_of_machine}
 use Rattle.tree_stream.specs.Streams.{summary_of}
 use Rattle.tree_stream.proofs.PieceLaws.{piece_taken, none_after, dead_is_ok}

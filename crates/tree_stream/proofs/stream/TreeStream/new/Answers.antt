@@ -1,4 +1,4 @@
-use Rattle.std.proofs.Common.{◌≡◌, List, ℕ, Bool, ◌++◌, ap, ◌∙◌}
+use Rattle.std.proofs.Common.{List, ℕ, Bool, ◌++◌, ap, ◌∙◌}
 use Rattle.std.specs.Prelude.{not}
 use Rattle.tree_stream.specs.declared.context.Context.{Context}
 use Rattle.tree_stream.specs.declared.state.State.TheVariants.{Node}

@@ -111,10 +111,15 @@ pub(crate) fn add_entry(
     ensures { OnOk result (findings.new ≡ combine findings.old
         (entry_findings_by need.now key.now found)) }
 {
-    let CellFindings { is_missing, has_surplus, values } = found;
+    let CellFindings {
+        is_missing,
+        has_surplus,
+        values,
+    } = found;
     findings.is_missing = findings.is_missing || is_missing;
     findings.has_surplus = findings.has_surplus || has_surplus;
-    if in_interval(&need.interval, key) {
+    let is_seen = in_interval(&need.interval, key);
+    if is_seen {
         let key = Key::from_vec(Vec::from_slice(alloc, key)?);
         findings.rows.push(SeenRow { key, values })?;
     }
