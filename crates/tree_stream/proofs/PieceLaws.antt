@@ -9,9 +9,9 @@ use Rattle.tree_stream.specs.declared.findings.Summary.{Summary}
 use Rattle.tree_stream.specs.declared.machine.Machine.{Machine}
 use Rattle.tree_stream.specs.declared.state.State.{State}
 use Rattle.tree_stream.specs.declared.state.State.TheVariants.{Invalid}
-use Rattle.tree_stream.specs.Machines.{summary_of_machine, Takes, Advances, EndsWith}
+use Rattle.tree_stream.specs.Machines.{summary_of_machine, Takes, Advances, EndsWith, StopsInRow}
 use Rattle.tree_stream.specs.Remaining.{rest_of_node}
-use Rattle.tree_stream.specs.Summaries.{summary_with, summary_from, CanEnd}
+use Rattle.tree_stream.specs.Summaries.{summary_with, summary_from, CanEnd, IsInNeededRow}
 use Rattle.tree_stream.specs.Tokens.{token_size}
 use Rattle.tree_stream.proofs.Sizes.{token_is, token_positive}
 
@@ -153,3 +153,29 @@ dead_is_ok (Err e) f way none = absurd (no_way f (way refl) none)
 pub no_length : (xs : List ℕ) → eqb (length xs) 0 ≡ true → xs ≡ []
 no_length [] is = refl
 no_length (x ∷ xs) is = absurd (omega (arith, eqb-true (length (x ∷ xs)) 0 is))
+
+-- Where memory runs out.
+
+pub stops_here : (first old : Machine) (bytes left : List ℕ) → Advances first old bytes left → IsInNeededRow old.context old.state → 0 < length left → StopsInRow first bytes
+stops_here first old bytes left a inside some = record { reached = old; left = left; advances = a; inside = inside; some = some }
+
+pub stops_later : (first old : Machine) (bytes partial left : List ℕ) → partial ≡ [] → Advances first old bytes (partial ++ left) → StopsInRow old left → StopsInRow first bytes
+stops_later first old bytes partial left none a stops =
+    let all : Advances first old bytes left = record { taken = a.taken; parts = a.parts ∙ ap (λ (p : List ℕ). a.taken ++ (p ++ left)) none; each = a.each } in
+    record {
+      reached = stops.reached;
+      left = stops.left;
+      advances = and_then first old stops.reached bytes left stops.left all stops.advances;
+      inside = stops.inside;
+      some = stops.some;
+    }
+
+pub stops_some : (old : Machine) (bytes : List ℕ) → StopsInRow old bytes → 0 < length bytes
+stops_some old bytes stops = omega (arith, stops.some, ap (λ (t : List ℕ). length t) stops.advances.parts, length-append stops.advances.taken stops.left)
+
+pub ends_some : (piece left : List ℕ) → EndsWith piece left → 0 < length left → 0 < length piece
+ends_some piece left ends some = omega (arith, some, ap (λ (t : List ℕ). length t) ends.1, length-append ends.0 left)
+
+-- bytes that grew by a front of a piece
+pub grew_some : (front left piece : List ℕ) → piece ≡ front ++ left → 0 < length front → 0 < length piece
+grew_some front left piece is some = omega (arith, some, ap (λ (t : List ℕ). length t) is, length-append front left)

@@ -1,14 +1,14 @@
 -- The summary that comes of a tree read in part, if these bytes come next and then nothing.
-use Rattle.std.specs.Prelude.{◌≡◌, ℕ, ◌-◌, not, List, [], ◌∷◌, ◌++◌, length, reverse, Option, Some, None}
+use Rattle.std.specs.Prelude.{◌≡◌, ℕ, Bool, IsTrue, ◌-◌, not, List, [], ◌∷◌, ◌++◌, length, reverse, Option, Some, None}
 use Rattle.vo_spec.specs.declared.needs.Need.{Need}
-use Rattle.vo_spec.specs.Scans.{is_empty_interval}
+use Rattle.vo_spec.specs.Scans.{in_interval, is_empty_interval}
 use Rattle.vo_spec.specs.Fits.{max_levels}
 use Rattle.row_bytes.specs.Fields.{◌>>=◌, whole}
 use Rattle.batch_format.specs.BatchReading.{Reader}
 use Rattle.tree_stream.specs.declared.findings.Findings.{Findings}
 use Rattle.tree_stream.specs.declared.findings.Summary.{Summary}
 use Rattle.tree_stream.specs.declared.state.State.{State}
-use Rattle.tree_stream.specs.declared.state.State.TheVariants.{Complete}
+use Rattle.tree_stream.specs.declared.state.State.TheVariants.{Row, Cell, Complete}
 use Rattle.tree_stream.specs.declared.state.InnerNode.{InnerNode}
 use Rattle.tree_stream.specs.declared.context.Context.{Context}
 use Rattle.tree_stream.specs.Findings.{combine}
@@ -65,3 +65,12 @@ pub record Yields (context : Context) (state : State) (summaries : List ℕ → 
 -- some bytes make a tree of it
 abbrev pub CanEnd : (List ℕ → Option Summary) → Type 0
 CanEnd summaries = (bytes : List ℕ) × (end : Summary) × (summaries bytes ≡ Some end)
+
+-- The next byte is of an entry behind its key, which is in the need's interval: there a call may want memory.
+abbrev pub is_needed_row : Context → Bool
+is_needed_row context = in_interval context.need.interval context.last_key.items
+
+abbrev pub IsInNeededRow : Context → State → Type 0
+IsInNeededRow context (Row leaf) = IsTrue (is_needed_row context)
+IsInNeededRow context (Cell row) = IsTrue (is_needed_row context)
+IsInNeededRow context _ = ⊥

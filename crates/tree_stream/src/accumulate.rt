@@ -1,7 +1,8 @@
 //! Adding up what is found, part by part.
-ghost use Rattle.std.specs.Prelude.{◌≡◌, nat_le, OnOk};
+ghost use Rattle.std.specs.Prelude.{◌≡◌, nat_le, IsTrue, IsErr, OnOk};
 ghost use Rattle.std.specs.List.{list_any};
 ghost use Rattle.vo_spec.specs.Pruned.{has_column as is_among};
+ghost use Rattle.vo_spec.specs.Scans.{in_interval as has_key};
 ghost use Rattle.tree_stream.specs.Findings.{cell_findings, closed_row_findings, columns_at as columns_of, combine, combine_cells, entry_findings_by, no_findings, open_node_findings, row_head_findings, stub_findings};
 
 use crate::findings::{CellFindings, Findings};
@@ -84,8 +85,9 @@ pub(crate) fn add_cell(
     is_named: bool,
     cell: &Cell<'_>,
 ) -> Result<(), AllocError>
-    ensures { OnOk result (findings.new ≡ combine_cells findings.old
+    ensures sum { OnOk result (findings.new ≡ combine_cells findings.old
         (cell_findings is_named cell.now)) }
+    ensures memory { IsErr result → IsTrue is_named }
 {
     match cell {
         Cell::Hidden(_) => findings.is_missing = findings.is_missing || is_named,
@@ -108,8 +110,9 @@ pub(crate) fn add_entry(
     key: &[u8],
     found: CellFindings,
 ) -> Result<(), AllocError>
-    ensures { OnOk result (findings.new ≡ combine findings.old
+    ensures sum { OnOk result (findings.new ≡ combine findings.old
         (entry_findings_by need.now key.now found)) }
+    ensures memory { IsErr result → IsTrue (has_key need.now.interval key.now) }
 {
     let CellFindings {
         is_missing,

@@ -1,11 +1,11 @@
 //! The cells of a row that stands as cells.
-ghost use Rattle.std.specs.Prelude.{◌≡◌, ◌++◌, suc, length, IfOk, IsErr};
+ghost use Rattle.std.specs.Prelude.{◌≡◌, ◌++◌, suc, length, IsTrue, IfOk, IsErr};
 ghost use Rattle.vo_spec.specs.Cells.{cell_digest};
 ghost use Rattle.vo_spec.specs.Fits.{FitsCell, max_cells};
 ghost use Rattle.vo_spec.specs.TreeBytes.{cell_form};
 ghost use Rattle.tree_stream.specs.Parsing.{BeginsCell};
 ghost use Rattle.tree_stream.specs.Remaining.{rest_of_cells};
-ghost use Rattle.tree_stream.specs.Summaries.{Yields, summary_by};
+ghost use Rattle.tree_stream.specs.Summaries.{Yields, is_needed_row, summary_by};
 ghost use Rattle.tree_stream.specs.Tokens.{cell_size};
 
 use crate::accumulate::{add_cell, columns_at, has_column};
@@ -44,6 +44,7 @@ pub(crate) fn take_cell(
         (rest_of_cells context.old.need row.leaf.hasher context.old.last_key.items row.leaf.left
         row.hasher row.column row.findings (suc row.left)) (token.now ++ rest))) }
     ensures good { IsErr result → BeginsCell token.now }
+    ensures memory { IsErr result → IsTrue (is_needed_row context.old) }
 {
     match parse_cell(token) {
         None => Ok(State::Invalid),
@@ -60,9 +61,10 @@ fn add_whole_cell(
 ) -> Result<State, AllocError>
     requires encoded { token.now ≡ cell_form cell.now }
     requires fits { FitsCell cell.now }
-    ensures { IfOk result (λ state. Yields context.new state (λ rest. summary_by context.old
+    ensures ok { IfOk result (λ state. Yields context.new state (λ rest. summary_by context.old
         (rest_of_cells context.old.need row.leaf.hasher context.old.last_key.items row.leaf.left
         row.hasher row.column row.findings (suc row.left)) (token.now ++ rest))) }
+    ensures memory { IsErr result → IsTrue (is_needed_row context.old) }
 {
     let OpenRow {
         leaf,

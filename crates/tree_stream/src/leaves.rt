@@ -1,11 +1,11 @@
 //! The entries of a leaf: their keys and rows.
-ghost use Rattle.std.specs.Prelude.{◌≡◌, ◌∷◌, ◌++◌, ◌≤◌, ◌+◌, suc, length, IfOk, IsErr};
+ghost use Rattle.std.specs.Prelude.{◌≡◌, ◌∷◌, ◌++◌, ◌≤◌, ◌+◌, suc, length, IsTrue, IfOk, IsErr};
 ghost use Rattle.vo_spec.specs.Fits.{max_cells};
 ghost use Rattle.vo_spec.specs.Tables.{max_key};
 ghost use Rattle.tree_stream.specs.Findings.{entry_findings_by};
 ghost use Rattle.tree_stream.specs.Parsing.{BeginsRow};
 ghost use Rattle.tree_stream.specs.Remaining.{rest_of_cells, rest_of_leaf, rest_of_row, with_findings};
-ghost use Rattle.tree_stream.specs.Summaries.{Yields, summary_by};
+ghost use Rattle.tree_stream.specs.Summaries.{Yields, is_needed_row, summary_by};
 ghost use Rattle.tree_stream.specs.Tokens.{row_size, string_size};
 
 use crate::accumulate::{add_entry, begin_cells, closed_row, columns_at};
@@ -66,9 +66,10 @@ pub(crate) fn end_row(
     digest: Digest,
     found: CellFindings,
 ) -> Result<State, AllocError>
-    ensures { IfOk result (λ state. Yields context.new state (summary_by context.old
+    ensures ok { IfOk result (λ state. Yields context.new state (summary_by context.old
         (with_findings (entry_findings_by context.old.need context.old.last_key.items found)
         (rest_of_leaf context.old.need (leaf.hasher ++ digest) leaf.left)))) }
+    ensures memory { IsErr result → IsTrue (is_needed_row context.old) }
 {
     let OpenLeaf { mut hasher, left } = leaf;
     add_entry(
@@ -93,9 +94,10 @@ pub(crate) fn next_cell(
     left: u8,
 ) -> Result<State, AllocError>
     requires { column + left ≤ max_cells }
-    ensures { IfOk result (λ state. Yields context.new state (summary_by context.old
+    ensures ok { IfOk result (λ state. Yields context.new state (summary_by context.old
         (rest_of_cells context.old.need leaf.hasher context.old.last_key.items leaf.left hasher
         column found left))) }
+    ensures memory { IsErr result → IsTrue (is_needed_row context.old) }
 {
     if left == 0 {
         return end_row(context, alloc, leaf, hasher.digest(), found);
@@ -120,6 +122,7 @@ pub(crate) fn take_row(
         (rest_of_row context.old.need leaf.hasher context.old.last_key.items leaf.left)
         (token.now ++ rest))) }
     ensures good { IsErr result → BeginsRow token.now }
+    ensures memory { IsErr result → IsTrue (is_needed_row context.old) }
 {
     match parse_row(token) {
         RowToken::Digest(digest) => take_closed_row(context, alloc, leaf, digest),
@@ -134,9 +137,10 @@ fn take_closed_row(
     leaf: OpenLeaf,
     digest: Digest,
 ) -> Result<State, AllocError>
-    ensures { IfOk result (λ state. Yields context.new state (λ rest. summary_by context.old
+    ensures ok { IfOk result (λ state. Yields context.new state (λ rest. summary_by context.old
         (rest_of_row context.old.need leaf.hasher context.old.last_key.items leaf.left)
         (0 ∷ digest ++ rest))) }
+    ensures memory { IsErr result → IsTrue (is_needed_row context.old) }
 {
     let _length = digest.as_bytes();
     let named = columns_at(&context.need, context.last_key.as_slice());
@@ -151,9 +155,10 @@ fn take_open_row(
     count: u8,
 ) -> Result<State, AllocError>
     requires { count ≤ max_cells }
-    ensures { IfOk result (λ state. Yields context.new state (λ rest. summary_by context.old
+    ensures ok { IfOk result (λ state. Yields context.new state (λ rest. summary_by context.old
         (rest_of_row context.old.need leaf.hasher context.old.last_key.items leaf.left)
         (1 ∷ count ∷ rest))) }
+    ensures memory { IsErr result → IsTrue (is_needed_row context.old) }
 {
     let named = columns_at(&context.need, context.last_key.as_slice());
     let found = begin_cells(alloc, named, count);

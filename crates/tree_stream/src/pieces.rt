@@ -1,6 +1,6 @@
 //! Pieces of any sizes, of which whole tokens are taken; a token that isn't whole is kept.
 ghost use Rattle.std.specs.Prelude.{◌≡◌, ◌⊎◌, ◌↔◌, ◌<◌, ◌≤◌, [], ◌++◌, length, IsTrue, IfOk, IsErr, OnOk, OnErr};
-ghost use Rattle.tree_stream.specs.Machines.{Advances, EndsWith, summary_of_machine};
+ghost use Rattle.tree_stream.specs.Machines.{Advances, EndsWith, StopsInRow, summary_of_machine};
 ghost use Rattle.tree_stream.specs.Summaries.{CanEnd};
 ghost use Rattle.tree_stream.specs.Tokens.{token_size as size_of_token};
 
@@ -21,6 +21,7 @@ fn take_all<'b>(
     ensures short { IfOk result (λ left. length left.now < size_of_token machine.new.state left.now) }
     ensures err { OnErr result (machine.new.state ≡ State.Invalid) }
     ensures way { IsErr result → CanEnd (summary_of_machine machine.old) }
+    ensures memory { IsErr result → StopsInRow machine.old bytes.now }
 {
     let mut left = bytes;
     let mut size = token_size(&machine.state, left);
@@ -51,6 +52,8 @@ fn fill<'b>(
     ensures err { OnErr result (machine.new.state ≡ State.Invalid) }
     ensures way { IsErr result → CanEnd (λ rest. summary_of_machine machine.old
         (partial.old.items ++ rest)) }
+    ensures memory { IsErr result → StopsInRow machine.old (partial.old.items ++ piece.now) }
+    ensures some { IsErr result → 0 < length piece.now }
 {
     let lacking = token_size(&machine.state, partial.as_slice()) - partial.len();
     let (front, left) = split_within(piece, lacking);
@@ -105,6 +108,7 @@ fn feed_whole(
     ensures short { length partial.new.items < size_of_token machine.new.state partial.new.items }
     ensures err { OnErr result (machine.new.state ≡ State.Invalid) }
     ensures way { IsErr result → CanEnd (summary_of_machine machine.old) }
+    ensures memory { IsErr result → StopsInRow machine.old bytes.now }
 {
     let left = take_all(machine, alloc, bytes)?;
     if !is_invalid(&machine.state) {
@@ -127,6 +131,8 @@ pub(crate) fn feed_piece(
     ensures err { OnErr result (machine.new.state ≡ State.Invalid) }
     ensures way { IsErr result → CanEnd (λ rest. summary_of_machine machine.old
         (partial.old.items ++ rest)) }
+    ensures memory { IsErr result → StopsInRow machine.old (partial.old.items ++ piece.now) }
+    ensures some { IsErr result → 0 < length piece.now }
 {
     if is_invalid(&machine.state) {
         partial.clear();

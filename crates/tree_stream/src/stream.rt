@@ -1,5 +1,5 @@
 //! A tree whose bytes come in pieces.
-ghost use Rattle.std.specs.Prelude.{◌≡◌, ◌<◌, ◌++◌, ℕ, List, [], None, length, IsOk, OnOk, OnErr};
+ghost use Rattle.std.specs.Prelude.{◌≡◌, ◌<◌, ◌++◌, ℕ, List, [], None, length, IsErr, IsOk, OnOk, OnErr};
 ghost use Rattle.tree_stream.specs.Summaries.{complete_digest as digest_where_complete, summary_of_tree};
 ghost use Rattle.tree_stream.specs.Tokens.{token_size};
 
@@ -23,7 +23,7 @@ pub struct TreeStream {
 }
 
 impl TreeStream {
-    ghost use Rattle.tree_stream.specs.Streams.{summary_of};
+    ghost use Rattle.tree_stream.specs.Streams.{WantsMemory, summary_of};
 
     /// A reader that was given no bytes, of a tree that is read for a need.
     pub fn new(alloc: Global, need: Need) -> TreeStream
@@ -55,6 +55,9 @@ impl TreeStream {
 
         // Memory runs out only while the bytes so far can still become a tree.
         ensures dead { ((more : List ℕ) → summary_of self.old more ≡ None) → IsOk result }
+
+        // It runs out only at a byte of the piece that is of a row whose key is in the interval.
+        ensures memory { IsErr result → WantsMemory self.old piece.now }
     {
         feed_piece(&mut self.machine, &mut self.partial, alloc, piece)
     }

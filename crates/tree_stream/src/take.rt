@@ -1,7 +1,7 @@
 //! The machine takes one token after another.
 ghost use Rattle.std.specs.Prelude.{◌≡◌, ◌++◌, length, IfOk, IsErr, OnOk, OnErr};
 ghost use Rattle.tree_stream.specs.Machines.{Takes, summary_of_machine};
-ghost use Rattle.tree_stream.specs.Summaries.{CanEnd, Yields, summary_from};
+ghost use Rattle.tree_stream.specs.Summaries.{CanEnd, IsInNeededRow, Yields, summary_from};
 ghost use Rattle.tree_stream.specs.Tokens.{token_size};
 
 use crate::cells::take_cell;
@@ -25,6 +25,7 @@ fn next_state(
         (λ rest. summary_from context.old state (token.now ++ rest))) }
     ensures way { IsErr result → CanEnd (λ rest. summary_from context.old state
         (token.now ++ rest)) }
+    ensures memory { IsErr result → IsInNeededRow context.old state }
 {
     let _room = context.ancestors.len();
     match state {
@@ -45,6 +46,7 @@ pub(crate) fn take(machine: &mut Machine, alloc: Global, token: &[u8]) -> Result
     ensures err { OnErr result (machine.new.state ≡ State.Invalid) }
     ensures way { IsErr result → CanEnd (λ rest. summary_of_machine machine.old
         (token.now ++ rest)) }
+    ensures memory { IsErr result → IsInNeededRow machine.old.context machine.old.state }
 {
     let state = mem::replace(&mut machine.state, State::Invalid);
     machine.state = next_state(&mut machine.context, alloc, state, token)?;

@@ -1,6 +1,6 @@
 use Rattle.std.proofs.Common.{List, ℕ, ◌++◌, subst, sym, ◌∙◌}
 use Rattle.tree_stream.specs.Machines.{Advances}
-use Rattle.tree_stream.proofs.PieceLaws.{empty_short, invalid_advances, ok_advances, way_behind, no_length}
+use Rattle.tree_stream.proofs.PieceLaws.{empty_short, invalid_advances, ok_advances, way_behind, stops_later, no_length}
 use Rattle.tree_stream.proofs.pieces.feed_piece.Goals as goal
 
 pub returns-then-is_invalid-clause-ok : goal.returns-then-is_invalid-clause-ok
@@ -20,3 +20,8 @@ pub returns-then-is_empty-2-clause-way : goal.returns-then-is_empty-2-clause-way
 returns-then-is_empty-2-clause-way c = λ err.
     way_behind c.args.machine.now c.fill.new.machine c.args.partial.now.items c.args.piece.now c.fill.new.partial.items c.in_ok-left.left.now
     (no_length c.fill.new.partial.items (sym c.is_empty-2.ensures ∙ c.if-is_empty-2.true)) c.in_ok-left.ensures.ok c.in_ok-left.ensures.behind (c.feed_whole-then-is_empty-2.ensures.way err)
+
+pub returns-then-is_empty-2-clause-memory : goal.returns-then-is_empty-2-clause-memory
+returns-then-is_empty-2-clause-memory c = λ err.
+    stops_later c.args.machine.now c.fill.new.machine (c.args.partial.now.items ++ c.args.piece.now) c.fill.new.partial.items c.in_ok-left.left.now
+    (no_length c.fill.new.partial.items (sym c.is_empty-2.ensures ∙ c.if-is_empty-2.true)) c.in_ok-left.ensures.ok (c.feed_whole-then-is_empty-2.ensures.memory err)
