@@ -6,7 +6,7 @@ use Rattle.std.proofs.lemmas.List.{take_at, drop_at, take-append-drop, length-ap
 use Rattle.vo_spec.specs.Bytes.{IsBytes, u16_bytes, string}
 use Rattle.vo_spec.specs.Fits.{FitsKey}
 use Rattle.vo_spec.specs.Tables.{max_key}
-use Rattle.vo_spec.specs.Batches.{counted}
+use Rattle.vo_spec.specs.Batches.{list_bytes}
 use Rattle.row_bytes.specs.Reading.{byte_at, bytes_at, u16_at}
 use Rattle.row_bytes.specs.Fields.{◌>>=◌, where_true, string_at, times}
 use Rattle.row_bytes.proofs.Readers.{IsBytes-rest, IsBytes-drop, chosen}
@@ -108,19 +108,19 @@ module _ {A : Type 0} (read : Reader A) (encoding : A → List ℕ) (Fits : A �
   abbrev pub AreFew : List A → Type 0
   AreFew xs = (length xs ≤ most) × AllByRecursion Fits xs
 
-  few_found : (bytes : List ℕ) (xs : List A) (rest : List ℕ) → IsBytes bytes → few_at bytes ≡ Some (xs, rest) → Took bytes (counted encoding xs) rest × AreFew xs
+  few_found : (bytes : List ℕ) (xs : List A) (rest : List ℕ) → IsBytes bytes → few_at bytes ≡ Some (xs, rest) → Took bytes (list_bytes encoding xs) rest × AreFew xs
   few_found bytes xs rest fits e =
       let a = next_found (counts_read 0 most) (λ count. times read count) bytes (xs, rest) fits e in
       let f = times_found read encoding Fits law a.0 a.1 xs rest a.2.behind a.4 in
       let all : Took bytes (a.0 ∷ flat_map encoding xs) rest = took_then bytes (one_byte a.0) a.1 (flat_map encoding xs) rest a.2 f.0 in
       (subst (λ (k : ℕ). Took bytes (k ∷ flat_map encoding xs) rest) (sym f.1) all, (subst (λ (k : ℕ). k ≤ most) (sym f.1) a.3.1, f.2))
 
-  few_again : (xs : List A) (rest : List ℕ) → AreFew xs → few_at (counted encoding xs ++ rest) ≡ Some (xs, rest)
+  few_again : (xs : List A) (rest : List ℕ) → AreFew xs → few_at (list_bytes encoding xs ++ rest) ≡ Some (xs, rest)
   few_again xs rest fits =
       next_again (counts_read 0 most) (λ count. times read count) (length xs) (flat_map encoding xs ++ rest) (omega arith, fits.0)
       ∙ times_again read encoding Fits law xs rest fits.1
 
-  pub few_read : IsReader few_at (counted encoding) AreFew
+  pub few_read : IsReader few_at (list_bytes encoding) AreFew
   few_read = record { found = few_found; again = few_again }
 
 -- Things behind a byte that says what they are.

@@ -9,7 +9,7 @@ use Rattle.vo_spec.specs.declared.cells.Cell.TheVariants.{Hidden}
 use Rattle.vo_spec.specs.declared.cells.RowPart.TheVariants.{Digest as Closed}
 use Rattle.vo_spec.specs.declared.cells.PartEntry.{PartEntry}
 use Rattle.vo_spec.specs.Cells.{cell_digest, cell_digests}
-use Rattle.vo_spec.specs.Pruned.{has_column}
+use Rattle.vo_spec.specs.Pruning.{has_column}
 use Rattle.vo_spec.specs.Parts.{stub}
 use Rattle.vo_spec.specs.TreeBytes.{cell_form, entry_form}
 use Rattle.row_bytes.specs.Fields.{◌>>=◌, times}

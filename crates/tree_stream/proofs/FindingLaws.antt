@@ -13,7 +13,7 @@ use Rattle.vo_spec.specs.declared.cells.PartEntry.{PartEntry}
 use Rattle.vo_spec.specs.Cells.{shown_value}
 use Rattle.vo_spec.specs.Fits.{FitsEntry, FitsPart, FitsEach}
 use Rattle.vo_spec.specs.Parts.{stub, leaf, inner, none, more, count}
-use Rattle.vo_spec.specs.Pruned.{Walk, is_missing_by, is_missing_in, has_surplus_by, has_surplus_in, descend, is_any, needed_columns, has_column, hides_any, shows_surplus, row_has_surplus, walk_for, is_missing, has_surplus}
+use Rattle.vo_spec.specs.Pruning.{Walk, is_missing_by, is_missing_in, has_surplus_by, has_surplus_in, descend, is_any, needed_columns, has_column, hides_any, shows_surplus, row_has_surplus, walk_for, is_missing, has_surplus}
 use Rattle.vo_spec.specs.Scans.{in_interval, is_empty_interval}
 use Rattle.vo_spec.specs.Trees.{RowTree, RowTrees}
 use Rattle.tree_stream.specs.Findings.{columns_at, cells_findings, row_findings, entry_findings, entries_findings, visits_child, child_visits, tree_findings, children_findings}

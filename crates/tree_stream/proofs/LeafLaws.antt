@@ -11,7 +11,7 @@ use Rattle.vo_spec.specs.Cells.{cell_digest, cell_digests, row_digest, entry_byt
 use Rattle.vo_spec.specs.Fits.{max_cells, FitsCell}
 use Rattle.vo_spec.specs.Tables.{max_key}
 use Rattle.vo_spec.specs.TreeBytes.{cell_form}
-use Rattle.vo_spec.specs.Pruned.{has_column}
+use Rattle.vo_spec.specs.Pruning.{has_column}
 use Rattle.row_bytes.specs.Fields.{◌>>=◌, times}
 use Rattle.batch_format.specs.BatchReading.{one}
 use Rattle.tree_readers.specs.TreeReading.{cell_at, cells_at, row_at, key_at, part_entry, entry_at}

@@ -14,8 +14,8 @@ use Rattle.vo_spec.specs.declared.cells.PartEntry.{PartEntry}
 use Rattle.vo_spec.specs.Cells.{shown_value}
 use Rattle.vo_spec.specs.Fits.{FitsEntry, FitsPart, FitsEach}
 use Rattle.vo_spec.specs.Parts.{stub, leaf, inner, none, more, count}
-use Rattle.vo_spec.specs.Pruned.{has_column}
-use Rattle.vo_spec.specs.Scans.{in_interval, is_empty_interval, visits, put_before, joined, values_in, with_key, seen_entries, seen_in, seen_in_each, seen}
+use Rattle.vo_spec.specs.Pruning.{has_column}
+use Rattle.vo_spec.specs.Scans.{in_interval, is_empty_interval, visits, put_before, append_both, values_in, with_key, seen_entries, seen_in, seen_in_each, seen}
 use Rattle.vo_spec.specs.Trees.{RowTree, RowTrees}
 use Rattle.tree_stream.specs.declared.findings.Findings.{Findings}
 use Rattle.tree_stream.specs.declared.findings.CellFindings.{CellFindings}
@@ -169,8 +169,8 @@ module _ (need : Need) (rises : Rises 0 need.columns) where
   not_visited (inner ss ps) exact = absurd cc
 
   seen_child : (visited : Bool) (p : RowTree) (child others : Option (List SeenRow)) (rows : List SeenRow) → (visited ≡ true → child ≡ Some (tree_findings need true p).rows)
-      → (tree_findings need visited p).has_surplus ≡ false → others ≡ Some rows → cond visited (joined child others) others ≡ Some ((tree_findings need visited p).rows ++ rows)
-  seen_child true p child others rows is exact are = ap (λ (c : Option (List SeenRow)). joined c others) (is refl) ∙ ap (joined (Some (tree_findings need true p).rows)) are
+      → (tree_findings need visited p).has_surplus ≡ false → others ≡ Some rows → cond visited (append_both child others) others ≡ Some ((tree_findings need visited p).rows ++ rows)
+  seen_child true p child others rows is exact are = ap (λ (c : Option (List SeenRow)). append_both c others) (is refl) ∙ ap (append_both (Some (tree_findings need true p).rows)) are
   seen_child false p child others rows is exact are = are ∙ ap (λ (first : List SeenRow). Some (first ++ rows)) (sym (not_visited p exact))
 
   mutual

@@ -10,7 +10,7 @@ use Rattle.vo_spec.specs.Cells.{cell_digest}
 use Rattle.vo_spec.specs.Fits.{max_cells, max_fill, FitsCell}
 use Rattle.vo_spec.specs.Tables.{max_key}
 use Rattle.vo_spec.specs.TreeBytes.{cell_form}
-use Rattle.vo_spec.specs.Pruned.{has_column}
+use Rattle.vo_spec.specs.Pruning.{has_column}
 use Rattle.tree_stream.specs.declared.findings.Findings.{Findings}
 use Rattle.tree_stream.specs.declared.findings.CellFindings.{CellFindings}
 use Rattle.tree_stream.specs.declared.findings.Summary.{Summary}

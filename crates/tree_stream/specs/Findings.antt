@@ -11,7 +11,7 @@ use Rattle.vo_spec.specs.declared.cells.PartEntry.{PartEntry}
 use Rattle.vo_spec.specs.Parts.{stub, leaf, inner, none, more}
 use Rattle.vo_spec.specs.Trees.{RowTree, RowTrees}
 use Rattle.vo_spec.specs.Scans.{in_interval, is_empty_interval, visits}
-use Rattle.vo_spec.specs.Pruned.{is_any, has_column}
+use Rattle.vo_spec.specs.Pruning.{is_any, has_column}
 use Rattle.tree_stream.specs.declared.findings.Findings.{Findings}
 use Rattle.tree_stream.specs.declared.findings.CellFindings.{CellFindings}
 

@@ -1,7 +1,7 @@
 //! Adding up what is found, part by part.
 ghost use Rattle.std.specs.Prelude.{◌≡◌, nat_le, IsTrue, IsErr, OnOk};
 ghost use Rattle.std.specs.List.{list_any};
-ghost use Rattle.vo_spec.specs.Pruned.{has_column as is_among};
+ghost use Rattle.vo_spec.specs.Pruning.{has_column as is_among};
 ghost use Rattle.vo_spec.specs.Scans.{in_interval as has_key};
 ghost use Rattle.tree_stream.specs.Findings.{cell_findings, closed_row_findings, columns_at as columns_of, combine, combine_cells, entry_findings_by, no_findings, open_node_findings, row_head_findings, stub_findings};
 

@@ -3,7 +3,7 @@ ghost use Rattle.std.specs.Prelude.{◌≡◌, ℕ, List, [], ◌∷◌, Some, f
 ghost use Rattle.vo_spec.specs.declared.needs.Need.{Need};
 ghost use Rattle.vo_spec.specs.Bytes.{IsBytes};
 ghost use Rattle.vo_spec.specs.Fits.{FitsPart, FitsTree};
-ghost use Rattle.vo_spec.specs.Pruned.{has_surplus, is_missing};
+ghost use Rattle.vo_spec.specs.Pruning.{has_surplus, is_missing};
 ghost use Rattle.vo_spec.specs.Scans.{seen};
 ghost use Rattle.vo_spec.specs.Trees.{RowTree, digest};
 ghost use Rattle.vo_spec.specs.TreeBytes.{tree_bytes};

@@ -1,5 +1,5 @@
 use Rattle.std.proofs.Common.{List, ℕ, ap, ◌∙◌}
-use Rattle.vo_spec.specs.Pruned.{has_column}
+use Rattle.vo_spec.specs.Pruning.{has_column}
 use Rattle.tree_stream.specs.Findings.{columns_at}
 use Rattle.tree_stream.proofs.Remainders.{same_with}
 use Rattle.tree_stream.proofs.Steps.{ok_then, cell_step}
