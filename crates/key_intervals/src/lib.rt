@@ -1,0 +1,8 @@
+//! Intervals of keys: which keys they have, and which children of a node a scan of one visits.
+#![tactic(auto)]
+
+mod intervals;
+mod key_order;
+
+pub use intervals::{in_interval, is_empty_interval, visits};
+pub use key_order::compare_keys;

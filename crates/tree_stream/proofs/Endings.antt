@@ -1,0 +1,156 @@
+-- From each place of a tree there is a way on: some bytes make a whole tree of it.
+use Rattle.std.proofs.Common.{◌≡◌, ℕ, zero, suc, ◌+◌, ◌≤◌, Bool, List, [], ◌∷◌, ◌++◌, length, Option, Some, refl, ap, ◌∙◌, append_assoc, arith, inl, inr}
+use Rattle.std.specs.Prelude.{reverse}
+use Rattle.std.proofs.lemmas.List.{length-reverse}
+use Rattle.sha2.specs.Sha256.{sha256}
+use Rattle.vo_spec.specs.declared.needs.Need.{Need}
+use Rattle.vo_spec.specs.declared.cells.Cell.{Cell}
+use Rattle.vo_spec.specs.declared.cells.Cell.TheVariants.{Hidden}
+use Rattle.vo_spec.specs.declared.cells.RowPart.TheVariants.{Digest as Closed}
+use Rattle.vo_spec.specs.declared.cells.PartEntry.{PartEntry}
+use Rattle.vo_spec.specs.Cells.{cell_digest, cell_digests}
+use Rattle.vo_spec.specs.Pruning.{has_column}
+use Rattle.vo_spec.specs.Parts.{stub}
+use Rattle.vo_spec.specs.TreeBytes.{cell_form, entry_form}
+use Rattle.row_bytes.specs.Fields.{◌>>=◌, times}
+use Rattle.batch_format.specs.BatchReading.{Reader, one}
+use Rattle.tree_readers.specs.TreeReading.{cell_at, entry_at, tree_at}
+use Rattle.tree_readers.proofs.EntryLaws.{cell_again, entries_read}
+use Rattle.tree_readers.proofs.TreeLaws.{levels_read}
+use Rattle.tree_stream.specs.declared.findings.Findings.{Findings}
+use Rattle.tree_stream.specs.declared.findings.CellFindings.{CellFindings}
+use Rattle.tree_stream.specs.declared.findings.Summary.{Summary}
+use Rattle.tree_stream.specs.declared.state.InnerNode.{InnerNode}
+use Rattle.tree_stream.specs.Findings.{combine, combine_cells, columns_at, cell_findings, cells_findings, closed_row_findings, row_head_findings, entry_findings_by}
+use Rattle.tree_stream.specs.Parsing.{BeginsCell, BeginsRow}
+use Rattle.tree_stream.specs.Remaining.{summary, with_findings, leaf_summary, rest_of_leaf, children_summary, rest_of_children, rest_of_row, rest_of_cells}
+use Rattle.tree_stream.specs.Summaries.{levels_below, summary_after, summary_with, CanEnd}
+use Rattle.tree_stream.proofs.LeafLaws.{closed_row_taken, open_row_taken, cell_taken}
+use Rattle.tree_stream.proofs.Remainders.{summary_behind}
+
+abbrev zeros : List ℕ
+zeros = 0 ∷ 0 ∷ 0 ∷ 0 ∷ 0 ∷ 0 ∷ 0 ∷ 0 ∷ 0 ∷ 0 ∷ 0 ∷ 0 ∷ 0 ∷ 0 ∷ 0 ∷ 0 ∷ 0 ∷ 0 ∷ 0 ∷ 0 ∷ 0 ∷ 0 ∷ 0 ∷ 0 ∷ 0 ∷ 0 ∷ 0 ∷ 0 ∷ 0 ∷ 0 ∷ 0 ∷ 0 ∷ []
+
+-- some bytes are read, whatever comes behind them
+abbrev CanRead : {A : Type 0} → Reader A → Type 0
+CanRead {A} read = (front : List ℕ) × (x : A) × ((rest : List ℕ) → read (front ++ rest) ≡ Some (x, rest))
+
+repeated : {A : Type 0} (read : Reader A) (n : ℕ) → CanRead read → CanRead (times read n)
+repeated {A} read zero can = ([], [], λ rest. refl)
+repeated {A} read (suc n) can =
+    let others = repeated read n can in
+    let rest_of : A × List ℕ → Option (List A × List ℕ) = λ first. times read n first.1 >>= λ xs. Some (first.0 ∷ xs.0, xs.1) in (
+      can.0 ++ others.0,
+      can.1 ∷ others.1,
+      λ rest.
+          ap (times read (suc n)) (append_assoc can.0 others.0 rest)
+          ∙ ap (λ (o : Option (A × List ℕ)). o >>= rest_of) (can.2 (others.0 ++ rest))
+          ∙ ap (λ (o : Option (List A × List ℕ)). o >>= λ xs. Some (can.1 ∷ xs.0, xs.1)) (others.2 rest),
+    )
+
+mapped : {A B : Type 0} (make : A → B) (read : Reader A) → CanRead read → CanRead (one make read)
+mapped {A} {B} make read can = (can.0, make can.1, λ rest. ap (λ (o : Option (A × List ℕ)). o >>= λ x. Some (make x.0, x.1)) (can.2 rest))
+
+-- and then others, by what was read
+then_read : {A B : Type 0} (read : Reader A) (next : A → Reader B) → CanRead read → ((x : A) → CanRead (next x)) → CanRead (λ bytes. read bytes >>= λ x. next x.0 x.1)
+then_read {A} {B} read next can others =
+    let behind = others can.1 in (
+      can.0 ++ behind.0,
+      behind.1,
+      λ rest.
+          ap (λ (bytes : List ℕ). read bytes >>= λ x. next x.0 x.1) (append_assoc can.0 behind.0 rest)
+          ∙ ap (λ (o : Option (A × List ℕ)). o >>= λ x. next x.0 x.1) (can.2 (behind.0 ++ rest))
+          ∙ behind.2 rest,
+    )
+
+-- Nodes.
+
+a_stub : (levels : ℕ) → 1 ≤ levels → CanRead (tree_at levels)
+a_stub levels some = (0 ∷ zeros, stub zeros, λ rest. (levels_read levels).again (stub zeros) rest (refl, some))
+
+an_entry : CanRead entry_at
+an_entry =
+    let entry : PartEntry = record { key = []; row = Closed zeros } in
+    (entry_form entry, entry, λ rest. entries_read.again entry rest (record { key = omega arith; row = refl }))
+
+a_cell : CanRead cell_at
+a_cell = (cell_form (Hidden zeros), Hidden zeros, λ rest. cell_again (Hidden zeros) rest refl)
+
+children_can : (need : Need) (levels : ℕ) (hashed : List ℕ) (visits : List Bool) → 1 ≤ levels → CanRead (rest_of_children need levels hashed visits)
+unfolding rest_of_children
+children_can need levels hashed visits some = mapped (children_summary need hashed visits) (times (tree_at levels) (length visits)) (repeated (tree_at levels) (length visits) (a_stub levels some))
+
+leaf_can : (need : Need) (hashed : List ℕ) (left : ℕ) → CanRead (rest_of_leaf need hashed left)
+unfolding rest_of_leaf
+leaf_can need hashed left = mapped (leaf_summary need hashed) (times entry_at left) (repeated entry_at left an_entry)
+
+found_can : (f : Findings) (read : Reader Summary) → CanRead read → CanRead (with_findings f read)
+unfolding with_findings
+found_can f read can = (can.0, summary can.1.digest (combine f can.1.findings), λ rest. ap (λ (o : Option (Summary × List ℕ)). o >>= λ end. Some (summary end.0.digest (combine f end.0.findings), end.1)) (can.2 rest))
+
+cells_can : (need : Need) (hashed key : List ℕ) (left : ℕ) (row_hashed : List ℕ) (column : ℕ) (found : CellFindings) (n : ℕ) → CanRead (rest_of_cells need hashed key left row_hashed column found n)
+unfolding rest_of_cells
+cells_can need hashed key left row_hashed column found n =
+    let f : List Cell → Findings = λ cells. entry_findings_by need key (combine_cells found (cells_findings (columns_at need key) column cells)) in
+    let read : List Cell → Reader Summary = λ cells. rest_of_leaf need (hashed ++ sha256 (row_hashed ++ cell_digests column cells)) left in
+    then_read (times cell_at n) (λ cells. with_findings (f cells) (read cells)) (repeated cell_at n a_cell)
+    (λ cells. found_can (f cells) (read cells) (leaf_can need (hashed ++ sha256 (row_hashed ++ cell_digests column cells)) left))
+
+-- Trees.
+
+after_can : (need : Need) (ancestors : List InnerNode) (d : List ℕ) (found : Findings) → length ancestors ≤ 10 → CanEnd (summary_after need ancestors d found)
+unfolding summary_after
+after_can need [] d found few = ([], summary d found, refl)
+after_can need (node ∷ ancestors) d found few =
+    let can = children_can need (levels_below (node ∷ ancestors)) (node.hasher ++ d) node.child_visits.items (omega (arith, few)) in
+    let above = after_can need ancestors can.1.digest (combine found can.1.findings) (omega (arith, few)) in (
+      can.0 ++ above.0,
+      above.1,
+      ap (λ (o : Option (Summary × List ℕ)). o >>= λ end. summary_after need ancestors end.0.digest (combine found end.0.findings) end.1) (can.2 above.0) ∙ above.2,
+    )
+
+with_can : (need : Need) (ancestors : List InnerNode) (found : Findings) (read : Reader Summary) → length ancestors ≤ 10 → CanRead read → CanEnd (summary_with need ancestors found read)
+unfolding summary_with
+with_can need ancestors found read few can =
+    let above = after_can need (reverse ancestors) can.1.digest (combine found can.1.findings) (omega (arith, few, length-reverse ancestors)) in (
+      can.0 ++ above.0,
+      above.1,
+      ap (λ (o : Option (Summary × List ℕ)). o >>= summary_behind need ancestors found) (can.2 above.0) ∙ above.2,
+    )
+
+pub can_same : (f g : List ℕ → Option Summary) → ((rest : List ℕ) → f rest ≡ g rest) → CanEnd g → CanEnd f
+can_same f g same can = (can.0, can.1, same can.0 ∙ can.2)
+
+module _ (need : Need) (ancestors : List InnerNode) (found : Findings) (few : length ancestors ≤ 10) (hashed key : List ℕ) (left : ℕ) where
+  abbrev by_row : List ℕ → Option Summary
+  by_row = summary_with need ancestors found (rest_of_row need hashed key left)
+
+  pub row_can : (token : List ℕ) → BeginsRow token → CanEnd (λ rest. by_row (token ++ rest))
+  unfolding summary_with
+  row_can token (inl digest) =
+      let f : Findings = entry_findings_by need key (closed_row_findings (columns_at need key)) in
+      let read : Reader Summary = with_findings f (rest_of_leaf need (hashed ++ digest.0) left) in
+      can_same (λ rest. by_row (token ++ rest)) (summary_with need ancestors found read)
+      (λ rest. ap (λ (t : List ℕ). by_row (t ++ rest)) digest.1
+      ∙ ap (λ (o : Option (Summary × List ℕ)). o >>= summary_behind need ancestors found) (closed_row_taken need hashed key left digest.0 rest digest.2))
+      (with_can need ancestors found read few (found_can f (rest_of_leaf need (hashed ++ digest.0) left) (leaf_can need (hashed ++ digest.0) left)))
+  row_can token (inr count) =
+      let f : CellFindings = row_head_findings (columns_at need key) count.0 in
+      let read : Reader Summary = rest_of_cells need hashed key left (2 ∷ count.0 ∷ []) 0 f count.0 in
+      can_same (λ rest. by_row (token ++ rest)) (summary_with need ancestors found read)
+      (λ rest. ap (λ (t : List ℕ). by_row (t ++ rest)) count.1
+      ∙ ap (λ (o : Option (Summary × List ℕ)). o >>= summary_behind need ancestors found) (open_row_taken need hashed key left count.0 rest count.2))
+      (with_can need ancestors found read few (cells_can need hashed key left (2 ∷ count.0 ∷ []) 0 f count.0))
+
+  pub cell_can : (row_hashed : List ℕ) (column : ℕ) (f : CellFindings) (cells_left : ℕ) (token : List ℕ) → BeginsCell token
+      → CanEnd (λ rest. summary_with need ancestors found (rest_of_cells need hashed key left row_hashed column f (suc cells_left)) (token ++ rest))
+  unfolding summary_with
+  cell_can row_hashed column f cells_left token cell =
+      let by_cells : List ℕ → Option Summary = summary_with need ancestors found (rest_of_cells need hashed key left row_hashed column f (suc cells_left)) in
+      let hashed_next : List ℕ = row_hashed ++ cell_digest column cell.0 in
+      let f_next : CellFindings = combine_cells f (cell_findings (has_column (columns_at need key) column) cell.0) in
+      let read : Reader Summary = rest_of_cells need hashed key left hashed_next (column + 1) f_next cells_left in
+      can_same (λ rest. by_cells (token ++ rest)) (summary_with need ancestors found read)
+      (λ rest. ap (λ (t : List ℕ). by_cells (t ++ rest)) cell.1
+      ∙ ap (λ (o : Option (Summary × List ℕ)). o >>= summary_behind need ancestors found) (cell_taken need hashed key left row_hashed column f cells_left cell.0 rest cell.2))
+      (with_can need ancestors found read few (cells_can need hashed key left hashed_next (column + 1) f_next cells_left))

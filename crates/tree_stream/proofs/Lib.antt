@@ -1,0 +1,16 @@
+pub mod Sums
+pub mod Binds
+pub mod WholeTokens
+pub mod Sizes
+pub mod Remainders
+pub mod NodeLaws
+pub mod LeafLaws
+pub mod AncestorLaws
+pub mod Steps
+pub mod Endings
+pub mod StateLaws
+pub mod ShortLaws
+pub mod PieceLaws
+pub mod FindingLaws
+pub mod RowLaws
+pub mod TreeWords

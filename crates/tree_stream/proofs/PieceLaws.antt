@@ -1,0 +1,181 @@
+-- What is taken of pieces, step by step.
+use Rattle.std.proofs.Common.{◌≡◌, ℕ, suc, ◌+◌, ◌<◌, ◌≤◌, eqb, List, [], ◌∷◌, ◌++◌, length, take, Option, Some, None, refl, sym, ap, ◌∙◌, append_assoc, append-nil, arith, Result, Ok, Err}
+use Rattle.std.specs.Prelude.{IfOk, OnOk, OnErr, IsOk, IsErr, IsTrue, ◌↔◌, true, false, Bool}
+use Rattle.std.specs.Borrow.{Bor}
+use Rattle.std.specs.declared.alloc.AllocError.{AllocError}
+use Rattle.std.proofs.lemmas.Bool.{false≢true, eqb-true}
+use Rattle.std.proofs.lemmas.List.{length-take-le, length-append, take_at}
+use Rattle.tree_stream.specs.declared.findings.Summary.{Summary}
+use Rattle.tree_stream.specs.declared.machine.Machine.{Machine}
+use Rattle.tree_stream.specs.declared.state.State.{State}
+use Rattle.tree_stream.specs.declared.state.State.TheVariants.{Invalid}
+use Rattle.tree_stream.specs.Machines.{summary_of_machine, Takes, Advances, EndsWith, StopsInRow}
+use Rattle.tree_stream.specs.Remaining.{rest_of_node}
+use Rattle.tree_stream.specs.Summaries.{summary_with, summary_from, CanEnd, IsInNeededRow}
+use Rattle.tree_stream.specs.Tokens.{token_size}
+use Rattle.tree_stream.proofs.Sizes.{token_is, token_positive}
+
+pub size_positive : (state : State) (bytes : List ℕ) → 0 < token_size state bytes
+size_positive state bytes = omega (arith, token_positive state, (token_is state).grows [] bytes)
+
+-- so many bytes in front are a whole token
+pub token_whole : (state : State) (bytes token : List ℕ) (size : ℕ) → size ≡ token_size state bytes → size ≤ length bytes → token ≡ take size bytes → length token ≡ token_size state token
+token_whole state bytes token size is le front =
+    let n : ℕ = token_size state bytes in
+    ap (λ (t : List ℕ). length t) (front ∙ ap (λ (k : ℕ). take k bytes) is)
+    ∙ length-take-le n bytes (omega (arith, is, le))
+    ∙ sym ((token_is state).front bytes (omega (arith, is, le)))
+    ∙ ap (token_size state) (sym (front ∙ ap (λ (k : ℕ). take k bytes) is))
+
+-- so is what was filled up and is no shorter than its size
+pub filled_whole : (state : State) (partial front all : List ℕ) → all ≡ partial ++ front → length partial + length front ≤ token_size state partial → token_size state all ≤ length all → length all ≡ token_size state all
+filled_whole state partial front all is within le =
+    let grown : token_size state partial ≤ token_size state (partial ++ front) = (token_is state).grows partial front in
+    let size : token_size state all ≡ token_size state (partial ++ front) = ap (token_size state) is in
+    let len : length all ≡ length partial + length front = ap (λ (t : List ℕ). length t) is ∙ length-append partial front in
+    omega (arith, grown, size, len, within, le)
+
+pub invalid_none : (machine : Machine) → machine.state ≡ Invalid → (bytes : List ℕ) → summary_of_machine machine bytes ≡ None
+unfolding summary_from summary_with rest_of_node
+invalid_none machine is bytes = ap (λ (state : State). summary_from machine.context state bytes) is
+
+pub goes_on : (first old new : Machine) (bytes left token behind : List ℕ) → Advances first old bytes left → Takes old new token → left ≡ token ++ behind → Advances first new bytes behind
+goes_on first old new bytes left token behind a t is = record {
+  taken = a.taken ++ token;
+  parts = a.parts ∙ ap (λ (l : List ℕ). a.taken ++ l) is ∙ sym (append_assoc a.taken token behind);
+  each = λ rest. t.each rest ∙ a.each (token ++ rest) ∙ ap (summary_of_machine first) (sym (append_assoc a.taken token rest));
+}
+
+pub goes_back : (first old : Machine) (bytes left token : List ℕ) → Advances first old bytes left → CanEnd (λ rest. summary_of_machine old (token ++ rest)) → CanEnd (summary_of_machine first)
+goes_back first old bytes left token a can = (a.taken ++ (token ++ can.0), can.1, sym (a.each (token ++ can.0)) ∙ can.2)
+
+-- of bytes that are no tree the rest says nothing
+pub stays_invalid : (old new : Machine) (bytes left : List ℕ) → new.state ≡ Invalid → Advances old new bytes left → Advances old new bytes []
+stays_invalid old new bytes left is a = record {
+  taken = bytes;
+  parts = sym (append-nil bytes);
+  each = λ rest.
+      invalid_none new is rest
+      ∙ sym (ap (summary_of_machine old) (ap (λ (t : List ℕ). t ++ rest) a.parts ∙ append_assoc a.taken left rest) ∙ sym (a.each (left ++ rest)) ∙ invalid_none new is (left ++ rest));
+}
+
+pub invalid_advances : (machine : Machine) (bytes : List ℕ) → machine.state ≡ Invalid → Advances machine machine bytes []
+invalid_advances machine bytes is = record {
+  taken = bytes;
+  parts = sym (append-nil bytes);
+  each = λ rest. invalid_none machine is rest ∙ sym (invalid_none machine is (bytes ++ rest));
+}
+
+-- first some bytes, and then those that they left
+pub and_then : (first old new : Machine) (bytes left behind : List ℕ) → Advances first old bytes left → Advances old new left behind → Advances first new bytes behind
+and_then first old new bytes left behind a b = record {
+  taken = a.taken ++ b.taken;
+  parts = a.parts ∙ ap (λ (l : List ℕ). a.taken ++ l) b.parts ∙ sym (append_assoc a.taken b.taken behind);
+  each = λ rest. b.each rest ∙ a.each (b.taken ++ rest) ∙ ap (summary_of_machine first) (sym (append_assoc a.taken b.taken rest));
+}
+
+pub way_back : (first old : Machine) (bytes left : List ℕ) → Advances first old bytes left → CanEnd (summary_of_machine old) → CanEnd (summary_of_machine first)
+way_back first old bytes left a can = (a.taken ++ can.0, can.1, sym (a.each can.0) ∙ can.2)
+
+-- Sizes.
+
+pub empty_short : (state : State) (bytes : List ℕ) → bytes ≡ [] → length bytes < token_size state bytes
+empty_short state bytes is = let size : token_size state bytes ≡ token_size state [] = ap (token_size state) is in omega (arith, size, ap (λ (t : List ℕ). length t) is, token_positive state)
+
+pub invalid_short : (state : State) (bytes : List ℕ) → state ≡ Invalid → length bytes < token_size state bytes
+unfolding token_size
+invalid_short state bytes is = let size : token_size state bytes ≡ suc (length bytes) = ap (λ (s : State). token_size s bytes) is in omega (arith, size)
+
+-- Calls.
+
+pub ok_of : {T E : Type 0} (r : Result T E) (P : Type 0) → IsOk r → OnOk r P → P
+ok_of (Ok x) P is p = p
+ok_of (Err e) P is p = absurd (false≢true is)
+
+pub not_so : (b : Bool) (P : Type 0) → (IsTrue b ↔ P) → b ≡ false → P → ⊥
+not_so b P both is p = false≢true (sym is ∙ both.1 p)
+
+pub ends_then : (r : Result (Bor (List ℕ)) AllocError) (front left piece : List ℕ) → piece ≡ front ++ left → IfOk r (λ end. EndsWith left end.now) → IfOk r (λ end. EndsWith piece end.now)
+ends_then (Ok end) front left piece is ends = (front ++ ends.0, is ∙ ap (λ (t : List ℕ). front ++ t) ends.1 ∙ sym (append_assoc front ends.0 end.now))
+ends_then (Err e) front left piece is ends = tt
+
+pub longer_way : (machine : Machine) (partial front all : List ℕ) → all ≡ partial ++ front → CanEnd (λ rest. summary_of_machine machine (all ++ rest)) → CanEnd (λ rest. summary_of_machine machine (partial ++ rest))
+longer_way machine partial front all is can =
+    (front ++ can.0, can.1, ap (summary_of_machine machine) (sym (append_assoc partial front can.0) ∙ ap (λ (t : List ℕ). t ++ can.0) (sym is)) ∙ can.2)
+
+pub same_bytes : (machine : Machine) (bytes left : List ℕ) → left ≡ bytes → Advances machine machine bytes left
+same_bytes machine bytes left is = record { taken = []; parts = sym is; each = λ rest. refl }
+
+-- the bytes of a token that was filled up, and those behind them
+pub filled_is : (partial front left piece all : List ℕ) → all ≡ partial ++ front → piece ≡ front ++ left → all ++ left ≡ partial ++ piece
+filled_is partial front left piece all is parts = ap (λ (t : List ℕ). t ++ left) is ∙ append_assoc partial front left ∙ ap (λ (t : List ℕ). partial ++ t) (sym parts)
+
+pub ok_advances : (r : Result (Unit {0}) AllocError) (first old new : Machine) (bytes partial left behind : List ℕ) → partial ≡ [] → Advances first old bytes (partial ++ left) → OnOk r (Advances old new left behind) → OnOk r (Advances first new bytes behind)
+ok_advances (Ok done) first old new bytes partial left behind none a b =
+    let all : Advances first old bytes left = record { taken = a.taken; parts = a.parts ∙ ap (λ (p : List ℕ). a.taken ++ (p ++ left)) none; each = a.each } in
+    and_then first old new bytes left behind all b
+ok_advances (Err e) first old new bytes partial left behind none a b = tt
+
+same_front : (xs ys left : List ℕ) → xs ++ left ≡ ys ++ left → xs ≡ ys
+same_front xs ys left e =
+    let len : length xs ≡ length ys = omega (arith, length-append xs left, length-append ys left, ap (λ (t : List ℕ). length t) e) in
+    sym (take_at xs left (length ys) len) ∙ ap (take (length ys)) e ∙ take_at ys left (length ys) refl
+
+pub way_behind : (first old : Machine) (partial piece kept left : List ℕ) → kept ≡ [] → Advances first old (partial ++ piece) (kept ++ left) → EndsWith piece left → CanEnd (summary_of_machine old)
+    → CanEnd (λ rest. summary_of_machine first (partial ++ rest))
+way_behind first old partial piece kept left none a ends can =
+    let front : List ℕ = ends.0 in
+    let parts : (partial ++ front) ++ left ≡ a.taken ++ left =
+    append_assoc partial front left ∙ ap (λ (t : List ℕ). partial ++ t) (sym ends.1) ∙ a.parts ∙ ap (λ (k : List ℕ). a.taken ++ (k ++ left)) none in
+    let taken : partial ++ front ≡ a.taken = same_front (partial ++ front) a.taken left parts in
+    (front ++ can.0, can.1, ap (summary_of_machine first) (sym (append_assoc partial front can.0) ∙ ap (λ (t : List ℕ). t ++ can.0) taken) ∙ sym (a.each can.0) ∙ can.2)
+
+-- The stream.
+
+pub piece_taken : (r : Result (Unit {0}) AllocError) (old new : Machine) (partial piece kept : List ℕ) → OnOk r (Advances old new (partial ++ piece) kept)
+    → OnOk r ((more : List ℕ) → summary_of_machine new (kept ++ more) ≡ summary_of_machine old (partial ++ (piece ++ more)))
+piece_taken (Ok done) old new partial piece kept a = λ more.
+    a.each (kept ++ more)
+    ∙ ap (summary_of_machine old) (sym (append_assoc a.taken kept more) ∙ ap (λ (t : List ℕ). t ++ more) (sym a.parts) ∙ append_assoc partial piece more)
+piece_taken (Err e) old new partial piece kept a = tt
+
+pub none_after : (r : Result (Unit {0}) AllocError) (new : Machine) (kept : List ℕ) → OnErr r (new.state ≡ Invalid) → OnErr r ((more : List ℕ) → summary_of_machine new (kept ++ more) ≡ None)
+none_after (Ok done) new kept is = tt
+none_after (Err e) new kept is = λ more. invalid_none new is (kept ++ more)
+
+no_way : (f : List ℕ → Option Summary) → CanEnd f → ((more : List ℕ) → f more ≡ None) → ⊥
+no_way f can none = let stuck : None ≡ Some can.1 = sym (none can.0) ∙ can.2 in absurd cc
+
+pub dead_is_ok : (r : Result (Unit {0}) AllocError) (f : List ℕ → Option Summary) → (IsErr r → CanEnd f) → ((more : List ℕ) → f more ≡ None) → IsOk r
+dead_is_ok (Ok done) f way none = refl
+dead_is_ok (Err e) f way none = absurd (no_way f (way refl) none)
+
+pub no_length : (xs : List ℕ) → eqb (length xs) 0 ≡ true → xs ≡ []
+no_length [] is = refl
+no_length (x ∷ xs) is = absurd (omega (arith, eqb-true (length (x ∷ xs)) 0 is))
+
+-- Where memory runs out.
+
+pub stops_here : (first old : Machine) (bytes left : List ℕ) → Advances first old bytes left → IsInNeededRow old.context old.state → 0 < length left → StopsInRow first bytes
+stops_here first old bytes left a inside some = record { reached = old; left = left; advances = a; inside = inside; some = some }
+
+pub stops_later : (first old : Machine) (bytes partial left : List ℕ) → partial ≡ [] → Advances first old bytes (partial ++ left) → StopsInRow old left → StopsInRow first bytes
+stops_later first old bytes partial left none a stops =
+    let all : Advances first old bytes left = record { taken = a.taken; parts = a.parts ∙ ap (λ (p : List ℕ). a.taken ++ (p ++ left)) none; each = a.each } in
+    record {
+      reached = stops.reached;
+      left = stops.left;
+      advances = and_then first old stops.reached bytes left stops.left all stops.advances;
+      inside = stops.inside;
+      some = stops.some;
+    }
+
+pub stops_some : (old : Machine) (bytes : List ℕ) → StopsInRow old bytes → 0 < length bytes
+stops_some old bytes stops = omega (arith, stops.some, ap (λ (t : List ℕ). length t) stops.advances.parts, length-append stops.advances.taken stops.left)
+
+pub ends_some : (piece left : List ℕ) → EndsWith piece left → 0 < length left → 0 < length piece
+ends_some piece left ends some = omega (arith, some, ap (λ (t : List ℕ). length t) ends.1, length-append ends.0 left)
+
+-- bytes that grew by a front of a piece
+pub grew_some : (front left piece : List ℕ) → piece ≡ front ++ left → 0 < length front → 0 < length piece
+grew_some front left piece is some = omega (arith, some, ap (λ (t : List ℕ). length t) is, length-append front left)

@@ -1,0 +1,15 @@
+use Rattle.std.proofs.Common.{ℕ, ◌-◌, ◌++◌, ap, ◌∙◌, arith}
+use Rattle.tree_stream.specs.Remaining.{summary_at}
+use Rattle.tree_stream.specs.Summaries.{levels_below}
+use Rattle.tree_stream.proofs.NodeLaws.{no_node_begins}
+use Rattle.tree_stream.proofs.Remainders.{none_with}
+use Rattle.tree_stream.proofs.Steps.{room, yields_invalid}
+use Rattle.tree_stream.proofs.nodes.take_node.Goals as goal
+
+pub returns-in-Invalid : goal.returns-in-Invalid
+returns-in-Invalid c =
+    let need = c.args.context.now.need in
+    let ancestors = c.args.context.now.ancestors.items in
+    yields_invalid _ _ (λ rest. none_with need ancestors c.args.context.now.findings (summary_at need (levels_below ancestors) c.args.visited) (c.args.token.now ++ rest)
+    (ap (λ (n : ℕ). summary_at need n c.args.visited (c.args.token.now ++ rest)) (room ancestors (omega (arith, c.len-room.ensures.value, c.len-room.ensures.fits)))
+    ∙ no_node_begins need (levels_below ancestors - 1) c.args.visited (c.args.token.now ++ rest) (λ child. c.in-Invalid.ensures child rest)))

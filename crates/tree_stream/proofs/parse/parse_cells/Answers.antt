@@ -1,0 +1,6 @@
+use Rattle.std.proofs.Common.{◌++◌}
+use Rattle.tree_stream.proofs.WholeTokens.{no_cells}
+use Rattle.tree_stream.proofs.parse.parse_cells.Goals as goal
+
+pub returns-in-None : goal.returns-in-None
+returns-in-None c = λ rest. no_cells (c.args.rest.now ++ rest) (c.in-None.ensures rest)

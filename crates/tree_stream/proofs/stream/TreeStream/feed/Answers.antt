@@ -1,0 +1,19 @@
+use Rattle.std.proofs.Common.{◌++◌}
+use Rattle.tree_stream.specs.Machines.{summary_of_machine}
+use Rattle.tree_stream.specs.Streams.{summary_of}
+use Rattle.tree_stream.proofs.PieceLaws.{piece_taken, none_after, dead_is_ok}
+use Rattle.tree_stream.proofs.stream.TreeStream.feed.Goals as goal
+
+pub returns-clause-ok : goal.returns-clause-ok
+unfolding summary_of
+returns-clause-ok c =
+    piece_taken c.feed_piece.result c.args.self.now.machine c.feed_piece.new.machine c.args.self.now.partial.items c.args.piece.now c.feed_piece.new.partial.items c.feed_piece.ensures.ok
+
+pub returns-clause-err : goal.returns-clause-err
+unfolding summary_of
+returns-clause-err c = none_after c.feed_piece.result c.feed_piece.new.machine c.feed_piece.new.partial.items c.feed_piece.ensures.err
+
+pub returns-clause-dead : goal.returns-clause-dead
+unfolding summary_of
+returns-clause-dead c = λ none.
+    dead_is_ok c.feed_piece.result (λ rest. summary_of_machine c.args.self.now.machine (c.args.self.now.partial.items ++ rest)) c.feed_piece.ensures.way none

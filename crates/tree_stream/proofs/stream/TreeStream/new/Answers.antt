@@ -1,0 +1,20 @@
+use Rattle.std.proofs.Common.{List, ℕ, Bool, ◌++◌, ap, ◌∙◌}
+use Rattle.std.specs.Prelude.{not}
+use Rattle.tree_stream.specs.declared.context.Context.{Context}
+use Rattle.tree_stream.specs.declared.state.State.TheVariants.{Node}
+use Rattle.tree_stream.specs.Streams.{summary_of}
+use Rattle.tree_stream.specs.Summaries.{summary_from}
+use Rattle.tree_stream.proofs.PieceLaws.{empty_short}
+use Rattle.tree_stream.proofs.ShortLaws.{start_is}
+use Rattle.tree_stream.proofs.stream.TreeStream.new.Goals as goal
+
+pub invariant_of-result : goal.invariant_of-result
+invariant_of-result c = record { short = empty_short _ c.new-3.result.items c.new-3.ensures }
+
+pub returns : goal.returns
+unfolding summary_of
+returns c = λ bytes.
+    let context : Context = record { need = c.args.need; ancestors = c.new.result; findings = c.empty_findings.result; last_key = c.new-2.result } in
+    ap (λ (partial : List ℕ). summary_from context (Node (not c.is_empty_interval-visited.result)) (partial ++ bytes)) c.new-3.ensures
+    ∙ ap (λ (b : Bool). summary_from context (Node (not b)) bytes) c.is_empty_interval-visited.ensures
+    ∙ start_is context bytes c.new.ensures c.empty_findings.ensures

@@ -1,0 +1,29 @@
+-- The summary that comes of a stream, if these bytes come next and then nothing.
+use Rattle.std.specs.Prelude.{◌≡◌, ℕ, ◌<◌, List, ◌++◌, length, Option}
+use Rattle.tree_stream.specs.declared.findings.Summary.{Summary}
+use Rattle.tree_stream.specs.declared.machine.Machine.{Machine}
+use Rattle.tree_stream.specs.Summaries.{summary_from, IsInNeededRow}
+
+abbrev pub summary_of_machine : Machine → List ℕ → Option Summary
+summary_of_machine machine bytes = summary_from machine.context machine.state bytes
+
+-- the machine took these bytes
+pub record Takes (old new : Machine) (bytes : List ℕ) : Type 0 where
+  pub each : (rest : List ℕ) → summary_of_machine new rest ≡ summary_of_machine old (bytes ++ rest)
+
+-- the machine took some of these bytes, and left those at the end
+pub record Advances (old new : Machine) (bytes left : List ℕ) : Type 0 where
+  pub taken : List ℕ
+  pub parts : bytes ≡ taken ++ left
+  pub each : (rest : List ℕ) → summary_of_machine new rest ≡ summary_of_machine old (taken ++ rest)
+
+abbrev pub EndsWith : List ℕ → List ℕ → Type 0
+EndsWith bytes end = (front : List ℕ) × (bytes ≡ front ++ end)
+
+-- of these bytes the machine takes some, up to a needed row whose next byte is among those that are left
+pub record StopsInRow (old : Machine) (bytes : List ℕ) : Type 0 where
+  pub reached : Machine
+  pub left : List ℕ
+  pub advances : Advances old reached bytes left
+  pub inside : IsInNeededRow reached.context reached.state
+  pub some : 0 < length left

@@ -1,0 +1,13 @@
+-- What comes of a stream and of the bytes to come: those of a token that isn't whole are not taken yet.
+use Rattle.std.specs.Prelude.{ℕ, ◌<◌, List, ◌++◌, length, Option}
+use Rattle.tree_stream.specs.declared.findings.Summary.{Summary}
+use Rattle.tree_stream.specs.declared.stream.TreeStream.{TreeStream}
+use Rattle.tree_stream.specs.Machines.{summary_of_machine, StopsInRow}
+
+unfoldable pub summary_of : TreeStream → List ℕ → Option Summary
+summary_of stream bytes = summary_of_machine stream.machine (stream.partial.items ++ bytes)
+
+-- some byte of the piece is of a row whose key is in the need's interval
+abbrev pub WantsMemory : TreeStream → List ℕ → Type 0
+WantsMemory stream piece =
+    StopsInRow stream.machine (stream.partial.items ++ piece) × (0 < length piece)

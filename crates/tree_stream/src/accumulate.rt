@@ -1,0 +1,130 @@
+//! Adding up what is found, part by part.
+ghost use Rattle.std.specs.Prelude.{◌≡◌, nat_le, IsTrue, IsErr, OnOk};
+ghost use Rattle.std.specs.List.{list_any};
+ghost use Rattle.vo_spec.specs.Pruning.{has_column as is_among};
+ghost use Rattle.vo_spec.specs.Scans.{in_interval as has_key};
+ghost use Rattle.tree_stream.specs.Findings.{cell_findings, closed_row_findings, columns_at as columns_of, combine, combine_cells, entry_findings_by, no_findings, open_node_findings, row_head_findings, stub_findings};
+
+use crate::findings::{CellFindings, Findings};
+use key_intervals::in_interval;
+use row_bytes::own_value;
+use std::alloc::{AllocError, Global};
+use vo_spec::{Cell, Key, List, Need, SeenRow};
+
+pub(crate) fn empty_findings(alloc: Global) -> Findings
+    ensures { result ≡ no_findings }
+{
+    Findings {
+        is_missing: false,
+        has_surplus: false,
+        rows: List::new(alloc),
+    }
+}
+
+pub(crate) fn add_stub(findings: &mut Findings, visited: bool)
+    ensures { findings.new ≡ combine findings.old (stub_findings visited) }
+{
+    findings.is_missing = findings.is_missing || visited;
+}
+
+pub(crate) fn add_open_node(findings: &mut Findings, visited: bool)
+    ensures { findings.new ≡ combine findings.old (open_node_findings visited) }
+{
+    findings.has_surplus = findings.has_surplus || !visited;
+}
+
+/// The columns that the need names of the row with this key.
+pub(crate) fn columns_at<'n>(need: &'n Need, key: &[u8]) -> &'n [u8]
+    ensures { result.now ≡ columns_of need.now key.now }
+{
+    if in_interval(&need.interval, key) {
+        need.columns.as_slice()
+    } else {
+        &[]
+    }
+}
+
+pub(crate) fn has_column(columns: &[u8], column: u8) -> bool
+    ensures { result ≡ is_among columns.now column }
+{
+    columns.iter().any(|other| *other == column)
+}
+
+/// Of a row that stands as so many cells, before them.
+pub(crate) fn begin_cells(alloc: Global, named: &[u8], count: u8) -> CellFindings
+    ensures { result ≡ row_head_findings named.now count }
+{
+    CellFindings {
+        is_missing: names_beyond(named, count),
+        has_surplus: named.is_empty(),
+        values: List::new(alloc),
+    }
+}
+
+fn names_beyond(named: &[u8], count: u8) -> bool
+    ensures { result ≡ list_any (λ column. nat_le count column) named.now }
+{
+    named.iter().any(|column| count <= *column)
+}
+
+/// Of a row that stands as a digest.
+pub(crate) fn closed_row(alloc: Global, named: &[u8]) -> CellFindings
+    ensures { result ≡ closed_row_findings named.now }
+{
+    CellFindings {
+        is_missing: !named.is_empty(),
+        has_surplus: false,
+        values: List::new(alloc),
+    }
+}
+
+/// Adds what is found in one cell, whose column is named or isn't.
+pub(crate) fn add_cell(
+    alloc: Global,
+    findings: &mut CellFindings,
+    is_named: bool,
+    cell: &Cell<'_>,
+) -> Result<(), AllocError>
+    ensures sum { OnOk result (findings.new ≡ combine_cells findings.old
+        (cell_findings is_named cell.now)) }
+    ensures memory { IsErr result → IsTrue is_named }
+{
+    match cell {
+        Cell::Hidden(_) => findings.is_missing = findings.is_missing || is_named,
+        Cell::Shown(value) => {
+            if is_named {
+                findings.values.push(own_value(alloc, value.as_ref())?)?;
+            } else {
+                findings.has_surplus = true;
+            }
+        },
+    }
+    Ok(())
+}
+
+/// Adds the entry with this key, in whose cells this is found.
+pub(crate) fn add_entry(
+    alloc: Global,
+    findings: &mut Findings,
+    need: &Need,
+    key: &[u8],
+    found: CellFindings,
+) -> Result<(), AllocError>
+    ensures sum { OnOk result (findings.new ≡ combine findings.old
+        (entry_findings_by need.now key.now found)) }
+    ensures memory { IsErr result → IsTrue (has_key need.now.interval key.now) }
+{
+    let CellFindings {
+        is_missing,
+        has_surplus,
+        values,
+    } = found;
+    findings.is_missing = findings.is_missing || is_missing;
+    findings.has_surplus = findings.has_surplus || has_surplus;
+    let is_seen = in_interval(&need.interval, key);
+    if is_seen {
+        let key = Key::from_vec(Vec::from_slice(alloc, key)?);
+        findings.rows.push(SeenRow { key, values })?;
+    }
+    Ok(())
+}

@@ -1,0 +1,59 @@
+//! From a node that ends up to its ancestors, and down to their next children.
+ghost use Rattle.std.specs.Prelude.{◌-◌, ◌<◌, length, reverse};
+ghost use Rattle.tree_stream.specs.Remaining.{rest_of_children};
+ghost use Rattle.tree_stream.specs.Summaries.{Yields, levels_below, summary_after, summary_by};
+
+use crate::context::Context;
+use crate::state::{InnerNode, State};
+use vo_spec::Digest;
+
+/// Reads the next child of a node, which becomes the last of the ancestors.
+pub(crate) fn next_child(context: &mut Context, node: InnerNode) -> State
+    requires { 0 < length node.child_visits.items }
+    ensures { Yields context.new result (summary_by context.old
+        (rest_of_children context.old.need (levels_below context.old.ancestors.items - 1)
+        node.hasher node.child_visits.items)) }
+{
+    if context.ancestors.is_full() {
+        return State::Invalid;
+    }
+    let InnerNode {
+        hasher,
+        mut child_visits,
+    } = node;
+    let visited = child_visits.remove(0);
+    context.ancestors.push(InnerNode {
+        hasher,
+        child_visits,
+    });
+    State::Node(visited)
+}
+
+/// A node with this digest ends.
+pub(crate) fn end_node(context: &mut Context, digest: Digest) -> State
+    ensures { Yields context.new result (summary_after context.old.need
+        (reverse context.old.ancestors.items) digest context.old.findings) }
+{
+    match context.ancestors.pop() {
+        None => State::Complete(digest),
+        Some(
+            InnerNode {
+                mut hasher,
+                child_visits,
+            },
+        ) => {
+            hasher.add(digest.as_bytes());
+            if child_visits.is_empty() {
+                end_node(context, hasher.digest())
+            } else {
+                next_child(
+                    context,
+                    InnerNode {
+                        hasher,
+                        child_visits,
+                    },
+                )
+            }
+        },
+    }
+}

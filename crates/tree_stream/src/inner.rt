@@ -1,0 +1,93 @@
+//! The separators of an inner node.
+ghost use Rattle.std.specs.Prelude.{◌≡◌, ◌++◌, ◌≤◌, ◌+◌, ◌-◌, suc, length};
+ghost use Rattle.std.specs.Option.{option_copied};
+ghost use Rattle.vo_spec.specs.Fits.{max_fill};
+ghost use Rattle.vo_spec.specs.Tables.{max_key};
+ghost use Rattle.tree_stream.specs.Findings.{visits_child as visits_between};
+ghost use Rattle.tree_stream.specs.Remaining.{lower_separator as separator_below, rest_of_inner};
+ghost use Rattle.tree_stream.specs.Summaries.{Yields, levels_below, summary_by};
+ghost use Rattle.tree_stream.specs.Tokens.{string_size};
+
+use crate::ancestors::next_child;
+use crate::context::Context;
+use crate::leaves::replace_key;
+use crate::parse::parse_key;
+use crate::state::{InnerHead, InnerNode, State};
+use arrayvec::ArrayVec;
+use key_intervals::visits;
+use running_hash::RunningHash;
+use vo_spec::Need;
+
+fn lower_separator(has_lower: bool, last_key: &[u8]) -> Option<&[u8]>
+    ensures { option_copied result ≡ separator_below has_lower last_key.now }
+{
+    if has_lower { Some(last_key) } else { None }
+}
+
+fn visits_child(need: &Need, visited: bool, lower: Option<&[u8]>, upper: Option<&[u8]>) -> bool
+    ensures { result ≡ visits_between need.now visited (option_copied lower.entry)
+        (option_copied upper.entry) }
+{
+    visited && visits(&need.interval, lower, upper)
+}
+
+/// So many more separators, and then the children.
+pub(crate) fn next_separator(
+    context: &mut Context,
+    hasher: RunningHash,
+    visited: bool,
+    has_lower: bool,
+    mut child_visits: ArrayVec<bool, 16>,
+    left: u8,
+) -> State
+    requires { length child_visits.items + (left + 1) ≤ max_fill }
+    ensures { Yields context.new result (summary_by context.old (rest_of_inner context.old.need
+        (levels_below context.old.ancestors.items - 1) visited hasher child_visits.items
+        (separator_below has_lower context.old.last_key.items) left)) }
+{
+    if left > 0 {
+        return State::Separator(InnerHead {
+            hasher,
+            visited,
+            has_lower,
+            child_visits,
+            left: left - 1,
+        });
+    }
+    let lower = lower_separator(has_lower, context.last_key.as_slice());
+    child_visits.push(visits_child(&context.need, visited, lower, None));
+    next_child(
+        context,
+        InnerNode {
+            hasher,
+            child_visits,
+        },
+    )
+}
+
+pub(crate) fn take_separator(context: &mut Context, head: InnerHead, token: &[u8]) -> State
+    requires { length token.now ≡ string_size max_key token.now }
+    ensures { Yields context.new result (λ rest. summary_by context.old
+        (rest_of_inner context.old.need (levels_below context.old.ancestors.items - 1)
+        head.visited head.hasher head.child_visits.items
+        (separator_below head.has_lower context.old.last_key.items) (suc head.left))
+        (token.now ++ rest)) }
+{
+    match parse_key(token) {
+        None => State::Invalid,
+        Some(separator) => {
+            let InnerHead {
+                mut hasher,
+                visited,
+                has_lower,
+                mut child_visits,
+                left,
+            } = head;
+            hasher.add(token);
+            let lower = lower_separator(has_lower, context.last_key.as_slice());
+            child_visits.push(visits_child(&context.need, visited, lower, Some(separator)));
+            replace_key(&mut context.last_key, separator);
+            next_separator(context, hasher, visited, true, child_visits, left)
+        },
+    }
+}

@@ -1,0 +1,37 @@
+//! What the summary of a tree's bytes is, in the terms of trees and their proofs.
+ghost use Rattle.std.specs.Prelude.{◌≡◌, ℕ, List, [], ◌∷◌, Some, false};
+ghost use Rattle.vo_spec.specs.declared.needs.Need.{Need};
+ghost use Rattle.vo_spec.specs.Bytes.{IsBytes};
+ghost use Rattle.vo_spec.specs.Fits.{FitsPart, FitsTree};
+ghost use Rattle.vo_spec.specs.Pruning.{has_surplus, is_missing};
+ghost use Rattle.vo_spec.specs.Scans.{seen};
+ghost use Rattle.vo_spec.specs.Trees.{RowTree, digest};
+ghost use Rattle.vo_spec.specs.TreeBytes.{tree_bytes};
+ghost use Rattle.tree_stream.specs.declared.findings.Summary.{Summary};
+ghost use Rattle.tree_stream.specs.Findings.{Rises, findings_in};
+ghost use Rattle.tree_stream.specs.Remaining.{summary};
+ghost use Rattle.tree_stream.specs.Summaries.{summary_of_tree};
+
+/// Bytes have a summary exactly where they are the encoding of a tree that keeps the limits: the tree's
+/// digest, and what the need finds in it.
+pub fn trees_have_their_summary()
+    ensures again { (need : Need) (tree : RowTree) → FitsTree tree
+        → summary_of_tree need (tree_bytes tree)
+        ≡ Some (summary (digest tree) (findings_in need tree)) }
+    ensures only { (need : Need) (bytes : List ℕ) (found : Summary) → IsBytes bytes
+        → summary_of_tree need bytes ≡ Some found
+        → (tree : RowTree) × FitsTree tree × (bytes ≡ tree_bytes tree)
+        × (found ≡ summary (digest tree) (findings_in need tree)) }
+{}
+
+/// What the need finds says whether the tree is missing something or has a surplus; where neither is so, the
+/// rows are those that the scan gives, if the need's columns are in rising order.
+pub fn findings_judge_proofs()
+    ensures missing { (need : Need) (tree : RowTree) → FitsPart tree
+        → is_missing (need ∷ []) tree ≡ (findings_in need tree).is_missing }
+    ensures surplus { (need : Need) (tree : RowTree) → FitsPart tree
+        → has_surplus (need ∷ []) tree ≡ (findings_in need tree).has_surplus }
+    ensures rows { (need : Need) (tree : RowTree) → FitsPart tree → Rises 0 need.columns
+        → is_missing (need ∷ []) tree ≡ false → has_surplus (need ∷ []) tree ≡ false
+        → seen need tree ≡ Some (findings_in need tree).rows }
+{}

@@ -1,0 +1,26 @@
+//! One part tree of a reply, read in whatever pieces it comes, without holding it: its digest, and what a
+//! need finds in it.
+#![tactic(auto)]
+
+mod accumulate;
+mod ancestors;
+mod cells;
+mod context;
+mod findings;
+mod inner;
+mod laws;
+mod leaves;
+mod machine;
+mod nodes;
+mod parse;
+mod pieces;
+mod state;
+mod stream;
+mod take;
+#[cfg(test)]
+mod tests;
+mod tokens;
+
+pub use findings::{Findings, Summary};
+pub use laws::{findings_judge_proofs, trees_have_their_summary};
+pub use stream::TreeStream;

@@ -1,0 +1,149 @@
+//! Pieces of any sizes, of which whole tokens are taken; a token that isn't whole is kept.
+ghost use Rattle.std.specs.Prelude.{◌≡◌, ◌⊎◌, ◌↔◌, ◌<◌, ◌≤◌, [], ◌++◌, length, IsTrue, IfOk, IsErr, OnOk, OnErr};
+ghost use Rattle.tree_stream.specs.Machines.{Advances, EndsWith, StopsInRow, summary_of_machine};
+ghost use Rattle.tree_stream.specs.Summaries.{CanEnd};
+ghost use Rattle.tree_stream.specs.Tokens.{token_size as size_of_token};
+
+use crate::machine::Machine;
+use crate::state::State;
+use crate::take::take;
+use crate::tokens::token_size;
+use arrayvec::ArrayVec;
+use std::alloc::{AllocError, Global};
+
+/// Takes all tokens that are whole, and gives the bytes behind them.
+fn take_all<'b>(
+    machine: &mut Machine,
+    alloc: Global,
+    bytes: &'b [u8],
+) -> Result<&'b [u8], AllocError>
+    ensures ok { IfOk result (λ left. Advances machine.old machine.new bytes.now left.now) }
+    ensures short { IfOk result (λ left. length left.now < size_of_token machine.new.state left.now) }
+    ensures err { OnErr result (machine.new.state ≡ State.Invalid) }
+    ensures way { IsErr result → CanEnd (summary_of_machine machine.old) }
+    ensures memory { IsErr result → StopsInRow machine.old bytes.now }
+{
+    let mut left = bytes;
+    let mut size = token_size(&machine.state, left);
+    'tokens: while size <= left.len() {
+        let (token, behind) = left.split_at(size);
+        take(machine, alloc, token)?;
+        left = behind;
+        size = token_size(&machine.state, left);
+    }
+    Ok(left)
+}
+
+/// Puts what the token in front lacks behind the bytes of it, and takes it once it is whole. Gives the
+/// bytes behind it.
+fn fill<'b>(
+    machine: &mut Machine,
+    partial: &mut ArrayVec<u8, 1028>,
+    alloc: Global,
+    piece: &'b [u8],
+) -> Result<&'b [u8], AllocError>
+    requires short { length partial.old.items < size_of_token machine.old.state partial.old.items }
+    requires valid { machine.old.state ≡ State.Invalid → ⊥ }
+    ensures ok { IfOk result (λ left. Advances machine.old machine.new
+        (partial.old.items ++ piece.now) (partial.new.items ++ left.now)) }
+    ensures all { IfOk result (λ left. (partial.new.items ≡ []) ⊎ (left.now ≡ [])) }
+    ensures behind { IfOk result (λ left. EndsWith piece.now left.now) }
+    ensures short { length partial.new.items < size_of_token machine.new.state partial.new.items }
+    ensures err { OnErr result (machine.new.state ≡ State.Invalid) }
+    ensures way { IsErr result → CanEnd (λ rest. summary_of_machine machine.old
+        (partial.old.items ++ rest)) }
+    ensures memory { IsErr result → StopsInRow machine.old (partial.old.items ++ piece.now) }
+    ensures some { IsErr result → 0 < length piece.now }
+{
+    let lacking = token_size(&machine.state, partial.as_slice()) - partial.len();
+    let (front, left) = split_within(piece, lacking);
+    let _ = partial.try_extend_from_slice(front);
+    if partial.len() < token_size(&machine.state, partial.as_slice()) {
+        if left.is_empty() {
+            return Ok(left);
+        }
+        return fill(machine, partial, alloc, left);
+    }
+    take(machine, alloc, partial.as_slice())?;
+    partial.clear();
+    Ok(left)
+}
+
+/// At most so many bytes, and those behind them.
+fn split_within<'b>(bytes: &'b [u8], count: usize) -> (&'b [u8], &'b [u8])
+    ensures parts { bytes.now ≡ result.0.now ++ result.1.now }
+    ensures within { length result.0.now ≤ count }
+    ensures all { (length result.0.now ≡ count) ⊎ (result.1.now ≡ []) }
+{
+    if count <= bytes.len() {
+        bytes.split_at(count)
+    } else {
+        (bytes, &[])
+    }
+}
+
+fn is_invalid(state: &State) -> bool
+    ensures { IsTrue result ↔ (state.now ≡ State.Invalid) }
+{
+    match state {
+        State::Node(_) => false,
+        State::Separator(_) => false,
+        State::Key(_) => false,
+        State::Row(_) => false,
+        State::Cell(_) => false,
+        State::Complete(_) => false,
+        State::Invalid => true,
+    }
+}
+
+/// Takes what is whole, and keeps the rest. Of bytes that are no tree nothing is kept.
+fn feed_whole(
+    machine: &mut Machine,
+    partial: &mut ArrayVec<u8, 1028>,
+    alloc: Global,
+    bytes: &[u8],
+) -> Result<(), AllocError>
+    requires { partial.old.items ≡ [] }
+    ensures ok { OnOk result (Advances machine.old machine.new bytes.now partial.new.items) }
+    ensures short { length partial.new.items < size_of_token machine.new.state partial.new.items }
+    ensures err { OnErr result (machine.new.state ≡ State.Invalid) }
+    ensures way { IsErr result → CanEnd (summary_of_machine machine.old) }
+    ensures memory { IsErr result → StopsInRow machine.old bytes.now }
+{
+    let left = take_all(machine, alloc, bytes)?;
+    if !is_invalid(&machine.state) {
+        let _ = partial.try_extend_from_slice(left);
+    }
+    Ok(())
+}
+
+/// Takes a piece behind the bytes of a token that isn't whole.
+pub(crate) fn feed_piece(
+    machine: &mut Machine,
+    partial: &mut ArrayVec<u8, 1028>,
+    alloc: Global,
+    piece: &[u8],
+) -> Result<(), AllocError>
+    requires { length partial.old.items < size_of_token machine.old.state partial.old.items }
+    ensures ok { OnOk result (Advances machine.old machine.new
+        (partial.old.items ++ piece.now) partial.new.items) }
+    ensures short { length partial.new.items < size_of_token machine.new.state partial.new.items }
+    ensures err { OnErr result (machine.new.state ≡ State.Invalid) }
+    ensures way { IsErr result → CanEnd (λ rest. summary_of_machine machine.old
+        (partial.old.items ++ rest)) }
+    ensures memory { IsErr result → StopsInRow machine.old (partial.old.items ++ piece.now) }
+    ensures some { IsErr result → 0 < length piece.now }
+{
+    if is_invalid(&machine.state) {
+        partial.clear();
+        return Ok(());
+    }
+    if partial.is_empty() {
+        return feed_whole(machine, partial, alloc, piece);
+    }
+    let left = fill(machine, partial, alloc, piece)?;
+    if partial.is_empty() {
+        return feed_whole(machine, partial, alloc, left);
+    }
+    Ok(())
+}

@@ -1,0 +1,92 @@
+//! A tree whose bytes come in pieces.
+ghost use Rattle.std.specs.Prelude.{◌≡◌, ◌<◌, ◌++◌, ℕ, List, [], None, length, IsErr, IsOk, OnOk, OnErr};
+ghost use Rattle.tree_stream.specs.Summaries.{complete_digest as digest_where_complete, summary_of_tree};
+ghost use Rattle.tree_stream.specs.Tokens.{token_size};
+
+use crate::accumulate::empty_findings;
+use crate::context::Context;
+use crate::findings::Summary;
+use crate::machine::Machine;
+use crate::pieces::feed_piece;
+use crate::state::State;
+use arrayvec::ArrayVec;
+use key_intervals::is_empty_interval;
+use std::alloc::{AllocError, Global};
+use vo_spec::{Digest, Need};
+
+/// A reader of one tree. It holds no more of the bytes than a token that isn't whole.
+#[derive(Drop)]
+pub struct TreeStream {
+    machine: Machine,
+    partial: ArrayVec<u8, 1028>,
+    ghost short: { length partial.items < token_size machine.state partial.items },
+}
+
+impl TreeStream {
+    ghost use Rattle.tree_stream.specs.Streams.{WantsMemory, summary_of};
+
+    /// A reader that was given no bytes, of a tree that is read for a need.
+    pub fn new(alloc: Global, need: Need) -> TreeStream
+        ensures { (bytes : List ℕ) → summary_of result bytes ≡ summary_of_tree need bytes }
+    {
+        let visited = !is_empty_interval(&need.interval);
+        TreeStream {
+            machine: Machine {
+                context: Context {
+                    need,
+                    ancestors: ArrayVec::new(),
+                    findings: empty_findings(alloc),
+                    last_key: ArrayVec::new(),
+                },
+                state: State::Node(visited),
+            },
+            partial: ArrayVec::new(),
+        }
+    }
+
+    /// Takes the piece that comes next.
+    pub fn feed(&mut self, alloc: Global, piece: &[u8]) -> Result<(), AllocError>
+        // It is as if the piece had stood in front of the bytes to come.
+        ensures ok { OnOk result ((more : List ℕ)
+            → summary_of self.new more ≡ summary_of self.old (piece.now ++ more)) }
+
+        // Where memory ran out, no tree comes of it any more.
+        ensures err { OnErr result ((more : List ℕ) → summary_of self.new more ≡ None) }
+
+        // Memory runs out only while the bytes so far can still become a tree.
+        ensures dead { ((more : List ℕ) → summary_of self.old more ≡ None) → IsOk result }
+
+        // It runs out only at a byte of the piece that is of a row whose key is in the interval.
+        ensures memory { IsErr result → WantsMemory self.old piece.now }
+    {
+        feed_piece(&mut self.machine, &mut self.partial, alloc, piece)
+    }
+
+    /// The digest and what was found, where the bytes so far are one whole tree.
+    pub fn end(self) -> Option<Summary>
+        ensures { result ≡ summary_of self [] }
+    {
+        let TreeStream { machine, .. } = self;
+        let Machine { context, state } = machine;
+        let Context { findings, .. } = context;
+        match complete_digest(state) {
+            Some(digest) => Some(Summary { digest, findings }),
+            None => None,
+        }
+    }
+}
+
+/// The digest of a tree that is whole.
+fn complete_digest(state: State) -> Option<Digest>
+    ensures { result ≡ digest_where_complete state }
+{
+    match state {
+        State::Node(_) => None,
+        State::Separator(_) => None,
+        State::Key(_) => None,
+        State::Row(_) => None,
+        State::Cell(_) => None,
+        State::Complete(digest) => Some(digest),
+        State::Invalid => None,
+    }
+}

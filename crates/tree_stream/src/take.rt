@@ -1,0 +1,54 @@
+//! The machine takes one token after another.
+ghost use Rattle.std.specs.Prelude.{◌≡◌, ◌++◌, length, IfOk, IsErr, OnOk, OnErr};
+ghost use Rattle.tree_stream.specs.Machines.{Takes, summary_of_machine};
+ghost use Rattle.tree_stream.specs.Summaries.{CanEnd, IsInNeededRow, Yields, summary_from};
+ghost use Rattle.tree_stream.specs.Tokens.{token_size};
+
+use crate::cells::take_cell;
+use crate::context::Context;
+use crate::inner::take_separator;
+use crate::leaves::{take_key, take_row};
+use crate::machine::Machine;
+use crate::nodes::take_node;
+use crate::state::State;
+use std::alloc::{AllocError, Global};
+use std::mem;
+
+fn next_state(
+    context: &mut Context,
+    alloc: Global,
+    state: State,
+    token: &[u8],
+) -> Result<State, AllocError>
+    requires { length token.now ≡ token_size state token.now }
+    ensures ok { IfOk result (λ next. Yields context.new next
+        (λ rest. summary_from context.old state (token.now ++ rest))) }
+    ensures way { IsErr result → CanEnd (λ rest. summary_from context.old state
+        (token.now ++ rest)) }
+    ensures memory { IsErr result → IsInNeededRow context.old state }
+{
+    let _room = context.ancestors.len();
+    match state {
+        State::Node(visited) => Ok(take_node(context, visited, token)),
+        State::Separator(head) => Ok(take_separator(context, head, token)),
+        State::Key(leaf) => Ok(take_key(context, leaf, token)),
+        State::Row(leaf) => take_row(context, alloc, leaf, token),
+        State::Cell(row) => take_cell(context, alloc, row, token),
+        State::Complete(_) => Ok(State::Invalid),
+        State::Invalid => Ok(State::Invalid),
+    }
+}
+
+/// Takes a whole token. Where memory runs out, the machine takes nothing from then on.
+pub(crate) fn take(machine: &mut Machine, alloc: Global, token: &[u8]) -> Result<(), AllocError>
+    requires { length token.now ≡ token_size machine.old.state token.now }
+    ensures ok { OnOk result (Takes machine.old machine.new token.now) }
+    ensures err { OnErr result (machine.new.state ≡ State.Invalid) }
+    ensures way { IsErr result → CanEnd (λ rest. summary_of_machine machine.old
+        (token.now ++ rest)) }
+    ensures memory { IsErr result → IsInNeededRow machine.old.context machine.old.state }
+{
+    let state = mem::replace(&mut machine.state, State::Invalid);
+    machine.state = next_state(&mut machine.context, alloc, state, token)?;
+    Ok(())
+}
