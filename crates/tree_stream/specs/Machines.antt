@@ -1,10 +1,11 @@
--- The summary that comes of a stream, if these bytes come next and then nothing.
-use Rattle.std.specs.Prelude.{◌≡◌, ℕ, ◌<◌, List, ◌++◌, length, Option}
+-- What a machine takes of bytes, and what comes of those behind them.
+use Rattle.std.specs.Prelude.{◌≡◌, ℕ, ◌<◌, List, ◌++◌, length}
+use Rattle.batch_format.specs.BatchReading.{Reader}
 use Rattle.tree_stream.specs.declared.findings.Summary.{Summary}
 use Rattle.tree_stream.specs.declared.machine.Machine.{Machine}
 use Rattle.tree_stream.specs.Summaries.{summary_from, IsInNeededRow}
 
-abbrev pub summary_of_machine : Machine → List ℕ → Option Summary
+abbrev pub summary_of_machine : Machine → Reader Summary
 summary_of_machine machine bytes = summary_from machine.context machine.state bytes
 
 -- the machine took these bytes

@@ -38,12 +38,12 @@ cell_size [] = 1
 cell_size (byte ∷ bytes) =
     if byte == 0 then 33 else if byte == 1 then suc (value_size bytes) else 1
 
--- behind a whole tree any byte is one too many, and of bytes that are no tree no token ends
+-- behind a whole tree, and in bytes that are no tree, no token ends
 unfoldable pub token_size : State → List ℕ → ℕ
 token_size (Node visited) bytes = node_size bytes
 token_size (Separator head) bytes = string_size max_key bytes
 token_size (Key leaf) bytes = string_size max_key bytes
 token_size (Row leaf) bytes = row_size bytes
 token_size (Cell row) bytes = cell_size bytes
-token_size (Complete digest) bytes = 1
+token_size (Complete digest) bytes = suc (length bytes)
 token_size Invalid bytes = suc (length bytes)

@@ -47,7 +47,9 @@ fn summary_in_pieces(
 {
     let mut stream = TreeStream::new(alloc, need(alloc)?);
     for piece in bytes.chunks(size) {
-        stream.feed(alloc, piece)?;
+        if !stream.feed(alloc, piece)?.is_empty() {
+            return Ok(None);
+        }
     }
     Ok(stream.end())
 }
