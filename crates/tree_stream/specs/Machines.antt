@@ -21,7 +21,8 @@ pub record Advances (old new : Machine) (bytes left : List ℕ) : Type 0 where
 abbrev pub EndsWith : List ℕ → List ℕ → Type 0
 EndsWith bytes end = (front : List ℕ) × (bytes ≡ front ++ end)
 
--- of these bytes the machine takes some, up to a needed row whose next byte is among those that are left
+-- of these bytes the machine takes some, up to a needed row whose next byte is among those that are
+-- left
 pub record StopsInRow (old : Machine) (bytes : List ℕ) : Type 0 where
   pub reached : Machine
   pub left : List ℕ

@@ -1,4 +1,5 @@
--- What comes of a stream and of the bytes to come: those of a token that isn't whole are not taken yet.
+-- What comes of a stream and of the bytes to come: those of a token that isn't whole are not taken
+-- yet.
 use Rattle.std.specs.Prelude.{ℕ, ◌<◌, List, ◌++◌, length, Some, None, ◌≡◌, ◌⊎◌}
 use Rattle.batch_format.specs.BatchReading.{Reader}
 use Rattle.tree_stream.specs.declared.findings.Summary.{Summary}

@@ -1,4 +1,5 @@
--- What reading the bytes to come gives of a tree that is read in part: its summary, and the bytes behind it.
+-- What reading the bytes to come gives of a tree that is read in part: its summary, and the bytes
+-- behind it.
 use Rattle.std.specs.Prelude.{◌≡◌, ℕ, Bool, true, false, IsTrue, ◌-◌, not, List, [], ◌∷◌, ◌++◌, length, reverse, Option, Some, None}
 use Rattle.vo_spec.specs.declared.needs.Need.{Need}
 use Rattle.vo_spec.specs.Scans.{in_interval, is_empty_interval}
@@ -18,8 +19,8 @@ use Rattle.tree_stream.specs.Remaining.{summary, rest_of_children, rest_of_node,
 abbrev pub levels_below : List InnerNode → ℕ
 levels_below ancestors = max_levels - length ancestors
 
--- Behind a node that ended with this digest, and these findings so far: the children that its ancestors
--- still have, the nearest ancestor first.
+-- Behind a node that ended with this digest, and these findings so far: the children that its
+-- ancestors still have, the nearest ancestor first.
 unfoldable pub summary_after : Need → List InnerNode → List ℕ → Findings → Reader Summary
 summary_after need [] d found bytes = Some (summary d found, bytes)
 summary_after need (node ∷ ancestors) d found bytes =
@@ -71,7 +72,8 @@ pub record Yields (context : Context) (state : State) (summaries : Reader Summar
 abbrev pub CanEnd : Reader Summary → Type 0
 CanEnd summaries = (bytes : List ℕ) × (end : Summary × List ℕ) × (summaries bytes ≡ Some end)
 
--- The next byte is of an entry behind its key, which is in the need's interval: there a call may want memory.
+-- The next byte is of an entry behind its key, which is in the need's interval: there a call may
+-- want memory.
 abbrev pub is_needed_row : Context → Bool
 is_needed_row context = in_interval context.need.interval context.last_key.items
 

@@ -1,5 +1,5 @@
--- Tokens of a tree's bytes, one of which is taken at a time: how many bytes the next one has, as far as the
--- first bytes of it tell. A length beyond its limit ends its token.
+-- Tokens of a tree's bytes, one of which is taken at a time: how many bytes the next one has, as
+-- far as the first bytes of it tell. A length beyond its limit ends its token.
 use Rattle.std.specs.Prelude.{ℕ, suc, ◌+◌, ◌==◌, nat_lt, nat_le, if◌then◌else◌, List, [], ◌∷◌, length, take}
 use Rattle.vo_spec.specs.Bytes.{u16_of}
 use Rattle.vo_spec.specs.Values.{max_text}
@@ -10,7 +10,8 @@ use Rattle.tree_stream.specs.declared.state.State.TheVariants.{Node, Separator, 
 -- a stub, or the first byte and the count of an open node
 unfoldable pub node_size : List ℕ → ℕ
 node_size [] = 1
-node_size (byte ∷ bytes) = if byte == 0 then 33 else if byte == 1 then 2 else if byte == 2 then 2 else 1
+node_size (byte ∷ bytes) =
+    if byte == 0 then 33 else if byte == 1 then 2 else if byte == 2 then 2 else 1
 
 -- a string of at most so many bytes, behind its length
 unfoldable pub string_size : ℕ → List ℕ → ℕ

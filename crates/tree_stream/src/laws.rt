@@ -12,8 +12,8 @@ ghost use Rattle.tree_stream.specs.Findings.{Rises, findings_in};
 ghost use Rattle.tree_stream.specs.Remaining.{summary};
 ghost use Rattle.tree_stream.specs.Summaries.{summary_of_tree};
 
-/// A summary is read exactly where the encoding of a tree that keeps the limits is in front: the tree's
-/// digest, and what the need finds in it.
+/// A summary is read exactly where the encoding of a tree that keeps the limits is in front: the
+/// tree's digest, and what the need finds in it.
 pub fn trees_have_their_summary()
     ensures again { (need : Need) (tree : RowTree) (rest : List ℕ) → FitsTree tree
         → summary_of_tree need (tree_bytes tree ++ rest)
@@ -24,8 +24,8 @@ pub fn trees_have_their_summary()
         × (found ≡ summary (digest tree) (findings_in need tree)) }
 {}
 
-/// What the need finds says whether the tree is missing something or has a surplus; where neither is so, the
-/// rows are those that the scan gives, if the need's columns are in rising order.
+/// What the need finds says whether the tree is missing something or has a surplus; where neither
+/// is so, the rows are those that the scan gives, if the need's columns are in rising order.
 pub fn findings_judge_proofs()
     ensures missing { (need : Need) (tree : RowTree) → FitsPart tree
         → is_missing (need ∷ []) tree ≡ (findings_in need tree).is_missing }

@@ -18,7 +18,8 @@ fn take_all<'b>(
     bytes: &'b [u8],
 ) -> Result<&'b [u8], AllocError>
     ensures ok { IfOk result (λ left. Advances machine.old machine.new bytes.now left.now) }
-    ensures short { IfOk result (λ left. length left.now < size_of_token machine.new.state left.now) }
+    ensures short { IfOk result (λ left.
+        length left.now < size_of_token machine.new.state left.now) }
     ensures err { OnErr result (machine.new.state ≡ State.Invalid) }
     ensures way { IsErr result → CanEnd (summary_of_machine machine.old) }
     ensures memory { IsErr result → StopsInRow machine.old bytes.now }
@@ -34,8 +35,8 @@ fn take_all<'b>(
     Ok(left)
 }
 
-/// Puts what the token in front lacks behind the bytes of it, and takes it once it is whole. Gives the
-/// bytes behind it.
+/// Puts what the token in front lacks behind the bytes of it, and takes it once it is whole. Gives
+/// the bytes behind it.
 fn fill<'b>(
     machine: &mut Machine,
     partial: &mut ArrayVec<u8, 1028>,
@@ -105,7 +106,8 @@ fn is_settled(state: &State) -> bool
     }
 }
 
-/// Takes what is whole, and keeps the rest. Gives the bytes behind the tree, or behind those that are no tree.
+/// Takes what is whole, and keeps the rest. Gives the bytes behind the tree, or behind those that
+/// are no tree.
 fn feed_whole<'b>(
     machine: &mut Machine,
     partial: &mut ArrayVec<u8, 1028>,
@@ -130,8 +132,8 @@ fn feed_whole<'b>(
     Ok(&[])
 }
 
-/// Takes a piece behind the bytes of a token that isn't whole. Gives the bytes behind the tree, or behind those
-/// that are no tree.
+/// Takes a piece behind the bytes of a token that isn't whole. Gives the bytes behind the tree, or
+/// behind those that are no tree.
 pub(crate) fn feed_piece<'b>(
     machine: &mut Machine,
     partial: &mut ArrayVec<u8, 1028>,
@@ -144,7 +146,8 @@ pub(crate) fn feed_piece<'b>(
         (partial.old.items ++ piece.now) (partial.new.items ++ left.now)) }
     ensures all { IfOk result (λ left. (left.now ≡ []) ⊎ IsTrue (has_settled machine.new.state)) }
     ensures kept_new { IsTrue (has_settled machine.new.state) → partial.new.items ≡ [] }
-    ensures short_new { length partial.new.items < size_of_token machine.new.state partial.new.items }
+    ensures short_new { length partial.new.items
+        < size_of_token machine.new.state partial.new.items }
     ensures err { OnErr result (machine.new.state ≡ State.Invalid) }
     ensures way { IsErr result → CanEnd (λ rest. summary_of_machine machine.old
         (partial.old.items ++ rest)) }

@@ -45,10 +45,11 @@ impl TreeStream {
         }
     }
 
-    /// Takes the piece that comes next, up to the end of the tree, and gives the bytes behind that. Of bytes
-    /// that are no tree it takes no more.
+    /// Takes the piece that comes next, up to the end of the tree, and gives the bytes behind that.
+    /// Of bytes that are no tree it takes no more.
     pub fn feed<'b>(&mut self, alloc: Global, piece: &'b [u8]) -> Result<&'b [u8], AllocError>
-        // It is as if the piece had stood in front of the bytes to come, but for what is left of it.
+        // It is as if the piece had stood in front of the bytes to come, but for what is left of
+        // it.
         ensures ok { IfOk result (λ left. (more : List ℕ)
             → summary_of self.new (left.now ++ more) ≡ summary_of self.old (piece.now ++ more)) }
 
