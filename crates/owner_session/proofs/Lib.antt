@@ -5,3 +5,4 @@ pub mod WireLaws
 pub mod CommitLaws
 pub mod SessionLaws
 pub mod OrderLaws
+pub mod DoneLaws

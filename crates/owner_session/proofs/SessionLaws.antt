@@ -3,6 +3,7 @@ use Rattle.std.proofs.Common.{◌≡◌, ℕ, ◌<◌, ◌≤◌, List, [], ◌+
 use Rattle.outside.specs.FaultRose.{FaultRose}
 use Rattle.outside.specs.Sink.{added}
 use Rattle.link_frames.specs.Scripts.{Event, IsDone}
+use Rattle.owner_session.specs.declared.refusals.RefusalCause.TheVariants as causes
 use Rattle.owner_session.specs.declared.stop.Status.{Status}
 use Rattle.owner_session.specs.declared.stop.Status.TheVariants as statuses
 use Rattle.owner_session.specs.declared.stop.Report.{Report}
@@ -11,7 +12,7 @@ use Rattle.owner_session.specs.declared.stop.Stop.TheVariants as stop
 use Rattle.owner_session.specs.Endings.{Ending, Done, StoreRefuses, StandsElsewhere, OwnerRefuses, BadAnswer, CutAnswer, Reports, Output, output_of, outside_failure, code_of}
 use Rattle.owner_session.specs.Work.{Forms, Judgement, Deed, Work, Input, ends_with, session_on, session}
 use Rattle.owner_session.specs.Runs.{Snapshot, HasWritten, Reaches, Fails, Halts, input_of, lines_of, continuation, UnlessDisk}
-use Rattle.owner_session.specs.Sessions.{Writes, WritesLast, WritesEnding, SessionEnds, SessionRuns}
+use Rattle.owner_session.specs.Sessions.{Writes, WritesLast, WritesEnding, SessionEnds, SessionRuns, SessionIsDone}
 
 -- Counts that rise.
 
@@ -177,3 +178,61 @@ module _ {S B E : Type 0} (IsJudgement : S → B → List ℕ → Judgement S E 
       subst (λ (w : Stop). Fails IsJudgement KeptWith (session_on forms a.state a.entries batches) w a b) is f in
       let halt = halted KeptWith stop.Memory f' in
       runs_to KeptWith stop.Memory f' 4 b.written (inr (inr (inr (inr (kept, (refl, halt.0, halt.1))))))
+
+-- Status 0.
+
+no_output_0 : (output : Output) (P : Type 0) (before after : Option (List ℕ)) → (output.status ≡ 0 → ⊥)
+    → Writes output P 0 before after → ⊥
+no_output_0 output P before after other (inl h) = other (sym h.0)
+no_output_0 output P before after other (inr (inl h)) = cc (h.0)
+no_output_0 output P before after other (inr (inr h)) = cc (h.0)
+
+-- of the endings with status 0 there is one
+done_alone : {S B E : Type 0} (ending : Ending) (P : Type 0) (deeds : List (Deed S B E)) (a b : Snapshot S E)
+    → WritesEnding ending P 0 deeds a b → (ending ≡ Done) × HasWritten deeds [] a b
+done_alone Done P deeds a b h = (refl, h.1)
+done_alone (StoreRefuses code) P deeds a b h =
+    absurd (no_output_0 (output_of (StoreRefuses code)) P (added a.written (lines_of deeds)) b.written (λ is. cc is) h)
+done_alone StandsElsewhere P deeds a b h =
+    absurd (no_output_0 (output_of StandsElsewhere) P (added a.written (lines_of deeds)) b.written (λ is. cc is) h)
+done_alone (OwnerRefuses causes.Proofs lines) P deeds a b h =
+    absurd (no_output_0 (output_of (OwnerRefuses causes.Proofs lines)) P (added a.written (lines_of deeds)) b.written (λ is. cc is) h)
+done_alone (OwnerRefuses causes.Command lines) P deeds a b h =
+    absurd (no_output_0 (output_of (OwnerRefuses causes.Command lines)) P (added a.written (lines_of deeds)) b.written (λ is. cc is) h)
+done_alone (BadAnswer length) P deeds a b h =
+    absurd (no_output_0 (output_of (BadAnswer length)) P (added a.written (lines_of deeds)) b.written (λ is. cc is) h)
+done_alone (CutAnswer got) P deeds a b h =
+    absurd (no_output_0 (output_of (CutAnswer got)) P (added a.written (lines_of deeds)) b.written (λ is. cc is) h)
+
+-- work that ended with 0 was done
+ends_done : {S B E : Type 0} (work : Work S B E) (LinkRose DiskRose OutRose Kept : Type 0) (KeptWith : E → Type 0)
+    (deeds : List (Deed S B E)) (a b : Snapshot S E)
+    → SessionEnds work LinkRose DiskRose OutRose Kept KeptWith 0 deeds a b
+    → (work.value ≡ Some Done) × IsDone work.events deeds a.wire b.wire × HasWritten deeds [] a b
+ends_done work L D O K W deeds a b (inl h) =
+    let alone = done_alone h.1.0 O deeds a b h.1.3 in
+    (h.1.1 ∙ ap (λ (e : Ending). Some e) alone.0, h.1.2, alone.1)
+ends_done work L D O K W deeds a b (inr (inl h)) =
+    absurd (no_output_0 outside_failure O (added a.written (lines_of deeds)) b.written (λ is. cc is) h.2.1)
+ends_done work L D O K W deeds a b (inr (inr (inl h))) =
+    absurd (no_output_0 outside_failure O (added a.written (lines_of deeds)) b.written (λ is. cc is) h.2.1)
+ends_done work L D O K W deeds a b (inr (inr (inr (inl h)))) = absurd (cc (h.2.0))
+ends_done work L D O K W deeds a b (inr (inr (inr (inr h)))) = absurd (cc (h.1.0))
+
+pub session_done_at_0 : {S B E : Type 0} (IsJudgement : S → B → List ℕ → Judgement S E → Type 0) (forms : Forms B E)
+    (batches : List B) (LinkRose DiskRose OutRose Kept : Type 0) (KeptWith : E → Type 0) (status : ℕ) (a b : Snapshot S E)
+    → status ≡ 0 → SessionRuns forms IsJudgement batches LinkRose DiskRose OutRose Kept KeptWith status a b
+    → SessionIsDone forms IsJudgement batches a b
+session_done_at_0 {S} {B} {E} IsJudgement forms batches L D O K W status a b zero r =
+    let work : Work S B E = session forms a.state a.entries batches (input_of a r.judgements) in
+    let done = ends_done work L D O K W r.deeds a b
+    (subst (λ (n : ℕ). SessionEnds work L D O K W n r.deeds a b) zero r.ends) in
+    record {
+      judgements = r.judgements;
+      deeds = r.deeds;
+      are_judgements = r.are_judgements;
+      leads = r.leads;
+      ending = done.0;
+      done = done.1;
+      written = done.2;
+    }

@@ -1,9 +1,11 @@
--- Orders in which a session's events come.
-use Rattle.std.specs.Prelude.{◌≡◌, ℕ, List, [], ◌∷◌, ◌++◌, Contains}
+-- What holds of a session's events: their orders, and what they come to.
+use Rattle.std.specs.Prelude.{◌≡◌, ℕ, List, [], ◌∷◌, ◌++◌, flat_map, Some, Contains}
 use Rattle.link_frames.specs.declared.frame_kind.FrameKind.TheVariants.{Install}
 use Rattle.link_frames.specs.Frames.{frame_bytes}
-use Rattle.link_frames.specs.Scripts.{Event, Puts, Takes, Does}
-use Rattle.owner_session.specs.Work.{Makes, Refuses, Deed, Steps, Appends, Says}
+use Rattle.link_frames.specs.Scripts.{Event, Puts, Takes, Does, others}
+use Rattle.owner_session.specs.Endings.{Done, version_line}
+use Rattle.owner_session.specs.Work.{Forms, Makes, Refuses, Deed, Steps, Appends, Says, Work}
+use Rattle.owner_session.specs.Runs.{lines_of, entries_of}
 
 -- each frame is followed at once by its answer
 abbrev pub Alternates : {X : Type 0} → List (Event X) → Type 0
@@ -43,3 +45,20 @@ StepsFirst state (Does (Steps before batch proofs (Makes entry next)) ∷ Does (
 StepsFirst state (Does (Steps before batch proofs (Refuses cause lines)) ∷ events) =
     (before ≡ state) × StepsFirst state events
 StepsFirst state (Does deed ∷ events) = ⊥
+
+-- the batches that the owner stepped on
+abbrev pub batches_of : {S B E : Type 0} → List (Deed S B E) → List B
+batches_of [] = []
+batches_of (Steps before batch proofs judgement ∷ deeds) = batch ∷ batches_of deeds
+batches_of (Appends entry next ∷ deeds) = batches_of deeds
+batches_of (Says line ∷ deeds) = batches_of deeds
+
+abbrev pub version_lines : {B E : Type 0} → Forms B E → List E → List ℕ
+version_lines forms entries = flat_map (λ entry. version_line (forms.version entry)) entries
+
+-- Work that is done was done on each of these batches, in order, and its lines are the versions of
+-- the entries that were appended.
+abbrev pub CommitsEach : {S B E : Type 0} → Forms B E → List B → Work S B E → Type 0
+CommitsEach forms batches work = work.value ≡ Some Done
+    → (batches_of (others work.events) ≡ batches)
+    × (lines_of (others work.events) ≡ version_lines forms (entries_of (others work.events)))

@@ -82,3 +82,20 @@ pub record SessionRuns {S B E : Type 0} (forms : Forms B E)
   pub ends : SessionEnds
       (session forms before.state before.entries batches (input_of before judgements))
       LinkRose DiskRose OutRose Kept KeptWith status deeds before after
+
+-- All of the session's work was done: the store was given what it lacked, each batch was committed,
+-- and all lines are written.
+pub record SessionIsDone {S B E : Type 0} (forms : Forms B E)
+    (IsJudgement : S → B → List ℕ → Judgement S E → Type 0) (batches : List B)
+    (before after : Snapshot S E) : Type 0 where
+  pub judgements : List (Judgement S E)
+  pub deeds : List (Deed S B E)
+  pub are_judgements : AreJudgements IsJudgement deeds
+  pub leads : LeadsTo deeds before after
+  pub ending :
+      (session forms before.state before.entries batches (input_of before judgements)).value
+      ≡ Some Done
+  pub done : IsDone
+      (session forms before.state before.entries batches (input_of before judgements)).events
+      deeds before.wire after.wire
+  pub written : HasWritten deeds [] before after

@@ -38,7 +38,7 @@ StepsTo IsJudgement entry_of next_of (Err (no_step.Refused refusal)) =
 StepsTo IsJudgement entry_of next_of (Err no_step.Memory) = Unit {0}
 
 -- What is done beside the connection: the owner, standing so, makes this of a batch by the proofs
--- that came; an entry is appended to the journal, and the owner stands behind it; a line is written.
+-- that came; an entry is appended to the journal, and the owner stands behind it; a line is put.
 pub data Deed (S B E : Type 0) : Type 0 where
   Steps : (before : S) (batch : B) (proofs : List ℕ) (judgement : Judgement S E) → Deed S B E
   Appends : (entry : E) (next : S) → Deed S B E

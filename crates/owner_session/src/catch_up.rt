@@ -22,8 +22,8 @@ use std::alloc::Global;
 /// Asks where the store stands, and gives it what it lacks.
 pub fn catch_up<O: Owner, L: Link>(alloc: Global, owner: &O, link: &mut L) -> Result<(), Stop>
     ensures known { (before : Snapshot O.State O.Entry) → L.wire link.old ≡ Some before.wire
-        → RunsOnWire O.IsJudgement (catch_up O.forms (O.entries owner.now)) (λ _. continuation) result before
-        (L.wire link.new) }
+        → RunsOnWire O.IsJudgement (catch_up O.forms (O.entries owner.now))
+        (λ _. continuation) result before (L.wire link.new) }
 
     ensures counts { L.faults link.old ≤ L.faults link.new }
     ensures cause { IsErrOf result Stop.LinkFault
@@ -40,8 +40,8 @@ pub fn catch_up<O: Owner, L: Link>(alloc: Global, owner: &O, link: &mut L) -> Re
 /// Asks how many entries the store holds.
 fn ask_standing<O: Owner, L: Link>(alloc: Global, owner: &O, link: &mut L) -> Result<usize, Stop>
     ensures known { (before : Snapshot O.State O.Entry) → L.wire link.old ≡ Some before.wire
-        → RunsOnWire O.IsJudgement (standing O.forms (O.entries owner.now)) continuation_with result before
-        (L.wire link.new) }
+        → RunsOnWire O.IsJudgement (standing O.forms (O.entries owner.now))
+        continuation_with result before (L.wire link.new) }
 
     ensures counts { L.faults link.old ≤ L.faults link.new }
     ensures cause { IsErrOf result Stop.LinkFault
@@ -75,8 +75,8 @@ fn deliver<O: Owner, L: Link>(
     link: &mut L,
 ) -> Result<(), Stop>
     ensures known { (before : Snapshot O.State O.Entry) → L.wire link.old ≡ Some before.wire
-        → RunsOnWire O.IsJudgement (deliveries O.forms held (drop held (O.entries owner.now))) (λ _. continuation)
-        result before (L.wire link.new) }
+        → RunsOnWire O.IsJudgement (deliveries O.forms held (drop held (O.entries owner.now)))
+        (λ _. continuation) result before (L.wire link.new) }
 
     ensures counts { L.faults link.old ≤ L.faults link.new }
     ensures cause { IsErrOf result Stop.LinkFault

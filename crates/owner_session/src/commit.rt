@@ -65,8 +65,9 @@ fn commit_batch<O: Owner, L: Link, S: Sink>(
     requires works { O.Works owner.old }
     ensures known { (before : ConnectionModel) → L.wire link.old ≡ Some before
         → RunsTo O.IsJudgement (λ entry. O.Keeps owner.old → O.KeepsWith owner.new entry)
-        (batch_commit O.forms (O.state owner.old) batch.now) (λ _. continuation_with (O.state owner.new))
-        result (snapshot_of before (S.written out.old) (O.state owner.old) (O.entries owner.old))
+        (batch_commit O.forms (O.state owner.old) batch.now)
+        (λ _. continuation_with (O.state owner.new)) result
+        (snapshot_of before (S.written out.old) (O.state owner.old) (O.entries owner.old))
         (L.wire link.new) (S.written out.new) (O.state owner.new) (O.entries owner.new) }
     ensures works { OnOk result (O.Works owner.new) }
     ensures keeps { O.Keeps owner.old → UnlessDisk result (O.Keeps owner.new) }
@@ -101,8 +102,9 @@ fn commit_by_proofs<O: Owner, L: Link, S: Sink>(
     requires works { O.Works owner.old }
     ensures known { (before : ConnectionModel) → L.wire link.old ≡ Some before
         → RunsTo O.IsJudgement (λ entry. O.Keeps owner.old → O.KeepsWith owner.new entry)
-        (step O.forms (O.state owner.old) batch.now proofs.now) (λ _. continuation_with (O.state owner.new))
-        result (snapshot_of before (S.written out.old) (O.state owner.old) (O.entries owner.old))
+        (step O.forms (O.state owner.old) batch.now proofs.now)
+        (λ _. continuation_with (O.state owner.new)) result
+        (snapshot_of before (S.written out.old) (O.state owner.old) (O.entries owner.old))
         (L.wire link.new) (S.written out.new) (O.state owner.new) (O.entries owner.new) }
     ensures works { OnOk result (O.Works owner.new) }
     ensures keeps { O.Keeps owner.old → UnlessDisk result (O.Keeps owner.new) }
@@ -155,8 +157,9 @@ fn commit_step<O: Owner, L: Link, S: Sink>(
     requires works { O.Works owner.old }
     ensures known { (before : ConnectionModel) → L.wire link.old ≡ Some before
         → RunsTo O.IsJudgement (λ entry. O.Keeps owner.old → O.KeepsWith owner.new entry)
-        (commit O.forms (O.entry_of step) (O.next_of step)) (λ _. continuation_with (O.state owner.new))
-        result (snapshot_of before (S.written out.old) (O.state owner.old) (O.entries owner.old))
+        (commit O.forms (O.entry_of step) (O.next_of step))
+        (λ _. continuation_with (O.state owner.new)) result
+        (snapshot_of before (S.written out.old) (O.state owner.old) (O.entries owner.old))
         (L.wire link.new) (S.written out.new) (O.state owner.new) (O.entries owner.new) }
     ensures works { OnOk result (O.Works owner.new) }
     ensures keeps { O.Keeps owner.old → UnlessDisk result (O.Keeps owner.new) }

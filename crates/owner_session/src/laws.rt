@@ -1,12 +1,13 @@
 //! Laws of sessions, as contracts of a function that does nothing.
 ghost use Rattle.std.specs.Prelude.{List};
 ghost use Rattle.owner_session.specs.Work.{Input, session};
-ghost use Rattle.owner_session.specs.Orders.{Alternates, KeepsFirst, StepsFirst};
+ghost use Rattle.owner_session.specs.Orders.{Alternates, KeepsFirst, StepsFirst, CommitsEach};
 
 use crate::owner::Owner;
 
 /// Whatever comes and whatever the owner makes: each frame is followed by its answer, no entry is
-/// installed before the journal has it, and none is appended but what the owner just made.
+/// installed before the journal has it, none is appended but what the owner just made, and where
+/// all is done each batch was committed and told of.
 pub fn sessions_in_order<O: Owner>()
     ensures alternates { (state : O.State) (entries : List O.Entry) (batches : List O.Batch)
         (input : Input O.State O.Entry)
@@ -18,4 +19,7 @@ pub fn sessions_in_order<O: Owner>()
     ensures steps_first { (state : O.State) (entries : List O.Entry) (batches : List O.Batch)
         (input : Input O.State O.Entry)
         → StepsFirst state (session O.forms state entries batches input).events }
+    ensures commits_each { (state : O.State) (entries : List O.Entry) (batches : List O.Batch)
+        (input : Input O.State O.Entry)
+        → CommitsEach O.forms batches (session O.forms state entries batches input) }
 {}

@@ -94,8 +94,8 @@ pub trait Owner {
     /// What the owner makes of a batch. It stays where it is.
     fn step(&self, alloc: Global, batch: &Self::Batch, proofs: &[u8]) -> Result<Self::Step, NoStep>
         requires { CanPropose batch.now }
-        ensures answer { StepsTo (IsJudgement (state self.now) batch.now proofs.now) entry_of next_of
-            result }
+        ensures answer { StepsTo (IsJudgement (state self.now) batch.now proofs.now) entry_of
+            next_of result }
         ensures follows { IfOk result (Follows (state self.now)) };
 
     /// Puts a step's entry at the journal's end; the owner stands behind it then.

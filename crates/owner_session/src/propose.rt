@@ -22,8 +22,8 @@ pub fn propose_batch<O: Owner, L: Link>(
 ) -> Result<Vec<u8>, Stop>
     requires { O.CanPropose batch.now }
     ensures known { (before : Snapshot O.State O.Entry) → L.wire link.old ≡ Some before.wire
-        → RunsOnWire O.IsJudgement (proposal O.forms batch.now) (λ proofs. continuation_with proofs.items) result
-        before (L.wire link.new) }
+        → RunsOnWire O.IsJudgement (proposal O.forms batch.now)
+        (λ proofs. continuation_with proofs.items) result before (L.wire link.new) }
 
     ensures counts { L.faults link.old ≤ L.faults link.new }
     ensures cause { IsErrOf result Stop.LinkFault

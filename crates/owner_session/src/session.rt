@@ -5,7 +5,7 @@ ghost use Rattle.outside.specs.FaultRose.{FaultRose};
 ghost use Rattle.link_frames.specs.Reading.{StaysWhereItStands};
 ghost use Rattle.owner_session.specs.Runs.{RunsTo, UnlessDisk, snapshot_of, continuation};
 ghost use Rattle.owner_session.specs.Work.{session_on};
-ghost use Rattle.owner_session.specs.Sessions.{SessionRuns};
+ghost use Rattle.owner_session.specs.Sessions.{SessionRuns, SessionIsDone};
 
 use crate::announce::write_last;
 use crate::catch_up::catch_up;
@@ -34,6 +34,13 @@ pub fn run_session<O: Owner, L: Link, S: Sink>(
         (FaultRose (S.faults out.old) (S.faults out.new))
         (O.Keeps owner.old → O.Keeps owner.new)
         (λ entry. O.Keeps owner.old → O.KeepsWith owner.new entry) result
+        (snapshot_of before (S.written out.old) (O.state owner.old) (O.entries owner.old))
+        (snapshot_of after (S.written out.new) (O.state owner.new) (O.entries owner.new)) }
+
+    // A status of 0 comes only where all is done.
+    ensures done { result ≡ 0 → (before : ConnectionModel) → L.wire link.old ≡ Some before
+        → (after : ConnectionModel) × (L.wire link.new ≡ Some after)
+        × SessionIsDone O.forms O.IsJudgement batches.now
         (snapshot_of before (S.written out.old) (O.state owner.old) (O.entries owner.old))
         (snapshot_of after (S.written out.new) (O.state owner.new) (O.entries owner.new)) }
 
@@ -67,7 +74,8 @@ fn do_session<O: Owner, L: Link, S: Sink>(
     requires works { O.Works owner.old }
     ensures known { (before : ConnectionModel) → L.wire link.old ≡ Some before
         → RunsTo O.IsJudgement (λ entry. O.Keeps owner.old → O.KeepsWith owner.new entry)
-        (session_on O.forms (O.state owner.old) (O.entries owner.old) batches.now) (λ _. continuation) result
+        (session_on O.forms (O.state owner.old) (O.entries owner.old) batches.now)
+        (λ _. continuation) result
         (snapshot_of before (S.written out.old) (O.state owner.old) (O.entries owner.old))
         (L.wire link.new) (S.written out.new) (O.state owner.new) (O.entries owner.new) }
     ensures keeps { O.Keeps owner.old → UnlessDisk result (O.Keeps owner.new) }

@@ -138,7 +138,9 @@ fn keep_frame(
     let Some(body) = folder.find(&frame.body) else {
         return Err(NoAnswer::NoSuchLine);
     };
-    let length = (frame.kind.len() as u32).wrapping_add(body.len() as u32);
+    let Ok(length) = u32::try_from(frame.kind.len() + body.len()) else {
+        return Err(NoAnswer::NoSuchLine);
+    };
     let mut bytes = Vec::from_slice(alloc, &length.to_be_bytes())?;
     bytes.extend_from_slice(&frame.kind)?;
     bytes.extend_from_slice(body)?;

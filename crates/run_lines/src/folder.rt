@@ -77,7 +77,7 @@ impl Folder {
             connections.push(Vec::from_slice(alloc, coming)?)?;
         }
         let net = MemNet::new(alloc, connections, FailAt::new(peer.failures))?;
-        Ok(net.in_pieces(peer.piece))
+        Ok(net.in_pieces(peer.piece.max(1)))
     }
 
     /// A run that never fails, with this file in the place of the one of its name.

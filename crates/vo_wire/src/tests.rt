@@ -5,7 +5,7 @@ use outside::{MemNet, Net, Never};
 use owner_state::Owner;
 use std::alloc::{AllocError, Global};
 use std::test::Fail;
-use vo_spec::{Batch, List};
+use vo_spec::{Batch, Digest, List, Record};
 use vo_store::Store;
 
 /// A network of one connection, which stands.
@@ -83,13 +83,15 @@ fn answers_are_read(rt: HostRuntime) -> Result<(), Fail> {
         rt.alloc(),
         b"\x00\x00\x00\x02\x82\x00\x00\x00\x00\x02\x82\x05\x00\x00\x00\x02\x8f\x04\x00",
     )?;
-    let batch = Batch {
-        commands: List::new(rt.alloc()),
+    let rec = Record {
+        id: [0; 16],
+        version: 0,
+        catalog: Digest::new([0; 32]),
     };
     let empty = status_link(rt.alloc(), &mut net)?;
     let bad = status_link(rt.alloc(), &mut net).err();
-    let refused = propose_link(rt.alloc(), &mut net, &batch).err();
-    let cut = propose_link(rt.alloc(), &mut net, &batch).err();
+    let refused = install_link(rt.alloc(), &mut net, &rec, b"").err();
+    let cut = install_link(rt.alloc(), &mut net, &rec, b"").err();
     assert_eq!(rt; empty.is_none(), true);
     assert_eq!(rt;
         (bad, refused, cut),

@@ -1,4 +1,5 @@
 use Rattle.owner_session.proofs.OrderLaws.{alternates, keeps_first, steps_first}
+use Rattle.owner_session.proofs.DoneLaws.{commits_each}
 use Rattle.owner_session.proofs.laws.sessions_in_order.Goals as goal
 
 pub returns-clause-alternates : goal.returns-clause-alternates
@@ -9,3 +10,6 @@ returns-clause-keeps_first g c = λ state entries batches input. keeps_first g.O
 
 pub returns-clause-steps_first : goal.returns-clause-steps_first
 returns-clause-steps_first g c = λ state entries batches input. steps_first g.O.Owner.forms state entries batches input
+
+pub returns-clause-commits_each : goal.returns-clause-commits_each
+returns-clause-commits_each g c = λ state entries batches input. commits_each g.O.Owner.forms state entries batches input

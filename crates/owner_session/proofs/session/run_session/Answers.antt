@@ -3,7 +3,7 @@ use Rattle.outside.specs.FaultRose.{FaultRose}
 use Rattle.owner_session.specs.declared.stop.Stop.{Stop}
 use Rattle.owner_session.specs.declared.stop.Stop.TheVariants as stop
 use Rattle.owner_session.specs.Runs.{snapshot_of}
-use Rattle.owner_session.proofs.SessionLaws.{rose_later, unless_disk, session_finishes, session_refused, session_link_fault, session_disk_fault, session_output_fault, session_wants}
+use Rattle.owner_session.proofs.SessionLaws.{rose_later, unless_disk, session_finishes, session_refused, session_link_fault, session_disk_fault, session_output_fault, session_wants, session_done_at_0}
 use Rattle.owner_session.proofs.session.run_session.Goals as goal
 
 pub returns-in-Ok-clause-known : goal.returns-in-Ok-clause-known
@@ -117,4 +117,72 @@ returns-in-Err-Memory-clause-known g c =
           (snapshot_of r.0 (g.S.Sink.written c.do_session.new.out) (g.O.Owner.state c.do_session.new.owner) (g.O.Owner.entries c.do_session.new.owner))
           c.in-Err-Memory.field-0 c.in-Err-Memory.field-0-is r.2
           (λ keeps. unless_disk c.in-Err-Memory.field-0 stop.Memory (g.O.Owner.Keeps c.do_session.new.owner) c.in-Err-Memory.field-0-is (c.in-Err-Memory.ensures.keeps keeps)),
+    )
+
+pub returns-in-Ok-clause-done : goal.returns-in-Ok-clause-done
+returns-in-Ok-clause-done g c =
+    λ zero before is.
+    let known = returns-in-Ok-clause-known g c before is in (
+      known.0,
+      known.1,
+      session_done_at_0 g.O.Owner.IsJudgement g.O.Owner.forms c.args.batches.now
+          (FaultRose (g.L.Link.faults c.args.link.now) (g.L.Link.faults c.do_session.new.link))
+          (FaultRose (g.O.Owner.faults c.args.owner.now) (g.O.Owner.faults c.do_session.new.owner))
+          (FaultRose (g.S.Sink.faults c.args.out.now) (g.S.Sink.faults c.do_session.new.out))
+          (g.O.Owner.Keeps c.args.owner.now → g.O.Owner.Keeps c.do_session.new.owner)
+          (λ (e : g.O.Owner.Entry). g.O.Owner.Keeps c.args.owner.now → g.O.Owner.KeepsWith c.do_session.new.owner e)
+          0 (snapshot_of before (g.S.Sink.written c.args.out.now) (g.O.Owner.state c.args.owner.now) (g.O.Owner.entries c.args.owner.now))
+          (snapshot_of known.0 (g.S.Sink.written c.do_session.new.out) (g.O.Owner.state c.do_session.new.owner) (g.O.Owner.entries c.do_session.new.owner))
+          zero known.2,
+    )
+
+pub returns-in-Err-Refused-clause-done : goal.returns-in-Err-Refused-clause-done
+returns-in-Err-Refused-clause-done g c =
+    λ zero before is.
+    let known = returns-in-Err-Refused-clause-known g c before is in (
+      known.0,
+      known.1,
+      session_done_at_0 g.O.Owner.IsJudgement g.O.Owner.forms c.args.batches.now
+          (FaultRose (g.L.Link.faults c.args.link.now) (g.L.Link.faults c.do_session.new.link))
+          (FaultRose (g.O.Owner.faults c.args.owner.now) (g.O.Owner.faults c.do_session.new.owner))
+          (FaultRose (g.S.Sink.faults c.args.out.now) (g.S.Sink.faults c.write_last.new.out))
+          (g.O.Owner.Keeps c.args.owner.now → g.O.Owner.Keeps c.do_session.new.owner)
+          (λ (e : g.O.Owner.Entry). g.O.Owner.Keeps c.args.owner.now → g.O.Owner.KeepsWith c.do_session.new.owner e)
+          c.write_last.result (snapshot_of before (g.S.Sink.written c.args.out.now) (g.O.Owner.state c.args.owner.now) (g.O.Owner.entries c.args.owner.now))
+          (snapshot_of known.0 (g.S.Sink.written c.write_last.new.out) (g.O.Owner.state c.do_session.new.owner) (g.O.Owner.entries c.do_session.new.owner))
+          zero known.2,
+    )
+
+pub returns-in-Err-LinkFault-clause-done : goal.returns-in-Err-LinkFault-clause-done
+returns-in-Err-LinkFault-clause-done g c =
+    λ zero before is.
+    let known = returns-in-Err-LinkFault-clause-known g c before is in (
+      known.0,
+      known.1,
+      session_done_at_0 g.O.Owner.IsJudgement g.O.Owner.forms c.args.batches.now
+          (FaultRose (g.L.Link.faults c.args.link.now) (g.L.Link.faults c.do_session.new.link))
+          (FaultRose (g.O.Owner.faults c.args.owner.now) (g.O.Owner.faults c.do_session.new.owner))
+          (FaultRose (g.S.Sink.faults c.args.out.now) (g.S.Sink.faults c.write_last-in-Err-LinkFault.new.out))
+          (g.O.Owner.Keeps c.args.owner.now → g.O.Owner.Keeps c.do_session.new.owner)
+          (λ (e : g.O.Owner.Entry). g.O.Owner.Keeps c.args.owner.now → g.O.Owner.KeepsWith c.do_session.new.owner e)
+          c.write_last-in-Err-LinkFault.result (snapshot_of before (g.S.Sink.written c.args.out.now) (g.O.Owner.state c.args.owner.now) (g.O.Owner.entries c.args.owner.now))
+          (snapshot_of known.0 (g.S.Sink.written c.write_last-in-Err-LinkFault.new.out) (g.O.Owner.state c.do_session.new.owner) (g.O.Owner.entries c.do_session.new.owner))
+          zero known.2,
+    )
+
+pub returns-in-Err-DiskFault-clause-done : goal.returns-in-Err-DiskFault-clause-done
+returns-in-Err-DiskFault-clause-done g c =
+    λ zero before is.
+    let known = returns-in-Err-DiskFault-clause-known g c before is in (
+      known.0,
+      known.1,
+      session_done_at_0 g.O.Owner.IsJudgement g.O.Owner.forms c.args.batches.now
+          (FaultRose (g.L.Link.faults c.args.link.now) (g.L.Link.faults c.do_session.new.link))
+          (FaultRose (g.O.Owner.faults c.args.owner.now) (g.O.Owner.faults c.do_session.new.owner))
+          (FaultRose (g.S.Sink.faults c.args.out.now) (g.S.Sink.faults c.write_last-in-Err-DiskFault.new.out))
+          (g.O.Owner.Keeps c.args.owner.now → g.O.Owner.Keeps c.do_session.new.owner)
+          (λ (e : g.O.Owner.Entry). g.O.Owner.Keeps c.args.owner.now → g.O.Owner.KeepsWith c.do_session.new.owner e)
+          c.write_last-in-Err-DiskFault.result (snapshot_of before (g.S.Sink.written c.args.out.now) (g.O.Owner.state c.args.owner.now) (g.O.Owner.entries c.args.owner.now))
+          (snapshot_of known.0 (g.S.Sink.written c.write_last-in-Err-DiskFault.new.out) (g.O.Owner.state c.do_session.new.owner) (g.O.Owner.entries c.do_session.new.owner))
+          zero known.2,
     )
