@@ -1,5 +1,5 @@
-//! What reading part trees from the front of bytes gives, as definitions: the trees whose encoding stands
-//! there.
+//! What reading part trees from the front of bytes gives, as definitions: the trees whose encoding
+//! stands there.
 #![tactic(auto)]
 
 ghost use Rattle.std.specs.Prelude.{◌≡◌, ℕ, List, ◌++◌, Some};

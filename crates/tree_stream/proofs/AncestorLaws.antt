@@ -68,8 +68,8 @@ next_child need ancestors found hashed visited visits node rest is_hashed are_vi
     let n : ℕ = levels_below ancestors - 1 in
     let levels : levels_below (ancestors ++ node ∷ []) ≡ n = omega (arith, length-append ancestors (node ∷ [])) in
     let go_on : End → Option End = λ end. with_findings end.0.findings (rest_of_children need n (hashed ++ end.0.digest) visits) end.1 in
-    let behind : End → Option Summary = summary_behind need ancestors found in
-    let above : End → Option Summary = summary_behind need (ancestors ++ node ∷ []) found in
+    let behind : End → Option (Summary × List ℕ) = summary_behind need ancestors found in
+    let above : End → Option (Summary × List ℕ) = summary_behind need (ancestors ++ node ∷ []) found in
     ap (λ (o : Option End). o >>= behind) (children_next need n hashed visited visits rest)
     ∙ bind_assoc (summary_at need n visited rest) go_on behind
     ∙ bind_same (summary_at need n visited rest) (λ end. go_on end >>= behind) above

@@ -100,7 +100,7 @@ cells_can need hashed key left row_hashed column found n =
 
 after_can : (need : Need) (ancestors : List InnerNode) (d : List ℕ) (found : Findings) → length ancestors ≤ 10 → CanEnd (summary_after need ancestors d found)
 unfolding summary_after
-after_can need [] d found few = ([], summary d found, refl)
+after_can need [] d found few = ([], (summary d found, []), refl)
 after_can need (node ∷ ancestors) d found few =
     let can = children_can need (levels_below (node ∷ ancestors)) (node.hasher ++ d) node.child_visits.items (omega (arith, few)) in
     let above = after_can need ancestors can.1.digest (combine found can.1.findings) (omega (arith, few)) in (
@@ -118,11 +118,11 @@ with_can need ancestors found read few can =
       ap (λ (o : Option (Summary × List ℕ)). o >>= summary_behind need ancestors found) (can.2 above.0) ∙ above.2,
     )
 
-pub can_same : (f g : List ℕ → Option Summary) → ((rest : List ℕ) → f rest ≡ g rest) → CanEnd g → CanEnd f
+pub can_same : (f g : Reader Summary) → ((rest : List ℕ) → f rest ≡ g rest) → CanEnd g → CanEnd f
 can_same f g same can = (can.0, can.1, same can.0 ∙ can.2)
 
 module _ (need : Need) (ancestors : List InnerNode) (found : Findings) (few : length ancestors ≤ 10) (hashed key : List ℕ) (left : ℕ) where
-  abbrev by_row : List ℕ → Option Summary
+  abbrev by_row : Reader Summary
   by_row = summary_with need ancestors found (rest_of_row need hashed key left)
 
   pub row_can : (token : List ℕ) → BeginsRow token → CanEnd (λ rest. by_row (token ++ rest))
@@ -146,7 +146,7 @@ module _ (need : Need) (ancestors : List InnerNode) (found : Findings) (few : le
       → CanEnd (λ rest. summary_with need ancestors found (rest_of_cells need hashed key left row_hashed column f (suc cells_left)) (token ++ rest))
   unfolding summary_with
   cell_can row_hashed column f cells_left token cell =
-      let by_cells : List ℕ → Option Summary = summary_with need ancestors found (rest_of_cells need hashed key left row_hashed column f (suc cells_left)) in
+      let by_cells : Reader Summary = summary_with need ancestors found (rest_of_cells need hashed key left row_hashed column f (suc cells_left)) in
       let hashed_next : List ℕ = row_hashed ++ cell_digest column cell.0 in
       let f_next : CellFindings = combine_cells f (cell_findings (has_column (columns_at need key) column) cell.0) in
       let read : Reader Summary = rest_of_cells need hashed key left hashed_next (column + 1) f_next cells_left in

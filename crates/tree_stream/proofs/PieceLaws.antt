@@ -1,18 +1,20 @@
 -- What is taken of pieces, step by step.
-use Rattle.std.proofs.Common.{◌≡◌, ℕ, suc, ◌+◌, ◌<◌, ◌≤◌, eqb, List, [], ◌∷◌, ◌++◌, length, take, Option, Some, None, refl, sym, ap, ◌∙◌, append_assoc, append-nil, arith, Result, Ok, Err}
-use Rattle.std.specs.Prelude.{IfOk, OnOk, OnErr, IsOk, IsErr, IsTrue, ◌↔◌, true, false, Bool}
+use Rattle.std.proofs.Common.{◌≡◌, ℕ, suc, ◌+◌, ◌<◌, ◌≤◌, eqb, List, [], ◌∷◌, ◌++◌, length, take, Some, None, refl, sym, ap, ◌∙◌, append_assoc, arith, Result, Ok, Err, ◌⊎◌, inl, inr}
+use Rattle.std.specs.Prelude.{IfOk, OnOk, OnErr, IsOk, IsErr, IsTrue, true, false}
 use Rattle.std.specs.Borrow.{Bor}
 use Rattle.std.specs.declared.alloc.AllocError.{AllocError}
 use Rattle.std.proofs.lemmas.Bool.{false≢true, eqb-true}
 use Rattle.std.proofs.lemmas.List.{length-take-le, length-append, take_at}
+use Rattle.batch_format.specs.BatchReading.{Reader}
 use Rattle.tree_stream.specs.declared.findings.Summary.{Summary}
 use Rattle.tree_stream.specs.declared.machine.Machine.{Machine}
 use Rattle.tree_stream.specs.declared.state.State.{State}
 use Rattle.tree_stream.specs.declared.state.State.TheVariants.{Invalid}
 use Rattle.tree_stream.specs.Machines.{summary_of_machine, Takes, Advances, EndsWith, StopsInRow}
 use Rattle.tree_stream.specs.Remaining.{rest_of_node}
-use Rattle.tree_stream.specs.Summaries.{summary_with, summary_from, CanEnd, IsInNeededRow}
+use Rattle.tree_stream.specs.Summaries.{is_settled, summary_with, summary_from, CanEnd, IsInNeededRow}
 use Rattle.tree_stream.specs.Tokens.{token_size}
+use Rattle.tree_stream.proofs.ShortLaws.{settled_is}
 use Rattle.tree_stream.proofs.Sizes.{token_is, token_positive}
 
 pub size_positive : (state : State) (bytes : List ℕ) → 0 < token_size state bytes
@@ -49,23 +51,6 @@ goes_on first old new bytes left token behind a t is = record {
 pub goes_back : (first old : Machine) (bytes left token : List ℕ) → Advances first old bytes left → CanEnd (λ rest. summary_of_machine old (token ++ rest)) → CanEnd (summary_of_machine first)
 goes_back first old bytes left token a can = (a.taken ++ (token ++ can.0), can.1, sym (a.each (token ++ can.0)) ∙ can.2)
 
--- of bytes that are no tree the rest says nothing
-pub stays_invalid : (old new : Machine) (bytes left : List ℕ) → new.state ≡ Invalid → Advances old new bytes left → Advances old new bytes []
-stays_invalid old new bytes left is a = record {
-  taken = bytes;
-  parts = sym (append-nil bytes);
-  each = λ rest.
-      invalid_none new is rest
-      ∙ sym (ap (summary_of_machine old) (ap (λ (t : List ℕ). t ++ rest) a.parts ∙ append_assoc a.taken left rest) ∙ sym (a.each (left ++ rest)) ∙ invalid_none new is (left ++ rest));
-}
-
-pub invalid_advances : (machine : Machine) (bytes : List ℕ) → machine.state ≡ Invalid → Advances machine machine bytes []
-invalid_advances machine bytes is = record {
-  taken = bytes;
-  parts = sym (append-nil bytes);
-  each = λ rest. invalid_none machine is rest ∙ sym (invalid_none machine is (bytes ++ rest));
-}
-
 -- first some bytes, and then those that they left
 pub and_then : (first old new : Machine) (bytes left behind : List ℕ) → Advances first old bytes left → Advances old new left behind → Advances first new bytes behind
 and_then first old new bytes left behind a b = record {
@@ -92,9 +77,6 @@ pub ok_of : {T E : Type 0} (r : Result T E) (P : Type 0) → IsOk r → OnOk r P
 ok_of (Ok x) P is p = p
 ok_of (Err e) P is p = absurd (false≢true is)
 
-pub not_so : (b : Bool) (P : Type 0) → (IsTrue b ↔ P) → b ≡ false → P → ⊥
-not_so b P both is p = false≢true (sym is ∙ both.1 p)
-
 pub ends_then : (r : Result (Bor (List ℕ)) AllocError) (front left piece : List ℕ) → piece ≡ front ++ left → IfOk r (λ end. EndsWith left end.now) → IfOk r (λ end. EndsWith piece end.now)
 ends_then (Ok end) front left piece is ends = (front ++ ends.0, is ∙ ap (λ (t : List ℕ). front ++ t) ends.1 ∙ sym (append_assoc front ends.0 end.now))
 ends_then (Err e) front left piece is ends = tt
@@ -110,11 +92,16 @@ same_bytes machine bytes left is = record { taken = []; parts = sym is; each = �
 pub filled_is : (partial front left piece all : List ℕ) → all ≡ partial ++ front → piece ≡ front ++ left → all ++ left ≡ partial ++ piece
 filled_is partial front left piece all is parts = ap (λ (t : List ℕ). t ++ left) is ∙ append_assoc partial front left ∙ ap (λ (t : List ℕ). partial ++ t) (sym parts)
 
-pub ok_advances : (r : Result (Unit {0}) AllocError) (first old new : Machine) (bytes partial left behind : List ℕ) → partial ≡ [] → Advances first old bytes (partial ++ left) → OnOk r (Advances old new left behind) → OnOk r (Advances first new bytes behind)
-ok_advances (Ok done) first old new bytes partial left behind none a b =
+pub ok_advances : (r : Result (Bor (List ℕ)) AllocError) (first old new : Machine) (bytes partial left kept : List ℕ) → partial ≡ [] → Advances first old bytes (partial ++ left)
+    → IfOk r (λ end. Advances old new left (kept ++ end.now)) → IfOk r (λ end. Advances first new bytes (kept ++ end.now))
+ok_advances (Ok end) first old new bytes partial left kept none a b =
     let all : Advances first old bytes left = record { taken = a.taken; parts = a.parts ∙ ap (λ (p : List ℕ). a.taken ++ (p ++ left)) none; each = a.each } in
-    and_then first old new bytes left behind all b
-ok_advances (Err e) first old new bytes partial left behind none a b = tt
+    and_then first old new bytes left (kept ++ end.now) all b
+ok_advances (Err e) first old new bytes partial left kept none a b = tt
+
+pub left_is_taken : (A : Type 0) (xs left : List ℕ) → eqb (length xs) 0 ≡ false → (xs ≡ []) ⊎ (left ≡ []) → (left ≡ []) ⊎ A
+left_is_taken A xs left some (inl none) = let empty : eqb (length xs) 0 ≡ true = ap (λ (t : List ℕ). eqb (length t) 0) none in absurd (false≢true (sym some ∙ empty))
+left_is_taken A xs left some (inr none) = inl none
 
 same_front : (xs ys left : List ℕ) → xs ++ left ≡ ys ++ left → xs ≡ ys
 same_front xs ys left e =
@@ -132,21 +119,43 @@ way_behind first old partial piece kept left none a ends can =
 
 -- The stream.
 
-pub piece_taken : (r : Result (Unit {0}) AllocError) (old new : Machine) (partial piece kept : List ℕ) → OnOk r (Advances old new (partial ++ piece) kept)
-    → OnOk r ((more : List ℕ) → summary_of_machine new (kept ++ more) ≡ summary_of_machine old (partial ++ (piece ++ more)))
-piece_taken (Ok done) old new partial piece kept a = λ more.
-    a.each (kept ++ more)
-    ∙ ap (summary_of_machine old) (sym (append_assoc a.taken kept more) ∙ ap (λ (t : List ℕ). t ++ more) (sym a.parts) ∙ append_assoc partial piece more)
+pub piece_taken : (r : Result (Bor (List ℕ)) AllocError) (old new : Machine) (partial piece kept : List ℕ) → IfOk r (λ left. Advances old new (partial ++ piece) (kept ++ left.now))
+    → IfOk r (λ left. (more : List ℕ) → summary_of_machine new (kept ++ (left.now ++ more)) ≡ summary_of_machine old (partial ++ (piece ++ more)))
+piece_taken (Ok left) old new partial piece kept a = λ more.
+    a.each (kept ++ (left.now ++ more))
+    ∙ ap (summary_of_machine old)
+    (ap (λ (t : List ℕ). a.taken ++ t) (sym (append_assoc kept left.now more))
+    ∙ sym (append_assoc a.taken (kept ++ left.now) more)
+    ∙ ap (λ (t : List ℕ). t ++ more) (sym a.parts)
+    ∙ append_assoc partial piece more)
 piece_taken (Err e) old new partial piece kept a = tt
 
-pub none_after : (r : Result (Unit {0}) AllocError) (new : Machine) (kept : List ℕ) → OnErr r (new.state ≡ Invalid) → OnErr r ((more : List ℕ) → summary_of_machine new (kept ++ more) ≡ None)
+pub none_after : {T : Type 0} (r : Result T AllocError) (new : Machine) (kept : List ℕ) → OnErr r (new.state ≡ Invalid) → OnErr r ((more : List ℕ) → summary_of_machine new (kept ++ more) ≡ None)
 none_after (Ok done) new kept is = tt
 none_after (Err e) new kept is = λ more. invalid_none new is (kept ++ more)
 
-no_way : (f : List ℕ → Option Summary) → CanEnd f → ((more : List ℕ) → f more ≡ None) → ⊥
+abbrev Settled : Machine → List ℕ → Type 0
+Settled machine kept =
+    ((more : List ℕ) → summary_of_machine machine (kept ++ more) ≡ None)
+    ⊎ ((found : Summary) × ((more : List ℕ) → summary_of_machine machine (kept ++ more) ≡ Some (found, more)))
+
+settled_with : (machine : Machine) (kept : List ℕ) → kept ≡ [] → is_settled machine.state ≡ true → Settled machine kept
+settled_with machine kept none settled =
+    elim (settled_is machine.context machine.state settled) [
+      | inl nowhere ↦ inl (λ more. ap (λ (k : List ℕ). summary_of_machine machine (k ++ more)) none ∙ nowhere more)
+      | inr found ↦ inr (found.0, λ more. ap (λ (k : List ℕ). summary_of_machine machine (k ++ more)) none ∙ found.1 more)
+    ]
+
+pub all_or_settled : (r : Result (Bor (List ℕ)) AllocError) (machine : Machine) (kept : List ℕ) → (IsTrue (is_settled machine.state) → kept ≡ []) → IfOk r (λ left. (left.now ≡ []) ⊎ IsTrue (is_settled machine.state))
+    → IfOk r (λ left. (left.now ≡ []) ⊎ Settled machine kept)
+all_or_settled (Ok left) machine kept none (inl all) = inl all
+all_or_settled (Ok left) machine kept none (inr settled) = inr (settled_with machine kept (none settled) settled)
+all_or_settled (Err e) machine kept none all = tt
+
+no_way : (f : Reader Summary) → CanEnd f → ((more : List ℕ) → f more ≡ None) → ⊥
 no_way f can none = let stuck : None ≡ Some can.1 = sym (none can.0) ∙ can.2 in absurd cc
 
-pub dead_is_ok : (r : Result (Unit {0}) AllocError) (f : List ℕ → Option Summary) → (IsErr r → CanEnd f) → ((more : List ℕ) → f more ≡ None) → IsOk r
+pub dead_is_ok : {T : Type 0} (r : Result T AllocError) (f : Reader Summary) → (IsErr r → CanEnd f) → ((more : List ℕ) → f more ≡ None) → IsOk r
 dead_is_ok (Ok done) f way none = refl
 dead_is_ok (Err e) f way none = absurd (no_way f (way refl) none)
 

@@ -20,7 +20,7 @@ End = Summary × List ℕ
 abbrev found_before : Findings → End → Option End
 found_before f end = Some (summary end.0.digest (combine f end.0.findings), end.1)
 
-abbrev pub summary_behind : Need → List InnerNode → Findings → End → Option Summary
+abbrev pub summary_behind : Need → List InnerNode → Findings → End → Option (Summary × List ℕ)
 summary_behind need ancestors found end = summary_after need (reverse ancestors) end.0.digest (combine found end.0.findings) end.1
 
 pub with_twice : (f g : Findings) (read : Reader Summary) (bytes : List ℕ) → with_findings f (with_findings g read) bytes ≡ with_findings (combine f g) read bytes

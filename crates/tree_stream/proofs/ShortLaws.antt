@@ -1,6 +1,6 @@
 -- Bytes that are less than a token: nothing is read of them.
-use Rattle.std.proofs.Common.{◌≡◌, ℕ, zero, suc, ◌+◌, ◌-◌, ◌<◌, ◌≤◌, Bool, eqb, leb, ltb, List, [], ◌∷◌, ◌++◌, length, take, drop, Option, Some, None, refl, sym, ap, ◌∙◌, append-nil, arith, inl, inr}
-use Rattle.std.specs.Prelude.{not}
+use Rattle.std.proofs.Common.{true, ◌≡◌, ℕ, zero, suc, ◌+◌, ◌-◌, ◌<◌, ◌≤◌, Bool, eqb, leb, ltb, List, [], ◌∷◌, ◌++◌, length, take, drop, Option, Some, None, refl, sym, ap, ◌∙◌, append-nil, arith, inl, inr, ◌⊎◌}
+use Rattle.std.specs.Prelude.{not, option_map}
 use Rattle.std.specs.Result.{result_ok}
 use Rattle.std.proofs.lemmas.Bool.{cases_Bool, lt-ltb, ltb-false}
 use Rattle.std.proofs.lemmas.List.{length-drop}
@@ -11,7 +11,7 @@ use Rattle.vo_spec.specs.Tables.{max_key}
 use Rattle.vo_spec.specs.Trees.{RowTree}
 use Rattle.vo_spec.specs.Scans.{is_empty_interval}
 use Rattle.row_bytes.specs.Reading.{byte_at, bytes_at, u16_at, value_at, int_at, text_at, bool_at}
-use Rattle.row_bytes.specs.Fields.{◌>>=◌, string_at, whole}
+use Rattle.row_bytes.specs.Fields.{◌>>=◌, string_at}
 use Rattle.batch_format.specs.BatchReading.{Reader, any_value_at}
 use Rattle.tree_readers.specs.TreeReading.{key_at, cell_at, cells_at, row_at, leaf_at, inner_at, node_at, tree_at}
 use Rattle.tree_stream.specs.declared.findings.Findings.{Findings}
@@ -21,7 +21,7 @@ use Rattle.tree_stream.specs.declared.state.State.TheVariants.{Node, Separator, 
 use Rattle.tree_stream.specs.declared.context.Context.{Context}
 use Rattle.tree_stream.specs.Findings.{no_findings}
 use Rattle.tree_stream.specs.Remaining.{summary, summary_at, lower_separator, rest_of_node}
-use Rattle.tree_stream.specs.Summaries.{levels_below, summary_after, summary_with, rest_in, summary_from, summary_of_tree, complete_digest}
+use Rattle.tree_stream.specs.Summaries.{levels_below, summary_after, summary_with, rest_in, summary_from, summary_of_tree, complete_digest, is_settled}
 use Rattle.tree_stream.specs.Tokens.{node_size, string_size, row_size, value_size, cell_size, token_size}
 use Rattle.tree_stream.proofs.WholeTokens.{string_is}
 use Rattle.tree_stream.proofs.NodeLaws.{no_node_begins, no_separator}
@@ -185,28 +185,29 @@ short_none context (Cell row) bytes open_state short =
 short_none context (Complete digest) bytes open_state short = absurd cc
 short_none context Invalid bytes open_state short = none_with context.need context.ancestors.items context.findings (rest_in context Invalid) bytes refl
 
-pub end_none : (context : Context) (state : State) (partial : List ℕ) → complete_digest state ≡ None → length partial < token_size state partial → None ≡ summary_from context state (partial ++ [])
-end_none context state partial open_state short =
-    sym (ap (summary_from context state) (append-nil partial) ∙ short_none context state partial open_state short)
+abbrev summary_in : Summary × List ℕ → Summary
+summary_in end = end.0
 
-pub end_some : (context : Context) (state : State) (partial d : List ℕ) → complete_digest state ≡ Some d → length partial < token_size state partial → Some (summary d context.findings) ≡ summary_from context state (partial ++ [])
-unfolding summary_from summary_after token_size
-end_some context (Node visited) partial d is short = absurd cc
-end_some context (Separator head) partial d is short = absurd cc
-end_some context (Key leaf) partial d is short = absurd cc
-end_some context (Row leaf) partial d is short = absurd cc
-end_some context (Cell row) partial d is short = absurd cc
-end_some context (Complete digest) [] d is short = ap (λ (o : Option (List ℕ)). o >>= λ t. Some (summary t context.findings)) (sym is)
-end_some context (Complete digest) (byte ∷ partial) d is short = absurd (omega (arith, short))
-end_some context Invalid partial d is short = absurd cc
+pub end_none : (context : Context) (state : State) (partial : List ℕ) → complete_digest state ≡ None → length partial < token_size state partial → None ≡ option_map summary_in (summary_from context state (partial ++ []))
+end_none context state partial open_state short =
+    sym (ap (λ (bytes : List ℕ). option_map summary_in (summary_from context state bytes)) (append-nil partial) ∙ ap (option_map summary_in) (short_none context state partial open_state short))
+
+pub end_some : (context : Context) (state : State) (partial d : List ℕ) → complete_digest state ≡ Some d → Some (summary d context.findings) ≡ option_map summary_in (summary_from context state (partial ++ []))
+unfolding summary_from summary_after
+end_some context (Node visited) partial d is = absurd cc
+end_some context (Separator head) partial d is = absurd cc
+end_some context (Key leaf) partial d is = absurd cc
+end_some context (Row leaf) partial d is = absurd cc
+end_some context (Cell row) partial d is = absurd cc
+end_some context (Complete digest) partial d is = ap (λ (o : Option (List ℕ)). o >>= λ t. Some (summary t context.findings)) (sym is)
+end_some context Invalid partial d is = absurd cc
 
 -- The start.
 
-whole_is : (need : Need) (o : Option (Summary × List ℕ)) → (o >>= summary_behind need [] no_findings) ≡ whole o
+all_found : (need : Need) (o : Option (Summary × List ℕ)) → (o >>= summary_behind need [] no_findings) ≡ o
 unfolding summary_after
-whole_is need None = refl
-whole_is need (Some (s, [])) = refl
-whole_is need (Some (s, byte ∷ bytes)) = refl
+all_found need None = refl
+all_found need (Some (s, bytes)) = refl
 
 pub start_is : (context : Context) (bytes : List ℕ) → context.ancestors.items ≡ [] → context.findings ≡ no_findings
     → summary_from context (Node (not (is_empty_interval context.need.interval))) bytes ≡ summary_of_tree context.need bytes
@@ -215,4 +216,16 @@ start_is context bytes no_ancestors none =
     let visited : Bool = not (is_empty_interval context.need.interval) in
     ap (λ nodes. summary_at context.need (levels_below nodes) visited bytes >>= summary_behind context.need nodes context.findings) no_ancestors
     ∙ ap (λ (found : Findings). summary_at context.need (levels_below []) visited bytes >>= summary_behind context.need [] found) none
-    ∙ whole_is context.need (summary_at context.need (levels_below []) visited bytes)
+    ∙ all_found context.need (summary_at context.need (levels_below []) visited bytes)
+
+-- A settled state.
+
+pub settled_is : (context : Context) (state : State) → is_settled state ≡ true → ((more : List ℕ) → summary_from context state more ≡ None) ⊎ ((found : Summary) × ((more : List ℕ) → summary_from context state more ≡ Some (found, more)))
+unfolding summary_from summary_with summary_after rest_of_node
+settled_is context (Node visited) settled = absurd cc
+settled_is context (Separator head) settled = absurd cc
+settled_is context (Key leaf) settled = absurd cc
+settled_is context (Row leaf) settled = absurd cc
+settled_is context (Cell row) settled = absurd cc
+settled_is context (Complete digest) settled = inr (summary digest context.findings, λ more. refl)
+settled_is context Invalid settled = inl (λ more. refl)

@@ -7,6 +7,7 @@ use Rattle.vo_spec.specs.Values.{max_text}
 use Rattle.vo_spec.specs.Tables.{max_key}
 use Rattle.tree_stream.specs.declared.state.State.{State}
 use Rattle.tree_stream.specs.declared.state.State.TheVariants.{Node, Separator, Key, Row, Cell, Complete, Invalid}
+use Rattle.tree_stream.specs.Summaries.{is_settled}
 use Rattle.tree_stream.specs.Tokens.{node_size, string_size, row_size, value_size, cell_size, token_size}
 use Rattle.tree_stream.proofs.WholeTokens.{string_is}
 
@@ -205,18 +206,18 @@ token_is (Separator head) = (strings max_key).is_size
 token_is (Key leaf) = (strings max_key).is_size
 token_is (Row leaf) = rows.is_size
 token_is (Cell row) = cells.is_size
-token_is (Complete digest) = (fixed 1 1 (omega arith)).is_size
+token_is (Complete digest) = record { front = λ bytes le. absurd (omega (arith, le)); grows = λ bytes more. omega (arith, length-append bytes more) }
 token_is Invalid = record { front = λ bytes le. absurd (omega (arith, le)); grows = λ bytes more. omega (arith, length-append bytes more) }
 
-pub token_small : (state : State) (bytes : List ℕ) → (state ≡ Invalid → ⊥) → token_size state bytes ≤ 1028
+pub token_small : (state : State) (bytes : List ℕ) → is_settled state ≡ false → token_size state bytes ≤ 1028
 unfolding token_size
-token_small (Node visited) bytes valid = nodes.small bytes
-token_small (Separator head) bytes valid = omega (arith, string_small max_key bytes)
-token_small (Key leaf) bytes valid = omega (arith, string_small max_key bytes)
-token_small (Row leaf) bytes valid = rows.small bytes
-token_small (Cell row) bytes valid = cells.small bytes
-token_small (Complete digest) bytes valid = omega arith
-token_small Invalid bytes valid = absurd (valid refl)
+token_small (Node visited) bytes reading = nodes.small bytes
+token_small (Separator head) bytes reading = omega (arith, string_small max_key bytes)
+token_small (Key leaf) bytes reading = omega (arith, string_small max_key bytes)
+token_small (Row leaf) bytes reading = rows.small bytes
+token_small (Cell row) bytes reading = cells.small bytes
+token_small (Complete digest) bytes reading = absurd cc
+token_small Invalid bytes reading = absurd cc
 
 -- no token is whole before its first byte
 pub token_positive : (state : State) → 0 < token_size state []

@@ -1,8 +1,9 @@
 -- What comes of each state is what comes of reading the rest of its node.
-use Rattle.std.proofs.Common.{◌≡◌, Bool, ℕ, suc, ◌≤◌, List, [], ◌∷◌, ◌++◌, length, Option, Result, Ok, Err, refl, sym, ap, ◌∙◌, arith}
+use Rattle.std.proofs.Common.{◌≡◌, Bool, ℕ, suc, ◌≤◌, List, ◌++◌, length, Result, Ok, Err, refl, sym, ap, ◌∙◌, arith}
 use Rattle.std.specs.Prelude.{IfOk}
 use Rattle.std.specs.declared.alloc.AllocError.{AllocError}
 use Rattle.vo_spec.specs.Tables.{max_key}
+use Rattle.batch_format.specs.BatchReading.{Reader}
 use Rattle.tree_stream.specs.declared.findings.Summary.{Summary}
 use Rattle.tree_stream.specs.declared.state.State.{State}
 use Rattle.tree_stream.specs.declared.state.State.TheVariants.{Node, Separator, Key, Row, Cell, Complete, Invalid}
@@ -12,7 +13,7 @@ use Rattle.tree_stream.specs.declared.state.OpenRow.{OpenRow}
 use Rattle.tree_stream.specs.declared.context.Context.{Context}
 use Rattle.tree_stream.specs.Parsing.{BeginsCell, BeginsRow}
 use Rattle.tree_stream.specs.Remaining.{rest_of_node}
-use Rattle.tree_stream.specs.Summaries.{summary_after, summary_with, summary_from, Yields, CanEnd}
+use Rattle.tree_stream.specs.Summaries.{summary_with, summary_from, Yields, CanEnd}
 use Rattle.tree_stream.specs.Tokens.{node_size, string_size, row_size, cell_size, token_size}
 use Rattle.tree_stream.proofs.Steps.{yields_row, yields_cell, yields_invalid}
 use Rattle.tree_stream.proofs.Endings.{row_can, cell_can, can_same}
@@ -41,24 +42,22 @@ cell_token state row bytes is = ap (λ (s : State). token_size s bytes) is
 
 -- a step from a state
 
-pub step_from : (context new : Context) (next state is : State) (f : List ℕ → Option Summary) (token : List ℕ) → state ≡ is → ((rest : List ℕ) → summary_from context is rest ≡ f rest) → Yields new next (λ rest. f (token ++ rest))
+pub step_from : (context new : Context) (next state is : State) (f : Reader Summary) (token : List ℕ) → state ≡ is → ((rest : List ℕ) → summary_from context is rest ≡ f rest) → Yields new next (λ rest. f (token ++ rest))
     → Yields new next (λ rest. summary_from context state (token ++ rest))
 step_from context new next state is f token e same yields = record {
   each = λ rest. yields.each rest ∙ sym (same (token ++ rest)) ∙ sym (ap (λ (s : State). summary_from context s (token ++ rest)) e);
 }
 
-pub ok_step_from : (context new : Context) (r : Result State AllocError) (state is : State) (f : List ℕ → Option Summary) (token : List ℕ) → state ≡ is → ((rest : List ℕ) → summary_from context is rest ≡ f rest)
+pub ok_step_from : (context new : Context) (r : Result State AllocError) (state is : State) (f : Reader Summary) (token : List ℕ) → state ≡ is → ((rest : List ℕ) → summary_from context is rest ≡ f rest)
     → IfOk r (λ next. Yields new next (λ rest. f (token ++ rest)))
     → IfOk r (λ next. Yields new next (λ rest. summary_from context state (token ++ rest)))
 ok_step_from context new (Ok next) state is f token e same yields = step_from context new next state is f token e same yields
 ok_step_from context new (Err fault) state is f token e same yields = tt
 
+-- no token is whole behind the tree
 pub complete_step : (context new : Context) (state : State) (d token : List ℕ) → state ≡ Complete d → length token ≡ token_size state token → Yields new Invalid (λ rest. summary_from context state (token ++ rest))
-unfolding summary_from summary_after token_size
-complete_step context new state d [] is len =
-    absurd (omega (arith, len ∙ ap (λ (s : State). token_size s []) is))
-complete_step context new state d (byte ∷ token) is len =
-    yields_invalid new (λ rest. summary_from context state (byte ∷ token ++ rest)) (λ rest. ap (λ (s : State). summary_from context s (byte ∷ token ++ rest)) is)
+unfolding token_size
+complete_step context new state d token is len = absurd (omega (arith, len ∙ ap (λ (s : State). token_size s token) is))
 
 pub invalid_step : (context new : Context) (state : State) (token : List ℕ) → state ≡ Invalid → Yields new Invalid (λ rest. summary_from context state (token ++ rest))
 unfolding summary_from summary_with rest_of_node

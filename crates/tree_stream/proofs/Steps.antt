@@ -11,6 +11,7 @@ use Rattle.vo_spec.specs.Fits.{max_cells, max_fill, FitsCell}
 use Rattle.vo_spec.specs.Tables.{max_key}
 use Rattle.vo_spec.specs.TreeBytes.{cell_form}
 use Rattle.vo_spec.specs.Pruning.{has_column}
+use Rattle.batch_format.specs.BatchReading.{Reader}
 use Rattle.tree_stream.specs.declared.findings.Findings.{Findings}
 use Rattle.tree_stream.specs.declared.findings.CellFindings.{CellFindings}
 use Rattle.tree_stream.specs.declared.findings.Summary.{Summary}
@@ -31,14 +32,14 @@ use Rattle.tree_stream.proofs.AncestorLaws as ancestor
 
 -- States.
 
-pub yields_then : (context : Context) (state : State) (f g : List ℕ → Option Summary) → Yields context state f → ((rest : List ℕ) → f rest ≡ g rest) → Yields context state g
+pub yields_then : (context : Context) (state : State) (f g : Reader Summary) → Yields context state f → ((rest : List ℕ) → f rest ≡ g rest) → Yields context state g
 yields_then context state f g yields same = record { each = λ rest. yields.each rest ∙ same rest }
 
-pub ok_then : (context : Context) (r : Result State AllocError) (f g : List ℕ → Option Summary) → IfOk r (λ state. Yields context state f) → ((rest : List ℕ) → f rest ≡ g rest) → IfOk r (λ state. Yields context state g)
+pub ok_then : (context : Context) (r : Result State AllocError) (f g : Reader Summary) → IfOk r (λ state. Yields context state f) → ((rest : List ℕ) → f rest ≡ g rest) → IfOk r (λ state. Yields context state g)
 ok_then context (Ok state) f g yields same = yields_then context state f g yields same
 ok_then context (Err e) f g yields same = tt
 
-pub yields_invalid : (context : Context) (f : List ℕ → Option Summary) → ((rest : List ℕ) → f rest ≡ None) → Yields context Invalid f
+pub yields_invalid : (context : Context) (f : Reader Summary) → ((rest : List ℕ) → f rest ≡ None) → Yields context Invalid f
 unfolding summary_from summary_with rest_of_node
 yields_invalid context f none = record { each = λ rest. sym (none rest) }
 
@@ -71,10 +72,10 @@ yields_cell context row left e = record {
 }
 
 -- the token is these bytes
-pub yields_token : (context : Context) (state : State) (f : List ℕ → Option Summary) (token bytes : List ℕ) → token ≡ bytes → Yields context state (λ rest. f (bytes ++ rest)) → Yields context state (λ rest. f (token ++ rest))
+pub yields_token : (context : Context) (state : State) (f : Reader Summary) (token bytes : List ℕ) → token ≡ bytes → Yields context state (λ rest. f (bytes ++ rest)) → Yields context state (λ rest. f (token ++ rest))
 yields_token context state f token bytes is yields = record { each = λ rest. yields.each rest ∙ ap (λ (t : List ℕ). f (t ++ rest)) (sym is) }
 
-pub ok_token : (context : Context) (r : Result State AllocError) (f : List ℕ → Option Summary) (token bytes : List ℕ) → token ≡ bytes → IfOk r (λ state. Yields context state (λ rest. f (bytes ++ rest))) → IfOk r (λ state. Yields context state (λ rest. f (token ++ rest)))
+pub ok_token : (context : Context) (r : Result State AllocError) (f : Reader Summary) (token bytes : List ℕ) → token ≡ bytes → IfOk r (λ state. Yields context state (λ rest. f (bytes ++ rest))) → IfOk r (λ state. Yields context state (λ rest. f (token ++ rest)))
 ok_token context (Ok state) f token bytes is yields = yields_token context state f token bytes is yields
 ok_token context (Err e) f token bytes is yields = tt
 

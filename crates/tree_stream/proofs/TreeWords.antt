@@ -1,5 +1,5 @@
--- Bytes have a summary exactly where they are the encoding of a tree, and then it is the tree's.
-use Rattle.std.proofs.Common.{◌≡◌, ℕ, Bool, List, [], ◌∷◌, ◌++◌, Option, Some, None, sym, ap, ◌∙◌, append-nil}
+-- A summary is read exactly where the encoding of a tree is in front, and it is the tree's.
+use Rattle.std.proofs.Common.{◌≡◌, ℕ, Bool, List, ◌++◌, Option, Some, sym, ap, ◌∙◌}
 use Rattle.std.specs.Prelude.{not}
 use Rattle.vo_spec.specs.declared.needs.Need.{Need}
 use Rattle.vo_spec.specs.Bytes.{IsBytes}
@@ -7,18 +7,13 @@ use Rattle.vo_spec.specs.Fits.{FitsTree, max_levels}
 use Rattle.vo_spec.specs.Scans.{is_empty_interval}
 use Rattle.vo_spec.specs.Trees.{RowTree}
 use Rattle.vo_spec.specs.TreeBytes.{tree_bytes}
-use Rattle.row_bytes.specs.Fields.{◌>>=◌, whole}
+use Rattle.row_bytes.specs.Fields.{◌>>=◌}
 use Rattle.batch_format.proofs.ReaderLaws.{bound, some_is}
 use Rattle.tree_readers.specs.TreeReading.{tree_at}
 use Rattle.tree_readers.proofs.TreeLaws.{trees_read}
 use Rattle.tree_stream.specs.declared.findings.Summary.{Summary}
 use Rattle.tree_stream.specs.Remaining.{tree_summary, summary_at}
 use Rattle.tree_stream.specs.Summaries.{summary_of_tree}
-
-whole_is : {A : Type 0} (read : Option (A × List ℕ)) (x : A) → whole read ≡ Some x → read ≡ Some (x, [])
-whole_is None x e = absurd cc
-whole_is (Some (y, [])) x e = cc
-whole_is (Some (y, byte ∷ bytes)) x e = absurd cc
 
 module _ (need : Need) where
   abbrev visited : Bool
@@ -27,21 +22,20 @@ module _ (need : Need) where
   abbrev sum : RowTree × List ℕ → Option (Summary × List ℕ)
   sum p = Some (tree_summary need visited p.0, p.1)
 
-  pub tree_again : (p : RowTree) → FitsTree p → summary_of_tree need (tree_bytes p) ≡ Some (tree_summary need visited p)
+  pub tree_again : (p : RowTree) (rest : List ℕ) → FitsTree p → summary_of_tree need (tree_bytes p ++ rest) ≡ Some (tree_summary need visited p, rest)
   unfolding summary_of_tree summary_at
-  tree_again p fits =
-      ap (λ (bytes : List ℕ). whole (tree_at max_levels bytes >>= sum)) (sym (append-nil (tree_bytes p)))
-      ∙ ap (λ (o : Option (RowTree × List ℕ)). whole (o >>= sum)) (trees_read.again p [] fits)
+  tree_again p rest fits = ap (λ (o : Option (RowTree × List ℕ)). o >>= sum) (trees_read.again p rest fits)
 
-  pub tree_found : (bytes : List ℕ) (s : Summary) → IsBytes bytes → summary_of_tree need bytes ≡ Some s → (p : RowTree) × FitsTree p × (bytes ≡ tree_bytes p) × (s ≡ tree_summary need visited p)
+  pub tree_found : (bytes : List ℕ) (s : Summary) (rest : List ℕ) → IsBytes bytes → summary_of_tree need bytes ≡ Some (s, rest)
+      → (p : RowTree) × FitsTree p × (bytes ≡ tree_bytes p ++ rest) × (s ≡ tree_summary need visited p)
   unfolding summary_of_tree summary_at
-  tree_found bytes s fits e =
-      let all = bound (tree_at max_levels bytes) sum (s, []) (whole_is (tree_at max_levels bytes >>= sum) s e) in
+  tree_found bytes s rest fits e =
+      let all = bound (tree_at max_levels bytes) sum (s, rest) e in
       let f = trees_read.found bytes all.0.0 all.0.1 fits all.1 in
       let end : Summary × List ℕ = (tree_summary need visited all.0.0, all.0.1) in
-      let is : end ≡ (s, []) = some_is end (s, []) all.2 in (
+      let is : end ≡ (s, rest) = some_is end (s, rest) all.2 in (
         all.0.0,
         f.1,
-        f.0.parts ∙ ap (λ (q : Summary × List ℕ). tree_bytes all.0.0 ++ q.1) is ∙ append-nil (tree_bytes all.0.0),
+        f.0.parts ∙ ap (λ (q : Summary × List ℕ). tree_bytes all.0.0 ++ q.1) is,
         sym (ap (λ (q : Summary × List ℕ). q.0) is),
       )

@@ -1,5 +1,6 @@
--- What one need finds in a tree: whether a node or a cell that it reads is hidden, whether one that it
--- doesn't read is shown, and the rows. What is found in a tree is the sum of what is found in its parts.
+-- What one need finds in a tree: whether a node or a cell that it reads is hidden, whether one that
+-- it doesn't read is shown, and the rows. What is found in a tree is the sum of what is found in
+-- its parts.
 use Rattle.std.specs.Prelude.{ℕ, ◌+◌, ◌≤◌, Bool, false, not, ◌&&◌, ◌||◌, nat_le, if◌then◌else◌, List, [], ◌∷◌, ◌++◌, length, Option, Some, None}
 use Rattle.std.specs.List.{list_any}
 use Rattle.vo_spec.specs.declared.needs.Need.{Need}
@@ -48,7 +49,11 @@ abbrev pub cell_findings : Bool → Cell → CellFindings
 cell_findings is_named (Hidden d) =
     record { is_missing = is_named; has_surplus = false; values = [] }
 cell_findings is_named (Shown v) =
-    record { is_missing = false; has_surplus = not is_named; values = if is_named then v ∷ [] else [] }
+    record {
+      is_missing = false;
+      has_surplus = not is_named;
+      values = if is_named then v ∷ [] else [];
+    }
 
 -- cells, the first of them that of this column
 abbrev pub cells_findings : List ℕ → ℕ → List Cell → CellFindings
@@ -57,7 +62,8 @@ cells_findings named column (cell ∷ cells) =
     combine_cells (cell_findings (has_column named column) cell)
     (cells_findings named (column + 1) cells)
 
--- a row that stands as so many cells: a named column may be none of them, or none may be named at all
+-- a row that stands as so many cells: a named column may be none of them, or none may be named at
+-- all
 abbrev pub row_head_findings : List ℕ → ℕ → CellFindings
 row_head_findings named count = record {
   is_missing = list_any (λ column. nat_le count column) named;

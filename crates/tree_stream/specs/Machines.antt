@@ -1,10 +1,11 @@
--- The summary that comes of a stream, if these bytes come next and then nothing.
-use Rattle.std.specs.Prelude.{◌≡◌, ℕ, ◌<◌, List, ◌++◌, length, Option}
+-- What a machine takes of bytes, and what comes of those behind them.
+use Rattle.std.specs.Prelude.{◌≡◌, ℕ, ◌<◌, List, ◌++◌, length}
+use Rattle.batch_format.specs.BatchReading.{Reader}
 use Rattle.tree_stream.specs.declared.findings.Summary.{Summary}
 use Rattle.tree_stream.specs.declared.machine.Machine.{Machine}
 use Rattle.tree_stream.specs.Summaries.{summary_from, IsInNeededRow}
 
-abbrev pub summary_of_machine : Machine → List ℕ → Option Summary
+abbrev pub summary_of_machine : Machine → Reader Summary
 summary_of_machine machine bytes = summary_from machine.context machine.state bytes
 
 -- the machine took these bytes
@@ -20,7 +21,8 @@ pub record Advances (old new : Machine) (bytes left : List ℕ) : Type 0 where
 abbrev pub EndsWith : List ℕ → List ℕ → Type 0
 EndsWith bytes end = (front : List ℕ) × (bytes ≡ front ++ end)
 
--- of these bytes the machine takes some, up to a needed row whose next byte is among those that are left
+-- of these bytes the machine takes some, up to a needed row whose next byte is among those that are
+-- left
 pub record StopsInRow (old : Machine) (bytes : List ℕ) : Type 0 where
   pub reached : Machine
   pub left : List ℕ

@@ -1,4 +1,5 @@
--- What whole tokens say: what they are the encoding of, or that no reader takes what begins with them.
+-- What whole tokens say: what they are the encoding of, or that no reader takes what begins with
+-- them.
 use Rattle.std.specs.Prelude.{◌≡◌, ◌⊎◌, ℕ, ◌≤◌, List, [], ◌∷◌, ◌++◌, length, Option, Some, None}
 use Rattle.std.specs.Borrow.{Bor}
 use Rattle.vo_spec.specs.declared.cells.Cell.{Cell}

@@ -1,5 +1,5 @@
--- What reading the bytes to come gives of a node that is read in part: its digest, and what is found in the
--- rest of it.
+-- What reading the bytes to come gives of a node that is read in part: its digest, and what is
+-- found in the rest of it.
 use Rattle.std.specs.Prelude.{ℕ, suc, ◌-◌, Bool, if◌then◌else◌, List, ◌++◌, length, flat_map, Option, Some, None}
 use Rattle.sha2.specs.Sha256.{sha256}
 use Rattle.vo_spec.specs.declared.needs.Need.{Need}
@@ -67,8 +67,8 @@ rest_of_row need hashed key left bytes =
     (entry_findings_by need key (row_findings (columns_at need key) row.0))
     (rest_of_leaf need (hashed ++ row_digest row.0) left) row.1
 
--- so many more cells of a row, the first of them that of this column, behind what was hashed and found of
--- the row; and then so many more entries of the leaf
+-- so many more cells of a row, the first of them that of this column, behind what was hashed and
+-- found of the row; and then so many more entries of the leaf
 unfoldable pub rest_of_cells : Need → List ℕ → List ℕ → ℕ → List ℕ → ℕ → CellFindings → ℕ
     → Reader Summary
 rest_of_cells need hashed key left row_hashed column found cells_left bytes =
@@ -81,8 +81,8 @@ rest_of_cells need hashed key left row_hashed column found cells_left bytes =
 abbrev pub lower_separator : Bool → List ℕ → Option (List ℕ)
 lower_separator has_lower last_key = if has_lower then Some last_key else None
 
--- The rest of the node that a state is in, which has at most so many levels. The state counts what is to
--- come behind the next thing.
+-- The rest of the node that a state is in, which has at most so many levels. The state counts what
+-- is to come behind the next thing.
 unfoldable pub rest_of_node : Need → ℕ → List ℕ → State → Reader Summary
 rest_of_node need levels last_key (Node visited) bytes = summary_at need levels visited bytes
 rest_of_node need levels last_key (Separator head) bytes =

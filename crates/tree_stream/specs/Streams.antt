@@ -1,13 +1,21 @@
--- What comes of a stream and of the bytes to come: those of a token that isn't whole are not taken yet.
-use Rattle.std.specs.Prelude.{ℕ, ◌<◌, List, ◌++◌, length, Option}
+-- What comes of a stream and of the bytes to come: those of a token that isn't whole are not taken
+-- yet.
+use Rattle.std.specs.Prelude.{ℕ, ◌<◌, List, ◌++◌, length, Some, None, ◌≡◌, ◌⊎◌}
+use Rattle.batch_format.specs.BatchReading.{Reader}
 use Rattle.tree_stream.specs.declared.findings.Summary.{Summary}
 use Rattle.tree_stream.specs.declared.stream.TreeStream.{TreeStream}
 use Rattle.tree_stream.specs.Machines.{summary_of_machine, StopsInRow}
 
-unfoldable pub summary_of : TreeStream → List ℕ → Option Summary
+unfoldable pub summary_of : TreeStream → Reader Summary
 summary_of stream bytes = summary_of_machine stream.machine (stream.partial.items ++ bytes)
 
 -- some byte of the piece is of a row whose key is in the need's interval
 abbrev pub WantsMemory : TreeStream → List ℕ → Type 0
 WantsMemory stream piece =
     StopsInRow stream.machine (stream.partial.items ++ piece) × (0 < length piece)
+
+-- it takes no more bytes: they come behind the tree, or the bytes before them are no tree
+abbrev pub IsSettled : TreeStream → Type 0
+IsSettled stream =
+    ((more : List ℕ) → summary_of stream more ≡ None)
+    ⊎ ((found : Summary) × ((more : List ℕ) → summary_of stream more ≡ Some (found, more)))

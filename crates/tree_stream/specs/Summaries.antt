@@ -1,14 +1,15 @@
--- The summary that comes of a tree read in part, if these bytes come next and then nothing.
-use Rattle.std.specs.Prelude.{◌≡◌, ℕ, Bool, IsTrue, ◌-◌, not, List, [], ◌∷◌, ◌++◌, length, reverse, Option, Some, None}
+-- What reading the bytes to come gives of a tree that is read in part: its summary, and the bytes
+-- behind it.
+use Rattle.std.specs.Prelude.{◌≡◌, ℕ, Bool, true, false, IsTrue, ◌-◌, not, List, [], ◌∷◌, ◌++◌, length, reverse, Option, Some, None}
 use Rattle.vo_spec.specs.declared.needs.Need.{Need}
 use Rattle.vo_spec.specs.Scans.{in_interval, is_empty_interval}
 use Rattle.vo_spec.specs.Fits.{max_levels}
-use Rattle.row_bytes.specs.Fields.{◌>>=◌, whole}
+use Rattle.row_bytes.specs.Fields.{◌>>=◌}
 use Rattle.batch_format.specs.BatchReading.{Reader}
 use Rattle.tree_stream.specs.declared.findings.Findings.{Findings}
 use Rattle.tree_stream.specs.declared.findings.Summary.{Summary}
 use Rattle.tree_stream.specs.declared.state.State.{State}
-use Rattle.tree_stream.specs.declared.state.State.TheVariants.{Row, Cell, Complete}
+use Rattle.tree_stream.specs.declared.state.State.TheVariants.{Row, Cell, Complete, Invalid}
 use Rattle.tree_stream.specs.declared.state.InnerNode.{InnerNode}
 use Rattle.tree_stream.specs.declared.context.Context.{Context}
 use Rattle.tree_stream.specs.Findings.{combine}
@@ -18,23 +19,22 @@ use Rattle.tree_stream.specs.Remaining.{summary, rest_of_children, rest_of_node,
 abbrev pub levels_below : List InnerNode → ℕ
 levels_below ancestors = max_levels - length ancestors
 
--- Behind a node that ended with this digest, and these findings so far: the children that its ancestors
--- still have, the nearest ancestor first, and no byte after the root.
-unfoldable pub summary_after : Need → List InnerNode → List ℕ → Findings → List ℕ → Option Summary
-summary_after need [] d found [] = Some (summary d found)
-summary_after need [] d found (byte ∷ bytes) = None
+-- Behind a node that ended with this digest, and these findings so far: the children that its
+-- ancestors still have, the nearest ancestor first.
+unfoldable pub summary_after : Need → List InnerNode → List ℕ → Findings → Reader Summary
+summary_after need [] d found bytes = Some (summary d found, bytes)
 summary_after need (node ∷ ancestors) d found bytes =
     rest_of_children need (levels_below (node ∷ ancestors)) (node.hasher ++ d)
     node.child_visits.items bytes >>= λ end.
     summary_after need ancestors end.0.digest (combine found end.0.findings) end.1
 
 -- where the rest of a node is read so; its ancestors are given with the root first
-unfoldable pub summary_with : Need → List InnerNode → Findings → Reader Summary → List ℕ
-    → Option Summary
+unfoldable pub summary_with : Need → List InnerNode → Findings → Reader Summary
+    → Reader Summary
 summary_with need ancestors found read bytes = read bytes >>= λ end.
     summary_after need (reverse ancestors) end.0.digest (combine found end.0.findings) end.1
 
-abbrev pub summary_by : Context → Reader Summary → List ℕ → Option Summary
+abbrev pub summary_by : Context → Reader Summary → Reader Summary
 summary_by context read bytes =
     summary_with context.need context.ancestors.items context.findings read bytes
 
@@ -43,7 +43,7 @@ abbrev pub rest_in : Context → State → Reader Summary
 rest_in context state bytes = rest_of_node context.need (levels_below context.ancestors.items)
     context.last_key.items state bytes
 
-unfoldable pub summary_from : Context → State → List ℕ → Option Summary
+unfoldable pub summary_from : Context → State → Reader Summary
 summary_from context (Complete digest) bytes =
     summary_after context.need [] digest context.findings bytes
 summary_from context state bytes = summary_by context (rest_in context state) bytes
@@ -53,20 +53,27 @@ abbrev pub complete_digest : State → Option (List ℕ)
 complete_digest (Complete digest) = Some digest
 complete_digest _ = None
 
--- of all the bytes as one tree, whose root is visited unless the interval is empty
-unfoldable pub summary_of_tree : Need → List ℕ → Option Summary
+-- neither a token nor a part of one comes any more
+abbrev pub is_settled : State → Bool
+is_settled (Complete digest) = true
+is_settled Invalid = true
+is_settled _ = false
+
+-- a tree whose root is visited unless the interval is empty
+unfoldable pub summary_of_tree : Need → Reader Summary
 summary_of_tree need bytes =
-    whole (summary_at need max_levels (not (is_empty_interval need.interval)) bytes)
+    summary_at need max_levels (not (is_empty_interval need.interval)) bytes
 
 -- whatever comes next, this is what comes of it
-pub record Yields (context : Context) (state : State) (summaries : List ℕ → Option Summary) : Type 0 where
+pub record Yields (context : Context) (state : State) (summaries : Reader Summary) : Type 0 where
   pub each : (rest : List ℕ) → summary_from context state rest ≡ summaries rest
 
 -- some bytes make a tree of it
-abbrev pub CanEnd : (List ℕ → Option Summary) → Type 0
-CanEnd summaries = (bytes : List ℕ) × (end : Summary) × (summaries bytes ≡ Some end)
+abbrev pub CanEnd : Reader Summary → Type 0
+CanEnd summaries = (bytes : List ℕ) × (end : Summary × List ℕ) × (summaries bytes ≡ Some end)
 
--- The next byte is of an entry behind its key, which is in the need's interval: there a call may want memory.
+-- The next byte is of an entry behind its key, which is in the need's interval: there a call may
+-- want memory.
 abbrev pub is_needed_row : Context → Bool
 is_needed_row context = in_interval context.need.interval context.last_key.items
 

@@ -1,5 +1,5 @@
--- Tokens of a tree's bytes, one of which is taken at a time: how many bytes the next one has, as far as the
--- first bytes of it tell. A length beyond its limit ends its token.
+-- Tokens of a tree's bytes, one of which is taken at a time: how many bytes the next one has, as
+-- far as the first bytes of it tell. A length beyond its limit ends its token.
 use Rattle.std.specs.Prelude.{ℕ, suc, ◌+◌, ◌==◌, nat_lt, nat_le, if◌then◌else◌, List, [], ◌∷◌, length, take}
 use Rattle.vo_spec.specs.Bytes.{u16_of}
 use Rattle.vo_spec.specs.Values.{max_text}
@@ -10,7 +10,8 @@ use Rattle.tree_stream.specs.declared.state.State.TheVariants.{Node, Separator, 
 -- a stub, or the first byte and the count of an open node
 unfoldable pub node_size : List ℕ → ℕ
 node_size [] = 1
-node_size (byte ∷ bytes) = if byte == 0 then 33 else if byte == 1 then 2 else if byte == 2 then 2 else 1
+node_size (byte ∷ bytes) =
+    if byte == 0 then 33 else if byte == 1 then 2 else if byte == 2 then 2 else 1
 
 -- a string of at most so many bytes, behind its length
 unfoldable pub string_size : ℕ → List ℕ → ℕ
@@ -38,12 +39,12 @@ cell_size [] = 1
 cell_size (byte ∷ bytes) =
     if byte == 0 then 33 else if byte == 1 then suc (value_size bytes) else 1
 
--- behind a whole tree any byte is one too many, and of bytes that are no tree no token ends
+-- behind a whole tree, and in bytes that are no tree, no token ends
 unfoldable pub token_size : State → List ℕ → ℕ
 token_size (Node visited) bytes = node_size bytes
 token_size (Separator head) bytes = string_size max_key bytes
 token_size (Key leaf) bytes = string_size max_key bytes
 token_size (Row leaf) bytes = row_size bytes
 token_size (Cell row) bytes = cell_size bytes
-token_size (Complete digest) bytes = 1
+token_size (Complete digest) bytes = suc (length bytes)
 token_size Invalid bytes = suc (length bytes)

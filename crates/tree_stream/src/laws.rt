@@ -1,5 +1,5 @@
 //! What the summary of a tree's bytes is, in the terms of trees and their proofs.
-ghost use Rattle.std.specs.Prelude.{◌≡◌, ℕ, List, [], ◌∷◌, Some, false};
+ghost use Rattle.std.specs.Prelude.{◌≡◌, ℕ, List, [], ◌∷◌, ◌++◌, Some, false};
 ghost use Rattle.vo_spec.specs.declared.needs.Need.{Need};
 ghost use Rattle.vo_spec.specs.Bytes.{IsBytes};
 ghost use Rattle.vo_spec.specs.Fits.{FitsPart, FitsTree};
@@ -12,20 +12,20 @@ ghost use Rattle.tree_stream.specs.Findings.{Rises, findings_in};
 ghost use Rattle.tree_stream.specs.Remaining.{summary};
 ghost use Rattle.tree_stream.specs.Summaries.{summary_of_tree};
 
-/// Bytes have a summary exactly where they are the encoding of a tree that keeps the limits: the tree's
-/// digest, and what the need finds in it.
+/// A summary is read exactly where the encoding of a tree that keeps the limits is in front: the
+/// tree's digest, and what the need finds in it.
 pub fn trees_have_their_summary()
-    ensures again { (need : Need) (tree : RowTree) → FitsTree tree
-        → summary_of_tree need (tree_bytes tree)
-        ≡ Some (summary (digest tree) (findings_in need tree)) }
-    ensures only { (need : Need) (bytes : List ℕ) (found : Summary) → IsBytes bytes
-        → summary_of_tree need bytes ≡ Some found
-        → (tree : RowTree) × FitsTree tree × (bytes ≡ tree_bytes tree)
+    ensures again { (need : Need) (tree : RowTree) (rest : List ℕ) → FitsTree tree
+        → summary_of_tree need (tree_bytes tree ++ rest)
+        ≡ Some (summary (digest tree) (findings_in need tree), rest) }
+    ensures only { (need : Need) (bytes : List ℕ) (found : Summary) (rest : List ℕ)
+        → IsBytes bytes → summary_of_tree need bytes ≡ Some (found, rest)
+        → (tree : RowTree) × FitsTree tree × (bytes ≡ tree_bytes tree ++ rest)
         × (found ≡ summary (digest tree) (findings_in need tree)) }
 {}
 
-/// What the need finds says whether the tree is missing something or has a surplus; where neither is so, the
-/// rows are those that the scan gives, if the need's columns are in rising order.
+/// What the need finds says whether the tree is missing something or has a surplus; where neither
+/// is so, the rows are those that the scan gives, if the need's columns are in rising order.
 pub fn findings_judge_proofs()
     ensures missing { (need : Need) (tree : RowTree) → FitsPart tree
         → is_missing (need ∷ []) tree ≡ (findings_in need tree).is_missing }

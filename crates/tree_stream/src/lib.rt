@@ -1,5 +1,5 @@
-//! One part tree of a reply, read in whatever pieces it comes, without holding it: its digest, and what a
-//! need finds in it.
+//! One part tree of a reply, read in whatever pieces it comes, without holding it: its digest, and
+//! what a need finds in it.
 #![tactic(auto)]
 
 mod accumulate;

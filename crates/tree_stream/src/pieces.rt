@@ -1,7 +1,7 @@
 //! Pieces of any sizes, of which whole tokens are taken; a token that isn't whole is kept.
-ghost use Rattle.std.specs.Prelude.{◌≡◌, ◌⊎◌, ◌↔◌, ◌<◌, ◌≤◌, [], ◌++◌, length, IsTrue, IfOk, IsErr, OnOk, OnErr};
+ghost use Rattle.std.specs.Prelude.{◌≡◌, ◌⊎◌, ◌↔◌, ◌<◌, ◌≤◌, [], ◌++◌, length, false, IsTrue, IfOk, IsErr, OnOk, OnErr};
 ghost use Rattle.tree_stream.specs.Machines.{Advances, EndsWith, StopsInRow, summary_of_machine};
-ghost use Rattle.tree_stream.specs.Summaries.{CanEnd};
+ghost use Rattle.tree_stream.specs.Summaries.{CanEnd, is_settled as has_settled};
 ghost use Rattle.tree_stream.specs.Tokens.{token_size as size_of_token};
 
 use crate::machine::Machine;
@@ -18,7 +18,8 @@ fn take_all<'b>(
     bytes: &'b [u8],
 ) -> Result<&'b [u8], AllocError>
     ensures ok { IfOk result (λ left. Advances machine.old machine.new bytes.now left.now) }
-    ensures short { IfOk result (λ left. length left.now < size_of_token machine.new.state left.now) }
+    ensures short { IfOk result (λ left.
+        length left.now < size_of_token machine.new.state left.now) }
     ensures err { OnErr result (machine.new.state ≡ State.Invalid) }
     ensures way { IsErr result → CanEnd (summary_of_machine machine.old) }
     ensures memory { IsErr result → StopsInRow machine.old bytes.now }
@@ -34,8 +35,8 @@ fn take_all<'b>(
     Ok(left)
 }
 
-/// Puts what the token in front lacks behind the bytes of it, and takes it once it is whole. Gives the
-/// bytes behind it.
+/// Puts what the token in front lacks behind the bytes of it, and takes it once it is whole. Gives
+/// the bytes behind it.
 fn fill<'b>(
     machine: &mut Machine,
     partial: &mut ArrayVec<u8, 1028>,
@@ -43,11 +44,12 @@ fn fill<'b>(
     piece: &'b [u8],
 ) -> Result<&'b [u8], AllocError>
     requires short { length partial.old.items < size_of_token machine.old.state partial.old.items }
-    requires valid { machine.old.state ≡ State.Invalid → ⊥ }
+    requires reading { has_settled machine.old.state ≡ false }
     ensures ok { IfOk result (λ left. Advances machine.old machine.new
         (partial.old.items ++ piece.now) (partial.new.items ++ left.now)) }
     ensures all { IfOk result (λ left. (partial.new.items ≡ []) ⊎ (left.now ≡ [])) }
     ensures behind { IfOk result (λ left. EndsWith piece.now left.now) }
+    ensures kept { IsTrue (has_settled machine.new.state) → partial.new.items ≡ [] }
     ensures short { length partial.new.items < size_of_token machine.new.state partial.new.items }
     ensures err { OnErr result (machine.new.state ≡ State.Invalid) }
     ensures way { IsErr result → CanEnd (λ rest. summary_of_machine machine.old
@@ -64,9 +66,16 @@ fn fill<'b>(
         }
         return fill(machine, partial, alloc, left);
     }
-    take(machine, alloc, partial.as_slice())?;
-    partial.clear();
-    Ok(left)
+    match take(machine, alloc, partial.as_slice()) {
+        Ok(()) => {
+            partial.clear();
+            Ok(left)
+        },
+        Err(error) => {
+            partial.clear();
+            Err(error)
+        },
+    }
 }
 
 /// At most so many bytes, and those behind them.
@@ -82,8 +91,9 @@ fn split_within<'b>(bytes: &'b [u8], count: usize) -> (&'b [u8], &'b [u8])
     }
 }
 
-fn is_invalid(state: &State) -> bool
-    ensures { IsTrue result ↔ (state.now ≡ State.Invalid) }
+/// Whether no token comes any more.
+fn is_settled(state: &State) -> bool
+    ensures { result ≡ has_settled state.now }
 {
     match state {
         State::Node(_) => false,
@@ -91,52 +101,61 @@ fn is_invalid(state: &State) -> bool
         State::Key(_) => false,
         State::Row(_) => false,
         State::Cell(_) => false,
-        State::Complete(_) => false,
+        State::Complete(_) => true,
         State::Invalid => true,
     }
 }
 
-/// Takes what is whole, and keeps the rest. Of bytes that are no tree nothing is kept.
-fn feed_whole(
+/// Takes what is whole, and keeps the rest. Gives the bytes behind the tree, or behind those that
+/// are no tree.
+fn feed_whole<'b>(
     machine: &mut Machine,
     partial: &mut ArrayVec<u8, 1028>,
     alloc: Global,
-    bytes: &[u8],
-) -> Result<(), AllocError>
+    bytes: &'b [u8],
+) -> Result<&'b [u8], AllocError>
     requires { partial.old.items ≡ [] }
-    ensures ok { OnOk result (Advances machine.old machine.new bytes.now partial.new.items) }
+    ensures ok { IfOk result (λ left. Advances machine.old machine.new bytes.now
+        (partial.new.items ++ left.now)) }
+    ensures all { IfOk result (λ left. (left.now ≡ []) ⊎ IsTrue (has_settled machine.new.state)) }
+    ensures kept { IsTrue (has_settled machine.new.state) → partial.new.items ≡ [] }
     ensures short { length partial.new.items < size_of_token machine.new.state partial.new.items }
     ensures err { OnErr result (machine.new.state ≡ State.Invalid) }
     ensures way { IsErr result → CanEnd (summary_of_machine machine.old) }
     ensures memory { IsErr result → StopsInRow machine.old bytes.now }
 {
     let left = take_all(machine, alloc, bytes)?;
-    if !is_invalid(&machine.state) {
-        let _ = partial.try_extend_from_slice(left);
+    if is_settled(&machine.state) {
+        return Ok(left);
     }
-    Ok(())
+    let _ = partial.try_extend_from_slice(left);
+    Ok(&[])
 }
 
-/// Takes a piece behind the bytes of a token that isn't whole.
-pub(crate) fn feed_piece(
+/// Takes a piece behind the bytes of a token that isn't whole. Gives the bytes behind the tree, or
+/// behind those that are no tree.
+pub(crate) fn feed_piece<'b>(
     machine: &mut Machine,
     partial: &mut ArrayVec<u8, 1028>,
     alloc: Global,
-    piece: &[u8],
-) -> Result<(), AllocError>
-    requires { length partial.old.items < size_of_token machine.old.state partial.old.items }
-    ensures ok { OnOk result (Advances machine.old machine.new
-        (partial.old.items ++ piece.now) partial.new.items) }
-    ensures short { length partial.new.items < size_of_token machine.new.state partial.new.items }
+    piece: &'b [u8],
+) -> Result<&'b [u8], AllocError>
+    requires short { length partial.old.items < size_of_token machine.old.state partial.old.items }
+    requires kept { IsTrue (has_settled machine.old.state) → partial.old.items ≡ [] }
+    ensures ok { IfOk result (λ left. Advances machine.old machine.new
+        (partial.old.items ++ piece.now) (partial.new.items ++ left.now)) }
+    ensures all { IfOk result (λ left. (left.now ≡ []) ⊎ IsTrue (has_settled machine.new.state)) }
+    ensures kept_new { IsTrue (has_settled machine.new.state) → partial.new.items ≡ [] }
+    ensures short_new { length partial.new.items
+        < size_of_token machine.new.state partial.new.items }
     ensures err { OnErr result (machine.new.state ≡ State.Invalid) }
     ensures way { IsErr result → CanEnd (λ rest. summary_of_machine machine.old
         (partial.old.items ++ rest)) }
     ensures memory { IsErr result → StopsInRow machine.old (partial.old.items ++ piece.now) }
     ensures some { IsErr result → 0 < length piece.now }
 {
-    if is_invalid(&machine.state) {
-        partial.clear();
-        return Ok(());
+    if is_settled(&machine.state) {
+        return Ok(piece);
     }
     if partial.is_empty() {
         return feed_whole(machine, partial, alloc, piece);
@@ -145,5 +164,5 @@ pub(crate) fn feed_piece(
     if partial.is_empty() {
         return feed_whole(machine, partial, alloc, left);
     }
-    Ok(())
+    Ok(left)
 }

@@ -1,5 +1,5 @@
-//! Where the reading of a tree stands: the token that comes next, and what is known of the node that it is
-//! in. Counts are of what comes behind the next thing.
+//! Where the reading of a tree stands: the token that comes next, and what is known of the node
+//! that it is in. Counts are of what comes behind the next thing.
 ghost use Rattle.std.specs.Prelude.{◌+◌, ◌≤◌, length};
 
 use crate::findings::CellFindings;
@@ -25,8 +25,8 @@ pub(crate) enum State {
     Invalid,
 }
 
-/// An inner node before its children. Its separators are hashed so far as they came; of each child whose
-/// upper separator came it is known whether the scan visits it.
+/// An inner node before its children. Its separators are hashed so far as they came; of each child
+/// whose upper separator came it is known whether the scan visits it.
 #[derive(Drop)]
 pub(crate) struct InnerHead {
     pub hasher: RunningHash,
@@ -51,7 +51,8 @@ pub(crate) struct OpenLeaf {
     pub left: u8,
 }
 
-/// A row that stands as cells, with the number of cells behind the next one, which is that of this column.
+/// A row that stands as cells, with the number of cells behind the next one, which is that of this
+/// column.
 #[derive(Drop)]
 pub(crate) struct OpenRow {
     pub leaf: OpenLeaf,

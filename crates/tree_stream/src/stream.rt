@@ -1,6 +1,6 @@
 //! A tree whose bytes come in pieces.
-ghost use Rattle.std.specs.Prelude.{◌≡◌, ◌<◌, ◌++◌, ℕ, List, [], None, length, IsErr, IsOk, OnOk, OnErr};
-ghost use Rattle.tree_stream.specs.Summaries.{complete_digest as digest_where_complete, summary_of_tree};
+ghost use Rattle.std.specs.Prelude.{◌≡◌, ◌⊎◌, ◌<◌, ◌++◌, ℕ, List, [], None, length, option_map, IsTrue, IsErr, IsOk, IfOk, OnErr};
+ghost use Rattle.tree_stream.specs.Summaries.{complete_digest as digest_where_complete, is_settled, summary_of_tree};
 ghost use Rattle.tree_stream.specs.Tokens.{token_size};
 
 use crate::accumulate::empty_findings;
@@ -20,10 +20,11 @@ pub struct TreeStream {
     machine: Machine,
     partial: ArrayVec<u8, 1028>,
     ghost short: { length partial.items < token_size machine.state partial.items },
+    ghost kept: { IsTrue (is_settled machine.state) → partial.items ≡ [] },
 }
 
 impl TreeStream {
-    ghost use Rattle.tree_stream.specs.Streams.{WantsMemory, summary_of};
+    ghost use Rattle.tree_stream.specs.Streams.{IsSettled, WantsMemory, summary_of};
 
     /// A reader that was given no bytes, of a tree that is read for a need.
     pub fn new(alloc: Global, need: Need) -> TreeStream
@@ -44,11 +45,16 @@ impl TreeStream {
         }
     }
 
-    /// Takes the piece that comes next.
-    pub fn feed(&mut self, alloc: Global, piece: &[u8]) -> Result<(), AllocError>
-        // It is as if the piece had stood in front of the bytes to come.
-        ensures ok { OnOk result ((more : List ℕ)
-            → summary_of self.new more ≡ summary_of self.old (piece.now ++ more)) }
+    /// Takes the piece that comes next, up to the end of the tree, and gives the bytes behind that.
+    /// Of bytes that are no tree it takes no more.
+    pub fn feed<'b>(&mut self, alloc: Global, piece: &'b [u8]) -> Result<&'b [u8], AllocError>
+        // It is as if the piece had stood in front of the bytes to come, but for what is left of
+        // it.
+        ensures ok { IfOk result (λ left. (more : List ℕ)
+            → summary_of self.new (left.now ++ more) ≡ summary_of self.old (piece.now ++ more)) }
+
+        // All of it is taken until the tree ends.
+        ensures all { IfOk result (λ left. (left.now ≡ []) ⊎ IsSettled self.new) }
 
         // Where memory ran out, no tree comes of it any more.
         ensures err { OnErr result ((more : List ℕ) → summary_of self.new more ≡ None) }
@@ -62,9 +68,9 @@ impl TreeStream {
         feed_piece(&mut self.machine, &mut self.partial, alloc, piece)
     }
 
-    /// The digest and what was found, where the bytes so far are one whole tree.
+    /// The digest and what was found, where the tree has ended.
     pub fn end(self) -> Option<Summary>
-        ensures { result ≡ summary_of self [] }
+        ensures { result ≡ option_map (λ end. end.0) (summary_of self []) }
     {
         let TreeStream { machine, .. } = self;
         let Machine { context, state } = machine;

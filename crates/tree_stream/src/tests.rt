@@ -1,4 +1,5 @@
-//! A tree that another implementation encoded, and trees as deep as may be, in pieces of several sizes.
+//! A tree that another implementation encoded, and trees as deep as may be, in pieces of several
+//! sizes.
 ghost use Rattle.std.specs.Prelude.{◌<◌};
 
 use crate::{Summary, TreeStream};
@@ -7,8 +8,8 @@ use std::process::Abort;
 use std::test::Fail;
 use vo_spec::{Bound, Interval, Key, Need, SharedList, Value};
 
-/// The proof for the keys from `n` on and their column 1. An inner node has two leaves: the left one is a
-/// stub; the right one has the row of `k` as a digest, and of that of `x` the text `four`.
+/// The proof for the keys from `n` on and their column 1. An inner node has two leaves: the left
+/// one is a stub; the right one has the row of `k` as a digest, and of that of `x` the text `four`.
 static PROOF: [u8; 155] = [
     0x02, 0x02, 0x00, 0x01, 0x6b, 0x00, 0xe8, 0x57, 0x54, 0x68, 0x48, 0x2b, 0x2d, 0x0b, 0x92, 0xe3,
     0xbe, 0xc9, 0xd1, 0x02, 0x78, 0x51, 0x10, 0x40, 0xc8, 0x37, 0x2b, 0xff, 0xdc, 0xd5, 0x26, 0xda,
@@ -47,7 +48,9 @@ fn summary_in_pieces(
 {
     let mut stream = TreeStream::new(alloc, need(alloc)?);
     for piece in bytes.chunks(size) {
-        stream.feed(alloc, piece)?;
+        if !stream.feed(alloc, piece)?.is_empty() {
+            return Ok(None);
+        }
     }
     Ok(stream.end())
 }

@@ -80,7 +80,7 @@ pub(crate) fn token_size(state: &State, bytes: &[u8]) -> usize
         State::Key(_) => string_size(MAX_KEY, bytes),
         State::Row(_) => row_size(bytes),
         State::Cell(_) => cell_size(bytes),
-        State::Complete(_) => 1,
+        State::Complete(_) => bytes.len() + 1,
         State::Invalid => bytes.len() + 1,
     }
 }

@@ -1,15 +1,12 @@
-use Rattle.std.proofs.Common.{List, ℕ, ◌++◌, subst, sym, ◌∙◌}
-use Rattle.tree_stream.specs.Machines.{Advances}
-use Rattle.tree_stream.proofs.PieceLaws.{empty_short, invalid_advances, ok_advances, way_behind, stops_later, no_length}
+use Rattle.std.proofs.Common.{◌++◌, refl, sym, ◌∙◌}
+use Rattle.tree_stream.proofs.PieceLaws.{same_bytes, ok_advances, left_is_taken, way_behind, stops_later, no_length}
 use Rattle.tree_stream.proofs.pieces.feed_piece.Goals as goal
 
-pub returns-then-is_invalid-clause-ok : goal.returns-then-is_invalid-clause-ok
-returns-then-is_invalid-clause-ok c =
-    let P : List ℕ → Type 0 = λ bytes. Advances c.args.machine.now c.args.machine.now (c.args.partial.now.items ++ c.args.piece.now) bytes in
-    subst P (sym c.clear.ensures) (invalid_advances c.args.machine.now (c.args.partial.now.items ++ c.args.piece.now) (c.is_invalid.ensures.0 c.if-is_invalid.true))
+pub returns-then-is_settled-clause-ok : goal.returns-then-is_settled-clause-ok
+returns-then-is_settled-clause-ok c = same_bytes c.args.machine.now (c.args.partial.now.items ++ c.args.piece.now) (c.args.partial.now.items ++ c.args.piece.now) refl
 
-pub returns-then-is_invalid-clause-short : goal.returns-then-is_invalid-clause-short
-returns-then-is_invalid-clause-short c = empty_short _ c.clear.new.self.items c.clear.ensures
+pub returns-clause-all : goal.returns-clause-all
+returns-clause-all c = left_is_taken _ c.fill.new.partial.items c.in_ok-left.left.now (sym c.is_empty-2.ensures ∙ c.if-is_empty-2.false) c.in_ok-left.ensures.all
 
 pub returns-then-is_empty-2-clause-ok : goal.returns-then-is_empty-2-clause-ok
 returns-then-is_empty-2-clause-ok c =

@@ -6,7 +6,7 @@ use Rattle.tree_stream.proofs.stream.TreeStream.end.Goals as goal
 pub returns-in-Some : goal.returns-in-Some
 unfolding summary_of
 returns-in-Some c =
-    end_some c.args.self.machine.context c.args.self.machine.state c.args.self.partial.items c.in-Some.digest (sym c.complete_digest.ensures ∙ c.in-Some.is) c.args.self.short
+    end_some c.args.self.machine.context c.args.self.machine.state c.args.self.partial.items c.in-Some.digest (sym c.complete_digest.ensures ∙ c.in-Some.is)
 
 pub returns : goal.returns
 unfolding summary_of

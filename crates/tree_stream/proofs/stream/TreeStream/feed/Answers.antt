@@ -1,7 +1,7 @@
 use Rattle.std.proofs.Common.{◌++◌}
 use Rattle.tree_stream.specs.Machines.{summary_of_machine}
 use Rattle.tree_stream.specs.Streams.{summary_of}
-use Rattle.tree_stream.proofs.PieceLaws.{piece_taken, none_after, dead_is_ok}
+use Rattle.tree_stream.proofs.PieceLaws.{piece_taken, none_after, dead_is_ok, all_or_settled}
 use Rattle.tree_stream.proofs.stream.TreeStream.feed.Goals as goal
 
 pub returns-clause-ok : goal.returns-clause-ok
@@ -17,3 +17,7 @@ pub returns-clause-dead : goal.returns-clause-dead
 unfolding summary_of
 returns-clause-dead c = λ none.
     dead_is_ok c.feed_piece.result (λ rest. summary_of_machine c.args.self.now.machine (c.args.self.now.partial.items ++ rest)) c.feed_piece.ensures.way none
+
+pub returns-clause-all : goal.returns-clause-all
+unfolding summary_of
+returns-clause-all c = all_or_settled c.feed_piece.result c.feed_piece.new.machine c.feed_piece.new.partial.items c.feed_piece.ensures.kept_new c.feed_piece.ensures.all

@@ -9,7 +9,7 @@ use Rattle.tree_stream.proofs.ShortLaws.{start_is}
 use Rattle.tree_stream.proofs.stream.TreeStream.new.Goals as goal
 
 pub invariant_of-result : goal.invariant_of-result
-invariant_of-result c = record { short = empty_short _ c.new-3.result.items c.new-3.ensures }
+invariant_of-result c = record { short = empty_short _ c.new-3.result.items c.new-3.ensures; kept = λ settled. c.new-3.ensures }
 
 pub returns : goal.returns
 unfolding summary_of
