@@ -164,8 +164,8 @@ fn commits_two_batches_with_a_new_store(rt: HostRuntime) -> Result<(), Fail> {
     Ok(())
 }
 
-/// A standing whose record ends with this byte.
-fn standing(rt: &HostRuntime, last: u8) -> Result<Vec<u8>, Fail> {
+/// The frame of a store's record that ends with this byte.
+fn standing_frame(rt: &HostRuntime, last: u8) -> Result<Vec<u8>, Fail> {
     let mut bytes = Vec::from_slice(rt.alloc(), b"\0\0\0\x3e\x82\x01")?;
     for _ in 0..59 {
         bytes.push(0)?;
@@ -176,7 +176,7 @@ fn standing(rt: &HostRuntime, last: u8) -> Result<Vec<u8>, Fail> {
 
 #[test]
 fn gives_a_store_what_it_lacks(rt: HostRuntime) -> Result<(), Fail> {
-    let mut coming = standing(&rt, 0)?;
+    let mut coming = standing_frame(&rt, 0)?;
     coming.extend_from_slice(
         b"\0\0\0\x01\x83\0\0\0\x09\x84\0\0\0\0\0\0\0\x01\
         \0\0\0\x01\x83\0\0\0\x09\x84\0\0\0\0\0\0\0\x02",
@@ -193,7 +193,7 @@ fn gives_a_store_what_it_lacks(rt: HostRuntime) -> Result<(), Fail> {
 
 #[test]
 fn refuses_a_store_that_stands_elsewhere(rt: HostRuntime) -> Result<(), Fail> {
-    let outcome = session(&rt, &[0, 1], &[2], &standing(&rt, 2)?)?;
+    let outcome = session(&rt, &[0, 1], &[2], &standing_frame(&rt, 2)?)?;
     assert_eq!(rt; outcome.status, 1);
     assert_eq!(rt;
         outcome.written.as_slice(),

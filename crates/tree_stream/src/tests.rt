@@ -94,7 +94,7 @@ fn finds_no_tree_in_a_part(rt: HostRuntime) -> Result<(), Fail> {
 }
 
 /// So many inner nodes one below the other, each with a stub as its other child.
-fn nested(alloc: Global, count: usize) -> Result<Vec<u8>, AllocError> {
+fn nested_nodes(alloc: Global, count: usize) -> Result<Vec<u8>, AllocError> {
     let mut bytes = Vec::new(alloc);
     for _ in 0..count {
         bytes.extend_from_slice(&[2, 2, 0, 0])?;
@@ -108,7 +108,7 @@ fn nested(alloc: Global, count: usize) -> Result<Vec<u8>, AllocError> {
 
 #[test]
 fn reads_eleven_levels_and_no_more(rt: HostRuntime) -> Result<(), Fail> {
-    assert!(rt; summary_in_pieces(rt.alloc(), &nested(rt.alloc(), 10)?, 7)?.is_some());
-    assert!(rt; summary_in_pieces(rt.alloc(), &nested(rt.alloc(), 11)?, 7)?.is_none());
+    assert!(rt; summary_in_pieces(rt.alloc(), &nested_nodes(rt.alloc(), 10)?, 7)?.is_some());
+    assert!(rt; summary_in_pieces(rt.alloc(), &nested_nodes(rt.alloc(), 11)?, 7)?.is_none());
     Ok(())
 }
