@@ -12,7 +12,7 @@ lines_of-append (Appends entry next ∷ ds) es = lines_of-append ds es
 lines_of-append (Says line ∷ ds) es =
     ap (λ (bytes : List ℕ). line ++ bytes) (lines_of-append ds es) ∙ sym (append_assoc line (lines_of ds) (lines_of es))
 
-entries_of-append : {S B E : Type 0} (ds es : List (Deed S B E)) → entries_of (ds ++ es) ≡ entries_of ds ++ entries_of es
+pub entries_of-append : {S B E : Type 0} (ds es : List (Deed S B E)) → entries_of (ds ++ es) ≡ entries_of ds ++ entries_of es
 entries_of-append [] es = refl
 entries_of-append (Steps before batch proofs judgement ∷ ds) es = entries_of-append ds es
 entries_of-append {E = E} (Appends entry next ∷ ds) es = ap (λ (xs : List E). entry ∷ xs) (entries_of-append ds es)

@@ -6,3 +6,4 @@ pub mod CommitLaws
 pub mod SessionLaws
 pub mod OrderLaws
 pub mod DoneLaws
+pub mod RequestLaws

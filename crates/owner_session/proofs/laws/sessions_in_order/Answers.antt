@@ -1,5 +1,6 @@
 use Rattle.owner_session.proofs.OrderLaws.{alternates, keeps_first, steps_first}
 use Rattle.owner_session.proofs.DoneLaws.{commits_each}
+use Rattle.owner_session.proofs.RequestLaws.{puts_requests, puts_requests_done}
 use Rattle.owner_session.proofs.laws.sessions_in_order.Goals as goal
 
 pub returns-clause-alternates : goal.returns-clause-alternates
@@ -13,3 +14,11 @@ returns-clause-steps_first g c = λ state entries batches input. steps_first g.O
 
 pub returns-clause-commits_each : goal.returns-clause-commits_each
 returns-clause-commits_each g c = λ state entries batches input. commits_each g.O.Owner.forms state entries batches input
+
+pub returns-clause-puts_requests : goal.returns-clause-puts_requests
+returns-clause-puts_requests g c = λ state entries batches input deeds before after stops.
+    puts_requests g.O.Owner.forms state entries batches input deeds before after stops
+
+pub returns-clause-puts_requests_done : goal.returns-clause-puts_requests_done
+returns-clause-puts_requests_done g c = λ state entries batches input deeds before after done.
+    puts_requests_done g.O.Owner.forms state entries batches input deeds before after done
