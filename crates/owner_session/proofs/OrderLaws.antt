@@ -35,13 +35,15 @@ pub record IsCarried {S B E : Type 0} (forms : Forms B E) (batches : List B)
   pub exchanges : (s : S) (es : List E) (request : Request B E) (n : ℕ)
       (events : List (Event (Deed S B E))) → IsRequestOf batches es request
       → P s es events → P s es (Puts (request_bytes forms request) ∷ Takes n ∷ events)
-  pub commits : (s : S) (es : List E) (batch : B) (proofs : List ℕ) (entry : E) (next : S) (events : List (Event (Deed S B E)))
+  pub commits : (s : S) (es : List E) (batch : B) (proofs : List ℕ) (entry : E) (next : S)
+      (events : List (Event (Deed S B E)))
       → P next (es ++ entry ∷ []) events
       → P s es (Does (Steps s batch proofs (Makes entry next)) ∷ Does (Appends entry next) ∷ events)
-  pub refusals : (s : S) (es : List E) (batch : B) (proofs : List ℕ) (cause : RefusalCause) (lines : List ℕ)
+  pub refusals : (s : S) (es : List E) (batch : B) (proofs : List ℕ) (cause : RefusalCause)
+      (lines : List ℕ)
       → P s es (Does (Steps s batch proofs (Refuses cause lines)) ∷ [])
-  pub says : (s : S) (es : List E) (line : List ℕ) (events : List (Event (Deed S B E))) → P s es events
-      → P s es (Does (Says line) ∷ events)
+  pub says : (s : S) (es : List E) (line : List ℕ) (events : List (Event (Deed S B E)))
+      → P s es events → P s es (Does (Says line) ∷ events)
 
 module _ {S B E : Type 0} (forms : Forms B E) (asked : List B)
     (P : S → List E → List (Event (Deed S B E)) → Type 0) (c : IsCarried forms asked P) where
@@ -53,7 +55,8 @@ module _ {S B E : Type 0} (forms : Forms B E) (asked : List B)
   exchange_carries : (s : S) (es : List E) (request : Request B E) (kind : FrameKind)
       (body : List ℕ) (awaits : Awaits) (input : Input S E) (go : List ℕ → Input S E → Work S B E)
       → request_bytes forms request ≡ frame_bytes kind body → IsRequestOf asked es request
-      → ((body : List ℕ) (rest : Input S E) → P s es (go body rest).events) → P s es (exchange kind body awaits input go).events
+      → ((body : List ℕ) (rest : Input S E) → P s es (go body rest).events)
+      → P s es (exchange kind body awaits input go).events
   unfolding exchange
   exchange_carries s es request kind body awaits input go is one h =
       let first = first_frame awaits input.coming in
@@ -80,7 +83,8 @@ module _ {S B E : Type 0} (forms : Forms B E) (asked : List B)
 
   proposal_carries : (s : S) (es : List E) (batch : B) (input : Input S E)
       (go : List ℕ → Input S E → Work S B E) → Contains asked batch
-      → ((body : List ℕ) (rest : Input S E) → P s es (go body rest).events) → P s es (proposal forms batch input go).events
+      → ((body : List ℕ) (rest : Input S E) → P s es (go body rest).events)
+      → P s es (proposal forms batch input go).events
   unfolding proposal
   proposal_carries s es batch input go has h =
       exchange_carries s es (Proposes batch) frame_kind.Propose (forms.proposal batch)
@@ -90,7 +94,8 @@ module _ {S B E : Type 0} (forms : Forms B E) (asked : List B)
       (go : Input S E → Work S B E) → Contains es entry → Contains asked (forms.batch entry)
       → ((rest : Input S E) → P s es (go rest).events) → P s es (delivery forms i entry input go).events
   unfolding delivery
-  delivery_carries s es zero entry input go has old h = installation_carries s es entry input go has h
+  delivery_carries s es zero entry input go has old h =
+      installation_carries s es entry input go has h
   delivery_carries s es (suc i) entry input go has old h =
       proposal_carries s es (forms.batch entry) input
       (λ (proofs : List ℕ) (rest : Input S E). installation forms entry rest go) old
@@ -103,8 +108,10 @@ module _ {S B E : Type 0} (forms : Forms B E) (asked : List B)
   unfolding deliveries
   deliveries_carry s es i [] input go all old h = h input
   deliveries_carry s es i (entry ∷ given) input go all old h =
-      let has = all entry (Contains-append_left (entry ∷ []) given entry (Contains-push [] entry)) in
-      delivery_carries s es i entry input (λ (rest : Input S E). deliveries forms (suc i) given rest go)
+      let first = Contains-append_left (entry ∷ []) given entry (Contains-push [] entry) in
+      let has = all entry first in
+      delivery_carries s es i entry input
+      (λ (rest : Input S E). deliveries forms (suc i) given rest go)
       has (old entry has)
       (λ rest. deliveries_carry s es (suc i) given rest go
       (λ other has. all other (Contains-append_right (entry ∷ []) given other has)) old h)
@@ -120,7 +127,8 @@ module _ {S B E : Type 0} (forms : Forms B E) (asked : List B)
   unfolding standing
   standing_carries s es input go h =
       exchange_carries s es AsksStanding frame_kind.Status [] awaits.Standing input
-      (λ (body : List ℕ) (rest : Input S E). with_place (forms.place es body) body rest go) refl tt
+      (λ (body : List ℕ) (rest : Input S E). with_place (forms.place es body) body rest go)
+      refl tt
       (λ body rest. place_carries s es (forms.place es body) body rest go h)
 
   dropped_has : (es : List E) (n : ℕ) (entry : E) → Contains (drop n es) entry → Contains es entry
@@ -133,7 +141,8 @@ module _ {S B E : Type 0} (forms : Forms B E) (asked : List B)
   unfolding catch_up
   catch_up_carries s es input go old h =
       standing_carries s es input (λ (count : ℕ) (rest : Input S E). deliveries forms count (drop count es) rest go)
-      (λ count rest. deliveries_carry s es count (drop count es) rest go (λ entry has. dropped_has es count entry has) old h)
+      (λ count rest. deliveries_carry s es count (drop count es) rest go
+      (λ entry has. dropped_has es count entry has) old h)
 
   publication_carries : (s : S) (es : List E) (entry : E) (input : Input S E) (go : Input S E → Work S B E) → Contains es entry
       → ((rest : Input S E) → P s es (go rest).events) → P s es (publication forms entry input go).events
@@ -172,7 +181,8 @@ module _ {S B E : Type 0} (forms : Forms B E) (asked : List B)
       (λ proofs rest. first_carries s es batch proofs rest.coming rest.judgements go h)
 
   commits_carry : (s : S) (es : List E) (batches : List B) (input : Input S E)
-      (go : Input S E → Work S B E) → ((batch : B) → Contains batches batch → Contains asked batch)
+      (go : Input S E → Work S B E)
+      → ((batch : B) → Contains batches batch → Contains asked batch)
       → ((next : S) (more : List E) (rest : Input S E) → P next more (go rest).events)
       → P s es (commits forms s batches input go).events
   unfolding commits
@@ -243,10 +253,12 @@ installs_one_of forms batches es (Installs entry) one = λ body is.
 pub keeps_first : {S B E : Type 0} (forms : Forms B E) (state : S) (entries : List E) (batches : List B) (input : Input S E)
     → KeepsFirst forms.install entries (session forms state entries batches input).events
 keeps_first {S} {B} {E} forms state entries batches input =
-    session_carries forms (λ (s : S) (es : List E) (events : List (Event (Deed S B E))). KeepsFirst forms.install es events)
-    state entries batches input (record {
+    let asked : List B = map forms.batch entries ++ batches in
+    session_carries forms (λ (s : S) (es : List E) (events : List (Event (Deed S B E))).
+    KeepsFirst forms.install es events) state entries batches input (record {
       ends = λ s es. tt;
-      exchanges = λ s es request n events one h. (installs_one_of forms (map forms.batch entries ++ batches) es request one, h);
+      exchanges = λ s es request n events one h.
+          (installs_one_of forms asked es request one, h);
       commits = λ s es batch proofs entry next events h. h;
       refusals = λ s es batch proofs cause lines. tt;
       says = λ s es line events h. h;

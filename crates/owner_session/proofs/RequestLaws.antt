@@ -5,11 +5,12 @@ use Rattle.std.proofs.Math.Seq.{take-append-add}
 use Rattle.outside.specs.ConnectionModel.{ConnectionModel, take_from, send_on}
 use Rattle.link_frames.specs.Scripts.{Event, Puts, Takes, Does, IsDone, Stops}
 use Rattle.link_frames.proofs.ScriptLaws.{stops-append}
-use Rattle.owner_session.specs.Work.{Forms, Makes, Refuses, Deed, Steps, Appends, Says, Input, session}
-use Rattle.owner_session.specs.Runs.{entries_of}
+use Rattle.owner_session.specs.Work.{Forms, Judgement, Makes, Refuses, Deed, Steps, Appends, Says, Work, Input, session}
+use Rattle.owner_session.specs.Runs.{Snapshot, entries_of, input_of}
+use Rattle.owner_session.specs.Sessions.{SessionEnds, SessionRuns}
 use Rattle.owner_session.specs.Requests.{Request, AsksStanding, Proposes, Installs, request_bytes, IsRequestOf, PutsRequests}
 use Rattle.owner_session.proofs.DeedLaws.{entries_of-append}
-use Rattle.owner_session.proofs.OrderLaws.{IsCarried, session_carries}
+use Rattle.owner_session.proofs.OrderLaws.{session_carries}
 
 module _ {B E : Type 0} (forms : Forms B E) (batches : List B) where
   request_stays : (es more : List E) (request : Request B E) → IsRequestOf batches es request
@@ -139,18 +140,47 @@ puts_requests {S} {B} {E} forms state entries batches input =
           (sym (append-nil es)) rest);
     })
 
+-- what was done wholly stopped behind its last event
+stops_done : {X : Type 0} (events : List (Event X)) (deeds : List X)
+    (before after : ConnectionModel) → IsDone events deeds before after
+    → Stops events deeds before after
+stops_done {X} events deeds before after done =
+    let stops : Stops (events ++ []) (deeds ++ []) before after =
+    stops-append events [] deeds [] before after after done (refl, refl) in
+    rw (sym (append-nil events), sym (append-nil deeds)) stops
+
 pub puts_requests_done : {S B E : Type 0} (forms : Forms B E) (state : S) (entries : List E)
     (batches : List B) (input : Input S E) (deeds : List (Deed S B E))
     (before after : ConnectionModel)
     → IsDone (session forms state entries batches input).events deeds before after
     → PutsRequests forms (map forms.batch entries ++ batches) (entries ++ entries_of deeds) before
     after
-puts_requests_done {S} {B} {E} forms state entries batches input deeds before after done =
-    let events = (session forms state entries batches input).events in
-    let at_end : Stops (events ++ []) (deeds ++ []) before after =
-    stops-append events [] deeds [] before after after done (refl, refl) in
-    let stops : Stops events (deeds ++ []) before after =
-    subst (λ (es : List (Event (Deed S B E))). Stops es (deeds ++ []) before after)
-    (append-nil events) at_end in
+puts_requests_done forms state entries batches input deeds before after done =
     puts_requests forms state entries batches input deeds before after
-    (subst (λ (ds : List (Deed S B E)). Stops events ds before after) (append-nil deeds) stops)
+    (stops_done (session forms state entries batches input).events deeds before after done)
+
+-- However work ended, its events stopped somewhere.
+ended_stops : {S B E : Type 0} (work : Work S B E) (L D O K : Type 0) (W : E → Type 0)
+    (status : ℕ) (deeds : List (Deed S B E)) (a b : Snapshot S E)
+    → SessionEnds work L D O K W status deeds a b → Stops work.events deeds a.wire b.wire
+ended_stops work L D O K W status deeds a b (inl h) =
+    stops_done work.events deeds a.wire b.wire h.1.2
+ended_stops work L D O K W status deeds a b (inr (inl h)) = h.2.0
+ended_stops work L D O K W status deeds a b (inr (inr (inl h))) = h.2.0
+ended_stops work L D O K W status deeds a b (inr (inr (inr (inl h)))) = h.2.1
+ended_stops work L D O K W status deeds a b (inr (inr (inr (inr h)))) = h.1.1
+
+-- a run of a session has put requests of the batches, old and new, and of the journal
+pub session_puts : {S B E : Type 0} {forms : Forms B E}
+    {IsJudgement : S → B → List ℕ → Judgement S E → Type 0} {batches : List B}
+    {L D O K : Type 0} {W : E → Type 0} {status : ℕ} {a b : Snapshot S E}
+    → SessionRuns forms IsJudgement batches L D O K W status a b
+    → PutsRequests forms (map forms.batch a.entries ++ batches) b.entries a.wire b.wire
+session_puts {S} {B} {E} {forms} {batches = batches} {L} {D} {O} {K} {W} {status} {a} {b} run =
+    let input : Input S E = input_of a run.judgements in
+    let work : Work S B E = session forms a.state a.entries batches input in
+    subst (λ (es : List E).
+    PutsRequests forms (map forms.batch a.entries ++ batches) es a.wire b.wire)
+    (sym run.leads.entries)
+    (puts_requests forms a.state a.entries batches input run.deeds a.wire b.wire
+    (ended_stops work L D O K W status run.deeds a b run.ends))

@@ -11,8 +11,9 @@ use crate::owner::Owner;
 
 /// Whatever comes and whatever the owner makes: each frame is followed by its answer, no entry is
 /// installed before the journal has it, none is appended but what the owner just made, and where
-/// all is done each batch was committed and told of. Wherever it stopped, nothing was put but
-/// proposals of the batches, old and new, and installations of entries that the journal has.
+/// all is done each batch was committed and told of. Wherever it stopped, it has put requests
+/// alone, the last perhaps in part: none proposes but these batches and the journal's, and none
+/// installs but an entry that the journal has.
 pub fn sessions_in_order<O: Owner>()
     ensures alternates { (state : O.State) (entries : List O.Entry) (batches : List O.Batch)
         (input : Input O.State O.Entry)

@@ -1,10 +1,11 @@
 //! A whole session, with its exit status.
-ghost use Rattle.std.specs.Prelude.{◌≡◌, ◌≤◌, ◌⊎◌, All, Some, OnOk, IsErrOf};
+ghost use Rattle.std.specs.Prelude.{◌≡◌, ◌≤◌, ◌⊎◌, ◌++◌, map, All, Some, OnOk, IsErrOf};
 ghost use Rattle.outside.specs.ConnectionModel.{ConnectionModel};
 ghost use Rattle.outside.specs.FaultRose.{FaultRose};
 ghost use Rattle.link_frames.specs.Reading.{StaysWhereItStands};
 ghost use Rattle.owner_session.specs.Runs.{RunsTo, UnlessDisk, snapshot_of, continuation};
 ghost use Rattle.owner_session.specs.Work.{session_on};
+ghost use Rattle.owner_session.specs.Requests.{PutsRequests};
 ghost use Rattle.owner_session.specs.Sessions.{SessionRuns, SessionIsDone};
 
 use crate::announce::write_last;
@@ -36,6 +37,13 @@ pub fn run_session<O: Owner, L: Link, S: Sink>(
         (λ entry. O.Keeps owner.old → O.KeepsWith owner.new entry) result
         (snapshot_of before (S.written out.old) (O.state owner.old) (O.entries owner.old))
         (snapshot_of after (S.written out.new) (O.state owner.new) (O.entries owner.new)) }
+
+    // What is put is requests: none proposes but these batches and the journal's, and none installs
+    // but an entry that the journal has, also where the disk failed.
+    ensures puts_requests { (before : ConnectionModel) → L.wire link.old ≡ Some before
+        → (after : ConnectionModel) × (L.wire link.new ≡ Some after)
+        × PutsRequests O.forms (map O.forms.batch (O.entries owner.old) ++ batches.now)
+        (O.entries owner.new) before after }
 
     // A status of 0 comes only where all is done.
     ensures done { result ≡ 0 → (before : ConnectionModel) → L.wire link.old ≡ Some before

@@ -3,6 +3,7 @@ use Rattle.outside.specs.FaultRose.{FaultRose}
 use Rattle.owner_session.specs.declared.stop.Stop.{Stop}
 use Rattle.owner_session.specs.declared.stop.Stop.TheVariants as stop
 use Rattle.owner_session.specs.Runs.{snapshot_of}
+use Rattle.owner_session.proofs.RequestLaws.{session_puts}
 use Rattle.owner_session.proofs.SessionLaws.{rose_later, unless_disk, session_finishes, session_refused, session_link_fault, session_disk_fault, session_output_fault, session_wants, session_done_at_0}
 use Rattle.owner_session.proofs.session.run_session.Goals as goal
 
@@ -186,3 +187,39 @@ returns-in-Err-DiskFault-clause-done g c =
           (snapshot_of known.0 (g.S.Sink.written c.write_last-in-Err-DiskFault.new.out) (g.O.Owner.state c.do_session.new.owner) (g.O.Owner.entries c.do_session.new.owner))
           zero known.2,
     )
+
+pub returns-in-Ok-clause-puts_requests : goal.returns-in-Ok-clause-puts_requests
+returns-in-Ok-clause-puts_requests g c =
+    λ before is.
+    let known = returns-in-Ok-clause-known g c before is in
+    (known.0, known.1, session_puts known.2)
+
+pub returns-in-Err-Refused-clause-puts_requests : goal.returns-in-Err-Refused-clause-puts_requests
+returns-in-Err-Refused-clause-puts_requests g c =
+    λ before is.
+    let known = returns-in-Err-Refused-clause-known g c before is in
+    (known.0, known.1, session_puts known.2)
+
+pub returns-in-Err-LinkFault-clause-puts_requests : goal.returns-in-Err-LinkFault-clause-puts_requests
+returns-in-Err-LinkFault-clause-puts_requests g c =
+    λ before is.
+    let known = returns-in-Err-LinkFault-clause-known g c before is in
+    (known.0, known.1, session_puts known.2)
+
+pub returns-in-Err-DiskFault-clause-puts_requests : goal.returns-in-Err-DiskFault-clause-puts_requests
+returns-in-Err-DiskFault-clause-puts_requests g c =
+    λ before is.
+    let known = returns-in-Err-DiskFault-clause-known g c before is in
+    (known.0, known.1, session_puts known.2)
+
+pub returns-in-Err-OutputFault-clause-puts_requests : goal.returns-in-Err-OutputFault-clause-puts_requests
+returns-in-Err-OutputFault-clause-puts_requests g c =
+    λ before is.
+    let known = returns-in-Err-OutputFault-clause-known g c before is in
+    (known.0, known.1, session_puts known.2)
+
+pub returns-in-Err-Memory-clause-puts_requests : goal.returns-in-Err-Memory-clause-puts_requests
+returns-in-Err-Memory-clause-puts_requests g c =
+    λ before is.
+    let known = returns-in-Err-Memory-clause-known g c before is in
+    (known.0, known.1, session_puts known.2)
