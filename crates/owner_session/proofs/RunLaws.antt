@@ -1,10 +1,12 @@
 -- Runs of pieces of work that follow one another.
-use Rattle.std.proofs.Common.{◌≡◌, ℕ, List, [], ◌∷◌, ◌++◌, Result, Ok, Err, refl, sym, ap, ◌∙◌, subst, inl, append_assoc, append-nil, take, IsErrOf}
+use Rattle.std.proofs.Common.{arith, ◌≡◌, ◌≤◌, ℕ, List, [], ◌∷◌, ◌++◌, Result, Ok, Err, refl, sym, ap, ◌∙◌, subst, inl, append_assoc, append-nil, take, IsErrOf}
 use Rattle.outside.specs.ConnectionModel.{ConnectionModel}
+use Rattle.outside.specs.FaultRose.{FaultRose}
 use Rattle.link_frames.specs.Scripts.{Event, Puts, Takes, Does, behind, Stops}
 use Rattle.link_frames.proofs.ScriptLaws.{behind-behind, done-append, stops-append}
 use Rattle.owner_session.specs.declared.stop.Stop.{Stop}
 use Rattle.owner_session.specs.declared.stop.Stop.TheVariants as stop
+use Rattle.owner_session.specs.Faults.{CountsFaults}
 use Rattle.owner_session.specs.Endings.{Ending, StopsWith, IsOfLink}
 use Rattle.owner_session.specs.Work.{Judgement, Deed, Appends, Says, Work, Input, ends_with}
 use Rattle.owner_session.specs.Runs.{Snapshot, Piece, Reaches, Fails, Halts, Runs, input_of}
@@ -235,9 +237,25 @@ no_disk_fault stop.DiskFault P h is = absurd h
 no_disk_fault stop.OutputFault P h is = absurd h
 no_disk_fault stop.Memory P h is = absurd (cc is)
 
-pub no_output_fault : {T : Type 0} (why : Stop) (P : Type 0) → IsOfLink why → IsErrOf {T = T} (Err why) stop.OutputFault → P
+no_output_fault : {T : Type 0} (why : Stop) (P : Type 0) → IsOfLink why → IsErrOf {T = T} (Err why) stop.OutputFault → P
 no_output_fault (stop.Refused report) P h is = absurd (cc is)
 no_output_fault stop.LinkFault P h is = absurd (cc is)
 no_output_fault stop.DiskFault P h is = absurd h
 no_output_fault stop.OutputFault P h is = absurd h
 no_output_fault stop.Memory P h is = absurd (cc is)
+
+-- what stopped so on the link alone counts no faults but the link's
+pub link_faults : {T U : Type 0} (why : Stop) (before after disk out : ℕ) → before ≤ after
+    → (IsErrOf {T = T} (Err why) stop.LinkFault → FaultRose before after) → IsOfLink why
+    → CountsFaults {T = U} (Err why) (record { link = before; disk = disk; out = out })
+    (record { link = after; disk = disk; out = out })
+link_faults why before after disk out counts cause inside = record {
+  link_counts = counts;
+  link_cause = λ is.
+      let same : why ≡ stop.LinkFault = cc is in
+      cause (ap (λ (stop : Stop). Err stop) same);
+  disk_counts = omega arith;
+  disk_cause = no_disk_fault why (FaultRose disk disk) inside;
+  out_counts = omega arith;
+  out_cause = no_output_fault why (FaultRose out out) inside;
+}

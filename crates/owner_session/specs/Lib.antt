@@ -1,4 +1,5 @@
 pub mod Endings
+pub mod Faults
 pub mod Work
 pub mod Runs
 pub mod Sessions

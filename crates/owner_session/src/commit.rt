@@ -1,8 +1,8 @@
 //! Committing batches: each is proposed, stepped on, appended, installed and told of.
-ghost use Rattle.std.specs.Prelude.{◌≡◌, ◌≤◌, ◌<◌, ◌-◌, length, slice_get, All, Some, IfOk, OnOk, IsErrOf};
+ghost use Rattle.std.specs.Prelude.{◌≡◌, ◌<◌, ◌-◌, length, slice_get, All, Some, IfOk, OnOk, IsErrOf};
 ghost use Rattle.outside.specs.ConnectionModel.{ConnectionModel};
-ghost use Rattle.outside.specs.FaultRose.{FaultRose};
 ghost use Rattle.link_frames.specs.Reading.{StaysWhereItStands};
+ghost use Rattle.owner_session.specs.Faults.{CountsFaults};
 ghost use Rattle.owner_session.specs.Work.{publication, commit, step, batch_commit, commits};
 ghost use Rattle.owner_session.specs.Runs.{RunsTo, TakesStep, UnlessDisk, snapshot_of, continuation, continuation_with};
 
@@ -33,16 +33,10 @@ pub fn commit_batches<O: Owner, L: Link, S: Sink>(
         (L.wire link.new) (S.written out.new) (O.state owner.new) (O.entries owner.new) }
     ensures keeps { O.Keeps owner.old → UnlessDisk result (O.Keeps owner.new) }
 
-    ensures link_counts { L.faults link.old ≤ L.faults link.new }
-    ensures link_cause { IsErrOf result Stop.LinkFault
-        → FaultRose (L.faults link.old) (L.faults link.new) }
+    ensures faults { CountsFaults result
+        (record { link = L.faults link.old; disk = O.faults owner.old; out = S.faults out.old })
+        (record { link = L.faults link.new; disk = O.faults owner.new; out = S.faults out.new }) }
     ensures misses { StaysWhereItStands (L.wire link.old) (L.misses link.old) (L.misses link.new) }
-    ensures disk_counts { O.faults owner.old ≤ O.faults owner.new }
-    ensures disk_cause { IsErrOf result Stop.DiskFault
-        → FaultRose (O.faults owner.old) (O.faults owner.new) }
-    ensures out_counts { S.faults out.old ≤ S.faults out.new }
-    ensures out_cause { IsErrOf result Stop.OutputFault
-        → FaultRose (S.faults out.old) (S.faults out.new) }
 {
     for batch in batches {
         match commit_batch(alloc, owner, batch, link, out) {
@@ -72,16 +66,10 @@ fn commit_batch<O: Owner, L: Link, S: Sink>(
     ensures works { OnOk result (O.Works owner.new) }
     ensures keeps { O.Keeps owner.old → UnlessDisk result (O.Keeps owner.new) }
 
-    ensures link_counts { L.faults link.old ≤ L.faults link.new }
-    ensures link_cause { IsErrOf result Stop.LinkFault
-        → FaultRose (L.faults link.old) (L.faults link.new) }
+    ensures faults { CountsFaults result
+        (record { link = L.faults link.old; disk = O.faults owner.old; out = S.faults out.old })
+        (record { link = L.faults link.new; disk = O.faults owner.new; out = S.faults out.new }) }
     ensures misses { StaysWhereItStands (L.wire link.old) (L.misses link.old) (L.misses link.new) }
-    ensures disk_counts { O.faults owner.old ≤ O.faults owner.new }
-    ensures disk_cause { IsErrOf result Stop.DiskFault
-        → FaultRose (O.faults owner.old) (O.faults owner.new) }
-    ensures out_counts { S.faults out.old ≤ S.faults out.new }
-    ensures out_cause { IsErrOf result Stop.OutputFault
-        → FaultRose (S.faults out.old) (S.faults out.new) }
 {
     match propose_batch(alloc, owner, batch, link) {
         Ok(proofs) => commit_by_proofs(alloc, owner, batch, &proofs, link, out),
@@ -109,16 +97,10 @@ fn commit_by_proofs<O: Owner, L: Link, S: Sink>(
     ensures works { OnOk result (O.Works owner.new) }
     ensures keeps { O.Keeps owner.old → UnlessDisk result (O.Keeps owner.new) }
 
-    ensures link_counts { L.faults link.old ≤ L.faults link.new }
-    ensures link_cause { IsErrOf result Stop.LinkFault
-        → FaultRose (L.faults link.old) (L.faults link.new) }
+    ensures faults { CountsFaults result
+        (record { link = L.faults link.old; disk = O.faults owner.old; out = S.faults out.old })
+        (record { link = L.faults link.new; disk = O.faults owner.new; out = S.faults out.new }) }
     ensures misses { StaysWhereItStands (L.wire link.old) (L.misses link.old) (L.misses link.new) }
-    ensures disk_counts { O.faults owner.old ≤ O.faults owner.new }
-    ensures disk_cause { IsErrOf result Stop.DiskFault
-        → FaultRose (O.faults owner.old) (O.faults owner.new) }
-    ensures out_counts { S.faults out.old ≤ S.faults out.new }
-    ensures out_cause { IsErrOf result Stop.OutputFault
-        → FaultRose (S.faults out.old) (S.faults out.new) }
 {
     match take_step(alloc, owner, batch, proofs) {
         Ok(step) => commit_step(alloc, owner, step, link, out),
@@ -164,16 +146,10 @@ fn commit_step<O: Owner, L: Link, S: Sink>(
     ensures works { OnOk result (O.Works owner.new) }
     ensures keeps { O.Keeps owner.old → UnlessDisk result (O.Keeps owner.new) }
 
-    ensures link_counts { L.faults link.old ≤ L.faults link.new }
-    ensures link_cause { IsErrOf result Stop.LinkFault
-        → FaultRose (L.faults link.old) (L.faults link.new) }
+    ensures faults { CountsFaults result
+        (record { link = L.faults link.old; disk = O.faults owner.old; out = S.faults out.old })
+        (record { link = L.faults link.new; disk = O.faults owner.new; out = S.faults out.new }) }
     ensures misses { StaysWhereItStands (L.wire link.old) (L.misses link.old) (L.misses link.new) }
-    ensures disk_counts { O.faults owner.old ≤ O.faults owner.new }
-    ensures disk_cause { IsErrOf result Stop.DiskFault
-        → FaultRose (O.faults owner.old) (O.faults owner.new) }
-    ensures out_counts { S.faults out.old ≤ S.faults out.new }
-    ensures out_cause { IsErrOf result Stop.OutputFault
-        → FaultRose (S.faults out.old) (S.faults out.new) }
 {
     match owner.append(alloc, step) {
         Ok(()) => publish(alloc, owner, link, out),
@@ -198,13 +174,10 @@ fn publish<O: Owner, L: Link, S: Sink>(
         (L.wire link.new) (S.written out.new) (O.state owner.now) (O.entries owner.now) }
     ensures inside { IsErrOf result Stop.DiskFault → ⊥ }
 
-    ensures link_counts { L.faults link.old ≤ L.faults link.new }
-    ensures link_cause { IsErrOf result Stop.LinkFault
-        → FaultRose (L.faults link.old) (L.faults link.new) }
+    ensures faults { CountsFaults result
+        (record { link = L.faults link.old; disk = O.faults owner.now; out = S.faults out.old })
+        (record { link = L.faults link.new; disk = O.faults owner.now; out = S.faults out.new }) }
     ensures misses { StaysWhereItStands (L.wire link.old) (L.misses link.old) (L.misses link.new) }
-    ensures out_counts { S.faults out.old ≤ S.faults out.new }
-    ensures out_cause { IsErrOf result Stop.OutputFault
-        → FaultRose (S.faults out.old) (S.faults out.new) }
 {
     let last = owner.entry_count() - 1;
     match install_entry(alloc, owner, last, link) {

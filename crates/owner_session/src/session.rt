@@ -1,9 +1,10 @@
 //! A whole session, with its exit status.
-ghost use Rattle.std.specs.Prelude.{◌≡◌, ◌≤◌, ◌⊎◌, ◌++◌, map, All, Some, OnOk, IsErrOf};
+ghost use Rattle.std.specs.Prelude.{◌≡◌, ◌≤◌, ◌⊎◌, ◌++◌, map, All, Some};
 ghost use Rattle.outside.specs.ConnectionModel.{ConnectionModel};
 ghost use Rattle.outside.specs.FaultRose.{FaultRose};
 ghost use Rattle.link_frames.specs.Reading.{StaysWhereItStands};
 ghost use Rattle.owner_session.specs.Runs.{RunsTo, UnlessDisk, snapshot_of, continuation};
+ghost use Rattle.owner_session.specs.Faults.{CountsFaults};
 ghost use Rattle.owner_session.specs.Work.{session_on};
 ghost use Rattle.owner_session.specs.Requests.{PutsRequests};
 ghost use Rattle.owner_session.specs.Sessions.{SessionRuns, SessionIsDone};
@@ -88,16 +89,10 @@ fn do_session<O: Owner, L: Link, S: Sink>(
         (L.wire link.new) (S.written out.new) (O.state owner.new) (O.entries owner.new) }
     ensures keeps { O.Keeps owner.old → UnlessDisk result (O.Keeps owner.new) }
 
-    ensures link_counts { L.faults link.old ≤ L.faults link.new }
-    ensures link_cause { IsErrOf result Stop.LinkFault
-        → FaultRose (L.faults link.old) (L.faults link.new) }
+    ensures faults { CountsFaults result
+        (record { link = L.faults link.old; disk = O.faults owner.old; out = S.faults out.old })
+        (record { link = L.faults link.new; disk = O.faults owner.new; out = S.faults out.new }) }
     ensures misses { StaysWhereItStands (L.wire link.old) (L.misses link.old) (L.misses link.new) }
-    ensures disk_counts { O.faults owner.old ≤ O.faults owner.new }
-    ensures disk_cause { IsErrOf result Stop.DiskFault
-        → FaultRose (O.faults owner.old) (O.faults owner.new) }
-    ensures out_counts { S.faults out.old ≤ S.faults out.new }
-    ensures out_cause { IsErrOf result Stop.OutputFault
-        → FaultRose (S.faults out.old) (S.faults out.new) }
 {
     match catch_up(alloc, owner, link) {
         Ok(()) => commit_batches(alloc, owner, batches, link, out),

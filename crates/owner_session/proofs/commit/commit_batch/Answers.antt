@@ -2,7 +2,7 @@ use Rattle.std.proofs.Common.{ℕ}
 use Rattle.std.specs.Global.{Vec}
 use Rattle.owner_session.specs.Work.{proposal}
 use Rattle.owner_session.specs.Runs.{snapshot_of, continuation_with}
-use Rattle.owner_session.proofs.RunLaws.{no_disk_fault, no_output_fault}
+use Rattle.owner_session.proofs.RunLaws.{link_faults}
 use Rattle.owner_session.proofs.WireLaws.{stays_then}
 use Rattle.owner_session.proofs.CommitLaws.{batch_committed, batch_not_proposed}
 use Rattle.owner_session.proofs.commit.commit_batch.Goals as goal
@@ -32,8 +32,9 @@ returns-in-Err-clause-known g c =
     g.O.Owner.forms c.args.batch.now (λ done. continuation_with (g.O.Owner.state c.args.owner.now)) c.in-Err.stop a (g.L.Link.wire c.propose_batch.new.link)
     (c.in-Err.ensures.known a is)
 
-pub returns-in-Err-clause-disk_cause : goal.returns-in-Err-clause-disk_cause
-returns-in-Err-clause-disk_cause g c = no_disk_fault c.in-Err.stop _ c.in-Err.ensures.inside
-
-pub returns-in-Err-clause-out_cause : goal.returns-in-Err-clause-out_cause
-returns-in-Err-clause-out_cause g c = no_output_fault c.in-Err.stop _ c.in-Err.ensures.inside
+pub returns-in-Err-clause-faults : goal.returns-in-Err-clause-faults
+returns-in-Err-clause-faults g c =
+    link_faults c.in-Err.stop (g.L.Link.faults c.args.link.now)
+    (g.L.Link.faults c.propose_batch.new.link) (g.O.Owner.faults c.args.owner.now)
+    (g.S.Sink.faults c.args.out.now) c.in-Err.ensures.counts c.in-Err.ensures.cause
+    c.in-Err.ensures.inside

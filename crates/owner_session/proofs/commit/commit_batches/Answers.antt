@@ -25,9 +25,9 @@ loop-batch-preserved g c = record {
       c.loop-batch-test.true c.batch-item.is c.loop-batch.invariant.known c.in-Ok.ensures.known;
   works = c.in-Ok.ensures.works;
   keeps = λ keeps. c.in-Ok.ensures.keeps (c.loop-batch.invariant.keeps keeps);
-  link_counts = omega (arith, c.loop-batch.invariant.link_counts, c.in-Ok.ensures.link_counts);
-  disk_counts = omega (arith, c.loop-batch.invariant.disk_counts, c.in-Ok.ensures.disk_counts);
-  out_counts = omega (arith, c.loop-batch.invariant.out_counts, c.in-Ok.ensures.out_counts);
+  link_counts = omega (arith, c.loop-batch.invariant.link_counts, c.in-Ok.ensures.faults.link_counts);
+  disk_counts = omega (arith, c.loop-batch.invariant.disk_counts, c.in-Ok.ensures.faults.disk_counts);
+  out_counts = omega (arith, c.loop-batch.invariant.out_counts, c.in-Ok.ensures.faults.out_counts);
   stays = committed_stays g.O.Owner.IsJudgement g.O.Owner.forms c.args.batches.now c.loop-batch.batch-index (g.L.Link.wire c.args.link.now)
       (g.L.Link.wire c.loop-batch.link) (g.S.Sink.written c.args.out.now) (g.S.Sink.written c.loop-batch.out) (g.O.Owner.state c.args.owner.now)
       (g.O.Owner.state c.loop-batch.owner) (g.O.Owner.entries c.args.owner.now) (g.O.Owner.entries c.loop-batch.owner)

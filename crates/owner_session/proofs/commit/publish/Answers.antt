@@ -1,6 +1,6 @@
 use Rattle.std.proofs.Common.{ℕ, ◌-◌, slice_get, ◌∙◌, ap}
 use Rattle.owner_session.specs.Runs.{snapshot_of}
-use Rattle.owner_session.proofs.RunLaws.{no_disk_fault, no_output_fault}
+use Rattle.owner_session.proofs.RunLaws.{no_disk_fault, link_faults}
 use Rattle.owner_session.proofs.CommitLaws.{published, not_published}
 use Rattle.owner_session.proofs.commit.publish.Goals as goal
 
@@ -25,5 +25,9 @@ returns-in-Err-clause-known g c =
 pub returns-in-Err-clause-inside : goal.returns-in-Err-clause-inside
 returns-in-Err-clause-inside g c = no_disk_fault c.in-Err.stop _ c.in-Err.ensures.inside
 
-pub returns-in-Err-clause-out_cause : goal.returns-in-Err-clause-out_cause
-returns-in-Err-clause-out_cause g c = no_output_fault c.in-Err.stop _ c.in-Err.ensures.inside
+pub returns-in-Err-clause-faults : goal.returns-in-Err-clause-faults
+returns-in-Err-clause-faults g c =
+    link_faults c.in-Err.stop (g.L.Link.faults c.args.link.now)
+    (g.L.Link.faults c.install_entry.new.link) (g.O.Owner.faults c.args.owner.now)
+    (g.S.Sink.faults c.args.out.now) c.in-Err.ensures.counts c.in-Err.ensures.cause
+    c.in-Err.ensures.inside

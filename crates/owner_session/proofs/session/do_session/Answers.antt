@@ -1,6 +1,6 @@
 use Rattle.owner_session.specs.Work.{catch_up}
 use Rattle.owner_session.specs.Runs.{snapshot_of, continuation}
-use Rattle.owner_session.proofs.RunLaws.{no_disk_fault, no_output_fault}
+use Rattle.owner_session.proofs.RunLaws.{link_faults}
 use Rattle.owner_session.proofs.WireLaws.{stays_then}
 use Rattle.owner_session.proofs.CommitLaws.{session_done, session_not_begun}
 use Rattle.owner_session.proofs.session.do_session.Goals as goal
@@ -28,8 +28,9 @@ returns-in-Err-clause-known g c =
     session_not_begun g.O.Owner.IsJudgement (λ (e : g.O.Owner.Entry). g.O.Owner.Keeps c.args.owner.now → g.O.Owner.KeepsWith c.args.owner.now e)
     g.O.Owner.forms c.args.batches.now c.in-Err.stop a (g.L.Link.wire c.catch_up.new.link) (c.in-Err.ensures.known a is)
 
-pub returns-in-Err-clause-disk_cause : goal.returns-in-Err-clause-disk_cause
-returns-in-Err-clause-disk_cause g c = no_disk_fault c.in-Err.stop _ c.in-Err.ensures.inside
-
-pub returns-in-Err-clause-out_cause : goal.returns-in-Err-clause-out_cause
-returns-in-Err-clause-out_cause g c = no_output_fault c.in-Err.stop _ c.in-Err.ensures.inside
+pub returns-in-Err-clause-faults : goal.returns-in-Err-clause-faults
+returns-in-Err-clause-faults g c =
+    link_faults c.in-Err.stop (g.L.Link.faults c.args.link.now)
+    (g.L.Link.faults c.catch_up.new.link) (g.O.Owner.faults c.args.owner.now)
+    (g.S.Sink.faults c.args.out.now) c.in-Err.ensures.counts c.in-Err.ensures.cause
+    c.in-Err.ensures.inside

@@ -41,7 +41,7 @@ returns-in-Err-Refused-clause-known g c =
           c.in-Err-Refused.field-0 c.in-Err-Refused.report (FaultRose (g.S.Sink.faults c.do_session.new.out) (g.S.Sink.faults c.write_last.new.out)) c.write_last.result c.code.result c.deref.result.now
           (g.S.Sink.written c.write_last.new.out) c.in-Err-Refused.field-0-is c.code.ensures.value c.deref.ensures.value r.2
           (λ keeps. unless_disk c.in-Err-Refused.field-0 (stop.Refused c.in-Err-Refused.report) (g.O.Owner.Keeps c.do_session.new.owner) c.in-Err-Refused.field-0-is (c.in-Err-Refused.ensures.keeps keeps))
-          (rose_later (g.S.Sink.faults c.args.out.now) (g.S.Sink.faults c.do_session.new.out) (g.S.Sink.faults c.write_last.new.out) c.in-Err-Refused.ensures.out_counts) c.write_last.ensures.wrote,
+          (rose_later (g.S.Sink.faults c.args.out.now) (g.S.Sink.faults c.do_session.new.out) (g.S.Sink.faults c.write_last.new.out) c.in-Err-Refused.ensures.faults.out_counts) c.write_last.ensures.wrote,
     )
 
 pub returns-in-Err-LinkFault-clause-known : goal.returns-in-Err-LinkFault-clause-known
@@ -59,9 +59,9 @@ returns-in-Err-LinkFault-clause-known g c =
           (snapshot_of before (g.S.Sink.written c.args.out.now) (g.O.Owner.state c.args.owner.now) (g.O.Owner.entries c.args.owner.now))
           (snapshot_of r.0 (g.S.Sink.written c.do_session.new.out) (g.O.Owner.state c.do_session.new.owner) (g.O.Owner.entries c.do_session.new.owner))
           c.in-Err-LinkFault.field-0 (FaultRose (g.S.Sink.faults c.do_session.new.out) (g.S.Sink.faults c.write_last-in-Err-LinkFault.new.out)) c.write_last-in-Err-LinkFault.result (g.S.Sink.written c.write_last-in-Err-LinkFault.new.out) c.in-Err-LinkFault.field-0-is r.2
-          (c.in-Err-LinkFault.ensures.link_cause (ap (λ (s : Stop). Err s) c.in-Err-LinkFault.field-0-is))
+          (c.in-Err-LinkFault.ensures.faults.link_cause (ap (λ (s : Stop). Err s) c.in-Err-LinkFault.field-0-is))
           (λ keeps. unless_disk c.in-Err-LinkFault.field-0 stop.LinkFault (g.O.Owner.Keeps c.do_session.new.owner) c.in-Err-LinkFault.field-0-is (c.in-Err-LinkFault.ensures.keeps keeps))
-          (rose_later (g.S.Sink.faults c.args.out.now) (g.S.Sink.faults c.do_session.new.out) (g.S.Sink.faults c.write_last-in-Err-LinkFault.new.out) c.in-Err-LinkFault.ensures.out_counts) c.write_last-in-Err-LinkFault.ensures.wrote,
+          (rose_later (g.S.Sink.faults c.args.out.now) (g.S.Sink.faults c.do_session.new.out) (g.S.Sink.faults c.write_last-in-Err-LinkFault.new.out) c.in-Err-LinkFault.ensures.faults.out_counts) c.write_last-in-Err-LinkFault.ensures.wrote,
     )
 
 pub returns-in-Err-DiskFault-clause-known : goal.returns-in-Err-DiskFault-clause-known
@@ -79,8 +79,8 @@ returns-in-Err-DiskFault-clause-known g c =
           (snapshot_of before (g.S.Sink.written c.args.out.now) (g.O.Owner.state c.args.owner.now) (g.O.Owner.entries c.args.owner.now))
           (snapshot_of r.0 (g.S.Sink.written c.do_session.new.out) (g.O.Owner.state c.do_session.new.owner) (g.O.Owner.entries c.do_session.new.owner))
           c.in-Err-DiskFault.field-0 (FaultRose (g.S.Sink.faults c.do_session.new.out) (g.S.Sink.faults c.write_last-in-Err-DiskFault.new.out)) c.write_last-in-Err-DiskFault.result (g.S.Sink.written c.write_last-in-Err-DiskFault.new.out) c.in-Err-DiskFault.field-0-is r.2
-          (c.in-Err-DiskFault.ensures.disk_cause (ap (λ (s : Stop). Err s) c.in-Err-DiskFault.field-0-is))
-          (rose_later (g.S.Sink.faults c.args.out.now) (g.S.Sink.faults c.do_session.new.out) (g.S.Sink.faults c.write_last-in-Err-DiskFault.new.out) c.in-Err-DiskFault.ensures.out_counts) c.write_last-in-Err-DiskFault.ensures.wrote,
+          (c.in-Err-DiskFault.ensures.faults.disk_cause (ap (λ (s : Stop). Err s) c.in-Err-DiskFault.field-0-is))
+          (rose_later (g.S.Sink.faults c.args.out.now) (g.S.Sink.faults c.do_session.new.out) (g.S.Sink.faults c.write_last-in-Err-DiskFault.new.out) c.in-Err-DiskFault.ensures.faults.out_counts) c.write_last-in-Err-DiskFault.ensures.wrote,
     )
 
 pub returns-in-Err-OutputFault-clause-known : goal.returns-in-Err-OutputFault-clause-known
@@ -98,7 +98,7 @@ returns-in-Err-OutputFault-clause-known g c =
           (snapshot_of before (g.S.Sink.written c.args.out.now) (g.O.Owner.state c.args.owner.now) (g.O.Owner.entries c.args.owner.now))
           (snapshot_of r.0 (g.S.Sink.written c.do_session.new.out) (g.O.Owner.state c.do_session.new.owner) (g.O.Owner.entries c.do_session.new.owner))
           c.in-Err-OutputFault.field-0 c.in-Err-OutputFault.field-0-is r.2
-          (c.in-Err-OutputFault.ensures.out_cause (ap (λ (s : Stop). Err s) c.in-Err-OutputFault.field-0-is))
+          (c.in-Err-OutputFault.ensures.faults.out_cause (ap (λ (s : Stop). Err s) c.in-Err-OutputFault.field-0-is))
           (λ keeps. unless_disk c.in-Err-OutputFault.field-0 stop.OutputFault (g.O.Owner.Keeps c.do_session.new.owner) c.in-Err-OutputFault.field-0-is (c.in-Err-OutputFault.ensures.keeps keeps)),
     )
 

@@ -1,0 +1,20 @@
+-- How many calls of the outside have failed: each kind has a count.
+use Rattle.std.specs.Prelude.{ℕ, ◌≤◌, Result, IsErrOf}
+use Rattle.outside.specs.FaultRose.{FaultRose}
+use Rattle.owner_session.specs.declared.stop.Stop.{Stop}
+use Rattle.owner_session.specs.declared.stop.Stop.TheVariants.{LinkFault, DiskFault, OutputFault}
+
+pub record FaultCounts : Type 0 where
+  pub link : ℕ
+  pub disk : ℕ
+  pub out : ℕ
+
+-- No count falls, and where a fault stopped the work its own count rose.
+pub record CountsFaults {T : Type 0} (result : Result T Stop) (before after : FaultCounts)
+    : Type 0 where
+  pub link_counts : before.link ≤ after.link
+  pub link_cause : IsErrOf result LinkFault → FaultRose before.link after.link
+  pub disk_counts : before.disk ≤ after.disk
+  pub disk_cause : IsErrOf result DiskFault → FaultRose before.disk after.disk
+  pub out_counts : before.out ≤ after.out
+  pub out_cause : IsErrOf result OutputFault → FaultRose before.out after.out
