@@ -1,9 +1,10 @@
 //! Opening a journal, whatever a crash left on its disk.
 ghost use Rattle.std.specs.Prelude.{◌≡◌, ◌⊎◌, ℕ, ◌+◌, ◌<◌, ◌≤◌, List, ◌∷◌, [], false, length, IfOk, IfErr, IfSome, OnOk, IsErrOf};
+ghost use Rattle.std.specs.List.{AllByRecursion};
 ghost use Rattle.outside.specs.DiskModel.{HasRoom, MayLeave, put_down};
 ghost use Rattle.outside.specs.FaultRose.{FaultRose};
 ghost use Rattle.outside.specs.Moments.{IfKnown, IsDown, LeavesOnly, Torn, written_down};
-ghost use Rattle.vo_spec.specs.Journals.{IsJournal};
+ghost use Rattle.vo_spec.specs.Journals.{FitsEntry, IsJournal};
 ghost use Rattle.owner_journal.specs.Resting.{IsAtRest, HoldsAsBefore, IsFaultOf, IsNoDamage};
 ghost use Rattle.owner_journal.specs.Entries.{entries_of, has_failed};
 
@@ -19,6 +20,7 @@ impl Journal {
     /// first, so that no later crash leaves less.
     pub fn open<D: Disk>(alloc: Global, disk: &mut D) -> Result<Journal, JournalFault>
         ensures works { IfOk result (λ journal. has_failed journal ≡ false) }
+        ensures fits { IfOk result (λ journal. AllByRecursion FitsEntry (entries_of journal)) }
 
         // The entries are those of what reads gave, and damage is told where that is no journal.
         ensures found { IfOk result (λ journal. IfSome (D.drive disk.old)

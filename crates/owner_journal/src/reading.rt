@@ -1,7 +1,8 @@
 //! Reading the entries of a journal from its disk.
 ghost use Rattle.std.specs.Prelude.{◌≡◌, ◌≤◌, ℕ, false, length, IfOk, IfErr, IfSome, OnOk, IsErrOf};
+ghost use Rattle.std.specs.List.{AllByRecursion};
 ghost use Rattle.outside.specs.FaultRose.{FaultRose};
-ghost use Rattle.vo_spec.specs.Journals.{IsJournal};
+ghost use Rattle.vo_spec.specs.Journals.{FitsEntry, IsJournal};
 ghost use Rattle.owner_journal.specs.Resting.{IsFaultOf, IsNoDamage};
 ghost use Rattle.owner_journal.specs.Entries.{entries_of, has_failed};
 
@@ -21,6 +22,7 @@ pub(crate) fn read_journal<D: Disk>(
     ensures found { IfOk result (λ journal. IfSome (D.drive disk.old)
         (λ drive. IsJournal drive.seen (entries_of journal))) }
     ensures works { IfOk result (λ journal. has_failed journal ≡ false) }
+    ensures fits { IfOk result (λ journal. AllByRecursion FitsEntry (entries_of journal)) }
     ensures damaged { IfErr result (λ fault. IfSome (D.drive disk.old)
         (λ drive. IsFaultOf drive.seen fault)) }
     ensures kept { D.drive disk.new ≡ D.drive disk.old }
@@ -53,6 +55,7 @@ fn read_whole<D: Disk>(alloc: Global, disk: &mut D, end: u64) -> Result<Vec<u8>,
 fn journal_of(alloc: Global, bytes: &[u8]) -> Result<Journal, JournalFault>
     ensures found { IfOk result (λ journal. IsJournal bytes.now (entries_of journal)) }
     ensures works { IfOk result (λ journal. has_failed journal ≡ false) }
+    ensures fits { IfOk result (λ journal. AllByRecursion FitsEntry (entries_of journal)) }
     ensures damaged { IfErr result (IsFaultOf bytes.now) }
     ensures no_disk { IsErrOf result JournalFault.Disk → ⊥ }
 {
