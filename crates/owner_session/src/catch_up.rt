@@ -21,6 +21,7 @@ use std::alloc::Global;
 
 /// Asks where the store stands, and gives it what it lacks.
 pub fn catch_up<O: Owner, L: Link>(alloc: Global, owner: &O, link: &mut L) -> Result<(), Stop>
+    requires { O.Works owner.now }
     ensures known { (before : Snapshot O.State O.Entry) → L.wire link.old ≡ Some before.wire
         → RunsOnWire O.IsJudgement (catch_up O.forms (O.entries owner.now))
         (λ _. continuation) result before (L.wire link.new) }
@@ -74,6 +75,7 @@ fn deliver<O: Owner, L: Link>(
     held: usize,
     link: &mut L,
 ) -> Result<(), Stop>
+    requires { O.Works owner.now }
     ensures known { (before : Snapshot O.State O.Entry) → L.wire link.old ≡ Some before.wire
         → RunsOnWire O.IsJudgement (deliveries O.forms held (drop held (O.entries owner.now)))
         (λ _. continuation) result before (L.wire link.new) }
@@ -100,7 +102,8 @@ fn deliver_entry<O: Owner, L: Link>(
     index: usize,
     link: &mut L,
 ) -> Result<(), Stop>
-    requires { index < length (O.entries owner.now) }
+    requires index { index < length (O.entries owner.now) }
+    requires works { O.Works owner.now }
     ensures known { (entry : O.Entry) (before : Snapshot O.State O.Entry)
         → slice_get (O.entries owner.now) index ≡ Some entry → L.wire link.old ≡ Some before.wire
         → RunsOnWire O.IsJudgement (delivery O.forms index entry) (λ _. continuation) result before

@@ -117,7 +117,7 @@ fn take_step<O: Owner>(
 ) -> Result<O::Step, Stop>
     requires { O.CanPropose batch.now }
     ensures answer { TakesStep (O.IsJudgement (O.state owner.now) batch.now proofs.now) O.entry_of
-        O.next_of result }
+        (O.next_of (O.state owner.now)) result }
     ensures follows { IfOk result (O.Follows (O.state owner.now)) }
 {
     match owner.step(alloc, batch, proofs) {
@@ -139,7 +139,7 @@ fn commit_step<O: Owner, L: Link, S: Sink>(
     requires works { O.Works owner.old }
     ensures known { (before : ConnectionModel) → L.wire link.old ≡ Some before
         → RunsTo O.IsJudgement (λ entry. O.Keeps owner.old → O.KeepsWith owner.new entry)
-        (commit O.forms (O.entry_of step) (O.next_of step))
+        (commit O.forms (O.entry_of step) (O.next_of (O.state owner.old) step))
         (λ _. continuation_with (O.state owner.new)) result
         (snapshot_of before (S.written out.old) (O.state owner.old) (O.entries owner.old))
         (L.wire link.new) (S.written out.new) (O.state owner.new) (O.entries owner.new) }
@@ -165,7 +165,8 @@ fn publish<O: Owner, L: Link, S: Sink>(
     link: &mut L,
     out: &mut S,
 ) -> Result<(), Stop>
-    requires { 0 < length (O.entries owner.now) }
+    requires some { 0 < length (O.entries owner.now) }
+    requires works { O.Works owner.now }
     ensures known { (entry : O.Entry) (before : ConnectionModel)
         → slice_get (O.entries owner.now) (length (O.entries owner.now) - 1) ≡ Some entry
         → L.wire link.old ≡ Some before

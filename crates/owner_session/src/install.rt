@@ -25,7 +25,8 @@ pub fn install_entry<O: Owner, L: Link>(
     index: usize,
     link: &mut L,
 ) -> Result<(), Stop>
-    requires { index < length (O.entries owner.now) }
+    requires index { index < length (O.entries owner.now) }
+    requires works { O.Works owner.now }
     ensures known { (entry : O.Entry) (before : Snapshot O.State O.Entry)
         → slice_get (O.entries owner.now) index ≡ Some entry → L.wire link.old ≡ Some before.wire
         → RunsOnWire O.IsJudgement (installation O.forms entry) (λ _. continuation) result before
@@ -50,7 +51,8 @@ fn put_install<O: Owner, L: Link>(
     index: usize,
     link: &mut L,
 ) -> Result<Vec<u8>, Stop>
-    requires { index < length (O.entries owner.now) }
+    requires index { index < length (O.entries owner.now) }
+    requires works { O.Works owner.now }
     ensures known { (entry : O.Entry) (before : Snapshot O.State O.Entry)
         → slice_get (O.entries owner.now) index ≡ Some entry → L.wire link.old ≡ Some before.wire
         → RunsOnWire O.IsJudgement (exchange Install (O.forms.install entry) Installed)

@@ -37,13 +37,13 @@ pub trait Owner {
     /// A step's entry.
     ghost entry_of: { Self.Step → Entry };
 
-    /// Where the owner stands behind it.
-    ghost next_of: { Self.Step → State };
+    /// Where an owner that stands so stands behind it.
+    ghost next_of: { State → Self.Step → State };
 
     /// The step is one of an owner that stands so.
     ghost Follows: { State → Self.Step → Type 0 };
 
-    /// No append has failed.
+    /// It may go on: no append has failed, and what it holds can be put in frames.
     ghost Works: { Self → Type 0 };
 
     /// A stop of the machine leaves the entries.
@@ -71,7 +71,8 @@ pub trait Owner {
 
     /// The body that installs an entry.
     fn install_body(&self, alloc: Global, index: usize) -> Result<Vec<u8>, AllocError>
-        requires { index < length (entries self.now) }
+        requires index { index < length (entries self.now) }
+        requires works { Works self.now }
         ensures body { IfOk result (λ body. (entry : Entry)
             → slice_get (entries self.now) index ≡ Some entry
             → body.items ≡ forms.install entry) }
@@ -79,7 +80,8 @@ pub trait Owner {
 
     /// The body that proposes an entry's batch.
     fn entry_proposal(&self, alloc: Global, index: usize) -> Result<Vec<u8>, AllocError>
-        requires { index < length (entries self.now) }
+        requires index { index < length (entries self.now) }
+        requires works { Works self.now }
         ensures body { IfOk result (λ body. (entry : Entry)
             → slice_get (entries self.now) index ≡ Some entry
             → body.items ≡ forms.proposal (forms.batch entry)) }
@@ -95,14 +97,14 @@ pub trait Owner {
     fn step(&self, alloc: Global, batch: &Self::Batch, proofs: &[u8]) -> Result<Self::Step, NoStep>
         requires { CanPropose batch.now }
         ensures answer { StepsTo (IsJudgement (state self.now) batch.now proofs.now) entry_of
-            next_of result }
+            (next_of (state self.now)) result }
         ensures follows { IfOk result (Follows (state self.now)) };
 
     /// Puts a step's entry at the journal's end; the owner stands behind it then.
     fn append(&mut self, alloc: Global, step: Self::Step) -> Result<(), NoAppend>
         requires follows { Follows (state self.old) step }
         requires works { Works self.old }
-        ensures state { OnOk result (state self.new ≡ next_of step) }
+        ensures state { OnOk result (state self.new ≡ next_of (state self.old) step) }
         ensures entries { OnOk result
             (entries self.new ≡ entries self.old ++ entry_of step ∷ []) }
         ensures works { OnOk result (Works self.new) }

@@ -44,7 +44,8 @@ pub fn propose_entry<O: Owner, L: Link>(
     index: usize,
     link: &mut L,
 ) -> Result<Vec<u8>, Stop>
-    requires { index < length (O.entries owner.now) }
+    requires index { index < length (O.entries owner.now) }
+    requires works { O.Works owner.now }
     ensures known { (entry : O.Entry) (before : Snapshot O.State O.Entry)
         → slice_get (O.entries owner.now) index ≡ Some entry → L.wire link.old ≡ Some before.wire
         → RunsOnWire O.IsJudgement (proposal O.forms (O.forms.batch entry))

@@ -44,7 +44,7 @@ impl Owner for Numbers {
 
     ghost entry_of = { λ step. step };
 
-    ghost next_of = { λ _. tt };
+    ghost next_of = { λ _ _. tt };
 
     ghost Follows = { λ _ _. Unit {0} };
 

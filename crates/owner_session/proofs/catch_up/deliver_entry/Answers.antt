@@ -18,7 +18,7 @@ returns-in-Ok-clause-known g c =
 
 pub returns-in-Ok-clause-misses : goal.returns-in-Ok-clause-misses
 returns-in-Ok-clause-misses g c =
-    let e = some_entry (g.O.Owner.entries c.args.owner.now) c.args.index c.requires in
+    let e = some_entry (g.O.Owner.entries c.args.owner.now) c.args.index c.requires.index in
     stays_then g.O.Owner.IsJudgement (proposal g.O.Owner.forms (g.O.Owner.forms.batch e.0)) (λ (given : Vec ℕ). continuation_with given.items) c.in-Ok.field-0
     (g.O.Owner.state c.args.owner.now) (g.O.Owner.entries c.args.owner.now) (g.L.Link.wire c.args.link.now) (g.L.Link.wire c.propose_entry.new.link)
     (g.L.Link.misses c.args.link.now) (g.L.Link.misses c.propose_entry.new.link) (g.L.Link.misses c.install_entry-in-Ok.new.link)
