@@ -17,6 +17,7 @@ mod versions;
 pub use connections::{ServeFault, fetch_reply};
 pub use link_frames::End;
 pub use link_serving::serve_link;
+pub use loan::Loan;
 pub use net_serving::serve_all;
 pub use store_requests::{WireFault, ask_link, install_link, propose_link, status_link};
 
