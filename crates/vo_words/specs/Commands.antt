@@ -22,6 +22,11 @@ abbrev pub seal_app : App
 seal_app = command_of (codes "seal")
     (word_rule (codes "seed") ∷ word_rule (codes "script") ∷ option_rule (codes "height") ∷ [])
 
+abbrev pub own_app : App
+own_app = command_of (codes "own")
+    (word_rule (codes "seed") ∷ word_rule (codes "address") ∷ word_rule (codes "script")
+    ∷ option_rule (codes "height") ∷ [])
+
 abbrev pub answer_app : App
 answer_app = command_of (codes "answer")
     (word_rule (codes "key") ∷ word_rule (codes "journal") ∷ word_rule (codes "query") ∷ [])
@@ -60,7 +65,7 @@ with_command program command = with_subcommand program command.top
 
 -- what the owner does
 abbrev pub with_owner : App → App
-with_owner program = with_command (with_command program keygen_app) seal_app
+with_owner program = with_command (with_command (with_command program keygen_app) seal_app) own_app
 
 -- what the store does
 abbrev pub with_store : App → App

@@ -11,6 +11,7 @@ use Rattle.vo_words.specs.Numbers.{written_number}
 pub data PlainRequest : Type 0 where
   Keygen : (seed : Text) (height : ℕ) → PlainRequest
   Seal : (seed script : Text) (height : ℕ) → PlainRequest
+  Own : (seed address script : Text) (height : ℕ) → PlainRequest
   Answer : (key journal query : Text) → PlainRequest
   Serve : (address key journal : Text) (count : ℕ) → PlainRequest
   Check : (key query reply : Text) (least : ℕ) → PlainRequest
@@ -50,6 +51,12 @@ abbrev pub seal_request : List Row → Option PlainRequest
 seal_request rows =
     with_word (codes "seed") rows (λ seed. with_word (codes "script") rows (λ script.
     option_map (Seal seed script) (given_height rows)))
+
+abbrev pub own_request : List Row → Option PlainRequest
+own_request rows =
+    with_word (codes "seed") rows (λ seed. with_word (codes "address") rows (λ address.
+    with_word (codes "script") rows (λ script.
+    option_map (Own seed address script) (given_height rows))))
 
 abbrev pub answer_request : List Row → Option PlainRequest
 answer_request rows =
@@ -104,7 +111,8 @@ command_request name rows =
 -- what a command asks for, by its name and its words
 abbrev pub named_request : Text → List Row → Option PlainRequest
 named_request name rows =
-    if bytes_eq name (codes "serve") then serve_request rows else command_request name rows
+    if bytes_eq name (codes "serve") then serve_request rows
+    else (if bytes_eq name (codes "own") then own_request rows else command_request name rows)
 
 abbrev pub used_request : Option (Text × List Row) → Option PlainRequest
 used_request used = option_and_then (λ used. named_request used.0 used.1) used

@@ -4,9 +4,10 @@ use Rattle.vo_words.specs.PlainRequest as is
 use Rattle.vo_words.specs.Height.{number_of}
 use Rattle.vo_words.specs.declared.request.Command.{Command}
 use Rattle.vo_words.specs.declared.request.Command.TheVariants.{Keygen, Seal, Answer, Check, Ask, Audit, Meet}
+use Rattle.vo_words.specs.declared.request.Commitment.{Commitment}
 use Rattle.vo_words.specs.declared.request.Service.{Service}
 use Rattle.vo_words.specs.declared.request.Request.{Request}
-use Rattle.vo_words.specs.declared.request.Request.TheVariants.{Command as OfCommand, Serve}
+use Rattle.vo_words.specs.declared.request.Request.TheVariants.{Command as OfCommand, Own, Serve}
 
 abbrev pub plain_command : Command → PlainRequest
 plain_command (Keygen seed height) = is.Keygen seed.now (number_of height)
@@ -21,6 +22,11 @@ abbrev pub plain_service : Service → PlainRequest
 plain_service service =
     is.Serve service.address.now service.key.now service.journal.now service.count
 
+abbrev pub plain_commitment : Commitment → PlainRequest
+plain_commitment commitment = is.Own commitment.seed.now commitment.address.now
+    commitment.script.now (number_of commitment.height)
+
 abbrev pub plain_request : Request → PlainRequest
 plain_request (OfCommand command) = plain_command command
+plain_request (Own commitment) = plain_commitment commitment
 plain_request (Serve service) = plain_service service

@@ -25,7 +25,7 @@ enum Argument<'a> {
 
 use Argument::{Named, Word};
 
-const FORMS: [Form<'static>; 8] = [
+const FORMS: [Form<'static>; 9] = [
     Form {
         name: "keygen",
         takes: &[Word("seed"), Named("height")],
@@ -33,6 +33,15 @@ const FORMS: [Form<'static>; 8] = [
     Form {
         name: "seal",
         takes: &[Word("seed"), Word("script"), Named("height")],
+    },
+    Form {
+        name: "own",
+        takes: &[
+            Word("seed"),
+            Word("address"),
+            Word("script"),
+            Named("height"),
+        ],
     },
     Form {
         name: "answer",

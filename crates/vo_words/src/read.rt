@@ -1,13 +1,13 @@
 //! The words, read by the commands.
 ghost use Rattle.std.specs.Prelude.{◌≡◌, map, option_map, string_bytes, IfOk, IsTrue, ◌↔◌};
 ghost use Rattle.clap.specs.Words.{kind_of, found_of, rows_of, first_of, subcommand_rows_of};
-ghost use Rattle.vo_words.specs.PlainRequest.{request_in, used_request, command_request, keygen_request, seal_request, answer_request, check_request, audit_request, meet_request, reply_request, serve_request, ask_request, connection_count, given_height, given_least, height_number};
+ghost use Rattle.vo_words.specs.PlainRequest.{request_in, used_request, command_request, keygen_request, seal_request, answer_request, check_request, audit_request, meet_request, own_request, reply_request, serve_request, ask_request, connection_count, given_height, given_least, height_number};
 ghost use Rattle.vo_words.specs.Height.{number_of};
-ghost use Rattle.vo_words.specs.Request.{plain_command, plain_request, plain_service};
+ghost use Rattle.vo_words.specs.Request.{plain_command, plain_commitment, plain_request, plain_service};
 
 use crate::commands::program;
 use crate::numbers::number_in;
-use crate::request::{Command, Height, Request, Service};
+use crate::request::{Command, Commitment, Height, Request, Service};
 use clap::error::ErrorKind;
 use clap::{ArgMatches, Error};
 use std::alloc::{AllocError, Global};
@@ -42,6 +42,8 @@ fn used_request<'a>(matches: &ArgMatches<'a>) -> Option<Request<'a>>
     let (name, used) = matches.subcommand()?;
     if name == "serve" {
         Some(Request::Serve(serve_request(used)?))
+    } else if name == "own" {
+        Some(Request::Own(own_request(used)?))
     } else {
         Some(Request::Command(command_request(name, used)?))
     }
@@ -99,6 +101,21 @@ fn seal_request<'a>(used: &ArgMatches<'a>) -> Option<Command<'a>>
     let height = height_of(used)?;
     Some(Command::Seal {
         seed,
+        script,
+        height,
+    })
+}
+
+fn own_request<'a>(used: &ArgMatches<'a>) -> Option<Commitment<'a>>
+    ensures { option_map plain_commitment result ≡ own_request (rows_of (found_of used.now)) }
+{
+    let seed = text_of(used, "seed")?;
+    let address = text_of(used, "address")?;
+    let script = text_of(used, "script")?;
+    let height = height_of(used)?;
+    Some(Commitment {
+        seed,
+        address,
         script,
         height,
     })

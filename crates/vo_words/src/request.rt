@@ -27,8 +27,19 @@ impl Height {
 pub enum Request<'a> {
     /// One that writes once, as it ends.
     Command(Command<'a>),
-    /// One that writes as it works.
+    /// Two that write as they work.
+    Own(Commitment<'a>),
     Serve(Service<'a>),
+}
+
+/// The seed of an owner's key, whose journal stands on the disk, the address of a store, and the
+/// script of the batches that are to be committed.
+#[derive(Clone, Copy, Debug)]
+pub struct Commitment<'a> {
+    pub seed: &'a str,
+    pub address: &'a str,
+    pub script: &'a str,
+    pub height: Height,
 }
 
 /// The journal that a store loads, and the address where it serves so many connections, one after
