@@ -4,12 +4,14 @@ use Rattle.std.specs.Prelude.{ℕ, List, Option, Some, None, IfSome, Result, Ok,
 use mathlib.Core.Logic.{inl, inr}
 use Rattle.outside.specs.Shelf.{Files}
 use Rattle.outside.specs.ConnectionModel.{ConnectionModel}
-use Rattle.vo_words.specs.PlainRequest.{PlainRequest, Keygen, Seal, Answer, Serve, Check, Ask, Audit, Meet}
+use Rattle.outside.specs.DiskModel.{DiskModel}
+use Rattle.vo_words.specs.PlainRequest.{PlainRequest, Keygen, Seal, Own, Answer, Serve, Check, Ask, Audit, Meet}
 use Rattle.vo_commands.specs.declared.report.Report.{Report}
 use Rattle.vo_commands.specs.declared.report.Stop.{Stop}
 use Rattle.vo_commands.specs.declared.report.Stop.TheVariants.{Refused, Outside, Memory}
 use Rattle.vo_commands.specs.Expected.{Expected, Ends, UsesNet, command_expected, expected_of}
 use Rattle.vo_commands.specs.Reports.{Answers, WritesOutcome, output_of}
+use Rattle.vo_commands.specs.Owning.{OwnEnds}
 use Rattle.vo_commands.specs.Serving.{ServeEnds}
 
 -- with nothing, for want of memory
@@ -54,9 +56,18 @@ pub asks_nothing : (request : Option PlainRequest) (before : ConnectionModel) (w
 asks_nothing None before wire is = is
 asks_nothing (Some (Keygen seed height)) before wire is = is
 asks_nothing (Some (Seal seed script height)) before wire is = is
+asks_nothing (Some (Own seed address script height)) before wire is = tt
 asks_nothing (Some (Answer key journal query)) before wire is = is
 asks_nothing (Some (Serve address key journal count)) before wire is = tt
 asks_nothing (Some (Check key query reply least)) before wire is = is
 asks_nothing (Some (Ask address key query least)) before wire is = inl is
 asks_nothing (Some (Audit key journal query reply)) before wire is = is
 asks_nothing (Some (Meet key query first second)) before wire is = is
+
+-- the same of `own`
+pub own_ends_empty : (o : Option Expected) (FilesRose NetRose DiskRose OutRose : Type 0) (drive : Option DiskModel) (net wire : Option ConnectionModel)
+    (written : Option (List ℕ))
+    → IfSome o (λ expected. (before : ConnectionModel) → net ≡ Some before
+    → OwnEnds expected FilesRose NetRose DiskRose OutRose 4 drive drive before wire written written)
+own_ends_empty None FilesRose NetRose DiskRose OutRose drive net wire written = tt
+own_ends_empty (Some expected) FilesRose NetRose DiskRose OutRose drive net wire written = λ before is. inl (inl (refl, refl))

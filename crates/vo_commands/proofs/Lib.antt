@@ -6,3 +6,5 @@ pub mod ServeSteps
 pub mod QueryTexts
 pub mod NetSteps
 pub mod CommandSteps
+pub mod OwnerLaws
+pub mod OwnSteps

@@ -33,14 +33,15 @@ use Rattle.reply_meeting.specs.Meetings.{RepliesMeet}
 use Rattle.owner_state.specs.declared.sealing.SealFault.{SealFault}
 use Rattle.owner_state.specs.declared.sealing.SealFault.TheVariants as seal
 use Rattle.owner_state.specs.Sealing.{commands_of, seal_fault}
-use Rattle.vo_words.specs.PlainRequest.{PlainRequest, Keygen, Seal, Answer, Serve, Check, Ask, Audit, Meet}
+use Rattle.vo_words.specs.PlainRequest.{PlainRequest, Keygen, Seal, Own, Answer, Serve, Check, Ask, Audit, Meet}
 use Rattle.sql_text.specs.Scripts.{IsScript}
 use Rattle.vo_commands.specs.Lines.{Output, line, success, refusal, input_refusal, check_output, audit_output, meet_output, bad_journal, command_output, spent_key, store_refusal, bad_frame, cut_off}
 use Rattle.vo_commands.specs.Texts.{IsQueryText, IsRefusedQuery, IsRefusedScript}
 
 -- These lines; or what is expected of the query or the script that a text is; or what a relation
 -- allows: the reply to a query by a journal, what a client or an auditor answers to one, what two
--- replies are to each other, and why no store of a journal serves connections.
+-- replies are to each other, and why no store of a journal serves connections; or, with no lines of
+-- its own, that an owner of a key commits batches.
 pub data Expected : Type 0 where
   Exactly : (output : Output) → Expected
   OfQuery : (text : List ℕ) (rest : Query → Expected) → Expected
@@ -50,6 +51,7 @@ pub data Expected : Type 0 where
   Audits : (key journal : List ℕ) (q : Query) (reply : List ℕ) → Expected
   Meets : (key : List ℕ) (q : Query) (first second : List ℕ) → Expected
   Serves : (key journal : List ℕ) (count : ℕ) → Expected
+  Owns : (secret : Secret) (batches : List Batch) → Expected
 
 -- the reply of a store, where it isn't over the limit
 abbrev pub reply_output : List ℕ → Output
@@ -89,6 +91,7 @@ Allows (Meets key q first second) output =
     × (output ≡ meet_output met)
 Allows (Serves key journal count) output =
     (index : ℕ) × IsUnservableAt key journal index × (output ≡ bad_journal index)
+Allows (Owns secret batches) output = ⊥
 
 -- the outside failed
 abbrev pub outside_failure : Output
@@ -227,13 +230,14 @@ meet_expected key query first second files =
     with_key files key (λ k. OfQuery query (λ q. with_file files first reply_limit (λ r.
     with_file files second reply_limit (λ s. Meets k q r s))))
 
--- where the files are known, and for `ask` the connections to come; what `serve` comes to is told
--- apart, since it writes as it works
+-- where the files are known, and for `ask` the connections to come; what `own` and `serve` come to
+-- is told apart, since they write as they work
 abbrev pub command_expected : PlainRequest → Option Files → Option (List (List ℕ))
     → Option Expected
 command_expected (Keygen seed height) files queue = option_map (keygen_expected seed height) files
 command_expected (Seal seed script height) files queue =
     option_map (seal_expected seed script height) files
+command_expected (Own seed address script height) files queue = None
 command_expected (Answer key journal query) files queue =
     option_map (answer_expected key journal query) files
 command_expected (Serve address key journal count) files queue = None
@@ -262,8 +266,9 @@ abbrev pub AsksOnly : List ℕ → ConnectionModel → Option ConnectionModel �
 AsksOnly frame before after =
     (after ≡ Some before) ⊎ IsHalfAsked frame (open_next before) after
 
--- what a command but `serve` does on the network: it asks its query, or does nothing
+-- what a command but `own` and `serve` does on the network: it asks its query, or does nothing
 abbrev pub UsesNet : Option PlainRequest → ConnectionModel → Option ConnectionModel → Type 0
+UsesNet (Some (Own seed address script height)) before after = Unit {0}
 UsesNet (Some (Serve address key journal count)) before after = Unit {0}
 UsesNet (Some (Ask address key query least)) before after =
     AsksOnly (frame_bytes QueryFrame query) before after
@@ -271,12 +276,25 @@ UsesNet _ before after = after ≡ Some before
 
 -- a command that makes or takes connections
 abbrev pub uses_net : Option PlainRequest → Bool
+uses_net (Some (Own seed address script height)) = true
 uses_net (Some (Serve address key journal count)) = true
 uses_net (Some (Ask address key query least)) = true
 uses_net _ = false
 
--- how many of them at most
+-- a command that writes as it works
+abbrev pub writes_as_it_works : Option PlainRequest → Bool
+writes_as_it_works (Some (Own seed address script height)) = true
+writes_as_it_works (Some (Serve address key journal count)) = true
+writes_as_it_works _ = false
+
+-- a command that appends to the owner's journal
+abbrev pub uses_disk : Option PlainRequest → Bool
+uses_disk (Some (Own seed address script height)) = true
+uses_disk _ = false
+
+-- how many connections at most
 abbrev pub connections_of : Option PlainRequest → ℕ
+connections_of (Some (Own seed address script height)) = 1
 connections_of (Some (Serve address key journal count)) = count
 connections_of (Some (Ask address key query least)) = 1
 connections_of _ = 0
@@ -300,6 +318,7 @@ Ends expected outside_rose out_rose status before after =
 abbrev pub files_of_request : PlainRequest → List (List ℕ)
 files_of_request (Keygen seed height) = seed ∷ []
 files_of_request (Seal seed script height) = seed ∷ script ∷ []
+files_of_request (Own seed address script height) = seed ∷ script ∷ []
 files_of_request (Answer key journal query) = key ∷ journal ∷ []
 files_of_request (Serve address key journal count) = key ∷ journal ∷ []
 files_of_request (Check key query reply least) = key ∷ reply ∷ []

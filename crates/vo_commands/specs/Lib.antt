@@ -4,3 +4,5 @@ pub mod Texts
 pub mod Reports
 pub mod Expected
 pub mod Serving
+pub mod Committing
+pub mod Owning

@@ -22,6 +22,8 @@ use Rattle.reply_meeting.specs.declared.meeting.Meeting.{Meeting}
 use Rattle.reply_meeting.specs.declared.meeting.Meeting.TheVariants as meeting
 use Rattle.reply_meeting.specs.declared.meeting.MeetFault.{MeetFault}
 use Rattle.reply_meeting.specs.declared.meeting.MeetFault.TheVariants.{First, Second, Memory}
+use Rattle.owner_roots.specs.declared.owner_fault.OwnerFault.{OwnerFault}
+use Rattle.owner_roots.specs.declared.owner_fault.OwnerFault.TheVariants as owner
 use Rattle.sql_text.specs.declared.faults.SqlFault.{SqlFault}
 use Rattle.sql_text.specs.declared.faults.SqlFault.TheVariants as sql
 use Rattle.vo_spec.specs.Records.{record_bytes}
@@ -232,3 +234,20 @@ command_output index fault = refusal 8 (codes "command" ∷ decimal index ∷ fa
 
 abbrev pub spent_key : Output
 spent_key = refusal 8 (codes "key spent" ∷ [])
+
+-- Refusals of an owner.
+
+-- the proof of the command of this number is refused
+abbrev pub proof_refusal : List ℕ → ℕ → List (List ℕ) → Output
+proof_refusal why index digests = refusal 1 (codes "proof" ∷ why ∷ decimal index ∷ digests)
+
+-- want of memory has no lines here either
+abbrev pub owner_refusal : OwnerFault → Output
+owner_refusal (owner.Command index why) = command_output index why
+owner_refusal (owner.ProofForm index) = proof_refusal (codes "form") index []
+owner_refusal (owner.ProofRoot index want got) =
+    proof_refusal (codes "root") index (encode_lower want ∷ encode_lower got ∷ [])
+owner_refusal (owner.ProofMissing index) = proof_refusal (codes "missing") index []
+owner_refusal (owner.ProofSurplus index) = proof_refusal (codes "surplus") index []
+owner_refusal owner.KeySpent = spent_key
+owner_refusal owner.Memory = refusal 1 []

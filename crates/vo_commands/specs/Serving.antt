@@ -1,5 +1,5 @@
 -- What `serve` comes to: the store of a journal serves connections, and a line is written of each.
-use Rattle.std.specs.Prelude.{◌≡◌, ◌⊎◌, ℕ, Bool, true, false, List, [], ◌∷◌, codes, decimal, Option, Some, None, option_map, Result, Ok, Err}
+use Rattle.std.specs.Prelude.{◌≡◌, ◌⊎◌, ℕ, List, [], ◌∷◌, codes, decimal, Option, Some, None, option_map, Result, Ok, Err}
 use Rattle.outside.specs.ConnectionModel.{ConnectionModel}
 use Rattle.outside.specs.Shelf.{Files}
 use Rattle.vo_spec.specs.declared.records.Entry.{Entry}
@@ -17,11 +17,6 @@ use Rattle.vo_commands.specs.declared.report.Stop.TheVariants.{Refused, Outside,
 use Rattle.vo_commands.specs.Lines.{Output, success, words_line, bad_journal}
 use Rattle.vo_commands.specs.Expected.{Expected, Serves, Allows, Ends, IsUnservableAt, Writes, outside_failure, journal_limit, with_file, with_key}
 use Rattle.vo_commands.specs.Reports.{output_of}
-
--- a command that writes as it works
-abbrev pub is_served : Option PlainRequest → Bool
-is_served (Some (Serve address key journal count)) = true
-is_served _ = false
 
 abbrev pub service_expected : List ℕ → List ℕ → ℕ → Files → Expected
 service_expected key journal count files = with_key files key

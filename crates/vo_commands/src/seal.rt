@@ -1,17 +1,16 @@
 //! `seal`: the journal of a script's batches.
 ghost use Rattle.std.specs.Prelude.{◌≡◌, ◌≤◌, [], ◌∷◌, IfSome, IsErrOf};
 ghost use Rattle.outside.specs.FaultRose.{FaultRose};
-ghost use Rattle.vo_commands.specs.Expected.{HoldsEach, Exactly, script_expected, seal_expected, seal_output, with_text};
-ghost use Rattle.vo_commands.specs.Reports.{Answers, GoesOn};
+ghost use Rattle.vo_commands.specs.Expected.{HoldsEach, Exactly, script_expected, seal_expected, seal_output};
+ghost use Rattle.vo_commands.specs.Reports.{Answers};
 ghost use Rattle.vo_words.specs.Height.{number_of};
 ghost use Rattle.owner_state.specs.Sealing.{FitEach};
 
 use crate::files::{take_file, take_seed};
 use crate::limits::SCRIPT_LIMIT;
-use crate::piece::Word;
-use crate::refusals::{command_refusal, refusal, spent_key};
+use crate::refusals::{command_refusal, spent_key};
 use crate::report::{Report, Status, Stop};
-use crate::texts::batches_in;
+use crate::texts::{batches_in, text_in};
 use lms_sign::SecretKey;
 use outside::Shelf;
 use owner_state::{SealFault, seal as seal_batches};
@@ -54,20 +53,6 @@ fn seal_script(alloc: Global, key: &SecretKey, script: &[u8]) -> Result<Report, 
     match batches_in(alloc, text) {
         Ok(batches) => journal_report(alloc, key, List::from_vec(batches)),
         Err(stop) => Err(stop),
-    }
-}
-
-/// The text that the bytes are.
-fn text_in(alloc: Global, bytes: &[u8]) -> Result<&str, Stop>
-    ensures known { GoesOn (λ text. text.now) (λ rest. with_text rest bytes.now) result }
-    ensures inside { IsErrOf result Stop.Outside → ⊥ }
-{
-    match std::str::from_utf8(bytes) {
-        Ok(text) => Ok(text),
-        Err(_) => {
-            let words = [Word::Phrase("not text")];
-            Err(Stop::Refused(refusal(alloc, Status::RefusedInput, &words)?))
-        }
     }
 }
 

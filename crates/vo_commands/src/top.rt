@@ -4,9 +4,10 @@ ghost use Rattle.outside.specs.ConnectionModel.{ConnectionModel};
 ghost use Rattle.outside.specs.FaultRose.{FaultRose};
 ghost use Rattle.vo_words.specs.PlainRequest.{request_in};
 ghost use Rattle.vo_words.specs.Request.{plain_command};
-ghost use Rattle.vo_commands.specs.Expected.{Exactly, expected_of, command_expected, words_refusal, queue_of, connections_of, uses_net, UsesNet, Ends, HoldsEach, files_of_request, file_words};
+ghost use Rattle.vo_commands.specs.Expected.{Exactly, expected_of, command_expected, words_refusal, queue_of, connections_of, uses_disk, uses_net, writes_as_it_works, UsesNet, Ends, HoldsEach, files_of_request, file_words};
+ghost use Rattle.vo_commands.specs.Owning.{OwnEnds, own_expected};
 ghost use Rattle.vo_commands.specs.Reports.{Answers};
-ghost use Rattle.vo_commands.specs.Serving.{ServeEnds, is_served, serve_expected};
+ghost use Rattle.vo_commands.specs.Serving.{ServeEnds, serve_expected};
 
 use crate::answer::answer;
 use crate::ask::ask;
@@ -15,6 +16,7 @@ use crate::check::check;
 use crate::keygen::keygen;
 use crate::meet::meet;
 use crate::output::print_outcome;
+use crate::own::own;
 use crate::piece::Word;
 use crate::refusals::refusal;
 use crate::report::{Report, Status, Stop};
@@ -25,8 +27,9 @@ use std::alloc::Global;
 use vo_words::{Command, Request, read_words};
 
 /// Runs the program: `words` are the command line with the program's name first, `files` has the
-/// files that they name, and all output goes to `out`: in one piece, but that of `serve`, which
-/// writes a line as each connection ends. Returns the exit status.
+/// files that they name, `disk` has the owner's journal, and all output goes to `out`: in one piece,
+/// but that of `own`, which writes a line as each batch is installed, and of `serve`, which writes one
+/// as each connection ends. Returns the exit status.
 pub fn run<F: Shelf, D: Disk, N: Net, S: Sink>(
     alloc: Global,
     words: &[String],
@@ -46,8 +49,9 @@ pub fn run<F: Shelf, D: Disk, N: Net, S: Sink>(
     ensures outside { result ≡ 3
         → FaultRose (F.faults files.old) (F.faults files.new)
         ⊎ FaultRose (N.faults net.old) (N.faults net.new)
+        ⊎ FaultRose (D.faults disk.old) (D.faults disk.new)
         ⊎ FaultRose (S.faults out.old) (S.faults out.new) }
-    ensures memory { is_served (request_in (map string_bytes words.now)) ≡ false → result ≡ 4
+    ensures memory { writes_as_it_works (request_in (map string_bytes words.now)) ≡ false → result ≡ 4
         → S.written out.new ≡ S.written out.old }
     // Where the contents of the files are known, `serve` ends so, or as is expected before that.
     ensures serves { IfSome (serve_expected (request_in (map string_bytes words.now))
@@ -57,10 +61,21 @@ pub fn run<F: Shelf, D: Disk, N: Net, S: Sink>(
         (FaultRose (S.faults out.old) (S.faults out.new)) result
         (N.faults net.old) (N.faults net.new) (N.wire net.old) (N.wire net.new)
         (S.written out.old) (S.written out.new)) }
+    // Where the network is known too, `own` ends so.
+    ensures owns { IfSome (own_expected (request_in (map string_bytes words.now))
+        (F.contents files.old))
+        (λ expected. (before : ConnectionModel) → N.wire net.old ≡ Some before
+        → OwnEnds expected (FaultRose (F.faults files.old) (F.faults files.new))
+        (FaultRose (N.faults net.old) (N.faults net.new))
+        (FaultRose (D.faults disk.old) (D.faults disk.new))
+        (FaultRose (S.faults out.old) (S.faults out.new)) result
+        (D.drive disk.old) (D.drive disk.new) before (N.wire net.new)
+        (S.written out.old) (S.written out.new)) }
 
     // What it does to the outside.
     ensures files { F.contents files.new ≡ F.contents files.old }
-    ensures disk { disk.new ≡ disk.old }
+    ensures disk { uses_disk (request_in (map string_bytes words.now)) ≡ false
+        → disk.new ≡ disk.old }
     ensures net { uses_net (request_in (map string_bytes words.now)) ≡ false
         → net.new ≡ net.old }
     ensures asks { (before : ConnectionModel) → N.wire net.old ≡ Some before
@@ -75,6 +90,7 @@ pub fn run<F: Shelf, D: Disk, N: Net, S: Sink>(
         → N.misses net.new ≡ N.misses net.old }
 {
     match read_words(alloc, words) {
+        Ok(Some(Request::Own(commitment))) => own(alloc, files, disk, net, out, &commitment),
         Ok(Some(Request::Serve(service))) => serve(alloc, files, net, out, &service),
         Ok(Some(Request::Command(command))) => {
             let outcome = run_command(alloc, command, files, net);

@@ -1,7 +1,7 @@
 use Rattle.std.proofs.Common.{◌≡◌, Some, sym, ap, ◌∙◌, option_map, map, string_bytes}
 use Rattle.vo_words.specs.PlainRequest.{request_in}
 use Rattle.vo_words.specs.Request.{plain_command, plain_request}
-use Rattle.vo_commands.proofs.Endings.{asks_nothing, command_ends, ends_empty, serve_ends_empty}
+use Rattle.vo_commands.proofs.Endings.{asks_nothing, command_ends, ends_empty, own_ends_empty, serve_ends_empty}
 use Rattle.vo_commands.proofs.top.run.Goals as goal
 
 pub returns-in-Ok-Some-Command-clause-lines : goal.returns-in-Ok-Some-Command-clause-lines
@@ -17,6 +17,9 @@ returns-in-Err-clause-lines g c = ends_empty _ _ _ _
 
 pub returns-in-Err-clause-serves : goal.returns-in-Err-clause-serves
 returns-in-Err-clause-serves g c = serve_ends_empty _ _ _ _ _ _
+
+pub returns-in-Err-clause-owns : goal.returns-in-Err-clause-owns
+returns-in-Err-clause-owns g c = own_ends_empty _ _ _ _ _ _ _ _ _
 
 pub returns-in-Err-clause-asks : goal.returns-in-Err-clause-asks
 returns-in-Err-clause-asks g c = λ before is. asks_nothing _ before _ is

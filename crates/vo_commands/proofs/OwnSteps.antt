@@ -1,0 +1,342 @@
+-- The commitment of a script's batches: what the files say of it, and what a stop leaves of the journal.
+use Rattle.std.proofs.Common.{◌≡◌, ℕ, zero, suc, ◌+◌, ◌≤◌, List, [], ◌∷◌, ◌++◌, length, map, Option, Some, None, Result, Ok, Err, refl, sym, ap, ◌∙◌, subst, arith}
+use mathlib.Core.Logic.{inl, inr}
+use Rattle.std.specs.Prelude.{◌⊎◌, All, IfSome, option_map, slice_get}
+use Rattle.std.specs.Global.{Vec, Global}
+use Rattle.std.proofs.lemmas.List.{length-append}
+use Rattle.std.proofs.lemmas.List.Elements.{All-cons, All-nil}
+use Rattle.outside.specs.ConnectionModel.{ConnectionModel, open_known, open_next}
+use Rattle.outside.specs.DiskModel.{Call, DiskModel, LeftSince, MayLeave, now}
+use Rattle.outside.specs.Moments.{IfKnown, LeavesOnly}
+use Rattle.outside.specs.Shelf.{Files}
+use Rattle.vo_spec.specs.declared.tables.Batch.{Batch}
+use Rattle.vo_spec.specs.declared.records.Entry.{Entry}
+use Rattle.vo_spec.specs.Secret.{Secret}
+use Rattle.vo_spec.specs.Journals.{Holds, IsJournal}
+use Rattle.owner_journal.specs.Resting.{HoldsWith, IsAtRest}
+use Rattle.owner_journal.proofs.RestLaws.{rest_holds}
+use Rattle.owner_state.specs.Held.{Held}
+use Rattle.owner_session.specs.Requests.{PutsRequests}
+use Rattle.owner_session.specs.Runs.{Snapshot, input_of, snapshot_of}
+use Rattle.owner_session.specs.Sessions.{SessionEnds, SessionIsDone, SessionRuns}
+use Rattle.owner_session.specs.Work.{Deed, Work, session}
+use Rattle.sql_text.specs.Scripts.{IsScript}
+use Rattle.vo_commands.specs.declared.report.Report.{Report}
+use Rattle.vo_commands.specs.declared.report.Stop.{Stop}
+use Rattle.vo_commands.specs.declared.report.Stop.TheVariants.{Refused, Outside, Memory}
+use Rattle.vo_commands.specs.Expected.{Expected, Exactly, OfScript, Owns, Allows, script_limit, with_file, with_seed, with_text}
+use Rattle.vo_commands.specs.Reports.{GoesOn, ReadsText, WritesOutcome, output_of}
+use Rattle.vo_commands.specs.Texts.{IsRefusedScript}
+use Rattle.vo_commands.specs.Committing.{AreOfVersions, IsJudgement, LeavesWith, entry_forms}
+use Rattle.vo_commands.specs.Owning.{Commits, CommitsFrom, CommitsOnline, CommitsOver, IsCommitment, KeepsEntry, Leaves, OwnEnds, Prepares, commitment_expected, commitment_in}
+
+-- The script.
+
+pub script_prepared : (secret : Secret) (script text : List ℕ) (r : Result (Vec Batch) Stop) → ((rest : List ℕ → Expected) → with_text rest script ≡ rest text)
+    → ReadsText (λ (v : Vec Batch). v.items) (IsScript text) (IsRefusedScript text) r → Prepares (commitment_in secret script) secret r
+script_prepared secret script text (Ok batches) goes reads =
+    subst (λ (x : Expected). IsCommitment x secret batches.items) (sym (goes (λ t. OfScript t (λ bs. Owns secret bs)))) (batches.items, reads, (refl, refl))
+script_prepared secret script text (Err (Refused report)) goes reads =
+    subst (λ (x : Expected). Allows x (output_of report)) (sym (goes (λ t. OfScript t (λ bs. Owns secret bs)))) (inr reads)
+script_prepared secret script text (Err Outside) goes reads = absurd reads
+script_prepared secret script text (Err Memory) goes reads = tt
+
+pub text_unprepared : {A : Type 0} (view : A → List ℕ) (secret : Secret) (script : List ℕ) (stop : Stop)
+    → GoesOn view (λ rest. with_text rest script) (Err stop) → Prepares (commitment_in secret script) secret (Err stop)
+text_unprepared view secret script (Refused report) goes =
+    subst (λ (x : Expected). Allows x (output_of report)) (sym (goes (λ t. OfScript t (λ bs. Owns secret bs)))) refl
+text_unprepared view secret script Outside goes = tt
+text_unprepared view secret script Memory goes = tt
+
+-- The file.
+
+module _ (script held : List ℕ) (r : Result (Vec Batch) Stop) where
+  pub batches_prepared : (o : Option Files) → IfSome o (λ known. (rest : List ℕ → Expected) → with_file known script script_limit rest ≡ rest held)
+      → ((secret : Secret) → Prepares (commitment_in secret held) secret r)
+      → IfSome o (λ known. (secret : Secret) → Prepares (with_file known script script_limit (commitment_in secret)) secret r)
+  batches_prepared None f prepares = tt
+  batches_prepared (Some known) f prepares = λ secret. by (with_file known script script_limit (commitment_in secret)) secret r (f (commitment_in secret)) (prepares secret)
+    where
+      by : (expected : Expected) (secret : Secret) (r : Result (Vec Batch) Stop) → expected ≡ commitment_in secret held
+          → Prepares (commitment_in secret held) secret r → Prepares expected secret r
+      by expected secret (Ok batches) is p = subst (λ (x : Expected). IsCommitment x secret batches.items) (sym is) p
+      by expected secret (Err (Refused report)) is p = subst (λ (x : Expected). Allows x (output_of report)) (sym is) p
+      by expected secret (Err Outside) is p = tt
+      by expected secret (Err Memory) is p = tt
+
+pub file_unprepared : (script : List ℕ) (stop : Stop) (o : Option Files)
+    → IfSome o (λ known. GoesOn (λ (v : Vec ℕ). v.items) (with_file known script script_limit) (Err stop))
+    → IfSome o (λ known. (secret : Secret) → Prepares (with_file known script script_limit (commitment_in secret)) secret (Err stop))
+file_unprepared script stop None goes = tt
+file_unprepared script (Refused report) (Some known) goes =
+    λ secret. subst (λ (x : Expected). Allows x (output_of report)) (sym (goes (commitment_in secret))) refl
+file_unprepared script Outside (Some known) goes = λ secret. tt
+file_unprepared script Memory (Some known) goes = λ secret. tt
+
+-- A stop of the machine.
+
+left_now : (before after : DiskModel) (P : List ℕ → Type 0) → LeavesOnly before after P → (image : List ℕ) → MayLeave after image → P image
+left_now before after P leaves image left =
+    let long : length after.calls ≡ length before.calls + length leaves.more.0 = ap length leaves.more.1 ∙ length-append before.calls leaves.more.0 in
+    leaves.each image (now after, omega (arith, long), omega arith, left)
+
+pub leaves_with : (old new : Option DiskModel) (es later : List Entry) (e : Entry) → later ≡ es
+    → IfKnown old new (λ before after. IsAtRest es before → LeavesOnly before after (HoldsWith es e)) → IfSome old (IsAtRest es) → LeavesWith new later e
+leaves_with None None es later e same known rests = tt
+leaves_with (Some before) (Some after) es later e same known rests =
+    λ image left. subst (λ (fs : List Entry). HoldsWith fs e image) (sym same) (left_now before after (HoldsWith es e) (known rests) image left)
+leaves_with None (Some after) es later e same known rests = absurd known
+leaves_with (Some before) None es later e same known rests = absurd known
+
+-- A session.
+
+abbrev Rests : Option DiskModel → List Entry → Type 0
+Rests drive es = IfSome drive (IsAtRest es)
+
+module _ (drive : Option DiskModel) (entries : List Entry) (are : AreOfVersions entries) where
+  held_at : (es : List Entry) (e : Entry) → slice_get es e.rec.version ≡ Some e → Holds es e.rec
+  unfolding Holds
+  held_at es e found = ap (option_map (λ (x : Entry). x.rec)) found
+
+  found_at : (e : Entry) (v : ℕ) → slice_get entries v ≡ Some e → slice_get entries e.rec.version ≡ Some e
+  found_at e v found = subst (λ (w : ℕ). slice_get entries w ≡ Some e) (sym (are v e found)) found
+
+  behind_front : (es more : List Entry) (v : ℕ) (e : Entry) → slice_get es v ≡ Some e → slice_get (es ++ more) v ≡ Some e
+  behind_front [] more v e found = absurd (cc)
+  behind_front (f ∷ es) more zero e found = found
+  behind_front (f ∷ es) more (suc v) e found = behind_front es more v e found
+
+  rested : (e : Entry) (v : ℕ) → slice_get entries v ≡ Some e → (o : Option DiskModel) → Rests o entries → KeepsEntry o e
+  rested e v found None rests = tt
+  rested e v found (Some known) rests = λ image left. (entries, rest_holds entries known rests image left, held_at entries e (found_at e v found))
+
+  with_last : (e last : Entry) (v : ℕ) → slice_get entries v ≡ Some e → (o : Option DiskModel) → LeavesWith o entries last → KeepsEntry o e
+  with_last e last v found None leaves = tt
+  with_last e last v found (Some known) leaves = λ image left. either image (leaves image left)
+    where
+      either : (image : List ℕ) → HoldsWith entries last image → (es : List Entry) × IsJournal image es × Holds es e.rec
+      either image (inl j) = (entries, j, held_at entries e (found_at e v found))
+      either image (inr j) =
+          (entries ++ last ∷ [], j, held_at (entries ++ last ∷ []) e (behind_front entries (last ∷ []) e.rec.version e (found_at e v found)))
+
+  all_kept : (o : Option DiskModel) → ((e : Entry) (v : ℕ) → slice_get entries v ≡ Some e → KeepsEntry o e) → All (KeepsEntry o) entries
+  all_kept o keeps = over entries (λ v e found. keeps e v found)
+    where
+      over : (es : List Entry) → ((v : ℕ) (e : Entry) → slice_get es v ≡ Some e → KeepsEntry o e) → All (KeepsEntry o) es
+      over [] h = All-nil (KeepsEntry o)
+      over (e ∷ es) h = All-cons (KeepsEntry o) e es (h 0 e refl) (over es (λ v f found. h (suc v) f found))
+
+  pub kept_at_rest : Rests drive entries → All (KeepsEntry drive) entries
+  kept_at_rest rests = all_kept drive (λ e v found. rested e v found drive rests)
+
+  pub kept_with : (last : Entry) → LeavesWith drive entries last → All (KeepsEntry drive) entries
+  kept_with last leaves = all_kept drive (λ e v found. with_last e last v found drive leaves)
+
+  pub leaves_at_rest : (o : Option DiskModel) → Rests o entries → Leaves o entries
+  leaves_at_rest None rests = tt
+  leaves_at_rest (Some known) rests = λ image left. rest_holds entries known rests image left
+
+module _ (batches : List Batch) (NetRose DiskRose OutRose : Type 0) (status : ℕ) (held later : Held) (es entries : List Entry)
+    (old drive : Option DiskModel) (before after : ConnectionModel) (written later_written : Option (List ℕ)) where
+  abbrev First : Snapshot Held Entry
+  First = snapshot_of before written held es
+
+  abbrev Last : Snapshot Held Entry
+  Last = snapshot_of after later_written later entries
+
+  abbrev Ends : Work Held Batch Entry → List (Deed Held Batch Entry) → (Kept : Type 0) → (Entry → Type 0) → Type 0
+  Ends work deeds Kept KeptWith = SessionEnds work NetRose DiskRose OutRose Kept KeptWith status deeds First Last
+
+  ends_kept : (work : Work Held Batch Entry) (deeds : List (Deed Held Batch Entry)) → AreOfVersions entries → Rests old es
+      → Ends work deeds (Rests old es → Rests drive entries) (λ e. Rests old es → LeavesWith drive entries e)
+      → Ends work deeds (Leaves drive entries) (LeavesWith drive entries) × All (KeepsEntry drive) entries
+  ends_kept work deeds are rests (inl (k, done)) =
+      (inl (leaves_at_rest drive entries are drive (k rests), done), kept_at_rest drive entries are (k rests))
+  ends_kept work deeds are rests (inr (inl (rose, k, stops))) =
+      (inr (inl (rose, leaves_at_rest drive entries are drive (k rests), stops)), kept_at_rest drive entries are (k rests))
+  ends_kept work deeds are rests (inr (inr (inl (rose, (e, next, is, k), stops)))) =
+      (inr (inr (inl (rose, (e, next, is, k rests), stops))), kept_with drive entries are e (k rests))
+  ends_kept work deeds are rests (inr (inr (inr (inl (rose, k, stops))))) =
+      (inr (inr (inr (inl (rose, leaves_at_rest drive entries are drive (k rests), stops)))), kept_at_rest drive entries are (k rests))
+  ends_kept work deeds are rests (inr (inr (inr (inr (k, stops))))) =
+      (inr (inr (inr (inr (leaves_at_rest drive entries are drive (k rests), stops)))), kept_at_rest drive entries are (k rests))
+
+  pub session_commits : AreOfVersions entries → Rests old es
+      → SessionRuns entry_forms IsJudgement batches NetRose DiskRose OutRose (Rests old es → Rests drive entries)
+      (λ e. Rests old es → LeavesWith drive entries e) status First Last
+      → (status ≡ 0 → SessionIsDone entry_forms IsJudgement batches First Last)
+      → PutsRequests entry_forms (map entry_forms.batch es ++ batches) entries before after
+      → Commits batches NetRose DiskRose OutRose status held es drive before after written later_written
+  session_commits are rests runs done puts =
+      let ends = ends_kept (session entry_forms held es batches (input_of First runs.judgements)) runs.deeds are rests runs.ends in
+      record {
+        later = later;
+        entries = entries;
+        runs = record {
+          judgements = runs.judgements;
+          deeds = runs.deeds;
+          are_judgements = runs.are_judgements;
+          leads = runs.leads;
+          ends = ends.0;
+        };
+        done = done;
+        puts = puts;
+        kept = ends.1;
+      }
+
+session_ends : (batches : List Batch) (NetRose DiskRose OutRose : Type 0) (status : ℕ) (held later : Held) (es entries : List Entry)
+    (old drive : Option DiskModel) (before : ConnectionModel) (wire : Option ConnectionModel) (written later_written : Option (List ℕ))
+    → AreOfVersions entries → Rests old es
+    → ((after : ConnectionModel) × (wire ≡ Some after) × SessionRuns entry_forms IsJudgement batches NetRose DiskRose OutRose
+    (Rests old es → Rests drive entries) (λ e. Rests old es → LeavesWith drive entries e) status
+    (snapshot_of before written held es) (snapshot_of after later_written later entries))
+    → ((after : ConnectionModel) × (wire ≡ Some after) × PutsRequests entry_forms (map entry_forms.batch es ++ batches) entries before after)
+    → (status ≡ 0 → (after : ConnectionModel) × (wire ≡ Some after) × SessionIsDone entry_forms IsJudgement batches
+    (snapshot_of before written held es) (snapshot_of after later_written later entries))
+    → (after : ConnectionModel) × (wire ≡ Some after)
+    × Commits batches NetRose DiskRose OutRose status held es drive before after written later_written
+session_ends batches NetRose DiskRose OutRose status held later es entries old drive before wire written later_written are rests runs puts done = (
+  runs.0,
+  runs.1,
+  session_commits batches NetRose DiskRose OutRose status held later es entries old drive before runs.0 written later_written are rests runs.2
+      (λ zero. subst (λ (x : ConnectionModel). SessionIsDone entry_forms IsJudgement batches (snapshot_of before written held es) (snapshot_of x later_written later entries))
+      (one (done zero).0 runs.0 (done zero).1 runs.1) (done zero).2)
+      (subst (λ (x : ConnectionModel). PutsRequests entry_forms (map entry_forms.batch es ++ batches) entries before x) (one puts.0 runs.0 puts.1 runs.1) puts.2),
+)
+  where
+    one : (a b : ConnectionModel) → wire ≡ Some a → wire ≡ Some b → a ≡ b
+    one a b first second = cc
+
+pub commits_over : (batches : List Batch) (NetRose DiskRose OutRose : Type 0) (status : ℕ) (held later : Held) (es entries : List Entry)
+    (old drive : Option DiskModel) (wire later_wire : Option ConnectionModel) (written later_written : Option (List ℕ))
+    → AreOfVersions entries → Rests old es
+    → ((before : ConnectionModel) → wire ≡ Some before → (after : ConnectionModel) × (later_wire ≡ Some after)
+    × SessionRuns entry_forms IsJudgement batches NetRose DiskRose OutRose
+    (Rests old es → Rests drive entries) (λ e. Rests old es → LeavesWith drive entries e) status
+    (snapshot_of before written held es) (snapshot_of after later_written later entries))
+    → ((before : ConnectionModel) → wire ≡ Some before → (after : ConnectionModel) × (later_wire ≡ Some after)
+    × PutsRequests entry_forms (map entry_forms.batch es ++ batches) entries before after)
+    → (status ≡ 0 → (before : ConnectionModel) → wire ≡ Some before → (after : ConnectionModel) × (later_wire ≡ Some after)
+    × SessionIsDone entry_forms IsJudgement batches (snapshot_of before written held es) (snapshot_of after later_written later entries))
+    → CommitsOver batches NetRose DiskRose OutRose status held es drive wire later_wire written later_written
+unfolding CommitsOver
+commits_over batches NetRose DiskRose OutRose status held later es entries old drive wire later_wire written later_written are rests runs puts done =
+    λ before is. session_ends batches NetRose DiskRose OutRose status held later es entries old drive before later_wire written later_written are rests
+    (runs before is) (puts before is) (λ zero. done zero before is)
+
+-- Faults that rose in a part of a run rose in it.
+
+module _ (batches : List Batch) (N M D E OutRose : Type 0) (net : N → M) (disk : D → E) (status : ℕ) (held : Held) (es : List Entry) (drive : Option DiskModel)
+    (written later_written : Option (List ℕ)) where
+  ends_later : (work : Work Held Batch Entry) (Kept : Type 0) (KeptWith : Entry → Type 0) (deeds : List (Deed Held Batch Entry)) (first last : Snapshot Held Entry)
+      → SessionEnds work N D OutRose Kept KeptWith status deeds first last → SessionEnds work M E OutRose Kept KeptWith status deeds first last
+  ends_later work Kept KeptWith deeds first last (inl done) = inl done
+  ends_later work Kept KeptWith deeds first last (inr (inl (rose, k, stops))) = inr (inl (net rose, k, stops))
+  ends_later work Kept KeptWith deeds first last (inr (inr (inl (rose, k, stops)))) = inr (inr (inl (disk rose, k, stops)))
+  ends_later work Kept KeptWith deeds first last (inr (inr (inr ends))) = inr (inr (inr ends))
+
+  commits_later : (before after : ConnectionModel) → Commits batches N D OutRose status held es drive before after written later_written
+      → Commits batches M E OutRose status held es drive before after written later_written
+  commits_later before after commits = record {
+    later = commits.later;
+    entries = commits.entries;
+    runs = record {
+      judgements = commits.runs.judgements;
+      deeds = commits.runs.deeds;
+      are_judgements = commits.runs.are_judgements;
+      leads = commits.runs.leads;
+      ends = ends_later (session entry_forms held es batches (input_of (snapshot_of before written held es) commits.runs.judgements))
+          (Leaves drive commits.entries) (LeavesWith drive commits.entries) commits.runs.deeds
+          (snapshot_of before written held es) (snapshot_of after later_written commits.later commits.entries) commits.runs.ends;
+    };
+    done = commits.done;
+    puts = commits.puts;
+    kept = commits.kept;
+  }
+
+  pub connected : (before : ConnectionModel) (wire opened later : Option ConnectionModel) → wire ≡ Some before → opened ≡ open_known wire
+      → CommitsOver batches N D OutRose status held es drive opened later written later_written
+      → CommitsOnline batches M E OutRose status held es drive before later written later_written
+  unfolding CommitsOver
+  connected before wire opened later is opens ends =
+      let last = ends (open_next before) (opens ∙ ap open_known is) in
+      inr (last.0, last.1, commits_later (open_next before) last.0 last.2)
+
+  pub online_later : (before : ConnectionModel) (later : Option ConnectionModel)
+      → CommitsOnline batches N D OutRose status held es drive before later written later_written
+      → CommitsOnline batches M E OutRose status held es drive before later written later_written
+  online_later before later (inl (rose, wrote)) = inl (net rose, wrote)
+  online_later before later (inr (after, is, commits)) = inr (after, is, commits_later (open_next before) after commits)
+
+-- The whole run.
+
+module _ (NetRose DiskRose OutRose : Type 0) (status : ℕ) (drive later_drive : Option DiskModel) (wire later_wire : Option ConnectionModel)
+    (written later_written : Option (List ℕ)) where
+  abbrev Ended : Expected → Type 0 → Type 0
+  Ended expected FilesRose = (before : ConnectionModel) → wire ≡ Some before
+      → OwnEnds expected FilesRose NetRose DiskRose OutRose status drive later_drive before later_wire written later_written
+
+  ends_prepared : (FilesRose : Type 0) (secret : Secret) (batches : Vec Batch) (expected : Expected) → Prepares expected secret (Ok batches)
+      → ((before : ConnectionModel) → wire ≡ Some before
+      → CommitsFrom secret batches.items NetRose DiskRose OutRose status drive later_drive before later_wire written later_written)
+      → Ended expected FilesRose
+  ends_prepared FilesRose secret batches expected prepares commits = λ before is. inr (secret, batches.items, prepares, commits before is)
+
+  ends_stopped : (FilesRose : Type 0) (expected : Expected) (stop : Stop) → ((report : Report) → stop ≡ Refused report → Allows expected (output_of report))
+      → (stop ≡ Outside → FilesRose) → WritesOutcome (Err stop) OutRose status written later_written → Ended expected FilesRose
+  ends_stopped FilesRose expected (Refused report) allows rose wrote = λ before is. inl (inr (inl (output_of report, allows report refl, wrote)))
+  ends_stopped FilesRose expected Outside allows rose wrote = λ before is. inl (inr (inr (rose refl, wrote)))
+  ends_stopped FilesRose expected Memory allows rose wrote = λ before is. inl (inl wrote)
+
+  pub run_prepared : (FilesRose : Type 0) (secret : Secret) (batches : Vec Batch) (script : List ℕ) (o : Option Files)
+      → IfSome o (λ known. (secret : Secret) → Prepares (with_file known script script_limit (commitment_in secret)) secret (Ok batches))
+      → ((before : ConnectionModel) → wire ≡ Some before
+      → CommitsFrom secret batches.items NetRose DiskRose OutRose status drive later_drive before later_wire written later_written)
+      → IfSome o (λ known. Ended (with_file known script script_limit (commitment_in secret)) FilesRose)
+  run_prepared FilesRose secret batches script None prepares commits = tt
+  run_prepared FilesRose secret batches script (Some known) prepares commits =
+      ends_prepared FilesRose secret batches (with_file known script script_limit (commitment_in secret)) (prepares secret) commits
+
+  pub run_unprepared : (FilesRose : Type 0) (secret : Secret) (script : List ℕ) (stop : Stop) (o : Option Files)
+      → IfSome o (λ known. (secret : Secret) → Prepares (with_file known script script_limit (commitment_in secret)) secret (Err stop))
+      → (stop ≡ Outside → FilesRose) → WritesOutcome (Err stop) OutRose status written later_written
+      → IfSome o (λ known. Ended (with_file known script script_limit (commitment_in secret)) FilesRose)
+  run_unprepared FilesRose secret script stop None prepares rose wrote = tt
+  run_unprepared FilesRose secret script stop (Some known) prepares rose wrote =
+      let expected = with_file known script script_limit (commitment_in secret) in
+      ends_stopped FilesRose expected stop (λ report is. subst (λ (s : Stop). Prepares expected secret (Err s)) is (prepares secret)) rose wrote
+
+  pub run_without_key : {A : Type 0} (view : A → Secret) (FilesRose : Type 0) (seed script : List ℕ) (height : ℕ) (stop : Stop) (o : Option Files)
+      → IfSome o (λ known. GoesOn view (with_seed known seed height) (Err stop)) → (stop ≡ Outside → FilesRose)
+      → WritesOutcome (Err stop) OutRose status written later_written → IfSome o (λ known. Ended (commitment_expected seed script height known) FilesRose)
+  run_without_key view FilesRose seed script height stop None goes rose wrote = tt
+  run_without_key {A = A} view FilesRose seed script height stop (Some known) goes rose wrote =
+      ends_stopped FilesRose (commitment_expected seed script height known) stop
+      (λ report is. subst (λ (x : Expected). Allows x (output_of report))
+      (sym (subst (λ (s : Stop). GoesOn {A = A} view (with_seed known seed height) (Err s)) is goes
+      (λ secret. with_file known script script_limit (commitment_in secret)))) refl) rose wrote
+
+  pub run_with_key : (Before FilesRose : Type 0) (seed script : List ℕ) (height : ℕ) (secret : Secret) (o p : Option Files) → p ≡ o → (Before → FilesRose)
+      → IfSome o (λ known. (rest : Secret → Expected) → with_seed known seed height rest ≡ rest secret)
+      → IfSome p (λ known. Ended (with_file known script script_limit (commitment_in secret)) Before)
+      → IfSome o (λ known. Ended (commitment_expected seed script height known) FilesRose)
+  run_with_key Before FilesRose seed script height secret o p same rises goes ended =
+      step o goes (subst (λ z. IfSome z (λ known. Ended (with_file known script script_limit (commitment_in secret)) Before)) same ended)
+    where
+      later : (expected : Expected) → Ended expected Before → Ended expected FilesRose
+      later expected ended = λ before is. by before (ended before is)
+        where
+          by : (before : ConnectionModel) → OwnEnds expected Before NetRose DiskRose OutRose status drive later_drive before later_wire written later_written
+              → OwnEnds expected FilesRose NetRose DiskRose OutRose status drive later_drive before later_wire written later_written
+          by before (inl (inl wrote)) = inl (inl wrote)
+          by before (inl (inr (inl output))) = inl (inr (inl output))
+          by before (inl (inr (inr (rose, wrote)))) = inl (inr (inr (rises rose, wrote)))
+          by before (inr commits) = inr commits
+
+      step : (o : Option Files) → IfSome o (λ known. (rest : Secret → Expected) → with_seed known seed height rest ≡ rest secret)
+          → IfSome o (λ known. Ended (with_file known script script_limit (commitment_in secret)) Before)
+          → IfSome o (λ known. Ended (commitment_expected seed script height known) FilesRose)
+      step None goes ended = tt
+      step (Some known) goes ended =
+          subst (λ (x : Expected). Ended x FilesRose) (sym (goes (λ secret. with_file known script script_limit (commitment_in secret))))
+          (later (with_file known script script_limit (commitment_in secret)) ended)

@@ -1,0 +1,13 @@
+use Rattle.owner_journal.specs.Entries.{entries_of}
+use Rattle.vo_commands.proofs.OwnerLaws.{count_appended, versions_appended}
+use Rattle.vo_commands.proofs.journal_owner.JournalOwnerOwner.append.Goals as goal
+
+pub invariant_of-self-clause-count : goal.invariant_of-self-clause-count
+invariant_of-self-clause-count g c =
+    count_appended c.args.self.now.owner c.args.step (entries_of c.args.self.now.journal) (entries_of c.append.new.journal) c.advance.new.self.roots
+    c.requires.follows c.args.self.now.count c.in-Ok.ensures.ok c.advance.ensures.roots
+
+pub invariant_of-self-clause-versions : goal.invariant_of-self-clause-versions
+invariant_of-self-clause-versions g c =
+    versions_appended c.args.self.now.owner c.args.step (entries_of c.args.self.now.journal) (entries_of c.append.new.journal) c.requires.follows
+    c.args.self.now.versions c.args.self.now.count c.in-Ok.ensures.ok
