@@ -125,6 +125,24 @@ def canonical(needs, part):
                      b"".join(map(need_bytes, needs)))
 
 
+# -- two part trees
+
+def two_parts_line(word, show, first, second):
+    """A line on two part trees, whose answer is shown of them where both are ones."""
+    parts = part_bytes(first), part_bytes(second)
+    return line(word, *parts), value_or_fault(lambda: show(*map(read_whole, parts)))
+
+
+def same(first, second):
+    return two_parts_line("same", lambda one, other: "same" if tree_bytes(one) == tree_bytes(other) else "different", first, second)
+
+
+def walks(first, second):
+    """Two of one digest are parts of one tree, as long as nobody has two strings of one digest."""
+    return two_parts_line("walks", lambda one, other: "one walk" if digest_of(one) == digest_of(other) else "another digest",
+                          first, second)
+
+
 # -- the tree of a table
 
 def count_and_digest(tree):

@@ -1,8 +1,8 @@
 """The rows of the stored run of crates/tree_lines: chosen cases, each line with the answer due."""
 from itertools import product
 
-from tree_answers import (Twin, after, agree, canonical, change, digest, judge, preimage, prove, prune, read, root, scan,
-                          part_bytes, update_proof, work)
+from tree_answers import (Twin, after, agree, canonical, change, digest, judge, preimage, prove, prune, read, root, same, scan,
+                          part_bytes, update_proof, walks, work)
 from vo_ref.sql import parse_batch
 from vo_ref.tree import Entry, Inner, Leaf, Need, Op, Stub, attr_digest, digest_of, do_op, empty_tree
 from vo_ref.tree import prune as pruned
@@ -20,7 +20,8 @@ def rows():
                   commands, refused_commands, refused_batches, command_proofs, changes, runs,
                   three_levels, runs_on_parts, changes_beside_a_stub, odd_leaves, odd_inner_nodes,
                   moves, proofs, growing_proofs, judged_parts, judged_proofs, needs_of_a_leaf,
-                  needs_of_the_empty_tree, needs_of_two_leaves, agreeing_rows, agreeing_trees):
+                  needs_of_the_empty_tree, needs_of_two_leaves, agreeing_rows, agreeing_trees, twin_rows, twin_trees,
+                  twins_of_three_levels):
         yield from cases()
 
 
@@ -494,3 +495,49 @@ def agreeing_trees():
                  inner([9], [Stub(LEFT), Stub(RIGHT)]),
                  inner([9], [Stub(RIGHT), Stub(LEFT)]), inner([8], [left, Stub(RIGHT)]), left):
         yield agree(tables.tree, part)
+
+
+# -- parts beside parts
+
+def both(first, second):
+    yield from (same(first, second), walks(first, second))
+
+
+def twin_rows():
+    # a row whose cells are shown, in part hidden, or a digest, beside one of its digest and one of another
+    values, others = (int_value(7), bool_value(True)), (int_value(7), bool_value(False))
+    leaves = [Leaf([Entry(b"k", part)]) for part in (
+        values, (attr_digest(0, values[0]), values[1]), (values[0], attr_digest(1, values[1])),
+        Entry(b"k", values).row_digest(), others, values[:1], values[::-1])]
+    for first, second in product(leaves[:4], leaves):
+        yield from both(first, second)
+    # values of each kind, another key, a row more, and no rows
+    for cell, other in (int_value(1), int_value(-1)), (text_value("a"), text_value("ab")), (text_value(""), int_value(0)):
+        for second in cell, other:
+            yield from both(Leaf([Entry(b"k", (cell,))]), Leaf([Entry(b"k", (second,))]))
+    for other in (shown(1, 3), shown(1, 4), shown(1, 3, 5), shown(1), EMPTY, STUB):
+        yield from both(shown(1, 3), other)
+
+
+def twin_trees():
+    # two leaves, of which both, one or none are open, beside one another and beside others
+    whole = grown(TO_17)
+    left, right = whole.slots
+    parts = [whole, inner([9], [Stub(LEFT), right]), inner([9], [left, Stub(RIGHT)]), inner([9], [Stub(LEFT), Stub(RIGHT)]),
+             Stub(digest_of(whole))]
+    others = [inner([8], [left, right]), inner([9], [right, left]), inner([9], [Stub(LEFT)] * 2), left, Stub(LEFT), EMPTY,
+              inner([9, 12], [left, right, right])]
+    for first, second in [*product(parts, parts), *product(parts[:2], others)]:
+        yield from both(first, second)
+    # no part trees
+    for first, second in ((b"\1\0\0", STUB), (STUB, b"\1\0\0")):
+        yield from both(first, second)
+
+
+def twins_of_three_levels():
+    # of 150 rows: the proofs of needs at both ends and in the middle, which have some open nodes in common
+    tree = grown(map(put, range(1, 151)))
+    parts = [pruned(tree, [need]) for need in (
+        between(1, 1, 0), between(1, 1), between(150, 150, 0), between(70, 80), between(75, 90, 0), between(75, 90, 0))]
+    for first, second in zip(parts, parts[1:]):
+        yield from both(first, second)

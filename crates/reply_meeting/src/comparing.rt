@@ -10,11 +10,13 @@ use crate::catalogs::compare_catalogs;
 use crate::needed::compare_needed;
 use query_plan::{BindFault, bind};
 use std::alloc::{AllocError, Global};
+use tree_collide::are_all_same;
 use vo_format::Reply;
 use vo_spec::{Collision, QueryText};
 
-/// None where the trees are the same, else two byte strings of one digest. A query that is wrong
-/// has none.
+/// None where the trees are the same, else two byte strings of one digest. What stands in them is
+/// compared first: where it is the same, nothing is planned or hashed. A query that is wrong has no
+/// trees.
 fn compare_trees(
     alloc: Global,
     query: &QueryText,
@@ -29,6 +31,9 @@ fn compare_trees(
     ensures { IfOk result (λ found.
         HoldsUnlessFound found (trees_of first.now.trees ≡ trees_of second.now.trees)) }
 {
+    if are_all_same(first.trees.as_slice(), second.trees.as_slice()) {
+        return Ok(None);
+    }
     match bind(alloc, &first.catalog, query) {
         Ok(bound) => compare_needed(alloc, &bound, &first.trees, &second.trees),
         Err(BindFault::Wrong(_)) => Ok(None),

@@ -8,3 +8,5 @@ pub mod OneTree
 pub mod Sharing
 pub mod OneWalk
 pub mod TwinSteps
+pub mod SamePartLaws
+pub mod LikenessLaws

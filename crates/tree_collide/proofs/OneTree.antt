@@ -50,6 +50,9 @@ mutual
       let first = itself p in
       let rest = each_itself ps in ((first.0, rest.0), (refl, first.1, rest.1))
 
+pub row_alike_itself : (r s : RowPart) → r ≡ s → RowAlike r s
+row_alike_itself r s e = let P : RowPart → Type 0 = λ t. RowAlike r t in subst P e (row_itself r).0
+
 pub alike_itself : (p q : RowTree) → p ≡ q → AreAlike p q
 alike_itself p q e = let P : RowTree → Type 0 = λ t. AreAlike p t in subst P e (itself p).0
 

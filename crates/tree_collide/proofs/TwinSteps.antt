@@ -34,7 +34,7 @@ passed_first S R A B all I J Are l (Some x) none h = absurd (cc)
 
 -- the places of two lists
 module _ {A B : Type 0} (P : List A → List B → Type 0) (i : ℕ) (xs : List A) (ys : List B) (x : A) (y : B) where
-  at_place : i < length xs → x ≡ get_or xs i x → i < length ys → y ≡ get_or ys i y → P (drop i xs) (drop i ys) → P (x ∷ drop (i + 1) xs) (y ∷ drop (i + 1) ys)
+  pub at_place : i < length xs → x ≡ get_or xs i x → i < length ys → y ≡ get_or ys i y → P (drop i xs) (drop i ys) → P (x ∷ drop (i + 1) xs) (y ∷ drop (i + 1) ys)
   at_place lx x_is ly y_is h = subst (λ zs. P (x ∷ drop (i + 1) xs) zs) (here ys i y ly y_is) (subst (λ zs. P zs (drop i ys)) (here xs i x lx x_is) h)
 
 abbrev pub CellsLeft : ℕ → List Cell → List Cell → Type 0 → OfStrings → Type 0

@@ -2,7 +2,6 @@
 ghost use Rattle.std.specs.Prelude.{◌≡◌, ◌≤◌, IsTrue, length, map, All};
 ghost use Rattle.std.specs.List.{AllZip};
 ghost use Rattle.vo_spec.specs.declared.cells.Cell.TheVariants.{Shown};
-ghost use Rattle.vo_spec.specs.Lent.{value_of};
 ghost use Rattle.vo_spec.specs.Values.{FitsValue};
 ghost use Rattle.vo_spec.specs.Cells.{whole_cells, whole_entry, whole_row, CellPrunes, CellsPrune, EntryPrunes, RowPrunes};
 ghost use Rattle.vo_spec.specs.Parts.{inner, PrunesEach};
@@ -10,9 +9,10 @@ ghost use Rattle.vo_spec.specs.Trees.{Prunes, open_parts, row_family};
 ghost use Rattle.vo_spec.specs.Fits.{FitsCells};
 ghost use Rattle.mb_tree.specs.View.{part_of, parts_of};
 
+use crate::same_parts::is_same_value;
 use attr_digest::attr_digest;
 use mb_tree::{HashedCells, Node, PartTree, Subtree, TreeEntry, TreeKey};
-use vo_spec::{Cell, KeyPart, PartEntry, RowPart, Value, ValueRef};
+use vo_spec::{Cell, KeyPart, PartEntry, RowPart, Value};
 
 /// Whether the part is the subtree with some of its subtrees, rows and cells replaced by digests.
 #[cycle(prunes)]
@@ -139,17 +139,6 @@ fn cell_prunes(column: u8, cell: &Cell<'_>, value: &Value) -> bool
 {
     match cell {
         Cell::Hidden(digest) => *digest == attr_digest(column, value.as_ref()),
-        Cell::Shown(held) => is_value(held.as_ref(), value),
-    }
-}
-
-fn is_value(shown: ValueRef<'_>, value: &Value) -> bool
-    ensures { IsTrue result → value_of shown.entry ≡ value.now }
-{
-    match (shown, value) {
-        (ValueRef::Int(number), Value::Int(other)) => number == *other,
-        (ValueRef::Text(bytes), Value::Text(text)) => bytes == text.as_bytes(),
-        (ValueRef::Bool(truth), Value::Bool(other)) => truth == *other,
-        _ => false,
+        Cell::Shown(held) => is_same_value(held.as_ref(), value.as_ref()),
     }
 }

@@ -8,6 +8,8 @@ ghost use Rattle.tree_collide.specs.Alike.{AreAlike, EachAlike};
 ghost use Rattle.tree_collide.specs.Preimages.{ArePreimages, BelowNodes, NodesIn};
 
 use crate::comparison::compare;
+use crate::likeness::is_like;
+use crate::same_parts::are_same;
 use crate::twin_rows::collision_of_twin_entries;
 use mb_tree::PartTree;
 use std::alloc::{AllocError, Global};
@@ -15,7 +17,7 @@ use vo_spec::Collision;
 
 /// None where the two show the same wherever both are open, else a collision of what they hash.
 #[cycle(twins)]
-#[tactic(auto, using(crate::proofs::OneTree::closed_first, crate::proofs::OneTree::closed_second))]
+#[tactic(auto, using(crate::proofs::OneTree::alike_itself, crate::proofs::OneTree::closed_first, crate::proofs::OneTree::closed_second))]
 pub fn collision_of_twins(
     alloc: Global,
     first: &PartTree<'_>,
@@ -28,6 +30,9 @@ pub fn collision_of_twins(
         HoldsOrCollides found (AreAlike (part_of first.now) (part_of second.now))
         (ArePreimages (part_of first.now) (part_of second.now))) }
 {
+    if are_same(first, second) {
+        return Ok(None);
+    }
     if is_open(first) && is_open(second) {
         collision_of_open_nodes(alloc, first, second)
     } else {
@@ -60,12 +65,12 @@ fn collision_of_open_nodes(
         HoldsOrCollides found (AreAlike (part_of first.now) (part_of second.now))
         (ArePreimages (part_of first.now) (part_of second.now))) }
 {
+    if is_like(first, second) {
+        return collision_below_nodes(alloc, first, second);
+    }
     let one = first.preimage(alloc)?;
     let other = second.preimage(alloc)?;
-    match compare(one, other) {
-        Some(found) => Ok(Some(found)),
-        None => collision_below_nodes(alloc, first, second),
-    }
+    Ok(compare(one, other))
 }
 
 #[cycle(twins)]

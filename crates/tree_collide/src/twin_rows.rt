@@ -11,6 +11,7 @@ ghost use Rattle.tree_collide.specs.Preimages.{RowsOf, RowsIn};
 
 use crate::comparison::compare;
 use crate::rows::parts_preimage;
+use crate::same_parts::is_same_row;
 use crate::twin_cells::collision_of_twin_cells;
 use std::alloc::{AllocError, Global};
 use vo_spec::{Cell, Collision, PartEntry, RowPart};
@@ -39,6 +40,7 @@ pub fn collision_of_twin_entries(
     Ok(None)
 }
 
+#[tactic(auto, using(crate::proofs::OneTree::row_alike_itself))]
 fn collision_of_twin_row(
     alloc: Global,
     first: &RowPart<'_>,
@@ -50,6 +52,9 @@ fn collision_of_twin_row(
     ensures { IfOk result (λ found. HoldsOrCollides found (RowAlike first.now second.now)
         (RowsOf first.now second.now)) }
 {
+    if is_same_row(first, second) {
+        return Ok(None);
+    }
     match (first, second) {
         (RowPart::Digest(_), RowPart::Digest(_)) => Ok(None),
         (RowPart::Digest(_), RowPart::Cells(_)) => Ok(None),

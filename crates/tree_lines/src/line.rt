@@ -26,10 +26,12 @@ pub enum Call {
     Digest,
     Preimage,
     Read,
+    Same,
+    Walks,
 }
 
 /// The calls by their words.
-const CALLS: [(&str, Call); 20] = [
+const CALLS: [(&str, Call); 22] = [
     ("clear", Call::Clear),
     ("apply", Call::Apply),
     ("step", Call::Step),
@@ -50,6 +52,8 @@ const CALLS: [(&str, Call); 20] = [
     ("digest", Call::Digest),
     ("preimage", Call::Preimage),
     ("read", Call::Read),
+    ("same", Call::Same),
+    ("walks", Call::Walks),
 ];
 
 /// A call with its byte strings, which are empty where the line has none.

@@ -14,6 +14,9 @@
 //! does a change, and `after` gives the digest after several; `judge` says whether the part is the
 //! change's proof; `scan` looks for a need's rows, and `canonical` says whether the part is the
 //! proof of some needs.
+//!
+//! Of two part trees: `same` says whether they are the same, and `walks` whether two of one digest
+//! give one walk for all rows.
 #![tactic(auto)]
 
 mod answers;
@@ -26,6 +29,7 @@ mod part_calls;
 mod part_reading;
 mod table_calls;
 mod tree_calls;
+mod twin_calls;
 
 use calls::answer;
 use std::io::{self, BufRead, BufReader};
