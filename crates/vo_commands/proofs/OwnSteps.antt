@@ -1,7 +1,7 @@
 -- The commitment of a script's batches: what the files say of it, and what a stop leaves of the journal.
 use Rattle.std.proofs.Common.{◌≡◌, ℕ, zero, suc, ◌+◌, ◌≤◌, List, [], ◌∷◌, ◌++◌, length, map, Option, Some, None, Result, Ok, Err, refl, sym, ap, ◌∙◌, subst, arith}
 use mathlib.Core.Logic.{inl, inr}
-use Rattle.std.specs.Prelude.{◌⊎◌, All, IfSome, option_map, slice_get}
+use Rattle.std.specs.Prelude.{◌⊎◌, All, IfSome, OnErr, option_map, slice_get}
 use Rattle.std.specs.Global.{Vec, Global}
 use Rattle.std.proofs.lemmas.List.{length-append}
 use Rattle.std.proofs.lemmas.List.Elements.{All-cons, All-nil}
@@ -13,9 +13,10 @@ use Rattle.vo_spec.specs.declared.tables.Batch.{Batch}
 use Rattle.vo_spec.specs.declared.records.Entry.{Entry}
 use Rattle.vo_spec.specs.Secret.{Secret}
 use Rattle.vo_spec.specs.Journals.{Holds, IsJournal}
-use Rattle.owner_journal.specs.Resting.{HoldsWith, IsAtRest}
+use Rattle.owner_journal.specs.Resting.{HoldsAsBefore, HoldsWith, IsAtRest}
 use Rattle.owner_journal.proofs.RestLaws.{rest_holds}
 use Rattle.owner_state.specs.Held.{Held}
+use Rattle.owner_state.specs.Stepping.{first_entry}
 use Rattle.owner_session.specs.Requests.{PutsRequests}
 use Rattle.owner_session.specs.Runs.{Snapshot, input_of, snapshot_of}
 use Rattle.owner_session.specs.Sessions.{SessionEnds, SessionIsDone, SessionRuns}
@@ -28,7 +29,7 @@ use Rattle.vo_commands.specs.Expected.{Expected, Exactly, OfScript, Owns, Allows
 use Rattle.vo_commands.specs.Reports.{GoesOn, ReadsText, WritesOutcome, output_of}
 use Rattle.vo_commands.specs.Texts.{IsRefusedScript}
 use Rattle.vo_commands.specs.Committing.{AreOfVersions, IsJudgement, LeavesWith, entry_forms}
-use Rattle.vo_commands.specs.Owning.{Commits, CommitsFrom, CommitsOnline, CommitsOver, IsCommitment, KeepsEntry, Leaves, OwnEnds, Prepares, commitment_expected, commitment_in}
+use Rattle.vo_commands.specs.Owning.{Commits, CommitsFrom, CommitsOnline, CommitsOver, IsCommitment, KeepsEntry, Leaves, LeavesAsBefore, LeavesAsFound, OwnEnds, Prepares, commitment_expected, commitment_in}
 
 -- The script.
 
@@ -135,6 +136,65 @@ module _ (drive : Option DiskModel) (entries : List Entry) (are : AreOfVersions 
   pub leaves_at_rest : (o : Option DiskModel) → Rests o entries → Leaves o entries
   leaves_at_rest None rests = tt
   leaves_at_rest (Some known) rests = λ image left. rest_holds entries known rests image left
+
+-- An owner that doesn't get so far.
+
+rest_found : (secret : Secret) (es : List Entry) (drive : DiskModel) → IsAtRest es drive → LeavesAsFound secret es drive
+rest_found secret es drive rests = λ image left. inl (rest_holds es drive rests image left)
+
+pub found_still : (secret : Secret) (es : List Entry) (old new : Option DiskModel) → new ≡ old → Rests old es → IfKnown old new (λ _. LeavesAsFound secret es)
+found_still secret es old new same rests = subst (λ (o : Option DiskModel). IfKnown old o (λ _. LeavesAsFound secret es)) (sym same) (at old rests)
+  where
+    at : (o : Option DiskModel) → Rests o es → IfKnown o o (λ _. LeavesAsFound secret es)
+    at None rests = tt
+    at (Some drive) rests = rest_found secret es drive rests
+
+pub begun_in_part : (secret : Secret) (es : List Entry) (e : Entry) (old new : Option DiskModel) → es ≡ [] → e ≡ first_entry secret
+    → IfKnown old new (λ before after. IsAtRest es before → LeavesOnly before after (HoldsWith es e)) → Rests old es
+    → IfKnown old new (λ _. LeavesAsFound secret es)
+begun_in_part secret es e None None empty is known rests = tt
+begun_in_part secret es e (Some before) (Some after) empty is known rests = λ image left. by image (left_now before after (HoldsWith es e) (known rests) image left)
+  where
+    by : (image : List ℕ) → HoldsWith es e image → IsJournal image es ⊎ ((es ≡ []) × IsJournal image (first_entry secret ∷ []))
+    by image (inl j) = inl j
+    by image (inr j) =
+        inr (empty, subst (λ (x : Entry). IsJournal image (x ∷ [])) is (subst (λ (fs : List Entry). IsJournal image (fs ++ e ∷ [])) empty j))
+begun_in_part secret es e None (Some after) empty is known rests = absurd known
+begun_in_part secret es e (Some before) None empty is known rests = absurd known
+
+pub opened_in_part : (secret : Secret) (old new : Option DiskModel) → IfKnown old new (λ before after. LeavesOnly before after (HoldsAsBefore before))
+    → IfKnown old new (LeavesAsBefore secret)
+opened_in_part secret None None known = tt
+opened_in_part secret (Some before) (Some after) known = λ image left. inl (left_now before after (HoldsAsBefore before) known image left)
+opened_in_part secret None (Some after) known = absurd known
+opened_in_part secret (Some before) None known = absurd known
+
+pub on_any : {T : Type 0} (P : Type 0) (r : Result T Stop) → P → OnErr r P
+on_any P (Ok x) p = tt
+on_any P (Err stop) p = p
+
+module _ (secret : Secret) (es : List Entry) where
+  as_before : (old mid new : Option DiskModel) → IfKnown old mid (λ before after. LeavesOnly before after (HoldsAsBefore before))
+      → IfSome old (λ known. IsJournal known.seen es) → IfSome old (λ known. MayLeave known known.seen)
+      → IfKnown mid new (λ _. LeavesAsFound secret es) → IfKnown old new (LeavesAsBefore secret)
+  as_before None None None opened found sees known = tt
+  as_before None None (Some after) opened found sees known = absurd known
+  as_before None (Some mid) new opened found sees known = absurd opened
+  as_before (Some before) None new opened found sees known = absurd opened
+  as_before (Some before) (Some mid) None opened found sees known = absurd known
+  as_before (Some before) (Some mid) (Some after) opened found sees known = λ image left. by image (known image left)
+    where
+      by : (image : List ℕ) → IsJournal image es ⊎ ((es ≡ []) × IsJournal image (first_entry secret ∷ []))
+          → HoldsAsBefore before image ⊎ (IsJournal before.seen [] × IsJournal image (first_entry secret ∷ []))
+      by image (inl j) = inl (inr (before.seen, sees, es, found, j))
+      by image (inr j) = inr (subst (IsJournal before.seen) j.0 found, j.1)
+
+  pub kept_as_before : {T : Type 0} (old mid new : Option DiskModel) (r : Result T Stop)
+      → IfKnown old mid (λ before after. LeavesOnly before after (HoldsAsBefore before))
+      → IfSome old (λ known. IsJournal known.seen es) → IfSome old (λ known. MayLeave known known.seen)
+      → OnErr r (IfKnown mid new (λ _. LeavesAsFound secret es)) → OnErr r (IfKnown old new (LeavesAsBefore secret))
+  kept_as_before old mid new (Ok x) opened found sees known = tt
+  kept_as_before old mid new (Err stop) opened found sees known = as_before old mid new opened found sees known
 
 module _ (batches : List Batch) (NetRose DiskRose OutRose : Type 0) (status : ℕ) (held later : Held) (es entries : List Entry)
     (old drive : Option DiskModel) (before after : ConnectionModel) (written later_written : Option (List ℕ)) where

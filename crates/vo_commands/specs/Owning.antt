@@ -4,6 +4,7 @@ use Rattle.std.specs.Prelude.{◌≡◌, ◌⊎◌, ℕ, ◌<◌, List, [], ◌�
 use Rattle.std.specs.Global.{Vec}
 use Rattle.outside.specs.ConnectionModel.{ConnectionModel, open_next}
 use Rattle.outside.specs.DiskModel.{DiskModel, MayLeave}
+use Rattle.outside.specs.Moments.{IfKnown}
 use Rattle.outside.specs.Shelf.{Files}
 use Rattle.vo_spec.specs.declared.tables.Batch.{Batch}
 use Rattle.vo_spec.specs.declared.records.Entry.{Entry}
@@ -13,7 +14,7 @@ use Rattle.owner_state.specs.Held.{Held}
 use Rattle.owner_state.specs.Stepping.{AreStepsTo, IsNoStepAt, first_entry}
 use Rattle.owner_journal.specs.declared.fault.JournalFault.{JournalFault}
 use Rattle.owner_journal.specs.declared.fault.JournalFault.TheVariants as fault
-use Rattle.owner_journal.specs.Resting.{IsAtRest}
+use Rattle.owner_journal.specs.Resting.{HoldsAsBefore, IsAtRest}
 use Rattle.owner_session.specs.Requests.{PutsRequests}
 use Rattle.owner_session.specs.Runs.{snapshot_of}
 use Rattle.owner_session.specs.Sessions.{SessionRuns, SessionIsDone}
@@ -86,6 +87,18 @@ StopsAtFault (fault.Damaged index at) stop =
     (report : Report) × (stop ≡ Refused report) × (output_of report ≡ bad_journal index)
 StopsAtFault fault.Memory stop = stop ≡ Memory
 
+-- What a stop leaves is what one may have left before, or a journal of the same entries; where
+-- reads gave none, it may be one of the entry of version 0.
+abbrev pub LeavesAsBefore : Secret → DiskModel → DiskModel → Type 0
+LeavesAsBefore secret before after = (image : List ℕ) → MayLeave after image
+    → HoldsAsBefore before image
+    ⊎ (IsJournal before.seen [] × IsJournal image (first_entry secret ∷ []))
+
+-- a stop leaves a journal of these entries, or, of none, one of the entry of version 0
+abbrev pub LeavesAsFound : Secret → List Entry → DiskModel → Type 0
+LeavesAsFound secret es drive = (image : List ℕ) → MayLeave drive image
+    → IsJournal image es ⊎ ((es ≡ []) × IsJournal image (first_entry secret ∷ []))
+
 -- an empty journal gets the entry of version 0
 abbrev pub or_first_entry : Secret → List Entry → List Entry
 or_first_entry secret [] = first_entry secret ∷ []
@@ -155,7 +168,7 @@ abbrev pub CommitsFrom : Secret → List Batch → Type 0 → Type 0 → Type 0 
 CommitsFrom secret batches NetRose DiskRose OutRose status drive later_drive before wire written
     after =
     ((stop : Stop) × StopsOpening secret drive stop × (stop ≡ Outside → DiskRose)
-    × WritesOutcome (Err stop) OutRose status written after)
+    × IfKnown drive later_drive (LeavesAsBefore secret) × WritesOutcome (Err stop) OutRose status written after)
     ⊎ ((held : Held) × (es : List Entry) × (opened : Option DiskModel)
     × Opens secret drive opened held es
     × CommitsOnline batches NetRose DiskRose OutRose status held es later_drive before wire written

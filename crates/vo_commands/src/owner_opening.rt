@@ -1,13 +1,14 @@
 //! The owner of a key behind the last entry of its journal.
-ghost use Rattle.std.specs.Prelude.{◌≡◌, ◌<◌, ◌≤◌, [], ◌∷◌, false, length, IfErr, IfOk, IfSome, IsErrOf};
+ghost use Rattle.std.specs.Prelude.{◌≡◌, ◌<◌, ◌≤◌, [], ◌∷◌, false, length, IfErr, IfOk, IfSome, IsErrOf, OnErr};
 ghost use Rattle.std.specs.List.{AllByRecursion};
 ghost use Rattle.outside.specs.FaultRose.{FaultRose};
+ghost use Rattle.outside.specs.Moments.{IfKnown};
 ghost use Rattle.vo_spec.specs.Journals.{FitsEntry};
 ghost use Rattle.owner_state.specs.Stepping.{AreStepsTo, first_entry};
 ghost use Rattle.owner_journal.specs.Entries.{entries_of, has_failed};
 ghost use Rattle.owner_journal.specs.Resting.{IsAtRest};
 ghost use Rattle.vo_commands.specs.Committing.{CanGoOn};
-ghost use Rattle.vo_commands.specs.Owning.{Opens, StopsAtFault, StopsOpening, StopsReplaying, or_first_entry};
+ghost use Rattle.vo_commands.specs.Owning.{LeavesAsBefore, LeavesAsFound, Opens, StopsAtFault, StopsOpening, StopsReplaying, or_first_entry};
 
 use crate::refusals::bad_entry;
 use crate::report::Stop;
@@ -35,6 +36,8 @@ pub fn open_owner<D: Disk>(
         opened.owner (entries_of opened.journal)) }
     ensures can_go_on { IfOk result (λ opened. CanGoOn opened.journal) }
     ensures stopped { IfErr result (StopsOpening key.now (D.drive disk.old)) }
+    ensures kept { OnErr result (IfKnown (D.drive disk.old) (D.drive disk.new)
+        (LeavesAsBefore key.now)) }
     ensures counts { D.faults disk.old ≤ D.faults disk.new }
     ensures cause { IsErrOf result Stop.Outside
         → FaultRose (D.faults disk.old) (D.faults disk.new) }
@@ -75,6 +78,8 @@ fn owner_behind<D: Disk>(
         (IsAtRest (entries_of opened.journal))) }
     ensures can_go_on { IfOk result (λ opened. CanGoOn opened.journal) }
     ensures stopped { IfErr result (StopsReplaying key.now (entries_of journal)) }
+    ensures kept { OnErr result (IfKnown (D.drive disk.old) (D.drive disk.new)
+        (λ _. LeavesAsFound key.now (entries_of journal))) }
     ensures counts { D.faults disk.old ≤ D.faults disk.new }
     ensures cause { IsErrOf result Stop.Outside
         → FaultRose (D.faults disk.old) (D.faults disk.new) }
@@ -105,6 +110,8 @@ fn begin_journal<D: Disk>(
         (IsAtRest (entries_of opened.journal))) }
     ensures can_go_on { IfOk result (λ opened. CanGoOn opened.journal) }
     ensures stopped { IfErr result (StopsReplaying key.now []) }
+    ensures kept { OnErr result (IfKnown (D.drive disk.old) (D.drive disk.new)
+        (λ _. LeavesAsFound key.now (entries_of journal))) }
     ensures counts { D.faults disk.old ≤ D.faults disk.new }
     ensures cause { IsErrOf result Stop.Outside
         → FaultRose (D.faults disk.old) (D.faults disk.new) }
@@ -112,8 +119,9 @@ fn begin_journal<D: Disk>(
     let (owner, first) = Owner::start(alloc, key)?;
     match journal.append(alloc, disk, &first) {
         Ok(()) => Ok(OpenedJournal { owner, journal }),
+        Err(JournalFault::Disk) => Err(Stop::Outside),
         Err(JournalFault::Memory) => Err(Stop::Memory),
-        Err(_) => Err(Stop::Outside),
+        Err(JournalFault::Damaged { .. }) => unreachable!(),
     }
 }
 
