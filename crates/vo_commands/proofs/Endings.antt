@@ -65,9 +65,9 @@ asks_nothing (Some (Audit key journal query reply)) before wire is = is
 asks_nothing (Some (Meet key query first second)) before wire is = is
 
 -- the same of `own`
-pub own_ends_empty : (o : Option Expected) (FilesRose NetRose DiskRose OutRose : Type 0) (drive : Option DiskModel) (net wire : Option ConnectionModel)
+pub own_ends_empty : (o : Option Expected) (FilesRose NetRose DiskRose OutRose : Type 0) (drive : Option DiskModel) (wire : Option ConnectionModel)
     (written : Option (List ℕ))
-    → IfSome o (λ expected. (before : ConnectionModel) → net ≡ Some before
+    → IfSome o (λ expected. (before : ConnectionModel) → wire ≡ Some before
     → OwnEnds expected FilesRose NetRose DiskRose OutRose 4 drive drive before wire written written)
-own_ends_empty None FilesRose NetRose DiskRose OutRose drive net wire written = tt
-own_ends_empty (Some expected) FilesRose NetRose DiskRose OutRose drive net wire written = λ before is. inl (inl (refl, refl))
+own_ends_empty None FilesRose NetRose DiskRose OutRose drive wire written = tt
+own_ends_empty (Some expected) FilesRose NetRose DiskRose OutRose drive wire written = λ before is. inl (inl (refl, refl), refl, is)

@@ -25,7 +25,7 @@ use Rattle.sql_text.specs.Scripts.{IsScript}
 use Rattle.vo_commands.specs.declared.report.Report.{Report}
 use Rattle.vo_commands.specs.declared.report.Stop.{Stop}
 use Rattle.vo_commands.specs.declared.report.Stop.TheVariants.{Refused, Outside, Memory}
-use Rattle.vo_commands.specs.Expected.{Expected, Exactly, OfScript, Owns, Allows, script_limit, with_file, with_seed, with_text}
+use Rattle.vo_commands.specs.Expected.{Expected, Ends, Exactly, OfScript, Owns, Allows, Writes, outside_failure, script_limit, with_file, with_seed, with_text}
 use Rattle.vo_commands.specs.Reports.{GoesOn, ReadsText, WritesOutcome, output_of}
 use Rattle.vo_commands.specs.Texts.{IsRefusedScript}
 use Rattle.vo_commands.specs.Committing.{AreOfVersions, IsJudgement, LeavesWith, entry_forms}
@@ -204,12 +204,12 @@ module _ (batches : List Batch) (NetRose DiskRose OutRose : Type 0) (status : �
   abbrev Last : Snapshot Held Entry
   Last = snapshot_of after later_written later entries
 
-  abbrev Ends : Work Held Batch Entry → List (Deed Held Batch Entry) → (Kept : Type 0) → (Entry → Type 0) → Type 0
-  Ends work deeds Kept KeptWith = SessionEnds work NetRose DiskRose OutRose Kept KeptWith status deeds First Last
+  abbrev EndsSo : Work Held Batch Entry → List (Deed Held Batch Entry) → (Kept : Type 0) → (Entry → Type 0) → Type 0
+  EndsSo work deeds Kept KeptWith = SessionEnds work NetRose DiskRose OutRose Kept KeptWith status deeds First Last
 
   ends_kept : (work : Work Held Batch Entry) (deeds : List (Deed Held Batch Entry)) → AreOfVersions entries → Rests old es
-      → Ends work deeds (Rests old es → Rests drive entries) (λ e. Rests old es → LeavesWith drive entries e)
-      → Ends work deeds (Leaves drive entries) (LeavesWith drive entries) × All (KeepsEntry drive) entries
+      → EndsSo work deeds (Rests old es → Rests drive entries) (λ e. Rests old es → LeavesWith drive entries e)
+      → EndsSo work deeds (Leaves drive entries) (LeavesWith drive entries) × All (KeepsEntry drive) entries
   ends_kept work deeds are rests (inl (k, done)) =
       (inl (leaves_at_rest drive entries are drive (k rests), done), kept_at_rest drive entries are (k rests))
   ends_kept work deeds are rests (inr (inl (rose, k, stops))) =
@@ -325,8 +325,19 @@ module _ (batches : List Batch) (N M D E OutRose : Type 0) (net : N → M) (disk
   pub online_later : (before : ConnectionModel) (later : Option ConnectionModel)
       → CommitsOnline batches N D OutRose status held es drive before later written later_written
       → CommitsOnline batches M E OutRose status held es drive before later written later_written
-  online_later before later (inl (rose, wrote)) = inl (net rose, wrote)
+  online_later before later (inl (rose, leaves, same, wrote)) = inl (net rose, leaves, same, wrote)
   online_later before later (inr (after, is, commits)) = inr (after, is, commits_later (open_next before) after commits)
+
+pub offline : (batches : List Batch) (NetRose DiskRose OutRose : Type 0) (status : ℕ) (held : Held) (es : List Entry) (drive : Option DiskModel)
+    (before : ConnectionModel) (wire later : Option ConnectionModel) (written later_written : Option (List ℕ))
+    → NetRose → Rests drive es → wire ≡ Some before → later ≡ wire → Writes outside_failure OutRose status written later_written
+    → CommitsOnline batches NetRose DiskRose OutRose status held es drive before later written later_written
+offline batches NetRose DiskRose OutRose status held es drive before wire later written later_written rose rests is still wrote =
+    inl (rose, leaves drive rests, still ∙ is, wrote)
+  where
+    leaves : (o : Option DiskModel) → Rests o es → Leaves o es
+    leaves None rests = tt
+    leaves (Some known) rests = λ image left. rest_holds es known rests image left
 
 -- The whole run.
 
@@ -342,11 +353,18 @@ module _ (NetRose DiskRose OutRose : Type 0) (status : ℕ) (drive later_drive :
       → Ended expected FilesRose
   ends_prepared FilesRose secret batches expected prepares commits = λ before is. inr (secret, batches.items, prepares, commits before is)
 
-  ends_stopped : (FilesRose : Type 0) (expected : Expected) (stop : Stop) → ((report : Report) → stop ≡ Refused report → Allows expected (output_of report))
+  stopped : (FilesRose : Type 0) (expected : Expected) (stop : Stop) → ((report : Report) → stop ≡ Refused report → Allows expected (output_of report))
+      → (stop ≡ Outside → FilesRose) → WritesOutcome (Err stop) OutRose status written later_written
+      → Ends expected FilesRose OutRose status written later_written
+  stopped FilesRose expected (Refused report) allows rose wrote = inr (inl (output_of report, allows report refl, wrote))
+  stopped FilesRose expected Outside allows rose wrote = inr (inr (rose refl, wrote))
+  stopped FilesRose expected Memory allows rose wrote = inl wrote
+
+  ends_stopped : (FilesRose : Type 0) (expected : Expected) (stop : Stop) → later_drive ≡ drive → later_wire ≡ wire
+      → ((report : Report) → stop ≡ Refused report → Allows expected (output_of report))
       → (stop ≡ Outside → FilesRose) → WritesOutcome (Err stop) OutRose status written later_written → Ended expected FilesRose
-  ends_stopped FilesRose expected (Refused report) allows rose wrote = λ before is. inl (inr (inl (output_of report, allows report refl, wrote)))
-  ends_stopped FilesRose expected Outside allows rose wrote = λ before is. inl (inr (inr (rose refl, wrote)))
-  ends_stopped FilesRose expected Memory allows rose wrote = λ before is. inl (inl wrote)
+  ends_stopped FilesRose expected stop same still allows rose wrote =
+      λ before is. inl (stopped FilesRose expected stop allows rose wrote, same, still ∙ is)
 
   pub run_prepared : (FilesRose : Type 0) (secret : Secret) (batches : Vec Batch) (script : List ℕ) (o : Option Files)
       → IfSome o (λ known. (secret : Secret) → Prepares (with_file known script script_limit (commitment_in secret)) secret (Ok batches))
@@ -359,19 +377,20 @@ module _ (NetRose DiskRose OutRose : Type 0) (status : ℕ) (drive later_drive :
 
   pub run_unprepared : (FilesRose : Type 0) (secret : Secret) (script : List ℕ) (stop : Stop) (o : Option Files)
       → IfSome o (λ known. (secret : Secret) → Prepares (with_file known script script_limit (commitment_in secret)) secret (Err stop))
-      → (stop ≡ Outside → FilesRose) → WritesOutcome (Err stop) OutRose status written later_written
+      → later_drive ≡ drive → later_wire ≡ wire → (stop ≡ Outside → FilesRose) → WritesOutcome (Err stop) OutRose status written later_written
       → IfSome o (λ known. Ended (with_file known script script_limit (commitment_in secret)) FilesRose)
-  run_unprepared FilesRose secret script stop None prepares rose wrote = tt
-  run_unprepared FilesRose secret script stop (Some known) prepares rose wrote =
+  run_unprepared FilesRose secret script stop None prepares same still rose wrote = tt
+  run_unprepared FilesRose secret script stop (Some known) prepares same still rose wrote =
       let expected = with_file known script script_limit (commitment_in secret) in
-      ends_stopped FilesRose expected stop (λ report is. subst (λ (s : Stop). Prepares expected secret (Err s)) is (prepares secret)) rose wrote
+      ends_stopped FilesRose expected stop same still (λ report is. subst (λ (s : Stop). Prepares expected secret (Err s)) is (prepares secret)) rose wrote
 
   pub run_without_key : {A : Type 0} (view : A → Secret) (FilesRose : Type 0) (seed script : List ℕ) (height : ℕ) (stop : Stop) (o : Option Files)
-      → IfSome o (λ known. GoesOn view (with_seed known seed height) (Err stop)) → (stop ≡ Outside → FilesRose)
+      → IfSome o (λ known. GoesOn view (with_seed known seed height) (Err stop)) → later_drive ≡ drive → later_wire ≡ wire
+      → (stop ≡ Outside → FilesRose)
       → WritesOutcome (Err stop) OutRose status written later_written → IfSome o (λ known. Ended (commitment_expected seed script height known) FilesRose)
-  run_without_key view FilesRose seed script height stop None goes rose wrote = tt
-  run_without_key {A = A} view FilesRose seed script height stop (Some known) goes rose wrote =
-      ends_stopped FilesRose (commitment_expected seed script height known) stop
+  run_without_key view FilesRose seed script height stop None goes same still rose wrote = tt
+  run_without_key {A = A} view FilesRose seed script height stop (Some known) goes same still rose wrote =
+      ends_stopped FilesRose (commitment_expected seed script height known) stop same still
       (λ report is. subst (λ (x : Expected). Allows x (output_of report))
       (sym (subst (λ (s : Stop). GoesOn {A = A} view (with_seed known seed height) (Err s)) is goes
       (λ secret. with_file known script script_limit (commitment_in secret)))) refl) rose wrote
@@ -388,9 +407,9 @@ module _ (NetRose DiskRose OutRose : Type 0) (status : ℕ) (drive later_drive :
         where
           by : (before : ConnectionModel) → OwnEnds expected Before NetRose DiskRose OutRose status drive later_drive before later_wire written later_written
               → OwnEnds expected FilesRose NetRose DiskRose OutRose status drive later_drive before later_wire written later_written
-          by before (inl (inl wrote)) = inl (inl wrote)
-          by before (inl (inr (inl output))) = inl (inr (inl output))
-          by before (inl (inr (inr (rose, wrote)))) = inl (inr (inr (rises rose, wrote)))
+          by before (inl (inl wrote, same, still)) = inl (inl wrote, same, still)
+          by before (inl (inr (inl output), same, still)) = inl (inr (inl output), same, still)
+          by before (inl (inr (inr (rose, wrote)), same, still)) = inl (inr (inr (rises rose, wrote)), same, still)
           by before (inr commits) = inr commits
 
       step : (o : Option Files) → IfSome o (λ known. (rest : Secret → Expected) → with_seed known seed height rest ≡ rest secret)

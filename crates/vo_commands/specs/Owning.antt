@@ -151,13 +151,15 @@ CommitsOver batches NetRose DiskRose OutRose status held es drive wire later_wir
     → (later : ConnectionModel) × (later_wire ≡ Some later)
     × Commits batches NetRose DiskRose OutRose status held es drive before later written after
 
--- no connection was made, or a session was held over the first of those to come
+-- no connection was made, and the journal is as it stood; or a session was held over the first of
+-- those to come
 abbrev pub CommitsOnline : List Batch → Type 0 → Type 0 → Type 0 → ℕ → Held → List Entry
     → Option DiskModel → ConnectionModel → Option ConnectionModel → Option (List ℕ)
     → Option (List ℕ) → Type 0
 CommitsOnline batches NetRose DiskRose OutRose status held es drive before wire written
     after =
-    (NetRose × Writes outside_failure OutRose status written after)
+    (NetRose × Leaves drive es × (wire ≡ Some before)
+    × Writes outside_failure OutRose status written after)
     ⊎ ((later : ConnectionModel) × (wire ≡ Some later) × Commits batches NetRose DiskRose OutRose
     status held es drive (open_next before) later written after)
 
@@ -168,20 +170,22 @@ abbrev pub CommitsFrom : Secret → List Batch → Type 0 → Type 0 → Type 0 
 CommitsFrom secret batches NetRose DiskRose OutRose status drive later_drive before wire written
     after =
     ((stop : Stop) × StopsOpening secret drive stop × (stop ≡ Outside → DiskRose)
-    × IfKnown drive later_drive (LeavesAsBefore secret) × WritesOutcome (Err stop) OutRose status written after)
+    × IfKnown drive later_drive (LeavesAsBefore secret) × (wire ≡ Some before)
+    × WritesOutcome (Err stop) OutRose status written after)
     ⊎ ((held : Held) × (es : List Entry) × (opened : Option DiskModel)
     × Opens secret drive opened held es
     × CommitsOnline batches NetRose DiskRose OutRose status held es later_drive before wire written
     after)
 
--- What a run of `own` ends with: an expected output, before the disk is looked at; or the batches
--- were to be committed.
+-- What a run of `own` ends with: an expected output, and disk and network are as they were; or the
+-- batches were to be committed.
 abbrev pub OwnEnds : Expected → Type 0 → Type 0 → Type 0 → Type 0 → ℕ → Option DiskModel
     → Option DiskModel → ConnectionModel → Option ConnectionModel → Option (List ℕ)
     → Option (List ℕ) → Type 0
 OwnEnds expected FilesRose NetRose DiskRose OutRose status drive later_drive before wire written
     after =
-    Ends expected FilesRose OutRose status written after
+    (Ends expected FilesRose OutRose status written after × (later_drive ≡ drive)
+    × (wire ≡ Some before))
     ⊎ ((secret : Secret) × (batches : List Batch) × IsCommitment expected secret batches
     × CommitsFrom secret batches NetRose DiskRose OutRose status drive later_drive before wire
     written after)

@@ -1,7 +1,8 @@
+use Rattle.std.proofs.Common.{Err, ap, refl}
 use Rattle.outside.specs.FaultRose.{FaultRose}
 use Rattle.owner_journal.specs.Entries.{entries_of}
 use Rattle.owner_session.proofs.SessionLaws.{rose_later}
-use Rattle.vo_commands.proofs.OwnSteps.{connected}
+use Rattle.vo_commands.proofs.OwnSteps.{connected, offline}
 use Rattle.vo_commands.proofs.own.commit_online.Goals as goal
 
 pub returns-in-Ok-clause-ends : goal.returns-in-Ok-clause-ends
@@ -17,3 +18,13 @@ returns-in-Ok-clause-ends g c =
     (g.D.Disk.drive c.hold_session.new.disk) (g.S.Sink.written c.args.out.now) (g.S.Sink.written c.hold_session.new.out)
     before (g.N.Link.wire c.args.net.now) (g.N.Link.wire c.connect.new.self) (g.N.Link.wire c.hold_session.new.net) is c.in-Ok.ensures.ok
     c.hold_session.ensures.commits
+
+pub returns-in-Err-clause-ends : goal.returns-in-Err-clause-ends
+returns-in-Err-clause-ends g c =
+    λ before is.
+    offline c.args.batches.now (FaultRose (g.N.Link.faults c.args.net.now) (g.N.Link.faults c.connect.new.self))
+    (FaultRose (g.D.Disk.faults c.args.disk.now) (g.D.Disk.faults c.args.disk.now))
+    (FaultRose (g.S.Sink.faults c.args.out.now) (g.S.Sink.faults c.write.new.out)) c.write.result c.args.opened.owner
+    (entries_of c.args.opened.journal) (g.D.Disk.drive c.args.disk.now) before (g.N.Link.wire c.args.net.now) (g.N.Link.wire c.connect.new.self)
+    (g.S.Sink.written c.args.out.now) (g.S.Sink.written c.write.new.out) (c.in-Err.ensures.cause refl) c.requires.at_rest is c.in-Err.ensures.err
+    c.write.ensures.wrote

@@ -19,7 +19,7 @@ pub returns-in-Err-clause-serves : goal.returns-in-Err-clause-serves
 returns-in-Err-clause-serves g c = serve_ends_empty _ _ _ _ _ _
 
 pub returns-in-Err-clause-owns : goal.returns-in-Err-clause-owns
-returns-in-Err-clause-owns g c = own_ends_empty _ _ _ _ _ _ _ _ _
+returns-in-Err-clause-owns g c = own_ends_empty _ _ _ _ _ _ _ _
 
 pub returns-in-Err-clause-asks : goal.returns-in-Err-clause-asks
 returns-in-Err-clause-asks g c = λ before is. asks_nothing _ before _ is
