@@ -3,16 +3,17 @@ use Rattle.std.proofs.Common.{◌≡◌, ℕ, ◌<◌, ◌≤◌, List, [], ◌+
 use Rattle.outside.specs.FaultRose.{FaultRose}
 use Rattle.outside.specs.Sink.{added}
 use Rattle.link_frames.specs.Scripts.{Event, IsDone}
+use Rattle.exit_output.specs.Outputs.{Output, Writes, outside_failure}
 use Rattle.owner_session.specs.declared.refusals.RefusalCause.TheVariants as causes
 use Rattle.owner_session.specs.declared.stop.Status.{Status}
 use Rattle.owner_session.specs.declared.stop.Status.TheVariants as statuses
 use Rattle.owner_session.specs.declared.stop.Report.{Report}
 use Rattle.owner_session.specs.declared.stop.Stop.{Stop}
 use Rattle.owner_session.specs.declared.stop.Stop.TheVariants as stop
-use Rattle.owner_session.specs.Endings.{Ending, Done, StoreRefuses, StandsElsewhere, OwnerRefuses, BadAnswer, CutAnswer, Reports, Output, output_of, outside_failure, code_of}
+use Rattle.owner_session.specs.Endings.{Ending, Done, StoreRefuses, StandsElsewhere, OwnerRefuses, BadAnswer, CutAnswer, Reports, output_of, code_of}
 use Rattle.owner_session.specs.Work.{Forms, Judgement, Deed, Work, Input, ends_with, session_on, session}
 use Rattle.owner_session.specs.Runs.{Snapshot, HasWritten, Reaches, Fails, Halts, input_of, lines_of, continuation, UnlessDisk}
-use Rattle.owner_session.specs.Sessions.{Writes, WritesLast, WritesEnding, SessionEnds, SessionRuns, SessionIsDone}
+use Rattle.owner_session.specs.Sessions.{WritesLast, WritesEnding, SessionEnds, SessionRuns, SessionIsDone}
 
 -- Counts that rise.
 

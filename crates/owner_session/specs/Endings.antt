@@ -2,6 +2,7 @@
 use Rattle.std.specs.Prelude.{◌≡◌, ℕ, List, [], ◌∷◌, ◌++◌, codes, decimal, Result, Ok, Err}
 use Rattle.std.specs.Global.{Vec}
 use Rattle.std.specs.declared.alloc.AllocError.{AllocError}
+use Rattle.exit_output.specs.Outputs.{Output, line}
 use Rattle.owner_session.specs.declared.refusals.RefusalCause.{RefusalCause}
 use Rattle.owner_session.specs.declared.refusals.RefusalCause.TheVariants.{Proofs, Command}
 use Rattle.owner_session.specs.declared.stop.Status.{Status}
@@ -20,14 +21,6 @@ pub data Ending : Type 0 where
   OwnerRefuses : (cause : RefusalCause) (lines : List ℕ) → Ending
   BadAnswer : (length : ℕ) → Ending
   CutAnswer : (got : ℕ) → Ending
-
--- an exit status, and what is written last
-pub record Output : Type 0 where
-  pub status : ℕ
-  pub bytes : List ℕ
-
-abbrev pub line : List ℕ → List ℕ
-line text = text ++ 10 ∷ []
 
 abbrev pub number_line : List ℕ → ℕ → List ℕ
 number_line phrase number = line (phrase ++ decimal number)
@@ -52,10 +45,6 @@ output_of (BadAnswer length) = record {
   bytes = number_line (codes "bad frame ") length;
 }
 output_of (CutAnswer got) = record { status = 9; bytes = number_line (codes "cut ") got }
-
--- the outside failed
-abbrev pub outside_failure : Output
-outside_failure = record { status = 3; bytes = line (codes "fault: outside") }
 
 abbrev pub code_of : Status → ℕ
 code_of status.Refused = 1

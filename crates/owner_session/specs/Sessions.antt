@@ -2,17 +2,10 @@
 use Rattle.std.specs.Prelude.{◌≡◌, ◌⊎◌, ℕ, List, [], take, Option, Some}
 use Rattle.outside.specs.Sink.{added}
 use Rattle.link_frames.specs.Scripts.{IsDone, Stops}
-use Rattle.owner_session.specs.Endings.{Ending, Done, Output, output_of, outside_failure}
+use Rattle.exit_output.specs.Outputs.{Output, Writes, line, outside_failure}
+use Rattle.owner_session.specs.Endings.{Ending, Done, output_of}
 use Rattle.owner_session.specs.Work.{Judgement, Deed, Appends, Says, Work, Forms, session}
 use Rattle.owner_session.specs.Runs.{Snapshot, LeadsTo, AreJudgements, IsNext, HasWritten, input_of, lines_of}
-
--- the output is written and its status given; where that fails, a front of it, and 3; where memory
--- runs out, nothing, and 4
-abbrev pub Writes : Output → Type 0 → ℕ → Option (List ℕ) → Option (List ℕ) → Type 0
-Writes output OutRose status before after =
-    ((status ≡ output.status) × (after ≡ added before output.bytes))
-    ⊎ ((status ≡ 3) × OutRose × ((n : ℕ) × (after ≡ added before (take n output.bytes))))
-    ⊎ ((status ≡ 4) × (after ≡ before))
 
 -- the same behind the lines of these deeds
 abbrev pub WritesLast : {S B E : Type 0} → Output → Type 0 → ℕ → List (Deed S B E) → Snapshot S E

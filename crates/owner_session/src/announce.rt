@@ -1,9 +1,8 @@
 //! Writing what a session says.
-ghost use Rattle.std.specs.Prelude.{◌≡◌, ◌≢◌, ◌≤◌, IsErrOf};
+ghost use Rattle.std.specs.Prelude.{◌≤◌, IsErrOf};
 ghost use Rattle.outside.specs.FaultRose.{FaultRose};
 ghost use Rattle.owner_session.specs.Endings.{version_line};
 ghost use Rattle.owner_session.specs.Runs.{PutsLine};
-ghost use Rattle.owner_session.specs.Sessions.{Writes};
 
 use crate::lines::version_line;
 use crate::stop::Stop;
@@ -33,21 +32,5 @@ fn put_line<S: Sink>(out: &mut S, line: &[u8]) -> Result<(), Stop>
         Ok(()) => Ok(()),
         Err(PutFault::Failed) => Err(Stop::OutputFault),
         Err(PutFault::Memory) => Err(Stop::Memory),
-    }
-}
-
-/// Writes the last lines, and gives the exit status that they come with; 3 where the output fails.
-pub fn write_last<S: Sink>(out: &mut S, status: u8, bytes: &[u8]) -> u8
-    ensures wrote { Writes (record { status = status; bytes = bytes.now })
-        (FaultRose (S.faults out.old) (S.faults out.new))
-        result (S.written out.old) (S.written out.new) }
-    ensures counts { S.faults out.old ≤ S.faults out.new }
-    ensures outside { status ≢ 3 → result ≡ 3 → FaultRose (S.faults out.old) (S.faults out.new) }
-    ensures memory { status ≢ 4 → result ≡ 4 → S.written out.new ≡ S.written out.old }
-{
-    match out.put(bytes) {
-        Ok(()) => status,
-        Err(PutFault::Failed) => 3,
-        Err(PutFault::Memory) => 4,
     }
 }

@@ -1,6 +1,7 @@
 //! The lines of a session.
 ghost use Rattle.std.specs.Prelude.{◌≡◌, ◌++◌, IfOk};
-ghost use Rattle.owner_session.specs.Endings.{line, number_line, version_line, IsOfLink, StopsAs, StopsWith, StoreRefuses, StandsElsewhere, BadAnswer, CutAnswer, OwnerRefuses};
+ghost use Rattle.exit_output.specs.Outputs.{line};
+ghost use Rattle.owner_session.specs.Endings.{number_line, version_line, IsOfLink, StopsAs, StopsWith, StoreRefuses, StandsElsewhere, BadAnswer, CutAnswer, OwnerRefuses};
 
 use crate::refusals::Refusal;
 use crate::stop::{Report, Status, Stop};

@@ -9,11 +9,11 @@ ghost use Rattle.owner_session.specs.Work.{session_on};
 ghost use Rattle.owner_session.specs.Requests.{PutsRequests};
 ghost use Rattle.owner_session.specs.Sessions.{SessionRuns, SessionIsDone};
 
-use crate::announce::write_last;
 use crate::catch_up::catch_up;
 use crate::commit::commit_batches;
 use crate::owner::Owner;
 use crate::stop::Stop;
+use exit_output::write_output;
 use outside::{Link, Sink};
 use std::alloc::Global;
 
@@ -64,9 +64,9 @@ pub fn run_session<O: Owner, L: Link, S: Sink>(
 {
     match do_session(alloc, owner, batches, link, out) {
         Ok(()) => 0,
-        Err(Stop::Refused(report)) => write_last(out, report.status.code(), &report.bytes),
-        Err(Stop::LinkFault) => write_last(out, 3, b"fault: outside\n"),
-        Err(Stop::DiskFault) => write_last(out, 3, b"fault: outside\n"),
+        Err(Stop::Refused(report)) => write_output(out, report.status.code(), &report.bytes),
+        Err(Stop::LinkFault) => write_output(out, 3, b"fault: outside\n"),
+        Err(Stop::DiskFault) => write_output(out, 3, b"fault: outside\n"),
         Err(Stop::OutputFault) => 3,
         Err(Stop::Memory) => 4,
     }

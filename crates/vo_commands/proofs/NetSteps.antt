@@ -9,13 +9,14 @@ use Rattle.link_frames.specs.declared.awaits.Awaits.TheVariants.{Reply}
 use Rattle.link_frames.specs.declared.frame_kind.FrameKind.{FrameKind}
 use Rattle.link_frames.specs.declared.frame_kind.FrameKind.TheVariants as kind
 use Rattle.link_frames.specs.Frames.{Coming, Whole, Ended, Cut, Bad, span, first_frame}
+use Rattle.exit_output.specs.Outputs.{Output}
 use Rattle.connections.specs.declared.wire_fault.WireFault.{WireFault}
 use Rattle.connections.specs.declared.wire_fault.WireFault.TheVariants as fault
 use Rattle.connections.specs.Requesting.{body_of, answer_in}
 use Rattle.connections.specs.Fetching.{Fetches}
 use Rattle.vo_commands.specs.declared.report.Stop.{Stop}
 use Rattle.vo_commands.specs.declared.report.Stop.TheVariants.{Refused, Outside, Memory}
-use Rattle.vo_commands.specs.Lines.{Output, store_refusal, bad_frame, cut_off}
+use Rattle.vo_commands.specs.Lines.{store_refusal, bad_frame, cut_off}
 use Rattle.vo_commands.specs.Expected.{Expected, Exactly, AsksOnly, with_answer, with_body, with_connection, with_reply}
 use Rattle.vo_commands.specs.Reports.{GoesOn, StopsWithout, output_of}
 

@@ -9,6 +9,7 @@ use Rattle.outside.specs.ConnectionModel.{ConnectionModel, open_known, open_next
 use Rattle.outside.specs.DiskModel.{Call, DiskModel, LeftSince, MayLeave, now}
 use Rattle.outside.specs.Moments.{IfKnown, LeavesOnly}
 use Rattle.outside.specs.Shelf.{Files}
+use Rattle.exit_output.specs.Outputs.{Writes, outside_failure}
 use Rattle.vo_spec.specs.declared.tables.Batch.{Batch}
 use Rattle.vo_spec.specs.declared.records.Entry.{Entry}
 use Rattle.vo_spec.specs.Secret.{Secret}
@@ -25,7 +26,7 @@ use Rattle.sql_text.specs.Scripts.{IsScript}
 use Rattle.vo_commands.specs.declared.report.Report.{Report}
 use Rattle.vo_commands.specs.declared.report.Stop.{Stop}
 use Rattle.vo_commands.specs.declared.report.Stop.TheVariants.{Refused, Outside, Memory}
-use Rattle.vo_commands.specs.Expected.{Expected, Ends, Exactly, OfScript, Owns, Allows, Writes, outside_failure, script_limit, with_file, with_seed, with_text}
+use Rattle.vo_commands.specs.Expected.{Expected, Ends, Exactly, OfScript, Owns, Allows, script_limit, with_file, with_seed, with_text}
 use Rattle.vo_commands.specs.Reports.{GoesOn, ReadsText, WritesOutcome, output_of}
 use Rattle.vo_commands.specs.Texts.{IsRefusedScript}
 use Rattle.vo_commands.specs.Committing.{AreOfVersions, IsJudgement, LeavesWith, entry_forms}

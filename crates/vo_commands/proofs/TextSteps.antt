@@ -1,5 +1,6 @@
 -- What a fault of a text says of it.
 use Rattle.std.proofs.Common.{◌≡◌, Bool, true, false, List, [], ◌∷◌, Err, refl, sym, subst}
+use Rattle.exit_output.specs.Outputs.{Output}
 use Rattle.vo_spec.specs.declared.tables.Batch.{Batch}
 use Rattle.sql_text.specs.declared.faults.SqlFault.{SqlFault}
 use Rattle.sql_text.specs.declared.faults.SqlFault.TheVariants as fault
@@ -8,7 +9,7 @@ use Rattle.sql_text.specs.Fits.{AllFit}
 use Rattle.owner_state.specs.Sealing.{FitEach}
 use Rattle.vo_commands.specs.declared.report.Stop.{Stop}
 use Rattle.vo_commands.specs.declared.report.Stop.TheVariants.{Refused, Outside, Memory}
-use Rattle.vo_commands.specs.Lines.{Output, sql_output}
+use Rattle.vo_commands.specs.Lines.{sql_output}
 use Rattle.vo_commands.specs.Reports.{ReadsText, Prints, StopsWith}
 use Rattle.vo_commands.specs.Texts.{is_want_of_memory}
 

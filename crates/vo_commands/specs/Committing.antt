@@ -2,6 +2,7 @@
 use Rattle.std.specs.Prelude.{◌≡◌, ◌≢◌, ◌⊎◌, ℕ, ◌+◌, if◌then◌else◌, ◌<◌, false, List, [], ◌∷◌, Option, Some, None, Result, Ok, Err, IfSome, slice_get}
 use Rattle.std.specs.List.{AllByRecursion}
 use Rattle.outside.specs.DiskModel.{DiskModel, MayLeave}
+use Rattle.exit_output.specs.Outputs.{Output}
 use Rattle.vo_spec.specs.declared.tables.Batch.{Batch}
 use Rattle.vo_spec.specs.declared.records.Record.{Record}
 use Rattle.vo_spec.specs.declared.records.Entry.{Entry}
@@ -28,7 +29,7 @@ use Rattle.owner_session.specs.declared.refusals.NoStep.TheVariants.{Refused, Me
 use Rattle.owner_session.specs.Work.{Forms, Judgement, Makes, Refuses}
 use Rattle.store_requests.specs.Bodies.{install_bytes, standing_in}
 use Rattle.vo_store.specs.Calls.{same_record}
-use Rattle.vo_commands.specs.Lines.{Output, owner_refusal}
+use Rattle.vo_commands.specs.Lines.{owner_refusal}
 
 -- How batches and entries stand in frames.
 

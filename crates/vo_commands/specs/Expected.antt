@@ -10,6 +10,7 @@ use Rattle.link_frames.specs.declared.frame_kind.FrameKind.{FrameKind}
 use Rattle.link_frames.specs.declared.frame_kind.FrameKind.TheVariants.{Query as QueryFrame, Refusal}
 use Rattle.link_frames.specs.Frames.{Coming, Whole, Ended, Cut, Bad, first_frame, frame_bytes}
 use Rattle.link_frames.specs.Reading.{IsHalfAsked}
+use Rattle.exit_output.specs.Outputs.{Output, Writes, line, outside_failure}
 use Rattle.vo_spec.specs.declared.signatures.OtsType.TheVariants.{W8}
 use Rattle.vo_spec.specs.declared.tables.Batch.{Batch}
 use Rattle.vo_spec.specs.declared.records.Entry.{Entry}
@@ -35,7 +36,7 @@ use Rattle.owner_state.specs.declared.sealing.SealFault.TheVariants as seal
 use Rattle.owner_state.specs.Sealing.{commands_of, seal_fault}
 use Rattle.vo_words.specs.PlainRequest.{PlainRequest, Keygen, Seal, Own, Answer, Serve, Check, Ask, Audit, Meet}
 use Rattle.sql_text.specs.Scripts.{IsScript}
-use Rattle.vo_commands.specs.Lines.{Output, line, success, refusal, input_refusal, check_output, audit_output, meet_output, bad_journal, command_output, spent_key, store_refusal, bad_frame, cut_off}
+use Rattle.vo_commands.specs.Lines.{success, refusal, input_refusal, check_output, audit_output, meet_output, bad_journal, command_output, spent_key, store_refusal, bad_frame, cut_off}
 use Rattle.vo_commands.specs.Texts.{IsQueryText, IsRefusedQuery, IsRefusedScript}
 
 -- These lines; or what is expected of the query or the script that a text is; or what a relation
@@ -92,10 +93,6 @@ Allows (Meets key q first second) output =
 Allows (Serves key journal count) output =
     (index : ℕ) × IsUnservableAt key journal index × (output ≡ bad_journal index)
 Allows (Owns secret batches) output = ⊥
-
--- the outside failed
-abbrev pub outside_failure : Output
-outside_failure = record { status = 3; bytes = line (codes "fault: outside") }
 
 abbrev pub words_refusal : Output
 words_refusal = input_refusal (codes "words" ∷ [])
@@ -298,14 +295,6 @@ connections_of (Some (Own seed address script height)) = 1
 connections_of (Some (Serve address key journal count)) = count
 connections_of (Some (Ask address key query least)) = 1
 connections_of _ = 0
-
--- What is written after an end with this output: all of it was put; or the output failed, and a
--- front of it was; or memory ran out, and nothing was.
-abbrev pub Writes : Output → Type 0 → ℕ → Option (List ℕ) → Option (List ℕ) → Type 0
-Writes output out_rose status before after =
-    ((status ≡ output.status) × (after ≡ added before output.bytes))
-    ⊎ ((status ≡ 3) × out_rose × ((n : ℕ) × (after ≡ added before (take n output.bytes))))
-    ⊎ ((status ≡ 4) × (after ≡ before))
 
 -- A run ends with an expected output, or the outside failed, or memory ran out.
 abbrev pub Ends : Expected → Type 0 → Type 0 → ℕ → Option (List ℕ) → Option (List ℕ) → Type 0

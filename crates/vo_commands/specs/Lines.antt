@@ -2,6 +2,7 @@
 use Rattle.std.specs.Prelude.{ℕ, List, [], ◌∷◌, ◌++◌, map, flat_map, length, codes, decimal, ◌==◌, if◌then◌else◌, true, false, Result, Ok, Err}
 use Rattle.std.specs.Fmt.{signed_decimal}
 use Rattle.hex.specs.Hex.{encode_lower}
+use Rattle.exit_output.specs.Outputs.{Output, line}
 use Rattle.vo_spec.specs.declared.values.Value.{Value}
 use Rattle.vo_spec.specs.declared.values.Value.TheVariants.{Int, Text, Bool as Truth}
 use Rattle.vo_spec.specs.declared.queries.QueryFault.{QueryFault}
@@ -29,14 +30,6 @@ use Rattle.sql_text.specs.declared.faults.SqlFault.TheVariants as sql
 use Rattle.vo_spec.specs.Records.{record_bytes}
 use Rattle.vo_spec.specs.Replies.{Reply}
 use Rattle.vo_spec.specs.Results.{ref_title}
-
-pub record Output : Type 0 where
-  pub status : ℕ
-  pub bytes : List ℕ
-
--- a line of text
-abbrev pub line : List ℕ → List ℕ
-line text = text ++ 10 ∷ []
 
 -- pieces with a byte between each two
 abbrev pub with_separator : ℕ → List (List ℕ) → List ℕ

@@ -6,6 +6,7 @@ use Rattle.outside.specs.ConnectionModel.{ConnectionModel, open_next}
 use Rattle.outside.specs.DiskModel.{DiskModel, MayLeave}
 use Rattle.outside.specs.Moments.{IfKnown}
 use Rattle.outside.specs.Shelf.{Files}
+use Rattle.exit_output.specs.Outputs.{Writes, outside_failure}
 use Rattle.vo_spec.specs.declared.tables.Batch.{Batch}
 use Rattle.vo_spec.specs.declared.records.Entry.{Entry}
 use Rattle.vo_spec.specs.Journals.{Holds, IsDamaged, IsJournal}
@@ -24,7 +25,7 @@ use Rattle.vo_commands.specs.declared.report.Report.{Report}
 use Rattle.vo_commands.specs.declared.report.Stop.{Stop}
 use Rattle.vo_commands.specs.declared.report.Stop.TheVariants.{Refused, Outside, Memory}
 use Rattle.vo_commands.specs.Lines.{bad_journal}
-use Rattle.vo_commands.specs.Expected.{Expected, OfScript, Owns, Allows, Ends, Writes, outside_failure, script_limit, with_file, with_seed, with_text}
+use Rattle.vo_commands.specs.Expected.{Expected, OfScript, Owns, Allows, Ends, script_limit, with_file, with_seed, with_text}
 use Rattle.vo_commands.specs.Reports.{WritesOutcome, output_of}
 use Rattle.vo_commands.specs.Committing.{IsJudgement, LeavesWith, entry_forms}
 

@@ -1,5 +1,6 @@
 -- Reports as the output of the program.
 use Rattle.std.specs.Prelude.{◌≡◌, ℕ, Bool, true, false, List, Option, Result, Ok, Err}
+use Rattle.exit_output.specs.Outputs.{Output, Writes, outside_failure}
 use Rattle.vo_commands.specs.declared.report.Status.{Status}
 use Rattle.vo_commands.specs.declared.report.Status.TheVariants.{Done, RefusedReply, RefusedInput, Collision, Unsigned, BadJournal, RefusedCommand, BadAnswer}
 use Rattle.vo_commands.specs.declared.report.Report.{Report}
@@ -7,8 +8,8 @@ use Rattle.vo_commands.specs.declared.report.Stop.{Stop}
 use Rattle.vo_commands.specs.declared.report.Stop.TheVariants.{Refused, Outside, Memory}
 use Rattle.connections.specs.declared.wire_fault.WireFault.{WireFault}
 use Rattle.connections.specs.declared.wire_fault.WireFault.TheVariants as fault
-use Rattle.vo_commands.specs.Lines.{Output, store_refusal, bad_frame, cut_off}
-use Rattle.vo_commands.specs.Expected.{Expected, Exactly, Allows, Writes, outside_failure}
+use Rattle.vo_commands.specs.Lines.{store_refusal, bad_frame, cut_off}
+use Rattle.vo_commands.specs.Expected.{Expected, Exactly, Allows}
 
 abbrev pub status_code : Status → ℕ
 status_code Done = 0

@@ -2,6 +2,7 @@
 use Rattle.std.specs.Prelude.{◌≡◌, ◌⊎◌, ℕ, List, [], ◌∷◌, codes, decimal, Option, Some, None, option_map, Result, Ok, Err}
 use Rattle.outside.specs.ConnectionModel.{ConnectionModel}
 use Rattle.outside.specs.Shelf.{Files}
+use Rattle.exit_output.specs.Outputs.{Output, Writes, outside_failure}
 use Rattle.vo_spec.specs.declared.records.Entry.{Entry}
 use Rattle.vo_spec.specs.Journals.{IsJournal}
 use Rattle.vo_spec.specs.Owners.{AreLoadable}
@@ -14,8 +15,8 @@ use Rattle.vo_wire.specs.Answering.{reply_to, next_after}
 use Rattle.vo_words.specs.PlainRequest.{PlainRequest, Serve}
 use Rattle.vo_commands.specs.declared.report.Stop.{Stop}
 use Rattle.vo_commands.specs.declared.report.Stop.TheVariants.{Refused, Outside, Memory}
-use Rattle.vo_commands.specs.Lines.{Output, success, words_line, bad_journal}
-use Rattle.vo_commands.specs.Expected.{Expected, Serves, Allows, Ends, IsUnservableAt, Writes, outside_failure, journal_limit, with_file, with_key}
+use Rattle.vo_commands.specs.Lines.{success, words_line, bad_journal}
+use Rattle.vo_commands.specs.Expected.{Expected, Serves, Allows, Ends, IsUnservableAt, journal_limit, with_file, with_key}
 use Rattle.vo_commands.specs.Reports.{output_of}
 
 abbrev pub service_expected : List ℕ → List ℕ → ℕ → Files → Expected

@@ -1,5 +1,6 @@
 -- The texts that the program takes, and what it prints of others.
 use Rattle.std.specs.Prelude.{◌≡◌, ℕ, Bool, true, false, List}
+use Rattle.exit_output.specs.Outputs.{Output}
 use Rattle.vo_spec.specs.Conditions.{Query}
 use Rattle.sql_text.specs.declared.faults.SqlFault.{SqlFault}
 use Rattle.sql_text.specs.declared.faults.SqlFault.TheVariants as fault
@@ -7,7 +8,7 @@ use Rattle.sql_text.specs.Queries.{query}
 use Rattle.sql_text.specs.Limits.{max_sql_bytes}
 use Rattle.sql_text.specs.Texts.{IsTextOf, HasFault}
 use Rattle.sql_text.specs.Scripts.{HasScriptFault}
-use Rattle.vo_commands.specs.Lines.{Output, sql_output}
+use Rattle.vo_commands.specs.Lines.{sql_output}
 
 -- memory ended while the text was read, which says nothing of the text
 abbrev pub is_want_of_memory : SqlFault → Bool

@@ -1,6 +1,7 @@
 //! Lines of text: words or columns, written at the end of what there is.
 ghost use Rattle.std.specs.Prelude.{◌≡◌, ◌∷◌, ◌++◌, map, flat_map, OnOk};
-ghost use Rattle.vo_commands.specs.Lines.{line, with_separator, words_line, columns_line};
+ghost use Rattle.exit_output.specs.Outputs.{line};
+ghost use Rattle.vo_commands.specs.Lines.{with_separator, words_line, columns_line};
 ghost use Rattle.vo_commands.specs.Words.{word_text};
 
 use crate::piece::{Piece, Word};

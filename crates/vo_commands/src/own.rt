@@ -17,10 +17,11 @@ ghost use Rattle.vo_commands.specs.Owning.{CommitsFrom, CommitsOnline, CommitsOv
 use crate::files::{take_file, take_seed};
 use crate::journal_owner::{JournalOwner, LentDisk};
 use crate::limits::SCRIPT_LIMIT;
-use crate::output::{print_outcome, write};
+use crate::output::print_outcome;
 use crate::owner_opening::{OpenedJournal, open_owner};
 use crate::report::Stop;
 use crate::texts::{batches_in, text_in};
+use exit_output::write_output;
 use lms_sign::SecretKey;
 use outside::{Disk, Net, Shelf, Sink};
 use owner_session::run_session;
@@ -199,7 +200,7 @@ fn commit_online<D: Disk, N: Net, S: Sink>(
 {
     match net.connect(address) {
         Ok(()) => hold_session(alloc, opened, batches, disk, net, out),
-        Err(_) => write(out, 3, b"fault: outside\n"),
+        Err(_) => write_output(out, 3, b"fault: outside\n"),
     }
 }
 

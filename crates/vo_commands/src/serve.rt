@@ -2,16 +2,18 @@
 ghost use Rattle.std.specs.Prelude.{◌≡◌, ◌⊎◌, ℕ, ◌≤◌, [], ◌∷◌, length, Some, IfOk, IfSome, IsErrOf};
 ghost use Rattle.outside.specs.ConnectionModel.{ConnectionModel};
 ghost use Rattle.outside.specs.FaultRose.{FaultRose};
-ghost use Rattle.vo_commands.specs.Expected.{HoldsEach, Writes};
+ghost use Rattle.exit_output.specs.Outputs.{Writes};
+ghost use Rattle.vo_commands.specs.Expected.{HoldsEach};
 ghost use Rattle.vo_commands.specs.Serving.{FailsToListen, IsServedFrom, Loads, LoadsStore, ServeEnds, served_output, service_expected};
 
 use crate::files::{take_file, take_key};
 use crate::limits::JOURNAL_LIMIT;
 use crate::lines::push_words;
-use crate::output::{print_outcome, write};
+use crate::output::print_outcome;
 use crate::piece::Word;
 use crate::refusals::bad_entry;
 use crate::report::Stop;
+use exit_output::write_output;
 use lms_sign::PublicKey;
 use outside::{Net, Shelf, Sink};
 use owner_state::{Ending, read_slots};
@@ -120,7 +122,7 @@ fn serve_store<N: Net, S: Sink>(
 {
     match net.listen(address) {
         Ok(()) => serve_connections(alloc, store, net, out, count),
-        Err(_) => write(out, 3, b"fault: outside\n"),
+        Err(_) => write_output(out, 3, b"fault: outside\n"),
     }
 }
 
@@ -144,7 +146,7 @@ fn serve_connections<N: Net, S: Sink>(
 {
     match serve_all(alloc, &mut store, net, out, count) {
         Ok(()) => write_served(alloc, out, count),
-        Err(ServeFault::Network) => write(out, 3, b"fault: outside\n"),
+        Err(ServeFault::Network) => write_output(out, 3, b"fault: outside\n"),
         Err(ServeFault::Output) => 3,
         Err(ServeFault::Memory) => 4,
     }
@@ -157,7 +159,7 @@ fn write_served<S: Sink>(alloc: Global, out: &mut S, count: u32) -> u8
     ensures outside { result ≡ 3 → FaultRose (S.faults out.old) (S.faults out.new) }
 {
     match served_line(alloc, count) {
-        Ok(line) => write(out, 0, &line),
+        Ok(line) => write_output(out, 0, &line),
         Err(_) => 4,
     }
 }

@@ -33,15 +33,15 @@ returns-in-Err-Refused-clause-known g c =
       session_refused g.O.Owner.IsJudgement g.O.Owner.forms c.args.batches.now
           (FaultRose (g.L.Link.faults c.args.link.now) (g.L.Link.faults c.do_session.new.link))
           (FaultRose (g.O.Owner.faults c.args.owner.now) (g.O.Owner.faults c.do_session.new.owner))
-          (FaultRose (g.S.Sink.faults c.args.out.now) (g.S.Sink.faults c.write_last.new.out))
+          (FaultRose (g.S.Sink.faults c.args.out.now) (g.S.Sink.faults c.write_output.new.out))
           (g.O.Owner.Keeps c.args.owner.now → g.O.Owner.Keeps c.do_session.new.owner)
           (λ (e : g.O.Owner.Entry). g.O.Owner.Keeps c.args.owner.now → g.O.Owner.KeepsWith c.do_session.new.owner e)
           (snapshot_of before (g.S.Sink.written c.args.out.now) (g.O.Owner.state c.args.owner.now) (g.O.Owner.entries c.args.owner.now))
           (snapshot_of r.0 (g.S.Sink.written c.do_session.new.out) (g.O.Owner.state c.do_session.new.owner) (g.O.Owner.entries c.do_session.new.owner))
-          c.in-Err-Refused.field-0 c.in-Err-Refused.report (FaultRose (g.S.Sink.faults c.do_session.new.out) (g.S.Sink.faults c.write_last.new.out)) c.write_last.result c.code.result c.deref.result.now
-          (g.S.Sink.written c.write_last.new.out) c.in-Err-Refused.field-0-is c.code.ensures.value c.deref.ensures.value r.2
+          c.in-Err-Refused.field-0 c.in-Err-Refused.report (FaultRose (g.S.Sink.faults c.do_session.new.out) (g.S.Sink.faults c.write_output.new.out)) c.write_output.result c.code.result c.deref.result.now
+          (g.S.Sink.written c.write_output.new.out) c.in-Err-Refused.field-0-is c.code.ensures.value c.deref.ensures.value r.2
           (λ keeps. unless_disk c.in-Err-Refused.field-0 (stop.Refused c.in-Err-Refused.report) (g.O.Owner.Keeps c.do_session.new.owner) c.in-Err-Refused.field-0-is (c.in-Err-Refused.ensures.keeps keeps))
-          (rose_later (g.S.Sink.faults c.args.out.now) (g.S.Sink.faults c.do_session.new.out) (g.S.Sink.faults c.write_last.new.out) c.in-Err-Refused.ensures.faults.out_counts) c.write_last.ensures.wrote,
+          (rose_later (g.S.Sink.faults c.args.out.now) (g.S.Sink.faults c.do_session.new.out) (g.S.Sink.faults c.write_output.new.out) c.in-Err-Refused.ensures.faults.out_counts) c.write_output.ensures.wrote,
     )
 
 pub returns-in-Err-LinkFault-clause-known : goal.returns-in-Err-LinkFault-clause-known
@@ -53,15 +53,15 @@ returns-in-Err-LinkFault-clause-known g c =
       session_link_fault g.O.Owner.IsJudgement g.O.Owner.forms c.args.batches.now
           (FaultRose (g.L.Link.faults c.args.link.now) (g.L.Link.faults c.do_session.new.link))
           (FaultRose (g.O.Owner.faults c.args.owner.now) (g.O.Owner.faults c.do_session.new.owner))
-          (FaultRose (g.S.Sink.faults c.args.out.now) (g.S.Sink.faults c.write_last-in-Err-LinkFault.new.out))
+          (FaultRose (g.S.Sink.faults c.args.out.now) (g.S.Sink.faults c.write_output-in-Err-LinkFault.new.out))
           (g.O.Owner.Keeps c.args.owner.now → g.O.Owner.Keeps c.do_session.new.owner)
           (λ (e : g.O.Owner.Entry). g.O.Owner.Keeps c.args.owner.now → g.O.Owner.KeepsWith c.do_session.new.owner e)
           (snapshot_of before (g.S.Sink.written c.args.out.now) (g.O.Owner.state c.args.owner.now) (g.O.Owner.entries c.args.owner.now))
           (snapshot_of r.0 (g.S.Sink.written c.do_session.new.out) (g.O.Owner.state c.do_session.new.owner) (g.O.Owner.entries c.do_session.new.owner))
-          c.in-Err-LinkFault.field-0 (FaultRose (g.S.Sink.faults c.do_session.new.out) (g.S.Sink.faults c.write_last-in-Err-LinkFault.new.out)) c.write_last-in-Err-LinkFault.result (g.S.Sink.written c.write_last-in-Err-LinkFault.new.out) c.in-Err-LinkFault.field-0-is r.2
+          c.in-Err-LinkFault.field-0 (FaultRose (g.S.Sink.faults c.do_session.new.out) (g.S.Sink.faults c.write_output-in-Err-LinkFault.new.out)) c.write_output-in-Err-LinkFault.result (g.S.Sink.written c.write_output-in-Err-LinkFault.new.out) c.in-Err-LinkFault.field-0-is r.2
           (c.in-Err-LinkFault.ensures.faults.link_cause (ap (λ (s : Stop). Err s) c.in-Err-LinkFault.field-0-is))
           (λ keeps. unless_disk c.in-Err-LinkFault.field-0 stop.LinkFault (g.O.Owner.Keeps c.do_session.new.owner) c.in-Err-LinkFault.field-0-is (c.in-Err-LinkFault.ensures.keeps keeps))
-          (rose_later (g.S.Sink.faults c.args.out.now) (g.S.Sink.faults c.do_session.new.out) (g.S.Sink.faults c.write_last-in-Err-LinkFault.new.out) c.in-Err-LinkFault.ensures.faults.out_counts) c.write_last-in-Err-LinkFault.ensures.wrote,
+          (rose_later (g.S.Sink.faults c.args.out.now) (g.S.Sink.faults c.do_session.new.out) (g.S.Sink.faults c.write_output-in-Err-LinkFault.new.out) c.in-Err-LinkFault.ensures.faults.out_counts) c.write_output-in-Err-LinkFault.ensures.wrote,
     )
 
 pub returns-in-Err-DiskFault-clause-known : goal.returns-in-Err-DiskFault-clause-known
@@ -73,14 +73,14 @@ returns-in-Err-DiskFault-clause-known g c =
       session_disk_fault g.O.Owner.IsJudgement g.O.Owner.forms c.args.batches.now
           (FaultRose (g.L.Link.faults c.args.link.now) (g.L.Link.faults c.do_session.new.link))
           (FaultRose (g.O.Owner.faults c.args.owner.now) (g.O.Owner.faults c.do_session.new.owner))
-          (FaultRose (g.S.Sink.faults c.args.out.now) (g.S.Sink.faults c.write_last-in-Err-DiskFault.new.out))
+          (FaultRose (g.S.Sink.faults c.args.out.now) (g.S.Sink.faults c.write_output-in-Err-DiskFault.new.out))
           (g.O.Owner.Keeps c.args.owner.now → g.O.Owner.Keeps c.do_session.new.owner)
           (λ (e : g.O.Owner.Entry). g.O.Owner.Keeps c.args.owner.now → g.O.Owner.KeepsWith c.do_session.new.owner e)
           (snapshot_of before (g.S.Sink.written c.args.out.now) (g.O.Owner.state c.args.owner.now) (g.O.Owner.entries c.args.owner.now))
           (snapshot_of r.0 (g.S.Sink.written c.do_session.new.out) (g.O.Owner.state c.do_session.new.owner) (g.O.Owner.entries c.do_session.new.owner))
-          c.in-Err-DiskFault.field-0 (FaultRose (g.S.Sink.faults c.do_session.new.out) (g.S.Sink.faults c.write_last-in-Err-DiskFault.new.out)) c.write_last-in-Err-DiskFault.result (g.S.Sink.written c.write_last-in-Err-DiskFault.new.out) c.in-Err-DiskFault.field-0-is r.2
+          c.in-Err-DiskFault.field-0 (FaultRose (g.S.Sink.faults c.do_session.new.out) (g.S.Sink.faults c.write_output-in-Err-DiskFault.new.out)) c.write_output-in-Err-DiskFault.result (g.S.Sink.written c.write_output-in-Err-DiskFault.new.out) c.in-Err-DiskFault.field-0-is r.2
           (c.in-Err-DiskFault.ensures.faults.disk_cause (ap (λ (s : Stop). Err s) c.in-Err-DiskFault.field-0-is))
-          (rose_later (g.S.Sink.faults c.args.out.now) (g.S.Sink.faults c.do_session.new.out) (g.S.Sink.faults c.write_last-in-Err-DiskFault.new.out) c.in-Err-DiskFault.ensures.faults.out_counts) c.write_last-in-Err-DiskFault.ensures.wrote,
+          (rose_later (g.S.Sink.faults c.args.out.now) (g.S.Sink.faults c.do_session.new.out) (g.S.Sink.faults c.write_output-in-Err-DiskFault.new.out) c.in-Err-DiskFault.ensures.faults.out_counts) c.write_output-in-Err-DiskFault.ensures.wrote,
     )
 
 pub returns-in-Err-OutputFault-clause-known : goal.returns-in-Err-OutputFault-clause-known
@@ -146,11 +146,11 @@ returns-in-Err-Refused-clause-done g c =
       session_done_at_0 g.O.Owner.IsJudgement g.O.Owner.forms c.args.batches.now
           (FaultRose (g.L.Link.faults c.args.link.now) (g.L.Link.faults c.do_session.new.link))
           (FaultRose (g.O.Owner.faults c.args.owner.now) (g.O.Owner.faults c.do_session.new.owner))
-          (FaultRose (g.S.Sink.faults c.args.out.now) (g.S.Sink.faults c.write_last.new.out))
+          (FaultRose (g.S.Sink.faults c.args.out.now) (g.S.Sink.faults c.write_output.new.out))
           (g.O.Owner.Keeps c.args.owner.now → g.O.Owner.Keeps c.do_session.new.owner)
           (λ (e : g.O.Owner.Entry). g.O.Owner.Keeps c.args.owner.now → g.O.Owner.KeepsWith c.do_session.new.owner e)
-          c.write_last.result (snapshot_of before (g.S.Sink.written c.args.out.now) (g.O.Owner.state c.args.owner.now) (g.O.Owner.entries c.args.owner.now))
-          (snapshot_of known.0 (g.S.Sink.written c.write_last.new.out) (g.O.Owner.state c.do_session.new.owner) (g.O.Owner.entries c.do_session.new.owner))
+          c.write_output.result (snapshot_of before (g.S.Sink.written c.args.out.now) (g.O.Owner.state c.args.owner.now) (g.O.Owner.entries c.args.owner.now))
+          (snapshot_of known.0 (g.S.Sink.written c.write_output.new.out) (g.O.Owner.state c.do_session.new.owner) (g.O.Owner.entries c.do_session.new.owner))
           zero known.2,
     )
 
@@ -163,11 +163,11 @@ returns-in-Err-LinkFault-clause-done g c =
       session_done_at_0 g.O.Owner.IsJudgement g.O.Owner.forms c.args.batches.now
           (FaultRose (g.L.Link.faults c.args.link.now) (g.L.Link.faults c.do_session.new.link))
           (FaultRose (g.O.Owner.faults c.args.owner.now) (g.O.Owner.faults c.do_session.new.owner))
-          (FaultRose (g.S.Sink.faults c.args.out.now) (g.S.Sink.faults c.write_last-in-Err-LinkFault.new.out))
+          (FaultRose (g.S.Sink.faults c.args.out.now) (g.S.Sink.faults c.write_output-in-Err-LinkFault.new.out))
           (g.O.Owner.Keeps c.args.owner.now → g.O.Owner.Keeps c.do_session.new.owner)
           (λ (e : g.O.Owner.Entry). g.O.Owner.Keeps c.args.owner.now → g.O.Owner.KeepsWith c.do_session.new.owner e)
-          c.write_last-in-Err-LinkFault.result (snapshot_of before (g.S.Sink.written c.args.out.now) (g.O.Owner.state c.args.owner.now) (g.O.Owner.entries c.args.owner.now))
-          (snapshot_of known.0 (g.S.Sink.written c.write_last-in-Err-LinkFault.new.out) (g.O.Owner.state c.do_session.new.owner) (g.O.Owner.entries c.do_session.new.owner))
+          c.write_output-in-Err-LinkFault.result (snapshot_of before (g.S.Sink.written c.args.out.now) (g.O.Owner.state c.args.owner.now) (g.O.Owner.entries c.args.owner.now))
+          (snapshot_of known.0 (g.S.Sink.written c.write_output-in-Err-LinkFault.new.out) (g.O.Owner.state c.do_session.new.owner) (g.O.Owner.entries c.do_session.new.owner))
           zero known.2,
     )
 
@@ -180,11 +180,11 @@ returns-in-Err-DiskFault-clause-done g c =
       session_done_at_0 g.O.Owner.IsJudgement g.O.Owner.forms c.args.batches.now
           (FaultRose (g.L.Link.faults c.args.link.now) (g.L.Link.faults c.do_session.new.link))
           (FaultRose (g.O.Owner.faults c.args.owner.now) (g.O.Owner.faults c.do_session.new.owner))
-          (FaultRose (g.S.Sink.faults c.args.out.now) (g.S.Sink.faults c.write_last-in-Err-DiskFault.new.out))
+          (FaultRose (g.S.Sink.faults c.args.out.now) (g.S.Sink.faults c.write_output-in-Err-DiskFault.new.out))
           (g.O.Owner.Keeps c.args.owner.now → g.O.Owner.Keeps c.do_session.new.owner)
           (λ (e : g.O.Owner.Entry). g.O.Owner.Keeps c.args.owner.now → g.O.Owner.KeepsWith c.do_session.new.owner e)
-          c.write_last-in-Err-DiskFault.result (snapshot_of before (g.S.Sink.written c.args.out.now) (g.O.Owner.state c.args.owner.now) (g.O.Owner.entries c.args.owner.now))
-          (snapshot_of known.0 (g.S.Sink.written c.write_last-in-Err-DiskFault.new.out) (g.O.Owner.state c.do_session.new.owner) (g.O.Owner.entries c.do_session.new.owner))
+          c.write_output-in-Err-DiskFault.result (snapshot_of before (g.S.Sink.written c.args.out.now) (g.O.Owner.state c.args.owner.now) (g.O.Owner.entries c.args.owner.now))
+          (snapshot_of known.0 (g.S.Sink.written c.write_output-in-Err-DiskFault.new.out) (g.O.Owner.state c.do_session.new.owner) (g.O.Owner.entries c.do_session.new.owner))
           zero known.2,
     )
 

@@ -24,7 +24,7 @@ returns-in-Err-clause-ends g c =
     λ before is.
     offline c.args.batches.now (FaultRose (g.N.Link.faults c.args.net.now) (g.N.Link.faults c.connect.new.self))
     (FaultRose (g.D.Disk.faults c.args.disk.now) (g.D.Disk.faults c.args.disk.now))
-    (FaultRose (g.S.Sink.faults c.args.out.now) (g.S.Sink.faults c.write.new.out)) c.write.result c.args.opened.owner
+    (FaultRose (g.S.Sink.faults c.args.out.now) (g.S.Sink.faults c.write_output.new.out)) c.write_output.result c.args.opened.owner
     (entries_of c.args.opened.journal) (g.D.Disk.drive c.args.disk.now) before (g.N.Link.wire c.args.net.now) (g.N.Link.wire c.connect.new.self)
-    (g.S.Sink.written c.args.out.now) (g.S.Sink.written c.write.new.out) (c.in-Err.ensures.cause refl) c.requires.at_rest is c.in-Err.ensures.err
-    c.write.ensures.wrote
+    (g.S.Sink.written c.args.out.now) (g.S.Sink.written c.write_output.new.out) (c.in-Err.ensures.cause refl) c.requires.at_rest is c.in-Err.ensures.err
+    c.write_output.ensures.wrote
