@@ -7,6 +7,7 @@ import os
 import re
 
 import forms
+from memory_runs import image_with
 from vo_ref import lms
 from vo_ref.audit import read_owned
 from vo_ref.catalog import catalog_digest, read_catalog, read_record
@@ -89,17 +90,6 @@ def append_rest(disk, journal, entries):
     except JournalFault:
         pass
     return len(journal.entries())
-
-
-def image_with(moment, lost):
-    """The image that lost bytes make: they stand where a write was begun and past the old end, as far as writes reach."""
-    down, ranges = moment
-    furthest = max([len(down), *(end for _, end in ranges)])
-    image = bytearray(down) + lost[len(down):furthest]
-    for at, end in ranges:
-        for place in range(at, min(end, len(lost), len(image))):
-            image[place] = lost[place]
-    return bytes(image)
 
 
 def found_text(image, data, entries):

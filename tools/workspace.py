@@ -6,12 +6,11 @@ import sys
 TOP = os.path.dirname(os.path.dirname(os.path.abspath(__file__)))
 
 # What is built: all that docs/FORMATS.md has. The other implementation counts its own steps, of
-# which these are the first 7 (tables, queries and joins, signed versions, an owner with roots alone,
-# and the commands keygen, seal, answer, check and audit) and the 12th (the command meet). Of the 8th
-# the commands serve and ask are built. Still to come are an owner who commits to a store, NULL,
-# indexes and totals.
-STAGE = "7+12"
-BUILT_EARLY = ("ask", "serve")
+# which these are the first 8 (tables, queries and joins, signed versions, an owner with roots alone,
+# the commands keygen, seal, answer, check and audit, and over a network serve, ask and own), the
+# 12th (the command meet) and the 13th (own brings a store up to its journal, whatever it lacks).
+# Still to come are answers of older versions, NULL, indexes and totals.
+STAGE = "8+12+13"
 
 # It signs what comparisons and benches make, one journal after the other: nothing that is kept may
 # be signed by it.
@@ -46,6 +45,3 @@ def load_reference(tool):
     os.environ["PYTHONPATH"] = REFERENCE
     sys.dont_write_bytecode = True
     sys.path.insert(0, REFERENCE)
-    from vo_ref import cli
-    for command in BUILT_EARLY:
-        cli.COMMAND_SINCE[command] = 1

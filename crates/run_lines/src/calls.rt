@@ -2,10 +2,11 @@
 use crate::changes::run_over_changes;
 use crate::folder::{Attempt, Folder, RunEnd};
 use crate::line::{Frame, Line, Splice, read_line};
+use crate::owning::run_with_disk;
 use line_pieces::NoAnswer;
 use std::alloc::Global;
 use std::io;
-use vo_words::{Command, Request, read_words};
+use vo_words::{Command, Commitment, Request, Service, read_words};
 
 /// The answer to a line.
 pub fn answer(alloc: Global, folder: &mut Folder, line: &str) -> io::Result<String> {
@@ -26,6 +27,7 @@ fn answer_line(alloc: Global, folder: &mut Folder, line: &str) -> Result<String,
         Line::Frame(name, frame) => keep_frame(alloc, folder, name, &frame),
         Line::Run(attempt) => run_once(alloc, folder, attempt),
         Line::Talk(attempt) => run_with_peer(alloc, folder, attempt),
+        Line::Own(owning) => run_with_disk(alloc, folder, owning),
         Line::Make(name, attempt) => run_and_keep(alloc, folder, name, attempt),
         Line::Each(change, name, words) => run_over_changes(alloc, folder, change, &name, &words),
         Line::Words(words) => request_text(alloc, &words),
@@ -43,12 +45,26 @@ fn request_text(alloc: Global, words: &[String]) -> Result<String, NoAnswer> {
 fn request_form(alloc: Global, request: Request<'_>) -> Result<String, NoAnswer> {
     match request {
         Request::Command(command) => command_form(alloc, command),
-        Request::Serve(service) => {
-            let (address, key) = (service.address, service.key);
-            let (journal, count) = (service.journal, service.count);
-            Ok(format!(in alloc; "(serve {address:?} {key:?} {journal:?} {count})")?)
-        }
+        Request::Own(commitment) => commitment_form(alloc, commitment),
+        Request::Serve(service) => service_form(alloc, service),
     }
+}
+
+fn commitment_form(alloc: Global, commitment: Commitment<'_>) -> Result<String, NoAnswer> {
+    let Commitment {
+        seed,
+        address,
+        script,
+        height,
+    } = commitment;
+    let height = height.number();
+    Ok(format!(in alloc; "(own {seed:?} {address:?} {script:?} {height})")?)
+}
+
+fn service_form(alloc: Global, service: Service<'_>) -> Result<String, NoAnswer> {
+    let (address, key) = (service.address, service.key);
+    let (journal, count) = (service.journal, service.count);
+    Ok(format!(in alloc; "(serve {address:?} {key:?} {journal:?} {count})")?)
 }
 
 /// The command and its words in quotes, and what its option gives.
@@ -152,10 +168,14 @@ fn run_once(alloc: Global, folder: &Folder, attempt: Attempt) -> Result<String, 
     end_text(alloc, &end)
 }
 
-/// The same, and what was put on the connection.
 fn run_with_peer(alloc: Global, folder: &Folder, attempt: Attempt) -> Result<String, NoAnswer> {
     let end = folder.run(alloc, attempt)?;
-    let text = end_text(alloc, &end)?;
+    talk_text(alloc, &end)
+}
+
+/// What a run ended with, and what was put on its connections.
+pub fn talk_text(alloc: Global, end: &RunEnd) -> Result<String, NoAnswer> {
+    let text = end_text(alloc, end)?;
     let digits = hex::encode(alloc, end.put.as_slice())?;
     Ok(format!(in alloc; "{text} put {digits}")?)
 }

@@ -1,5 +1,5 @@
 //! Files in memory, and runs of the program over them.
-use outside::{FailAt, Failure, MemDisk, MemNet, MemShelf, MemSink, NamedFile, Never};
+use outside::{Disk, FailAt, Failure, MemDisk, MemNet, MemShelf, MemSink, NamedFile, Never};
 use std::alloc::{AllocError, Global};
 use vo_commands::run;
 
@@ -58,12 +58,39 @@ impl Folder {
         None
     }
 
+    /// The name of the file that has these bytes, the latest one of several.
+    pub fn name_of(&self, bytes: &[u8]) -> Option<&str> {
+        for file in &self.files {
+            if self.find(&file.name).is_some_and(|found| found == bytes) {
+                return Some(file.name.as_str());
+            }
+        }
+        None
+    }
+
+    /// A run with nothing on its disk.
     pub fn run(&self, alloc: Global, attempt: Attempt) -> Result<RunEnd, AllocError> {
+        self.run_on(alloc, attempt, &mut empty_disk(alloc)?)
+    }
+
+    pub fn run_on<D: Disk>(
+        &self,
+        alloc: Global,
+        attempt: Attempt,
+        disk: &mut D,
+    ) -> Result<RunEnd, AllocError> {
         let files = copies(alloc, &self.files)?;
         let mut shelf = MemShelf::new(files, FailAt::new(attempt.take_failures));
         let mut net = self.net_to(alloc, attempt.peer)?;
         let put_failures = FailAt::new(attempt.put_failures);
-        run_over(alloc, &attempt.words, &mut shelf, &mut net, put_failures)
+        run_over(
+            alloc,
+            &attempt.words,
+            &mut shelf,
+            disk,
+            &mut net,
+            put_failures,
+        )
     }
 
     /// A network with the connections of this peer, if there is one.
@@ -95,23 +122,28 @@ impl Folder {
             alloc,
             words,
             &mut shelf,
+            &mut empty_disk(alloc)?,
             &mut net,
             FailAt::new(Vec::new(alloc)),
         )
     }
 }
 
-/// Runs the program over these, with nothing on its disk.
-fn run_over(
+fn empty_disk(alloc: Global) -> Result<MemDisk<Never>, AllocError> {
+    MemDisk::new(alloc, Vec::new(alloc), Never)
+}
+
+/// Runs the program over these.
+fn run_over<D: Disk>(
     alloc: Global,
     words: &[String],
     shelf: &mut MemShelf<FailAt>,
+    disk: &mut D,
     net: &mut MemNet<FailAt>,
     put_failures: FailAt,
 ) -> Result<RunEnd, AllocError> {
-    let mut disk = MemDisk::new(alloc, Vec::new(alloc), Never)?;
     let mut out = MemSink::new(alloc, put_failures);
-    let status = run(alloc, words, shelf, &mut disk, net, &mut out);
+    let status = run(alloc, words, shelf, disk, net, &mut out);
     Ok(RunEnd {
         status,
         written: Vec::from_slice(alloc, out.written())?,

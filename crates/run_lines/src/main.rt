@@ -1,4 +1,4 @@
-//! Runs the program for lines of standard input, over files and output in memory, for comparisons.
+//! Runs the program for lines of standard input, over what is outside in memory, for comparisons.
 //!
 //! A line is a word and what it is asked of. `keep NAME BYTES` keeps a file, and `splice NAME FROM
 //! AT CUT BYTES` one that is the file FROM with these bytes in the place of CUT others from AT on;
@@ -14,6 +14,14 @@
 //! WORDS` for the file with the lowest bit of each of its bytes turned. `words WORDS` says what the
 //! words ask for.
 //!
+//! `own FILE NAMES PIECE WORDS` is a `talk` with a disk that holds the file FILE, if it is there,
+//! which is then what the disk holds behind the run. It says besides how many calls of the disk
+//! were made, and what is there: `=` and the name of the file with these bytes, the latest kept of
+//! several, or else the bytes. `fail_own CALL AFTER FILE NAMES PIECE WORDS` does so where the call
+//! of the disk with this number fails, a write behind so many bytes, and `crash_own MOMENT LOST
+//! FILE NAMES PIECE WORDS` where the file is what a crash behind so many writes and syncs leaves,
+//! with these bytes in the place of those that are lost.
+//!
 //! Bytes are in hexadecimal, in pieces with a blank between; digits of a piece that stands several
 //! times are written as `DIGITS*COUNT`. Each of the words is such a piece. Output is said as a text
 //! in quotes, if it is one, or else in hexadecimal. Names have `+` between each two. Of many runs
@@ -22,8 +30,10 @@
 
 mod calls;
 mod changes;
+mod counted_disk;
 mod folder;
 mod line;
+mod owning;
 mod pieces;
 
 use calls::answer;

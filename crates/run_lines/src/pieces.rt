@@ -30,6 +30,13 @@ pub fn take_number(pieces: &mut Pieces<'_>) -> Result<usize, NoAnswer> {
     piece.parse::<usize>().map_err(|_| NoAnswer::NoSuchLine)
 }
 
+/// The bytes of the next piece.
+pub fn take_piece(alloc: Global, pieces: &mut Pieces<'_>) -> Result<Vec<u8>, NoAnswer> {
+    let mut bytes = Vec::new(alloc);
+    put_piece(alloc, &mut bytes, pieces.next().unwrap_or(""))?;
+    Ok(bytes)
+}
+
 /// The bytes of all further pieces, joined.
 pub fn take_bytes(alloc: Global, pieces: &mut Pieces<'_>) -> Result<Vec<u8>, NoAnswer> {
     let mut bytes = Vec::new(alloc);
