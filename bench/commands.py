@@ -1,5 +1,5 @@
 """Commands on a table of numbers and names, as text, and the blocks of SHA-256 that each takes by its proof."""
-from costs import inner_blocks, leaf_blocks, proofs_and_rest, row_blocks
+from costs import blocks, inner_blocks, leaf_blocks, proofs_and_rest, row_blocks
 from replies import number_at, row_part
 
 CREATE = "CREATE TABLE t (id BIGINT, name TEXT, PRIMARY KEY (id))"
@@ -119,6 +119,21 @@ def command_blocks(command, root):
     if kind == "update":
         return row_blocks(1) + path_blocks(root, key)
     return removal_blocks(root, key)
+
+
+def open_blocks(node):
+    """All open nodes of a proof as it came."""
+    below = sum(open_blocks(child) for child in node.children or [] if child is not None)
+    return below + node.blocks(node.count)
+
+
+def followed_blocks(commands, entry):
+    """Those of the proofs' nodes, and the rows that are open there, before and after each command."""
+    needed = 0
+    for command, root in zip(commands, proofs_of(entry)):
+        opened = blocks(2 + 32) if command[0] == "update" else 0
+        needed += open_blocks(root) + opened + command_blocks(command, root)
+    return needed
 
 
 # -- batches
