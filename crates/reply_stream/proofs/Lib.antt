@@ -1,0 +1,8 @@
+pub mod Locals
+pub mod HeadLaws
+pub mod HeadPieces
+pub mod EndedTrees
+pub mod TreesLaws
+pub mod TreesPieces
+pub mod SameReaders
+pub mod PartLaws
