@@ -1,5 +1,5 @@
 -- The fields of a head, one after another: what comes of a state and a field in front.
-use Rattle.std.proofs.Common.{◌≡◌, ℕ, ◌<◌, ◌≤◌, Bool, true, false, leb, ltb, List, [], ◌∷◌, ◌++◌, length, take, drop, Option, Some, None, Result, Ok, Err, refl, sym, ap, ◌∙◌, arith, inl, inr}
+use Rattle.std.proofs.Common.{◌≡◌, ℕ, ◌<◌, ◌≤◌, Bool, true, false, leb, ltb, List, ◌++◌, length, take, Option, Some, None, Result, Ok, Err, refl, sym, ap, ◌∙◌, arith, inl, inr}
 use Rattle.std.specs.Prelude.{IfOk}
 use Rattle.std.specs.declared.alloc.AllocError.{AllocError}
 use Rattle.std.proofs.lemmas.Bool.{cases_Bool, ltb-false, le-ltb, lt-ltb, le-leb, lt-leb}
@@ -12,18 +12,18 @@ use Rattle.row_bytes.specs.declared.read_fault.ReadFault.{ReadFault}
 use Rattle.row_bytes.specs.declared.read_fault.ReadFault.TheVariants.{BadForm, Memory}
 use Rattle.row_bytes.specs.Reading.{bytes_at, u32_at}
 use Rattle.row_bytes.specs.Fields.{◌>>=◌, where_true, block_at, whole, ReadsAs}
-use Rattle.batch_format.specs.BatchReading.{Reader, one}
 use Rattle.version_record.specs.Reading.{catalog_at}
 use Rattle.vo_format.specs.Reading.{signature_at, catalog_block_at}
-use Rattle.tree_stream.proofs.Binds.{bind_assoc, bind_same, bind_none}
+use Rattle.tree_stream.proofs.Binds.{bind_assoc, bind_none}
 use Rattle.reply_stream.specs.ReplyHeads.{ReplyHead}
 use Rattle.reply_stream.specs.declared.head_state.HeadState.{HeadState}
 use Rattle.reply_stream.specs.declared.head_state.HeadState.TheVariants.{Front, SignatureLength, Signature, CatalogLength, Catalog as CatalogBytes, Complete, Invalid}
 use Rattle.reply_stream.specs.declared.head_state.SignatureField.{SignatureField}
 use Rattle.reply_stream.specs.declared.head_state.SignedRecord.{SignedRecord}
 use Rattle.reply_stream.specs.declared.head_state.CatalogField.{CatalogField}
-use Rattle.reply_stream.specs.Heads.{head, front_at, signed_head_at, head_at, catalog_of_size, signature_of_size, rest_of_head, Yields}
+use Rattle.reply_stream.specs.Heads.{max_catalog, head, front_at, signed_head_at, head_at, catalog_of_size, signature_of_size, rest_of_head, Yields}
 use Rattle.reply_stream.specs.HeadFields.{field_size}
+use Rattle.reply_stream.proofs.CatalogSizes.{too_long_for_catalog}
 use Rattle.reply_stream.proofs.Locals.{front_local, bytes_local, token_read, too_few}
 
 -- Tokens.
@@ -128,6 +128,17 @@ catalog_read token rest len =
 abbrev with_catalog : SignedRecord → Catalog × List ℕ → Option (ReplyHead × List ℕ)
 with_catalog signed c = Some (head signed.rec signed.signature c.0, c.1)
 
+no_catalog_so_long : (n : ℕ) (bytes : List ℕ) → max_catalog < n → catalog_of_size n bytes ≡ None
+unfolding bytes_at
+no_catalog_so_long n bytes long =
+    elim (cases_Bool (ltb (length bytes) n)) [
+      | inl t ↦ rw t refl
+      | inr f ↦
+          let len : length (take n bytes) ≡ n = length-take-le n bytes (ltb-false (length bytes) n f) in
+          let none : whole (catalog_at (take n bytes)) ≡ None = too_long_for_catalog (take n bytes) (omega (arith, len, long)) in
+          rw (f, none) refl
+    ]
+
 pub catalog_length_step : (signed : SignedRecord) (field : CatalogField) (token rest : List ℕ) → length token ≡ 4 → field.signed ≡ signed → field.size ≡ u32_of token
     → rest_of_head (CatalogBytes field) rest ≡ rest_of_head (CatalogLength signed) (token ++ rest)
 unfolding rest_of_head
@@ -135,6 +146,11 @@ catalog_length_step signed field token rest len same size =
     ap (λ (s : SignedRecord). catalog_of_size field.size rest >>= with_catalog s) same
     ∙ ap (λ (n : ℕ). catalog_of_size n rest >>= with_catalog signed) size
     ∙ sym (ap (λ (o : Option (Catalog × List ℕ)). o >>= with_catalog signed) (catalog_read token rest len))
+
+pub no_catalog_length : (signed : SignedRecord) (token rest : List ℕ) → length token ≡ 4 → max_catalog < u32_of token → rest_of_head Invalid rest ≡ rest_of_head (CatalogLength signed) (token ++ rest)
+unfolding rest_of_head
+no_catalog_length signed token rest len long =
+    sym (ap (λ (o : Option (Catalog × List ℕ)). o >>= with_catalog signed) (catalog_read token rest len ∙ no_catalog_so_long (u32_of token) rest long))
 
 catalog_whole : (n : ℕ) (token rest : List ℕ) → length token ≡ n → catalog_of_size n (token ++ rest) ≡ (whole (catalog_at token) >>= λ c. Some (c, rest))
 catalog_whole n token rest len =

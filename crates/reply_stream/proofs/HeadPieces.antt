@@ -1,9 +1,8 @@
 -- Pieces of a head: bytes that are held, and fields that are taken of them.
-use Rattle.std.proofs.Common.{◌≡◌, ℕ, ◌<◌, ◌≤◌, List, [], ◌∷◌, ◌++◌, length, Option, Some, None, Result, Ok, Err, refl, sym, ap, subst, ◌∙◌, append_assoc, append-nil, arith, inl, inr, ◌⊎◌}
-use Rattle.std.specs.Prelude.{IfOk, OnErr, option_map}
+use Rattle.std.proofs.Common.{◌≡◌, ℕ, ◌≤◌, List, [], ◌++◌, length, Option, Some, None, Result, Ok, Err, refl, sym, ap, subst, ◌∙◌, append_assoc, append-nil, arith, inl, inr, ◌⊎◌}
+use Rattle.std.specs.Prelude.{IfOk, OnErr}
 use Rattle.std.specs.Borrow.{Bor}
 use Rattle.std.specs.declared.alloc.AllocError.{AllocError}
-use Rattle.std.proofs.lemmas.List.{length-append}
 use Rattle.batch_format.proofs.ReaderLaws.{some_is}
 use Rattle.reply_stream.specs.ReplyHeads.{ReplyHead}
 use Rattle.reply_stream.specs.declared.head_state.HeadState.{HeadState}
@@ -78,19 +77,17 @@ unfolding rest_of_head
 nothing_after (Ok left) state held is = tt
 nothing_after (Err e) state held is = λ more. ap (λ (s : HeadState). rest_of_head s (held ++ more)) is
 
-abbrev pub head_in : ReplyHead × List ℕ → ReplyHead
-head_in end = end.0
-
-pub end_short : (stream : HeadStream) (size : ℕ) → field_size stream.state ≡ Some size → None ≡ option_map head_in (head_of stream [])
+pub end_short : (stream : HeadStream) (size : ℕ) → field_size stream.state ≡ Some size → head_of stream [] ≡ None
 unfolding head_of
 end_short stream size is =
-    sym (ap (option_map head_in)
-    (ap (rest_of_head stream.state) (append-nil stream.held.items) ∙ short_none stream.state stream.held.items size is (stream.short size is)))
+    ap (rest_of_head stream.state) (append-nil stream.held.items) ∙ short_none stream.state stream.held.items size is (stream.short size is)
 
-pub end_complete : (stream : HeadStream) (found : ReplyHead) → stream.state ≡ Complete found → Some found ≡ option_map head_in (head_of stream [])
+pub end_complete : (stream : HeadStream) (found : ReplyHead) → stream.state ≡ Complete found → (more : List ℕ) → head_of stream more ≡ Some (found, more)
 unfolding head_of rest_of_head
-end_complete stream found is = sym (ap (λ (s : HeadState). option_map head_in (rest_of_head s (stream.held.items ++ []))) is)
+end_complete stream found is more =
+    ap (λ (s : HeadState). rest_of_head s (stream.held.items ++ more)) is
+    ∙ ap (λ (held : List ℕ). rest_of_head (Complete found) (held ++ more)) (stream.kept (ap field_size is))
 
-pub end_invalid : (stream : HeadStream) → stream.state ≡ Invalid → None ≡ option_map head_in (head_of stream [])
+pub end_invalid : (stream : HeadStream) → stream.state ≡ Invalid → head_of stream [] ≡ None
 unfolding head_of rest_of_head
-end_invalid stream is = sym (ap (λ (s : HeadState). option_map head_in (rest_of_head s (stream.held.items ++ []))) is)
+end_invalid stream is = ap (λ (s : HeadState). rest_of_head s (stream.held.items ++ [])) is

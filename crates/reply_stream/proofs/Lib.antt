@@ -1,4 +1,5 @@
 pub mod Locals
+pub mod CatalogSizes
 pub mod HeadLaws
 pub mod HeadPieces
 pub mod EndedTrees

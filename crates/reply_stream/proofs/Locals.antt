@@ -1,7 +1,7 @@
 -- Readers that take so many bytes: they take them whatever comes behind.
-use Rattle.std.proofs.Common.{◌≡◌, ℕ, ◌+◌, ◌-◌, ◌<◌, ◌≤◌, Bool, true, false, ltb, List, [], ◌∷◌, ◌++◌, length, take, drop, Option, Some, None, refl, sym, ap, ◌∙◌, append_assoc, arith, inl, inr}
+use Rattle.std.proofs.Common.{◌≡◌, ℕ, ◌+◌, ◌<◌, ◌≤◌, Bool, true, false, ltb, List, [], ◌∷◌, ◌++◌, length, take, drop, Option, Some, None, refl, sym, ap, ◌∙◌, arith, inl, inr}
 use Rattle.std.specs.Prelude.{bytes_eq, codes, if◌then◌else◌}
-use Rattle.std.proofs.lemmas.Bool.{cases_Bool, le-ltb, lt-ltb, ltb-false}
+use Rattle.std.proofs.lemmas.Bool.{cases_Bool, le-ltb, ltb-false}
 use Rattle.std.proofs.lemmas.List.{take-append-le, drop-append-le, length-drop, length-append}
 use Rattle.vo_spec.specs.Bytes.{u64_of}
 use Rattle.row_bytes.specs.Reading.{bytes_at, u64_at}
@@ -21,7 +21,7 @@ pub record IsLocal {A : Type 0} (read : Reader A) (n : ℕ) : Type 0 where
   pub rest : (a : List ℕ) (x : A) (r : List ℕ) → read a ≡ Some (x, r) → length r + n ≡ length a
 
 -- so many bytes, as a function sees them
-abbrev seen_at : {A : Type 0} → ℕ → (List ℕ → A) → Reader A
+abbrev pub seen_at : {A : Type 0} → ℕ → (List ℕ → A) → Reader A
 seen_at n see bytes = if ltb (length bytes) n then None else Some (see (take n bytes), drop n bytes)
 
 seen_local : {A : Type 0} (n : ℕ) (see : List ℕ → A) → IsLocal (seen_at n see) n

@@ -1,5 +1,5 @@
 -- Reading the head and then the trees is reading the reply.
-use Rattle.std.proofs.Common.{◌≡◌, ℕ, List, [], ◌∷◌, Option, Some, None, refl, sym, ap, subst, ◌∙◌, append-nil}
+use Rattle.std.proofs.Common.{◌≡◌, ℕ, List, [], ◌∷◌, Option, Some, None, refl, sym, ap, ◌∙◌, append-nil}
 use Rattle.std.specs.Prelude.{codes, option_map}
 use Rattle.vo_spec.specs.declared.records.Record.{Record}
 use Rattle.vo_spec.specs.declared.records.Catalog.{Catalog}
@@ -9,8 +9,7 @@ use Rattle.vo_spec.specs.Replies.{Reply, IsReply, reply_bytes}
 use Rattle.vo_spec.specs.Trees.{RowTree}
 use Rattle.row_bytes.specs.Reading.{byte_at}
 use Rattle.row_bytes.specs.Fields.{◌>>=◌, word_at, times, whole}
-use Rattle.batch_format.specs.BatchReading.{Reader, one}
-use Rattle.batch_format.proofs.ReaderLaws.{bound, some_is}
+use Rattle.batch_format.proofs.ReaderLaws.{some_is}
 use Rattle.version_record.specs.Reading.{record_at}
 use Rattle.version_record.proofs.RecordLaws.{whole_is}
 use Rattle.vo_format.specs.Reading.{tree_at as reply_tree_at, signature_at, catalog_block_at, counted_trees_at, plain_reply, reply_at}
@@ -20,9 +19,9 @@ use Rattle.tree_stream.specs.declared.target.Target.{Target}
 use Rattle.tree_stream.proofs.Binds.{bind_assoc, bind_same}
 use Rattle.reply_stream.specs.ReplyHeads.{ReplyHead}
 use Rattle.reply_stream.specs.declared.trees_summary.TreesSummary.{TreesSummary}
-use Rattle.reply_stream.specs.Heads.{head, front_at, signed_head_at, head_at}
+use Rattle.reply_stream.specs.Heads.{head, front_at, head_at}
 use Rattle.reply_stream.specs.ReplyTrees.{trees_summary, trees_at}
-use Rattle.reply_stream.specs.ReplyParts.{Parts, reply_parts, head_in, parts_of}
+use Rattle.reply_stream.specs.ReplyParts.{Parts, reply_parts, parts_of}
 use Rattle.reply_stream.proofs.SameReaders.{trees_same}
 
 abbrev Trees : Type 0

@@ -1,5 +1,5 @@
 -- Part trees of replies and part trees alone are read alike.
-use Rattle.std.proofs.Common.{◌≡◌, ℕ, zero, suc, ◌-◌, eqb, List, [], ◌∷◌, length, Option, Some, None, refl, sym, ap, ◌∙◌}
+use Rattle.std.proofs.Common.{◌≡◌, ℕ, zero, suc, ◌-◌, eqb, List, [], ◌∷◌, Option, Some, None, refl, ap, ◌∙◌}
 use Rattle.std.specs.Prelude.{if◌then◌else◌}
 use Rattle.vo_spec.specs.declared.cells.Cell.{Cell}
 use Rattle.vo_spec.specs.declared.cells.RowPart.{RowPart}
@@ -10,7 +10,7 @@ use Rattle.vo_spec.specs.Parts.{stub, leaf}
 use Rattle.vo_spec.specs.Trees.{RowTree}
 use Rattle.row_bytes.specs.Reading.{bytes_at}
 use Rattle.row_bytes.specs.Fields.{◌>>=◌, times}
-use Rattle.batch_format.specs.BatchReading.{Reader, one, two}
+use Rattle.batch_format.specs.BatchReading.{Reader, one}
 use Rattle.vo_format.specs.Reading as reply
 use Rattle.tree_readers.specs.TreeReading as alone
 use Rattle.tree_stream.proofs.Binds.{bind_same}

@@ -1,33 +1,28 @@
 -- Trees one after another: what comes of the count, of a tree that ends, and of the last one.
-use Rattle.std.proofs.Common.{◌≡◌, ℕ, zero, suc, ◌-◌, ◌<◌, Bool, true, false, ltb, List, [], ◌∷◌, ◌++◌, length, Option, Some, None, refl, sym, ap, ◌∙◌, append_assoc, append-nil, arith, inl, inr, ◌⊎◌}
+use Rattle.std.proofs.Common.{◌≡◌, ℕ, suc, ◌-◌, ◌<◌, Bool, ltb, List, [], ◌∷◌, ◌++◌, Option, Some, None, refl, sym, ap, ◌∙◌, append-nil, arith, inl, inr}
 use Rattle.std.specs.Prelude.{not, option_map, if◌then◌else◌}
 use Rattle.std.proofs.lemmas.Bool.{cases_Bool, ltb-true, ltb-false}
-use Rattle.vo_spec.specs.Fits.{FitsTree, max_levels}
-use Rattle.vo_spec.specs.Parts.{stub}
-use Rattle.vo_spec.specs.Scans.{is_empty_interval, in_interval}
+use Rattle.vo_spec.specs.Fits.{max_levels}
+use Rattle.vo_spec.specs.Scans.{is_empty_interval}
 use Rattle.vo_spec.specs.Trees.{RowTree}
-use Rattle.vo_spec.specs.TreeBytes.{tree_bytes}
 use Rattle.row_bytes.specs.Reading.{byte_at}
 use Rattle.row_bytes.specs.Fields.{◌>>=◌, times, whole}
-use Rattle.batch_format.specs.BatchReading.{Reader, one}
-use Rattle.batch_format.proofs.ReaderLaws.{some_is}
+use Rattle.batch_format.specs.BatchReading.{one}
 use Rattle.tree_readers.specs.TreeReading.{node_at, tree_at}
-use Rattle.tree_readers.proofs.TreeLaws.{trees_read}
 use Rattle.tree_stream.specs.declared.target.Target.{Target}
 use Rattle.tree_stream.specs.declared.findings.Summary.{Summary}
 use Rattle.tree_stream.specs.declared.stream.TreeStream.{TreeStream}
 use Rattle.tree_stream.specs.Findings.{no_target}
 use Rattle.tree_stream.specs.Remaining.{tree_summary, summary_at}
 use Rattle.tree_stream.specs.Summaries.{CanEnd as CanEndTree, summary_of_tree}
-use Rattle.tree_stream.specs.Streams.{IsSettled, summary_of, target_in, WantsMemory as TreeWantsMemory}
+use Rattle.tree_stream.specs.Streams.{IsSettled, summary_of}
 use Rattle.tree_stream.proofs.Endings.{repeated, a_stub}
-use Rattle.tree_stream.proofs.Binds.{bind_assoc, bind_same, bind_at, bind_is, times_length}
+use Rattle.tree_stream.proofs.Binds.{bind_assoc, bind_same, bind_at, times_length}
 use Rattle.reply_stream.proofs.EndedTrees.{summary_in, some_none, ended, not_ended}
 use Rattle.reply_stream.specs.declared.trees_summary.TreesSummary.{TreesSummary}
 use Rattle.reply_stream.specs.declared.trees_state.OpenTree.{OpenTree}
-use Rattle.reply_stream.specs.declared.trees_state.TreesState.{TreesState}
-use Rattle.reply_stream.specs.declared.trees_state.TreesState.TheVariants.{Count, Empty, Tree, Invalid}
-use Rattle.reply_stream.specs.ReplyTrees.{counted, first_summary, trees_summary, trees_at, kept_first, rest_of_open, rest_of_trees, CanBecomeTrees}
+use Rattle.reply_stream.specs.declared.trees_state.TreesState.TheVariants.{Tree}
+use Rattle.reply_stream.specs.ReplyTrees.{counted, trees_summary, trees_at, kept_first, rest_of_open, rest_of_trees, CanBecomeTrees}
 
 abbrev Trees : Type 0
 Trees = List RowTree × List ℕ

@@ -16,7 +16,7 @@ use Rattle.tree_stream.specs.Streams.{summary_of}
 use Rattle.reply_stream.specs.declared.trees_summary.TreesSummary.{TreesSummary}
 use Rattle.reply_stream.specs.declared.trees_state.OpenTree.{OpenTree}
 use Rattle.reply_stream.specs.declared.trees_state.TreesState.{TreesState}
-use Rattle.reply_stream.specs.declared.trees_state.TreesState.TheVariants.{Count, Empty, Tree, Invalid}
+use Rattle.reply_stream.specs.declared.trees_state.TreesState.TheVariants.{Count, Tree, Invalid}
 use Rattle.reply_stream.specs.ReplyTrees.{counted, kept_first, trees_at, rest_of_open, rest_of_trees, GoesOn, CanBecomeTrees}
 use Rattle.reply_stream.proofs.TreesLaws.{first_tree, no_trees, tree_way}
 

@@ -1,5 +1,5 @@
 -- What reading a reply gives, part by part: its head, and its trees for what is made of the head.
-use Rattle.std.specs.Prelude.{ℕ, List, Option, Some, option_map}
+use Rattle.std.specs.Prelude.{ℕ, List, Option, Some}
 use Rattle.vo_spec.specs.Replies.{Reply}
 use Rattle.row_bytes.specs.Fields.{◌>>=◌, whole}
 use Rattle.tree_stream.specs.declared.target.Target.{Target}

@@ -14,6 +14,9 @@ use std::mem;
 use version_record::{catalog_in, take_record};
 use vo_spec::{List, MAX_SIGNATURE, Record};
 
+/// How many bytes a catalog has at most: as many tables as may be, each of the longest names.
+const MAX_CATALOG: usize = 139_906;
+
 /// How many bytes the next field has, if one comes.
 pub(crate) fn field_size(state: &HeadState) -> Option<usize>
     ensures { result ≡ size_of_field state.now }
@@ -98,6 +101,9 @@ fn take_catalog_length(signed: SignedRecord, token: &[u8]) -> HeadState
     ensures fewer { fields_left result < 2 }
 {
     let size = length_in(token);
+    if size as usize > MAX_CATALOG {
+        return HeadState::Invalid;
+    }
     HeadState::Catalog(CatalogField { signed, size })
 }
 

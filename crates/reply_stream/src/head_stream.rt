@@ -1,5 +1,5 @@
 //! A reply's head whose bytes come in pieces.
-ghost use Rattle.std.specs.Prelude.{◌≡◌, ◌⊎◌, ◌++◌, ◌<◌, ◌≤◌, ℕ, List, [], Some, None, length, option_map, IfOk, IfSome, OnOk, OnErr};
+ghost use Rattle.std.specs.Prelude.{◌≡◌, ◌⊎◌, ◌++◌, ◌<◌, ◌≤◌, ℕ, List, [], Some, None, length, IsNone, IfOk, IfSome, OnOk, OnErr};
 ghost use Rattle.reply_stream.specs.Heads.{head_at, rest_of_head};
 ghost use Rattle.reply_stream.specs.HeadFields.{FitField, field_size as size_of_field, fields_left};
 
@@ -49,8 +49,10 @@ impl HeadStream {
 
     /// The head, where it has ended.
     pub fn head(&self) -> Option<&Head>
-        ensures { option_map (λ head. head.now) result
-            ≡ option_map (λ end. end.0) (head_of self.now []) }
+        // All that comes next is behind it.
+        ensures found { IfSome result (λ head. (more : List ℕ)
+            → head_of self.now more ≡ Some (head.now, more)) }
+        ensures none { IsNone result → head_of self.now [] ≡ None }
     {
         match &self.state {
             HeadState::Front => None,
@@ -65,7 +67,9 @@ impl HeadStream {
 
     /// The same, for whoever keeps it.
     pub fn end(self) -> Option<Head>
-        ensures { result ≡ option_map (λ end. end.0) (head_of self []) }
+        ensures found { IfSome result (λ head. (more : List ℕ)
+            → head_of self more ≡ Some (head, more)) }
+        ensures none { IsNone result → head_of self [] ≡ None }
     {
         let HeadStream { state, .. } = self;
         match state {
@@ -104,12 +108,12 @@ fn feed_fields<'b>(
     if piece.len() < lacking {
         return match held.extend_from_slice(piece) {
             Ok(()) => Ok(&[]),
-            Err(error) => Err(lose(state, held, error)),
+            Err(error) => Err(give_up(state, held, error)),
         };
     }
     let (front, left) = piece.split_at(lacking);
     if let Err(error) = fill_field(state, held, alloc, front) {
-        return Err(lose(state, held, error));
+        return Err(give_up(state, held, error));
     }
     held.clear();
     feed_fields(state, held, alloc, left)
@@ -132,7 +136,7 @@ fn fill_field(
 }
 
 /// Nothing is read any more.
-fn lose(state: &mut HeadState, held: &mut Vec<u8>, error: AllocError) -> AllocError
+fn give_up(state: &mut HeadState, held: &mut Vec<u8>, error: AllocError) -> AllocError
     ensures state { state.new ≡ HeadState.Invalid }
     ensures held { held.new.items ≡ [] }
 {

@@ -7,7 +7,7 @@ use std::process::Abort;
 use std::test::Fail;
 use vo_spec::{Bound, Interval, Key, Need, SharedList, Value};
 
-/// The answer to `SELECT name FROM t WHERE id > 1` on a table of the rows (1, 'ann') and (3, 'bob'),
+/// The answer to `SELECT name FROM t WHERE id > 1` on a table of (1, 'ann') and (3, 'bob'),
 /// at version 3: a head of 1,420 bytes, the number of trees, and a tree of 64 bytes.
 static REPLY: [u8; 1485] = [
     0x56, 0x4f, 0x52, 0x31, 0x56, 0x52, 0x45, 0x43, 0x00, 0x01, 0x02, 0x03, 0x04, 0x05, 0x06, 0x07,

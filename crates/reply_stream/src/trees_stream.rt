@@ -78,7 +78,7 @@ fn feed_state(state: TreesState, alloc: Global, piece: &[u8]) -> Result<TreesSta
     match state {
         TreesState::Count(target) => feed_count(target, alloc, piece),
         TreesState::Empty => Ok(without_trees(piece)),
-        TreesState::Tree(tree) => go_on(tree, alloc, piece),
+        TreesState::Tree(tree) => feed_open(tree, alloc, piece),
         TreesState::Invalid => Ok(TreesState::Invalid),
     }
 }
@@ -116,7 +116,7 @@ fn begin_trees(
         left: count - 1,
         first: None,
     };
-    go_on(tree, alloc, behind)
+    feed_open(tree, alloc, behind)
 }
 
 /// There are no trees, and these bytes come behind.
@@ -131,7 +131,7 @@ fn without_trees(behind: &[u8]) -> TreesState
     }
 }
 
-fn go_on(mut tree: OpenTree, alloc: Global, piece: &[u8]) -> Result<TreesState, AllocError>
+fn feed_open(mut tree: OpenTree, alloc: Global, piece: &[u8]) -> Result<TreesState, AllocError>
     ensures ok { IfOk result (λ new. (more : List ℕ)
         → rest_of_trees new more ≡ whole (rest_of_open tree (piece.now ++ more))) }
     ensures way { IsErr result → CanEndTree (summary_of tree.stream) }

@@ -8,13 +8,13 @@ returns-then-count-eq0-clause-ok c = λ more.
 
 pub returns-clause-ok : goal.returns-clause-ok
 returns-clause-ok c =
-    ok_trees c.go_on.result _ _
+    ok_trees c.feed_open.result _ _
     (λ more. counted_first c.args.target c.args.count _ (c.args.behind.now ++ more) c.new.ensures.summary (omega (arith, c.if-count-eq0.false)) refl refl)
-    c.go_on.ensures.ok
+    c.feed_open.ensures.ok
 
 pub returns-clause-way : goal.returns-clause-way
 returns-clause-way c = λ err.
-    count_way c.args.target c.args.count c.new.result c.new.ensures.summary (omega (arith, c.if-count-eq0.false)) (c.go_on.ensures.way err)
+    count_way c.args.target c.args.count c.new.result c.new.ensures.summary (omega (arith, c.if-count-eq0.false)) (c.feed_open.ensures.way err)
 
 pub returns-clause-memory : goal.returns-clause-memory
-returns-clause-memory c = λ err. (c.new.result, c.new.ensures.target, c.new.ensures.summary, (c.go_on.ensures.memory err).1)
+returns-clause-memory c = λ err. (c.new.result, c.new.ensures.target, c.new.ensures.summary, (c.feed_open.ensures.memory err).1)

@@ -1,4 +1,4 @@
-use Rattle.std.proofs.Common.{List, ℕ, ◌++◌, refl, sym, ap, ◌∙◌}
+use Rattle.std.proofs.Common.{refl}
 use Rattle.reply_stream.specs.declared.trees_state.TreesState.TheVariants.{Invalid}
 use Rattle.reply_stream.specs.ReplyTrees.{rest_of_trees}
 use Rattle.reply_stream.proofs.TreesLaws.{tree_way}
@@ -11,10 +11,10 @@ returns-in-Empty-clause-ok c = at_state c.args.state _ c.args.piece.now (rest_of
 
 pub returns-in-Tree-clause-ok : goal.returns-in-Tree-clause-ok
 unfolding rest_of_trees
-returns-in-Tree-clause-ok c = ok_at_state c.go_on.result c.args.state _ c.args.piece.now c.in-Tree.is c.go_on.ensures.ok
+returns-in-Tree-clause-ok c = ok_at_state c.feed_open.result c.args.state _ c.args.piece.now c.in-Tree.is c.feed_open.ensures.ok
 
 pub returns-in-Tree-clause-way : goal.returns-in-Tree-clause-way
-returns-in-Tree-clause-way c = λ err. way_at_state c.args.state _ c.in-Tree.is (tree_way c.in-Tree.tree (c.go_on.ensures.way err))
+returns-in-Tree-clause-way c = λ err. way_at_state c.args.state _ c.in-Tree.is (tree_way c.in-Tree.tree (c.feed_open.ensures.way err))
 
 pub returns-in-Invalid-clause-ok : goal.returns-in-Invalid-clause-ok
 unfolding rest_of_trees

@@ -1,4 +1,4 @@
-use Rattle.std.proofs.Common.{[], refl, sym, ap, ◌∙◌}
+use Rattle.std.proofs.Common.{[], sym, ap, ◌∙◌}
 use Rattle.row_bytes.specs.Reading.{byte_at}
 use Rattle.reply_stream.specs.declared.trees_state.TreesState.{TreesState}
 use Rattle.reply_stream.specs.ReplyTrees.{rest_of_trees, trees_at}
