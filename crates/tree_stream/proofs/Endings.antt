@@ -3,7 +3,7 @@ use Rattle.std.proofs.Common.{◌≡◌, ℕ, zero, suc, ◌+◌, ◌≤◌, Boo
 use Rattle.std.specs.Prelude.{reverse}
 use Rattle.std.proofs.lemmas.List.{length-reverse}
 use Rattle.sha2.specs.Sha256.{sha256}
-use Rattle.vo_spec.specs.declared.needs.Need.{Need}
+use Rattle.tree_stream.specs.declared.target.Target.{Target}
 use Rattle.vo_spec.specs.declared.cells.Cell.{Cell}
 use Rattle.vo_spec.specs.declared.cells.Cell.TheVariants.{Hidden}
 use Rattle.vo_spec.specs.declared.cells.RowPart.TheVariants.{Digest as Closed}
@@ -21,7 +21,7 @@ use Rattle.tree_stream.specs.declared.findings.Findings.{Findings}
 use Rattle.tree_stream.specs.declared.findings.CellFindings.{CellFindings}
 use Rattle.tree_stream.specs.declared.findings.Summary.{Summary}
 use Rattle.tree_stream.specs.declared.state.InnerNode.{InnerNode}
-use Rattle.tree_stream.specs.Findings.{combine, combine_cells, columns_at, cell_findings, cells_findings, closed_row_findings, row_head_findings, entry_findings_by}
+use Rattle.tree_stream.specs.Findings.{combine, combine_cells, columns_at, fits_kind, cell_findings, cells_findings, closed_row_findings, row_head_findings, entry_findings_by}
 use Rattle.tree_stream.specs.Parsing.{BeginsCell, BeginsRow}
 use Rattle.tree_stream.specs.Remaining.{summary, with_findings, leaf_summary, rest_of_leaf, children_summary, rest_of_children, rest_of_row, rest_of_cells}
 use Rattle.tree_stream.specs.Summaries.{levels_below, summary_after, summary_with, CanEnd}
@@ -32,10 +32,10 @@ abbrev zeros : List ℕ
 zeros = 0 ∷ 0 ∷ 0 ∷ 0 ∷ 0 ∷ 0 ∷ 0 ∷ 0 ∷ 0 ∷ 0 ∷ 0 ∷ 0 ∷ 0 ∷ 0 ∷ 0 ∷ 0 ∷ 0 ∷ 0 ∷ 0 ∷ 0 ∷ 0 ∷ 0 ∷ 0 ∷ 0 ∷ 0 ∷ 0 ∷ 0 ∷ 0 ∷ 0 ∷ 0 ∷ 0 ∷ 0 ∷ []
 
 -- some bytes are read, whatever comes behind them
-abbrev CanRead : {A : Type 0} → Reader A → Type 0
+abbrev pub CanRead : {A : Type 0} → Reader A → Type 0
 CanRead {A} read = (front : List ℕ) × (x : A) × ((rest : List ℕ) → read (front ++ rest) ≡ Some (x, rest))
 
-repeated : {A : Type 0} (read : Reader A) (n : ℕ) → CanRead read → CanRead (times read n)
+pub repeated : {A : Type 0} (read : Reader A) (n : ℕ) → CanRead read → CanRead (times read n)
 repeated {A} read zero can = ([], [], λ rest. refl)
 repeated {A} read (suc n) can =
     let others = repeated read n can in
@@ -65,7 +65,7 @@ then_read {A} {B} read next can others =
 
 -- Nodes.
 
-a_stub : (levels : ℕ) → 1 ≤ levels → CanRead (tree_at levels)
+pub a_stub : (levels : ℕ) → 1 ≤ levels → CanRead (tree_at levels)
 a_stub levels some = (0 ∷ zeros, stub zeros, λ rest. (levels_read levels).again (stub zeros) rest (refl, some))
 
 an_entry : CanRead entry_at
@@ -76,81 +76,87 @@ an_entry =
 a_cell : CanRead cell_at
 a_cell = (cell_form (Hidden zeros), Hidden zeros, λ rest. cell_again (Hidden zeros) rest refl)
 
-children_can : (need : Need) (levels : ℕ) (hashed : List ℕ) (visits : List Bool) → 1 ≤ levels → CanRead (rest_of_children need levels hashed visits)
+children_can : (target : Target) (levels : ℕ) (hashed : List ℕ) (visits : List Bool) → 1 ≤ levels → CanRead (rest_of_children target levels hashed visits)
 unfolding rest_of_children
-children_can need levels hashed visits some = mapped (children_summary need hashed visits) (times (tree_at levels) (length visits)) (repeated (tree_at levels) (length visits) (a_stub levels some))
+children_can target levels hashed visits some = mapped (children_summary target hashed visits) (times (tree_at levels) (length visits)) (repeated (tree_at levels) (length visits) (a_stub levels some))
 
-leaf_can : (need : Need) (hashed : List ℕ) (left : ℕ) → CanRead (rest_of_leaf need hashed left)
+leaf_can : (target : Target) (hashed : List ℕ) (left : ℕ) → CanRead (rest_of_leaf target hashed left)
 unfolding rest_of_leaf
-leaf_can need hashed left = mapped (leaf_summary need hashed) (times entry_at left) (repeated entry_at left an_entry)
+leaf_can target hashed left = mapped (leaf_summary target hashed) (times entry_at left) (repeated entry_at left an_entry)
 
 found_can : (f : Findings) (read : Reader Summary) → CanRead read → CanRead (with_findings f read)
 unfolding with_findings
 found_can f read can = (can.0, summary can.1.digest (combine f can.1.findings), λ rest. ap (λ (o : Option (Summary × List ℕ)). o >>= λ end. Some (summary end.0.digest (combine f end.0.findings), end.1)) (can.2 rest))
 
-cells_can : (need : Need) (hashed key : List ℕ) (left : ℕ) (row_hashed : List ℕ) (column : ℕ) (found : CellFindings) (n : ℕ) → CanRead (rest_of_cells need hashed key left row_hashed column found n)
+cells_can : (target : Target) (hashed key : List ℕ) (left : ℕ) (row_hashed : List ℕ) (column : ℕ) (found : CellFindings) (n : ℕ) → CanRead (rest_of_cells target hashed key left row_hashed column found n)
 unfolding rest_of_cells
-cells_can need hashed key left row_hashed column found n =
-    let f : List Cell → Findings = λ cells. entry_findings_by need key (combine_cells found (cells_findings (columns_at need key) column cells)) in
-    let read : List Cell → Reader Summary = λ cells. rest_of_leaf need (hashed ++ sha256 (row_hashed ++ cell_digests column cells)) left in
+cells_can target hashed key left row_hashed column found n =
+    let f : List Cell → Findings = λ cells. entry_findings_by target key (combine_cells found (cells_findings target.cell_kinds (columns_at target key) column cells)) in
+    let read : List Cell → Reader Summary = λ cells. rest_of_leaf target (hashed ++ sha256 (row_hashed ++ cell_digests column cells)) left in
     then_read (times cell_at n) (λ cells. with_findings (f cells) (read cells)) (repeated cell_at n a_cell)
-    (λ cells. found_can (f cells) (read cells) (leaf_can need (hashed ++ sha256 (row_hashed ++ cell_digests column cells)) left))
+    (λ cells. found_can (f cells) (read cells) (leaf_can target (hashed ++ sha256 (row_hashed ++ cell_digests column cells)) left))
 
 -- Trees.
 
-after_can : (need : Need) (ancestors : List InnerNode) (d : List ℕ) (found : Findings) → length ancestors ≤ 10 → CanEnd (summary_after need ancestors d found)
+after_can : (target : Target) (ancestors : List InnerNode) (d : List ℕ) (found : Findings) → length ancestors ≤ 10 → CanEnd (summary_after target ancestors d found)
 unfolding summary_after
-after_can need [] d found few = ([], (summary d found, []), refl)
-after_can need (node ∷ ancestors) d found few =
-    let can = children_can need (levels_below (node ∷ ancestors)) (node.hasher ++ d) node.child_visits.items (omega (arith, few)) in
-    let above = after_can need ancestors can.1.digest (combine found can.1.findings) (omega (arith, few)) in (
+after_can target [] d found few = ([], summary d found, λ rest. refl)
+after_can target (node ∷ ancestors) d found few =
+    let can = children_can target (levels_below (node ∷ ancestors)) (node.hasher ++ d) node.child_visits.items (omega (arith, few)) in
+    let above = after_can target ancestors can.1.digest (combine found can.1.findings) (omega (arith, few)) in (
       can.0 ++ above.0,
       above.1,
-      ap (λ (o : Option (Summary × List ℕ)). o >>= λ end. summary_after need ancestors end.0.digest (combine found end.0.findings) end.1) (can.2 above.0) ∙ above.2,
+      λ rest.
+          ap (summary_after target (node ∷ ancestors) d found) (append_assoc can.0 above.0 rest)
+          ∙ ap (λ (o : Option (Summary × List ℕ)). o >>= λ end. summary_after target ancestors end.0.digest (combine found end.0.findings) end.1) (can.2 (above.0 ++ rest))
+          ∙ above.2 rest,
     )
 
-with_can : (need : Need) (ancestors : List InnerNode) (found : Findings) (read : Reader Summary) → length ancestors ≤ 10 → CanRead read → CanEnd (summary_with need ancestors found read)
+with_can : (target : Target) (ancestors : List InnerNode) (found : Findings) (read : Reader Summary) → length ancestors ≤ 10 → CanRead read → CanEnd (summary_with target ancestors found read)
 unfolding summary_with
-with_can need ancestors found read few can =
-    let above = after_can need (reverse ancestors) can.1.digest (combine found can.1.findings) (omega (arith, few, length-reverse ancestors)) in (
+with_can target ancestors found read few can =
+    let above = after_can target (reverse ancestors) can.1.digest (combine found can.1.findings) (omega (arith, few, length-reverse ancestors)) in (
       can.0 ++ above.0,
       above.1,
-      ap (λ (o : Option (Summary × List ℕ)). o >>= summary_behind need ancestors found) (can.2 above.0) ∙ above.2,
+      λ rest.
+          ap (summary_with target ancestors found read) (append_assoc can.0 above.0 rest)
+          ∙ ap (λ (o : Option (Summary × List ℕ)). o >>= summary_behind target ancestors found) (can.2 (above.0 ++ rest))
+          ∙ above.2 rest,
     )
 
 pub can_same : (f g : Reader Summary) → ((rest : List ℕ) → f rest ≡ g rest) → CanEnd g → CanEnd f
-can_same f g same can = (can.0, can.1, same can.0 ∙ can.2)
+can_same f g same can = (can.0, can.1, λ rest. same (can.0 ++ rest) ∙ can.2 rest)
 
-module _ (need : Need) (ancestors : List InnerNode) (found : Findings) (few : length ancestors ≤ 10) (hashed key : List ℕ) (left : ℕ) where
+module _ (target : Target) (ancestors : List InnerNode) (found : Findings) (few : length ancestors ≤ 10) (hashed key : List ℕ) (left : ℕ) where
   abbrev by_row : Reader Summary
-  by_row = summary_with need ancestors found (rest_of_row need hashed key left)
+  by_row = summary_with target ancestors found (rest_of_row target hashed key left)
 
   pub row_can : (token : List ℕ) → BeginsRow token → CanEnd (λ rest. by_row (token ++ rest))
   unfolding summary_with
   row_can token (inl digest) =
-      let f : Findings = entry_findings_by need key (closed_row_findings (columns_at need key)) in
-      let read : Reader Summary = with_findings f (rest_of_leaf need (hashed ++ digest.0) left) in
-      can_same (λ rest. by_row (token ++ rest)) (summary_with need ancestors found read)
+      let f : Findings = entry_findings_by target key (closed_row_findings (columns_at target key)) in
+      let read : Reader Summary = with_findings f (rest_of_leaf target (hashed ++ digest.0) left) in
+      can_same (λ rest. by_row (token ++ rest)) (summary_with target ancestors found read)
       (λ rest. ap (λ (t : List ℕ). by_row (t ++ rest)) digest.1
-      ∙ ap (λ (o : Option (Summary × List ℕ)). o >>= summary_behind need ancestors found) (closed_row_taken need hashed key left digest.0 rest digest.2))
-      (with_can need ancestors found read few (found_can f (rest_of_leaf need (hashed ++ digest.0) left) (leaf_can need (hashed ++ digest.0) left)))
+      ∙ ap (λ (o : Option (Summary × List ℕ)). o >>= summary_behind target ancestors found) (closed_row_taken target hashed key left digest.0 rest digest.2))
+      (with_can target ancestors found read few (found_can f (rest_of_leaf target (hashed ++ digest.0) left) (leaf_can target (hashed ++ digest.0) left)))
   row_can token (inr count) =
-      let f : CellFindings = row_head_findings (columns_at need key) count.0 in
-      let read : Reader Summary = rest_of_cells need hashed key left (2 ∷ count.0 ∷ []) 0 f count.0 in
-      can_same (λ rest. by_row (token ++ rest)) (summary_with need ancestors found read)
+      let f : CellFindings = row_head_findings target.cell_kinds (columns_at target key) count.0 in
+      let read : Reader Summary = rest_of_cells target hashed key left (2 ∷ count.0 ∷ []) 0 f count.0 in
+      can_same (λ rest. by_row (token ++ rest)) (summary_with target ancestors found read)
       (λ rest. ap (λ (t : List ℕ). by_row (t ++ rest)) count.1
-      ∙ ap (λ (o : Option (Summary × List ℕ)). o >>= summary_behind need ancestors found) (open_row_taken need hashed key left count.0 rest count.2))
-      (with_can need ancestors found read few (cells_can need hashed key left (2 ∷ count.0 ∷ []) 0 f count.0))
+      ∙ ap (λ (o : Option (Summary × List ℕ)). o >>= summary_behind target ancestors found) (open_row_taken target hashed key left count.0 rest count.2))
+      (with_can target ancestors found read few (cells_can target hashed key left (2 ∷ count.0 ∷ []) 0 f count.0))
 
   pub cell_can : (row_hashed : List ℕ) (column : ℕ) (f : CellFindings) (cells_left : ℕ) (token : List ℕ) → BeginsCell token
-      → CanEnd (λ rest. summary_with need ancestors found (rest_of_cells need hashed key left row_hashed column f (suc cells_left)) (token ++ rest))
+      → CanEnd (λ rest. summary_with target ancestors found (rest_of_cells target hashed key left row_hashed column f (suc cells_left)) (token ++ rest))
   unfolding summary_with
   cell_can row_hashed column f cells_left token cell =
-      let by_cells : Reader Summary = summary_with need ancestors found (rest_of_cells need hashed key left row_hashed column f (suc cells_left)) in
+      let by_cells : Reader Summary = summary_with target ancestors found (rest_of_cells target hashed key left row_hashed column f (suc cells_left)) in
       let hashed_next : List ℕ = row_hashed ++ cell_digest column cell.0 in
-      let f_next : CellFindings = combine_cells f (cell_findings (has_column (columns_at need key) column) cell.0) in
-      let read : Reader Summary = rest_of_cells need hashed key left hashed_next (column + 1) f_next cells_left in
-      can_same (λ rest. by_cells (token ++ rest)) (summary_with need ancestors found read)
+      let f_next : CellFindings = combine_cells f (cell_findings (has_column (columns_at target key) column) (fits_kind target.cell_kinds column cell.0) cell.0) in
+      let read : Reader Summary = rest_of_cells target hashed key left hashed_next (column + 1) f_next cells_left in
+      can_same (λ rest. by_cells (token ++ rest)) (summary_with target ancestors found read)
       (λ rest. ap (λ (t : List ℕ). by_cells (t ++ rest)) cell.1
-      ∙ ap (λ (o : Option (Summary × List ℕ)). o >>= summary_behind need ancestors found) (cell_taken need hashed key left row_hashed column f cells_left cell.0 rest cell.2))
-      (with_can need ancestors found read few (cells_can need hashed key left hashed_next (column + 1) f_next cells_left))
+      ∙ ap (λ (o : Option (Summary × List ℕ)). o >>= summary_behind target ancestors found) (cell_taken target hashed key left row_hashed column f cells_left cell.0 rest cell.2))
+      (with_can target ancestors found read few (cells_can target hashed key left hashed_next (column + 1) f_next cells_left))

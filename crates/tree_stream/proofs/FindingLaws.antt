@@ -4,6 +4,7 @@ use Rattle.std.specs.Prelude.{not, flat_map, slice_get, is_none}
 use Rattle.std.specs.List.{list_any}
 use Rattle.std.proofs.lemmas.Bool.{ne_eqb, eq-eqb, le-leb, lt-leb}
 use Rattle.std.proofs.Math.Dec.{leb-suc-suc}
+use Rattle.vo_spec.specs.declared.values.Kind.{Kind}
 use Rattle.vo_spec.specs.declared.needs.Need.{Need}
 use Rattle.vo_spec.specs.declared.cells.Cell.{Cell}
 use Rattle.vo_spec.specs.declared.cells.Cell.TheVariants.{Shown, Hidden}
@@ -16,6 +17,7 @@ use Rattle.vo_spec.specs.Parts.{stub, leaf, inner, none, more, count}
 use Rattle.vo_spec.specs.Pruning.{Walk, is_missing_by, is_missing_in, has_surplus_by, has_surplus_in, descend, is_any, needed_columns, has_column, hides_any, shows_surplus, row_has_surplus, walk_for, is_missing, has_surplus}
 use Rattle.vo_spec.specs.Scans.{in_interval, is_empty_interval}
 use Rattle.vo_spec.specs.Trees.{RowTree, RowTrees}
+use Rattle.tree_stream.specs.declared.target.Target.{Target}
 use Rattle.tree_stream.specs.Findings.{columns_at, cells_findings, row_findings, entry_findings, entries_findings, visits_child, child_visits, tree_findings, children_findings}
 
 -- Tests.
@@ -32,26 +34,27 @@ or_two a b c d e f = ap (λ (x : Bool). x || c) e ∙ ap (λ (x : Bool). b || x)
 
 -- The state of the walk for one need: whether its scan visits the node.
 
-abbrev state : Need → Bool → List Need
-state need visited = cond visited (need ∷ []) []
+-- the need of a target
+abbrev pub need_of : Target → Need
+need_of target = record { interval = target.interval; columns = target.columns }
 
-state_any : (need : Need) (visited : Bool) → is_any (state need visited) ≡ visited
-state_any need true = refl
-state_any need false = refl
+abbrev state : Target → Bool → List Need
+state target visited = cond visited (need_of target ∷ []) []
 
-state_filter : (need : Need) (test : Bool) → cond test (need ∷ []) [] ≡ state need test
-state_filter need test = refl
+state_any : (target : Target) (visited : Bool) → is_any (state target visited) ≡ visited
+state_any target true = refl
+state_any target false = refl
 
-descend_is : (need : Need) (visited : Bool) (lower upper : Option (List ℕ)) → descend (state need visited) lower upper ≡ state need (visits_child need visited lower upper)
-descend_is need true lower upper = refl
-descend_is need false lower upper = refl
+descend_is : (target : Target) (visited : Bool) (lower upper : Option (List ℕ)) → descend (state target visited) lower upper ≡ state target (visits_child target visited lower upper)
+descend_is target true lower upper = refl
+descend_is target false lower upper = refl
 
-columns_by : (need : Need) (test : Bool) → flat_map (λ (n : Need). n.columns) (cond test (need ∷ []) []) ≡ cond test need.columns []
-columns_by need true = append-nil need.columns
-columns_by need false = refl
+columns_by : (target : Target) (test : Bool) → flat_map (λ (n : Need). n.columns) (cond test (need_of target ∷ []) []) ≡ cond test target.columns []
+columns_by target true = append-nil target.columns
+columns_by target false = refl
 
-columns_are : (need : Need) (key : List ℕ) → needed_columns (need ∷ []) key ≡ columns_at need key
-columns_are need key = columns_by need (in_interval need.interval key)
+columns_are : (target : Target) (key : List ℕ) → needed_columns (need_of target ∷ []) key ≡ columns_at target key
+columns_are target key = columns_by target (in_interval target.interval key)
 
 -- Cells that are hidden.
 
@@ -96,111 +99,111 @@ lacks_at column (suc i) (Hidden d ∷ cells) =
 lacks_at column (suc i) (Shown v ∷ cells) = lacks_later column i cells (lacks_at (column + 1) i cells)
 
 -- with one more column named
-hides_more : (c : ℕ) (named : List ℕ) (column : ℕ) (cells : List Cell)
-    → (cells_findings (c ∷ named) column cells).is_missing ≡ (hides_at c column cells || (cells_findings named column cells).is_missing)
+hides_more : (kinds : List Kind) (c : ℕ) (named : List ℕ) (column : ℕ) (cells : List Cell)
+    → (cells_findings kinds (c ∷ named) column cells).is_missing ≡ (hides_at c column cells || (cells_findings kinds named column cells).is_missing)
 unfolding hides_at
-hides_more c named column [] = refl
-hides_more c named column (Hidden d ∷ cells) =
-    ap (λ (b : Bool). (eqb c column || has_column named column) || b) (hides_more c named (column + 1) cells)
-    ∙ or_swap (eqb c column) (has_column named column) (hides_at c (column + 1) cells) (cells_findings named (column + 1) cells).is_missing
-hides_more c named column (Shown v ∷ cells) = hides_more c named (column + 1) cells
+hides_more kinds c named column [] = refl
+hides_more kinds c named column (Hidden d ∷ cells) =
+    ap (λ (b : Bool). (eqb c column || has_column named column) || b) (hides_more kinds c named (column + 1) cells)
+    ∙ or_swap (eqb c column) (has_column named column) (hides_at c (column + 1) cells) (cells_findings kinds named (column + 1) cells).is_missing
+hides_more kinds c named column (Shown v ∷ cells) = hides_more kinds c named (column + 1) cells
 
-hides_none : (column : ℕ) (cells : List Cell) → (cells_findings [] column cells).is_missing ≡ false
-hides_none column [] = refl
-hides_none column (Hidden d ∷ cells) = hides_none (column + 1) cells
-hides_none column (Shown v ∷ cells) = hides_none (column + 1) cells
+hides_none : (kinds : List Kind) (column : ℕ) (cells : List Cell) → (cells_findings kinds [] column cells).is_missing ≡ false
+hides_none kinds column [] = refl
+hides_none kinds column (Hidden d ∷ cells) = hides_none kinds (column + 1) cells
+hides_none kinds column (Shown v ∷ cells) = hides_none kinds (column + 1) cells
 
-row_missing : (named : List ℕ) (row : RowPart) → hides_any named row ≡ (row_findings named row).is_missing
-row_missing named (Closed d) = any_named named
-row_missing [] (Cells cells) = sym (hides_none 0 cells)
-row_missing (c ∷ named) (Cells cells) =
+row_missing : (kinds : List Kind) (named : List ℕ) (row : RowPart) → hides_any named row ≡ (row_findings kinds named row).is_missing
+row_missing kinds named (Closed d) = any_named named
+row_missing kinds [] (Cells cells) = sym (hides_none kinds 0 cells)
+row_missing kinds (c ∷ named) (Cells cells) =
     let at_zero : 0 + c ≡ c = omega arith in
     let first : is_none (shown_value (slice_get cells c)) ≡ (leb (length cells) c || hides_at c 0 cells) =
     lacks_at 0 c cells ∙ ap (λ (n : ℕ). leb (length cells) c || hides_at n 0 cells) at_zero in
     let beyond : Bool = list_any (λ column. leb (length cells) column) named in
-    or_two (is_none (shown_value (slice_get cells c))) (leb (length cells) c || hides_at c 0 cells) (hides_any named (Cells cells)) (beyond || (cells_findings named 0 cells).is_missing) first (row_missing named (Cells cells))
-    ∙ or_swap (leb (length cells) c) (hides_at c 0 cells) beyond (cells_findings named 0 cells).is_missing
-    ∙ ap (λ (b : Bool). (leb (length cells) c || beyond) || b) (sym (hides_more c named 0 cells))
+    or_two (is_none (shown_value (slice_get cells c))) (leb (length cells) c || hides_at c 0 cells) (hides_any named (Cells cells)) (beyond || (cells_findings kinds named 0 cells).is_missing) first (row_missing kinds named (Cells cells))
+    ∙ or_swap (leb (length cells) c) (hides_at c 0 cells) beyond (cells_findings kinds named 0 cells).is_missing
+    ∙ ap (λ (b : Bool). (leb (length cells) c || beyond) || b) (sym (hides_more kinds c named 0 cells))
 
-entries_missing : (need : Need) (es : List PartEntry) → list_any (walk_for (need ∷ [])).lacks es ≡ (entries_findings need es).is_missing
-entries_missing need [] = refl
-entries_missing need (e ∷ es) =
-    or_two (hides_any (needed_columns (need ∷ []) e.key) e.row) (entry_findings need e).is_missing (list_any (walk_for (need ∷ [])).lacks es) (entries_findings need es).is_missing
-    (ap (λ (named : List ℕ). hides_any named e.row) (columns_are need e.key) ∙ row_missing (columns_at need e.key) e.row)
-    (entries_missing need es)
+entries_missing : (target : Target) (es : List PartEntry) → list_any (walk_for (need_of target ∷ [])).lacks es ≡ (entries_findings target es).is_missing
+entries_missing target [] = refl
+entries_missing target (e ∷ es) =
+    or_two (hides_any (needed_columns (need_of target ∷ []) e.key) e.row) (entry_findings target e).is_missing (list_any (walk_for (need_of target ∷ [])).lacks es) (entries_findings target es).is_missing
+    (ap (λ (named : List ℕ). hides_any named e.row) (columns_are target e.key) ∙ row_missing target.cell_kinds (columns_at target e.key) e.row)
+    (entries_missing target es)
 
 -- Cells that are shown.
 
-cells_surplus : (named : List ℕ) (column : ℕ) (cells : List Cell) → shows_surplus named column cells ≡ (cells_findings named column cells).has_surplus
-cells_surplus named column [] = refl
-cells_surplus named column (Hidden d ∷ cells) = cells_surplus named (column + 1) cells
-cells_surplus named column (Shown v ∷ cells) = ap (λ (b : Bool). not (has_column named column) || b) (cells_surplus named (column + 1) cells)
+cells_surplus : (kinds : List Kind) (named : List ℕ) (column : ℕ) (cells : List Cell) → shows_surplus named column cells ≡ (cells_findings kinds named column cells).has_surplus
+cells_surplus kinds named column [] = refl
+cells_surplus kinds named column (Hidden d ∷ cells) = cells_surplus kinds named (column + 1) cells
+cells_surplus kinds named column (Shown v ∷ cells) = ap (λ (b : Bool). not (has_column named column) || b) (cells_surplus kinds named (column + 1) cells)
 
-row_surplus : (named : List ℕ) (row : RowPart) → row_has_surplus named row ≡ (row_findings named row).has_surplus
-row_surplus named (Closed d) = refl
-row_surplus named (Cells cells) = ap (λ (b : Bool). not (is_any named) || b) (cells_surplus named 0 cells)
+row_surplus : (kinds : List Kind) (named : List ℕ) (row : RowPart) → row_has_surplus named row ≡ (row_findings kinds named row).has_surplus
+row_surplus kinds named (Closed d) = refl
+row_surplus kinds named (Cells cells) = ap (λ (b : Bool). not (is_any named) || b) (cells_surplus kinds named 0 cells)
 
-entries_surplus : (need : Need) (es : List PartEntry) → list_any (walk_for (need ∷ [])).exceeds es ≡ (entries_findings need es).has_surplus
-entries_surplus need [] = refl
-entries_surplus need (e ∷ es) =
-    or_two (row_has_surplus (needed_columns (need ∷ []) e.key) e.row) (entry_findings need e).has_surplus (list_any (walk_for (need ∷ [])).exceeds es) (entries_findings need es).has_surplus
-    (ap (λ (named : List ℕ). row_has_surplus named e.row) (columns_are need e.key) ∙ row_surplus (columns_at need e.key) e.row)
-    (entries_surplus need es)
+entries_surplus : (target : Target) (es : List PartEntry) → list_any (walk_for (need_of target ∷ [])).exceeds es ≡ (entries_findings target es).has_surplus
+entries_surplus target [] = refl
+entries_surplus target (e ∷ es) =
+    or_two (row_has_surplus (needed_columns (need_of target ∷ []) e.key) e.row) (entry_findings target e).has_surplus (list_any (walk_for (need_of target ∷ [])).exceeds es) (entries_findings target es).has_surplus
+    (ap (λ (named : List ℕ). row_has_surplus named e.row) (columns_are target e.key) ∙ row_surplus target.cell_kinds (columns_at target e.key) e.row)
+    (entries_surplus target es)
 
 -- Nodes.
 
-module _ (need : Need) where
+module _ (target : Target) where
   abbrev walk : Walk PartEntry (List Need)
-  walk = walk_for (need ∷ [])
+  walk = walk_for (need_of target ∷ [])
 
   mutual
-    tree_missing : (visited : Bool) (p : RowTree) → FitsPart p → is_missing_by walk (state need visited) p ≡ (tree_findings need visited p).is_missing
-    tree_missing visited (stub d) fits = state_any need visited
-    tree_missing visited (leaf es) fits = entries_missing need es
+    tree_missing : (visited : Bool) (p : RowTree) → FitsPart p → is_missing_by walk (state target visited) p ≡ (tree_findings target visited p).is_missing
+    tree_missing visited (stub d) fits = state_any target visited
+    tree_missing visited (leaf es) fits = entries_missing target es
     tree_missing visited (inner ss ps) fits = children_missing visited None ss ps (omega (arith, fits.2)) fits.4
 
     children_missing : (visited : Bool) (lower : Option (List ℕ)) (ss : List (List ℕ)) (ps : RowTrees) → count ps ≤ length ss + 1 → FitsEach FitsEntry ps
-        → is_missing_in walk (state need visited) lower ss ps ≡ (children_findings need (child_visits need visited lower ss) ps).is_missing
+        → is_missing_in walk (state target visited) lower ss ps ≡ (children_findings target (child_visits target visited lower ss) ps).is_missing
     children_missing visited lower ss none few fits = refl
     children_missing visited lower [] (more m p none) few fits =
-        let v : Bool = visits_child need visited lower None in
-        or_two (is_missing_by walk (descend (state need visited) lower None) p) (tree_findings need v p).is_missing false false
-        (ap (λ (s : List Need). is_missing_by walk s p) (descend_is need visited lower None) ∙ tree_missing v p fits.0) refl
+        let v : Bool = visits_child target visited lower None in
+        or_two (is_missing_by walk (descend (state target visited) lower None) p) (tree_findings target v p).is_missing false false
+        (ap (λ (s : List Need). is_missing_by walk s p) (descend_is target visited lower None) ∙ tree_missing v p fits.0) refl
     children_missing visited lower [] (more m p (more n q qs)) few fits = absurd (omega (arith, few))
     children_missing visited lower (s ∷ ss) (more m p ps) few fits =
-        let v : Bool = visits_child need visited lower (Some s) in
-        or_two (is_missing_by walk (descend (state need visited) lower (Some s)) p) (tree_findings need v p).is_missing
-        (is_missing_in walk (state need visited) (Some s) ss ps) (children_findings need (child_visits need visited (Some s) ss) ps).is_missing
-        (ap (λ (t : List Need). is_missing_by walk t p) (descend_is need visited lower (Some s)) ∙ tree_missing v p fits.0)
+        let v : Bool = visits_child target visited lower (Some s) in
+        or_two (is_missing_by walk (descend (state target visited) lower (Some s)) p) (tree_findings target v p).is_missing
+        (is_missing_in walk (state target visited) (Some s) ss ps) (children_findings target (child_visits target visited (Some s) ss) ps).is_missing
+        (ap (λ (t : List Need). is_missing_by walk t p) (descend_is target visited lower (Some s)) ∙ tree_missing v p fits.0)
         (children_missing visited (Some s) ss ps (omega (arith, few)) fits.1)
 
   mutual
-    tree_surplus : (visited : Bool) (p : RowTree) → FitsPart p → has_surplus_by walk (state need visited) p ≡ (tree_findings need visited p).has_surplus
+    tree_surplus : (visited : Bool) (p : RowTree) → FitsPart p → has_surplus_by walk (state target visited) p ≡ (tree_findings target visited p).has_surplus
     tree_surplus visited (stub d) fits = refl
     tree_surplus visited (leaf es) fits =
-        or_two (not (is_any (state need visited))) (not visited) (list_any walk.exceeds es) (entries_findings need es).has_surplus
-        (ap not (state_any need visited)) (entries_surplus need es)
+        or_two (not (is_any (state target visited))) (not visited) (list_any walk.exceeds es) (entries_findings target es).has_surplus
+        (ap not (state_any target visited)) (entries_surplus target es)
     tree_surplus visited (inner ss ps) fits =
-        or_two (not (is_any (state need visited))) (not visited) (has_surplus_in walk (state need visited) None ss ps) (children_findings need (child_visits need visited None ss) ps).has_surplus
-        (ap not (state_any need visited)) (children_surplus visited None ss ps (omega (arith, fits.2)) fits.4)
+        or_two (not (is_any (state target visited))) (not visited) (has_surplus_in walk (state target visited) None ss ps) (children_findings target (child_visits target visited None ss) ps).has_surplus
+        (ap not (state_any target visited)) (children_surplus visited None ss ps (omega (arith, fits.2)) fits.4)
 
     children_surplus : (visited : Bool) (lower : Option (List ℕ)) (ss : List (List ℕ)) (ps : RowTrees) → count ps ≤ length ss + 1 → FitsEach FitsEntry ps
-        → has_surplus_in walk (state need visited) lower ss ps ≡ (children_findings need (child_visits need visited lower ss) ps).has_surplus
+        → has_surplus_in walk (state target visited) lower ss ps ≡ (children_findings target (child_visits target visited lower ss) ps).has_surplus
     children_surplus visited lower ss none few fits = refl
     children_surplus visited lower [] (more m p none) few fits =
-        let v : Bool = visits_child need visited lower None in
-        or_two (has_surplus_by walk (descend (state need visited) lower None) p) (tree_findings need v p).has_surplus false false
-        (ap (λ (s : List Need). has_surplus_by walk s p) (descend_is need visited lower None) ∙ tree_surplus v p fits.0) refl
+        let v : Bool = visits_child target visited lower None in
+        or_two (has_surplus_by walk (descend (state target visited) lower None) p) (tree_findings target v p).has_surplus false false
+        (ap (λ (s : List Need). has_surplus_by walk s p) (descend_is target visited lower None) ∙ tree_surplus v p fits.0) refl
     children_surplus visited lower [] (more m p (more n q qs)) few fits = absurd (omega (arith, few))
     children_surplus visited lower (s ∷ ss) (more m p ps) few fits =
-        let v : Bool = visits_child need visited lower (Some s) in
-        or_two (has_surplus_by walk (descend (state need visited) lower (Some s)) p) (tree_findings need v p).has_surplus
-        (has_surplus_in walk (state need visited) (Some s) ss ps) (children_findings need (child_visits need visited (Some s) ss) ps).has_surplus
-        (ap (λ (t : List Need). has_surplus_by walk t p) (descend_is need visited lower (Some s)) ∙ tree_surplus v p fits.0)
+        let v : Bool = visits_child target visited lower (Some s) in
+        or_two (has_surplus_by walk (descend (state target visited) lower (Some s)) p) (tree_findings target v p).has_surplus
+        (has_surplus_in walk (state target visited) (Some s) ss ps) (children_findings target (child_visits target visited (Some s) ss) ps).has_surplus
+        (ap (λ (t : List Need). has_surplus_by walk t p) (descend_is target visited lower (Some s)) ∙ tree_surplus v p fits.0)
         (children_surplus visited (Some s) ss ps (omega (arith, few)) fits.1)
 
-  pub missing_is : (p : RowTree) → FitsPart p → is_missing (need ∷ []) p ≡ (tree_findings need (not (is_empty_interval need.interval)) p).is_missing
-  missing_is p fits = tree_missing (not (is_empty_interval need.interval)) p fits
+  pub missing_is : (p : RowTree) → FitsPart p → is_missing (need_of target ∷ []) p ≡ (tree_findings target (not (is_empty_interval target.interval)) p).is_missing
+  missing_is p fits = tree_missing (not (is_empty_interval target.interval)) p fits
 
-  pub surplus_is : (p : RowTree) → FitsPart p → has_surplus (need ∷ []) p ≡ (tree_findings need (not (is_empty_interval need.interval)) p).has_surplus
-  surplus_is p fits = tree_surplus (not (is_empty_interval need.interval)) p fits
+  pub surplus_is : (p : RowTree) → FitsPart p → has_surplus (need_of target ∷ []) p ≡ (tree_findings target (not (is_empty_interval target.interval)) p).has_surplus
+  surplus_is p fits = tree_surplus (not (is_empty_interval target.interval)) p fits

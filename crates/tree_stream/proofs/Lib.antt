@@ -13,4 +13,6 @@ pub mod ShortLaws
 pub mod PieceLaws
 pub mod FindingLaws
 pub mod RowLaws
+pub mod ShapeLaws
 pub mod TreeWords
+pub mod NoTarget

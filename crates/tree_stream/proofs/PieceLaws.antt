@@ -49,7 +49,14 @@ goes_on first old new bytes left token behind a t is = record {
 }
 
 pub goes_back : (first old : Machine) (bytes left token : List ℕ) → Advances first old bytes left → CanEnd (λ rest. summary_of_machine old (token ++ rest)) → CanEnd (summary_of_machine first)
-goes_back first old bytes left token a can = (a.taken ++ (token ++ can.0), can.1, sym (a.each (token ++ can.0)) ∙ can.2)
+goes_back first old bytes left token a can = (
+  a.taken ++ (token ++ can.0),
+  can.1,
+  λ rest.
+      ap (summary_of_machine first) (append_assoc a.taken (token ++ can.0) rest ∙ ap (λ (t : List ℕ). a.taken ++ t) (append_assoc token can.0 rest))
+      ∙ sym (a.each (token ++ (can.0 ++ rest)))
+      ∙ can.2 rest,
+)
 
 -- first some bytes, and then those that they left
 pub and_then : (first old new : Machine) (bytes left behind : List ℕ) → Advances first old bytes left → Advances old new left behind → Advances first new bytes behind
@@ -60,7 +67,11 @@ and_then first old new bytes left behind a b = record {
 }
 
 pub way_back : (first old : Machine) (bytes left : List ℕ) → Advances first old bytes left → CanEnd (summary_of_machine old) → CanEnd (summary_of_machine first)
-way_back first old bytes left a can = (a.taken ++ can.0, can.1, sym (a.each can.0) ∙ can.2)
+way_back first old bytes left a can = (
+  a.taken ++ can.0,
+  can.1,
+  λ rest. ap (summary_of_machine first) (append_assoc a.taken can.0 rest) ∙ sym (a.each (can.0 ++ rest)) ∙ can.2 rest,
+)
 
 -- Sizes.
 
@@ -83,7 +94,9 @@ ends_then (Err e) front left piece is ends = tt
 
 pub longer_way : (machine : Machine) (partial front all : List ℕ) → all ≡ partial ++ front → CanEnd (λ rest. summary_of_machine machine (all ++ rest)) → CanEnd (λ rest. summary_of_machine machine (partial ++ rest))
 longer_way machine partial front all is can =
-    (front ++ can.0, can.1, ap (summary_of_machine machine) (sym (append_assoc partial front can.0) ∙ ap (λ (t : List ℕ). t ++ can.0) (sym is)) ∙ can.2)
+    let regroup : (rest : List ℕ) → partial ++ ((front ++ can.0) ++ rest) ≡ all ++ (can.0 ++ rest) = λ rest.
+    ap (λ (t : List ℕ). partial ++ t) (append_assoc front can.0 rest) ∙ sym (append_assoc partial front (can.0 ++ rest)) ∙ ap (λ (t : List ℕ). t ++ (can.0 ++ rest)) (sym is) in
+    (front ++ can.0, can.1, λ rest. ap (summary_of_machine machine) (regroup rest) ∙ can.2 rest)
 
 pub same_bytes : (machine : Machine) (bytes left : List ℕ) → left ≡ bytes → Advances machine machine bytes left
 same_bytes machine bytes left is = record { taken = []; parts = sym is; each = λ rest. refl }
@@ -115,7 +128,9 @@ way_behind first old partial piece kept left none a ends can =
     let parts : (partial ++ front) ++ left ≡ a.taken ++ left =
     append_assoc partial front left ∙ ap (λ (t : List ℕ). partial ++ t) (sym ends.1) ∙ a.parts ∙ ap (λ (k : List ℕ). a.taken ++ (k ++ left)) none in
     let taken : partial ++ front ≡ a.taken = same_front (partial ++ front) a.taken left parts in
-    (front ++ can.0, can.1, ap (summary_of_machine first) (sym (append_assoc partial front can.0) ∙ ap (λ (t : List ℕ). t ++ can.0) taken) ∙ sym (a.each can.0) ∙ can.2)
+    let regroup : (rest : List ℕ) → partial ++ ((front ++ can.0) ++ rest) ≡ a.taken ++ (can.0 ++ rest) = λ rest.
+    ap (λ (t : List ℕ). partial ++ t) (append_assoc front can.0 rest) ∙ sym (append_assoc partial front (can.0 ++ rest)) ∙ ap (λ (t : List ℕ). t ++ (can.0 ++ rest)) taken in
+    (front ++ can.0, can.1, λ rest. ap (summary_of_machine first) (regroup rest) ∙ sym (a.each (can.0 ++ rest)) ∙ can.2 rest)
 
 -- The stream.
 
@@ -153,7 +168,10 @@ all_or_settled (Ok left) machine kept none (inr settled) = inr (settled_with mac
 all_or_settled (Err e) machine kept none all = tt
 
 no_way : (f : Reader Summary) → CanEnd f → ((more : List ℕ) → f more ≡ None) → ⊥
-no_way f can none = let stuck : None ≡ Some can.1 = sym (none can.0) ∙ can.2 in absurd cc
+no_way f can none =
+    let found : Summary × List ℕ = (can.1, []) in
+    let stuck : None ≡ Some found = sym (none (can.0 ++ [])) ∙ can.2 [] in
+    absurd cc
 
 pub dead_is_ok : {T : Type 0} (r : Result T AllocError) (f : Reader Summary) → (IsErr r → CanEnd f) → ((more : List ℕ) → f more ≡ None) → IsOk r
 dead_is_ok (Ok done) f way none = refl
@@ -165,16 +183,18 @@ no_length (x ∷ xs) is = absurd (omega (arith, eqb-true (length (x ∷ xs)) 0 i
 
 -- Where memory runs out.
 
-pub stops_here : (first old : Machine) (bytes left : List ℕ) → Advances first old bytes left → IsInNeededRow old.context old.state → 0 < length left → StopsInRow first bytes
-stops_here first old bytes left a inside some = record { reached = old; left = left; advances = a; inside = inside; some = some }
+pub stops_here : (first old : Machine) (bytes left : List ℕ) → Advances first old bytes left → old.context.target ≡ first.context.target → IsInNeededRow old.context old.state → 0 < length left → StopsInRow first bytes
+stops_here first old bytes left a same inside some =
+    record { reached = old; left = left; advances = a; target = same; inside = inside; some = some }
 
-pub stops_later : (first old : Machine) (bytes partial left : List ℕ) → partial ≡ [] → Advances first old bytes (partial ++ left) → StopsInRow old left → StopsInRow first bytes
-stops_later first old bytes partial left none a stops =
+pub stops_later : (first old : Machine) (bytes partial left : List ℕ) → partial ≡ [] → Advances first old bytes (partial ++ left) → old.context.target ≡ first.context.target → StopsInRow old left → StopsInRow first bytes
+stops_later first old bytes partial left none a same stops =
     let all : Advances first old bytes left = record { taken = a.taken; parts = a.parts ∙ ap (λ (p : List ℕ). a.taken ++ (p ++ left)) none; each = a.each } in
     record {
       reached = stops.reached;
       left = stops.left;
       advances = and_then first old stops.reached bytes left stops.left all stops.advances;
+      target = stops.target ∙ same;
       inside = stops.inside;
       some = stops.some;
     }

@@ -4,7 +4,7 @@ use Rattle.std.specs.Prelude.{not, option_map}
 use Rattle.std.specs.Result.{result_ok}
 use Rattle.std.proofs.lemmas.Bool.{cases_Bool, lt-ltb, ltb-false}
 use Rattle.std.proofs.lemmas.List.{length-drop}
-use Rattle.vo_spec.specs.declared.needs.Need.{Need}
+use Rattle.tree_stream.specs.declared.target.Target.{Target}
 use Rattle.vo_spec.specs.Bytes.{u16_of}
 use Rattle.vo_spec.specs.Values.{max_text}
 use Rattle.vo_spec.specs.Tables.{max_key}
@@ -160,10 +160,10 @@ short_cell (byte ∷ bytes) short =
       ]
     ]
 
-no_tree : (need : Need) (levels : ℕ) (visited : Bool) (bytes : List ℕ) → length bytes < node_size bytes → summary_at need levels visited bytes ≡ None
+no_tree : (target : Target) (levels : ℕ) (visited : Bool) (bytes : List ℕ) → length bytes < node_size bytes → summary_at target levels visited bytes ≡ None
 unfolding summary_at tree_at
-no_tree need zero visited bytes short = refl
-no_tree need (suc levels) visited bytes short = no_node_begins need levels visited bytes (λ child. short_node child bytes short)
+no_tree target zero visited bytes short = refl
+no_tree target (suc levels) visited bytes short = no_node_begins target levels visited bytes (λ child. short_node child bytes short)
 
 -- States.
 
@@ -171,19 +171,19 @@ no_tree need (suc levels) visited bytes short = no_node_begins need levels visit
 short_none : (context : Context) (state : State) (bytes : List ℕ) → complete_digest state ≡ None → length bytes < token_size state bytes → summary_from context state bytes ≡ None
 unfolding summary_from rest_of_node token_size
 short_none context (Node visited) bytes open_state short =
-    none_with context.need context.ancestors.items context.findings (rest_in context (Node visited)) bytes (no_tree context.need (levels_below context.ancestors.items) visited bytes short)
+    none_with context.target context.ancestors.items context.findings (rest_in context (Node visited)) bytes (no_tree context.target (levels_below context.ancestors.items) visited bytes short)
 short_none context (Separator head) bytes open_state short =
-    none_with context.need context.ancestors.items context.findings (rest_in context (Separator head)) bytes
-    (no_separator context.need (levels_below context.ancestors.items - 1) head.visited head.hasher head.child_visits.items (lower_separator head.has_lower context.last_key.items) head.left bytes (short_key bytes short))
+    none_with context.target context.ancestors.items context.findings (rest_in context (Separator head)) bytes
+    (no_separator context.target (levels_below context.ancestors.items - 1) head.visited head.hasher head.child_visits.items (lower_separator head.has_lower context.last_key.items) head.left bytes (short_key bytes short))
 short_none context (Key leaf) bytes open_state short =
-    none_with context.need context.ancestors.items context.findings (rest_in context (Key leaf)) bytes (no_key context.need leaf.hasher leaf.left bytes (short_key bytes short))
+    none_with context.target context.ancestors.items context.findings (rest_in context (Key leaf)) bytes (no_key context.target leaf.hasher leaf.left bytes (short_key bytes short))
 short_none context (Row leaf) bytes open_state short =
-    none_with context.need context.ancestors.items context.findings (rest_in context (Row leaf)) bytes (no_row context.need leaf.hasher context.last_key.items leaf.left bytes (short_row bytes short))
+    none_with context.target context.ancestors.items context.findings (rest_in context (Row leaf)) bytes (no_row context.target leaf.hasher context.last_key.items leaf.left bytes (short_row bytes short))
 short_none context (Cell row) bytes open_state short =
-    none_with context.need context.ancestors.items context.findings (rest_in context (Cell row)) bytes
-    (no_cell context.need row.leaf.hasher context.last_key.items row.leaf.left row.hasher row.column row.findings row.left bytes (short_cell bytes short))
+    none_with context.target context.ancestors.items context.findings (rest_in context (Cell row)) bytes
+    (no_cell context.target row.leaf.hasher context.last_key.items row.leaf.left row.hasher row.column row.findings row.left bytes (short_cell bytes short))
 short_none context (Complete digest) bytes open_state short = absurd cc
-short_none context Invalid bytes open_state short = none_with context.need context.ancestors.items context.findings (rest_in context Invalid) bytes refl
+short_none context Invalid bytes open_state short = none_with context.target context.ancestors.items context.findings (rest_in context Invalid) bytes refl
 
 abbrev summary_in : Summary × List ℕ → Summary
 summary_in end = end.0
@@ -204,19 +204,19 @@ end_some context Invalid partial d is = absurd cc
 
 -- The start.
 
-all_found : (need : Need) (o : Option (Summary × List ℕ)) → (o >>= summary_behind need [] no_findings) ≡ o
+all_found : (target : Target) (o : Option (Summary × List ℕ)) → (o >>= summary_behind target [] no_findings) ≡ o
 unfolding summary_after
-all_found need None = refl
-all_found need (Some (s, bytes)) = refl
+all_found target None = refl
+all_found target (Some (s, bytes)) = refl
 
 pub start_is : (context : Context) (bytes : List ℕ) → context.ancestors.items ≡ [] → context.findings ≡ no_findings
-    → summary_from context (Node (not (is_empty_interval context.need.interval))) bytes ≡ summary_of_tree context.need bytes
+    → summary_from context (Node (not (is_empty_interval context.target.interval))) bytes ≡ summary_of_tree context.target bytes
 unfolding summary_from summary_with rest_of_node summary_of_tree
 start_is context bytes no_ancestors none =
-    let visited : Bool = not (is_empty_interval context.need.interval) in
-    ap (λ nodes. summary_at context.need (levels_below nodes) visited bytes >>= summary_behind context.need nodes context.findings) no_ancestors
-    ∙ ap (λ (found : Findings). summary_at context.need (levels_below []) visited bytes >>= summary_behind context.need [] found) none
-    ∙ all_found context.need (summary_at context.need (levels_below []) visited bytes)
+    let visited : Bool = not (is_empty_interval context.target.interval) in
+    ap (λ nodes. summary_at context.target (levels_below nodes) visited bytes >>= summary_behind context.target nodes context.findings) no_ancestors
+    ∙ ap (λ (found : Findings). summary_at context.target (levels_below []) visited bytes >>= summary_behind context.target [] found) none
+    ∙ all_found context.target (summary_at context.target (levels_below []) visited bytes)
 
 -- A settled state.
 

@@ -68,10 +68,10 @@ pub row_way : (context : Context) (state : State) (leaf : OpenLeaf) (token : Lis
 row_way context state leaf token is few begun =
     can_same (λ rest. summary_from context state (token ++ rest)) _
     (λ rest. ap (λ (s : State). summary_from context s (token ++ rest)) is ∙ (yields_row context leaf).each (token ++ rest))
-    (row_can context.need context.ancestors.items context.findings few leaf.hasher context.last_key.items leaf.left token begun)
+    (row_can context.target context.ancestors.items context.findings few leaf.hasher context.last_key.items leaf.left token begun)
 
 pub cell_way : (context : Context) (state : State) (row : OpenRow) (token : List ℕ) → state ≡ Cell row → length context.ancestors.items ≤ 10 → BeginsCell token → CanEnd (λ rest. summary_from context state (token ++ rest))
 cell_way context state row token is few begun =
     can_same (λ rest. summary_from context state (token ++ rest)) _
     (λ rest. ap (λ (s : State). summary_from context s (token ++ rest)) is ∙ (yields_cell context row (suc row.left) refl).each (token ++ rest))
-    (cell_can context.need context.ancestors.items context.findings few row.leaf.hasher context.last_key.items row.leaf.left row.hasher row.column row.findings row.left token begun)
+    (cell_can context.target context.ancestors.items context.findings few row.leaf.hasher context.last_key.items row.leaf.left row.hasher row.column row.findings row.left token begun)

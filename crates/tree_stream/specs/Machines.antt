@@ -21,11 +21,12 @@ pub record Advances (old new : Machine) (bytes left : List ℕ) : Type 0 where
 abbrev pub EndsWith : List ℕ → List ℕ → Type 0
 EndsWith bytes end = (front : List ℕ) × (bytes ≡ front ++ end)
 
--- of these bytes the machine takes some, up to a needed row whose next byte is among those that are
--- left
+-- of these bytes the machine takes some, up to a needed row of its target, whose next byte is among
+-- those that are left
 pub record StopsInRow (old : Machine) (bytes : List ℕ) : Type 0 where
   pub reached : Machine
   pub left : List ℕ
   pub advances : Advances old reached bytes left
+  pub target : reached.context.target ≡ old.context.target
   pub inside : IsInNeededRow reached.context reached.state
   pub some : 0 < length left

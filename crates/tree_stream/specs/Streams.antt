@@ -2,6 +2,7 @@
 -- yet.
 use Rattle.std.specs.Prelude.{ℕ, ◌<◌, List, ◌++◌, length, Some, None, ◌≡◌, ◌⊎◌}
 use Rattle.batch_format.specs.BatchReading.{Reader}
+use Rattle.tree_stream.specs.declared.target.Target.{Target}
 use Rattle.tree_stream.specs.declared.findings.Summary.{Summary}
 use Rattle.tree_stream.specs.declared.stream.TreeStream.{TreeStream}
 use Rattle.tree_stream.specs.Machines.{summary_of_machine, StopsInRow}
@@ -9,7 +10,11 @@ use Rattle.tree_stream.specs.Machines.{summary_of_machine, StopsInRow}
 unfoldable pub summary_of : TreeStream → Reader Summary
 summary_of stream bytes = summary_of_machine stream.machine (stream.partial.items ++ bytes)
 
--- some byte of the piece is of a row whose key is in the need's interval
+-- what the tree is read for
+abbrev pub target_in : TreeStream → Target
+target_in stream = stream.machine.context.target
+
+-- some byte of the piece is of a row whose key is in the target's interval
 abbrev pub WantsMemory : TreeStream → List ℕ → Type 0
 WantsMemory stream piece =
     StopsInRow stream.machine (stream.partial.items ++ piece) × (0 < length piece)

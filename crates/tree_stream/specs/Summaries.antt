@@ -1,7 +1,7 @@
 -- What reading the bytes to come gives of a tree that is read in part: its summary, and the bytes
 -- behind it.
 use Rattle.std.specs.Prelude.{◌≡◌, ℕ, Bool, true, false, IsTrue, ◌-◌, not, List, [], ◌∷◌, ◌++◌, length, reverse, Option, Some, None}
-use Rattle.vo_spec.specs.declared.needs.Need.{Need}
+use Rattle.tree_stream.specs.declared.target.Target.{Target}
 use Rattle.vo_spec.specs.Scans.{in_interval, is_empty_interval}
 use Rattle.vo_spec.specs.Fits.{max_levels}
 use Rattle.row_bytes.specs.Fields.{◌>>=◌}
@@ -21,31 +21,31 @@ levels_below ancestors = max_levels - length ancestors
 
 -- Behind a node that ended with this digest, and these findings so far: the children that its
 -- ancestors still have, the nearest ancestor first.
-unfoldable pub summary_after : Need → List InnerNode → List ℕ → Findings → Reader Summary
-summary_after need [] d found bytes = Some (summary d found, bytes)
-summary_after need (node ∷ ancestors) d found bytes =
-    rest_of_children need (levels_below (node ∷ ancestors)) (node.hasher ++ d)
+unfoldable pub summary_after : Target → List InnerNode → List ℕ → Findings → Reader Summary
+summary_after target [] d found bytes = Some (summary d found, bytes)
+summary_after target (node ∷ ancestors) d found bytes =
+    rest_of_children target (levels_below (node ∷ ancestors)) (node.hasher ++ d)
     node.child_visits.items bytes >>= λ end.
-    summary_after need ancestors end.0.digest (combine found end.0.findings) end.1
+    summary_after target ancestors end.0.digest (combine found end.0.findings) end.1
 
 -- where the rest of a node is read so; its ancestors are given with the root first
-unfoldable pub summary_with : Need → List InnerNode → Findings → Reader Summary
+unfoldable pub summary_with : Target → List InnerNode → Findings → Reader Summary
     → Reader Summary
-summary_with need ancestors found read bytes = read bytes >>= λ end.
-    summary_after need (reverse ancestors) end.0.digest (combine found end.0.findings) end.1
+summary_with target ancestors found read bytes = read bytes >>= λ end.
+    summary_after target (reverse ancestors) end.0.digest (combine found end.0.findings) end.1
 
 abbrev pub summary_by : Context → Reader Summary → Reader Summary
 summary_by context read bytes =
-    summary_with context.need context.ancestors.items context.findings read bytes
+    summary_with context.target context.ancestors.items context.findings read bytes
 
 -- the rest of the node that a state is in
 abbrev pub rest_in : Context → State → Reader Summary
-rest_in context state bytes = rest_of_node context.need (levels_below context.ancestors.items)
+rest_in context state bytes = rest_of_node context.target (levels_below context.ancestors.items)
     context.last_key.items state bytes
 
 unfoldable pub summary_from : Context → State → Reader Summary
 summary_from context (Complete digest) bytes =
-    summary_after context.need [] digest context.findings bytes
+    summary_after context.target [] digest context.findings bytes
 summary_from context state bytes = summary_by context (rest_in context state) bytes
 
 -- the digest of a tree of which nothing is left
@@ -60,22 +60,23 @@ is_settled Invalid = true
 is_settled _ = false
 
 -- a tree whose root is visited unless the interval is empty
-unfoldable pub summary_of_tree : Need → Reader Summary
-summary_of_tree need bytes =
-    summary_at need max_levels (not (is_empty_interval need.interval)) bytes
+unfoldable pub summary_of_tree : Target → Reader Summary
+summary_of_tree target bytes =
+    summary_at target max_levels (not (is_empty_interval target.interval)) bytes
 
 -- whatever comes next, this is what comes of it
 pub record Yields (context : Context) (state : State) (summaries : Reader Summary) : Type 0 where
   pub each : (rest : List ℕ) → summary_from context state rest ≡ summaries rest
 
--- some bytes make a tree of it
+-- some bytes make a tree of it, whatever comes behind them
 abbrev pub CanEnd : Reader Summary → Type 0
-CanEnd summaries = (bytes : List ℕ) × (end : Summary × List ℕ) × (summaries bytes ≡ Some end)
+CanEnd summaries = (bytes : List ℕ) × (found : Summary)
+    × ((rest : List ℕ) → summaries (bytes ++ rest) ≡ Some (found, rest))
 
--- The next byte is of an entry behind its key, which is in the need's interval: there a call may
+-- The next byte is of an entry behind its key, which is in the target's interval: there a call may
 -- want memory.
 abbrev pub is_needed_row : Context → Bool
-is_needed_row context = in_interval context.need.interval context.last_key.items
+is_needed_row context = in_interval context.target.interval context.last_key.items
 
 abbrev pub IsInNeededRow : Context → State → Type 0
 IsInNeededRow context (Row leaf) = IsTrue (is_needed_row context)

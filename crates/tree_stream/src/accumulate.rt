@@ -6,10 +6,12 @@ ghost use Rattle.vo_spec.specs.Scans.{in_interval as has_key};
 ghost use Rattle.tree_stream.specs.Findings.{cell_findings, closed_row_findings, columns_at as columns_of, combine, combine_cells, entry_findings_by, no_findings, open_node_findings, row_head_findings, stub_findings};
 
 use crate::findings::{CellFindings, Findings};
+use crate::kinds::is_key_of;
+use crate::target::Target;
 use key_intervals::in_interval;
 use row_bytes::own_value;
 use std::alloc::{AllocError, Global};
-use vo_spec::{Cell, Key, List, Need, SeenRow};
+use vo_spec::{Cell, Key, Kind, List, SeenRow};
 
 pub(crate) fn empty_findings(alloc: Global) -> Findings
     ensures { result ≡ no_findings }
@@ -17,6 +19,7 @@ pub(crate) fn empty_findings(alloc: Global) -> Findings
     Findings {
         is_missing: false,
         has_surplus: false,
+        has_shape: true,
         rows: List::new(alloc),
     }
 }
@@ -33,12 +36,12 @@ pub(crate) fn add_open_node(findings: &mut Findings, visited: bool)
     findings.has_surplus = findings.has_surplus || !visited;
 }
 
-/// The columns that the need names of the row with this key.
-pub(crate) fn columns_at<'n>(need: &'n Need, key: &[u8]) -> &'n [u8]
-    ensures { result.now ≡ columns_of need.now key.now }
+/// The columns that are named of the row with this key.
+pub(crate) fn columns_at<'n>(target: &'n Target, key: &[u8]) -> &'n [u8]
+    ensures { result.now ≡ columns_of target.now key.now }
 {
-    if in_interval(&need.interval, key) {
-        need.columns.as_slice()
+    if in_interval(&target.interval, key) {
+        target.columns.as_slice()
     } else {
         &[]
     }
@@ -51,12 +54,13 @@ pub(crate) fn has_column(columns: &[u8], column: u8) -> bool
 }
 
 /// Of a row that stands as so many cells, before them.
-pub(crate) fn begin_cells(alloc: Global, named: &[u8], count: u8) -> CellFindings
-    ensures { result ≡ row_head_findings named.now count }
+pub(crate) fn begin_cells(alloc: Global, kinds: &[Kind], named: &[u8], count: u8) -> CellFindings
+    ensures { result ≡ row_head_findings kinds.now named.now count }
 {
     CellFindings {
         is_missing: names_beyond(named, count),
         has_surplus: named.is_empty(),
+        has_shape: usize::from(count) == kinds.len(),
         values: List::new(alloc),
     }
 }
@@ -74,21 +78,25 @@ pub(crate) fn closed_row(alloc: Global, named: &[u8]) -> CellFindings
     CellFindings {
         is_missing: !named.is_empty(),
         has_surplus: false,
+        has_shape: true,
         values: List::new(alloc),
     }
 }
 
-/// Adds what is found in one cell, whose column is named or isn't.
+/// Adds what is found in one cell, where its column is named or isn't, and its kind is the column's
+/// or isn't.
 pub(crate) fn add_cell(
     alloc: Global,
     findings: &mut CellFindings,
     is_named: bool,
+    fits: bool,
     cell: &Cell<'_>,
 ) -> Result<(), AllocError>
     ensures sum { OnOk result (findings.new ≡ combine_cells findings.old
-        (cell_findings is_named cell.now)) }
+        (cell_findings is_named fits cell.now)) }
     ensures memory { IsErr result → IsTrue is_named }
 {
+    findings.has_shape = findings.has_shape && fits;
     match cell {
         Cell::Hidden(_) => findings.is_missing = findings.is_missing || is_named,
         Cell::Shown(value) => {
@@ -106,22 +114,24 @@ pub(crate) fn add_cell(
 pub(crate) fn add_entry(
     alloc: Global,
     findings: &mut Findings,
-    need: &Need,
+    target: &Target,
     key: &[u8],
     found: CellFindings,
 ) -> Result<(), AllocError>
     ensures sum { OnOk result (findings.new ≡ combine findings.old
-        (entry_findings_by need.now key.now found)) }
-    ensures memory { IsErr result → IsTrue (has_key need.now.interval key.now) }
+        (entry_findings_by target.now key.now found)) }
+    ensures memory { IsErr result → IsTrue (has_key target.now.interval key.now) }
 {
     let CellFindings {
         is_missing,
         has_surplus,
+        has_shape,
         values,
     } = found;
     findings.is_missing = findings.is_missing || is_missing;
     findings.has_surplus = findings.has_surplus || has_surplus;
-    let is_seen = in_interval(&need.interval, key);
+    findings.has_shape = findings.has_shape && is_key_of(target.key_kind, key) && has_shape;
+    let is_seen = in_interval(&target.interval, key);
     if is_seen {
         let key = Key::from_vec(Vec::from_slice(alloc, key)?);
         findings.rows.push(SeenRow { key, values })?;

@@ -1,5 +1,5 @@
 //! From a node that ends up to its ancestors, and down to their next children.
-ghost use Rattle.std.specs.Prelude.{◌-◌, ◌<◌, length, reverse};
+ghost use Rattle.std.specs.Prelude.{◌≡◌, ◌-◌, ◌<◌, length, reverse};
 ghost use Rattle.tree_stream.specs.Remaining.{rest_of_children};
 ghost use Rattle.tree_stream.specs.Summaries.{Yields, levels_below, summary_after, summary_by};
 
@@ -10,9 +10,10 @@ use vo_spec::Digest;
 /// Reads the next child of a node, which becomes the last of the ancestors.
 pub(crate) fn next_child(context: &mut Context, node: InnerNode) -> State
     requires { 0 < length node.child_visits.items }
-    ensures { Yields context.new result (summary_by context.old
-        (rest_of_children context.old.need (levels_below context.old.ancestors.items - 1)
+    ensures yields { Yields context.new result (summary_by context.old
+        (rest_of_children context.old.target (levels_below context.old.ancestors.items - 1)
         node.hasher node.child_visits.items)) }
+    ensures target { context.new.target ≡ context.old.target }
 {
     if context.ancestors.is_full() {
         return State::Invalid;
@@ -31,8 +32,9 @@ pub(crate) fn next_child(context: &mut Context, node: InnerNode) -> State
 
 /// A node with this digest ends.
 pub(crate) fn end_node(context: &mut Context, digest: Digest) -> State
-    ensures { Yields context.new result (summary_after context.old.need
+    ensures yields { Yields context.new result (summary_after context.old.target
         (reverse context.old.ancestors.items) digest context.old.findings) }
+    ensures target { context.new.target ≡ context.old.target }
 {
     match context.ancestors.pop() {
         None => State::Complete(digest),

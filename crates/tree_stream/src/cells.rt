@@ -10,6 +10,7 @@ ghost use Rattle.tree_stream.specs.Tokens.{cell_size};
 
 use crate::accumulate::{add_cell, columns_at, has_column};
 use crate::context::Context;
+use crate::kinds::fits_kind;
 use crate::leaves::next_cell;
 use crate::parse::parse_cell;
 use crate::state::{OpenRow, State};
@@ -41,10 +42,11 @@ pub(crate) fn take_cell(
 ) -> Result<State, AllocError>
     requires { length token.now ≡ cell_size token.now }
     ensures ok { IfOk result (λ state. Yields context.new state (λ rest. summary_by context.old
-        (rest_of_cells context.old.need row.leaf.hasher context.old.last_key.items row.leaf.left
+        (rest_of_cells context.old.target row.leaf.hasher context.old.last_key.items row.leaf.left
         row.hasher row.column row.findings (suc row.left)) (token.now ++ rest))) }
     ensures good { IsErr result → BeginsCell token.now }
     ensures memory { IsErr result → IsTrue (is_needed_row context.old) }
+    ensures target { context.new.target ≡ context.old.target }
 {
     match parse_cell(token) {
         None => Ok(State::Invalid),
@@ -62,9 +64,10 @@ fn add_whole_cell(
     requires encoded { token.now ≡ cell_form cell.now }
     requires fits { FitsCell cell.now }
     ensures ok { IfOk result (λ state. Yields context.new state (λ rest. summary_by context.old
-        (rest_of_cells context.old.need row.leaf.hasher context.old.last_key.items row.leaf.left
+        (rest_of_cells context.old.target row.leaf.hasher context.old.last_key.items row.leaf.left
         row.hasher row.column row.findings (suc row.left)) (token.now ++ rest))) }
     ensures memory { IsErr result → IsTrue (is_needed_row context.old) }
+    ensures target { context.new.target ≡ context.old.target }
 {
     let OpenRow {
         leaf,
@@ -73,9 +76,10 @@ fn add_whole_cell(
         left,
         mut findings,
     } = row;
-    let named = columns_at(&context.need, context.last_key.as_slice());
+    let named = columns_at(&context.target, context.last_key.as_slice());
     let is_named = has_column(named, column);
+    let fits = fits_kind(context.target.cell_kinds.as_slice(), column, cell);
     hash_cell(&mut hasher, column, cell, token);
-    add_cell(alloc, &mut findings, is_named, cell)?;
+    add_cell(alloc, &mut findings, is_named, fits, cell)?;
     next_cell(context, alloc, leaf, hasher, column + 1, findings, left)
 }

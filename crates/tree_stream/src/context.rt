@@ -1,12 +1,12 @@
 //! What stays while one node after another is read.
 use crate::findings::Findings;
 use crate::state::InnerNode;
+use crate::target::Target;
 use arrayvec::ArrayVec;
-use vo_spec::Need;
 
 #[derive(Drop)]
 pub(crate) struct Context {
-    pub need: Need,
+    pub target: Target,
     /// The inner nodes above the one that is read, the root first.
     pub ancestors: ArrayVec<InnerNode, 10>,
     /// What was found so far.

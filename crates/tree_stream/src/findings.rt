@@ -1,15 +1,17 @@
-//! What a need finds in a tree.
+//! What is found in a tree that is read for a target.
 
 use vo_spec::{Digest, List, SeenRow, Value};
 
-/// What one need finds in a tree, or in a part of one.
+/// What is found in a tree, or in a part of one.
 #[derive(Debug, Drop)]
 pub struct Findings {
-    /// A node or a cell that the need reads is hidden.
+    /// A node or a cell that the target reads is hidden.
     pub is_missing: bool,
-    /// A node or a cell that the need doesn't read is shown.
+    /// A node or a cell that the target doesn't read is shown.
     pub has_surplus: bool,
-    /// Of each entry with its key in the need's interval: the key, and the values of named columns.
+    /// The leaves' keys, the counts of cells and the kinds of shown cells are those of the table.
+    pub has_shape: bool,
+    /// Of each entry with its key in the interval: the key, and the values of named columns.
     pub rows: List<SeenRow>,
 }
 
@@ -20,10 +22,11 @@ pub struct Summary {
     pub findings: Findings,
 }
 
-/// What is found in the cells of one row, with the values that the need names.
+/// What is found in the cells of one row, with the values of named columns.
 #[derive(Drop)]
 pub(crate) struct CellFindings {
     pub is_missing: bool,
     pub has_surplus: bool,
+    pub has_shape: bool,
     pub values: List<Value>,
 }

@@ -13,10 +13,10 @@ use crate::context::Context;
 use crate::leaves::replace_key;
 use crate::parse::parse_key;
 use crate::state::{InnerHead, InnerNode, State};
+use crate::target::Target;
 use arrayvec::ArrayVec;
 use key_intervals::visits;
 use running_hash::RunningHash;
-use vo_spec::Need;
 
 fn lower_separator(has_lower: bool, last_key: &[u8]) -> Option<&[u8]>
     ensures { option_copied result ≡ separator_below has_lower last_key.now }
@@ -24,11 +24,11 @@ fn lower_separator(has_lower: bool, last_key: &[u8]) -> Option<&[u8]>
     if has_lower { Some(last_key) } else { None }
 }
 
-fn visits_child(need: &Need, visited: bool, lower: Option<&[u8]>, upper: Option<&[u8]>) -> bool
-    ensures { result ≡ visits_between need.now visited (option_copied lower.entry)
+fn visits_child(target: &Target, visited: bool, lower: Option<&[u8]>, upper: Option<&[u8]>) -> bool
+    ensures { result ≡ visits_between target.now visited (option_copied lower.entry)
         (option_copied upper.entry) }
 {
-    visited && visits(&need.interval, lower, upper)
+    visited && visits(&target.interval, lower, upper)
 }
 
 /// So many more separators, and then the children.
@@ -41,9 +41,11 @@ pub(crate) fn next_separator(
     left: u8,
 ) -> State
     requires { length child_visits.items + (left + 1) ≤ max_fill }
-    ensures { Yields context.new result (summary_by context.old (rest_of_inner context.old.need
+    ensures yields { Yields context.new result (summary_by context.old
+        (rest_of_inner context.old.target
         (levels_below context.old.ancestors.items - 1) visited hasher child_visits.items
         (separator_below has_lower context.old.last_key.items) left)) }
+    ensures target { context.new.target ≡ context.old.target }
 {
     if left > 0 {
         return State::Separator(InnerHead {
@@ -55,7 +57,7 @@ pub(crate) fn next_separator(
         });
     }
     let lower = lower_separator(has_lower, context.last_key.as_slice());
-    child_visits.push(visits_child(&context.need, visited, lower, None));
+    child_visits.push(visits_child(&context.target, visited, lower, None));
     next_child(
         context,
         InnerNode {
@@ -67,11 +69,12 @@ pub(crate) fn next_separator(
 
 pub(crate) fn take_separator(context: &mut Context, head: InnerHead, token: &[u8]) -> State
     requires { length token.now ≡ string_size max_key token.now }
-    ensures { Yields context.new result (λ rest. summary_by context.old
-        (rest_of_inner context.old.need (levels_below context.old.ancestors.items - 1)
+    ensures yields { Yields context.new result (λ rest. summary_by context.old
+        (rest_of_inner context.old.target (levels_below context.old.ancestors.items - 1)
         head.visited head.hasher head.child_visits.items
         (separator_below head.has_lower context.old.last_key.items) (suc head.left))
         (token.now ++ rest)) }
+    ensures target { context.new.target ≡ context.old.target }
 {
     match parse_key(token) {
         None => State::Invalid,
@@ -85,7 +88,7 @@ pub(crate) fn take_separator(context: &mut Context, head: InnerHead, token: &[u8
             } = head;
             hasher.add(token);
             let lower = lower_separator(has_lower, context.last_key.as_slice());
-            child_visits.push(visits_child(&context.need, visited, lower, Some(separator)));
+            child_visits.push(visits_child(&context.target, visited, lower, Some(separator)));
             replace_key(&mut context.last_key, separator);
             next_separator(context, hasher, visited, true, child_visits, left)
         },

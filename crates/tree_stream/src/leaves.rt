@@ -21,8 +21,9 @@ use vo_spec::Digest;
 
 /// So many more entries of a leaf.
 pub(crate) fn next_entry(context: &mut Context, hasher: RunningHash, left: u8) -> State
-    ensures { Yields context.new result (summary_by context.old
-        (rest_of_leaf context.old.need hasher left)) }
+    ensures yields { Yields context.new result (summary_by context.old
+        (rest_of_leaf context.old.target hasher left)) }
+    ensures target { context.new.target ≡ context.old.target }
 {
     if left == 0 {
         return end_node(context, hasher.digest());
@@ -44,8 +45,9 @@ pub(crate) fn replace_key(last_key: &mut ArrayVec<u8, 255>, key: &[u8])
 
 pub(crate) fn take_key(context: &mut Context, leaf: OpenLeaf, token: &[u8]) -> State
     requires { length token.now ≡ string_size max_key token.now }
-    ensures { Yields context.new result (λ rest. summary_by context.old
-        (rest_of_leaf context.old.need leaf.hasher (suc leaf.left)) (token.now ++ rest)) }
+    ensures yields { Yields context.new result (λ rest. summary_by context.old
+        (rest_of_leaf context.old.target leaf.hasher (suc leaf.left)) (token.now ++ rest)) }
+    ensures target { context.new.target ≡ context.old.target }
 {
     match parse_key(token) {
         None => State::Invalid,
@@ -67,15 +69,16 @@ pub(crate) fn end_row(
     found: CellFindings,
 ) -> Result<State, AllocError>
     ensures ok { IfOk result (λ state. Yields context.new state (summary_by context.old
-        (with_findings (entry_findings_by context.old.need context.old.last_key.items found)
-        (rest_of_leaf context.old.need (leaf.hasher ++ digest) leaf.left)))) }
+        (with_findings (entry_findings_by context.old.target context.old.last_key.items found)
+        (rest_of_leaf context.old.target (leaf.hasher ++ digest) leaf.left)))) }
     ensures memory { IsErr result → IsTrue (is_needed_row context.old) }
+    ensures target { context.new.target ≡ context.old.target }
 {
     let OpenLeaf { mut hasher, left } = leaf;
     add_entry(
         alloc,
         &mut context.findings,
-        &context.need,
+        &context.target,
         context.last_key.as_slice(),
         found,
     )?;
@@ -95,9 +98,10 @@ pub(crate) fn next_cell(
 ) -> Result<State, AllocError>
     requires { column + left ≤ max_cells }
     ensures ok { IfOk result (λ state. Yields context.new state (summary_by context.old
-        (rest_of_cells context.old.need leaf.hasher context.old.last_key.items leaf.left hasher
+        (rest_of_cells context.old.target leaf.hasher context.old.last_key.items leaf.left hasher
         column found left))) }
     ensures memory { IsErr result → IsTrue (is_needed_row context.old) }
+    ensures target { context.new.target ≡ context.old.target }
 {
     if left == 0 {
         return end_row(context, alloc, leaf, hasher.digest(), found);
@@ -119,10 +123,11 @@ pub(crate) fn take_row(
 ) -> Result<State, AllocError>
     requires { length token.now ≡ row_size token.now }
     ensures ok { IfOk result (λ state. Yields context.new state (λ rest. summary_by context.old
-        (rest_of_row context.old.need leaf.hasher context.old.last_key.items leaf.left)
+        (rest_of_row context.old.target leaf.hasher context.old.last_key.items leaf.left)
         (token.now ++ rest))) }
     ensures good { IsErr result → BeginsRow token.now }
     ensures memory { IsErr result → IsTrue (is_needed_row context.old) }
+    ensures target { context.new.target ≡ context.old.target }
 {
     match parse_row(token) {
         RowToken::Digest(digest) => take_closed_row(context, alloc, leaf, digest),
@@ -138,12 +143,13 @@ fn take_closed_row(
     digest: Digest,
 ) -> Result<State, AllocError>
     ensures ok { IfOk result (λ state. Yields context.new state (λ rest. summary_by context.old
-        (rest_of_row context.old.need leaf.hasher context.old.last_key.items leaf.left)
+        (rest_of_row context.old.target leaf.hasher context.old.last_key.items leaf.left)
         (0 ∷ digest ++ rest))) }
     ensures memory { IsErr result → IsTrue (is_needed_row context.old) }
+    ensures target { context.new.target ≡ context.old.target }
 {
     let _length = digest.as_bytes();
-    let named = columns_at(&context.need, context.last_key.as_slice());
+    let named = columns_at(&context.target, context.last_key.as_slice());
     let found = closed_row(alloc, named);
     end_row(context, alloc, leaf, digest, found)
 }
@@ -156,12 +162,14 @@ fn take_open_row(
 ) -> Result<State, AllocError>
     requires { count ≤ max_cells }
     ensures ok { IfOk result (λ state. Yields context.new state (λ rest. summary_by context.old
-        (rest_of_row context.old.need leaf.hasher context.old.last_key.items leaf.left)
+        (rest_of_row context.old.target leaf.hasher context.old.last_key.items leaf.left)
         (1 ∷ count ∷ rest))) }
     ensures memory { IsErr result → IsTrue (is_needed_row context.old) }
+    ensures target { context.new.target ≡ context.old.target }
 {
-    let named = columns_at(&context.need, context.last_key.as_slice());
-    let found = begin_cells(alloc, named, count);
+    let target = &context.target;
+    let named = columns_at(target, context.last_key.as_slice());
+    let found = begin_cells(alloc, target.cell_kinds.as_slice(), named, count);
     let mut hasher = RunningHash::new();
     hasher.add(&[2, count]);
     next_cell(context, alloc, leaf, hasher, 0, found, count)

@@ -1,5 +1,5 @@
 //! One part tree of a reply, read in whatever pieces it comes, without holding it: its digest, and
-//! what a need finds in it.
+//! what is found in it for a need.
 #![tactic(auto)]
 
 mod accumulate;
@@ -8,6 +8,7 @@ mod cells;
 mod context;
 mod findings;
 mod inner;
+mod kinds;
 mod laws;
 mod leaves;
 mod machine;
@@ -17,6 +18,7 @@ mod pieces;
 mod state;
 mod stream;
 mod take;
+mod target;
 #[cfg(test)]
 mod tests;
 mod tokens;
@@ -24,3 +26,4 @@ mod tokens;
 pub use findings::{Findings, Summary};
 pub use laws::{findings_judge_proofs, trees_have_their_summary};
 pub use stream::TreeStream;
+pub use target::Target;

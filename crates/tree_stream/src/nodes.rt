@@ -18,9 +18,10 @@ use vo_spec::Digest;
 
 pub(crate) fn take_node(context: &mut Context, visited: bool, token: &[u8]) -> State
     requires { length token.now ≡ node_size token.now }
-    ensures { Yields context.new result (λ rest. summary_by context.old
-        (summary_at context.old.need (levels_below context.old.ancestors.items) visited)
+    ensures yields { Yields context.new result (λ rest. summary_by context.old
+        (summary_at context.old.target (levels_below context.old.ancestors.items) visited)
         (token.now ++ rest)) }
+    ensures target { context.new.target ≡ context.old.target }
 {
     let _room = context.ancestors.len();
     match parse_node(token) {
@@ -32,9 +33,10 @@ pub(crate) fn take_node(context: &mut Context, visited: bool, token: &[u8]) -> S
 }
 
 fn take_stub(context: &mut Context, visited: bool, digest: Digest) -> State
-    ensures { Yields context.new result (λ rest. summary_by context.old
-        (summary_at context.old.need (levels_below context.old.ancestors.items) visited)
+    ensures yields { Yields context.new result (λ rest. summary_by context.old
+        (summary_at context.old.target (levels_below context.old.ancestors.items) visited)
         (0 ∷ digest ++ rest)) }
+    ensures target { context.new.target ≡ context.old.target }
 {
     let _room = context.ancestors.len();
     let _length = digest.as_bytes();
@@ -44,9 +46,10 @@ fn take_stub(context: &mut Context, visited: bool, digest: Digest) -> State
 
 fn take_leaf(context: &mut Context, visited: bool, count: u8) -> State
     requires { count ≤ max_fill }
-    ensures { Yields context.new result (λ rest. summary_by context.old
-        (summary_at context.old.need (levels_below context.old.ancestors.items) visited)
+    ensures yields { Yields context.new result (λ rest. summary_by context.old
+        (summary_at context.old.target (levels_below context.old.ancestors.items) visited)
         (1 ∷ count ∷ rest)) }
+    ensures target { context.new.target ≡ context.old.target }
 {
     let _room = context.ancestors.len();
     add_open_node(&mut context.findings, visited);
@@ -58,9 +61,10 @@ fn take_leaf(context: &mut Context, visited: bool, count: u8) -> State
 fn take_inner(context: &mut Context, visited: bool, count: u8) -> State
     requires least { 2 ≤ count }
     requires few { count ≤ max_fill }
-    ensures { Yields context.new result (λ rest. summary_by context.old
-        (summary_at context.old.need (levels_below context.old.ancestors.items) visited)
+    ensures yields { Yields context.new result (λ rest. summary_by context.old
+        (summary_at context.old.target (levels_below context.old.ancestors.items) visited)
         (2 ∷ count ∷ rest)) }
+    ensures target { context.new.target ≡ context.old.target }
 {
     let _room = context.ancestors.len();
     add_open_node(&mut context.findings, visited);

@@ -23,6 +23,7 @@ fn take_all<'b>(
     ensures err { OnErr result (machine.new.state ≡ State.Invalid) }
     ensures way { IsErr result → CanEnd (summary_of_machine machine.old) }
     ensures memory { IsErr result → StopsInRow machine.old bytes.now }
+    ensures target { machine.new.context.target ≡ machine.old.context.target }
 {
     let mut left = bytes;
     let mut size = token_size(&machine.state, left);
@@ -56,6 +57,7 @@ fn fill<'b>(
         (partial.old.items ++ rest)) }
     ensures memory { IsErr result → StopsInRow machine.old (partial.old.items ++ piece.now) }
     ensures some { IsErr result → 0 < length piece.now }
+    ensures target { machine.new.context.target ≡ machine.old.context.target }
 {
     let lacking = token_size(&machine.state, partial.as_slice()) - partial.len();
     let (front, left) = split_within(piece, lacking);
@@ -123,6 +125,7 @@ fn feed_whole<'b>(
     ensures err { OnErr result (machine.new.state ≡ State.Invalid) }
     ensures way { IsErr result → CanEnd (summary_of_machine machine.old) }
     ensures memory { IsErr result → StopsInRow machine.old bytes.now }
+    ensures target { machine.new.context.target ≡ machine.old.context.target }
 {
     let left = take_all(machine, alloc, bytes)?;
     if is_settled(&machine.state) {
@@ -153,6 +156,7 @@ pub(crate) fn feed_piece<'b>(
         (partial.old.items ++ rest)) }
     ensures memory { IsErr result → StopsInRow machine.old (partial.old.items ++ piece.now) }
     ensures some { IsErr result → 0 < length piece.now }
+    ensures target { machine.new.context.target ≡ machine.old.context.target }
 {
     if is_settled(&machine.state) {
         return Ok(piece);

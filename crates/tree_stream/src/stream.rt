@@ -1,6 +1,6 @@
 //! A tree whose bytes come in pieces.
 ghost use Rattle.std.specs.Prelude.{◌≡◌, ◌⊎◌, ◌<◌, ◌++◌, ℕ, List, [], None, length, option_map, IsTrue, IsErr, IsOk, IfOk, OnErr};
-ghost use Rattle.tree_stream.specs.Summaries.{complete_digest as digest_where_complete, is_settled, summary_of_tree};
+ghost use Rattle.tree_stream.specs.Summaries.{CanEnd, complete_digest as digest_where_complete, is_settled, summary_of_tree};
 ghost use Rattle.tree_stream.specs.Tokens.{token_size};
 
 use crate::accumulate::empty_findings;
@@ -9,10 +9,11 @@ use crate::findings::Summary;
 use crate::machine::Machine;
 use crate::pieces::feed_piece;
 use crate::state::State;
+use crate::target::Target;
 use arrayvec::ArrayVec;
 use key_intervals::is_empty_interval;
 use std::alloc::{AllocError, Global};
-use vo_spec::{Digest, Need};
+use vo_spec::Digest;
 
 /// A reader of one tree. It holds no more of the bytes than a token that isn't whole.
 #[derive(Drop)]
@@ -24,17 +25,19 @@ pub struct TreeStream {
 }
 
 impl TreeStream {
-    ghost use Rattle.tree_stream.specs.Streams.{IsSettled, WantsMemory, summary_of};
+    ghost use Rattle.tree_stream.specs.Streams.{IsSettled, WantsMemory, summary_of, target_in};
 
-    /// A reader that was given no bytes, of a tree that is read for a need.
-    pub fn new(alloc: Global, need: Need) -> TreeStream
-        ensures { (bytes : List ℕ) → summary_of result bytes ≡ summary_of_tree need bytes }
+    /// A reader that was given no bytes, of a tree that is read for a target.
+    pub fn new(alloc: Global, target: Target) -> TreeStream
+        ensures summary { (bytes : List ℕ)
+            → summary_of result bytes ≡ summary_of_tree target bytes }
+        ensures target { target_in result ≡ target }
     {
-        let visited = !is_empty_interval(&need.interval);
+        let visited = !is_empty_interval(&target.interval);
         TreeStream {
             machine: Machine {
                 context: Context {
-                    need,
+                    target,
                     ancestors: ArrayVec::new(),
                     findings: empty_findings(alloc),
                     last_key: ArrayVec::new(),
@@ -60,10 +63,12 @@ impl TreeStream {
         ensures err { OnErr result ((more : List ℕ) → summary_of self.new more ≡ None) }
 
         // Memory runs out only while the bytes so far can still become a tree.
+        ensures way { IsErr result → CanEnd (summary_of self.old) }
         ensures dead { ((more : List ℕ) → summary_of self.old more ≡ None) → IsOk result }
 
         // It runs out only at a byte of the piece that is of a row whose key is in the interval.
         ensures memory { IsErr result → WantsMemory self.old piece.now }
+        ensures target { target_in self.new ≡ target_in self.old }
     {
         feed_piece(&mut self.machine, &mut self.partial, alloc, piece)
     }

@@ -26,6 +26,7 @@ fn next_state(
     ensures way { IsErr result → CanEnd (λ rest. summary_from context.old state
         (token.now ++ rest)) }
     ensures memory { IsErr result → IsInNeededRow context.old state }
+    ensures target { context.new.target ≡ context.old.target }
 {
     let _room = context.ancestors.len();
     match state {
@@ -47,6 +48,7 @@ pub(crate) fn take(machine: &mut Machine, alloc: Global, token: &[u8]) -> Result
     ensures way { IsErr result → CanEnd (λ rest. summary_of_machine machine.old
         (token.now ++ rest)) }
     ensures memory { IsErr result → IsInNeededRow machine.old.context machine.old.state }
+    ensures target { machine.new.context.target ≡ machine.old.context.target }
 {
     let state = mem::replace(&mut machine.state, State::Invalid);
     machine.state = next_state(&mut machine.context, alloc, state, token)?;

@@ -2,11 +2,11 @@
 //! sizes.
 ghost use Rattle.std.specs.Prelude.{◌<◌};
 
-use crate::{Summary, TreeStream};
+use crate::{Summary, Target, TreeStream};
 use std::alloc::{AllocError, Global};
 use std::process::Abort;
 use std::test::Fail;
-use vo_spec::{Bound, Interval, Key, Need, SharedList, Value};
+use vo_spec::{Bound, Column, Interval, Key, Kind, List, Name, Need, Schema, SharedList, Value};
 
 /// The proof for the keys from `n` on and their column 1. An inner node has two leaves: the left
 /// one is a stub; the right one has the row of `k` as a digest, and of that of `x` the text `four`.
@@ -39,14 +39,33 @@ fn need(alloc: Global) -> Result<Need, AllocError> {
     })
 }
 
+/// A schema of four columns of these kinds, of which the second is the key.
+fn schema(alloc: Global, kinds: [Kind; 4]) -> Result<Schema, AllocError> {
+    let mut columns = Vec::new(alloc);
+    for (place, name) in [b"a", b"b", b"c", b"d"].iter().enumerate() {
+        columns.push(Column {
+            name: Name::from_vec(Vec::from_slice(alloc, name.as_slice())?),
+            kind: kinds[place],
+        })?;
+    }
+    Ok(Schema {
+        columns: List::from_vec(columns),
+        key: 1,
+    })
+}
+
+/// The kinds of the table of the tree.
+static KINDS: [Kind; 4] = [Kind::Int, Kind::Text, Kind::Text, Kind::Bool];
+
 fn summary_in_pieces(
     alloc: Global,
+    target: Target,
     bytes: &[u8],
     size: usize,
 ) -> Result<Option<Summary>, AllocError>
     requires { 0 < size }
 {
-    let mut stream = TreeStream::new(alloc, need(alloc)?);
+    let mut stream = TreeStream::new(alloc, target);
     for piece in bytes.chunks(size) {
         if !stream.feed(alloc, piece)?.is_empty() {
             return Ok(None);
@@ -58,10 +77,12 @@ fn summary_in_pieces(
 fn assert_found(rt: &impl Abort, alloc: Global, size: usize) -> Result<(), Fail>
     requires { 0 < size }
 {
-    let summary = summary_in_pieces(alloc, &PROOF, size)?.ok_or("no tree")?;
+    let target = Target::new(alloc, need(alloc)?, &schema(alloc, KINDS)?)?;
+    let summary = summary_in_pieces(alloc, target, &PROOF, size)?.ok_or("no tree")?;
     assert_eq!(rt; *summary.digest.as_bytes(), ROOT);
     assert!(rt; !summary.findings.is_missing);
     assert!(rt; !summary.findings.has_surplus);
+    assert!(rt; summary.findings.has_shape);
     assert_eq!(rt; summary.findings.rows.len(), 1);
     let row = summary.findings.rows.get(0).ok_or("no row")?;
     assert_eq!(rt; row.key.as_bytes(), b"x".as_slice());
@@ -87,9 +108,23 @@ fn reads_a_tree_in_sevens(rt: HostRuntime) -> Result<(), Fail> {
 }
 
 #[test]
+fn sees_a_cell_of_another_kind(rt: HostRuntime) -> Result<(), Fail> {
+    let alloc = rt.alloc();
+    let kinds = [Kind::Int, Kind::Text, Kind::Int, Kind::Bool];
+    let target = Target::new(alloc, need(alloc)?, &schema(alloc, kinds)?)?;
+    let summary = summary_in_pieces(alloc, target, &PROOF, 7)?.ok_or("no tree")?;
+    assert!(rt; !summary.findings.has_shape);
+    Ok(())
+}
+
+#[test]
 fn finds_no_tree_in_a_part(rt: HostRuntime) -> Result<(), Fail> {
-    assert!(rt; summary_in_pieces(rt.alloc(), &PROOF[..154], 7)?.is_none());
-    assert!(rt; summary_in_pieces(rt.alloc(), &PROOF[1..], 7)?.is_none());
+    assert!(rt;
+        summary_in_pieces(rt.alloc(), Target::nothing(rt.alloc()), &PROOF[..154], 7)?.is_none()
+    );
+    assert!(rt;
+        summary_in_pieces(rt.alloc(), Target::nothing(rt.alloc()), &PROOF[1..], 7)?.is_none()
+    );
     Ok(())
 }
 
@@ -106,9 +141,18 @@ fn nested_nodes(alloc: Global, count: usize) -> Result<Vec<u8>, AllocError> {
     Ok(bytes)
 }
 
+fn nested_summary(alloc: Global, count: usize) -> Result<Option<Summary>, AllocError> {
+    summary_in_pieces(
+        alloc,
+        Target::nothing(alloc),
+        &nested_nodes(alloc, count)?,
+        7,
+    )
+}
+
 #[test]
 fn reads_eleven_levels_and_no_more(rt: HostRuntime) -> Result<(), Fail> {
-    assert!(rt; summary_in_pieces(rt.alloc(), &nested_nodes(rt.alloc(), 10)?, 7)?.is_some());
-    assert!(rt; summary_in_pieces(rt.alloc(), &nested_nodes(rt.alloc(), 11)?, 7)?.is_none());
+    assert!(rt; nested_summary(rt.alloc(), 10)?.is_some());
+    assert!(rt; nested_summary(rt.alloc(), 11)?.is_none());
     Ok(())
 }

@@ -6,12 +6,12 @@ use Rattle.tree_stream.proofs.Remainders.{none_with}
 use Rattle.tree_stream.proofs.Steps.{yields_invalid, no_children, child_step}
 use Rattle.tree_stream.proofs.ancestors.next_child.Goals as goal
 
-pub returns-then-is_full : goal.returns-then-is_full
-returns-then-is_full c =
-    yields_invalid _ _ (λ rest. none_with c.args.context.now.need c.args.context.now.ancestors.items c.args.context.now.findings
-    (rest_of_children c.args.context.now.need (levels_below c.args.context.now.ancestors.items - 1) c.args.node.hasher c.args.node.child_visits.items) rest
-    (no_children c.args.context.now.need (levels_below c.args.context.now.ancestors.items - 1) c.args.node.hasher c.args.node.child_visits.items rest c.requires (grind (arith, eqb-true, c.is_full.ensures.value, c.if-is_full.true))))
+pub returns-then-is_full-clause-yields : goal.returns-then-is_full-clause-yields
+returns-then-is_full-clause-yields c =
+    yields_invalid _ _ (λ rest. none_with c.args.context.now.target c.args.context.now.ancestors.items c.args.context.now.findings
+    (rest_of_children c.args.context.now.target (levels_below c.args.context.now.ancestors.items - 1) c.args.node.hasher c.args.node.child_visits.items) rest
+    (no_children c.args.context.now.target (levels_below c.args.context.now.ancestors.items - 1) c.args.node.hasher c.args.node.child_visits.items rest c.requires (grind (arith, eqb-true, c.is_full.ensures.value, c.if-is_full.true))))
 
-pub returns : goal.returns
-returns c =
+pub returns-clause-yields : goal.returns-clause-yields
+returns-clause-yields c =
     child_step c.args.context.now _ c.args.node _ c.remove-visited.result c.requires c.remove-visited.ensures.value refl c.remove-visited.ensures.items refl refl c.push.ensures.items

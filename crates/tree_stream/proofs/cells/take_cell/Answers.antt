@@ -7,9 +7,9 @@ use Rattle.tree_stream.proofs.cells.take_cell.Goals as goal
 
 pub returns-in-None-clause-ok : goal.returns-in-None-clause-ok
 returns-in-None-clause-ok c =
-    let need = c.args.context.now.need in
+    let target = c.args.context.now.target in
     let key = c.args.context.now.last_key.items in
     let row = c.args.row in
-    yields_invalid _ _ (λ rest. none_with need c.args.context.now.ancestors.items c.args.context.now.findings
-    (rest_of_cells need row.leaf.hasher key row.leaf.left row.hasher row.column row.findings (suc row.left)) (c.args.token.now ++ rest)
-    (no_cell need row.leaf.hasher key row.leaf.left row.hasher row.column row.findings row.left (c.args.token.now ++ rest) (c.in-None.ensures rest)))
+    yields_invalid _ _ (λ rest. none_with target c.args.context.now.ancestors.items c.args.context.now.findings
+    (rest_of_cells target row.leaf.hasher key row.leaf.left row.hasher row.column row.findings (suc row.left)) (c.args.token.now ++ rest)
+    (no_cell target row.leaf.hasher key row.leaf.left row.hasher row.column row.findings row.left (c.args.token.now ++ rest) (c.in-None.ensures rest)))

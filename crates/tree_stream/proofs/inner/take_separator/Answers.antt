@@ -7,26 +7,26 @@ use Rattle.tree_stream.proofs.Remainders.{same_with, none_with}
 use Rattle.tree_stream.proofs.Steps.{yields_invalid, yields_then, separator_step}
 use Rattle.tree_stream.proofs.inner.take_separator.Goals as goal
 
-pub returns-in-None : goal.returns-in-None
-returns-in-None c =
-    let need = c.args.context.now.need in
+pub returns-in-None-clause-yields : goal.returns-in-None-clause-yields
+returns-in-None-clause-yields c =
+    let target = c.args.context.now.target in
     let levels = levels_below c.args.context.now.ancestors.items - 1 in
     let lower = lower_separator c.args.head.has_lower c.args.context.now.last_key.items in
-    yields_invalid _ _ (λ rest. none_with need c.args.context.now.ancestors.items c.args.context.now.findings
-    (rest_of_inner need levels c.args.head.visited c.args.head.hasher c.args.head.child_visits.items lower (suc c.args.head.left)) (c.args.token.now ++ rest)
-    (no_separator need levels c.args.head.visited c.args.head.hasher c.args.head.child_visits.items lower c.args.head.left (c.args.token.now ++ rest) (c.in-None.ensures rest)))
+    yields_invalid _ _ (λ rest. none_with target c.args.context.now.ancestors.items c.args.context.now.findings
+    (rest_of_inner target levels c.args.head.visited c.args.head.hasher c.args.head.child_visits.items lower (suc c.args.head.left)) (c.args.token.now ++ rest)
+    (no_separator target levels c.args.head.visited c.args.head.hasher c.args.head.child_visits.items lower c.args.head.left (c.args.token.now ++ rest) (c.in-None.ensures rest)))
 
-pub returns-in-Some : goal.returns-in-Some
-returns-in-Some c =
-    let need = c.args.context.now.need in
+pub returns-in-Some-clause-yields : goal.returns-in-Some-clause-yields
+returns-in-Some-clause-yields c =
+    let target = c.args.context.now.target in
     let levels = levels_below c.args.context.now.ancestors.items - 1 in
     let lower = lower_separator c.args.head.has_lower c.args.context.now.last_key.items in
-    yields_then _ _ _ _ c.next_separator.ensures (λ rest.
-    same_with need c.args.context.now.ancestors.items c.args.context.now.findings
-    (rest_of_inner need levels c.args.head.visited c.add.new.self c.push.new.self.items (Some c.replace_key.new.last_key.items) c.args.head.left)
-    (rest_of_inner need levels c.args.head.visited c.args.head.hasher c.args.head.child_visits.items lower (suc c.args.head.left)) rest (c.args.token.now ++ rest)
-    (separator_step need levels c.args.head.visited c.args.head.hasher c.add.new.self c.args.head.child_visits.items c.push.new.self.items c.visits_child.result lower c.args.head.left
+    yields_then _ _ _ _ c.next_separator.ensures.yields (λ rest.
+    same_with target c.args.context.now.ancestors.items c.args.context.now.findings
+    (rest_of_inner target levels c.args.head.visited c.add.new.self c.push.new.self.items (Some c.replace_key.new.last_key.items) c.args.head.left)
+    (rest_of_inner target levels c.args.head.visited c.args.head.hasher c.args.head.child_visits.items lower (suc c.args.head.left)) rest (c.args.token.now ++ rest)
+    (separator_step target levels c.args.head.visited c.args.head.hasher c.add.new.self c.args.head.child_visits.items c.push.new.self.items c.visits_child.result lower c.args.head.left
     c.args.token.now c.in-Some.separator.now c.replace_key.new.last_key.items rest
     c.in-Some.ensures.0 c.in-Some.ensures.1 c.add.ensures c.push.ensures.items
-    (c.visits_child.ensures ∙ ap (λ (o : Option (List ℕ)). visits_child need c.args.head.visited o (Some c.in-Some.separator.now)) (c.lower_separator-lower.ensures ∙ ap (lower_separator c.args.head.has_lower) c.as_slice.ensures.value))
+    (c.visits_child.ensures ∙ ap (λ (o : Option (List ℕ)). visits_child target c.args.head.visited o (Some c.in-Some.separator.now)) (c.lower_separator-lower.ensures ∙ ap (lower_separator c.args.head.has_lower) c.as_slice.ensures.value))
     c.replace_key.ensures))

@@ -5,8 +5,8 @@ use Rattle.tree_stream.proofs.leaves.end_row.Goals as goal
 
 pub returns-clause-ok : goal.returns-clause-ok
 returns-clause-ok c =
-    yields_then _ _ _ _ c.next_entry.ensures (λ rest.
-    row_done c.args.context.now.need c.args.context.now.ancestors.items c.args.context.now.findings c.add_entry.new.findings
-    (entry_findings_by c.args.context.now.need c.args.context.now.last_key.items c.args.found) (c.args.leaf.hasher ++ c.args.digest) c.add.new.self c.args.leaf.left rest
-    (c.in_ok-add_entry.ensures.sum ∙ ap (λ (key : List ℕ). combine c.args.context.now.findings (entry_findings_by c.args.context.now.need key c.args.found)) c.as_slice.ensures.value)
+    yields_then _ _ _ _ c.next_entry.ensures.yields (λ rest.
+    row_done c.args.context.now.target c.args.context.now.ancestors.items c.args.context.now.findings c.add_entry.new.findings
+    (entry_findings_by c.args.context.now.target c.args.context.now.last_key.items c.args.found) (c.args.leaf.hasher ++ c.args.digest) c.add.new.self c.args.leaf.left rest
+    (c.in_ok-add_entry.ensures.sum ∙ ap (λ (key : List ℕ). combine c.args.context.now.findings (entry_findings_by c.args.context.now.target key c.args.found)) c.as_slice.ensures.value)
     (c.add.ensures ∙ ap (λ (t : List ℕ). c.args.leaf.hasher ++ t) c.as_bytes.ensures.value))

@@ -6,8 +6,8 @@ use Rattle.tree_stream.proofs.leaves.take_closed_row.Goals as goal
 
 pub returns-clause-ok : goal.returns-clause-ok
 returns-clause-ok c =
-    let need = c.args.context.now.need in
+    let target = c.args.context.now.target in
     ok_then _ c.end_row.result _ _ c.end_row.ensures.ok (λ rest.
-    same_with need c.args.context.now.ancestors.items c.args.context.now.findings _ _ rest _
-    (closed_step need c.args.leaf.hasher c.args.context.now.last_key.items c.args.leaf.left c.args.digest c.closed_row-found.result rest c.as_bytes-length.ensures.len
-    (c.closed_row-found.ensures ∙ ap closed_row_findings (c.columns_at-named.ensures ∙ ap (columns_at need) c.as_slice.ensures.value))))
+    same_with target c.args.context.now.ancestors.items c.args.context.now.findings _ _ rest _
+    (closed_step target c.args.leaf.hasher c.args.context.now.last_key.items c.args.leaf.left c.args.digest c.closed_row-found.result rest c.as_bytes-length.ensures.len
+    (c.closed_row-found.ensures ∙ ap closed_row_findings (c.columns_at-named.ensures ∙ ap (columns_at target) c.as_slice.ensures.value))))

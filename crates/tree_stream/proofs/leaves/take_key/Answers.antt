@@ -5,17 +5,17 @@ use Rattle.tree_stream.proofs.Remainders.{same_with, none_with}
 use Rattle.tree_stream.proofs.Steps.{yields_invalid, yields_row, yields_then, key_step}
 use Rattle.tree_stream.proofs.leaves.take_key.Goals as goal
 
-pub returns-in-None : goal.returns-in-None
-returns-in-None c =
-    yields_invalid _ _ (λ rest. none_with c.args.context.now.need c.args.context.now.ancestors.items c.args.context.now.findings
-    (rest_of_leaf c.args.context.now.need c.args.leaf.hasher (suc c.args.leaf.left)) (c.args.token.now ++ rest)
-    (no_key c.args.context.now.need c.args.leaf.hasher c.args.leaf.left (c.args.token.now ++ rest) (c.in-None.ensures rest)))
+pub returns-in-None-clause-yields : goal.returns-in-None-clause-yields
+returns-in-None-clause-yields c =
+    yields_invalid _ _ (λ rest. none_with c.args.context.now.target c.args.context.now.ancestors.items c.args.context.now.findings
+    (rest_of_leaf c.args.context.now.target c.args.leaf.hasher (suc c.args.leaf.left)) (c.args.token.now ++ rest)
+    (no_key c.args.context.now.target c.args.leaf.hasher c.args.leaf.left (c.args.token.now ++ rest) (c.in-None.ensures rest)))
 
-pub returns-in-Some : goal.returns-in-Some
-returns-in-Some c =
+pub returns-in-Some-clause-yields : goal.returns-in-Some-clause-yields
+returns-in-Some-clause-yields c =
     yields_then _ _ _ _ (yields_row _ _) (λ rest.
-    same_with c.args.context.now.need c.args.context.now.ancestors.items c.args.context.now.findings
-    (rest_of_row c.args.context.now.need c.add.new.self c.replace_key.new.last_key.items c.args.leaf.left)
-    (rest_of_leaf c.args.context.now.need c.args.leaf.hasher (suc c.args.leaf.left)) rest (c.args.token.now ++ rest)
-    (key_step c.args.context.now.need c.args.leaf.hasher c.add.new.self c.args.leaf.left c.args.token.now c.in-Some.key.now c.replace_key.new.last_key.items rest
+    same_with c.args.context.now.target c.args.context.now.ancestors.items c.args.context.now.findings
+    (rest_of_row c.args.context.now.target c.add.new.self c.replace_key.new.last_key.items c.args.leaf.left)
+    (rest_of_leaf c.args.context.now.target c.args.leaf.hasher (suc c.args.leaf.left)) rest (c.args.token.now ++ rest)
+    (key_step c.args.context.now.target c.args.leaf.hasher c.add.new.self c.args.leaf.left c.args.token.now c.in-Some.key.now c.replace_key.new.last_key.items rest
     c.in-Some.ensures.0 c.in-Some.ensures.1 c.add.ensures c.replace_key.ensures))

@@ -1,4 +1,5 @@
 use Rattle.std.proofs.Common.{List, ℕ, ◌∷◌, [], ◌++◌, ap, ◌∙◌}
+use Rattle.vo_spec.specs.declared.values.Kind.{Kind}
 use Rattle.tree_stream.specs.Findings.{row_head_findings, columns_at}
 use Rattle.tree_stream.proofs.Remainders.{same_with}
 use Rattle.tree_stream.proofs.Steps.{ok_then, open_step}
@@ -6,9 +7,11 @@ use Rattle.tree_stream.proofs.leaves.take_open_row.Goals as goal
 
 pub returns-clause-ok : goal.returns-clause-ok
 returns-clause-ok c =
-    let need = c.args.context.now.need in
+    let target = c.args.context.now.target in
     ok_then _ c.next_cell.result _ _ c.next_cell.ensures.ok (λ rest.
-    same_with need c.args.context.now.ancestors.items c.args.context.now.findings _ _ rest _
-    (open_step need c.args.leaf.hasher c.args.context.now.last_key.items c.args.leaf.left c.args.count c.add.new.self c.begin_cells-found.result rest c.requires
+    same_with target c.args.context.now.ancestors.items c.args.context.now.findings _ _ rest _
+    (open_step target c.args.leaf.hasher c.args.context.now.last_key.items c.args.leaf.left c.args.count c.add.new.self c.begin_cells-found.result rest c.requires
     (c.add.ensures ∙ ap (λ (h : List ℕ). h ++ 2 ∷ c.args.count ∷ []) c.new-hasher.ensures)
-    (c.begin_cells-found.ensures ∙ ap (λ (named : List ℕ). row_head_findings named c.args.count) (c.columns_at-named.ensures ∙ ap (columns_at need) c.as_slice.ensures.value))))
+    (c.begin_cells-found.ensures
+    ∙ ap (λ (kinds : List Kind). row_head_findings kinds c.columns_at-named.result.now c.args.count) c.as_slice-2.ensures
+    ∙ ap (λ (named : List ℕ). row_head_findings target.cell_kinds named c.args.count) (c.columns_at-named.ensures ∙ ap (columns_at target) c.as_slice.ensures.value))))

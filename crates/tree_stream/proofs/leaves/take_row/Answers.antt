@@ -7,7 +7,7 @@ use Rattle.tree_stream.proofs.leaves.take_row.Goals as goal
 
 pub returns-in-Invalid-clause-ok : goal.returns-in-Invalid-clause-ok
 returns-in-Invalid-clause-ok c =
-    let need = c.args.context.now.need in
+    let target = c.args.context.now.target in
     let key = c.args.context.now.last_key.items in
-    yields_invalid _ _ (λ rest. none_with need c.args.context.now.ancestors.items c.args.context.now.findings (rest_of_row need c.args.leaf.hasher key c.args.leaf.left) (c.args.token.now ++ rest)
-    (no_row need c.args.leaf.hasher key c.args.leaf.left (c.args.token.now ++ rest) (c.in-Invalid.ensures rest)))
+    yields_invalid _ _ (λ rest. none_with target c.args.context.now.ancestors.items c.args.context.now.findings (rest_of_row target c.args.leaf.hasher key c.args.leaf.left) (c.args.token.now ++ rest)
+    (no_row target c.args.leaf.hasher key c.args.leaf.left (c.args.token.now ++ rest) (c.in-Invalid.ensures rest)))

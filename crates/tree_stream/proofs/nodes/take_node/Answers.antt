@@ -6,10 +6,10 @@ use Rattle.tree_stream.proofs.Remainders.{none_with}
 use Rattle.tree_stream.proofs.Steps.{room, yields_invalid}
 use Rattle.tree_stream.proofs.nodes.take_node.Goals as goal
 
-pub returns-in-Invalid : goal.returns-in-Invalid
-returns-in-Invalid c =
-    let need = c.args.context.now.need in
+pub returns-in-Invalid-clause-yields : goal.returns-in-Invalid-clause-yields
+returns-in-Invalid-clause-yields c =
+    let target = c.args.context.now.target in
     let ancestors = c.args.context.now.ancestors.items in
-    yields_invalid _ _ (λ rest. none_with need ancestors c.args.context.now.findings (summary_at need (levels_below ancestors) c.args.visited) (c.args.token.now ++ rest)
-    (ap (λ (n : ℕ). summary_at need n c.args.visited (c.args.token.now ++ rest)) (room ancestors (omega (arith, c.len-room.ensures.value, c.len-room.ensures.fits)))
-    ∙ no_node_begins need (levels_below ancestors - 1) c.args.visited (c.args.token.now ++ rest) (λ child. c.in-Invalid.ensures child rest)))
+    yields_invalid _ _ (λ rest. none_with target ancestors c.args.context.now.findings (summary_at target (levels_below ancestors) c.args.visited) (c.args.token.now ++ rest)
+    (ap (λ (n : ℕ). summary_at target n c.args.visited (c.args.token.now ++ rest)) (room ancestors (omega (arith, c.len-room.ensures.value, c.len-room.ensures.fits)))
+    ∙ no_node_begins target (levels_below ancestors - 1) c.args.visited (c.args.token.now ++ rest) (λ child. c.in-Invalid.ensures child rest)))

@@ -2,8 +2,8 @@ use Rattle.std.proofs.Common.{arith}
 use Rattle.tree_stream.proofs.Steps.{yields_then, stub_step}
 use Rattle.tree_stream.proofs.nodes.take_stub.Goals as goal
 
-pub returns : goal.returns
-returns c =
-    yields_then _ _ _ _ c.end_node.ensures (λ rest.
-    stub_step c.args.context.now.need c.args.context.now.ancestors.items c.args.context.now.findings c.add_stub.new.findings c.args.visited c.args.digest rest
+pub returns-clause-yields : goal.returns-clause-yields
+returns-clause-yields c =
+    yields_then _ _ _ _ c.end_node.ensures.yields (λ rest.
+    stub_step c.args.context.now.target c.args.context.now.ancestors.items c.args.context.now.findings c.add_stub.new.findings c.args.visited c.args.digest rest
     (omega (arith, c.len-room.ensures.value, c.len-room.ensures.fits)) c.as_bytes-length.ensures.len c.add_stub.ensures)

@@ -1,10 +1,11 @@
 use Rattle.std.proofs.Common.{List, ℕ, ◌≡◌, ◌≤◌, ◌<◌, ◌+◌, ◌++◌, length, refl, subst, sym, ap, ◌∙◌, arith}
 use Rattle.std.proofs.lemmas.List.{length-append}
 use Rattle.std.specs.Prelude.{IfOk}
-use Rattle.tree_stream.specs.Machines.{Advances, StopsInRow}
+use Rattle.tree_stream.specs.Machines.{Advances, StopsInRow, summary_of_machine}
+use Rattle.tree_stream.specs.Summaries.{CanEnd}
 use Rattle.tree_stream.specs.Tokens.{token_size}
 use Rattle.tree_stream.proofs.Sizes.{token_small}
-use Rattle.tree_stream.proofs.PieceLaws.{filled_whole, ok_of, same_bytes, filled_is, empty_short, ends_then, size_positive, stops_here}
+use Rattle.tree_stream.proofs.PieceLaws.{filled_whole, ok_of, same_bytes, longer_way, filled_is, empty_short, ends_then, size_positive, stops_here}
 use Rattle.tree_stream.proofs.pieces.+fill.Goals as goal
 
 pub returns-then-is_empty-clause-ok : goal.returns-then-is_empty-clause-ok
@@ -83,4 +84,27 @@ returns-in-Err-clause-memory t c = λ err.
     let le : token_size state all ≤ length all = omega (arith, grown, c.len-2.ensures.value, c.if-len-token_size.false) in
     let some : 0 < length (partial ++ piece) =
     omega (arith, le, size_positive state all, ap (λ (bytes : List ℕ). length bytes) (filled_is partial front left piece all whole c.split_within.ensures.parts), length-append all left) in
-    stops_here c.args.machine.now c.args.machine.now (partial ++ piece) (partial ++ piece) (same_bytes c.args.machine.now (partial ++ piece) (partial ++ piece) refl) (c.in-Err.ensures.memory refl) some
+    stops_here c.args.machine.now c.args.machine.now (partial ++ piece) (partial ++ piece) (same_bytes c.args.machine.now (partial ++ piece) (partial ++ piece) refl) refl (c.in-Err.ensures.memory refl) some
+
+pub returns-then-len-token_size-clause-way : goal.returns-then-len-token_size-clause-way
+returns-then-len-token_size-clause-way t c = λ err.
+    let state = c.args.machine.now.state in
+    let partial = c.args.partial.now.items in
+    let front = c.split_within.result.0.now in
+    let all = c.try_extend_from_slice.new.self.items in
+    let size : c.token_size.result ≡ token_size state partial = c.token_size.ensures ∙ ap (token_size state) c.as_slice.ensures.value in
+    let fits : length partial + length front ≤ 1028 = omega (arith, size, token_small state partial c.requires.reading, c.split_within.ensures.within, c.len.ensures.value, c.requires.short) in
+    let whole : all ≡ partial ++ front = ok_of c.try_extend_from_slice.result (all ≡ partial ++ front) (c.try_extend_from_slice.ensures.variant.1 fits) c.try_extend_from_slice.ensures.ok in
+    longer_way c.args.machine.now partial front all whole (c.fill.ensures.way err)
+
+pub returns-in-Err-clause-way : goal.returns-in-Err-clause-way
+returns-in-Err-clause-way t c = λ err.
+    let state = c.args.machine.now.state in
+    let partial = c.args.partial.now.items in
+    let front = c.split_within.result.0.now in
+    let all = c.try_extend_from_slice.new.self.items in
+    let size : c.token_size.result ≡ token_size state partial = c.token_size.ensures ∙ ap (token_size state) c.as_slice.ensures.value in
+    let fits : length partial + length front ≤ 1028 = omega (arith, size, token_small state partial c.requires.reading, c.split_within.ensures.within, c.len.ensures.value, c.requires.short) in
+    let whole : all ≡ partial ++ front = ok_of c.try_extend_from_slice.result (all ≡ partial ++ front) (c.try_extend_from_slice.ensures.variant.1 fits) c.try_extend_from_slice.ensures.ok in
+    let P : List ℕ → Type 0 = λ token. CanEnd (λ rest. summary_of_machine c.args.machine.now (token ++ rest)) in
+    longer_way c.args.machine.now partial front all whole (subst P c.as_slice-3.ensures.value (c.in-Err.ensures.way refl))

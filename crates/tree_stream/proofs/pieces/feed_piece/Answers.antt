@@ -21,4 +21,4 @@ returns-then-is_empty-2-clause-way c = λ err.
 pub returns-then-is_empty-2-clause-memory : goal.returns-then-is_empty-2-clause-memory
 returns-then-is_empty-2-clause-memory c = λ err.
     stops_later c.args.machine.now c.fill.new.machine (c.args.partial.now.items ++ c.args.piece.now) c.fill.new.partial.items c.in_ok-left.left.now
-    (no_length c.fill.new.partial.items (sym c.is_empty-2.ensures ∙ c.if-is_empty-2.true)) c.in_ok-left.ensures.ok (c.feed_whole-then-is_empty-2.ensures.memory err)
+    (no_length c.fill.new.partial.items (sym c.is_empty-2.ensures ∙ c.if-is_empty-2.true)) c.in_ok-left.ensures.ok c.fill.ensures.target (c.feed_whole-then-is_empty-2.ensures.memory err)

@@ -1,6 +1,6 @@
 use Rattle.std.proofs.Common.{List, ℕ, ◌<◌, ◌≡◌, ◌++◌, length, drop, refl, sym, ap, ◌∙◌, arith}
 use Rattle.std.proofs.lemmas.List.{take-append-drop, length-drop}
-use Rattle.tree_stream.proofs.PieceLaws.{size_positive, token_whole, goes_on, stops_here}
+use Rattle.tree_stream.proofs.PieceLaws.{size_positive, token_whole, goes_on, goes_back, stops_here}
 use Rattle.tree_stream.proofs.pieces.take_all.Goals as goal
 
 pub take-requires : goal.take-requires
@@ -24,9 +24,14 @@ tokens-preserved c =
     record {
       is_size = c.token_size-size-in-tokens.ensures;
       advances = goes_on c.args.machine.now c.tokens.machine c.take.new.machine c.args.bytes.now left token c.split_at.result.1.now c.tokens.invariant.advances c.in_ok-take.ensures.ok parts;
+      target = c.take.ensures.target ∙ c.tokens.invariant.target;
     }
 
 pub returns-in_err-take-clause-memory : goal.returns-in_err-take-clause-memory
 returns-in_err-take-clause-memory c = λ err.
-    stops_here c.args.machine.now c.tokens.machine c.args.bytes.now c.tokens.left.now c.tokens.invariant.advances (c.in_err-take.ensures.memory refl)
+    stops_here c.args.machine.now c.tokens.machine c.args.bytes.now c.tokens.left.now c.tokens.invariant.advances c.tokens.invariant.target (c.in_err-take.ensures.memory refl)
     (omega (arith, size_positive c.tokens.machine.state c.tokens.left.now, c.tokens.invariant.is_size, c.tokens-test.true))
+
+pub returns-in_err-take-clause-way : goal.returns-in_err-take-clause-way
+returns-in_err-take-clause-way c = λ err.
+    goes_back c.args.machine.now c.tokens.machine c.args.bytes.now c.tokens.left.now c.split_at.result.0.now c.tokens.invariant.advances (c.in_err-take.ensures.way refl)

@@ -7,6 +7,7 @@ abbrev pub invariant-tokens : goal.invariant-tokens
 invariant-tokens l = record {
   is_size : l.size ≡ token_size l.machine.state l.left;
   advances : Advances l.initial.machine l.machine l.initial.left l.left;
+  target : l.machine.context.target ≡ l.initial.machine.context.target;
 }
 
 abbrev pub decreases-tokens : goal.decreases-tokens

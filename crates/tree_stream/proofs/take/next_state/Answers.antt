@@ -19,14 +19,14 @@ pub take_cell-requires : goal.take_cell-requires
 take_cell-requires c = c.requires ∙ cell_token c.args.state c.in-Cell.row c.args.token.now c.in-Cell.is
 
 pub returns-in-Node-clause-ok : goal.returns-in-Node-clause-ok
-returns-in-Node-clause-ok c = step_from c.args.context.now _ _ c.args.state _ _ c.args.token.now c.in-Node.is (yields_node c.args.context.now c.in-Node.visited).each c.take_node.ensures
+returns-in-Node-clause-ok c = step_from c.args.context.now _ _ c.args.state _ _ c.args.token.now c.in-Node.is (yields_node c.args.context.now c.in-Node.visited).each c.take_node.ensures.yields
 
 pub returns-in-Separator-clause-ok : goal.returns-in-Separator-clause-ok
 returns-in-Separator-clause-ok c =
-    step_from c.args.context.now _ _ c.args.state _ _ c.args.token.now c.in-Separator.is (yields_separator c.args.context.now c.in-Separator.head (suc c.in-Separator.head.left) refl).each c.take_separator.ensures
+    step_from c.args.context.now _ _ c.args.state _ _ c.args.token.now c.in-Separator.is (yields_separator c.args.context.now c.in-Separator.head (suc c.in-Separator.head.left) refl).each c.take_separator.ensures.yields
 
 pub returns-in-Key-clause-ok : goal.returns-in-Key-clause-ok
-returns-in-Key-clause-ok c = step_from c.args.context.now _ _ c.args.state _ _ c.args.token.now c.in-Key.is (yields_key c.args.context.now c.in-Key.leaf (suc c.in-Key.leaf.left) refl).each c.take_key.ensures
+returns-in-Key-clause-ok c = step_from c.args.context.now _ _ c.args.state _ _ c.args.token.now c.in-Key.is (yields_key c.args.context.now c.in-Key.leaf (suc c.in-Key.leaf.left) refl).each c.take_key.ensures.yields
 
 pub returns-in-Row-clause-ok : goal.returns-in-Row-clause-ok
 returns-in-Row-clause-ok c = ok_step_from c.args.context.now _ c.take_row.result c.args.state _ _ c.args.token.now c.in-Row.is (yields_row c.args.context.now c.in-Row.leaf).each c.take_row.ensures.ok

@@ -21,3 +21,7 @@ returns-clause-dead c = λ none.
 pub returns-clause-all : goal.returns-clause-all
 unfolding summary_of
 returns-clause-all c = all_or_settled c.feed_piece.result c.feed_piece.new.machine c.feed_piece.new.partial.items c.feed_piece.ensures.kept_new c.feed_piece.ensures.all
+
+pub returns-clause-way : goal.returns-clause-way
+unfolding summary_of
+returns-clause-way c = c.feed_piece.ensures.way

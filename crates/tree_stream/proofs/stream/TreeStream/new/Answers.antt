@@ -11,10 +11,10 @@ use Rattle.tree_stream.proofs.stream.TreeStream.new.Goals as goal
 pub invariant_of-result : goal.invariant_of-result
 invariant_of-result c = record { short = empty_short _ c.new-3.result.items c.new-3.ensures; kept = λ settled. c.new-3.ensures }
 
-pub returns : goal.returns
+pub returns-clause-summary : goal.returns-clause-summary
 unfolding summary_of
-returns c = λ bytes.
-    let context : Context = record { need = c.args.need; ancestors = c.new.result; findings = c.empty_findings.result; last_key = c.new-2.result } in
+returns-clause-summary c = λ bytes.
+    let context : Context = record { target = c.args.target; ancestors = c.new.result; findings = c.empty_findings.result; last_key = c.new-2.result } in
     ap (λ (partial : List ℕ). summary_from context (Node (not c.is_empty_interval-visited.result)) (partial ++ bytes)) c.new-3.ensures
     ∙ ap (λ (b : Bool). summary_from context (Node (not b)) bytes) c.is_empty_interval-visited.ensures
     ∙ start_is context bytes c.new.ensures c.empty_findings.ensures

@@ -1,0 +1,7 @@
+use Rattle.std.proofs.Common.{refl}
+use Rattle.reply_stream.specs.ReplyTrees.{rest_of_trees}
+use Rattle.reply_stream.proofs.trees_stream.TreesStream.new.Goals as goal
+
+pub returns : goal.returns
+unfolding rest_of_trees
+returns c = λ bytes. refl

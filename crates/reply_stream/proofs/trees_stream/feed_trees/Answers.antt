@@ -1,0 +1,28 @@
+use Rattle.std.proofs.Common.{List, ℕ, ◌++◌, refl, sym, ap, ◌∙◌}
+use Rattle.row_bytes.specs.Fields.{whole}
+use Rattle.reply_stream.specs.ReplyTrees.{rest_of_open}
+use Rattle.reply_stream.proofs.TreesPieces.{empty_is, fed, longer_some, some_is_not}
+use Rattle.reply_stream.proofs.trees_stream.feed_trees.Goals as goal
+
+pub returns-then-not-next_tree-clause-ok : goal.returns-then-not-next_tree-clause-ok
+returns-then-not-next_tree-clause-ok c = λ more.
+    let left = c.trees.left.now in
+    ap whole (sym (c.trees.invariant.each more ∙ fed c.args.tree.now _ c.args.piece.now c.in_ok-left.left.now c.in_ok-left.ensures.ok refl refl refl more))
+    ∙ c.next_tree.ensures.last c.if-not-next_tree.true (left ++ more)
+    (longer_some left more (some_is_not left (sym c.is_empty.ensures ∙ c.trees-test.true)))
+
+pub trees-preserved : goal.trees-preserved
+trees-preserved c = record {
+  each = λ more.
+      fed c.next_tree.new.tree _ c.trees.left.now c.in_ok-left-2.left.now c.in_ok-left-2.ensures.ok refl refl refl more
+      ∙ c.next_tree.ensures.next c.if-not-next_tree.false (c.trees.left.now ++ more)
+      ∙ c.trees.invariant.each more;
+  settled = c.in_ok-left-2.ensures.all;
+}
+
+pub returns-clause-ok : goal.returns-clause-ok
+returns-clause-ok c = λ more.
+    let left = c.trees.left.now in
+    ap (λ (bytes : List ℕ). rest_of_open c.trees.tree (bytes ++ more)) (sym (empty_is left (sym c.is_empty.ensures ∙ c.trees-test.false)))
+    ∙ c.trees.invariant.each more
+    ∙ fed c.args.tree.now _ c.args.piece.now c.in_ok-left.left.now c.in_ok-left.ensures.ok refl refl refl more

@@ -1,0 +1,14 @@
+use Rattle.std.proofs.Common.{◌≡◌, ◌⊎◌, List, ℕ, [], ◌++◌}
+use Rattle.tree_stream.specs.Streams.{IsSettled}
+use Rattle.reply_stream.specs.ReplyTrees.{rest_of_open}
+use Rattle.reply_stream.proofs.trees_stream.feed_trees.Given as goal
+
+abbrev pub invariant-trees : goal.invariant-trees
+invariant-trees l = record {
+  each : (more : List ℕ)
+      → rest_of_open l.tree (l.left ++ more) ≡ rest_of_open l.initial.tree (l.initial.left ++ more);
+  settled : (l.left ≡ []) ⊎ IsSettled l.tree.stream;
+}
+
+abbrev pub decreases-trees : goal.decreases-trees
+decreases-trees l = l.tree.left

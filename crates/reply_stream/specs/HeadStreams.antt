@@ -1,0 +1,16 @@
+-- What comes of a stream of a head and of the bytes to come: those of a field that isn't whole are
+-- not taken yet.
+use Rattle.std.specs.Prelude.{◌≡◌, ◌⊎◌, ℕ, List, ◌++◌, Some, None}
+use Rattle.batch_format.specs.BatchReading.{Reader}
+use Rattle.reply_stream.specs.ReplyHeads.{ReplyHead}
+use Rattle.reply_stream.specs.declared.head_stream.HeadStream.{HeadStream}
+use Rattle.reply_stream.specs.Heads.{rest_of_head}
+
+unfoldable pub head_of : HeadStream → Reader ReplyHead
+head_of stream bytes = rest_of_head stream.state (stream.held.items ++ bytes)
+
+-- it takes no more bytes: they come behind the head, or the bytes before them are no head
+abbrev pub IsSettled : HeadStream → Type 0
+IsSettled stream =
+    ((more : List ℕ) → head_of stream more ≡ None)
+    ⊎ ((found : ReplyHead) × ((more : List ℕ) → head_of stream more ≡ Some (found, more)))

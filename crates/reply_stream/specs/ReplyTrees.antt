@@ -1,0 +1,76 @@
+-- What reading gives of the trees of a reply: how many there are, and what is found in the first.
+use Rattle.std.specs.Prelude.{◌≡◌, ℕ, Bool, true, false, List, [], ◌∷◌, ◌++◌, length, Option, Some, None, Result, Ok, Err}
+use Rattle.std.specs.declared.alloc.AllocError.{AllocError}
+use Rattle.vo_spec.specs.Fits.{max_levels}
+use Rattle.vo_spec.specs.Trees.{RowTree, digest}
+use Rattle.row_bytes.specs.Reading.{byte_at}
+use Rattle.row_bytes.specs.Fields.{◌>>=◌, times, whole}
+use Rattle.batch_format.specs.BatchReading.{Reader, one}
+use Rattle.tree_readers.specs.TreeReading.{tree_at}
+use Rattle.tree_stream.specs.declared.target.Target.{Target}
+use Rattle.tree_stream.specs.declared.findings.Summary.{Summary}
+use Rattle.tree_stream.specs.declared.stream.TreeStream.{TreeStream}
+use Rattle.tree_stream.specs.Findings.{findings_in}
+use Rattle.tree_stream.specs.Remaining.{summary}
+use Rattle.tree_stream.specs.Summaries.{summary_of_tree}
+use Rattle.tree_stream.specs.Streams.{summary_of, target_in, WantsMemory as TreeWants}
+use Rattle.reply_stream.specs.declared.trees_summary.TreesSummary.{TreesSummary}
+use Rattle.reply_stream.specs.declared.trees_state.OpenTree.{OpenTree}
+use Rattle.reply_stream.specs.declared.trees_state.TreesState.{TreesState}
+use Rattle.reply_stream.specs.declared.trees_state.TreesState.TheVariants.{Count, Empty, Tree, Invalid}
+
+abbrev pub counted : ℕ → Option Summary → TreesSummary
+counted count first = record { count = count; first = first }
+
+abbrev pub first_summary : Target → List RowTree → Option Summary
+first_summary target [] = None
+first_summary target (tree ∷ trees) = Some (summary (digest tree) (findings_in target tree))
+
+abbrev pub trees_summary : Target → List RowTree → TreesSummary
+trees_summary target trees = counted (length trees) (first_summary target trees)
+
+-- trees behind a byte that says how many there are
+unfoldable pub trees_at : Target → Reader TreesSummary
+trees_at target bytes = byte_at bytes >>= λ count. one (trees_summary target)
+    (times (tree_at max_levels) count.0) count.1
+
+-- What reading the bytes to come gives of trees that are read in part.
+
+-- the first summary, or this one where there is none
+abbrev pub kept_first : Option Summary → Summary → Summary
+kept_first None found = found
+kept_first (Some first) found = first
+
+unfoldable pub rest_of_open : OpenTree → Reader TreesSummary
+rest_of_open tree bytes = summary_of tree.stream bytes >>= λ end.
+    one (λ (trees : List RowTree). counted tree.count (Some (kept_first tree.first end.0)))
+    (times (tree_at max_levels) tree.left) end.1
+
+unfoldable pub rest_of_trees : TreesState → List ℕ → Option TreesSummary
+rest_of_trees (Count target) bytes = whole (trees_at target bytes)
+rest_of_trees Empty bytes = whole (Some (counted 0 None, bytes))
+rest_of_trees (Tree tree) bytes = whole (rest_of_open tree bytes)
+rest_of_trees Invalid bytes = None
+
+-- Calls.
+
+-- the bytes were taken, or are no trees whatever comes behind them
+abbrev pub GoesOn : Result Bool AllocError → OpenTree → OpenTree → List ℕ → Type 0
+GoesOn (Ok true) old new bytes =
+    (more : List ℕ) → rest_of_open new more ≡ rest_of_open old (bytes ++ more)
+GoesOn (Ok false) old new bytes =
+    (more : List ℕ) → whole (rest_of_open old (bytes ++ more)) ≡ None
+GoesOn (Err error) old new bytes = Unit {0}
+
+-- some bytes make trees of it
+abbrev pub CanBecomeTrees : TreesState → Type 0
+CanBecomeTrees state =
+    (bytes : List ℕ) × (found : TreesSummary) × (rest_of_trees state bytes ≡ Some found)
+
+-- some byte of the piece is of a row of the first tree whose key is in the target's interval
+abbrev pub WantsRow : TreesState → List ℕ → Type 0
+WantsRow (Count target) (count ∷ piece) = (tree : TreeStream) × (target_in tree ≡ target)
+    × ((bytes : List ℕ) → summary_of tree bytes ≡ summary_of_tree target bytes)
+    × TreeWants tree piece
+WantsRow (Tree tree) piece = (tree.first ≡ None) × TreeWants tree.stream piece
+WantsRow _ piece = ⊥

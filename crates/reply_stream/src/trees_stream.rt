@@ -1,0 +1,228 @@
+//! The trees of a reply, whose bytes come in pieces behind the catalog's last byte.
+ghost use Rattle.std.specs.Prelude.{◌≡◌, ◌⊎◌, ◌<◌, ◌++◌, ◌≢◌, ◌∷◌, ℕ, List, [], Some, None, true, false, nat_lt, if◌then◌else◌, IsErr, IsOk, IfOk, OnOk, OnErr};
+ghost use Rattle.row_bytes.specs.Fields.{whole};
+ghost use Rattle.tree_stream.specs.Findings.{no_target};
+ghost use Rattle.tree_stream.specs.Summaries.{CanEnd as CanEndTree};
+ghost use Rattle.tree_stream.specs.Streams.{IsSettled, WantsMemory as TreeWantsMemory, summary_of, target_in};
+ghost use Rattle.reply_stream.specs.ReplyTrees.{CanBecomeTrees, GoesOn, WantsRow, counted, kept_first, rest_of_open, rest_of_trees, trees_at};
+
+use crate::trees_state::{OpenTree, TreesState};
+use crate::trees_summary::TreesSummary;
+use std::alloc::{AllocError, Global};
+use std::mem;
+use tree_stream::{Summary, Target, TreeStream};
+
+/// A reader of a reply's trees, up to the last byte of the reply. It holds none of them.
+#[derive(Drop)]
+pub struct TreesStream {
+    state: TreesState,
+}
+
+impl TreesStream {
+    ghost use Rattle.reply_stream.specs.TreesStreams.{CanEnd, WantsMemory, trees_of};
+
+    /// A reader that was given no bytes, of trees the first of which is read for a target.
+    pub fn new(target: Target) -> TreesStream
+        ensures { (bytes : List ℕ) → trees_of result bytes ≡ whole (trees_at target bytes) }
+    {
+        TreesStream {
+            state: TreesState::Count(target),
+        }
+    }
+
+    /// Takes the piece that comes next. Of bytes that are no trees it takes no more.
+    pub fn feed(&mut self, alloc: Global, piece: &[u8]) -> Result<(), AllocError>
+        // It is as if the piece had stood in front of the bytes to come.
+        ensures ok { OnOk result ((more : List ℕ)
+            → trees_of self.new more ≡ trees_of self.old (piece.now ++ more)) }
+
+        // Where memory ran out, no trees come of it any more.
+        ensures err { OnErr result ((more : List ℕ) → trees_of self.new more ≡ None) }
+
+        // Memory runs out only while the bytes so far can still become trees.
+        ensures way { IsErr result → CanEnd self.old }
+        ensures dead { ((more : List ℕ) → trees_of self.old more ≡ None) → IsOk result }
+
+        // It runs out only at a byte of the piece that is of a row of the first tree whose key is
+        // in the target's interval.
+        ensures memory { IsErr result → WantsMemory self.old piece.now }
+    {
+        let state = mem::replace(&mut self.state, TreesState::Invalid);
+        self.state = feed_state(state, alloc, piece)?;
+        Ok(())
+    }
+
+    /// How many trees there are and what was found in the first one, where the last has ended.
+    pub fn end(self) -> Option<TreesSummary>
+        ensures { result ≡ trees_of self [] }
+    {
+        let TreesStream { state } = self;
+        match state {
+            TreesState::Count(_) => None,
+            TreesState::Empty => Some(TreesSummary {
+                count: 0,
+                first: None,
+            }),
+            TreesState::Tree(tree) => end_tree(tree),
+            TreesState::Invalid => None,
+        }
+    }
+}
+
+fn feed_state(state: TreesState, alloc: Global, piece: &[u8]) -> Result<TreesState, AllocError>
+    ensures ok { IfOk result (λ new. (more : List ℕ)
+        → rest_of_trees new more ≡ rest_of_trees state (piece.now ++ more)) }
+    ensures way { IsErr result → CanBecomeTrees state }
+    ensures memory { IsErr result → WantsRow state piece.now }
+{
+    match state {
+        TreesState::Count(target) => feed_count(target, alloc, piece),
+        TreesState::Empty => Ok(without_trees(piece)),
+        TreesState::Tree(tree) => feed_open(tree, alloc, piece),
+        TreesState::Invalid => Ok(TreesState::Invalid),
+    }
+}
+
+fn feed_count(target: Target, alloc: Global, piece: &[u8]) -> Result<TreesState, AllocError>
+    ensures ok { IfOk result (λ new. (more : List ℕ) → rest_of_trees new more
+        ≡ rest_of_trees (TreesState.Count target) (piece.now ++ more)) }
+    ensures way { IsErr result → CanBecomeTrees (TreesState.Count target) }
+    ensures memory { IsErr result → WantsRow (TreesState.Count target) piece.now }
+{
+    match piece.split_first() {
+        Some((count, behind)) => begin_trees(target, alloc, *count, behind),
+        None => Ok(TreesState::Count(target)),
+    }
+}
+
+/// Begins so many trees, and takes the bytes behind their number.
+fn begin_trees(
+    target: Target,
+    alloc: Global,
+    count: u8,
+    behind: &[u8],
+) -> Result<TreesState, AllocError>
+    ensures ok { IfOk result (λ new. (more : List ℕ) → rest_of_trees new more
+        ≡ rest_of_trees (TreesState.Count target) (count ∷ behind.now ++ more)) }
+    ensures way { IsErr result → CanBecomeTrees (TreesState.Count target) }
+    ensures memory { IsErr result → WantsRow (TreesState.Count target) (count ∷ behind.now) }
+{
+    if count == 0 {
+        return Ok(without_trees(behind));
+    }
+    let tree = OpenTree {
+        stream: TreeStream::new(alloc, target),
+        count,
+        left: count - 1,
+        first: None,
+    };
+    feed_open(tree, alloc, behind)
+}
+
+/// There are no trees, and these bytes come behind.
+fn without_trees(behind: &[u8]) -> TreesState
+    ensures { (more : List ℕ) → rest_of_trees result more
+        ≡ whole (Some (counted 0 None, behind.now ++ more)) }
+{
+    if behind.is_empty() {
+        TreesState::Empty
+    } else {
+        TreesState::Invalid
+    }
+}
+
+fn feed_open(mut tree: OpenTree, alloc: Global, piece: &[u8]) -> Result<TreesState, AllocError>
+    ensures ok { IfOk result (λ new. (more : List ℕ)
+        → rest_of_trees new more ≡ whole (rest_of_open tree (piece.now ++ more))) }
+    ensures way { IsErr result → CanEndTree (summary_of tree.stream) }
+    ensures memory { IsErr result → (tree.first ≡ None) × TreeWantsMemory tree.stream piece.now }
+{
+    let goes_on = feed_trees(&mut tree, alloc, piece)?;
+    if goes_on {
+        return Ok(TreesState::Tree(tree));
+    }
+    Ok(TreesState::Invalid)
+}
+
+/// Takes a piece, tree after tree, and says whether these still can be trees.
+fn feed_trees(tree: &mut OpenTree, alloc: Global, piece: &[u8]) -> Result<bool, AllocError>
+    ensures ok { GoesOn result tree.old tree.new piece.now }
+    ensures way { IsErr result → CanEndTree (summary_of tree.old.stream) }
+    ensures memory { IsErr result → (tree.old.first ≡ None)
+        × TreeWantsMemory tree.old.stream piece.now }
+{
+    let mut left = tree.stream.feed(alloc, piece)?;
+    'trees: while !left.is_empty() {
+        if !next_tree(tree, alloc) {
+            return Ok(false);
+        }
+        left = tree.stream.feed(alloc, left)?;
+    }
+    Ok(true)
+}
+
+/// Goes on to the next tree, if the one before has ended and there is another.
+fn next_tree(tree: &mut OpenTree, alloc: Global) -> bool
+    requires { IsSettled tree.old.stream }
+    ensures next { result ≡ true → (bytes : List ℕ)
+        → rest_of_open tree.new bytes ≡ rest_of_open tree.old bytes }
+    ensures last { result ≡ false → (bytes : List ℕ) → bytes ≢ []
+        → whole (rest_of_open tree.old bytes) ≡ None }
+    ensures target { result ≡ true → target_in tree.new.stream ≡ no_target }
+    ensures fewer { result ≡ true → tree.new.left < tree.old.left }
+{
+    if tree.left == 0 {
+        return false;
+    }
+    let next = TreeStream::new(alloc, Target::nothing(alloc));
+    match mem::replace(&mut tree.stream, next).end() {
+        Some(summary) => {
+            keep_first(&mut tree.first, summary);
+            tree.left -= 1;
+            true
+        },
+        None => false,
+    }
+}
+
+/// Keeps the summary, where there is none yet.
+fn keep_first(first: &mut Option<Summary>, summary: Summary)
+    ensures { first.new ≡ Some (kept_first first.old summary) }
+{
+    if first.is_none() {
+        *first = Some(summary);
+    }
+}
+
+/// What was read, if the tree has ended and is the last.
+fn end_tree(tree: OpenTree) -> Option<TreesSummary>
+    ensures { result ≡ whole (rest_of_open tree []) }
+{
+    let OpenTree {
+        stream,
+        count,
+        left,
+        first,
+    } = tree;
+    match stream.end() {
+        Some(summary) => end_last(count, left, first, summary),
+        None => None,
+    }
+}
+
+/// What was read of so many trees, if none is left behind the one with this summary.
+fn end_last(
+    count: u8,
+    left: u8,
+    mut first: Option<Summary>,
+    summary: Summary,
+) -> Option<TreesSummary>
+    ensures { result ≡ if nat_lt 0 left then None
+        else Some (counted count (Some (kept_first first summary))) }
+{
+    if left > 0 {
+        return None;
+    }
+    keep_first(&mut first, summary);
+    Some(TreesSummary { count, first })
+}
