@@ -143,6 +143,21 @@ def walks(first, second):
                           first, second)
 
 
+def twins(needs, first, second):
+    """Two of one digest, each the proof of the needs, are the same."""
+    data = part_bytes(first) + part_bytes(second)
+
+    def told():
+        cursor = Cursor(data)
+        one, other = read_tree(cursor), read_tree(cursor)
+        cursor.end()
+        if digest_of(one) != digest_of(other):
+            return "another digest"
+        are_proofs = trees.is_canonical(one, needs) and trees.is_canonical(other, needs)
+        return "one proof" if are_proofs else "no proof"
+    return line("twins", b"".join(map(need_bytes, needs)), data), value_or_fault(told)
+
+
 # -- the tree of a table
 
 def count_and_digest(tree):

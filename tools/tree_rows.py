@@ -2,7 +2,7 @@
 from itertools import product
 
 from tree_answers import (Twin, after, agree, canonical, change, digest, judge, preimage, prove, prune, read, root, same, scan,
-                          part_bytes, update_proof, walks, work)
+                          part_bytes, twins, update_proof, walks, work)
 from vo_ref.sql import parse_batch
 from vo_ref.tree import Entry, Inner, Leaf, Need, Op, Stub, attr_digest, digest_of, do_op, empty_tree
 from vo_ref.tree import prune as pruned
@@ -21,7 +21,7 @@ def rows():
                   three_levels, runs_on_parts, changes_beside_a_stub, odd_leaves, odd_inner_nodes,
                   moves, proofs, growing_proofs, judged_parts, judged_proofs, needs_of_a_leaf,
                   needs_of_the_empty_tree, needs_of_two_leaves, agreeing_rows, agreeing_trees, twin_rows, twin_trees,
-                  twins_of_three_levels):
+                  twins_of_three_levels, twin_proofs):
         yield from cases()
 
 
@@ -541,3 +541,13 @@ def twins_of_three_levels():
         between(1, 1, 0), between(1, 1), between(150, 150, 0), between(70, 80), between(75, 90, 0), between(75, 90, 0))]
     for first, second in zip(parts, parts[1:]):
         yield from both(first, second)
+
+
+def twin_proofs():
+    # the proof of a need beside itself, beside those of needs that want more, less or something else, and beside a stub
+    tree = grown(TO_17)
+    needs = [between(9, 9, 0)], [between(8, 9, 0)], [between(9, 9)], [between(3, 3, 0)], [between(9, 9, 0), between(3, 3)], []
+    proof = pruned(tree, needs[0])
+    for some in needs:
+        yield from (twins(needs[0], proof, pruned(tree, some)), twins(some, pruned(tree, some), pruned(tree, some)))
+    yield from (twins(needs[0], proof, EMPTY), twins(needs[0], proof, b""), twins(needs[0], proof, part_bytes(proof) + b"\0"))

@@ -6,7 +6,7 @@ use crate::part_calls::{
 };
 use crate::table_calls::{apply_batch, catalog_of, proof_of, refusals, rows_of, step_batch};
 use crate::tree_calls::{agree_tree, change_tree, prove_change, prune_tree, root_of};
-use crate::twin_calls::{compare_two, walk_two};
+use crate::twin_calls::{compare_proofs, compare_two, walk_two};
 use line_pieces::word;
 use std::alloc::Global;
 use std::io;
@@ -53,5 +53,6 @@ fn answer_call(
         Call::Read => read_again(alloc, first),
         Call::Same => compare_two(alloc, first, second),
         Call::Walks => walk_two(alloc, first, second),
+        Call::Twins => compare_proofs(alloc, first, second),
     }
 }

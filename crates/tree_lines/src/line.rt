@@ -28,10 +28,11 @@ pub enum Call {
     Read,
     Same,
     Walks,
+    Twins,
 }
 
 /// The calls by their words.
-const CALLS: [(&str, Call); 22] = [
+const CALLS: [(&str, Call); 23] = [
     ("clear", Call::Clear),
     ("apply", Call::Apply),
     ("step", Call::Step),
@@ -54,6 +55,7 @@ const CALLS: [(&str, Call); 22] = [
     ("read", Call::Read),
     ("same", Call::Same),
     ("walks", Call::Walks),
+    ("twins", Call::Twins),
 ];
 
 /// A call with its byte strings, which are empty where the line has none.

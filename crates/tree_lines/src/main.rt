@@ -15,8 +15,9 @@
 //! change's proof; `scan` looks for a need's rows, and `canonical` says whether the part is the
 //! proof of some needs.
 //!
-//! Of two part trees: `same` says whether they are the same, and `walks` whether two of one digest
-//! give one walk for all rows.
+//! Of two part trees: `same` says whether they are the same, `walks` whether two of one digest give
+//! one walk for all rows, and `twins`, which has them one behind the other, whether two of one
+//! digest are one proof of some needs.
 #![tactic(auto)]
 
 mod answers;

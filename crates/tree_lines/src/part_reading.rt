@@ -19,3 +19,17 @@ pub fn read_part(alloc: Global, bytes: &[u8]) -> Result<PartTree<'_>, ReadFault>
         Err(ReadFault::BadForm)
     }
 }
+
+/// The two part trees that all the bytes are, one behind the other.
+pub fn read_parts(alloc: Global, bytes: &[u8]) -> Result<(PartTree<'_>, PartTree<'_>), ReadFault>
+    ensures { IfOk result (λ both. FitsPart (part_of both.0) × FitsPart (part_of both.1)) }
+{
+    let mut cursor = Cursor::new(bytes);
+    let first = take_tree(alloc, &mut cursor)?;
+    let second = take_tree(alloc, &mut cursor)?;
+    if cursor.is_empty() {
+        Ok((first, second))
+    } else {
+        Err(ReadFault::BadForm)
+    }
+}

@@ -1,16 +1,19 @@
 //! What is asked of two part trees.
-ghost use Rattle.std.specs.Prelude.{IfOk};
+ghost use Rattle.std.specs.Prelude.{IsTrue, IfOk};
 ghost use Rattle.vo_spec.specs.Fits.{FitsPart};
+ghost use Rattle.vo_spec.specs.Pruning.{IsCanonical};
 ghost use Rattle.mb_tree.specs.View.{part_of};
 
-use crate::part_reading::read_part;
+use crate::need_reading::read_needs;
+use crate::part_reading::{read_part, read_parts};
 use line_pieces::{describe, word};
+use range_proof::is_canonical;
 use row_bytes::ReadFault;
 use std::alloc::Global;
 use std::io;
-use tree_collide::{Twins, agree_walk, are_same};
+use tree_collide::{Twins, agree_two, agree_walk, are_same};
 use vo_format::PartTree;
-use vo_spec::{Bound, Interval, Need, SharedList};
+use vo_spec::{Bound, Interval, Need, ScanFault, SharedList};
 
 fn read_two<'b>(
     alloc: Global,
@@ -54,6 +57,55 @@ fn walk_parts(alloc: Global, first: &PartTree<'_>, second: &PartTree<'_>) -> io:
         Twins::Same => word(alloc, "one walk"),
         Twins::Collides(_) => word(alloc, "collides"),
     }
+}
+
+/// Whether two of one digest, which stand one behind the other, are one proof of the needs.
+pub fn compare_proofs(alloc: Global, needs: &[u8], parts: &[u8]) -> io::Result<String> {
+    match read_needs(alloc, needs) {
+        Ok(needs) => compare_proofs_for(alloc, &needs, parts),
+        Err(fault) => describe(alloc, &fault),
+    }
+}
+
+fn compare_proofs_for(alloc: Global, needs: &[Need], parts: &[u8]) -> io::Result<String> {
+    match read_parts(alloc, parts) {
+        Ok((first, second)) => agree_for(alloc, needs, &first, &second),
+        Err(fault) => describe(alloc, &fault),
+    }
+}
+
+fn agree_for(
+    alloc: Global,
+    needs: &[Need],
+    first: &PartTree<'_>,
+    second: &PartTree<'_>,
+) -> io::Result<String>
+    requires fits { FitsPart (part_of first.now) }
+    requires second_fits { FitsPart (part_of second.now) }
+{
+    if first.node_digest() != second.node_digest() {
+        return word(alloc, "another digest");
+    }
+    match are_proofs(alloc, needs, first, second) {
+        Ok(true) => match agree_two(alloc, first, second, needs)? {
+            Twins::Same => word(alloc, "one proof"),
+            Twins::Collides(_) => word(alloc, "collides"),
+        },
+        Ok(false) => word(alloc, "no proof"),
+        Err(fault) => describe(alloc, &fault),
+    }
+}
+
+fn are_proofs(
+    alloc: Global,
+    needs: &[Need],
+    first: &PartTree<'_>,
+    second: &PartTree<'_>,
+) -> Result<bool, ScanFault>
+    ensures { IfOk result (λ are. IsTrue are → IsCanonical needs.now (part_of first.now)
+        × IsCanonical needs.now (part_of second.now)) }
+{
+    Ok(is_canonical(alloc, first, needs)? && is_canonical(alloc, second, needs)?)
 }
 
 fn all_rows(alloc: Global) -> io::Result<Need> {
