@@ -1,0 +1,7 @@
+//! Laws of parties that keep to the rules, each the contract of a function that does nothing: what
+//! a client and an owner come to with an honest store.
+#![tactic(auto)]
+
+mod asking;
+
+pub use asking::{checks_have_one_answer, loaded_stores_are_honest, questions_are_answered};
