@@ -3,6 +3,7 @@ use Rattle.std.proofs.Common.{◌≡◌, ℕ, ◌≤◌, Bool, true, false, List
 use Rattle.std.specs.Prelude.{◌↔◌, ◌==◌, ◌&&◌, IsTrue, nat_lt, nat_le, is_some, if◌then◌else◌}
 use Rattle.std.specs.Option.{option_map_or}
 use Rattle.std.specs.Str.{IsUtf8}
+use Rattle.std.proofs.lemmas.Bool.{and_from}
 use Rattle.std.proofs.lemmas.Bool.Decides.{nat_tests}
 use Rattle.outside.specs.Shelf.{Files}
 use Rattle.link_frames.specs.declared.awaits.Awaits.TheVariants.{Reply as ReplyAwaited}
@@ -34,7 +35,6 @@ use Rattle.vo_spec.specs.Honest.{honest_record, honest_reply}
 use Rattle.vo_spec.specs.Lms.{key_lms, key_ots}
 use Rattle.vo_spec.specs.Replies.{max_reply, reply_bytes}
 use Rattle.one_reading.proofs.Readings.{one_reply}
-use Rattle.store_requests.specs.Texts.{query_in}
 use Rattle.store_requests.proofs.TextReadings.{text_read}
 use Rattle.vo_store.specs.declared.fault.StoreFault.{StoreFault}
 use Rattle.vo_store.specs.declared.fault.StoreFault.TheVariants as fault
@@ -46,7 +46,10 @@ use Rattle.vo_wire.specs.Answering.{Answer, code_of, query_answer, reply_answer,
 use Rattle.vo_commands.specs.Expected.{Allows, Checks, Expected, OfQuery, ask_expected, is_public_key, with_answer, with_key, with_reply}
 use Rattle.vo_commands.specs.Lines.{Output, check_output, store_refusal}
 use Rattle.vo_commands.specs.Texts.{IsQueryText}
-use Rattle.honest_peers.specs.Asking.{IsAsked}
+use Rattle.vo_commands.proofs.QueryTexts.{has_byte}
+use Rattle.honest_peers.specs.Asking.{IsAsked, question}
+use Rattle.honest_peers.proofs.Served.{served_answers}
+use Rattle.honest_peers.proofs.Trading.{IsRequest}
 
 -- Checks.
 
@@ -95,12 +98,17 @@ frame_goes : (k : FrameKind) (body tail : List ℕ) (queue : List (List ℕ)) �
 frame_goes k body tail queue may fits rest = ap (λ (first : Coming). with_answer first rest) (read_back ReplyAwaited k body tail may fits)
 
 -- what the store answers
-query_reply : (s : StoreState) (text : List ℕ) (q : Query) (answer : Answer) → IsUtf8 text → IsQueryText text q → reply_to s kind.Query text ≡ Some answer
-    → answer ≡ reply_answer (answer_of s q)
+query_reply : (s : StoreState) (text : List ℕ) (q : Query) → IsUtf8 text → IsQueryText text q → reply_to s kind.Query text ≡ Some (reply_answer (answer_of s q))
 unfolding reply_to
-query_reply s text q answer utf8 is e =
-    let same : query_answer s (query_in text) ≡ answer = cc in
-    sym same ∙ ap (query_answer s) (text_read text q utf8 is)
+query_reply s text q utf8 is = ap (λ (o : Option Query). Some (query_answer s o)) (text_read text q utf8 is)
+
+-- the text fits a frame
+question_is : (text : List ℕ) (q : Query) → IsQueryText text q → IsRequest (frame_bytes kind.Query text) kind.Query text
+question_is text q is = record {
+  frame_is = refl;
+  may = refl;
+  fits = and_from _ _ (le-leb 1 (length text) (has_byte text q is)) (le-leb (length text) 65536 is.0);
+}
 
 -- a reply is not over the limit
 reply_short : (s : StoreState) (q : Query) (bytes : List ℕ) → answer_of s q ≡ Ok bytes → length bytes ≤ max_reply
@@ -160,10 +168,10 @@ module _ (s : StoreState) (key text : List ℕ) (least : ℕ) (files : Files) (q
   came : (k : FrameKind) (body : List ℕ) → reply_answer (answer_of s q) ≡ (k, body) → IsTrue (may_come ReplyAwaited k) → IsTrue (is_length k (length body))
       → by_reply (coming ∷ queue) ≡ with_answer (Whole k body) (λ r. Checks s.key least q r)
   came k body e may fits =
-      let answered = asked.answered.1 in
-      let same : answered.0 ≡ (k, body) = query_reply s text q answered.0 asked.is_text asked.is_query answered.1 ∙ e in
-      let frame : coming ≡ frame_bytes k body ++ asked.answered.0 = answered.2 ∙ ap (λ (a : Answer). frame_bytes a.0 a.1 ++ asked.answered.0) same in
-      ap (λ (bytes : List ℕ). by_reply (bytes ∷ queue)) frame ∙ frame_goes k body asked.answered.0 queue may fits (λ r. Checks s.key least q r)
+      let each = served_answers s (question text) coming asked.served.0 asked.served.1 in
+      let found = each kind.Query text (reply_answer (answer_of s q)) (question_is text q asked.is_query) (query_reply s text q asked.is_text asked.is_query) in
+      let frame : coming ≡ frame_bytes k body ++ found.0 = found.1 ∙ ap (λ (a : Answer). frame_bytes a.0 a.1 ++ found.0) e in
+      ap (λ (bytes : List ℕ). by_reply (bytes ∷ queue)) frame ∙ frame_goes k body found.0 queue may fits (λ r. Checks s.key least q r)
 
   pub refused : (why : StoreFault) → answer_of s q ≡ Err why → Allows expected output ↔ (output ≡ store_refusal (code_of why))
   refused why e =

@@ -3,5 +3,7 @@
 #![tactic(auto)]
 
 mod asking;
+mod owning;
 
 pub use asking::{checks_have_one_answer, loaded_stores_are_honest, questions_are_answered};
+pub use owning::sessions_end_plainly;
