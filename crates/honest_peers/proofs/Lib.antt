@@ -1,0 +1,11 @@
+pub mod AskLaws
+pub mod LoadedLaws
+pub mod Trading
+pub mod Served
+pub mod StoreSteps
+pub mod Requests
+pub mod CatchingUp
+pub mod Standings
+pub mod Sealing
+pub mod Commits
+pub mod Sessions

@@ -1,0 +1,60 @@
+//! What `ask` prints of an honest store's answer.
+
+ghost use Rattle.std.specs.Prelude.{◌≡◌, ◌↔◌, ℕ, ◌≤◌, List, ◌∷◌, drop, length, None, Result, Ok, Err};
+ghost use Rattle.outside.specs.Shelf.{Files};
+ghost use Rattle.vo_spec.specs.declared.checks.Answer.{Answer};
+ghost use Rattle.vo_spec.specs.declared.checks.CheckFault.{CheckFault};
+ghost use Rattle.vo_spec.specs.declared.records.Entry.{Entry};
+ghost use Rattle.vo_spec.specs.declared.tables.Command.{Command};
+ghost use Rattle.vo_spec.specs.Checks.{CheckOf};
+ghost use Rattle.vo_spec.specs.Conditions.{Query};
+ghost use Rattle.vo_spec.specs.Journals.{IsJournal, batches_of};
+ghost use Rattle.vo_spec.specs.Owners.{AreLoadable};
+ghost use Rattle.round_trips.specs.Trips.{plain_answer};
+ghost use Rattle.vo_store.specs.declared.fault.StoreFault.TheVariants.{TooLarge};
+ghost use Rattle.vo_store.specs.Calls.{answer_of};
+ghost use Rattle.vo_store.specs.HonestStores.{IsHonestAfter};
+ghost use Rattle.vo_store.specs.Loading.{store_behind};
+ghost use Rattle.vo_store.specs.StoreState.{StoreState};
+ghost use Rattle.vo_commands.specs.Expected.{Allows, ask_expected};
+ghost use Rattle.vo_commands.specs.Lines.{Output, check_output, store_refusal};
+ghost use Rattle.honest_peers.specs.Asking.{IsAsked};
+
+use vo_store::laws::answers_are_accepted;
+
+/// Whatever the bytes are, a client has one answer to them.
+pub fn checks_have_one_answer()
+    ensures { (key : List ℕ) (least : ℕ) (q : Query) (bytes : List ℕ)
+        (a b : Result Answer CheckFault) → CheckOf key least q bytes a → CheckOf key least q bytes b
+        → a ≡ b }
+{}
+
+/// A store that has loaded a journal is honest after the batches of its versions.
+pub fn loaded_stores_are_honest()
+    ensures { (key journal : List ℕ) (es : List Entry) → IsJournal journal es → AreLoadable key es
+        → IsHonestAfter (batches_of (drop 1 es)) (store_behind key es) }
+{}
+
+/// Where an honest store answers, `ask` prints the query's result on the plain tables after the
+/// store's batches, and nothing else; where the store has no version, or its reply is too large,
+/// `ask` says so.
+pub fn questions_are_answered()
+    ensures result { (batches : List (List Command)) (s : StoreState) (key text : List ℕ)
+        (least : ℕ) (files : Files) (q : Query) (coming bytes : List ℕ) (queue : List (List ℕ))
+        (output : Output) → IsHonestAfter batches s → IsAsked key text files s q coming
+        → least ≤ length batches → answer_of s q ≡ Ok bytes
+        → Allows (ask_expected key text least files (coming ∷ queue)) output
+        ↔ (output ≡ check_output (Ok (plain_answer batches q))) }
+    ensures too_large { (s : StoreState) (key text : List ℕ) (least size : ℕ) (files : Files)
+        (q : Query) (coming : List ℕ) (queue : List (List ℕ)) (output : Output)
+        → IsAsked key text files s q coming → answer_of s q ≡ Err (TooLarge size)
+        → Allows (ask_expected key text least files (coming ∷ queue)) output
+        ↔ (output ≡ store_refusal 3) }
+    ensures empty { (s : StoreState) (key text : List ℕ) (least : ℕ) (files : Files) (q : Query)
+        (coming : List ℕ) (queue : List (List ℕ)) (output : Output)
+        → IsAsked key text files s q coming → s.installed ≡ None
+        → Allows (ask_expected key text least files (coming ∷ queue)) output
+        ↔ (output ≡ store_refusal 2) }
+{
+    answers_are_accepted();
+}

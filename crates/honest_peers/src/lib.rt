@@ -1,0 +1,9 @@
+//! Laws of parties that keep to the rules, each the contract of a function that does nothing: what
+//! a client and an owner come to with an honest store.
+#![tactic(auto)]
+
+mod asking;
+mod owning;
+
+pub use asking::{checks_have_one_answer, loaded_stores_are_honest, questions_are_answered};
+pub use owning::sessions_end_plainly;

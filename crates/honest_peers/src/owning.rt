@@ -1,0 +1,39 @@
+//! What an owner's session with an honest store comes to.
+
+ghost use Rattle.std.specs.Prelude.{◌≡◌, List, Some};
+ghost use Rattle.vo_spec.specs.declared.records.Entry.{Entry};
+ghost use Rattle.vo_spec.specs.declared.tables.Batch.{Batch};
+ghost use Rattle.vo_spec.specs.declared.tables.Command.{Command};
+ghost use Rattle.vo_spec.specs.Honest.{RepresentTables};
+ghost use Rattle.vo_spec.specs.Secret.{Secret};
+ghost use Rattle.vo_spec.specs.Tables.{tables_after};
+ghost use Rattle.link_frames.specs.Scripts.{others};
+ghost use Rattle.owner_state.specs.Held.{Held};
+ghost use Rattle.owner_state.specs.Sealing.{FitEach};
+ghost use Rattle.vo_store.specs.StoreState.{StoreState};
+ghost use Rattle.owner_session.specs.Endings.{Ending};
+ghost use Rattle.owner_session.specs.Runs.{AreJudgements};
+ghost use Rattle.owner_session.specs.Work.{Input, session};
+ghost use Rattle.vo_commands.specs.Committing.{IsJudgement, entry_forms};
+ghost use Rattle.honest_peers.specs.Answering.{AreServed};
+ghost use Rattle.honest_peers.specs.Owning.{EndsPlainly, IsOwnerAfter, IsStoreWithin};
+
+use vo_store::laws::{owners_follow_stores, stores_stay_honest};
+
+/// Where an owner's journal is plain, and an honest store of its key has installed a front of the
+/// versions, or none: a session over a connection that this store serves ends as the plain tables
+/// say, and so with no refusal of the store or of its answers. Owner and store then stand behind the
+/// same batches, the journal is plain, and the store's trees stand for the plain tables.
+pub fn sessions_end_plainly()
+    ensures { (secret : Secret) (batches : List (List Command)) (held : Held) (es : List Entry)
+        (new : List Batch) (s later : StoreState) (input : Input Held Entry) (ending : Ending)
+        → IsOwnerAfter secret batches held es → IsStoreWithin secret batches s → FitEach new
+        → let work = session entry_forms held es new input in
+        AreServed s work.events input.coming later
+        → AreJudgements IsJudgement (others work.events) → work.value ≡ Some ending
+        → (ends : EndsPlainly secret batches held es new (others work.events) ending later)
+        × RepresentTables later.tables (tables_after ends.behind) }
+{
+    stores_stay_honest();
+    owners_follow_stores();
+}
