@@ -6,6 +6,7 @@ use Rattle.std.specs.Str.{IsUtf8}
 use Rattle.std.proofs.lemmas.Bool.{and_from}
 use Rattle.std.proofs.lemmas.Bool.Decides.{nat_tests}
 use Rattle.outside.specs.Shelf.{Files}
+use Rattle.exit_output.specs.Outputs.{Output}
 use Rattle.link_frames.specs.declared.awaits.Awaits.TheVariants.{Reply as ReplyAwaited}
 use Rattle.link_frames.specs.declared.frame_kind.FrameKind.{FrameKind}
 use Rattle.link_frames.specs.declared.frame_kind.FrameKind.TheVariants as kind
@@ -44,7 +45,7 @@ use Rattle.vo_store.specs.HonestStores.{IsHonestAfter, IsInstalled, IsRecordOf}
 use Rattle.vo_store.specs.StoreState.{StoreState}
 use Rattle.vo_wire.specs.Answering.{Answer, code_of, query_answer, reply_answer, reply_to}
 use Rattle.vo_commands.specs.Expected.{Allows, Checks, Expected, OfQuery, ask_expected, is_public_key, with_answer, with_key, with_reply}
-use Rattle.vo_commands.specs.Lines.{Output, check_output, store_refusal}
+use Rattle.vo_commands.specs.Lines.{check_output, store_refusal}
 use Rattle.vo_commands.specs.Texts.{IsQueryText}
 use Rattle.vo_commands.proofs.QueryTexts.{has_byte}
 use Rattle.honest_peers.specs.Asking.{IsAsked, question}

@@ -2,6 +2,7 @@
 use Rattle.std.proofs.Common.{◌≡◌, ℕ, ◌+◌, ◌<◌, ◌≤◌, List, [], ◌∷◌, ◌++◌, drop, length, Result, Ok, Err, append-nil, append_assoc, refl, sym, ap, ◌∙◌, subst, inl, inr, arith}
 use Rattle.std.specs.Prelude.{IsOk, IsSome}
 use Rattle.std.proofs.lemmas.List.{drop-map, length-append, map-append}
+use Rattle.exit_output.specs.Outputs.{Output}
 use Rattle.vo_spec.specs.declared.records.Entry.{Entry}
 use Rattle.vo_spec.specs.declared.tables.Batch.{Batch}
 use Rattle.vo_spec.specs.declared.tables.Command.{Command}
@@ -35,7 +36,7 @@ use Rattle.owner_session.specs.Endings.{Ending, Done, version_line}
 use Rattle.owner_session.specs.Runs.{entries_of, state_after}
 use Rattle.owner_session.specs.Work.{Judgement, Makes, Refuses, Steps, Appends, Says, batch_commit, commit, commits, ends_with, publication, step, with_first_judgement, with_judgement}
 use Rattle.vo_commands.specs.Committing.{IsJudgement, entry_forms, held_behind}
-use Rattle.vo_commands.specs.Lines.{Output, command_output, spent_key}
+use Rattle.vo_commands.specs.Lines.{command_output, spent_key}
 use Rattle.honest_peers.specs.Owning.{ComeTo, EndsPlainly, IsOwnerAfter, IsStoreAfter, refused_with}
 use Rattle.honest_peers.proofs.CatchingUp.{IsAt, proofs_short, takes_next}
 use Rattle.honest_peers.proofs.Requests.{installs_entry, proposes_batch, proposes_in_vain}

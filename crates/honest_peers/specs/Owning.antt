@@ -1,6 +1,7 @@
 -- A session in which nothing is wrong, and what it comes to by the plain tables.
 use Rattle.std.specs.Prelude.{◌≡◌, ◌⊎◌, ℕ, ◌+◌, ◌<◌, ◌≤◌, List, [], ◌∷◌, ◌++◌, length, Err, IsOk, IsSome}
 use Rattle.std.specs.List.{AllByRecursion}
+use Rattle.exit_output.specs.Outputs.{Output}
 use Rattle.vo_spec.specs.declared.records.Entry.{Entry}
 use Rattle.vo_spec.specs.declared.tables.Batch.{Batch}
 use Rattle.vo_spec.specs.declared.tables.Command.{Command}
@@ -22,7 +23,7 @@ use Rattle.owner_session.specs.declared.refusals.RefusalCause.TheVariants.{Comma
 use Rattle.owner_session.specs.Endings.{Ending, Done, OwnerRefuses}
 use Rattle.owner_session.specs.Runs.{entries_of, state_after}
 use Rattle.owner_session.specs.Work.{Deed}
-use Rattle.vo_commands.specs.Lines.{Output, command_output, spent_key}
+use Rattle.vo_commands.specs.Lines.{command_output, spent_key}
 
 -- An owner of this key stands behind these batches, and its journal is plain: the entries are its
 -- steps, and each has the record of the honest trees, as the owner has their roots.

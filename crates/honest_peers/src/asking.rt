@@ -2,6 +2,7 @@
 
 ghost use Rattle.std.specs.Prelude.{◌≡◌, ◌↔◌, ℕ, ◌≤◌, List, ◌∷◌, drop, length, None, Result, Ok, Err};
 ghost use Rattle.outside.specs.Shelf.{Files};
+ghost use Rattle.exit_output.specs.Outputs.{Output};
 ghost use Rattle.vo_spec.specs.declared.checks.Answer.{Answer};
 ghost use Rattle.vo_spec.specs.declared.checks.CheckFault.{CheckFault};
 ghost use Rattle.vo_spec.specs.declared.records.Entry.{Entry};
@@ -17,7 +18,7 @@ ghost use Rattle.vo_store.specs.HonestStores.{IsHonestAfter};
 ghost use Rattle.vo_store.specs.Loading.{store_behind};
 ghost use Rattle.vo_store.specs.StoreState.{StoreState};
 ghost use Rattle.vo_commands.specs.Expected.{Allows, ask_expected};
-ghost use Rattle.vo_commands.specs.Lines.{Output, check_output, store_refusal};
+ghost use Rattle.vo_commands.specs.Lines.{check_output, store_refusal};
 ghost use Rattle.honest_peers.specs.Asking.{IsAsked};
 
 use vo_store::laws::answers_are_accepted;
