@@ -26,15 +26,19 @@ no_commands : (secret : Secret) → batches_of (first_entry secret ∷ []) ≡ [
 unfolding signed_entry
 no_commands secret = refl
 
-pub begins : (secret : Secret) → SignsValidly secret → IsOwnerAfter secret [] (record { key = secret; roots = first_roots }) (first_entry secret ∷ [])
+pub begins : (secret : Secret) → SignsValidly secret
+    → IsOwnerAfter secret [] (record { key = secret; roots = first_roots })
+    (first_entry secret ∷ [])
 begins secret signs =
-    let sealable : AreSealable secret [] = record { signs = signs; fit = tt; accepted = tt; few = some_leaf secret.lms } in
+    let sealable : AreSealable secret [] =
+    record { signs = signs; fit = tt; accepted = tt; few = some_leaf secret.lms } in
     record {
       key_is = refl;
       sealable = sealable;
       batches_are = no_commands secret;
       fit = subst (AllByRecursion FitsEntry) (first_sealed secret) (entries_fit secret [] sealable);
       steps = first_step secret (first_entry secret) first_roots refl refl;
-      plain = subst (AreLoadable (public_of_secret secret)) (first_sealed secret) (are_loadable secret [] sealable);
+      plain = subst (AreLoadable (public_of_secret secret)) (first_sealed secret)
+          (are_loadable secret [] sealable);
       roots = no_trees;
     }

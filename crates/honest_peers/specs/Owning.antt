@@ -44,8 +44,8 @@ pub record IsStoreAfter (secret : Secret) (batches : List (List Command)) (s : S
 
 -- or it lacks some of them, or version 0 too
 abbrev pub IsStoreWithin : Secret → List (List Command) → StoreState → Type 0
-IsStoreWithin secret batches s = (front lacking : List (List Command)) × (batches ≡ front ++ lacking)
-    × IsStoreAfter secret front s
+IsStoreWithin secret batches s = (front lacking : List (List Command))
+    × (batches ≡ front ++ lacking) × IsStoreAfter secret front s
 
 abbrev pub refused_with : Output → Ending
 refused_with output = OwnerRefuses CommandCause output.bytes

@@ -36,8 +36,8 @@ pub fn owners_begin_plainly()
 
 /// Where an owner's journal is plain, and an honest store of its key has installed a front of the
 /// versions, or none: a session over a connection that this store serves ends as the plain tables
-/// say, and so with no refusal of the store or of its answers. Owner and store then stand behind the
-/// same batches, the journal is plain, and the store's trees stand for the plain tables.
+/// say, and so with no refusal of the store or of its answers. Owner and store then stand behind
+/// the same batches, the journal is plain, and the store's trees stand for the plain tables.
 pub fn sessions_end_plainly()
     ensures { (secret : Secret) (batches : List (List Command)) (held : Held) (es : List Entry)
         (new : List Batch) (s later : StoreState) (input : Input Held Entry) (ending : Ending)
@@ -52,8 +52,8 @@ pub fn sessions_end_plainly()
     owners_follow_stores();
 }
 
-/// So it is of each run of `own` over such a connection, which ends with status 0 or 8, or with 3 or
-/// 4.
+/// So it is of each run of `own` over such a connection: it ends with status 0 or 8, or with 3
+/// where the outside failed, or with 4.
 pub fn owners_end_plainly()
     ensures { (secret : Secret) (batches : List (List Command)) (new : List Batch)
         (net later_net disk later_disk out later_out status : ℕ) (held : Held) (es : List Entry)
