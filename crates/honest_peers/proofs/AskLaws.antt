@@ -54,7 +54,9 @@ use Rattle.honest_peers.proofs.Trading.{IsRequest}
 
 -- Checks.
 
-pub one_check : (key : List ℕ) (least : ℕ) (q : Query) (bytes : List ℕ) (a b : Result Accepted CheckFault) → CheckOf key least q bytes a → CheckOf key least q bytes b → a ≡ b
+pub one_check : (key : List ℕ) (least : ℕ) (q : Query) (bytes : List ℕ)
+    (a b : Result Accepted CheckFault) → CheckOf key least q bytes a → CheckOf key least q bytes b
+    → a ≡ b
 unfolding CheckOf
 one_check key least q bytes a b (inl x) (inl y) = x.1 ∙ sym y.1
 one_check key least q bytes a b (inl x) (inr (inl y)) = absurd (omega (arith, x.0, y.0))
@@ -64,7 +66,8 @@ one_check key least q bytes a b (inr (inr x)) (inl y) = absurd (omega (arith, x.
 one_check key least q bytes a b (inr (inl x)) (inr (inl y)) = x.2 ∙ sym y.2
 one_check key least q bytes a b (inr (inl x)) (inr (inr y)) = absurd (x.1 y.1 y.2)
 one_check key least q bytes a b (inr (inr x)) (inr (inl y)) = absurd (y.1 x.1 x.2)
-one_check key least q bytes a b (inr (inr x)) (inr (inr y)) = x.3 ∙ ap (answer_to key least q) (one_reply bytes x.1 y.1 x.2 y.2) ∙ sym y.3
+one_check key least q bytes a b (inr (inr x)) (inr (inr y)) = x.3
+    ∙ ap (answer_to key least q) (one_reply bytes x.1 y.1 x.2 y.2) ∙ sym y.3
 
 -- The key.
 
@@ -74,54 +77,74 @@ and_first false b h = absurd (cc)
 
 key_short : (key : List ℕ) → IsTrue (is_public_key key) → nat_lt 64 (length key) ≡ false
 key_short key h =
-    let long : IsTrue (length key == 56) = and_first (length key == 56) (is_some (key_lms key)) (and_first (length key == 56 && is_some (key_lms key)) (is_some (key_ots key)) h) in
+    let long : IsTrue (length key == 56) = and_first (length key == 56) (is_some (key_lms key))
+    (and_first (length key == 56 && is_some (key_lms key)) (is_some (key_ots key)) h) in
     grind (arith, nat_tests)
 
-key_goes : (files : Files) (name key : List ℕ) → files name ≡ Some key → IsTrue (is_public_key key) → (rest : List ℕ → Expected) → with_key files name rest ≡ rest key
+key_goes : (files : Files) (name key : List ℕ) → files name ≡ Some key → IsTrue (is_public_key key)
+    → (rest : List ℕ → Expected) → with_key files name rest ≡ rest key
 key_goes files name key is known rest = rw (is, key_short key known, known) refl
 
 -- The query.
 
-one_query : (text : List ℕ) (a b : Query) → IsUtf8 text → IsQueryText text a → IsQueryText text b → a ≡ b
-one_query text a b utf8 x y = let both : Some a ≡ Some b = sym (text_read text a utf8 x) ∙ text_read text b utf8 y in cc
+one_query : (text : List ℕ) (a b : Query) → IsUtf8 text → IsQueryText text a → IsQueryText text b
+    → a ≡ b
+one_query text a b utf8 x y = let both : Some a ≡ Some b = sym (text_read text a utf8 x)
+    ∙ text_read text b utf8 y in cc
 
-query_goes : (text : List ℕ) (q : Query) (output : Output) → IsUtf8 text → IsQueryText text q → (rest : Query → Expected) → Allows (OfQuery text rest) output ↔ Allows (rest q) output
+query_goes : (text : List ℕ) (q : Query) (output : Output) → IsUtf8 text → IsQueryText text q
+    → (rest : Query → Expected) → Allows (OfQuery text rest) output ↔ Allows (rest q) output
 query_goes text q output utf8 is rest = (to, λ allows. inl (q, is, allows))
   where
     to : Allows (OfQuery text rest) output → Allows (rest q) output
-    to (inl found) = subst (λ (x : Query). Allows (rest x) output) (one_query text found.0 q utf8 found.1 is) found.2
+    to (inl found) = subst (λ (x : Query). Allows (rest x) output)
+        (one_query text found.0 q utf8 found.1 is) found.2
     to (inr refused) = absurd (refused.0 q is)
 
 -- The frame.
 
-frame_goes : (k : FrameKind) (body tail : List ℕ) (queue : List (List ℕ)) → IsTrue (may_come ReplyAwaited k) → IsTrue (is_length k (length body)) → (rest : List ℕ → Expected)
+frame_goes : (k : FrameKind) (body tail : List ℕ) (queue : List (List ℕ))
+    → IsTrue (may_come ReplyAwaited k) → IsTrue (is_length k (length body))
+    → (rest : List ℕ → Expected)
     → with_reply ((frame_bytes k body ++ tail) ∷ queue) rest ≡ with_answer (Whole k body) rest
-frame_goes k body tail queue may fits rest = ap (λ (first : Coming). with_answer first rest) (read_back ReplyAwaited k body tail may fits)
+frame_goes k body tail queue may fits rest = ap (λ (first : Coming). with_answer first rest)
+    (read_back ReplyAwaited k body tail may fits)
 
 -- what the store answers
-query_reply : (s : StoreState) (text : List ℕ) (q : Query) → IsUtf8 text → IsQueryText text q → reply_to s kind.Query text ≡ Some (reply_answer (answer_of s q))
+query_reply : (s : StoreState) (text : List ℕ) (q : Query) → IsUtf8 text → IsQueryText text q
+    → reply_to s kind.Query text ≡ Some (reply_answer (answer_of s q))
 unfolding reply_to
-query_reply s text q utf8 is = ap (λ (o : Option Query). Some (query_answer s o)) (text_read text q utf8 is)
+query_reply s text q utf8 is = ap (λ (o : Option Query). Some (query_answer s o))
+    (text_read text q utf8 is)
 
 -- the text fits a frame
-question_is : (text : List ℕ) (q : Query) → IsQueryText text q → IsRequest (frame_bytes kind.Query text) kind.Query text
+question_is : (text : List ℕ) (q : Query) → IsQueryText text q
+    → IsRequest (frame_bytes kind.Query text) kind.Query text
 question_is text q is = record {
   frame_is = refl;
   may = refl;
-  fits = and_from _ _ (le-leb 1 (length text) (has_byte text q is)) (le-leb (length text) 65536 is.0);
+  fits = and_from _ _ (le-leb 1 (length text) (has_byte text q is))
+      (le-leb (length text) 65536 is.0);
 }
 
 -- a reply is not over the limit
-reply_short : (s : StoreState) (q : Query) (bytes : List ℕ) → answer_of s q ≡ Ok bytes → length bytes ≤ max_reply
+reply_short : (s : StoreState) (q : Query) (bytes : List ℕ) → answer_of s q ≡ Ok bytes
+    → length bytes ≤ max_reply
 unfolding answer_of
 reply_short s q bytes e = step s.installed e
   where
-    limited : (reply : List ℕ) (test : Bool) → nat_le (length reply) max_reply ≡ test → (if test then Ok reply else Err (fault.TooLarge (length reply))) ≡ Ok bytes → length bytes ≤ max_reply
-    limited reply true t f = let same : reply ≡ bytes = cc in subst (λ (b : List ℕ). length b ≤ max_reply) same (leb-true (length reply) max_reply t)
+    limited : (reply : List ℕ) (test : Bool) → nat_le (length reply) max_reply ≡ test
+        → (if test then Ok reply else Err (fault.TooLarge (length reply))) ≡ Ok bytes
+        → length bytes ≤ max_reply
+    limited reply true t f = let same : reply ≡ bytes = cc in
+        subst (λ (b : List ℕ). length b ≤ max_reply) same (leb-true (length reply) max_reply t)
     limited reply false t f = absurd (cc)
 
     step : (installed : Option SignedRecord)
-        → option_map_or (λ (r : SignedRecord). within_limit (reply_bytes (honest_reply q r.rec r.signature s.tables))) installed (Err fault.Empty) ≡ Ok bytes → length bytes ≤ max_reply
+        → option_map_or
+        (λ (r : SignedRecord). within_limit
+        (reply_bytes (honest_reply q r.rec r.signature s.tables))) installed (Err fault.Empty)
+        ≡ Ok bytes → length bytes ≤ max_reply
     step None f = absurd (cc)
     step (Some r) f =
         let reply : List ℕ = reply_bytes (honest_reply q r.rec r.signature s.tables) in
@@ -129,7 +152,10 @@ reply_short s q bytes e = step s.installed e
 
 pub no_version : (s : StoreState) (q : Query) → s.installed ≡ None → answer_of s q ≡ Err fault.Empty
 unfolding answer_of
-no_version s q none = ap (λ (o : Option SignedRecord). option_map_or (λ (r : SignedRecord). within_limit (reply_bytes (honest_reply q r.rec r.signature s.tables))) o (Err fault.Empty)) none
+no_version s q none =
+    ap (λ (o : Option SignedRecord). option_map_or
+    (λ (r : SignedRecord). within_limit (reply_bytes (honest_reply q r.rec r.signature s.tables))) o
+    (Err fault.Empty)) none
 
 -- The numbers of a query's text have 64 bits with a sign.
 
@@ -144,12 +170,14 @@ side_fits (operand_of.Literal v) h = in_range v h
 
 query_numbers : (text : List ℕ) (q : Query) → IsUtf8 text → IsQueryText text q → FitsQuery q
 query_numbers text q utf8 is =
-    all_mapped PrintableSides (λ (c : Ref × Operand). FitsOperand c.1) (option_map_or comparisons q.condition []) (λ c f. side_fits c.1 f.1)
+    all_mapped PrintableSides (λ (c : Ref × Operand). FitsOperand c.1)
+    (option_map_or comparisons q.condition []) (λ c f. side_fits c.1 f.1)
     (query_fits max_sql_bytes text q (utf8_tokens text utf8) is).tests
 
 -- All of `ask`.
 
-module _ (s : StoreState) (key text : List ℕ) (least : ℕ) (files : Files) (q : Query) (coming : List ℕ) (queue : List (List ℕ)) (output : Output)
+module _ (s : StoreState) (key text : List ℕ) (least : ℕ) (files : Files) (q : Query)
+    (coming : List ℕ) (queue : List (List ℕ)) (output : Output)
     (asked : IsAsked key text files s q coming) where
   abbrev expected : Expected
   expected = ask_expected key text least files (coming ∷ queue)
@@ -157,63 +185,92 @@ module _ (s : StoreState) (key text : List ℕ) (least : ℕ) (files : Files) (q
   abbrev by_reply : List (List ℕ) → Expected
   by_reply connections = with_reply connections (λ r. Checks s.key least q r)
 
-  expected_is : expected ≡ OfQuery text (λ x. with_reply (coming ∷ queue) (λ r. Checks s.key least x r))
-  expected_is = key_goes files key s.key asked.key_is asked.is_key (λ k. OfQuery text (λ x. with_reply (coming ∷ queue) (λ r. Checks k least x r)))
+  expected_is : expected ≡ OfQuery text
+      (λ x. with_reply (coming ∷ queue) (λ r. Checks s.key least x r))
+  expected_is = key_goes files key s.key asked.key_is asked.is_key
+      (λ k. OfQuery text (λ x. with_reply (coming ∷ queue) (λ r. Checks k least x r)))
 
   goes : Allows expected output ↔ Allows (by_reply (coming ∷ queue)) output
   goes =
-      subst (λ (x : Expected). Allows x output ↔ Allows (by_reply (coming ∷ queue)) output) (sym expected_is)
-      (query_goes text q output asked.is_text asked.is_query (λ x. with_reply (coming ∷ queue) (λ r. Checks s.key least x r)))
+      subst (λ (x : Expected). Allows x output ↔ Allows (by_reply (coming ∷ queue)) output)
+      (sym expected_is)
+      (query_goes text q output asked.is_text asked.is_query
+      (λ x. with_reply (coming ∷ queue) (λ r. Checks s.key least x r)))
 
   -- the answer that comes is this
-  came : (k : FrameKind) (body : List ℕ) → reply_answer (answer_of s q) ≡ (k, body) → IsTrue (may_come ReplyAwaited k) → IsTrue (is_length k (length body))
+  came : (k : FrameKind) (body : List ℕ) → reply_answer (answer_of s q) ≡ (k, body)
+      → IsTrue (may_come ReplyAwaited k) → IsTrue (is_length k (length body))
       → by_reply (coming ∷ queue) ≡ with_answer (Whole k body) (λ r. Checks s.key least q r)
   came k body e may fits =
       let each = served_answers s (question text) coming asked.served.0 asked.served.1 in
-      let found = each kind.Query text (reply_answer (answer_of s q)) (question_is text q asked.is_query) (query_reply s text q asked.is_text asked.is_query) in
-      let frame : coming ≡ frame_bytes k body ++ found.0 = found.1 ∙ ap (λ (a : Answer). frame_bytes a.0 a.1 ++ found.0) e in
-      ap (λ (bytes : List ℕ). by_reply (bytes ∷ queue)) frame ∙ frame_goes k body found.0 queue may fits (λ r. Checks s.key least q r)
+      let found = each kind.Query text (reply_answer (answer_of s q))
+      (question_is text q asked.is_query) (query_reply s text q asked.is_text asked.is_query) in
+      let frame : coming ≡ frame_bytes k body ++ found.0 = found.1
+      ∙ ap (λ (a : Answer). frame_bytes a.0 a.1 ++ found.0) e in
+      ap (λ (bytes : List ℕ). by_reply (bytes ∷ queue)) frame
+      ∙ frame_goes k body found.0 queue may fits (λ r. Checks s.key least q r)
 
-  pub refused : (why : StoreFault) → answer_of s q ≡ Err why → Allows expected output ↔ (output ≡ store_refusal (code_of why))
+  pub refused : (why : StoreFault) → answer_of s q ≡ Err why
+      → Allows expected output ↔ (output ≡ store_refusal (code_of why))
   refused why e =
       let is = came kind.Refusal (code_of why ∷ []) (ap reply_answer e) refl refl in
-      let after : Allows (by_reply (coming ∷ queue)) output ↔ (output ≡ store_refusal (code_of why)) =
-      subst (λ (x : Expected). Allows x output ↔ (output ≡ store_refusal (code_of why))) (sym is) (λ h. h, λ h. h) in
+      let after : Allows (by_reply (coming ∷ queue)) output ↔
+      (output ≡ store_refusal (code_of why)) =
+      subst (λ (x : Expected). Allows x output ↔ (output ≡ store_refusal (code_of why))) (sym is)
+      (λ h. h, λ h. h) in
       (λ h. after.0 (goes.0 h), λ h. goes.1 (after.1 h))
 
-  pub accepted : (bytes : List ℕ) (answer : Accepted) → answer_of s q ≡ Ok bytes → CheckOf s.key least q bytes (Ok answer) → Allows expected output ↔ (output ≡ check_output (Ok answer))
+  pub accepted : (bytes : List ℕ) (answer : Accepted) → answer_of s q ≡ Ok bytes
+      → CheckOf s.key least q bytes (Ok answer) → Allows expected output ↔
+      (output ≡ check_output (Ok answer))
   accepted bytes answer e check =
-      let fits : IsTrue (is_length kind.Reply (length bytes)) = le-leb (length bytes) max_reply (reply_short s q bytes e) in
+      let fits : IsTrue (is_length kind.Reply (length bytes)) = le-leb (length bytes) max_reply
+      (reply_short s q bytes e) in
       let is = came kind.Reply bytes (ap reply_answer e) refl fits in
       let after : Allows (by_reply (coming ∷ queue)) output ↔ (output ≡ check_output (Ok answer)) =
-      subst (λ (x : Expected). Allows x output ↔ (output ≡ check_output (Ok answer))) (sym is) (to, λ h. (Ok answer, check, h)) in
+      subst (λ (x : Expected). Allows x output ↔ (output ≡ check_output (Ok answer))) (sym is)
+      (to, λ h. (Ok answer, check, h)) in
       (λ h. after.0 (goes.0 h), λ h. goes.1 (after.1 h))
     where
       to : Allows (Checks s.key least q bytes) output → output ≡ check_output (Ok answer)
-      to told = told.2 ∙ ap check_output (one_check s.key least q bytes told.0 (Ok answer) told.1 check)
+      to told = told.2
+          ∙ ap check_output (one_check s.key least q bytes told.0 (Ok answer) told.1 check)
 
   -- what is installed where there is a reply
-  installed_there : (bytes : List ℕ) → answer_of s q ≡ Ok bytes → (installed : SignedRecord) × (s.installed ≡ Some installed)
+  installed_there : (bytes : List ℕ) → answer_of s q ≡ Ok bytes
+      → (installed : SignedRecord) × (s.installed ≡ Some installed)
   installed_there bytes e = step s.installed refl
     where
-      step : (o : Option SignedRecord) → s.installed ≡ o → (installed : SignedRecord) × (s.installed ≡ Some installed)
+      step : (o : Option SignedRecord) → s.installed ≡ o
+          → (installed : SignedRecord) × (s.installed ≡ Some installed)
       step (Some installed) is = (installed, is)
       step None is = let none = no_version s q is in absurd (cc)
 
   -- that clients accept what honest stores answer
   abbrev AreAccepted : Type 0
-  AreAccepted = (batches : List (List Command)) (t : StoreState) (installed : SignedRecord) (old : ℕ) (x : Query) (bytes : List ℕ) → IsHonestAfter batches t
-      → t.installed ≡ Some installed → FitsQuery x → old ≤ installed.rec.version → answer_of t x ≡ Ok bytes
-      → CheckOf t.key old x bytes (Ok (record { version = installed.rec.version; outcome = result x (tables_after batches) }))
+  AreAccepted = (batches : List (List Command)) (t : StoreState) (installed : SignedRecord)
+      (old : ℕ) (x : Query) (bytes : List ℕ) → IsHonestAfter batches t
+      → t.installed ≡ Some installed → FitsQuery x → old ≤ installed.rec.version
+      → answer_of t x ≡ Ok bytes
+      → CheckOf t.key old x bytes
+      (Ok (record {
+        version = installed.rec.version;
+        outcome = result x (tables_after batches);
+      }))
 
-  pub answered : AreAccepted → (batches : List (List Command)) (bytes : List ℕ) → IsHonestAfter batches s → least ≤ length batches → answer_of s q ≡ Ok bytes
+  pub answered : AreAccepted → (batches : List (List Command)) (bytes : List ℕ)
+      → IsHonestAfter batches s → least ≤ length batches → answer_of s q ≡ Ok bytes
       → Allows expected output ↔ (output ≡ check_output (Ok (plain_answer batches q)))
   unfolding honest_record
   answered law batches bytes honest recent e =
       let there = installed_there bytes e in
-      let is : IsRecordOf s.key batches there.0 = subst (IsInstalled s.key batches) there.1 honest.installed in
-      let version : there.0.rec.version ≡ length batches = ap (λ (r : Record). r.version) is.record_is in
+      let is : IsRecordOf s.key batches there.0 = subst (IsInstalled s.key batches) there.1
+      honest.installed in
+      let version : there.0.rec.version ≡ length batches = ap (λ (r : Record). r.version)
+      is.record_is in
       let fits : FitsQuery q = query_numbers text q asked.is_text asked.is_query in
-      let check = law batches s there.0 least q bytes honest there.1 fits (subst (λ (n : ℕ). least ≤ n) (sym version) recent) e in
+      let check = law batches s there.0 least q bytes honest there.1 fits
+      (subst (λ (n : ℕ). least ≤ n) (sym version) recent) e in
       accepted bytes (plain_answer batches q) e
-      (subst (λ (n : ℕ). CheckOf s.key least q bytes (Ok (record { version = n; outcome = result q (tables_after batches) }))) version check)
+      (subst (λ (n : ℕ). CheckOf s.key least q bytes
+      (Ok (record { version = n; outcome = result q (tables_after batches) }))) version check)

@@ -45,21 +45,28 @@ use Rattle.honest_peers.proofs.StoreSteps.{IsProposed, IsRefused, StoreLaws, pro
 use Rattle.honest_peers.proofs.Trading.{Deeds, OwnInput, OwnWork, Runs, input_with}
 
 -- The owner makes the first of what it is said to make.
-stepped : (Q : Deeds → Type 0) (s later : StoreState) (ending : Ending) (held : Held) (batch : Batch) (proofs : List ℕ) (input : OwnInput) (go : Held → OwnInput → OwnWork)
+stepped : (Q : Deeds → Type 0) (s later : StoreState) (ending : Ending) (held : Held)
+    (batch : Batch) (proofs : List ℕ) (input : OwnInput) (go : Held → OwnInput → OwnWork)
     → Runs s input.coming later ending (step entry_forms held batch proofs input go)
-    → ((judgement : Judgement Held Entry) (rest : OwnInput) → IsJudgement held batch proofs judgement → Runs s rest.coming later ending (with_judgement entry_forms judgement rest go)
-    → Q (Steps held batch proofs judgement ∷ others (with_judgement entry_forms judgement rest go).events))
+    → ((judgement : Judgement Held Entry) (rest : OwnInput)
+    → IsJudgement held batch proofs judgement → Runs s rest.coming later ending
+    (with_judgement entry_forms judgement rest go)
+    → Q (Steps held batch proofs judgement ∷ others
+    (with_judgement entry_forms judgement rest go).events))
     → Q (others (step entry_forms held batch proofs input go).events)
 unfolding step
 stepped Q s later ending held batch proofs input go runs goes = by_list input.judgements runs
   where
-    by_list : (js : List (Judgement Held Entry)) → Runs s input.coming later ending (with_first_judgement entry_forms held batch proofs input.coming js go)
+    by_list : (js : List (Judgement Held Entry)) → Runs s input.coming later ending
+        (with_first_judgement entry_forms held batch proofs input.coming js go)
         → Q (others (with_first_judgement entry_forms held batch proofs input.coming js go).events)
     by_list [] r = let none = r.value in absurd (cc)
     by_list (judgement ∷ left) r =
-        goes judgement (record { coming = input.coming; judgements = left }) r.judged.0 (record { answered = r.answered; judged = r.judged.1; value = r.value })
+        goes judgement (record { coming = input.coming; judgements = left }) r.judged.0
+        (record { answered = r.answered; judged = r.judged.1; value = r.value })
 
-some_entries : (es : List Entry) (batches : List (List Command)) → batches_of es ≡ [] ∷ batches → 0 < length es
+some_entries : (es : List Entry) (batches : List (List Command)) → batches_of es ≡ [] ∷ batches
+    → 0 < length es
 some_entries [] batches e = absurd (cc)
 some_entries (f ∷ es) batches e = omega arith
 
@@ -68,17 +75,28 @@ module _ (secret : Secret) (laws : StoreLaws) (later : StoreState) (ending : End
   leaves = leaves_of secret.lms
 
   -- The owner refuses the batch, and the session ends.
-  refuses : (batches : List (List Command)) (held : Held) (es : List Entry) (batch : Batch) (new : List Batch) (proofs : List ℕ) (t : StoreState) (judgement : Judgement Held Entry)
-      (rest : OwnInput) (go : Held → OwnInput → OwnWork) (output : Output) → judgement ≡ Refuses CommandCause output.bytes → IsOwnerAfter secret batches held es → IsAt secret batches t
-      → (ending ≡ refused_with output → ComeTo leaves batches (commands_of (batch ∷ new)) ending batches)
+  refuses : (batches : List (List Command)) (held : Held) (es : List Entry) (batch : Batch)
+      (new : List Batch) (proofs : List ℕ) (t : StoreState) (judgement : Judgement Held Entry)
+      (rest : OwnInput) (go : Held → OwnInput → OwnWork) (output : Output)
+      → judgement ≡ Refuses CommandCause output.bytes → IsOwnerAfter secret batches held es
+      → IsAt secret batches t
+      → (ending ≡ refused_with output → ComeTo leaves batches (commands_of (batch ∷ new)) ending
+      batches)
       → Runs t rest.coming later ending (with_judgement entry_forms judgement rest go)
-      → EndsPlainly secret batches held es (batch ∷ new) (Steps held batch proofs judgement ∷ others (with_judgement entry_forms judgement rest go).events) ending later
+      → EndsPlainly secret batches held es (batch ∷ new)
+      (Steps held batch proofs judgement ∷ others
+      (with_judgement entry_forms judgement rest go).events) ending later
   refuses batches held es batch new proofs t judgement rest go output is own at comes runs =
-      subst (λ (j : Judgement Held Entry). EndsPlainly secret batches held es (batch ∷ new) (Steps held batch proofs j ∷ others (with_judgement entry_forms j rest go).events) ending later) (sym is)
-      (ended (subst (λ (j : Judgement Held Entry). Runs t rest.coming later ending (with_judgement entry_forms j rest go)) is runs))
+      subst (λ (j : Judgement Held Entry). EndsPlainly secret batches held es (batch ∷ new)
+      (Steps held batch proofs j ∷ others (with_judgement entry_forms j rest go).events) ending
+      later) (sym is)
+      (ended (subst
+      (λ (j : Judgement Held Entry). Runs t rest.coming later ending
+      (with_judgement entry_forms j rest go)) is runs))
     where
       ended : Runs t rest.coming later ending (ends_with (refused_with output))
-          → EndsPlainly secret batches held es (batch ∷ new) (Steps held batch proofs (Refuses CommandCause output.bytes) ∷ []) ending later
+          → EndsPlainly secret batches held es (batch ∷ new)
+          (Steps held batch proofs (Refuses CommandCause output.bytes) ∷ []) ending later
       ended r =
           let value = r.value in
           let same : ending ≡ refused_with output = cc in
@@ -86,13 +104,16 @@ module _ (secret : Secret) (laws : StoreLaws) (later : StoreState) (ending : End
           record {
             behind = batches;
             comes = comes same;
-            owner = subst (λ (xs : List Entry). IsOwnerAfter secret batches held xs) (sym (append-nil es)) own;
+            owner = subst (λ (xs : List Entry). IsOwnerAfter secret batches held xs)
+                (sym (append-nil es)) own;
             store = subst (λ (u : StoreState). IsStoreAfter secret batches u) (sym stays) at.after;
             installed = subst (λ (u : StoreState). IsSome u.installed) (sym stays) at.there;
           }
 
-  module _ (batches : List (List Command)) (held : Held) (es : List Entry) (s : StoreState) (batch : Batch) (new : List Batch) (go : Held → OwnInput → OwnWork)
-      (own : IsOwnerAfter secret batches held es) (at : IsAt secret batches s) (fits : FitsBatch batch.commands) where
+  module _ (batches : List (List Command)) (held : Held) (es : List Entry) (s : StoreState)
+      (batch : Batch) (new : List Batch) (go : Held → OwnInput → OwnWork)
+      (own : IsOwnerAfter secret batches held es) (at : IsAt secret batches s)
+      (fits : FitsBatch batch.commands) where
     abbrev more : List (List Command)
     more = batches ++ batch.commands ∷ []
 
@@ -104,8 +125,10 @@ module _ (secret : Secret) (laws : StoreLaws) (later : StoreState) (ending : End
 
     -- what the rest of the batches comes to
     abbrev IsLater : Type 0
-    IsLater = (next : Held) (entries : List Entry) (t : StoreState) (rest : OwnInput) → IsOwnerAfter secret more next entries → IsAt secret more t
-        → Runs t rest.coming later ending (go next rest) → EndsPlainly secret more next entries new (others (go next rest).events) ending later
+    IsLater = (next : Held) (entries : List Entry) (t : StoreState) (rest : OwnInput)
+        → IsOwnerAfter secret more next entries → IsAt secret more t
+        → Runs t rest.coming later ending (go next rest) → EndsPlainly secret more next entries new
+        (others (go next rest).events) ending later
 
     version_is : held.roots.version ≡ length batches
     version_is = ap (λ (r : Roots). r.version) own.roots
@@ -113,16 +136,19 @@ module _ (secret : Secret) (laws : StoreLaws) (later : StoreState) (ending : End
     leaves_are : leaves_of held.key.lms ≡ leaves
     leaves_are = ap (λ (k : Secret). leaves_of k.lms) own.key_is
 
-    spent_comes : leaves_of held.key.lms ≤ held.roots.version + 1 → ending ≡ refused_with spent_key → ComeTo leaves batches (commands_of (batch ∷ new)) ending batches
+    spent_comes : leaves_of held.key.lms ≤ held.roots.version + 1 → ending ≡ refused_with spent_key
+        → ComeTo leaves batches (commands_of (batch ∷ new)) ending batches
     spent_comes spent is = inl (omega (arith, spent, version_is, leaves_are), is, refl)
 
     left_is : held.roots.version + 1 < leaves_of held.key.lms → length batches + 1 < leaves
     left_is left = omega (arith, left, version_is, leaves_are)
 
     -- roots of the owner by those of the store's tables
-    at_roots : (r : Result Roots OwnerFault) → NextOf (honest_roots (length batches) s.tables) batch.commands proofs r → NextOf held.roots batch.commands proofs r
+    at_roots : (r : Result Roots OwnerFault) → NextOf (honest_roots (length batches) s.tables)
+        batch.commands proofs r → NextOf held.roots batch.commands proofs r
     at_roots r next =
-        subst (λ (roots : Roots). NextOf roots batch.commands proofs r) (ap (honest_roots (length batches)) at.after.honest.tables ∙ sym own.roots) next
+        subst (λ (roots : Roots). NextOf roots batch.commands proofs r)
+        (ap (honest_roots (length batches)) at.after.honest.tables ∙ sym own.roots) next
 
     abbrev next_roots_are : Roots
     next_roots_are = honest_roots (length batches + 1) (honest_trees more)
@@ -137,131 +163,210 @@ module _ (secret : Secret) (laws : StoreLaws) (later : StoreState) (ending : End
     module _ (p : IsProposed s batch.commands) where
       at_pending : IsAt secret batches p.pending
       at_pending = record {
-        after = record { key_is = p.key_is ∙ at.after.key_is; honest = (laws.proposed batches batch.commands s p.pending proofs at.after.honest fits p.made).0 };
+        after = record {
+          key_is = p.key_is ∙ at.after.key_is;
+          honest =
+              (laws.proposed batches batch.commands s p.pending proofs at.after.honest fits
+              p.made).0;
+        };
         there = subst (λ (o : _). IsSome o) (sym p.installed_is) at.there;
       }
 
       accepted : IsOk (apply_batch batch.commands (tables_after batches))
-      accepted = (laws.proposed batches batch.commands s p.pending proofs at.after.honest fits p.made).1
+      accepted =
+          (laws.proposed batches batch.commands s p.pending proofs at.after.honest fits p.made).1
 
       leads : NextOf held.roots batch.commands proofs (Ok next_roots_are)
       leads =
           let trees : after_work s.tables batch.commands ≡ honest_trees more =
-          ap (λ (ss : List Stored). after_work ss batch.commands) at.after.honest.tables ∙ sym (trees_follow batches batch.commands) in
-          subst (λ (ss : List Stored). NextOf held.roots batch.commands proofs (Ok (honest_roots (length batches + 1) ss))) trees
+          ap (λ (ss : List Stored). after_work ss batch.commands) at.after.honest.tables
+          ∙ sym (trees_follow batches batch.commands) in
+          subst (λ (ss : List Stored). NextOf held.roots batch.commands proofs
+          (Ok (honest_roots (length batches + 1) ss))) trees
           (at_roots (Ok (honest_roots (length batches + 1) (after_work s.tables batch.commands)))
-          (laws.leads batches batch.commands (length batches) s p.pending proofs at.after.honest fits p.made))
+          (laws.leads batches batch.commands (length batches) s p.pending proofs at.after.honest
+          fits p.made))
 
       entry_is : entry ≡ sealed_entry secret ([] ∷ batches) batch.commands
-      entry_is = ap (λ (k : Secret). signed_entry k next_roots_are batch.commands proofs) own.key_is ∙ made_entry secret batches batch.commands s.tables at.after.honest.tables
+      entry_is = ap (λ (k : Secret). signed_entry k next_roots_are batch.commands proofs) own.key_is
+          ∙ made_entry secret batches batch.commands s.tables at.after.honest.tables
 
       -- the entry is the owner's step
       stepped_to : length batches + 1 < leaves → IsStepTo secret held.roots entry next_roots_are
       unfolding signed_entry
       stepped_to left =
-          let step_is : record { entry = entry; roots = next_roots_are } ≡ step_to secret batch.commands proofs next_roots_are =
+          let step_is : record { entry = entry; roots = next_roots_are } ≡ step_to secret
+          batch.commands proofs next_roots_are =
           ap (λ (k : Secret). step_to k batch.commands proofs next_roots_are) own.key_is in
-          step_made secret held.roots batch.commands proofs next_roots_are (record { entry = entry; roots = next_roots_are }) (omega (arith, left, version_is)) leads step_is
+          step_made secret held.roots batch.commands proofs next_roots_are
+          (record { entry = entry; roots = next_roots_are }) (omega (arith, left, version_is))
+          leads step_is
 
       -- the owner behind the batch
-      owner_behind : length batches + 1 < leaves → IsOwnerAfter secret more behind_batch (es ++ entry ∷ [])
+      owner_behind : length batches + 1 < leaves → IsOwnerAfter secret more behind_batch
+          (es ++ entry ∷ [])
       unfolding AreStepsTo
       owner_behind left =
-          let sealable = sealable_more secret batches batch.commands own.sealable fits accepted left in
-          let good : IsGood secret (sealed_entry secret ([] ∷ batches) batch.commands) = sealed_good secret batches batch.commands sealable in
+          let sealable = sealable_more secret batches batch.commands own.sealable fits accepted
+          left in
+          let good : IsGood secret (sealed_entry secret ([] ∷ batches) batch.commands) =
+          sealed_good secret batches batch.commands sealable in
           let some : 0 < length es = some_entries es batches own.batches_are in
           let here : IsOk (apply_batch batch.commands (tables_after ([] ∷ batches))) =
-          subst (λ (ts : List Table). IsOk (apply_batch batch.commands ts)) (sym (no_tables_before batches)) accepted in
-          let loadable : IsLoadableEntry (public_of_secret secret) ([] ∷ batches_of (drop 1 es)) (sealed_entry secret ([] ∷ batches) batch.commands) =
-          subst (λ (bs : List (List Command)). IsLoadableEntry (public_of_secret secret) ([] ∷ bs) (sealed_entry secret ([] ∷ batches) batch.commands))
-          (sym (sym (drop-map (λ (e : Entry). e.batch.commands) 1 es) ∙ ap (λ (bs : List (List Command)). drop 1 bs) own.batches_are))
+          subst (λ (ts : List Table). IsOk (apply_batch batch.commands ts))
+          (sym (no_tables_before batches)) accepted in
+          let loadable : IsLoadableEntry (public_of_secret secret) ([] ∷ batches_of (drop 1 es))
+          (sealed_entry secret ([] ∷ batches) batch.commands) =
+          subst (λ (bs : List (List Command)). IsLoadableEntry (public_of_secret secret) ([] ∷ bs)
+          (sealed_entry secret ([] ∷ batches) batch.commands))
+          (sym (sym (drop-map (λ (e : Entry). e.batch.commands) 1 es)
+          ∙ ap (λ (bs : List (List Command)). drop 1 bs) own.batches_are))
           (sealed_entry_is_loadable secret ([] ∷ batches) batch.commands here good.signed) in
-          let entries : es ++ entry ∷ [] ≡ es ++ sealed_entry secret ([] ∷ batches) batch.commands ∷ [] = ap (λ (e : Entry). es ++ e ∷ []) entry_is in
+          let entries : es ++ entry ∷ [] ≡ es ++ sealed_entry secret ([] ∷ batches) batch.commands
+          ∷ [] = ap (λ (e : Entry). es ++ e ∷ []) entry_is in
           record {
             key_is = own.key_is;
             sealable = sealable;
-            batches_are = map-append (λ (e : Entry). e.batch.commands) es (entry ∷ []) ∙ ap (λ (bs : List (List Command)). bs ++ entry.batch.commands ∷ []) own.batches_are
-                ∙ ap (λ (cs : List Command). [] ∷ batches ++ cs ∷ []) (ap (λ (e : Entry). e.batch.commands) entry_is ∙ (sealed_parts secret batches batch.commands).0);
+            batches_are = map-append (λ (e : Entry). e.batch.commands) es (entry ∷ [])
+                ∙ ap (λ (bs : List (List Command)). bs ++ entry.batch.commands ∷ []) own.batches_are
+                ∙ ap (λ (cs : List Command). [] ∷ batches ++ cs ∷ [])
+                (ap (λ (e : Entry). e.batch.commands) entry_is
+                ∙ (sealed_parts secret batches batch.commands).0);
             fit = all_more es entry own.fit (subst FitsEntry (sym entry_is) good.fits);
-            steps = step_more secret es held.roots entry next_roots_are some own.steps (stepped_to left);
+            steps = step_more secret es held.roots entry next_roots_are some own.steps
+                (stepped_to left);
             plain = subst (AreLoadable (public_of_secret secret)) (sym entries)
-                ((taken_grows (public_of_secret secret) es (sealed_entry secret ([] ∷ batches) batch.commands) some).1 (own.plain, loadable));
-            roots = ap (λ (n : ℕ). honest_roots n (honest_trees more)) (sym (length-append batches (batch.commands ∷ [])));
+                ((taken_grows (public_of_secret secret) es
+                (sealed_entry secret ([] ∷ batches) batch.commands) some).1
+                (own.plain, loadable));
+            roots = ap (λ (n : ℕ). honest_roots n (honest_trees more))
+                (sym (length-append batches (batch.commands ∷ [])));
           }
 
       -- the batch is committed, and the rest follows
-      committed : (line : List ℕ) (deeds : Deeds) → length batches + 1 < leaves → EndsPlainly secret more behind_batch (es ++ entry ∷ []) new deeds ending later
-          → Q (Steps held batch proofs (Makes entry behind_batch) ∷ Appends entry behind_batch ∷ Says line ∷ deeds)
+      committed : (line : List ℕ) (deeds : Deeds) → length batches + 1 < leaves
+          → EndsPlainly secret more behind_batch (es ++ entry ∷ []) new deeds ending later
+          → Q (Steps held batch proofs (Makes entry behind_batch) ∷ Appends entry behind_batch
+          ∷ Says line ∷ deeds)
       committed line deeds left ends = record {
         behind = ends.behind;
         comes = inr (inr (left, accepted, ends.comes));
-        owner = subst (λ (xs : List Entry). IsOwnerAfter secret ends.behind (state_after behind_batch deeds) xs) (append_assoc es (entry ∷ []) (entries_of deeds)) ends.owner;
+        owner = subst (λ (xs : List Entry). IsOwnerAfter secret ends.behind
+            (state_after behind_batch deeds) xs) (append_assoc es (entry ∷ []) (entries_of deeds))
+            ends.owner;
         store = ends.store;
         installed = ends.installed;
       }
 
-      makes : (rest : OwnInput) → length batches + 1 < leaves → IsLater → Runs p.pending rest.coming later ending (with_judgement entry_forms (Makes entry behind_batch) rest go)
-          → Q (Steps held batch proofs (Makes entry behind_batch) ∷ others (with_judgement entry_forms (Makes entry behind_batch) rest go).events)
+      makes : (rest : OwnInput) → length batches + 1 < leaves → IsLater
+          → Runs p.pending rest.coming later ending
+          (with_judgement entry_forms (Makes entry behind_batch) rest go)
+          → Q (Steps held batch proofs (Makes entry behind_batch) ∷ others
+          (with_judgement entry_forms (Makes entry behind_batch) rest go).events)
       unfolding commit publication
       makes rest left is_later runs =
           let own_now = owner_behind left in
-          let good : IsGood secret entry = subst (IsGood secret) (sym entry_is) (sealed_good secret batches batch.commands own_now.sealable) in
+          let good : IsGood secret entry = subst (IsGood secret) (sym entry_is)
+          (sealed_good secret batches batch.commands own_now.sealable) in
           let parts = sealed_parts secret batches batch.commands in
-          let commands : entry.batch.commands ≡ batch.commands = ap (λ (e : Entry). e.batch.commands) entry_is ∙ parts.0 in
-          let taken = takes_next secret laws batches batch.commands s entry p at good.fits commands (ap (λ (e : Entry). e.rec) entry_is ∙ parts.1) good.signed in
+          let commands : entry.batch.commands ≡ batch.commands =
+          ap (λ (e : Entry). e.batch.commands) entry_is ∙ parts.0 in
+          let taken = takes_next secret laws batches batch.commands s entry p at good.fits commands
+          (ap (λ (e : Entry). e.rec) entry_is ∙ parts.1) good.signed in
           let line : List ℕ = version_line entry.rec.version in
-          installs_entry (λ deeds. Q (Steps held batch proofs (Makes entry behind_batch) ∷ Appends entry behind_batch ∷ deeds)) p.pending later ending rest entry
-          (λ last. behind (Does (Says line) ∷ []) (go behind_batch last)) taken.next good.fits taken.made
+          installs_entry
+          (λ deeds. Q
+          (Steps held batch proofs (Makes entry behind_batch) ∷ Appends entry behind_batch
+          ∷ deeds)) p.pending later ending rest entry
+          (λ last. behind (Does (Says line) ∷ []) (go behind_batch last)) taken.next good.fits
+          taken.made
           (record { answered = runs.answered; judged = runs.judged; value = runs.value })
           (λ last t. committed line (others (go behind_batch (input_with last rest)).events) left
-          (is_later behind_batch (es ++ entry ∷ []) taken.next (input_with last rest) own_now taken.at (record { answered = t.answered; judged = t.judged; value = t.value })))
+          (is_later behind_batch (es ++ entry ∷ []) taken.next (input_with last rest) own_now
+          taken.at (record { answered = t.answered; judged = t.judged; value = t.value })))
 
-      stepped_on : (rest : OwnInput) (judgement : Judgement Held Entry) → IsLater → IsJudgement held batch proofs judgement
+      stepped_on : (rest : OwnInput) (judgement : Judgement Held Entry) → IsLater
+          → IsJudgement held batch proofs judgement
           → Runs p.pending rest.coming later ending (with_judgement entry_forms judgement rest go)
-          → Q (Steps held batch proofs judgement ∷ others (with_judgement entry_forms judgement rest go).events)
+          → Q (Steps held batch proofs judgement ∷ others
+          (with_judgement entry_forms judgement rest go).events)
       stepped_on rest judgement is_later made runs =
           elim (judged held batch proofs judgement (Ok next_roots_are) leads made) [
-            | inl spent ↦ refuses batches held es batch new proofs p.pending judgement rest go spent_key spent.1 own at_pending (spent_comes spent.0) runs
+            | inl spent ↦ refuses batches held es batch new proofs p.pending judgement rest go
+                spent_key spent.1 own at_pending (spent_comes spent.0) runs
             | inr on ↦
-                subst (λ (j : Judgement Held Entry). Q (Steps held batch proofs j ∷ others (with_judgement entry_forms j rest go).events)) (sym on.1)
-                (makes rest (left_is on.0) is_later (subst (λ (j : Judgement Held Entry). Runs p.pending rest.coming later ending (with_judgement entry_forms j rest go)) on.1 runs))
+                subst (λ (j : Judgement Held Entry). Q
+                (Steps held batch proofs j ∷ others
+                (with_judgement entry_forms j rest go).events)) (sym on.1)
+                (makes rest (left_is on.0) is_later
+                (subst (λ (j : Judgement Held Entry). Runs p.pending rest.coming later ending
+                (with_judgement entry_forms j rest go)) on.1 runs))
           ]
 
     -- where it refuses it
     module _ (f : IsRefused s batch.commands) where
       refused_roots : NextOf held.roots batch.commands proofs (Err (owner.Command f.index f.why))
       refused_roots =
-          at_roots (Err (owner.Command f.index f.why)) (laws.both_refuse batches batch.commands (length batches) s f.index f.why proofs at.after.honest fits f.made)
+          at_roots (Err (owner.Command f.index f.why))
+          (laws.both_refuse batches batch.commands (length batches) s f.index f.why proofs
+          at.after.honest fits f.made)
 
-      refused_on : (rest : OwnInput) (judgement : Judgement Held Entry) → IsJudgement held batch proofs judgement
+      refused_on : (rest : OwnInput) (judgement : Judgement Held Entry)
+          → IsJudgement held batch proofs judgement
           → Runs s rest.coming later ending (with_judgement entry_forms judgement rest go)
-          → Q (Steps held batch proofs judgement ∷ others (with_judgement entry_forms judgement rest go).events)
+          → Q (Steps held batch proofs judgement ∷ others
+          (with_judgement entry_forms judgement rest go).events)
       refused_on rest judgement made runs =
-          elim (judged held batch proofs judgement (Err (owner.Command f.index f.why)) refused_roots made) [
-            | inl spent ↦ refuses batches held es batch new proofs s judgement rest go spent_key spent.1 own at (spent_comes spent.0) runs
+          elim (judged held batch proofs judgement (Err (owner.Command f.index f.why)) refused_roots
+          made) [
+            | inl spent ↦ refuses batches held es batch new proofs s judgement rest go spent_key
+                spent.1 own at (spent_comes spent.0) runs
             | inr on ↦
-                refuses batches held es batch new proofs s judgement rest go (command_output f.index f.why) on.1 own at
-                (λ same. inr (inl (left_is on.0, (f.index, f.why, laws.refused batches batch.commands s f.index f.why proofs at.after.honest fits f.made, same), refl))) runs
+                refuses batches held es batch new proofs s judgement rest go
+                (command_output f.index f.why) on.1 own at
+                (λ same. inr
+                (inl (
+                  left_is on.0,
+                  (
+                    f.index,
+                    f.why,
+                    laws.refused batches batch.commands s f.index f.why proofs
+                        at.after.honest fits f.made,
+                    same,
+                  ),
+                  refl,
+                ))) runs
           ]
 
     abbrev rest_of : List ℕ → OwnInput → OwnWork
     rest_of bytes rest = step entry_forms held batch bytes rest go
 
-    commit_ends : (input : OwnInput) → IsLater → Runs s input.coming later ending (batch_commit entry_forms held batch input go) → Q (others (batch_commit entry_forms held batch input go).events)
+    commit_ends : (input : OwnInput) → IsLater → Runs s input.coming later ending
+        (batch_commit entry_forms held batch input go)
+        → Q (others (batch_commit entry_forms held batch input go).events)
     unfolding batch_commit
     commit_ends input is_later runs =
         elim (propose s batch.commands at.there) [
           | inl p ↦
-              proposes_batch Q s later ending input batch rest_of proofs p.pending fits (proofs_short secret laws batches batch.commands s p at.after.honest fits) p.made runs
-              (λ rest r. stepped Q p.pending later ending held batch proofs (input_with rest input) go r (λ judgement last made now. stepped_on p last judgement is_later made now))
+              proposes_batch Q s later ending input batch rest_of proofs p.pending fits
+              (proofs_short secret laws batches batch.commands s p at.after.honest fits) p.made
+              runs
+              (λ rest r. stepped Q p.pending later ending held batch proofs (input_with rest input)
+              go r (λ judgement last made now. stepped_on p last judgement is_later made now))
           | inr f ↦
-              proposes_in_vain Q s later ending input batch rest_of proofs f.index f.why fits (refused_short held.roots batch.commands proofs f.index f.why (refused_roots f)) f.made runs
-              (λ rest r. stepped Q s later ending held batch proofs (input_with rest input) go r (λ judgement last made now. refused_on f last judgement made now))
+              proposes_in_vain Q s later ending input batch rest_of proofs f.index f.why fits
+              (refused_short held.roots batch.commands proofs f.index f.why (refused_roots f))
+              f.made runs
+              (λ rest r. stepped Q s later ending held batch proofs (input_with rest input) go r
+              (λ judgement last made now. refused_on f last judgement made now))
         ]
 
-  pub commits_end : (new : List Batch) (batches : List (List Command)) (held : Held) (es : List Entry) (s : StoreState) (input : OwnInput) → IsOwnerAfter secret batches held es
-      → IsAt secret batches s → FitEach new → Runs s input.coming later ending (commits entry_forms held new input (λ rest. ends_with Done))
-      → EndsPlainly secret batches held es new (others (commits entry_forms held new input (λ rest. ends_with Done)).events) ending later
+  pub commits_end : (new : List Batch) (batches : List (List Command)) (held : Held)
+      (es : List Entry) (s : StoreState) (input : OwnInput) → IsOwnerAfter secret batches held es
+      → IsAt secret batches s → FitEach new → Runs s input.coming later ending
+      (commits entry_forms held new input (λ rest. ends_with Done))
+      → EndsPlainly secret batches held es new
+      (others (commits entry_forms held new input (λ rest. ends_with Done)).events) ending later
   unfolding commits
   commits_end [] batches held es s input own at fit runs =
       let value = runs.value in
@@ -270,10 +375,14 @@ module _ (secret : Secret) (laws : StoreLaws) (later : StoreState) (ending : End
       record {
         behind = batches;
         comes = (same, refl);
-        owner = subst (λ (xs : List Entry). IsOwnerAfter secret batches held xs) (sym (append-nil es)) own;
+        owner = subst (λ (xs : List Entry). IsOwnerAfter secret batches held xs)
+            (sym (append-nil es)) own;
         store = subst (λ (u : StoreState). IsStoreAfter secret batches u) (sym stays) at.after;
         installed = subst (λ (u : StoreState). IsSome u.installed) (sym stays) at.there;
       }
   commits_end (batch ∷ new) batches held es s input own at fit runs =
-      commit_ends batches held es s batch new (λ next rest. commits entry_forms next new rest (λ last. ends_with Done)) own at fit.0 input
-      (λ next entries t rest own_now at_now now. commits_end new (batches ++ batch.commands ∷ []) next entries t rest own_now at_now fit.1 now) runs
+      commit_ends batches held es s batch new
+      (λ next rest. commits entry_forms next new rest (λ last. ends_with Done)) own at fit.0
+      input
+      (λ next entries t rest own_now at_now now. commits_end new (batches ++ batch.commands ∷ [])
+      next entries t rest own_now at_now fit.1 now) runs

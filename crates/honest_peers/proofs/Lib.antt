@@ -9,3 +9,5 @@ pub mod Standings
 pub mod Sealing
 pub mod Commits
 pub mod Sessions
+pub mod Beginnings
+pub mod OwnRuns

@@ -11,28 +11,39 @@ use Rattle.vo_store.specs.declared.signed_record.SignedRecord.{SignedRecord}
 use Rattle.vo_store.specs.HonestStores.{IsHonestAfter, IsInstalled, IsPending}
 use Rattle.vo_store.specs.Loading.{last_signed, pending_behind, store_behind}
 
-last_there : (f : Entry) (front : List Entry) → (e : Entry) × (slice_get (f ∷ front) (length front) ≡ Some e)
+last_there : (f : Entry) (front : List Entry) → (e : Entry)
+    × (slice_get (f ∷ front) (length front) ≡ Some e)
 last_there f [] = (f, refl)
 last_there f (g ∷ front) = last_there g front
 
-pub loaded_honest : (key journal : List ℕ) (es : List Entry) → IsJournal journal es → AreLoadable key es → IsHonestAfter (batches_of (drop 1 es)) (store_behind key es)
+pub loaded_honest : (key journal : List ℕ) (es : List Entry) → IsJournal journal es
+    → AreLoadable key es → IsHonestAfter (batches_of (drop 1 es)) (store_behind key es)
 unfolding store_behind honest_trees
-loaded_honest key journal [] is loadable = record { fit = tt; tables = refl; installed = refl; pending = refl }
+loaded_honest key journal [] is loadable =
+    record { fit = tt; tables = refl; installed = refl; pending = refl }
 loaded_honest key journal (f ∷ front) is loadable =
     let last = last_there f front in
     let held = entry_held key (f ∷ front) (length front) last.0 loadable last.1 in
     let signed : SignedRecord = record { rec = last.0.rec; signature = last.0.signature } in
     let number : length (f ∷ front) - 1 ≡ length front = omega arith in
     let there : last_signed (f ∷ front) ≡ Some signed =
-    ap (λ (i : ℕ). option_map (λ (e : Entry). record { rec = e.rec; signature = e.signature }) (slice_get (f ∷ front) i)) number
+    ap (λ (i : ℕ). option_map (λ (e : Entry). record { rec = e.rec; signature = e.signature })
+    (slice_get (f ∷ front) i)) number
     ∙ ap (option_map (λ (e : Entry). record { rec = e.rec; signature = e.signature })) last.1 in
-    let count : length (batches_of front) ≡ length front = length-map front (λ (e : Entry). e.batch.commands) in
-    let due : last.0.rec ≡ honest_record key (length (batches_of front)) (honest_trees (batches_of front)) =
-    held.record_is ∙ ap (λ (es : List Entry). honest_record key (length front) (honest_trees (batches_of es))) (take_all (length front) front (omega arith))
+    let count : length (batches_of front) ≡ length front =
+    length-map front (λ (e : Entry). e.batch.commands) in
+    let due : last.0.rec ≡ honest_record key (length (batches_of front))
+    (honest_trees (batches_of front)) =
+    held.record_is
+    ∙ ap (λ (es : List Entry). honest_record key (length front) (honest_trees (batches_of es)))
+    (take_all (length front) front (omega arith))
     ∙ ap (λ (n : ℕ). honest_record key n (honest_trees (batches_of front))) (sym count) in
     record {
       fit = all_fit (f ∷ front) is.0;
       tables = refl;
-      installed = subst (IsInstalled key (batches_of front)) (sym there) (record { record_is = due; signed = held.signed });
-      pending = subst (λ (o : Option SignedRecord). IsPending o (honest_trees (batches_of front)) (pending_behind (f ∷ front))) (sym there) tt;
+      installed = subst (IsInstalled key (batches_of front)) (sym there)
+          (record { record_is = due; signed = held.signed });
+      pending =
+          subst (λ (o : Option SignedRecord). IsPending o (honest_trees (batches_of front))
+          (pending_behind (f ∷ front))) (sym there) tt;
     }

@@ -38,17 +38,26 @@ use Rattle.vo_commands.specs.Lines.{spent_key}
 
 -- Batches.
 
-accepted_more : (earlier batches : List (List Command)) (batch : List Command) → AreAcceptedAfter earlier batches → IsOk (apply_batch batch (tables_after (earlier ++ batches)))
+accepted_more : (earlier batches : List (List Command)) (batch : List Command)
+    → AreAcceptedAfter earlier batches
+    → IsOk (apply_batch batch (tables_after (earlier ++ batches)))
     → AreAcceptedAfter earlier (batches ++ batch ∷ [])
-accepted_more earlier [] batch all ok = (subst (λ (bs : List (List Command)). IsOk (apply_batch batch (tables_after bs))) (append-nil earlier) ok, tt)
+accepted_more earlier [] batch all ok = (
+  subst (λ (bs : List (List Command)). IsOk (apply_batch batch (tables_after bs)))
+      (append-nil earlier) ok,
+  tt,
+)
 accepted_more earlier (b ∷ batches) batch all ok = (
   all.0,
   accepted_more (earlier ++ b ∷ []) batches batch all.1
-      (subst (λ (bs : List (List Command)). IsOk (apply_batch batch (tables_after bs))) (sym (append_assoc earlier (b ∷ []) batches)) ok),
+      (subst (λ (bs : List (List Command)). IsOk (apply_batch batch (tables_after bs)))
+      (sym (append_assoc earlier (b ∷ []) batches)) ok),
 )
 
-pub sealable_more : (secret : Secret) (batches : List (List Command)) (batch : List Command) → AreSealable secret batches → FitsBatch batch
-    → IsOk (apply_batch batch (tables_after batches)) → length batches + 1 < leaves_of secret.lms → AreSealable secret (batches ++ batch ∷ [])
+pub sealable_more : (secret : Secret) (batches : List (List Command)) (batch : List Command)
+    → AreSealable secret batches → FitsBatch batch
+    → IsOk (apply_batch batch (tables_after batches)) → length batches + 1 < leaves_of secret.lms
+    → AreSealable secret (batches ++ batch ∷ [])
 sealable_more secret batches batch all fits ok left = record {
   signs = all.signs;
   fit = each_both FitsBatch batches (batch ∷ []) all.fit (fits, tt);
@@ -56,7 +65,8 @@ sealable_more secret batches batch all fits ok left = record {
   few = omega (arith, left, length-append batches (batch ∷ []));
 }
 
-each_last : {A : Type 0} (P : A → Type 0) (xs : List A) (y : A) → AllByRecursion P (xs ++ y ∷ []) → P y
+each_last : {A : Type 0} (P : A → Type 0) (xs : List A) (y : A) → AllByRecursion P (xs ++ y ∷ [])
+    → P y
 each_last P [] y all = all.0
 each_last P (x ∷ xs) y all = each_last P xs y all.1
 
@@ -65,14 +75,20 @@ pub record IsGood (secret : Secret) (e : Entry) : Type 0 where
   pub fits : FitsEntry e
   pub signed : IsSigned (public_of_secret secret) e.rec e.signature
 
-pub sealed_good : (secret : Secret) (batches : List (List Command)) (batch : List Command) → AreSealable secret (batches ++ batch ∷ []) → IsGood secret (sealed_entry secret ([] ∷ batches) batch)
+pub sealed_good : (secret : Secret) (batches : List (List Command)) (batch : List Command)
+    → AreSealable secret (batches ++ batch ∷ []) → IsGood secret
+    (sealed_entry secret ([] ∷ batches) batch)
 sealed_good secret batches batch all =
     let more = sealed_grows secret batches batch in
     let e : Entry = sealed_entry secret ([] ∷ batches) batch in
     record {
-      fits = each_last FitsEntry (seal_batches secret batches) e (subst (AllByRecursion FitsEntry) more (entries_fit secret (batches ++ batch ∷ []) all));
-      signed = each_last (λ (x : Entry). IsSigned (public_of_secret secret) x.rec x.signature) (seal_batches secret batches) e
-          (subst (AllByRecursion (λ (x : Entry). IsSigned (public_of_secret secret) x.rec x.signature)) more (sealed_are_signed secret (batches ++ batch ∷ []) all.signs all.few));
+      fits = each_last FitsEntry (seal_batches secret batches) e
+          (subst (AllByRecursion FitsEntry) more (entries_fit secret (batches ++ batch ∷ []) all));
+      signed = each_last (λ (x : Entry). IsSigned (public_of_secret secret) x.rec x.signature)
+          (seal_batches secret batches) e
+          (subst (AllByRecursion
+          (λ (x : Entry). IsSigned (public_of_secret secret) x.rec x.signature)) more
+          (sealed_are_signed secret (batches ++ batch ∷ []) all.signs all.few));
     }
 
 -- The entry of honest roots.
@@ -82,26 +98,39 @@ entry_with secret batch proofs version trees = record {
   batch = record { commands = batch };
   proofs = proofs;
   rec = honest_record (public_of_secret secret) version trees;
-  signature = lms_signature secret version (record_bytes (honest_record (public_of_secret secret) version trees));
+  signature =
+      lms_signature secret version
+      (record_bytes (honest_record (public_of_secret secret) version trees));
 }
 
-pub made_entry : (secret : Secret) (batches : List (List Command)) (batch : List Command) (tables : List Stored) → tables ≡ honest_trees batches
-    → signed_entry secret (honest_roots (length batches + 1) (honest_trees (batches ++ batch ∷ []))) batch (proofs_bytes (honest_proofs batch tables)) ≡ sealed_entry secret ([] ∷ batches) batch
+pub made_entry : (secret : Secret) (batches : List (List Command)) (batch : List Command)
+    (tables : List Stored) → tables ≡ honest_trees batches
+    → signed_entry secret (honest_roots (length batches + 1) (honest_trees (batches ++ batch ∷ [])))
+    batch (proofs_bytes (honest_proofs batch tables)) ≡ sealed_entry secret ([] ∷ batches) batch
 unfolding signed_entry sealed_entry record_of_roots honest_record
 made_entry secret batches batch tables same =
     let number : length batches + 1 ≡ length ([] ∷ batches) = omega arith in
-    ap (λ (ss : List Stored). entry_with secret batch (proofs_bytes (honest_proofs batch ss)) (length batches + 1) (honest_trees (batches ++ batch ∷ []))) (same ∙ sym (no_trees_before batches))
-    ∙ ap (λ (n : ℕ). entry_with secret batch (proofs_bytes (honest_proofs batch (honest_trees ([] ∷ batches)))) n (honest_trees (batches ++ batch ∷ []))) number
-    ∙ ap (entry_with secret batch (proofs_bytes (honest_proofs batch (honest_trees ([] ∷ batches)))) (length ([] ∷ batches))) (sym (no_trees_before (batches ++ batch ∷ [])))
+    ap (λ (ss : List Stored). entry_with secret batch (proofs_bytes (honest_proofs batch ss))
+    (length batches + 1) (honest_trees (batches ++ batch ∷ [])))
+    (same ∙ sym (no_trees_before batches))
+    ∙ ap (λ (n : ℕ). entry_with secret batch
+    (proofs_bytes (honest_proofs batch (honest_trees ([] ∷ batches)))) n
+    (honest_trees (batches ++ batch ∷ []))) number
+    ∙ ap (entry_with secret batch (proofs_bytes (honest_proofs batch (honest_trees ([] ∷ batches))))
+    (length ([] ∷ batches))) (sym (no_trees_before (batches ++ batch ∷ [])))
 
-pub sealed_parts : (secret : Secret) (batches : List (List Command)) (batch : List Command) → let e = sealed_entry secret ([] ∷ batches) batch in
-    (e.batch.commands ≡ batch) × (e.rec ≡ honest_record (public_of_secret secret) (length batches + 1) (honest_trees (batches ++ batch ∷ [])))
+pub sealed_parts : (secret : Secret) (batches : List (List Command)) (batch : List Command)
+    → let e = sealed_entry secret ([] ∷ batches) batch in
+    (e.batch.commands ≡ batch)
+    × (e.rec ≡ honest_record (public_of_secret secret) (length batches + 1)
+    (honest_trees (batches ++ batch ∷ [])))
 unfolding sealed_entry
 sealed_parts secret batches batch =
     let number : length ([] ∷ batches) ≡ length batches + 1 = omega arith in
     let key : List ℕ = public_of_secret secret in (
       refl,
-      ap (honest_record key (length ([] ∷ batches))) (no_trees_before (batches ++ batch ∷ [])) ∙ ap (λ (n : ℕ). honest_record key n (honest_trees (batches ++ batch ∷ []))) number,
+      ap (honest_record key (length ([] ∷ batches))) (no_trees_before (batches ++ batch ∷ []))
+          ∙ ap (λ (n : ℕ). honest_record key n (honest_trees (batches ++ batch ∷ []))) number,
     )
 
 -- What an owner makes of a batch, where its next roots are known.
@@ -113,22 +142,38 @@ module _ (held : Held) (batch : Batch) (proofs : List ℕ) (judgement : Judgemen
   abbrev IsSpent : Type 0
   IsSpent = (leaves ≤ held.roots.version + 1) × (judgement ≡ Refuses CommandCause spent_key.bytes)
 
-  pub judged : (next : Result Roots OwnerFault) → NextOf held.roots batch.commands proofs next → IsJudgement held batch proofs judgement
-      → IsSpent ⊎ ((held.roots.version + 1 < leaves) × (judgement ≡ judgement_of held (result_map_both (step_to held.key batch.commands proofs) (λ why. why) next)))
+  pub judged : (next : Result Roots OwnerFault) → NextOf held.roots batch.commands proofs next
+      → IsJudgement held batch proofs judgement
+      → IsSpent
+      ⊎ ((held.roots.version + 1 < leaves)
+      × (judgement ≡ judgement_of held
+      (result_map_both (step_to held.key batch.commands proofs) (λ why. why) next)))
   unfolding StepOf
   judged next is made = step made.1
     where
       step : ((leaves ≤ held.roots.version + 1) × (made.0 ≡ Err owner.KeySpent))
-          ⊎ ((held.roots.version + 1 < leaves) × (other : Result Roots OwnerFault) × NextOf held.roots batch.commands proofs other
+          ⊎ ((held.roots.version + 1 < leaves) × (other : Result Roots OwnerFault) × NextOf
+          held.roots batch.commands proofs other
           × (made.0 ≡ result_map_both (step_to held.key batch.commands proofs) (λ why. why) other))
-          → IsSpent ⊎ ((held.roots.version + 1 < leaves) × (judgement ≡ judgement_of held (result_map_both (step_to held.key batch.commands proofs) (λ why. why) next)))
+          → IsSpent
+          ⊎ ((held.roots.version + 1 < leaves)
+          × (judgement ≡ judgement_of held
+          (result_map_both (step_to held.key batch.commands proofs) (λ why. why) next)))
       step (inl spent) = inl (spent.0, made.2 ∙ ap (judgement_of held) spent.1)
       step (inr on) =
           let same : on.1 ≡ next = one_answer held.roots batch.commands proofs on.1 next on.2 is in
-          inr (on.0, made.2 ∙ ap (judgement_of held) (on.3 ∙ ap (λ (r : Result Roots OwnerFault). result_map_both (step_to held.key batch.commands proofs) (λ why. why) r) same))
+          inr (
+            on.0,
+            made.2 ∙ ap (judgement_of held)
+                (on.3 ∙ ap (λ (r : Result Roots OwnerFault). result_map_both
+                (step_to held.key batch.commands proofs) (λ why. why) r) same),
+          )
 
 -- proofs by which an owner refuses a batch are not too long
-pub refused_short : (before : Roots) (batch : List Command) (proofs : List ℕ) (index : ℕ) (why : CommandFault) → NextOf before batch proofs (Err (owner.Command index why)) → length proofs ≤ max_proofs
+pub refused_short : (before : Roots) (batch : List Command) (proofs : List ℕ) (index : ℕ)
+    (why : CommandFault) → NextOf before batch proofs (Err (owner.Command index why))
+    → length proofs ≤ max_proofs
 unfolding NextOf
 refused_short before batch proofs index why (inl none) = absurd (cc)
-refused_short before batch proofs index why (inr found) = subst (λ (bytes : List ℕ). length bytes ≤ max_proofs) (sym found.1.encoded) found.1.fits.size
+refused_short before batch proofs index why (inr found) =
+    subst (λ (bytes : List ℕ). length bytes ≤ max_proofs) (sym found.1.encoded) found.1.fits.size

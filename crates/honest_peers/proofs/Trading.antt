@@ -43,45 +43,69 @@ pub record IsRequest (frame : List ℕ) (k : FrameKind) (body : List ℕ) : Type
 abbrev pub AnswersEach : {X : Type 0} → StoreState → List (Event X) → List ℕ → StoreState → Type 0
 AnswersEach s [] coming later = later ≡ s
 AnswersEach s (Puts frame ∷ events) coming later =
-    (k : FrameKind) (body : List ℕ) (answer : Answer) → IsRequest frame k body → reply_to s k body ≡ Some answer
-    → (rest : List ℕ) × (coming ≡ frame_bytes answer.0 answer.1 ++ rest) × AnswersEach (next_after s k body) events rest later
+    (k : FrameKind) (body : List ℕ) (answer : Answer) → IsRequest frame k body
+    → reply_to s k body ≡ Some answer
+    → (rest : List ℕ) × (coming ≡ frame_bytes answer.0 answer.1 ++ rest) × AnswersEach
+    (next_after s k body) events rest later
 AnswersEach s (Takes count ∷ events) coming later = AnswersEach s events coming later
 AnswersEach s (Does deed ∷ events) coming later = AnswersEach s events coming later
 
 -- the store answers this work to its end, and the owner makes what it is said to make
-pub record Runs (s : StoreState) (coming : List ℕ) (later : StoreState) (ending : Ending) (work : OwnWork) : Type 0 where
+pub record Runs (s : StoreState) (coming : List ℕ) (later : StoreState) (ending : Ending)
+    (work : OwnWork) : Type 0 where
   pub answered : AnswersEach s work.events coming later
   pub judged : AreJudgements IsJudgement (others work.events)
   pub value : work.value ≡ Some ending
 
 pub frame_long : (k : FrameKind) (body : List ℕ) → length (frame_bytes k body) ≡ 5 + length body
-frame_long k body = omega (arith, length-append (u32_bytes (length body + 1)) (code_of k ∷ body), length-u32 (length body + 1))
+frame_long k body =
+    omega (
+      arith,
+      length-append (u32_bytes (length body + 1)) (code_of k ∷ body),
+      length-u32
+          (length body + 1),
+    )
 
 -- the rest of the work by what comes first
 abbrev after_first : Coming → OwnInput → (List ℕ → OwnInput → OwnWork) → OwnWork
 after_first first input go = with_answer (answer_of first) (input_after (span first) input) go
 
-goes_on : (k : FrameKind) (body : List ℕ) (input : OwnInput) (go : List ℕ → OwnInput → OwnWork) (test : Bool) → is_refusal k ≡ test → test ≡ false
-    → after_first (Whole k body) input go ≡ go body (input_with (drop (5 + length body) input.coming) input)
+goes_on : (k : FrameKind) (body : List ℕ) (input : OwnInput) (go : List ℕ → OwnInput → OwnWork)
+    (test : Bool) → is_refusal k ≡ test → test ≡ false
+    → after_first (Whole k body) input go ≡ go body
+    (input_with (drop (5 + length body) input.coming) input)
 goes_on k body input go test is not = rw (is ∙ not) refl
 
-pub traded : (Q : Deeds → Type 0) (k : FrameKind) (body : List ℕ) (awaits : Awaits) (input : OwnInput) (go : List ℕ → OwnInput → OwnWork) (s later : StoreState)
-    (ending : Ending) (answer : Answer) → IsTrue (may_come Request k) → IsTrue (is_length k (length body)) → reply_to s k body ≡ Some answer
-    → IsTrue (may_come awaits answer.0) → IsTrue (is_length answer.0 (length answer.1)) → is_refusal answer.0 ≡ false
+pub traded : (Q : Deeds → Type 0) (k : FrameKind) (body : List ℕ) (awaits : Awaits)
+    (input : OwnInput) (go : List ℕ → OwnInput → OwnWork) (s later : StoreState)
+    (ending : Ending) (answer : Answer) → IsTrue (may_come Request k)
+    → IsTrue (is_length k (length body)) → reply_to s k body ≡ Some answer
+    → IsTrue (may_come awaits answer.0) → IsTrue (is_length answer.0 (length answer.1))
+    → is_refusal answer.0 ≡ false
     → Runs s input.coming later ending (exchange k body awaits input go)
-    → ((rest : List ℕ) → Runs (next_after s k body) rest later ending (go answer.1 (input_with rest input)) → Q (others (go answer.1 (input_with rest input)).events))
+    → ((rest : List ℕ) → Runs (next_after s k body) rest later ending
+    (go answer.1 (input_with rest input))
+    → Q (others (go answer.1 (input_with rest input)).events))
     → Q (others (exchange k body awaits input go).events)
 unfolding exchange
 traded Q k body awaits input go s later ending answer may fits reply comes answer_fits not r goes =
-    let each = r.answered k body answer (record { frame_is = refl; may = may; fits = fits }) reply in
+    let each = r.answered k body answer (record { frame_is = refl; may = may; fits = fits })
+    reply in
     let rest : List ℕ = each.0 in
     let coming_is : input.coming ≡ frame_bytes answer.0 answer.1 ++ rest = each.1 in
     let first : first_frame awaits input.coming ≡ Whole answer.0 answer.1 =
     ap (first_frame awaits) coming_is ∙ read_back awaits answer.0 answer.1 rest comes answer_fits in
     let left : drop (5 + length answer.1) input.coming ≡ rest =
-    ap (drop (5 + length answer.1)) coming_is ∙ drop_at (frame_bytes answer.0 answer.1) rest (5 + length answer.1) (frame_long answer.0 answer.1) in
-    let work_is : after_first (first_frame awaits input.coming) input go ≡ go answer.1 (input_with rest input) =
-    ap (λ (x : Coming). after_first x input go) first ∙ goes_on answer.0 answer.1 input go (is_refusal answer.0) refl not ∙ ap (λ (bytes : List ℕ). go answer.1 (input_with bytes input)) left in
-    let runs : Runs (next_after s k body) rest later ending (after_first (first_frame awaits input.coming) input go) =
+    ap (drop (5 + length answer.1)) coming_is ∙ drop_at (frame_bytes answer.0 answer.1) rest
+    (5 + length answer.1) (frame_long answer.0 answer.1) in
+    let work_is : after_first (first_frame awaits input.coming) input go ≡ go answer.1
+    (input_with rest input) =
+    ap (λ (x : Coming). after_first x input go) first
+    ∙ goes_on answer.0 answer.1 input go (is_refusal answer.0) refl not
+    ∙ ap (λ (bytes : List ℕ). go answer.1 (input_with bytes input)) left in
+    let runs : Runs (next_after s k body) rest later ending
+    (after_first (first_frame awaits input.coming) input go) =
     record { answered = each.2; judged = r.judged; value = r.value } in
-    subst (λ (w : OwnWork). Q (others w.events)) (sym work_is) (goes rest (subst (λ (w : OwnWork). Runs (next_after s k body) rest later ending w) work_is runs))
+    subst (λ (w : OwnWork). Q (others w.events)) (sym work_is)
+    (goes rest
+    (subst (λ (w : OwnWork). Runs (next_after s k body) rest later ending w) work_is runs))

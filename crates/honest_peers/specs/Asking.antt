@@ -15,8 +15,8 @@ use Rattle.honest_peers.specs.Answering.{AreServed}
 abbrev pub question : List ℕ → List (Event (Unit {0}))
 question text = Puts (frame_bytes QueryFrame text) ∷ []
 
--- The key file holds the store's key, the text is this query, and the store serves the connection on
--- which it is asked.
+-- The key file holds the store's key, the text is this query, and the store serves the connection
+-- on which it is asked.
 pub record IsAsked (key text : List ℕ) (files : Files) (s : StoreState) (q : Query)
     (coming : List ℕ) : Type 0 where
   pub key_is : files key ≡ Some s.key

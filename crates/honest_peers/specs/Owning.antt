@@ -20,7 +20,7 @@ use Rattle.owner_state.specs.Stepping.{AreStepsTo}
 use Rattle.vo_store.specs.HonestStores.{IsHonestAfter}
 use Rattle.vo_store.specs.StoreState.{StoreState}
 use Rattle.owner_session.specs.declared.refusals.RefusalCause.TheVariants.{Command as CommandCause}
-use Rattle.owner_session.specs.Endings.{Ending, Done, OwnerRefuses}
+use Rattle.owner_session.specs.Endings.{Ending, Done, OwnerRefuses, output_of}
 use Rattle.owner_session.specs.Runs.{entries_of, state_after}
 use Rattle.owner_session.specs.Work.{Deed}
 use Rattle.vo_commands.specs.Lines.{command_output, spent_key}
@@ -45,8 +45,8 @@ pub record IsStoreAfter (secret : Secret) (batches : List (List Command)) (s : S
 
 -- or it lacks some of them, or version 0 too
 abbrev pub IsStoreWithin : Secret → List (List Command) → StoreState → Type 0
-IsStoreWithin secret batches s = (front lacking : List (List Command)) × (batches ≡ front ++ lacking)
-    × IsStoreAfter secret front s
+IsStoreWithin secret batches s = (front lacking : List (List Command))
+    × (batches ≡ front ++ lacking) × IsStoreAfter secret front s
 
 abbrev pub refused_with : Output → Ending
 refused_with output = OwnerRefuses CommandCause output.bytes
@@ -75,3 +75,14 @@ pub record EndsPlainly (secret : Secret) (batches : List (List Command)) (held :
   pub owner : IsOwnerAfter secret behind (state_after held deeds) (es ++ entries_of deeds)
   pub store : IsStoreAfter secret behind later
   pub installed : IsSome later.installed
+
+-- What a run of `own` comes to: what the plain tables say, with owner and store behind the batches
+-- that were committed; or a fault of the outside rose, or memory ran out.
+abbrev pub OwnsPlainly : Secret → List (List Command) → List Batch → Type 0 → ℕ → Held → List Entry
+    → StoreState → Type 0
+OwnsPlainly secret batches new rose status held es s =
+    ((status ≡ 3) × rose) ⊎ (status ≡ 4)
+    ⊎ ((ending : Ending) × (behind : List (List Command))
+    × ComeTo (leaves_of secret.lms) batches (commands_of new) ending behind
+    × (status ≡ (output_of ending).status)
+    × IsOwnerAfter secret behind held es × IsStoreAfter secret behind s)

@@ -6,4 +6,4 @@ mod asking;
 mod owning;
 
 pub use asking::{checks_have_one_answer, loaded_stores_are_honest, questions_are_answered};
-pub use owning::sessions_end_plainly;
+pub use owning::{owners_begin_plainly, owners_end_plainly, sessions_end_plainly};

@@ -1,29 +1,43 @@
 //! What an owner's session with an honest store comes to.
 
-ghost use Rattle.std.specs.Prelude.{◌≡◌, List, Some};
+ghost use Rattle.std.specs.Prelude.{◌≡◌, ◌⊎◌, ℕ, List, [], ◌∷◌, Option, Some};
+ghost use Rattle.outside.specs.ConnectionModel.{ConnectionModel};
+ghost use Rattle.outside.specs.DiskModel.{DiskModel};
+ghost use Rattle.outside.specs.FaultRose.{FaultRose};
 ghost use Rattle.vo_spec.specs.declared.records.Entry.{Entry};
 ghost use Rattle.vo_spec.specs.declared.tables.Batch.{Batch};
 ghost use Rattle.vo_spec.specs.declared.tables.Command.{Command};
 ghost use Rattle.vo_spec.specs.Honest.{RepresentTables};
 ghost use Rattle.vo_spec.specs.Secret.{Secret};
 ghost use Rattle.vo_spec.specs.Tables.{tables_after};
+ghost use Rattle.vo_laws.specs.Sealing.{SignsValidly};
+ghost use Rattle.owner_roots.specs.Owners.{first_roots};
 ghost use Rattle.link_frames.specs.Scripts.{others};
 ghost use Rattle.owner_state.specs.Held.{Held};
 ghost use Rattle.owner_state.specs.Sealing.{FitEach};
+ghost use Rattle.owner_state.specs.Stepping.{first_entry};
 ghost use Rattle.vo_store.specs.StoreState.{StoreState};
 ghost use Rattle.owner_session.specs.Endings.{Ending};
-ghost use Rattle.owner_session.specs.Runs.{AreJudgements};
+ghost use Rattle.owner_session.specs.Runs.{AreJudgements, input_of, snapshot_of};
 ghost use Rattle.owner_session.specs.Work.{Input, session};
 ghost use Rattle.vo_commands.specs.Committing.{IsJudgement, entry_forms};
+ghost use Rattle.vo_commands.specs.Owning.{Commits};
 ghost use Rattle.honest_peers.specs.Answering.{AreServed};
-ghost use Rattle.honest_peers.specs.Owning.{EndsPlainly, IsOwnerAfter, IsStoreWithin};
+ghost use Rattle.honest_peers.specs.Owning.{EndsPlainly, IsOwnerAfter, IsStoreWithin, OwnsPlainly};
 
 use vo_store::laws::{owners_follow_stores, stores_stay_honest};
 
+/// An owner that starts has a plain journal, and stands behind no batch.
+pub fn owners_begin_plainly()
+    ensures { (secret : Secret) → SignsValidly secret
+        → IsOwnerAfter secret [] (record { key = secret; roots = first_roots })
+        (first_entry secret ∷ []) }
+{}
+
 /// Where an owner's journal is plain, and an honest store of its key has installed a front of the
 /// versions, or none: a session over a connection that this store serves ends as the plain tables
-/// say, and so with no refusal of the store or of its answers. Owner and store then stand behind the
-/// same batches, the journal is plain, and the store's trees stand for the plain tables.
+/// say, and so with no refusal of the store or of its answers. Owner and store then stand behind
+/// the same batches, the journal is plain, and the store's trees stand for the plain tables.
 pub fn sessions_end_plainly()
     ensures { (secret : Secret) (batches : List (List Command)) (held : Held) (es : List Entry)
         (new : List Batch) (s later : StoreState) (input : Input Held Entry) (ending : Ending)
@@ -33,6 +47,25 @@ pub fn sessions_end_plainly()
         → AreJudgements IsJudgement (others work.events) → work.value ≡ Some ending
         → (ends : EndsPlainly secret batches held es new (others work.events) ending later)
         × RepresentTables later.tables (tables_after ends.behind) }
+{
+    stores_stay_honest();
+    owners_follow_stores();
+}
+
+/// So it is of each run of `own` over such a connection: it ends with status 0 or 8, or with 3
+/// where the outside failed, or with 4.
+pub fn owners_end_plainly()
+    ensures { (secret : Secret) (batches : List (List Command)) (new : List Batch)
+        (net later_net disk later_disk out later_out status : ℕ) (held : Held) (es : List Entry)
+        (drive : Option DiskModel) (before after : ConnectionModel)
+        (written later_written : Option (List ℕ)) (s later : StoreState)
+        (run : Commits new (FaultRose net later_net) (FaultRose disk later_disk)
+        (FaultRose out later_out) status held es drive before after written later_written)
+        → IsOwnerAfter secret batches held es → IsStoreWithin secret batches s → FitEach new
+        → let input = input_of (snapshot_of before written held es) run.runs.judgements in
+        AreServed s (session entry_forms held es new input).events before.coming later
+        → OwnsPlainly secret batches new (FaultRose net later_net ⊎ FaultRose disk later_disk
+        ⊎ FaultRose out later_out) status run.later run.entries later }
 {
     stores_stay_honest();
     owners_follow_stores();

@@ -18,5 +18,11 @@ returns c = λ secret batches held es new s later input ending own within fit se
       both_refuse = follow.refused;
       taken = follow.installed;
     } in
-    let ends = session_ends secret laws later ending batches held es new s input own within fit (record { answered = served_answers s (session entry_forms held es new input).events input.coming later served; judged = judged; value = value }) in
+    let ends = session_ends secret laws later ending batches held es new s input own within fit
+    (record {
+      answered = served_answers s (session entry_forms held es new input).events
+          input.coming later served;
+      judged = judged;
+      value = value;
+    }) in
     (ends, keeps.stand ends.behind later ends.store.honest)
