@@ -1,8 +1,8 @@
 //! What the calls answer.
 use crate::changes::run_over_changes;
+use crate::disk_run::run_with_disk;
 use crate::folder::{Attempt, Folder, RunEnd};
 use crate::line::{Frame, Line, Splice, read_line};
-use crate::owning::run_with_disk;
 use line_pieces::NoAnswer;
 use std::alloc::Global;
 use std::io;
@@ -27,7 +27,7 @@ fn answer_line(alloc: Global, folder: &mut Folder, line: &str) -> Result<String,
         Line::Frame(name, frame) => keep_frame(alloc, folder, name, &frame),
         Line::Run(attempt) => run_once(alloc, folder, attempt),
         Line::Talk(attempt) => run_with_peer(alloc, folder, attempt),
-        Line::Own(owning) => run_with_disk(alloc, folder, owning),
+        Line::Own(run) => run_with_disk(alloc, folder, run),
         Line::Make(name, attempt) => run_and_keep(alloc, folder, name, attempt),
         Line::Each(change, name, words) => run_over_changes(alloc, folder, change, &name, &words),
         Line::Words(words) => request_text(alloc, &words),

@@ -1,7 +1,7 @@
 //! A line: the word of a call, and what it is asked of.
 use crate::changes::Change;
+use crate::disk_run::{Crash, DiskRun};
 use crate::folder::{Attempt, Peer};
-use crate::owning::{Crash, Owning};
 use crate::pieces::{
     Pieces, take_bytes, take_name, take_names, take_number, take_piece, take_words,
 };
@@ -18,7 +18,7 @@ pub enum Line {
     Frame(String, Frame),
     Run(Attempt),
     Talk(Attempt),
-    Own(Owning),
+    Own(DiskRun),
     Make(String, Attempt),
     Each(Change, String, Vec<String>),
     Words(Vec<String>),
@@ -59,9 +59,9 @@ fn line_of(alloc: Global, word: &str, pieces: &mut Pieces<'_>) -> Result<Line, N
         "each_turn" => take_changes(alloc, Change::Turn, pieces)?,
         "talk" => Line::Talk(take_run_with_peer(alloc, pieces)?),
         "fail_talk" => Line::Talk(take_run_with_broken_peer(alloc, pieces)?),
-        "own" => Line::Own(take_owning(alloc, pieces)?),
-        "fail_own" => Line::Own(take_owning_on_broken_disk(alloc, pieces)?),
-        "crash_own" => Line::Own(take_owning_before_crash(alloc, pieces)?),
+        "own" => Line::Own(take_disk_run(alloc, pieces)?),
+        "fail_own" => Line::Own(take_run_on_broken_disk(alloc, pieces)?),
+        "crash_own" => Line::Own(take_run_before_crash(alloc, pieces)?),
         "fail_files" => Line::Run(take_run_without_file(alloc, pieces)?),
         "fail_output" => Line::Run(take_run_with_short_output(alloc, pieces)?),
         "words" => Line::Words(take_words(alloc, pieces)?),
@@ -125,8 +125,8 @@ fn take_run_with_broken_peer(alloc: Global, pieces: &mut Pieces<'_>) -> Result<A
 }
 
 /// A run with a peer and a disk that is a file.
-fn take_owning(alloc: Global, pieces: &mut Pieces<'_>) -> Result<Owning, NoAnswer> {
-    Ok(Owning {
+fn take_disk_run(alloc: Global, pieces: &mut Pieces<'_>) -> Result<DiskRun, NoAnswer> {
+    Ok(DiskRun {
         file: take_name(alloc, pieces)?,
         failures: Vec::new(alloc),
         crash: None,
@@ -135,22 +135,22 @@ fn take_owning(alloc: Global, pieces: &mut Pieces<'_>) -> Result<Owning, NoAnswe
 }
 
 /// The same where the call of the disk with a number fails, a write behind so many bytes.
-fn take_owning_on_broken_disk(alloc: Global, pieces: &mut Pieces<'_>) -> Result<Owning, NoAnswer> {
+fn take_run_on_broken_disk(alloc: Global, pieces: &mut Pieces<'_>) -> Result<DiskRun, NoAnswer> {
     let call = take_number(pieces)? as u64;
     let after = take_number(pieces)?;
-    let mut owning = take_owning(alloc, pieces)?;
-    owning.failures.push(Failure { call, after })?;
-    Ok(owning)
+    let mut run = take_disk_run(alloc, pieces)?;
+    run.failures.push(Failure { call, after })?;
+    Ok(run)
 }
 
 /// The same where a crash comes behind so many writes and syncs, and leaves given bytes in the
 /// place of those that it loses.
-fn take_owning_before_crash(alloc: Global, pieces: &mut Pieces<'_>) -> Result<Owning, NoAnswer> {
+fn take_run_before_crash(alloc: Global, pieces: &mut Pieces<'_>) -> Result<DiskRun, NoAnswer> {
     let moment = take_number(pieces)?;
     let lost = take_piece(alloc, pieces)?;
-    let mut owning = take_owning(alloc, pieces)?;
-    owning.crash = Some(Crash { moment, lost });
-    Ok(owning)
+    let mut run = take_disk_run(alloc, pieces)?;
+    run.crash = Some(Crash { moment, lost });
+    Ok(run)
 }
 
 /// A run that can't read the file that it takes with a number, the first one having 0.

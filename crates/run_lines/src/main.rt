@@ -31,9 +31,9 @@
 mod calls;
 mod changes;
 mod counted_disk;
+mod disk_run;
 mod folder;
 mod line;
-mod owning;
 mod pieces;
 
 use calls::answer;

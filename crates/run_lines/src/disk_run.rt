@@ -9,7 +9,7 @@ use std::alloc::{AllocError, Global};
 /// A run, the file that its disk holds before and behind it, which calls of the disk fail, and the
 /// crash that comes.
 #[derive(Drop)]
-pub struct Owning {
+pub struct DiskRun {
     pub file: String,
     pub failures: Vec<Failure>,
     pub crash: Option<Crash>,
@@ -25,20 +25,16 @@ pub struct Crash {
 
 /// Runs the program and keeps what its disk holds then, or what a crash leaves there. Says what a
 /// run with a peer says, how many calls of the disk were made, and what is kept.
-pub fn run_with_disk(
-    alloc: Global,
-    folder: &mut Folder,
-    owning: Owning,
-) -> Result<String, NoAnswer> {
-    let first = Vec::from_slice(alloc, folder.find(&owning.file).unwrap_or(&[]))?;
-    let disk = MemDisk::new(alloc, first, FailAt::new(owning.failures))?;
+pub fn run_with_disk(alloc: Global, folder: &mut Folder, run: DiskRun) -> Result<String, NoAnswer> {
+    let first = Vec::from_slice(alloc, folder.find(&run.file).unwrap_or(&[]))?;
+    let disk = MemDisk::new(alloc, first, FailAt::new(run.failures))?;
     let mut counted = CountedDisk::new(disk);
-    let end = folder.run_on(alloc, owning.attempt, &mut counted)?;
-    let left = bytes_left(alloc, &counted.disk, owning.crash)?;
+    let end = folder.run_on(alloc, run.attempt, &mut counted)?;
+    let left = bytes_left(alloc, &counted.disk, run.crash)?;
     let text = talk_text(alloc, &end)?;
     let found = left_text(alloc, folder, &left)?;
     let answer = format!(in alloc; "{text} calls {} disk {found}", counted.calls)?;
-    folder.keep(owning.file, left)?;
+    folder.keep(run.file, left)?;
     Ok(answer)
 }
 
