@@ -1,5 +1,5 @@
 -- What a run of `own` comes to over a connection that an honest store serves.
-use Rattle.std.proofs.Common.{◌≡◌, ℕ, List, ◌++◌, Option, sym, ap, ◌∙◌, subst, inl, inr}
+use Rattle.std.proofs.Common.{◌≡◌, ℕ, List, ◌++◌, Option, sym, ap, ◌∙◌, subst, inl, inr, Some}
 use Rattle.std.specs.Prelude.{◌⊎◌}
 use Rattle.outside.specs.ConnectionModel.{ConnectionModel}
 use Rattle.outside.specs.DiskModel.{DiskModel}
@@ -7,7 +7,9 @@ use Rattle.exit_output.specs.Outputs.{Output}
 use Rattle.vo_spec.specs.declared.records.Entry.{Entry}
 use Rattle.vo_spec.specs.declared.tables.Batch.{Batch}
 use Rattle.vo_spec.specs.declared.tables.Command.{Command}
+use Rattle.vo_spec.specs.Honest.{RepresentTables}
 use Rattle.vo_spec.specs.Secret.{Secret}
+use Rattle.vo_spec.specs.Tables.{tables_after}
 use Rattle.owner_state.specs.Held.{Held}
 use Rattle.owner_state.specs.Sealing.{FitEach}
 use Rattle.link_frames.specs.Scripts.{others}
@@ -20,10 +22,7 @@ use Rattle.vo_commands.specs.Committing.{IsJudgement, LeavesWith, entry_forms}
 use Rattle.vo_commands.specs.Owning.{Commits, Leaves}
 use Rattle.honest_peers.specs.Answering.{AreServed}
 use Rattle.honest_peers.specs.Owning.{EndsPlainly, IsOwnerAfter, IsStoreWithin, OwnsPlainly}
-use Rattle.honest_peers.proofs.Served.{served_answers}
-use Rattle.honest_peers.proofs.Sessions.{session_ends}
-use Rattle.honest_peers.proofs.StoreSteps.{StoreLaws}
-use Rattle.honest_peers.proofs.Trading.{Deeds, OwnWork}
+use Rattle.honest_peers.proofs.Trading.{Deeds, OwnInput, OwnWork}
 
 -- the status by what is written last
 abbrev HasStatus : ℕ → Type 0 → ℕ → Type 0
@@ -51,7 +50,19 @@ ending_status (BadAnswer size) status deeds before after h =
 ending_status (CutAnswer got) status deeds before after h = last_status (output_of (CutAnswer got))
     status deeds before after h
 
-module _ {Net Disk Out : Type 0} (secret : Secret) (laws : StoreLaws)
+-- what sessions come to
+abbrev pub SessionsEnd : Type 0
+SessionsEnd = (secret : Secret) (batches : List (List Command)) (held : Held) (es : List Entry)
+    (new : List Batch) (s later : StoreState) (input : OwnInput) (ending : Ending)
+    → IsOwnerAfter secret batches held es → IsStoreWithin secret batches s → FitEach new
+    → AreServed s (session entry_forms held es new input).events input.coming later
+    → AreJudgements IsJudgement (others (session entry_forms held es new input).events)
+    → (session entry_forms held es new input).value ≡ Some ending
+    → (ends : EndsPlainly secret batches held es new
+    (others (session entry_forms held es new input).events) ending later)
+    × RepresentTables later.tables (tables_after ends.behind)
+
+module _ {Net Disk Out : Type 0} (secret : Secret) (law : SessionsEnd)
     (batches : List (List Command)) (new : List Batch) (status : ℕ) (held : Held) (es : List Entry)
     (drive : Option DiskModel) (before after : ConnectionModel)
     (written later_written : Option (List ℕ)) (s store : StoreState)
@@ -83,14 +94,9 @@ module _ {Net Disk Out : Type 0} (secret : Secret) (laws : StoreLaws)
       let deeds_are : run.runs.deeds ≡ others work.events = fin.2.others_are in
       let judged : AreJudgements IsJudgement (others work.events) =
       subst (AreJudgements IsJudgement) deeds_are run.runs.are_judgements in
-      let ends : EndsPlainly secret batches held es new (others work.events) fin.0 store =
-      session_ends secret laws store fin.0 batches held es new s
-      (input_of start run.runs.judgements) own within fit
-      (record {
-        answered = served_answers s work.events before.coming store served;
-        judged = judged;
-        value = fin.1;
-      }) in
+      let shown = law secret batches held es new s store (input_of start run.runs.judgements) fin.0
+      own within fit served judged fin.1 in
+      let ends = shown.0 in
       let state : state_after held (others work.events) ≡ run.later =
       ap (state_after held) (sym deeds_are) ∙ sym run.runs.leads.state in
       let entries : es ++ entries_of (others work.events) ≡ run.entries =
@@ -101,7 +107,7 @@ module _ {Net Disk Out : Type 0} (secret : Secret) (laws : StoreLaws)
       (subst (λ (h : Held). IsOwnerAfter secret ends.behind h
       (es ++ entries_of (others work.events))) state ends.owner) in
       elim (ending_status fin.0 status run.runs.deeds start end fin.3) [
-        | inl is ↦ inr (inr (fin.0, ends.behind, ends.comes, is, stands, ends.store))
+        | inl is ↦ inr (inr (fin.0, ends.behind, ends.comes, is, stands, ends.store, shown.1))
         | inr (inl h) ↦ inl (h.0, inr (inr h.1))
         | inr (inr h) ↦ inr (inl h)
       ]

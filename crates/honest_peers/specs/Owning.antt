@@ -6,7 +6,7 @@ use Rattle.vo_spec.specs.declared.records.Entry.{Entry}
 use Rattle.vo_spec.specs.declared.tables.Batch.{Batch}
 use Rattle.vo_spec.specs.declared.tables.Command.{Command}
 use Rattle.vo_spec.specs.declared.tables.CommandFault.{CommandFault}
-use Rattle.vo_spec.specs.Honest.{honest_trees}
+use Rattle.vo_spec.specs.Honest.{RepresentTables, honest_trees}
 use Rattle.vo_spec.specs.Journals.{FitsEntry, batches_of}
 use Rattle.vo_spec.specs.LmsSets.{leaves_of}
 use Rattle.vo_spec.specs.Owners.{AreLoadable}
@@ -85,4 +85,5 @@ OwnsPlainly secret batches new rose status held es s =
     ⊎ ((ending : Ending) × (behind : List (List Command))
     × ComeTo (leaves_of secret.lms) batches (commands_of new) ending behind
     × (status ≡ (output_of ending).status)
-    × IsOwnerAfter secret behind held es × IsStoreAfter secret behind s)
+    × IsOwnerAfter secret behind held es × IsStoreAfter secret behind s
+    × RepresentTables s.tables (tables_after behind))

@@ -1,17 +1,18 @@
 //! What an owner's session with an honest store comes to.
 
-ghost use Rattle.std.specs.Prelude.{◌≡◌, ◌⊎◌, ℕ, List, [], ◌∷◌, Option, Some};
+ghost use Rattle.std.specs.Prelude.{◌≡◌, ◌⊎◌, ℕ, List, [], ◌∷◌, length, Option, Some};
 ghost use Rattle.outside.specs.ConnectionModel.{ConnectionModel};
 ghost use Rattle.outside.specs.DiskModel.{DiskModel};
 ghost use Rattle.outside.specs.FaultRose.{FaultRose};
 ghost use Rattle.vo_spec.specs.declared.records.Entry.{Entry};
 ghost use Rattle.vo_spec.specs.declared.tables.Batch.{Batch};
 ghost use Rattle.vo_spec.specs.declared.tables.Command.{Command};
-ghost use Rattle.vo_spec.specs.Honest.{RepresentTables};
+ghost use Rattle.vo_spec.specs.Honest.{RepresentTables, honest_trees, seal_batches};
 ghost use Rattle.vo_spec.specs.Secret.{Secret};
 ghost use Rattle.vo_spec.specs.Tables.{tables_after};
 ghost use Rattle.vo_laws.specs.Sealing.{SignsValidly};
-ghost use Rattle.owner_roots.specs.Owners.{first_roots};
+ghost use Rattle.owner_roots.specs.Owners.{first_roots, honest_roots};
+ghost use Rattle.round_trips.specs.Trips.{AreSealable};
 ghost use Rattle.link_frames.specs.Scripts.{others};
 ghost use Rattle.owner_state.specs.Held.{Held};
 ghost use Rattle.owner_state.specs.Sealing.{FitEach};
@@ -27,11 +28,16 @@ ghost use Rattle.honest_peers.specs.Owning.{EndsPlainly, IsOwnerAfter, IsStoreWi
 
 use vo_store::laws::{owners_follow_stores, stores_stay_honest};
 
-/// An owner that starts has a plain journal, and stands behind no batch.
+/// An owner that starts has a plain journal, and so has one that stands behind what is sealed.
 pub fn owners_begin_plainly()
-    ensures { (secret : Secret) → SignsValidly secret
+    ensures start { (secret : Secret) → SignsValidly secret
         → IsOwnerAfter secret [] (record { key = secret; roots = first_roots })
         (first_entry secret ∷ []) }
+    ensures sealed { (secret : Secret) (batches : List (List Command))
+        → AreSealable secret batches
+        → let roots = honest_roots (length batches) (honest_trees batches) in
+        IsOwnerAfter secret batches (record { key = secret; roots = roots })
+        (seal_batches secret batches) }
 {}
 
 /// Where an owner's journal is plain, and an honest store of its key has installed a front of the
@@ -67,6 +73,5 @@ pub fn owners_end_plainly()
         → OwnsPlainly secret batches new (FaultRose net later_net ⊎ FaultRose disk later_disk
         ⊎ FaultRose out later_out) status run.later run.entries later }
 {
-    stores_stay_honest();
-    owners_follow_stores();
+    sessions_end_plainly();
 }
