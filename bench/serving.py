@@ -1,0 +1,36 @@
+"""A store that serves a journal on loopback."""
+import contextlib
+import socket
+import subprocess
+import time
+
+from program import PROGRAM
+
+def free_address():
+    with socket.socket() as listener:
+        listener.bind(("127.0.0.1", 0))
+        return "127.0.0.1:%d" % listener.getsockname()[1]
+
+
+def is_served(address):
+    """Whether somebody serves there by now: it takes a connection."""
+    host, port = address.split(":")
+    with contextlib.suppress(ConnectionRefusedError), socket.create_connection((host, int(port))):
+        return True
+    return False
+
+
+@contextlib.contextmanager
+def serving(journal, count, before=()):
+    """A store of this journal, and so many connections; it has an address, once it serves."""
+    address = free_address()
+    words = [*before, PROGRAM, "serve", address, "key", journal, str(count + 1)]
+    store = subprocess.Popen(words, stdout=subprocess.DEVNULL, stderr=subprocess.DEVNULL)
+    try:
+        while not is_served(address):
+            assert store.poll() is None, "nobody serves"
+            time.sleep(0.01)
+        yield address
+        store.wait()
+    finally:
+        store.kill()
