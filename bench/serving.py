@@ -34,3 +34,13 @@ def serving(journal, count, before=()):
         store.wait()
     finally:
         store.kill()
+
+
+def asked_at_once(address, queries):
+    """Asks a store these queries over one connection, each once the answer before it has come."""
+    host, port = address.split(":")
+    with socket.create_connection((host, int(port))) as peer, peer.makefile("rb") as answers:
+        for query in queries:
+            text = query.encode()
+            peer.sendall((len(text) + 1).to_bytes(4, "big") + b"\1" + text)
+            answers.read(int.from_bytes(answers.read(4), "big"))
