@@ -10,7 +10,7 @@ use std::alloc::AllocError;
 
 /// How many bytes one call of the link takes at most: memory is taken for bytes that came, not for
 /// those that a length claims.
-const PIECE: usize = 4_096;
+const PIECE: usize = 2_048;
 
 /// What takes bytes piece by piece.
 pub trait Gathers {
