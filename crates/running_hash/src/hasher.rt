@@ -2,7 +2,7 @@
 ghost use Rattle.std.specs.Prelude.{◌≡◌, [], ◌++◌};
 ghost use Rattle.vo_spec.specs.Sha256.{sha256};
 
-use crate::hashed_bytes::{HashedBytes, Piece};
+use byte_log::{ByteLog, Piece};
 use sha2::{Digest as _, Sha256};
 use std::marker::Model;
 use vo_spec::Digest;
@@ -11,7 +11,7 @@ use vo_spec::Digest;
 #[derive(Drop)]
 pub struct RunningHash {
     inner: Sha256,
-    hashed: HashedBytes,
+    hashed: ByteLog,
 }
 
 impl Model for RunningHash {
@@ -32,7 +32,7 @@ impl RunningHash {
     {
         RunningHash {
             inner: Sha256::new(),
-            hashed: HashedBytes::empty(),
+            hashed: ByteLog::empty(),
         }
     }
 

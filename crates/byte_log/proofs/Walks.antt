@@ -1,4 +1,4 @@
--- A step that the walks of hashed_bytes share: a struct of no fields is made. Assumes `Logic`.
+-- A step that the walks of log share: a struct of no fields is made. Assumes `Logic`.
 use Rattle.std.proofs.Common.{List, [], ◌∷◌, refl}
 use seplogic.Ra.Ura.{Ura}
 use mir.Val.{Val, vstruct, vnil}
