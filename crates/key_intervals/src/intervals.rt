@@ -16,9 +16,10 @@ ghost use Rattle.vo_spec.specs.Scans.{
 use crate::key_order::compare_keys;
 use vo_spec::{Bound, Interval};
 
+/// Whether the first key is below the second.
 // Inlined: a call would take as long as most of what it does.
 #[inline(always)]
-fn key_lt(a: &[u8], b: &[u8]) -> bool
+pub fn key_lt(a: &[u8], b: &[u8]) -> bool
     ensures { result ≡ is_less a.now b.now }
 {
     compare_keys(a, b).is_lt()
@@ -75,6 +76,25 @@ pub fn visits(interval: &Interval, lower: Option<&[u8]>, upper: Option<&[u8]>) -
         (option_copied upper.entry) }
 {
     ends_above(&interval.low, upper) && begins_below(&interval.high, lower)
+}
+
+/// The same, with that asked first which is likely to be false: whether the child ends above the
+/// interval's start, or, past a child that the scan goes on to, whether it begins below its end.
+#[inline(always)]
+pub fn visits_from(
+    is_past: bool,
+    interval: &Interval,
+    lower: Option<&[u8]>,
+    upper: Option<&[u8]>,
+) -> bool
+    ensures { result ≡ does_visit interval.now (option_copied lower.entry)
+        (option_copied upper.entry) }
+{
+    if is_past {
+        begins_below(&interval.high, lower) && ends_above(&interval.low, upper)
+    } else {
+        visits(interval, lower, upper)
+    }
 }
 
 fn ends_above(low: &Bound, upper: Option<&[u8]>) -> bool

@@ -4,5 +4,5 @@
 mod intervals;
 mod key_order;
 
-pub use intervals::{in_interval, is_empty_interval, visits};
+pub use intervals::{in_interval, is_empty_interval, key_lt, visits, visits_from};
 pub use key_order::compare_keys;

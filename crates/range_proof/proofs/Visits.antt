@@ -9,7 +9,7 @@ use Rattle.vo_spec.specs.declared.needs.Need.{Need}
 use Rattle.vo_spec.specs.Values.{key_lt}
 use Rattle.vo_spec.specs.Scans.{is_above, is_below, in_interval, is_empty_interval, ends_above, begins_below, visits}
 use Rattle.vo_spec.specs.Pruning.{at_root, descend, needed_columns, is_any}
-use Rattle.vo_spec.specs.Standing.{is_from, is_before}
+use Rattle.vo_spec.specs.Representation.{is_from, is_before}
 use Rattle.vo_laws.proofs.KeyOrder.{key_lt_back, key_le_le, key_lt_le, key_lt_lt}
 use Rattle.vo_laws.proofs.SeenLaws.{empty_has_none}
 use Rattle.range_proof.specs.ActiveNeeds.{CoverKeys, max_lower, min_upper}

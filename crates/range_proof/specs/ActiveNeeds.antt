@@ -3,7 +3,7 @@ use Rattle.std.specs.Prelude.{◌≡◌, ℕ, true, if◌then◌else◌, List, O
 use Rattle.vo_spec.specs.declared.needs.Need.{Need}
 use Rattle.vo_spec.specs.Values.{key_lt}
 use Rattle.vo_spec.specs.Pruning.{needed_columns, is_any}
-use Rattle.vo_spec.specs.Standing.{is_between}
+use Rattle.vo_spec.specs.Representation.{is_between}
 
 pub record NeedsAtNode : Type 0 where
   pub all : List Need

@@ -4,9 +4,9 @@ ghost use Rattle.std.specs.Option.{option_copied};
 ghost use Rattle.vo_spec.specs.Pruning.{at_root as first_going, descend as next_going, is_any, needed_columns as named_by};
 ghost use Rattle.range_proof.specs.Lending.{lent_need};
 
-use crate::intervals::{is_between, max_lower, min_upper};
 use crate::naming::named_columns;
 use crate::need_lists::{active_at_root, push_active};
+use crate::separators::{is_between, max_lower, min_upper};
 use std::alloc::{AllocError, Global};
 use std::marker::Model;
 use vo_spec::Need;

@@ -2,15 +2,14 @@
 #![tactic(auto)]
 
 mod active_needs;
-mod intervals;
 mod judging;
-mod key_order;
 mod naming;
 mod need_lists;
 mod nodes;
 mod prune_for_one;
 mod pruning;
 mod scanning;
+mod separators;
 
 pub use judging::is_canonical;
 pub use pruning::prune;

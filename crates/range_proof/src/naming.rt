@@ -9,8 +9,8 @@ ghost use Rattle.vo_spec.specs.Pruning.{
 };
 ghost use Rattle.range_proof.specs.Lending.{lent_need};
 
-use crate::intervals::in_interval;
 use crate::scanning::value_in;
+use key_intervals::in_interval;
 use std::alloc::{AllocError, Global};
 use vo_spec::{Cell, Need, RowPart};
 

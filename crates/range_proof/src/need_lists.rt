@@ -4,7 +4,7 @@ ghost use Rattle.std.specs.Option.{option_copied};
 ghost use Rattle.vo_spec.specs.Pruning.{at_root as first_going, descend as next_going};
 ghost use Rattle.range_proof.specs.Lending.{lent_need};
 
-use crate::intervals::{is_empty_interval, visits};
+use key_intervals::{is_empty_interval, visits};
 use std::alloc::{AllocError, Global};
 use vo_spec::Need;
 

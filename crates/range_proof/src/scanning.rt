@@ -7,7 +7,7 @@ ghost use Rattle.vo_spec.specs.Scans.{seen, seen_in, seen_in_each, seen_entries,
 ghost use Rattle.mb_tree.specs.View.{part_of, parts_of};
 ghost use Rattle.range_proof.specs.Finding.{FindsOrMissing, Appends, value_seen};
 
-use crate::intervals::{in_interval, is_empty_interval, visits_from};
+use key_intervals::{in_interval, is_empty_interval, visits_from};
 use mb_tree::PartTree;
 use std::alloc::{AllocError, Global};
 use vo_spec::{
