@@ -23,13 +23,13 @@ Within n p = FitsPart p × (levels p ≤ n)
 
 -- Children as a list.
 
-abbrev listed : RowTrees → List RowTree
-listed none = []
-listed (more m p ps) = p ∷ listed ps
+abbrev list_of_parts : RowTrees → List RowTree
+list_of_parts none = []
+list_of_parts (more m p ps) = p ∷ list_of_parts ps
 
-relisted : (ps : RowTrees) → open_parts (listed ps) ≡ ps
-relisted none = refl
-relisted (more m p ps) = ap (more tt p) (relisted ps)
+parts_again : (ps : RowTrees) → open_parts (list_of_parts ps) ≡ ps
+parts_again none = refl
+parts_again (more m p ps) = ap (more tt p) (parts_again ps)
 
 pub count_open_parts : (ts : List RowTree) → count (open_parts ts) ≡ length ts
 count_open_parts [] = refl
@@ -150,7 +150,7 @@ module _ (n : ℕ) (child : IsReader (tree_at n) tree_bytes (Within n)) where
   node_again (leaf es) rest fits = leaf_again es rest fits.0
   node_again (inner ss ps) rest fits =
       let P : RowTrees → Type 0 = λ qs. Within (suc n) (inner ss qs) → node_at (tree_at n) (tree_bytes (inner ss qs) ++ rest) ≡ Some (inner ss qs, rest) in
-      subst P (relisted ps) (λ good. ap (node_at (tree_at n)) (reencoded ss (listed ps) rest) ∙ inner_again ss (listed ps) rest good) fits
+      subst P (parts_again ps) (λ good. ap (node_at (tree_at n)) (reencoded ss (list_of_parts ps) rest) ∙ inner_again ss (list_of_parts ps) rest good) fits
 
 -- Trees.
 

@@ -1,7 +1,6 @@
 pub mod Forms
 pub mod CatalogSizes
-pub mod Fields
-pub mod EntryLaws
+pub mod BlockLaws
 pub mod TreeLaws
 pub mod ReplyLaws
 pub mod BatchProofLaws

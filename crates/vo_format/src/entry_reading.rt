@@ -5,7 +5,7 @@ ghost use Rattle.vo_spec.specs.declared.cells.RowPart.TheVariants.{Cells, Digest
 ghost use Rattle.row_bytes.specs.Reading.{bytes_at};
 ghost use Rattle.row_bytes.specs.Fields.{Found, FoundOr, times};
 ghost use Rattle.batch_format.specs.BatchReading.{any_value_at, one};
-ghost use Rattle.vo_format.specs.Reading.{cell_at, cells_at, count_within, entry_at, key_at, row_at};
+ghost use Rattle.tree_readers.specs.TreeReading.{cell_at, cells_at, count_within, entry_at, key_at, row_at};
 
 use row_bytes::{Cursor, ReadFault, take_value};
 use std::alloc::Global;
@@ -36,7 +36,7 @@ pub fn take_digest(cursor: &mut Cursor<'_>) -> Option<Digest>
 }
 
 /// The key or separator that comes next, lent.
-#[tactic(auto, unfolding(crate::specs::Reading::key_at))]
+#[tactic(auto, unfolding(tree_readers::specs::TreeReading::key_at))]
 pub fn take_key<'b>(cursor: &mut Cursor<'b>) -> Option<KeyPart<'b>>
     ensures { Found (λ key. key) result cursor.old cursor.new (key_at cursor.old) }
 {
@@ -79,7 +79,7 @@ fn push_shown<'b>(cursor: &mut Cursor<'b>, cells: &mut Vec<Cell<'b>>) -> Result<
 
 /// Puts the cell that comes next behind others. It is made where it stays: most of a reply is this.
 #[inline(always)]
-#[tactic(auto, unfolding(crate::specs::Reading::cell_at, row_bytes::specs::Reading::byte_at))]
+#[tactic(auto, unfolding(tree_readers::specs::TreeReading::cell_at, row_bytes::specs::Reading::byte_at))]
 fn push_cell<'b>(cursor: &mut Cursor<'b>, cells: &mut Vec<Cell<'b>>) -> Result<(), ReadFault>
     ensures { FoundOr (λ done. cells.new.items) result cursor.old cursor.new
         (one (λ cell. cells.old.items ++ cell ∷ []) cell_at cursor.old) }
@@ -114,7 +114,7 @@ fn each_cell<'b>(
     Ok(cells)
 }
 
-#[tactic(auto, unfolding(crate::specs::Reading::cells_at))]
+#[tactic(auto, unfolding(tree_readers::specs::TreeReading::cells_at))]
 fn take_cells<'b>(alloc: Global, cursor: &mut Cursor<'b>) -> Result<RowPart<'b>, ReadFault>
     ensures { FoundOr (λ row. row) result cursor.old cursor.new (one Cells cells_at cursor.old) }
 {
@@ -137,7 +137,7 @@ fn take_closed<'b>(cursor: &mut Cursor<'b>) -> Result<RowPart<'b>, ReadFault>
 }
 
 #[inline(always)]
-#[tactic(auto, unfolding(crate::specs::Reading::row_at, row_bytes::specs::Reading::byte_at))]
+#[tactic(auto, unfolding(tree_readers::specs::TreeReading::row_at, row_bytes::specs::Reading::byte_at))]
 fn take_row<'b>(alloc: Global, cursor: &mut Cursor<'b>) -> Result<RowPart<'b>, ReadFault>
     ensures { FoundOr (λ row. row) result cursor.old cursor.new (row_at cursor.old) }
 {
@@ -153,7 +153,7 @@ fn take_row<'b>(alloc: Global, cursor: &mut Cursor<'b>) -> Result<RowPart<'b>, R
 
 /// The entry that comes next.
 #[inline(always)]
-#[tactic(auto, unfolding(crate::specs::Reading::entry_at))]
+#[tactic(auto, unfolding(tree_readers::specs::TreeReading::entry_at))]
 pub fn take_entry<'b>(alloc: Global, cursor: &mut Cursor<'b>) -> Result<PartEntry<'b>, ReadFault>
     ensures { FoundOr (λ entry. entry) result cursor.old cursor.new (entry_at cursor.old) }
 {

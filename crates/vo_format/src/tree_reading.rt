@@ -9,7 +9,7 @@ ghost use Rattle.row_bytes.specs.Reading.{bytes_at};
 ghost use Rattle.row_bytes.specs.Fields.{FoundOr, times};
 ghost use Rattle.batch_format.specs.BatchReading.{one};
 ghost use Rattle.mb_tree.specs.View.{part_of};
-ghost use Rattle.vo_format.specs.Reading.{entry_at, inner_at, key_at, leaf_at, node_at, tree_at};
+ghost use Rattle.tree_readers.specs.TreeReading.{entry_at, inner_at, key_at, leaf_at, node_at, tree_at};
 ghost use Rattle.vo_format.specs.View.{trees_of};
 
 use crate::entry_reading::{take_count, take_digest, take_entry, take_key};
@@ -51,7 +51,7 @@ fn take_levels<'b>(
 }
 
 /// The node that comes next, whose children have at most so many levels.
-#[tactic(auto, unfolding(crate::specs::Reading::node_at, row_bytes::specs::Reading::byte_at))]
+#[tactic(auto, unfolding(tree_readers::specs::TreeReading::node_at, row_bytes::specs::Reading::byte_at))]
 #[cycle(take_levels)]
 fn take_node<'b>(
     alloc: Global,
@@ -83,7 +83,7 @@ fn take_stub<'b>(cursor: &mut Cursor<'b>) -> Result<PartTree<'b>, ReadFault>
     }
 }
 
-#[tactic(auto, unfolding(crate::specs::Reading::leaf_at))]
+#[tactic(auto, unfolding(tree_readers::specs::TreeReading::leaf_at))]
 fn take_leaf<'b>(alloc: Global, cursor: &mut Cursor<'b>) -> Result<PartTree<'b>, ReadFault>
     ensures { FoundOr part_of result cursor.old cursor.new (leaf_at cursor.old) }
 {
@@ -115,7 +115,7 @@ fn each_entry<'b>(
 }
 
 /// An inner node whose children have at most so many levels.
-#[tactic(auto, unfolding(crate::specs::Reading::inner_at))]
+#[tactic(auto, unfolding(tree_readers::specs::TreeReading::inner_at))]
 #[cycle(take_levels)]
 fn take_inner<'b>(
     alloc: Global,

@@ -2,7 +2,7 @@ use Rattle.std.proofs.Common.{◌<◌, ◌∙◌, arith}
 use Rattle.std.specs.Global.{Vec}
 use Rattle.vo_spec.specs.declared.cells.PartEntry.{PartEntry}
 use Rattle.row_bytes.proofs.Rounds.{times_step, times_fails}
-use Rattle.vo_format.specs.Reading.{entry_at}
+use Rattle.tree_readers.specs.TreeReading.{entry_at}
 use Rattle.vo_format.proofs.tree_reading.each_entry.Goals as goal
 
 pub returns-in-Err : goal.returns-in-Err
