@@ -8,6 +8,7 @@ use Rattle.vo_spec.specs.declared.cells.Cell.{Cell}
 use Rattle.vo_spec.specs.declared.cells.Cell.TheVariants.{Hidden}
 use Rattle.vo_spec.specs.declared.cells.RowPart.TheVariants.{Digest as Closed}
 use Rattle.vo_spec.specs.declared.cells.PartEntry.{PartEntry}
+use Rattle.vo_spec.specs.Bytes.{IsBytes, u16_bytes}
 use Rattle.vo_spec.specs.Cells.{cell_digest, cell_digests}
 use Rattle.vo_spec.specs.Pruning.{has_column}
 use Rattle.vo_spec.specs.Parts.{stub}
@@ -25,6 +26,7 @@ use Rattle.tree_stream.specs.Findings.{combine, combine_cells, columns_at, fits_
 use Rattle.tree_stream.specs.Parsing.{BeginsCell, BeginsRow}
 use Rattle.tree_stream.specs.Remaining.{summary, with_findings, leaf_summary, rest_of_leaf, children_summary, rest_of_children, rest_of_row, rest_of_cells}
 use Rattle.tree_stream.specs.Summaries.{levels_below, summary_after, summary_with, CanEnd}
+use Rattle.tree_stream.proofs.AllBytes.{IsBytes-nil, IsBytes-append, IsBytes-tested}
 use Rattle.tree_stream.proofs.LeafLaws.{closed_row_taken, open_row_taken, cell_taken}
 use Rattle.tree_stream.proofs.Remainders.{summary_behind}
 
@@ -32,49 +34,77 @@ abbrev zeros : List ℕ
 zeros = 0 ∷ 0 ∷ 0 ∷ 0 ∷ 0 ∷ 0 ∷ 0 ∷ 0 ∷ 0 ∷ 0 ∷ 0 ∷ 0 ∷ 0 ∷ 0 ∷ 0 ∷ 0 ∷ 0 ∷ 0 ∷ 0 ∷ 0 ∷ 0 ∷ 0 ∷ 0 ∷ 0 ∷ 0 ∷ 0 ∷ 0 ∷ 0 ∷ 0 ∷ 0 ∷ 0 ∷ 0 ∷ []
 
 -- some bytes are read, whatever comes behind them
-abbrev pub CanRead : {A : Type 0} → Reader A → Type 0
-CanRead {A} read = (front : List ℕ) × (x : A) × ((rest : List ℕ) → read (front ++ rest) ≡ Some (x, rest))
+pub record CanRead {A : Type 0} (read : Reader A) : Type 0 where
+  pub bytes : List ℕ
+  pub are_bytes : IsBytes bytes
+  pub found : A
+  pub each : (rest : List ℕ) → read (bytes ++ rest) ≡ Some (found, rest)
 
 pub repeated : {A : Type 0} (read : Reader A) (n : ℕ) → CanRead read → CanRead (times read n)
-repeated {A} read zero can = ([], [], λ rest. refl)
+repeated {A} read zero can = record { bytes = []; are_bytes = IsBytes-nil; found = []; each = λ rest. refl }
 repeated {A} read (suc n) can =
     let others = repeated read n can in
-    let rest_of : A × List ℕ → Option (List A × List ℕ) = λ first. times read n first.1 >>= λ xs. Some (first.0 ∷ xs.0, xs.1) in (
-      can.0 ++ others.0,
-      can.1 ∷ others.1,
-      λ rest.
-          ap (times read (suc n)) (append_assoc can.0 others.0 rest)
-          ∙ ap (λ (o : Option (A × List ℕ)). o >>= rest_of) (can.2 (others.0 ++ rest))
-          ∙ ap (λ (o : Option (List A × List ℕ)). o >>= λ xs. Some (can.1 ∷ xs.0, xs.1)) (others.2 rest),
-    )
+    let rest_of : A × List ℕ → Option (List A × List ℕ) = λ first. times read n first.1 >>= λ xs. Some (first.0 ∷ xs.0, xs.1) in
+    record {
+      bytes = can.bytes ++ others.bytes;
+      are_bytes = IsBytes-append can.bytes others.bytes can.are_bytes others.are_bytes;
+      found = can.found ∷ others.found;
+      each = λ rest.
+          ap (times read (suc n)) (append_assoc can.bytes others.bytes rest)
+          ∙ ap (λ (o : Option (A × List ℕ)). o >>= rest_of) (can.each (others.bytes ++ rest))
+          ∙ ap (λ (o : Option (List A × List ℕ)). o >>= λ xs. Some (can.found ∷ xs.0, xs.1)) (others.each rest);
+    }
 
 mapped : {A B : Type 0} (make : A → B) (read : Reader A) → CanRead read → CanRead (one make read)
-mapped {A} {B} make read can = (can.0, make can.1, λ rest. ap (λ (o : Option (A × List ℕ)). o >>= λ x. Some (make x.0, x.1)) (can.2 rest))
+mapped {A} {B} make read can = record {
+  bytes = can.bytes;
+  are_bytes = can.are_bytes;
+  found = make can.found;
+  each = λ rest. ap (λ (o : Option (A × List ℕ)). o >>= λ x. Some (make x.0, x.1)) (can.each rest);
+}
 
 -- and then others, by what was read
 then_read : {A B : Type 0} (read : Reader A) (next : A → Reader B) → CanRead read → ((x : A) → CanRead (next x)) → CanRead (λ bytes. read bytes >>= λ x. next x.0 x.1)
 then_read {A} {B} read next can others =
-    let behind = others can.1 in (
-      can.0 ++ behind.0,
-      behind.1,
-      λ rest.
-          ap (λ (bytes : List ℕ). read bytes >>= λ x. next x.0 x.1) (append_assoc can.0 behind.0 rest)
-          ∙ ap (λ (o : Option (A × List ℕ)). o >>= λ x. next x.0 x.1) (can.2 (behind.0 ++ rest))
-          ∙ behind.2 rest,
-    )
+    let behind = others can.found in
+    record {
+      bytes = can.bytes ++ behind.bytes;
+      are_bytes = IsBytes-append can.bytes behind.bytes can.are_bytes behind.are_bytes;
+      found = behind.found;
+      each = λ rest.
+          ap (λ (bytes : List ℕ). read bytes >>= λ x. next x.0 x.1) (append_assoc can.bytes behind.bytes rest)
+          ∙ ap (λ (o : Option (A × List ℕ)). o >>= λ x. next x.0 x.1) (can.each (behind.bytes ++ rest))
+          ∙ behind.each rest;
+    }
 
 -- Nodes.
 
 pub a_stub : (levels : ℕ) → 1 ≤ levels → CanRead (tree_at levels)
-a_stub levels some = (0 ∷ zeros, stub zeros, λ rest. (levels_read levels).again (stub zeros) rest (refl, some))
+a_stub levels some = record {
+  bytes = 0 ∷ zeros;
+  are_bytes = IsBytes-tested (0 ∷ zeros) refl;
+  found = stub zeros;
+  each = λ rest. (levels_read levels).again (stub zeros) rest (refl, some);
+}
 
 an_entry : CanRead entry_at
+unfolding u16_bytes
 an_entry =
     let entry : PartEntry = record { key = []; row = Closed zeros } in
-    (entry_form entry, entry, λ rest. entries_read.again entry rest (record { key = omega arith; row = refl }))
+    record {
+      bytes = entry_form entry;
+      are_bytes = IsBytes-tested (entry_form entry) refl;
+      found = entry;
+      each = λ rest. entries_read.again entry rest (record { key = omega arith; row = refl });
+    }
 
 a_cell : CanRead cell_at
-a_cell = (cell_form (Hidden zeros), Hidden zeros, λ rest. cell_again (Hidden zeros) rest refl)
+a_cell = record {
+  bytes = cell_form (Hidden zeros);
+  are_bytes = IsBytes-tested (cell_form (Hidden zeros)) refl;
+  found = Hidden zeros;
+  each = λ rest. cell_again (Hidden zeros) rest refl;
+}
 
 children_can : (target : Target) (levels : ℕ) (hashed : List ℕ) (visits : List Bool) → 1 ≤ levels → CanRead (rest_of_children target levels hashed visits)
 unfolding rest_of_children
@@ -86,7 +116,12 @@ leaf_can target hashed left = mapped (leaf_summary target hashed) (times entry_a
 
 found_can : (f : Findings) (read : Reader Summary) → CanRead read → CanRead (with_findings f read)
 unfolding with_findings
-found_can f read can = (can.0, summary can.1.digest (combine f can.1.findings), λ rest. ap (λ (o : Option (Summary × List ℕ)). o >>= λ end. Some (summary end.0.digest (combine f end.0.findings), end.1)) (can.2 rest))
+found_can f read can = record {
+  bytes = can.bytes;
+  are_bytes = can.are_bytes;
+  found = summary can.found.digest (combine f can.found.findings);
+  each = λ rest. ap (λ (o : Option (Summary × List ℕ)). o >>= λ end. Some (summary end.0.digest (combine f end.0.findings), end.1)) (can.each rest);
+}
 
 cells_can : (target : Target) (hashed key : List ℕ) (left : ℕ) (row_hashed : List ℕ) (column : ℕ) (found : CellFindings) (n : ℕ) → CanRead (rest_of_cells target hashed key left row_hashed column found n)
 unfolding rest_of_cells
@@ -100,32 +135,36 @@ cells_can target hashed key left row_hashed column found n =
 
 after_can : (target : Target) (ancestors : List InnerNode) (d : List ℕ) (found : Findings) → length ancestors ≤ 10 → CanEnd (summary_after target ancestors d found)
 unfolding summary_after
-after_can target [] d found few = ([], summary d found, λ rest. refl)
+after_can target [] d found few = record { bytes = []; are_bytes = IsBytes-nil; found = summary d found; each = λ rest. refl }
 after_can target (node ∷ ancestors) d found few =
     let can = children_can target (levels_below (node ∷ ancestors)) (node.hasher ++ d) node.child_visits.items (omega (arith, few)) in
-    let above = after_can target ancestors can.1.digest (combine found can.1.findings) (omega (arith, few)) in (
-      can.0 ++ above.0,
-      above.1,
-      λ rest.
-          ap (summary_after target (node ∷ ancestors) d found) (append_assoc can.0 above.0 rest)
-          ∙ ap (λ (o : Option (Summary × List ℕ)). o >>= λ end. summary_after target ancestors end.0.digest (combine found end.0.findings) end.1) (can.2 (above.0 ++ rest))
-          ∙ above.2 rest,
-    )
+    let above = after_can target ancestors can.found.digest (combine found can.found.findings) (omega (arith, few)) in
+    record {
+      bytes = can.bytes ++ above.bytes;
+      are_bytes = IsBytes-append can.bytes above.bytes can.are_bytes above.are_bytes;
+      found = above.found;
+      each = λ rest.
+          ap (summary_after target (node ∷ ancestors) d found) (append_assoc can.bytes above.bytes rest)
+          ∙ ap (λ (o : Option (Summary × List ℕ)). o >>= λ end. summary_after target ancestors end.0.digest (combine found end.0.findings) end.1) (can.each (above.bytes ++ rest))
+          ∙ above.each rest;
+    }
 
 with_can : (target : Target) (ancestors : List InnerNode) (found : Findings) (read : Reader Summary) → length ancestors ≤ 10 → CanRead read → CanEnd (summary_with target ancestors found read)
 unfolding summary_with
 with_can target ancestors found read few can =
-    let above = after_can target (reverse ancestors) can.1.digest (combine found can.1.findings) (omega (arith, few, length-reverse ancestors)) in (
-      can.0 ++ above.0,
-      above.1,
-      λ rest.
-          ap (summary_with target ancestors found read) (append_assoc can.0 above.0 rest)
-          ∙ ap (λ (o : Option (Summary × List ℕ)). o >>= summary_behind target ancestors found) (can.2 (above.0 ++ rest))
-          ∙ above.2 rest,
-    )
+    let above = after_can target (reverse ancestors) can.found.digest (combine found can.found.findings) (omega (arith, few, length-reverse ancestors)) in
+    record {
+      bytes = can.bytes ++ above.bytes;
+      are_bytes = IsBytes-append can.bytes above.bytes can.are_bytes above.are_bytes;
+      found = above.found;
+      each = λ rest.
+          ap (summary_with target ancestors found read) (append_assoc can.bytes above.bytes rest)
+          ∙ ap (λ (o : Option (Summary × List ℕ)). o >>= summary_behind target ancestors found) (can.each (above.bytes ++ rest))
+          ∙ above.each rest;
+    }
 
 pub can_same : (f g : Reader Summary) → ((rest : List ℕ) → f rest ≡ g rest) → CanEnd g → CanEnd f
-can_same f g same can = (can.0, can.1, λ rest. same (can.0 ++ rest) ∙ can.2 rest)
+can_same f g same can = record { bytes = can.bytes; are_bytes = can.are_bytes; found = can.found; each = λ rest. same (can.bytes ++ rest) ∙ can.each rest }
 
 module _ (target : Target) (ancestors : List InnerNode) (found : Findings) (few : length ancestors ≤ 10) (hashed key : List ℕ) (left : ℕ) where
   abbrev by_row : Reader Summary

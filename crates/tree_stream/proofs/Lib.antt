@@ -1,3 +1,4 @@
+pub mod AllBytes
 pub mod Sums
 pub mod Binds
 pub mod WholeTokens

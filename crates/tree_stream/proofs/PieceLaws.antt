@@ -1,10 +1,12 @@
 -- What is taken of pieces, step by step.
-use Rattle.std.proofs.Common.{◌≡◌, ℕ, suc, ◌+◌, ◌<◌, ◌≤◌, eqb, List, [], ◌∷◌, ◌++◌, length, take, Some, None, refl, sym, ap, ◌∙◌, append_assoc, arith, Result, Ok, Err, ◌⊎◌, inl, inr}
+use Rattle.std.proofs.Common.{◌≡◌, ℕ, suc, ◌+◌, ◌<◌, ◌≤◌, eqb, List, [], ◌∷◌, ◌++◌, length, take, Some, None, refl, sym, ap, ◌∙◌, append-nil, append_assoc, arith, Result, Ok, Err, ◌⊎◌, inl, inr}
 use Rattle.std.specs.Prelude.{IfOk, OnOk, OnErr, IsOk, IsErr, IsTrue, true, false}
 use Rattle.std.specs.Borrow.{Bor}
 use Rattle.std.specs.declared.alloc.AllocError.{AllocError}
 use Rattle.std.proofs.lemmas.Bool.{false≢true, eqb-true}
 use Rattle.std.proofs.lemmas.List.{length-take-le, length-append, take_at}
+use Rattle.vo_spec.specs.Bytes.{IsBytes}
+use Rattle.row_bytes.proofs.Readers.{IsBytes-after}
 use Rattle.batch_format.specs.BatchReading.{Reader}
 use Rattle.tree_stream.specs.declared.findings.Summary.{Summary}
 use Rattle.tree_stream.specs.declared.machine.Machine.{Machine}
@@ -14,6 +16,7 @@ use Rattle.tree_stream.specs.Machines.{summary_of_machine, Takes, Advances, Ends
 use Rattle.tree_stream.specs.Remaining.{rest_of_node}
 use Rattle.tree_stream.specs.Summaries.{is_settled, summary_with, summary_from, CanEnd, IsInNeededRow}
 use Rattle.tree_stream.specs.Tokens.{token_size}
+use Rattle.tree_stream.proofs.AllBytes.{IsBytes-before, IsBytes-append}
 use Rattle.tree_stream.proofs.ShortLaws.{settled_is}
 use Rattle.tree_stream.proofs.Sizes.{token_is, token_positive}
 
@@ -48,15 +51,18 @@ goes_on first old new bytes left token behind a t is = record {
   each = λ rest. t.each rest ∙ a.each (token ++ rest) ∙ ap (summary_of_machine first) (sym (append_assoc a.taken token rest));
 }
 
-pub goes_back : (first old : Machine) (bytes left token : List ℕ) → Advances first old bytes left → CanEnd (λ rest. summary_of_machine old (token ++ rest)) → CanEnd (summary_of_machine first)
-goes_back first old bytes left token a can = (
-  a.taken ++ (token ++ can.0),
-  can.1,
-  λ rest.
-      ap (summary_of_machine first) (append_assoc a.taken (token ++ can.0) rest ∙ ap (λ (t : List ℕ). a.taken ++ t) (append_assoc token can.0 rest))
-      ∙ sym (a.each (token ++ (can.0 ++ rest)))
-      ∙ can.2 rest,
-)
+pub goes_back : (first old : Machine) (bytes left token behind : List ℕ) → IsBytes bytes → Advances first old bytes left → left ≡ token ++ behind → CanEnd (λ rest. summary_of_machine old (token ++ rest)) → CanEnd (summary_of_machine first)
+goes_back first old bytes left token behind fits a is can =
+    let token_fits : IsBytes token = IsBytes-before token behind left is (IsBytes-after a.taken left bytes a.parts fits) in
+    record {
+      bytes = a.taken ++ (token ++ can.bytes);
+      are_bytes = IsBytes-append a.taken (token ++ can.bytes) (IsBytes-before a.taken left bytes a.parts fits) (IsBytes-append token can.bytes token_fits can.are_bytes);
+      found = can.found;
+      each = λ rest.
+          ap (summary_of_machine first) (append_assoc a.taken (token ++ can.bytes) rest ∙ ap (λ (t : List ℕ). a.taken ++ t) (append_assoc token can.bytes rest))
+          ∙ sym (a.each (token ++ (can.bytes ++ rest)))
+          ∙ can.each rest;
+    }
 
 -- first some bytes, and then those that they left
 pub and_then : (first old new : Machine) (bytes left behind : List ℕ) → Advances first old bytes left → Advances old new left behind → Advances first new bytes behind
@@ -65,13 +71,6 @@ and_then first old new bytes left behind a b = record {
   parts = a.parts ∙ ap (λ (l : List ℕ). a.taken ++ l) b.parts ∙ sym (append_assoc a.taken b.taken behind);
   each = λ rest. b.each rest ∙ a.each (b.taken ++ rest) ∙ ap (summary_of_machine first) (sym (append_assoc a.taken b.taken rest));
 }
-
-pub way_back : (first old : Machine) (bytes left : List ℕ) → Advances first old bytes left → CanEnd (summary_of_machine old) → CanEnd (summary_of_machine first)
-way_back first old bytes left a can = (
-  a.taken ++ can.0,
-  can.1,
-  λ rest. ap (summary_of_machine first) (append_assoc a.taken can.0 rest) ∙ sym (a.each (can.0 ++ rest)) ∙ can.2 rest,
-)
 
 -- Sizes.
 
@@ -92,11 +91,16 @@ pub ends_then : (r : Result (Bor (List ℕ)) AllocError) (front left piece : Lis
 ends_then (Ok end) front left piece is ends = (front ++ ends.0, is ∙ ap (λ (t : List ℕ). front ++ t) ends.1 ∙ sym (append_assoc front ends.0 end.now))
 ends_then (Err e) front left piece is ends = tt
 
-pub longer_way : (machine : Machine) (partial front all : List ℕ) → all ≡ partial ++ front → CanEnd (λ rest. summary_of_machine machine (all ++ rest)) → CanEnd (λ rest. summary_of_machine machine (partial ++ rest))
-longer_way machine partial front all is can =
-    let regroup : (rest : List ℕ) → partial ++ ((front ++ can.0) ++ rest) ≡ all ++ (can.0 ++ rest) = λ rest.
-    ap (λ (t : List ℕ). partial ++ t) (append_assoc front can.0 rest) ∙ sym (append_assoc partial front (can.0 ++ rest)) ∙ ap (λ (t : List ℕ). t ++ (can.0 ++ rest)) (sym is) in
-    (front ++ can.0, can.1, λ rest. ap (summary_of_machine machine) (regroup rest) ∙ can.2 rest)
+pub longer_way : (machine : Machine) (partial front all : List ℕ) → IsBytes front → all ≡ partial ++ front → CanEnd (λ rest. summary_of_machine machine (all ++ rest)) → CanEnd (λ rest. summary_of_machine machine (partial ++ rest))
+longer_way machine partial front all fits is can =
+    let regroup : (rest : List ℕ) → partial ++ ((front ++ can.bytes) ++ rest) ≡ all ++ (can.bytes ++ rest) = λ rest.
+    ap (λ (t : List ℕ). partial ++ t) (append_assoc front can.bytes rest) ∙ sym (append_assoc partial front (can.bytes ++ rest)) ∙ ap (λ (t : List ℕ). t ++ (can.bytes ++ rest)) (sym is) in
+    record {
+      bytes = front ++ can.bytes;
+      are_bytes = IsBytes-append front can.bytes fits can.are_bytes;
+      found = can.found;
+      each = λ rest. ap (summary_of_machine machine) (regroup rest) ∙ can.each rest;
+    }
 
 pub same_bytes : (machine : Machine) (bytes left : List ℕ) → left ≡ bytes → Advances machine machine bytes left
 same_bytes machine bytes left is = record { taken = []; parts = sym is; each = λ rest. refl }
@@ -121,16 +125,21 @@ same_front xs ys left e =
     let len : length xs ≡ length ys = omega (arith, length-append xs left, length-append ys left, ap (λ (t : List ℕ). length t) e) in
     sym (take_at xs left (length ys) len) ∙ ap (take (length ys)) e ∙ take_at ys left (length ys) refl
 
-pub way_behind : (first old : Machine) (partial piece kept left : List ℕ) → kept ≡ [] → Advances first old (partial ++ piece) (kept ++ left) → EndsWith piece left → CanEnd (summary_of_machine old)
+pub way_behind : (first old : Machine) (partial piece kept left : List ℕ) → IsBytes piece → kept ≡ [] → Advances first old (partial ++ piece) (kept ++ left) → EndsWith piece left → CanEnd (summary_of_machine old)
     → CanEnd (λ rest. summary_of_machine first (partial ++ rest))
-way_behind first old partial piece kept left none a ends can =
+way_behind first old partial piece kept left fits none a ends can =
     let front : List ℕ = ends.0 in
     let parts : (partial ++ front) ++ left ≡ a.taken ++ left =
     append_assoc partial front left ∙ ap (λ (t : List ℕ). partial ++ t) (sym ends.1) ∙ a.parts ∙ ap (λ (k : List ℕ). a.taken ++ (k ++ left)) none in
     let taken : partial ++ front ≡ a.taken = same_front (partial ++ front) a.taken left parts in
-    let regroup : (rest : List ℕ) → partial ++ ((front ++ can.0) ++ rest) ≡ a.taken ++ (can.0 ++ rest) = λ rest.
-    ap (λ (t : List ℕ). partial ++ t) (append_assoc front can.0 rest) ∙ sym (append_assoc partial front (can.0 ++ rest)) ∙ ap (λ (t : List ℕ). t ++ (can.0 ++ rest)) taken in
-    (front ++ can.0, can.1, λ rest. ap (summary_of_machine first) (regroup rest) ∙ sym (a.each (can.0 ++ rest)) ∙ can.2 rest)
+    let regroup : (rest : List ℕ) → partial ++ ((front ++ can.bytes) ++ rest) ≡ a.taken ++ (can.bytes ++ rest) = λ rest.
+    ap (λ (t : List ℕ). partial ++ t) (append_assoc front can.bytes rest) ∙ sym (append_assoc partial front (can.bytes ++ rest)) ∙ ap (λ (t : List ℕ). t ++ (can.bytes ++ rest)) taken in
+    record {
+      bytes = front ++ can.bytes;
+      are_bytes = IsBytes-append front can.bytes (IsBytes-before front left piece ends.1 fits) can.are_bytes;
+      found = can.found;
+      each = λ rest. ap (summary_of_machine first) (regroup rest) ∙ sym (a.each (can.bytes ++ rest)) ∙ can.each rest;
+    }
 
 -- The stream.
 
@@ -167,13 +176,13 @@ all_or_settled (Ok left) machine kept none (inl all) = inl all
 all_or_settled (Ok left) machine kept none (inr settled) = inr (settled_with machine kept (none settled) settled)
 all_or_settled (Err e) machine kept none all = tt
 
-no_way : (f : Reader Summary) → CanEnd f → ((more : List ℕ) → f more ≡ None) → ⊥
+no_way : (f : Reader Summary) → CanEnd f → ((more : List ℕ) → IsBytes more → f more ≡ None) → ⊥
 no_way f can none =
-    let found : Summary × List ℕ = (can.1, []) in
-    let stuck : None ≡ Some found = sym (none (can.0 ++ [])) ∙ can.2 [] in
+    let found : Summary × List ℕ = (can.found, []) in
+    let stuck : None ≡ Some found = sym (none can.bytes can.are_bytes) ∙ ap f (sym (append-nil can.bytes)) ∙ can.each [] in
     absurd cc
 
-pub dead_is_ok : {T : Type 0} (r : Result T AllocError) (f : Reader Summary) → (IsErr r → CanEnd f) → ((more : List ℕ) → f more ≡ None) → IsOk r
+pub dead_is_ok : {T : Type 0} (r : Result T AllocError) (f : Reader Summary) → (IsErr r → CanEnd f) → ((more : List ℕ) → IsBytes more → f more ≡ None) → IsOk r
 dead_is_ok (Ok done) f way none = refl
 dead_is_ok (Err e) f way none = absurd (no_way f (way refl) none)
 

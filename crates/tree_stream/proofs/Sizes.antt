@@ -40,25 +40,25 @@ either most true size other is_size is_other = is_size
 either most false size other is_size is_other = is_other
 
 -- a byte, and so many more as it says
-abbrev tagged : (ℕ → List ℕ → ℕ) → List ℕ → ℕ
-tagged behind [] = 1
-tagged behind (byte ∷ bytes) = suc (behind byte bytes)
+abbrev size_behind_tag : (ℕ → List ℕ → ℕ) → List ℕ → ℕ
+size_behind_tag behind [] = 1
+size_behind_tag behind (byte ∷ bytes) = suc (behind byte bytes)
 
-tagged_front : (most : ℕ) (behind : ℕ → List ℕ → ℕ) → ((byte : ℕ) → IsSmallSize most (behind byte)) → (bytes : List ℕ) → tagged behind bytes ≤ length bytes
-    → tagged behind (take (tagged behind bytes) bytes) ≡ tagged behind bytes
+tagged_front : (most : ℕ) (behind : ℕ → List ℕ → ℕ) → ((byte : ℕ) → IsSmallSize most (behind byte)) → (bytes : List ℕ) → size_behind_tag behind bytes ≤ length bytes
+    → size_behind_tag behind (take (size_behind_tag behind bytes) bytes) ≡ size_behind_tag behind bytes
 tagged_front most behind is [] le = absurd (omega (arith, le))
 tagged_front most behind is (byte ∷ bytes) le = ap (λ (n : ℕ). suc n) ((is byte).is_size.front bytes (omega (arith, le)))
 
-tagged_grows : (most : ℕ) (behind : ℕ → List ℕ → ℕ) → ((byte : ℕ) → IsSmallSize most (behind byte)) → (bytes more : List ℕ) → tagged behind bytes ≤ tagged behind (bytes ++ more)
+tagged_grows : (most : ℕ) (behind : ℕ → List ℕ → ℕ) → ((byte : ℕ) → IsSmallSize most (behind byte)) → (bytes more : List ℕ) → size_behind_tag behind bytes ≤ size_behind_tag behind (bytes ++ more)
 tagged_grows most behind is [] [] = omega arith
 tagged_grows most behind is [] (byte ∷ more) = omega arith
 tagged_grows most behind is (byte ∷ bytes) more = omega (arith, (is byte).is_size.grows bytes more)
 
-tagged_small : (most : ℕ) (behind : ℕ → List ℕ → ℕ) → ((byte : ℕ) → IsSmallSize most (behind byte)) → (bytes : List ℕ) → tagged behind bytes ≤ suc most
+tagged_small : (most : ℕ) (behind : ℕ → List ℕ → ℕ) → ((byte : ℕ) → IsSmallSize most (behind byte)) → (bytes : List ℕ) → size_behind_tag behind bytes ≤ suc most
 tagged_small most behind is [] = omega arith
 tagged_small most behind is (byte ∷ bytes) = omega (arith, (is byte).small bytes)
 
-tagged_size : (most : ℕ) (behind : ℕ → List ℕ → ℕ) → ((byte : ℕ) → IsSmallSize most (behind byte)) → IsSmallSize (suc most) (tagged behind)
+tagged_size : (most : ℕ) (behind : ℕ → List ℕ → ℕ) → ((byte : ℕ) → IsSmallSize most (behind byte)) → IsSmallSize (suc most) (size_behind_tag behind)
 tagged_size most behind is = record {
   is_size = record { front = tagged_front most behind is; grows = tagged_grows most behind is };
   small = tagged_small most behind is;
@@ -128,14 +128,14 @@ node_by false false false = refl
 abbrev behind_node : ℕ → List ℕ → ℕ
 behind_node byte bytes = cond (eqb byte 0) 32 (cond (eqb byte 1) 1 (cond (eqb byte 2) 1 0))
 
-node_same : (bytes : List ℕ) → node_size bytes ≡ tagged behind_node bytes
+node_same : (bytes : List ℕ) → node_size bytes ≡ size_behind_tag behind_node bytes
 unfolding node_size
 node_same [] = refl
 node_same (byte ∷ bytes) = node_by (eqb byte 0) (eqb byte 1) (eqb byte 2)
 
 nodes : IsSmallSize 1028 node_size
 nodes =
-    same_size 1028 node_size (tagged behind_node) (tagged_size 1027 behind_node
+    same_size 1028 node_size (size_behind_tag behind_node) (tagged_size 1027 behind_node
     (λ byte. either 1027 (eqb byte 0) (λ bytes. 32) (λ bytes. cond (eqb byte 1) 1 (cond (eqb byte 2) 1 0)) (fixed 1027 32 (omega arith))
     (either 1027 (eqb byte 1) (λ bytes. 1) (λ bytes. cond (eqb byte 2) 1 0) (fixed 1027 1 (omega arith))
     (either 1027 (eqb byte 2) (λ bytes. 1) (λ bytes. 0) (fixed 1027 1 (omega arith)) (fixed 1027 0 (omega arith)))))) node_same
@@ -148,14 +148,14 @@ row_by false false = refl
 abbrev behind_row : ℕ → List ℕ → ℕ
 behind_row byte bytes = cond (eqb byte 0) 32 (cond (eqb byte 1) 1 0)
 
-row_same : (bytes : List ℕ) → row_size bytes ≡ tagged behind_row bytes
+row_same : (bytes : List ℕ) → row_size bytes ≡ size_behind_tag behind_row bytes
 unfolding row_size
 row_same [] = refl
 row_same (byte ∷ bytes) = row_by (eqb byte 0) (eqb byte 1)
 
 rows : IsSmallSize 1028 row_size
 rows =
-    same_size 1028 row_size (tagged behind_row) (tagged_size 1027 behind_row
+    same_size 1028 row_size (size_behind_tag behind_row) (tagged_size 1027 behind_row
     (λ byte. either 1027 (eqb byte 0) (λ bytes. 32) (λ bytes. cond (eqb byte 1) 1 0) (fixed 1027 32 (omega arith))
     (either 1027 (eqb byte 1) (λ bytes. 1) (λ bytes. 0) (fixed 1027 1 (omega arith)) (fixed 1027 0 (omega arith))))) row_same
 
@@ -168,14 +168,14 @@ value_by false false false n = refl
 abbrev behind_value : ℕ → List ℕ → ℕ
 behind_value byte bytes = cond (eqb byte 1) 8 (cond (eqb byte 2) (string_size max_text bytes) (cond (eqb byte 3) 1 0))
 
-value_same : (bytes : List ℕ) → value_size bytes ≡ tagged behind_value bytes
+value_same : (bytes : List ℕ) → value_size bytes ≡ size_behind_tag behind_value bytes
 unfolding value_size
 value_same [] = refl
 value_same (byte ∷ bytes) = value_by (eqb byte 1) (eqb byte 2) (eqb byte 3) (string_size max_text bytes)
 
 values : IsSmallSize 1027 value_size
 values =
-    same_size 1027 value_size (tagged behind_value) (tagged_size 1026 behind_value
+    same_size 1027 value_size (size_behind_tag behind_value) (tagged_size 1026 behind_value
     (λ byte. either 1026 (eqb byte 1) (λ bytes. 8) (λ bytes. cond (eqb byte 2) (string_size max_text bytes) (cond (eqb byte 3) 1 0)) (fixed 1026 8 (omega arith))
     (either 1026 (eqb byte 2) (string_size max_text) (λ bytes. cond (eqb byte 3) 1 0) (strings max_text)
     (either 1026 (eqb byte 3) (λ bytes. 1) (λ bytes. 0) (fixed 1026 1 (omega arith)) (fixed 1026 0 (omega arith)))))) value_same
@@ -188,14 +188,14 @@ cell_by false false n = refl
 abbrev behind_cell : ℕ → List ℕ → ℕ
 behind_cell byte bytes = cond (eqb byte 0) 32 (cond (eqb byte 1) (value_size bytes) 0)
 
-cell_same : (bytes : List ℕ) → cell_size bytes ≡ tagged behind_cell bytes
+cell_same : (bytes : List ℕ) → cell_size bytes ≡ size_behind_tag behind_cell bytes
 unfolding cell_size
 cell_same [] = refl
 cell_same (byte ∷ bytes) = cell_by (eqb byte 0) (eqb byte 1) (value_size bytes)
 
 cells : IsSmallSize 1028 cell_size
 cells =
-    same_size 1028 cell_size (tagged behind_cell) (tagged_size 1027 behind_cell
+    same_size 1028 cell_size (size_behind_tag behind_cell) (tagged_size 1027 behind_cell
     (λ byte. either 1027 (eqb byte 0) (λ bytes. 32) (λ bytes. cond (eqb byte 1) (value_size bytes) 0) (fixed 1027 32 (omega arith))
     (either 1027 (eqb byte 1) value_size (λ bytes. 0) values (fixed 1027 0 (omega arith))))) cell_same
 

@@ -2,6 +2,7 @@
 -- behind it.
 use Rattle.std.specs.Prelude.{◌≡◌, ℕ, Bool, true, false, IsTrue, ◌-◌, not, List, [], ◌∷◌, ◌++◌, length, reverse, Option, Some, None}
 use Rattle.tree_stream.specs.declared.target.Target.{Target}
+use Rattle.vo_spec.specs.Bytes.{IsBytes}
 use Rattle.vo_spec.specs.Scans.{in_interval, is_empty_interval}
 use Rattle.vo_spec.specs.Fits.{max_levels}
 use Rattle.row_bytes.specs.Fields.{◌>>=◌}
@@ -69,9 +70,11 @@ pub record Yields (context : Context) (state : State) (summaries : Reader Summar
   pub each : (rest : List ℕ) → summary_from context state rest ≡ summaries rest
 
 -- some bytes make a tree of it, whatever comes behind them
-abbrev pub CanEnd : Reader Summary → Type 0
-CanEnd summaries = (bytes : List ℕ) × (found : Summary)
-    × ((rest : List ℕ) → summaries (bytes ++ rest) ≡ Some (found, rest))
+pub record CanEnd (summaries : Reader Summary) : Type 0 where
+  pub bytes : List ℕ
+  pub are_bytes : IsBytes bytes
+  pub found : Summary
+  pub each : (rest : List ℕ) → summaries (bytes ++ rest) ≡ Some (found, rest)
 
 -- The next byte is of an entry behind its key, which is in the target's interval: there a call may
 -- want memory.

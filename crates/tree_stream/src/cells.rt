@@ -1,5 +1,5 @@
 //! The cells of a row that stands as cells.
-ghost use Rattle.std.specs.Prelude.{◌≡◌, ◌++◌, suc, length, IsTrue, IfOk, IsErr};
+ghost use Rattle.std.specs.Prelude.{◌≡◌, ◌<◌, ◌++◌, suc, length, IsTrue, IfOk, IsErr, OnOk};
 ghost use Rattle.vo_spec.specs.Cells.{cell_digest};
 ghost use Rattle.vo_spec.specs.Fits.{FitsCell, max_cells};
 ghost use Rattle.vo_spec.specs.TreeBytes.{cell_form};
@@ -82,4 +82,32 @@ fn add_whole_cell(
     hash_cell(&mut hasher, column, cell, token);
     add_cell(alloc, &mut findings, is_named, fits, cell)?;
     next_cell(context, alloc, leaf, hasher, column + 1, findings, left)
+}
+
+/// Takes a cell behind which its row has others, and leaves the row where it stands. What is known
+/// of the row after an error is open.
+pub(crate) fn pass_cell(
+    context: &Context,
+    alloc: Global,
+    row: &mut OpenRow,
+    cell: &Cell<'_>,
+    token: &[u8],
+) -> Result<(), AllocError>
+    requires encoded { token.now ≡ cell_form cell.now }
+    requires fits { FitsCell cell.now }
+    requires some { 0 < row.old.left }
+    ensures ok { OnOk result (Yields context.now (State.Cell row.new) (λ rest.
+        summary_by context.now (rest_of_cells context.now.target row.old.leaf.hasher
+        context.now.last_key.items row.old.leaf.left row.old.hasher row.old.column
+        row.old.findings (suc row.old.left)) (token.now ++ rest))) }
+    ensures memory { IsErr result → IsTrue (is_needed_row context.now) }
+{
+    let named = columns_at(&context.target, context.last_key.as_slice());
+    let is_named = has_column(named, row.column);
+    let fits = fits_kind(context.target.cell_kinds.as_slice(), row.column, cell);
+    hash_cell(&mut row.hasher, row.column, cell, token);
+    add_cell(alloc, &mut row.findings, is_named, fits, cell)?;
+    row.column += 1;
+    row.left -= 1;
+    Ok(())
 }

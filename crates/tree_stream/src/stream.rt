@@ -1,5 +1,6 @@
 //! A tree whose bytes come in pieces.
 ghost use Rattle.std.specs.Prelude.{◌≡◌, ◌⊎◌, ◌<◌, ◌++◌, ℕ, List, [], None, length, option_map, IsTrue, IsErr, IsOk, IfOk, OnErr};
+ghost use Rattle.vo_spec.specs.Bytes.{IsBytes};
 ghost use Rattle.tree_stream.specs.Summaries.{CanEnd, complete_digest as digest_where_complete, is_settled, summary_of_tree};
 ghost use Rattle.tree_stream.specs.Tokens.{token_size};
 
@@ -64,7 +65,8 @@ impl TreeStream {
 
         // Memory runs out only while the bytes so far can still become a tree.
         ensures way { IsErr result → CanEnd (summary_of self.old) }
-        ensures dead { ((more : List ℕ) → summary_of self.old more ≡ None) → IsOk result }
+        ensures dead { ((more : List ℕ) → IsBytes more → summary_of self.old more ≡ None)
+            → IsOk result }
 
         // It runs out only at a byte of the piece that is of a row whose key is in the interval.
         ensures memory { IsErr result → WantsMemory self.old piece.now }

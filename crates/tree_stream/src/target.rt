@@ -36,7 +36,7 @@ impl Target {
     }
 
     /// No rows, in a tree of any table. It takes no memory.
-    pub fn nothing(alloc: Global) -> Target
+    pub fn of_no_rows(alloc: Global) -> Target
         ensures { result ≡ no_target }
     {
         Target {

@@ -87,7 +87,7 @@ fn assert_found(rt: &impl Abort, alloc: Global, size: usize) -> Result<(), Fail>
     let row = summary.findings.rows.get(0).ok_or("no row")?;
     assert_eq!(rt; row.key.as_bytes(), b"x".as_slice());
     assert!(rt;
-        matches!(row.values.get(0), Some(Value::Text(text)) if text.as_bytes() == b"four".as_slice())
+        matches!(row.values.get(0), Some(Value::Text(t)) if t.as_bytes() == b"four".as_slice())
     );
     Ok(())
 }
@@ -120,10 +120,10 @@ fn sees_a_cell_of_another_kind(rt: HostRuntime) -> Result<(), Fail> {
 #[test]
 fn finds_no_tree_in_a_part(rt: HostRuntime) -> Result<(), Fail> {
     assert!(rt;
-        summary_in_pieces(rt.alloc(), Target::nothing(rt.alloc()), &PROOF[..154], 7)?.is_none()
+        summary_in_pieces(rt.alloc(), Target::of_no_rows(rt.alloc()), &PROOF[..154], 7)?.is_none()
     );
     assert!(rt;
-        summary_in_pieces(rt.alloc(), Target::nothing(rt.alloc()), &PROOF[1..], 7)?.is_none()
+        summary_in_pieces(rt.alloc(), Target::of_no_rows(rt.alloc()), &PROOF[1..], 7)?.is_none()
     );
     Ok(())
 }
@@ -144,7 +144,7 @@ fn nested_nodes(alloc: Global, count: usize) -> Result<Vec<u8>, AllocError> {
 fn nested_summary(alloc: Global, count: usize) -> Result<Option<Summary>, AllocError> {
     summary_in_pieces(
         alloc,
-        Target::nothing(alloc),
+        Target::of_no_rows(alloc),
         &nested_nodes(alloc, count)?,
         7,
     )

@@ -1,9 +1,11 @@
 use Rattle.std.proofs.Common.{List, ℕ, ◌≡◌, ◌≤◌, ◌<◌, ◌+◌, ◌++◌, length, refl, subst, sym, ap, ◌∙◌, arith}
 use Rattle.std.proofs.lemmas.List.{length-append}
 use Rattle.std.specs.Prelude.{IfOk}
+use Rattle.vo_spec.specs.Bytes.{IsBytes}
 use Rattle.tree_stream.specs.Machines.{Advances, StopsInRow, summary_of_machine}
 use Rattle.tree_stream.specs.Summaries.{CanEnd}
 use Rattle.tree_stream.specs.Tokens.{token_size}
+use Rattle.tree_stream.proofs.AllBytes.{IsBytes-before}
 use Rattle.tree_stream.proofs.Sizes.{token_small}
 use Rattle.tree_stream.proofs.PieceLaws.{filled_whole, ok_of, same_bytes, longer_way, filled_is, empty_short, ends_then, size_positive, stops_here}
 use Rattle.tree_stream.proofs.pieces.+fill.Goals as goal
@@ -95,7 +97,8 @@ returns-then-len-token_size-clause-way t c = λ err.
     let size : c.token_size.result ≡ token_size state partial = c.token_size.ensures ∙ ap (token_size state) c.as_slice.ensures.value in
     let fits : length partial + length front ≤ 1028 = omega (arith, size, token_small state partial c.requires.reading, c.split_within.ensures.within, c.len.ensures.value, c.requires.short) in
     let whole : all ≡ partial ++ front = ok_of c.try_extend_from_slice.result (all ≡ partial ++ front) (c.try_extend_from_slice.ensures.variant.1 fits) c.try_extend_from_slice.ensures.ok in
-    longer_way c.args.machine.now partial front all whole (c.fill.ensures.way err)
+    let front_fits : IsBytes front = IsBytes-before front c.split_within.result.1.now c.args.piece.now c.split_within.ensures.parts (λ i. omega (arith, c.type_inv.piece i)) in
+    longer_way c.args.machine.now partial front all front_fits whole (c.fill.ensures.way err)
 
 pub returns-in-Err-clause-way : goal.returns-in-Err-clause-way
 returns-in-Err-clause-way t c = λ err.
@@ -106,5 +109,6 @@ returns-in-Err-clause-way t c = λ err.
     let size : c.token_size.result ≡ token_size state partial = c.token_size.ensures ∙ ap (token_size state) c.as_slice.ensures.value in
     let fits : length partial + length front ≤ 1028 = omega (arith, size, token_small state partial c.requires.reading, c.split_within.ensures.within, c.len.ensures.value, c.requires.short) in
     let whole : all ≡ partial ++ front = ok_of c.try_extend_from_slice.result (all ≡ partial ++ front) (c.try_extend_from_slice.ensures.variant.1 fits) c.try_extend_from_slice.ensures.ok in
+    let front_fits : IsBytes front = IsBytes-before front c.split_within.result.1.now c.args.piece.now c.split_within.ensures.parts (λ i. omega (arith, c.type_inv.piece i)) in
     let P : List ℕ → Type 0 = λ token. CanEnd (λ rest. summary_of_machine c.args.machine.now (token ++ rest)) in
-    longer_way c.args.machine.now partial front all whole (subst P c.as_slice-3.ensures.value (c.in-Err.ensures.way refl))
+    longer_way c.args.machine.now partial front all front_fits whole (subst P c.as_slice-3.ensures.value (c.in-Err.ensures.way refl))

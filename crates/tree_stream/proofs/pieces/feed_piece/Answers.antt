@@ -1,4 +1,4 @@
-use Rattle.std.proofs.Common.{◌++◌, refl, sym, ◌∙◌}
+use Rattle.std.proofs.Common.{◌++◌, refl, sym, ◌∙◌, arith}
 use Rattle.tree_stream.proofs.PieceLaws.{same_bytes, ok_advances, left_is_taken, way_behind, stops_later, no_length}
 use Rattle.tree_stream.proofs.pieces.feed_piece.Goals as goal
 
@@ -15,7 +15,7 @@ returns-then-is_empty-2-clause-ok c =
 
 pub returns-then-is_empty-2-clause-way : goal.returns-then-is_empty-2-clause-way
 returns-then-is_empty-2-clause-way c = λ err.
-    way_behind c.args.machine.now c.fill.new.machine c.args.partial.now.items c.args.piece.now c.fill.new.partial.items c.in_ok-left.left.now
+    way_behind c.args.machine.now c.fill.new.machine c.args.partial.now.items c.args.piece.now c.fill.new.partial.items c.in_ok-left.left.now (λ i. omega (arith, c.type_inv.piece i))
     (no_length c.fill.new.partial.items (sym c.is_empty-2.ensures ∙ c.if-is_empty-2.true)) c.in_ok-left.ensures.ok c.in_ok-left.ensures.behind (c.feed_whole-then-is_empty-2.ensures.way err)
 
 pub returns-then-is_empty-2-clause-memory : goal.returns-then-is_empty-2-clause-memory

@@ -1,7 +1,11 @@
-use Rattle.std.proofs.Common.{List, ℕ, ◌<◌, ◌≡◌, ◌++◌, length, drop, refl, sym, ap, ◌∙◌, arith}
+use Rattle.std.proofs.Common.{List, ℕ, ◌<◌, ◌≡◌, ◌++◌, length, take, drop, refl, sym, ap, ◌∙◌, arith}
 use Rattle.std.proofs.lemmas.List.{take-append-drop, length-drop}
 use Rattle.tree_stream.proofs.PieceLaws.{size_positive, token_whole, goes_on, goes_back, stops_here}
 use Rattle.tree_stream.proofs.pieces.take_all.Goals as goal
+
+split_is : (size : ℕ) (left token behind : List ℕ) → token ≡ take size left → behind ≡ drop size left → left ≡ token ++ behind
+split_is size left token behind front back =
+    sym (take-append-drop size left) ∙ ap (λ (t : List ℕ). t ++ drop size left) (sym front) ∙ ap (λ (t : List ℕ). token ++ t) (sym back)
 
 pub take-requires : goal.take-requires
 take-requires c =
@@ -17,10 +21,7 @@ pub tokens-preserved : goal.tokens-preserved
 tokens-preserved c =
     let left = c.tokens.left.now in
     let token = c.split_at.result.0.now in
-    let parts : left ≡ token ++ c.split_at.result.1.now =
-    sym (take-append-drop c.tokens.size left)
-    ∙ ap (λ (t : List ℕ). t ++ drop c.tokens.size left) (sym c.split_at.ensures.front)
-    ∙ ap (λ (t : List ℕ). token ++ t) (sym c.split_at.ensures.back) in
+    let parts : left ≡ token ++ c.split_at.result.1.now = split_is c.tokens.size left token c.split_at.result.1.now c.split_at.ensures.front c.split_at.ensures.back in
     record {
       is_size = c.token_size-size-in-tokens.ensures;
       advances = goes_on c.args.machine.now c.tokens.machine c.take.new.machine c.args.bytes.now left token c.split_at.result.1.now c.tokens.invariant.advances c.in_ok-take.ensures.ok parts;
@@ -34,4 +35,8 @@ returns-in_err-take-clause-memory c = λ err.
 
 pub returns-in_err-take-clause-way : goal.returns-in_err-take-clause-way
 returns-in_err-take-clause-way c = λ err.
-    goes_back c.args.machine.now c.tokens.machine c.args.bytes.now c.tokens.left.now c.split_at.result.0.now c.tokens.invariant.advances (c.in_err-take.ensures.way refl)
+    let left = c.tokens.left.now in
+    let token = c.split_at.result.0.now in
+    let behind = c.split_at.result.1.now in
+    let parts : left ≡ token ++ behind = split_is c.tokens.size left token behind c.split_at.ensures.front c.split_at.ensures.back in
+    goes_back c.args.machine.now c.tokens.machine c.args.bytes.now left token behind (λ i. omega (arith, c.type_inv.bytes i)) c.tokens.invariant.advances parts (c.in_err-take.ensures.way refl)
