@@ -5,5 +5,4 @@ pub mod HeadPieces
 pub mod EndedTrees
 pub mod TreesLaws
 pub mod TreesPieces
-pub mod SameReaders
 pub mod PartLaws

@@ -12,7 +12,7 @@ use Rattle.row_bytes.specs.Fields.{◌>>=◌, word_at, times, whole}
 use Rattle.batch_format.proofs.ReaderLaws.{some_is}
 use Rattle.version_record.specs.Reading.{record_at}
 use Rattle.version_record.proofs.RecordLaws.{whole_is}
-use Rattle.vo_format.specs.Reading.{tree_at as reply_tree_at, signature_at, catalog_block_at, counted_trees_at, plain_reply, reply_at}
+use Rattle.vo_format.specs.Reading.{signature_at, catalog_block_at, counted_trees_at, plain_reply, reply_at}
 use Rattle.vo_format.proofs.ReplyLaws.{reply_found, reply_again}
 use Rattle.tree_readers.specs.TreeReading.{tree_at}
 use Rattle.tree_stream.specs.declared.target.Target.{Target}
@@ -22,7 +22,6 @@ use Rattle.reply_stream.specs.declared.trees_summary.TreesSummary.{TreesSummary}
 use Rattle.reply_stream.specs.Heads.{head, front_at, head_at}
 use Rattle.reply_stream.specs.ReplyTrees.{trees_summary, trees_at}
 use Rattle.reply_stream.specs.ReplyParts.{Parts, reply_parts, parts_of}
-use Rattle.reply_stream.proofs.SameReaders.{trees_same}
 
 abbrev Trees : Type 0
 Trees = List RowTree × List ℕ
@@ -32,10 +31,7 @@ Summed target ps = Some (trees_summary target ps.0, ps.1)
 
 trees_are : (target : Target) (bytes : List ℕ) → trees_at target bytes ≡ (counted_trees_at bytes >>= Summed target)
 unfolding trees_at counted_trees_at
-trees_are target bytes =
-    sym (bind_assoc (byte_at bytes) (λ count. times (reply_tree_at max_levels) count.0 count.1) (Summed target)
-    ∙ bind_same (byte_at bytes) (λ count. times (reply_tree_at max_levels) count.0 count.1 >>= Summed target) (λ count. times (tree_at max_levels) count.0 count.1 >>= Summed target)
-    (λ count. ap (λ (o : Option Trees). o >>= Summed target) (trees_same max_levels count.0 count.1)))
+trees_are target bytes = sym (bind_assoc (byte_at bytes) (λ count. times (tree_at max_levels) count.0 count.1) (Summed target))
 
 -- the reply behind its head
 abbrev reply_of : ReplyHead → Trees → Option (Reply × List ℕ)

@@ -13,11 +13,12 @@ use Rattle.tree_stream.specs.declared.findings.Summary.{Summary}
 use Rattle.tree_stream.specs.declared.stream.TreeStream.{TreeStream}
 use Rattle.tree_stream.specs.Summaries.{CanEnd as CanEndTree, summary_of_tree}
 use Rattle.tree_stream.specs.Streams.{summary_of}
+use Rattle.tree_stream.proofs.AllBytes.{IsBytes-cons}
 use Rattle.reply_stream.specs.declared.trees_summary.TreesSummary.{TreesSummary}
 use Rattle.reply_stream.specs.declared.trees_state.OpenTree.{OpenTree}
 use Rattle.reply_stream.specs.declared.trees_state.TreesState.{TreesState}
 use Rattle.reply_stream.specs.declared.trees_state.TreesState.TheVariants.{Count, Tree, Invalid}
-use Rattle.reply_stream.specs.ReplyTrees.{counted, kept_first, trees_at, rest_of_open, rest_of_trees, GoesOn, CanBecomeTrees}
+use Rattle.reply_stream.specs.ReplyTrees.{count_and_first, kept_first, trees_at, rest_of_open, rest_of_trees, GoesOn, CanBecomeTrees}
 use Rattle.reply_stream.proofs.TreesLaws.{first_tree, no_trees, tree_way}
 
 -- bytes behind what was read
@@ -43,7 +44,7 @@ pub fed : (old new : OpenTree) (piece left : List ℕ) → ((more : List ℕ) �
 unfolding rest_of_open
 fed old new piece left ok same_count same_left same_first more =
     let behind : ℕ → ℕ → Option Summary → Summary × List ℕ → Option (TreesSummary × List ℕ) = λ count n first end.
-    one (λ (trees : List RowTree). counted count (Some (kept_first first end.0))) (times (tree_at max_levels) n) end.1 in
+    one (λ (trees : List RowTree). count_and_first count (Some (kept_first first end.0))) (times (tree_at max_levels) n) end.1 in
     ap (λ (o : Option (Summary × List ℕ)). o >>= behind new.count new.left new.first) (ok more)
     ∙ ap (λ (k : ℕ). summary_of old.stream (piece ++ more) >>= behind k new.left new.first) same_count
     ∙ ap (λ (k : ℕ). summary_of old.stream (piece ++ more) >>= behind old.count k new.first) same_left
@@ -74,26 +75,44 @@ at_tree : (tree : OpenTree) (bytes : List ℕ) → whole (rest_of_open tree byte
 unfolding rest_of_trees
 at_tree tree bytes = refl
 
+-- Where the tree stands.
+
+pub goes_in_place : (b : Bool) (old : TreesState) (tree new : OpenTree) (bytes : List ℕ) → old ≡ Tree tree → b ≡ true → GoesOn (Ok b) tree new bytes
+    → (more : List ℕ) → rest_of_trees (Tree new) more ≡ rest_of_trees old (bytes ++ more)
+goes_in_place b old tree new bytes is does on more =
+    goes_true b tree new bytes does on more ∙ at_tree tree (bytes ++ more) ∙ sym (ap (λ (s : TreesState). rest_of_trees s (bytes ++ more)) is)
+
+pub lost_in_place : (b : Bool) (old : TreesState) (tree new : OpenTree) (bytes : List ℕ) → old ≡ Tree tree → b ≡ false → GoesOn (Ok b) tree new bytes
+    → (more : List ℕ) → rest_of_trees old (bytes ++ more) ≡ None
+unfolding rest_of_trees
+lost_in_place b old tree new bytes is not on more =
+    ap (λ (s : TreesState). rest_of_trees s (bytes ++ more)) is ∙ sym (at_tree tree (bytes ++ more)) ∙ sym (goes_false b tree new bytes not on more)
+
 -- The count.
 
-pub counted_first : (target : Target) (count : ℕ) (tree : OpenTree) (bytes : List ℕ) → ((rest : List ℕ) → summary_of tree.stream rest ≡ summary_of_tree target rest)
+pub count_and_first_one : (target : Target) (count : ℕ) (tree : OpenTree) (bytes : List ℕ) → ((rest : List ℕ) → summary_of tree.stream rest ≡ summary_of_tree target rest)
     → count ≡ suc tree.left → tree.count ≡ count → tree.first ≡ None → whole (rest_of_open tree bytes) ≡ rest_of_trees (Count target) (count ∷ bytes)
 unfolding rest_of_trees
-counted_first target count tree bytes same is_count is_same none =
+count_and_first_one target count tree bytes same is_count is_same none =
     ap whole (first_tree target tree.left tree bytes same (is_same ∙ is_count) refl none)
     ∙ ap (λ (n : ℕ). whole (trees_at target (n ∷ bytes))) (sym is_count)
 
-pub counted_none : (target : Target) (count : ℕ) (bytes : List ℕ) → count ≡ 0 → whole (let end : Option (TreesSummary × List ℕ) = Some (counted 0 None, bytes) in end) ≡ rest_of_trees (Count target) (count ∷ bytes)
+pub count_and_first_none : (target : Target) (count : ℕ) (bytes : List ℕ) → count ≡ 0 → whole (let end : Option (TreesSummary × List ℕ) = Some (count_and_first 0 None, bytes) in end) ≡ rest_of_trees (Count target) (count ∷ bytes)
 unfolding rest_of_trees
-counted_none target count bytes none =
+count_and_first_none target count bytes none =
     ap whole (sym (no_trees target bytes)) ∙ ap (λ (n : ℕ). whole (trees_at target (n ∷ bytes))) (sym none)
 
 pub count_way : (target : Target) (count : ℕ) (stream : TreeStream) → ((rest : List ℕ) → summary_of stream rest ≡ summary_of_tree target rest)
-    → 0 < count → CanEndTree (summary_of stream) → CanBecomeTrees (Count target)
-count_way target count stream same some can =
+    → 0 < count → count < 256 → CanEndTree (summary_of stream) → CanBecomeTrees (Count target)
+count_way target count stream same some below can =
     let tree : OpenTree = record { stream = stream; count = count; left = count - 1; first = None; later = λ later. absurd (false≢true later) } in
     let way = tree_way tree can in
-    (count ∷ way.0, way.1, sym (counted_first target count tree way.0 same (omega (arith, some)) refl refl) ∙ at_tree tree way.0 ∙ way.2)
+    record {
+      bytes = count ∷ way.bytes;
+      are_bytes = IsBytes-cons count way.bytes below way.are_bytes;
+      found = way.found;
+      is = sym (count_and_first_one target count tree way.bytes same (omega (arith, some)) refl refl) ∙ at_tree tree way.bytes ∙ way.is;
+    }
 
 -- States.
 

@@ -1,6 +1,7 @@
 -- What reading gives of the trees of a reply: how many there are, and what is found in the first.
 use Rattle.std.specs.Prelude.{◌≡◌, ℕ, Bool, true, false, List, [], ◌∷◌, ◌++◌, length, Option, Some, None, Result, Ok, Err}
 use Rattle.std.specs.declared.alloc.AllocError.{AllocError}
+use Rattle.vo_spec.specs.Bytes.{IsBytes}
 use Rattle.vo_spec.specs.Fits.{max_levels}
 use Rattle.vo_spec.specs.Trees.{RowTree, digest}
 use Rattle.row_bytes.specs.Reading.{byte_at}
@@ -19,15 +20,15 @@ use Rattle.reply_stream.specs.declared.trees_state.OpenTree.{OpenTree}
 use Rattle.reply_stream.specs.declared.trees_state.TreesState.{TreesState}
 use Rattle.reply_stream.specs.declared.trees_state.TreesState.TheVariants.{Count, Empty, Tree, Invalid}
 
-abbrev pub counted : ℕ → Option Summary → TreesSummary
-counted count first = record { count = count; first = first }
+abbrev pub count_and_first : ℕ → Option Summary → TreesSummary
+count_and_first count first = record { count = count; first = first }
 
 abbrev pub first_summary : Target → List RowTree → Option Summary
 first_summary target [] = None
 first_summary target (tree ∷ trees) = Some (summary (digest tree) (findings_in target tree))
 
 abbrev pub trees_summary : Target → List RowTree → TreesSummary
-trees_summary target trees = counted (length trees) (first_summary target trees)
+trees_summary target trees = count_and_first (length trees) (first_summary target trees)
 
 -- trees behind a byte that says how many there are
 unfoldable pub trees_at : Target → Reader TreesSummary
@@ -43,16 +44,21 @@ kept_first (Some first) found = first
 
 unfoldable pub rest_of_open : OpenTree → Reader TreesSummary
 rest_of_open tree bytes = summary_of tree.stream bytes >>= λ end.
-    one (λ (trees : List RowTree). counted tree.count (Some (kept_first tree.first end.0)))
+    one (λ (trees : List RowTree). count_and_first tree.count (Some (kept_first tree.first end.0)))
     (times (tree_at max_levels) tree.left) end.1
 
 unfoldable pub rest_of_trees : TreesState → List ℕ → Option TreesSummary
 rest_of_trees (Count target) bytes = whole (trees_at target bytes)
-rest_of_trees Empty bytes = whole (Some (counted 0 None, bytes))
+rest_of_trees Empty bytes = whole (Some (count_and_first 0 None, bytes))
 rest_of_trees (Tree tree) bytes = whole (rest_of_open tree bytes)
 rest_of_trees Invalid bytes = None
 
 -- Calls.
+
+-- the byte that says how many trees there are didn't come yet
+abbrev pub awaits_count : TreesState → Bool
+awaits_count (Count target) = true
+awaits_count _ = false
 
 -- the bytes were taken, or are no trees whatever comes behind them
 abbrev pub GoesOn : Result Bool AllocError → OpenTree → OpenTree → List ℕ → Type 0
@@ -63,9 +69,11 @@ GoesOn (Ok false) old new bytes =
 GoesOn (Err error) old new bytes = Unit {0}
 
 -- some bytes make trees of it
-abbrev pub CanBecomeTrees : TreesState → Type 0
-CanBecomeTrees state =
-    (bytes : List ℕ) × (found : TreesSummary) × (rest_of_trees state bytes ≡ Some found)
+pub record CanBecomeTrees (state : TreesState) : Type 0 where
+  pub bytes : List ℕ
+  pub are_bytes : IsBytes bytes
+  pub found : TreesSummary
+  pub is : rest_of_trees state bytes ≡ Some found
 
 -- some byte of the piece is of a row of the first tree whose key is in the target's interval
 abbrev pub WantsRow : TreesState → List ℕ → Type 0

@@ -53,7 +53,7 @@ fn need(alloc: Global) -> Result<Need, AllocError> {
 fn target(alloc: Global, head: &Head) -> Result<Target, AllocError> {
     match head.catalog().tables.get(0) {
         Some(table) => Target::new(alloc, need(alloc)?, &table.schema),
-        None => Ok(Target::nothing(alloc)),
+        None => Ok(Target::of_no_rows(alloc)),
     }
 }
 

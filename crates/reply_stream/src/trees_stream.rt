@@ -1,10 +1,11 @@
 //! The trees of a reply, whose bytes come in pieces behind the catalog's last byte.
-ghost use Rattle.std.specs.Prelude.{◌≡◌, ◌⊎◌, ◌<◌, ◌++◌, ◌≢◌, ◌∷◌, ℕ, List, [], Some, None, true, false, nat_lt, if◌then◌else◌, IsErr, IsOk, IfOk, OnOk, OnErr};
+ghost use Rattle.std.specs.Prelude.{◌≡◌, ◌<◌, ◌++◌, ◌≢◌, ◌∷◌, ℕ, List, [], Some, None, Ok, true, false, nat_lt, if◌then◌else◌, IsErr, IsOk, IfOk, OnOk, OnErr};
+ghost use Rattle.vo_spec.specs.Bytes.{IsBytes};
 ghost use Rattle.row_bytes.specs.Fields.{whole};
 ghost use Rattle.tree_stream.specs.Findings.{no_target};
 ghost use Rattle.tree_stream.specs.Summaries.{CanEnd as CanEndTree};
 ghost use Rattle.tree_stream.specs.Streams.{IsSettled, WantsMemory as TreeWantsMemory, summary_of, target_in};
-ghost use Rattle.reply_stream.specs.ReplyTrees.{CanBecomeTrees, GoesOn, WantsRow, counted, kept_first, rest_of_open, rest_of_trees, trees_at};
+ghost use Rattle.reply_stream.specs.ReplyTrees.{CanBecomeTrees, GoesOn, WantsRow, awaits_count, count_and_first, kept_first, rest_of_open, rest_of_trees, trees_at};
 
 use crate::trees_state::{OpenTree, TreesState};
 use crate::trees_summary::TreesSummary;
@@ -41,15 +42,43 @@ impl TreesStream {
 
         // Memory runs out only while the bytes so far can still become trees.
         ensures way { IsErr result → CanEnd self.old }
-        ensures dead { ((more : List ℕ) → trees_of self.old more ≡ None) → IsOk result }
+        ensures dead { ((more : List ℕ) → IsBytes more → trees_of self.old more ≡ None)
+            → IsOk result }
 
         // It runs out only at a byte of the piece that is of a row of the first tree whose key is
         // in the target's interval.
         ensures memory { IsErr result → WantsMemory self.old piece.now }
     {
-        let state = mem::replace(&mut self.state, TreesState::Invalid);
-        self.state = feed_state(state, alloc, piece)?;
-        Ok(())
+        match feed_in_place(&mut self.state, alloc, piece) {
+            Ok(Some(true)) => Ok(()),
+            Ok(Some(false)) => {
+                let _ = mem::replace(&mut self.state, TreesState::Invalid);
+                Ok(())
+            },
+            Ok(None) => self.feed_count(alloc, piece),
+            Err(error) => {
+                let _ = mem::replace(&mut self.state, TreesState::Invalid);
+                Err(error)
+            },
+        }
+    }
+
+    /// Takes a piece that the number of trees is awaited of.
+    fn feed_count(&mut self, alloc: Global, piece: &[u8]) -> Result<(), AllocError>
+        requires { awaits_count self.old.state ≡ true }
+        ensures ok { OnOk result ((more : List ℕ)
+            → trees_of self.new more ≡ trees_of self.old (piece.now ++ more)) }
+        ensures err { OnErr result ((more : List ℕ) → trees_of self.new more ≡ None) }
+        ensures way { IsErr result → CanEnd self.old }
+        ensures memory { IsErr result → WantsMemory self.old piece.now }
+    {
+        match mem::replace(&mut self.state, TreesState::Invalid) {
+            TreesState::Count(target) => {
+                self.state = state_behind_count(target, alloc, piece)?;
+                Ok(())
+            },
+            _ => unreachable!(),
+        }
     }
 
     /// How many trees there are and what was found in the first one, where the last has ended.
@@ -69,21 +98,32 @@ impl TreesStream {
     }
 }
 
-fn feed_state(state: TreesState, alloc: Global, piece: &[u8]) -> Result<TreesState, AllocError>
-    ensures ok { IfOk result (λ new. (more : List ℕ)
-        → rest_of_trees new more ≡ rest_of_trees state (piece.now ++ more)) }
-    ensures way { IsErr result → CanBecomeTrees state }
-    ensures memory { IsErr result → WantsRow state piece.now }
+/// Takes a piece where the state stands, unless that awaits the number of trees, and says whether
+/// these still can be trees. The state of an open tree is large, and isn't moved for a piece.
+fn feed_in_place(
+    state: &mut TreesState,
+    alloc: Global,
+    piece: &[u8],
+) -> Result<Option<bool>, AllocError>
+    ensures goes_on { result ≡ Ok (Some true) → (more : List ℕ)
+        → rest_of_trees state.new more ≡ rest_of_trees state.old (piece.now ++ more) }
+    ensures lost { result ≡ Ok (Some false) → (more : List ℕ)
+        → rest_of_trees state.old (piece.now ++ more) ≡ None }
+    ensures count { result ≡ Ok None
+        → (state.new ≡ state.old) × (awaits_count state.old ≡ true) }
+    ensures way { IsErr result → CanBecomeTrees state.old }
+    ensures memory { IsErr result → WantsRow state.old piece.now }
 {
     match state {
-        TreesState::Count(target) => feed_count(target, alloc, piece),
-        TreesState::Empty => Ok(without_trees(piece)),
-        TreesState::Tree(tree) => feed_open(tree, alloc, piece),
-        TreesState::Invalid => Ok(TreesState::Invalid),
+        TreesState::Count(_) => Ok(None),
+        TreesState::Empty => Ok(Some(piece.is_empty())),
+        TreesState::Tree(tree) => Ok(Some(feed_trees(tree, alloc, piece)?)),
+        TreesState::Invalid => Ok(Some(true)),
     }
 }
 
-fn feed_count(target: Target, alloc: Global, piece: &[u8]) -> Result<TreesState, AllocError>
+/// What a piece leaves that the number of trees is awaited of.
+fn state_behind_count(target: Target, alloc: Global, piece: &[u8]) -> Result<TreesState, AllocError>
     ensures ok { IfOk result (λ new. (more : List ℕ) → rest_of_trees new more
         ≡ rest_of_trees (TreesState.Count target) (piece.now ++ more)) }
     ensures way { IsErr result → CanBecomeTrees (TreesState.Count target) }
@@ -122,7 +162,7 @@ fn begin_trees(
 /// There are no trees, and these bytes come behind.
 fn without_trees(behind: &[u8]) -> TreesState
     ensures { (more : List ℕ) → rest_of_trees result more
-        ≡ whole (Some (counted 0 None, behind.now ++ more)) }
+        ≡ whole (Some (count_and_first 0 None, behind.now ++ more)) }
 {
     if behind.is_empty() {
         TreesState::Empty
@@ -174,7 +214,7 @@ fn next_tree(tree: &mut OpenTree, alloc: Global) -> bool
     if tree.left == 0 {
         return false;
     }
-    let next = TreeStream::new(alloc, Target::nothing(alloc));
+    let next = TreeStream::new(alloc, Target::of_no_rows(alloc));
     match mem::replace(&mut tree.stream, next).end() {
         Some(summary) => {
             keep_first(&mut tree.first, summary);
@@ -218,7 +258,7 @@ fn end_last(
     summary: Summary,
 ) -> Option<TreesSummary>
     ensures { result ≡ if nat_lt 0 left then None
-        else Some (counted count (Some (kept_first first summary))) }
+        else Some (count_and_first count (Some (kept_first first summary))) }
 {
     if left > 0 {
         return None;

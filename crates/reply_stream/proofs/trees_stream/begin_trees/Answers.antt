@@ -1,20 +1,20 @@
 use Rattle.std.proofs.Common.{◌++◌, refl, ◌∙◌, arith}
-use Rattle.reply_stream.proofs.TreesPieces.{count_way, counted_first, counted_none, ok_trees}
+use Rattle.reply_stream.proofs.TreesPieces.{count_way, count_and_first_one, count_and_first_none, ok_trees}
 use Rattle.reply_stream.proofs.trees_stream.begin_trees.Goals as goal
 
 pub returns-then-count-eq0-clause-ok : goal.returns-then-count-eq0-clause-ok
 returns-then-count-eq0-clause-ok c = λ more.
-    c.without_trees.ensures more ∙ counted_none c.args.target c.args.count (c.args.behind.now ++ more) (omega (arith, c.if-count-eq0.true))
+    c.without_trees.ensures more ∙ count_and_first_none c.args.target c.args.count (c.args.behind.now ++ more) (omega (arith, c.if-count-eq0.true))
 
 pub returns-clause-ok : goal.returns-clause-ok
 returns-clause-ok c =
     ok_trees c.feed_open.result _ _
-    (λ more. counted_first c.args.target c.args.count _ (c.args.behind.now ++ more) c.new.ensures.summary (omega (arith, c.if-count-eq0.false)) refl refl)
+    (λ more. count_and_first_one c.args.target c.args.count _ (c.args.behind.now ++ more) c.new.ensures.summary (omega (arith, c.if-count-eq0.false)) refl refl)
     c.feed_open.ensures.ok
 
 pub returns-clause-way : goal.returns-clause-way
 returns-clause-way c = λ err.
-    count_way c.args.target c.args.count c.new.result c.new.ensures.summary (omega (arith, c.if-count-eq0.false)) (c.feed_open.ensures.way err)
+    count_way c.args.target c.args.count c.new.result c.new.ensures.summary (omega (arith, c.if-count-eq0.false)) (omega (arith, c.ranges.count)) (c.feed_open.ensures.way err)
 
 pub returns-clause-memory : goal.returns-clause-memory
 returns-clause-memory c = λ err. (c.new.result, c.new.ensures.target, c.new.ensures.summary, (c.feed_open.ensures.memory err).1)

@@ -15,7 +15,7 @@ pub returns-in-Some-clause-next : goal.returns-in-Some-clause-next
 returns-in-Some-clause-next c = λ is bytes.
     next_is c.args.tree.now _ c.in-Some.summary
     (ended c.args.tree.now.stream c.in-Some.summary (sym c.in-Some.is ∙ c.end.ensures ∙ ap (λ (s : TreeStream). option_map summary_in (summary_of s [])) c.replace.ensures.value))
-    (λ rest. ap (λ (s : TreeStream). summary_of s rest) c.replace.ensures.after ∙ c.new-next.ensures.summary rest ∙ ap (λ (t : Target). summary_of_tree t rest) c.nothing.ensures)
+    (λ rest. ap (λ (s : TreeStream). summary_of s rest) c.replace.ensures.after ∙ c.new-next.ensures.summary rest ∙ ap (λ (t : Target). summary_of_tree t rest) c.of_no_rows.ensures)
     refl (omega (arith, c.if-tree-eq0.false)) c.keep_first.ensures bytes
 
 pub returns-in-None-clause-last : goal.returns-in-None-clause-last

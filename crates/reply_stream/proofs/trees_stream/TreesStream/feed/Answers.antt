@@ -1,9 +1,14 @@
-use Rattle.std.proofs.Common.{ap}
+use Rattle.std.proofs.Common.{◌≡◌, Ok, Some, false, sym, ap, ◌∙◌}
 use Rattle.reply_stream.specs.declared.trees_state.TreesState.{TreesState}
 use Rattle.reply_stream.specs.ReplyTrees.{rest_of_trees}
-use Rattle.reply_stream.proofs.TreesPieces.{in_any_error}
 use Rattle.reply_stream.proofs.trees_stream.TreesStream.feed.Goals as goal
 
-pub returns-in_err-self-clause-err : goal.returns-in_err-self-clause-err
+pub returns-in-Ok-Some-false-clause-ok : goal.returns-in-Ok-Some-false-clause-ok
 unfolding rest_of_trees
-returns-in_err-self-clause-err c = in_any_error c.from_residual.result _ (λ more. ap (λ (s : TreesState). rest_of_trees s more) c.replace-state.ensures.after)
+returns-in-Ok-Some-false-clause-ok c = λ more.
+    let lost : c.feed_in_place.result ≡ Ok (Some false) = cc in
+    ap (λ (s : TreesState). rest_of_trees s more) c.replace.ensures.after ∙ sym (c.feed_in_place.ensures.lost lost more)
+
+pub returns-in-Err-clause-err : goal.returns-in-Err-clause-err
+unfolding rest_of_trees
+returns-in-Err-clause-err c = λ more. ap (λ (s : TreesState). rest_of_trees s more) c.replace-in-Err.ensures.after
