@@ -17,7 +17,7 @@ use Rattle.mb_tree.specs.View.{part_of}
 use Rattle.range_proof.specs.Finding.{FindsOrMissing}
 use Rattle.query_plan.specs.Plans.{QueryPlan, right_need_of, meets_left}
 use Rattle.plan_run.specs.declared.ran.Ran.{Ran}
-use Rattle.plan_run.specs.declared.shown.Shown.{Shown}
+use Rattle.plan_run.specs.declared.left_views.Shown.{Shown}
 use Rattle.query_plan.specs.Answers.{answer_at, pair_answers, left_answers, plan_rows}
 use Rattle.plan_run.specs.Running.{Runs, RanOf, Shows, ShowsPairs, group_needs, lefts_seen, rights_by, rights_seen, needs_of, is_unseen}
 use Rattle.query_plan.proofs.AnswerLaws.{flat_same}

@@ -14,7 +14,7 @@ use Rattle.vo_spec.specs.Needs.{seen_row_views, tables_used, tree_at, right_tree
 use Rattle.query_plan.specs.Plans.{QueryPlan, right_need_of, meets_left}
 use Rattle.query_plan.specs.Answers.{pair_answers, plan_rows}
 use Rattle.plan_run.specs.declared.ran.Ran.{Ran}
-use Rattle.plan_run.specs.declared.shown.Shown.{Shown}
+use Rattle.plan_run.specs.declared.left_views.Shown.{Shown}
 
 -- the scan for the need stops
 abbrev pub is_unseen : RowTree → Need → Bool

@@ -1,6 +1,7 @@
 //! What the trees of a reply show for a query, and what the query needs of each of them.
 #![tactic(auto)]
 
+mod left_views;
 mod needing;
 mod pairs;
 mod ran;
@@ -8,10 +9,9 @@ mod row_views;
 mod running;
 mod seeing;
 mod showing;
-mod shown;
 
 pub use needing::right_needs;
 pub use ran::Ran;
 pub use row_views::SeenRowView;
-pub use running::run_plan;
+pub use running::{run_alone, run_plan};
 pub use seeing::lefts_of;

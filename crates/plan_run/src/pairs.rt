@@ -3,15 +3,15 @@ ghost use Rattle.std.specs.Prelude.{◌≡◌, ◌++◌, [], ◌∷◌, map, OnO
 ghost use Rattle.vo_spec.specs.Results.{schema_at};
 ghost use Rattle.vo_spec.specs.Needs.{seen_row_view};
 ghost use Rattle.mb_tree.specs.View.{part_of};
-ghost use Rattle.query_binding.specs.Sided.{bound_sources_seen};
+ghost use Rattle.query_binding.specs.HeldSources.{bound_sources_seen};
 ghost use Rattle.query_plan.specs.BoundViews.{join_seen};
 ghost use Rattle.query_plan.specs.Answers.{pair_answers};
 ghost use Rattle.query_plan.specs.PlanViews.{plan_seen};
 ghost use Rattle.plan_run.specs.RowViews.{row_view_seen};
 ghost use Rattle.plan_run.specs.Running.{ShowsPairs, AddsPairs};
 
+use crate::left_views::Shown;
 use crate::row_views::SeenRowView;
-use crate::shown::Shown;
 use mb_tree::PartTree;
 use query_plan::{BoundJoin, Plan, push_pair, right_need};
 use range_proof::scan;

@@ -1,10 +1,10 @@
 //! What a run gives: the answer's rows, and the needs of each tree.
 ghost use Rattle.std.specs.Prelude.{◌≡◌, IfOk};
-ghost use Rattle.query_binding.specs.Sided.{bound_sources_seen};
+ghost use Rattle.query_binding.specs.HeldSources.{bound_sources_seen};
 ghost use Rattle.query_plan.specs.PlanViews.{plan_seen};
 ghost use Rattle.plan_run.specs.Running.{RanOf, group_needs};
 
-use crate::shown::Shown;
+use crate::left_views::Shown;
 use query_plan::{BoundSources, Plan, copy_need, has_one_tree};
 use std::alloc::{AllocError, Global};
 use vo_spec::{List, Need, ScanFault, Value};

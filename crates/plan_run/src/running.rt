@@ -1,21 +1,23 @@
 //! A plan run over the trees of a reply.
-ghost use Rattle.std.specs.Prelude.{◌≡◌, length, map, filter};
+ghost use Rattle.std.specs.Prelude.{◌≡◌, [], ◌∷◌, length, map, filter, Some, None, IfOk};
+ghost use Rattle.vo_spec.specs.Trees.{RowTree};
+ghost use Rattle.vo_spec.specs.Scans.{seen};
 ghost use Rattle.vo_spec.specs.Needs.{tables_used, seen_row_view, right_tree};
 ghost use Rattle.mb_tree.specs.View.{part_of};
-ghost use Rattle.query_binding.specs.Sided.{bound_sources_seen};
+ghost use Rattle.query_binding.specs.HeldSources.{bound_sources_seen};
 ghost use Rattle.query_plan.specs.Plans.{meets_left};
 ghost use Rattle.query_plan.specs.PlanViews.{plan_seen};
-ghost use Rattle.plan_run.specs.Running.{Shows, Runs};
+ghost use Rattle.plan_run.specs.Running.{Shows, Runs, run_rows};
 
+use crate::left_views::Shown;
 use crate::ran::{Ran, ran_of};
 use crate::seeing::lefts_of;
-use crate::showing::show;
-use crate::shown::Shown;
+use crate::showing::{rows_alone, show};
 use mb_tree::PartTree;
 use query_plan::Plan;
 use range_proof::scan;
-use std::alloc::Global;
-use vo_spec::{ScanFault, SeenRow};
+use std::alloc::{AllocError, Global};
+use vo_spec::{List, ScanFault, SeenRow, Value};
 
 /// What the trees show for the plan by the rows that the left one shows.
 fn show_seen(
@@ -56,4 +58,19 @@ pub fn run_plan(
         Ok(shown) => ran_of(alloc, plan, shown),
         Err(fault) => Err(fault),
     }
+}
+
+/// The rows that a plan without a join shows, by the rows that were seen for its left need, whoever
+/// saw them.
+pub fn run_alone(
+    alloc: Global,
+    plan: &Plan<'_, '_>,
+    rows: &[SeenRow],
+) -> Result<List<List<Value>>, AllocError>
+    requires { plan.now.query.now.join ≡ None }
+    ensures { (tree : RowTree) → seen plan.now.left_need tree ≡ Some rows.now
+        → IfOk result (λ shown. shown ≡ run_rows (plan_seen plan.now) (tree ∷ [])) }
+{
+    let lefts = lefts_of(alloc, plan, rows)?;
+    Ok(List::from_vec(rows_alone(alloc, plan, &lefts)?))
 }

@@ -4,22 +4,22 @@ ghost use Rattle.vo_spec.specs.Results.{place_value};
 ghost use Rattle.vo_spec.specs.Trees.{RowTree};
 ghost use Rattle.vo_spec.specs.Needs.{tables_used, right_tree};
 ghost use Rattle.mb_tree.specs.View.{part_of};
-ghost use Rattle.query_binding.specs.Sided.{bound_sources_seen};
+ghost use Rattle.query_binding.specs.HeldSources.{bound_sources_seen};
 ghost use Rattle.query_plan.specs.PlanViews.{plan_seen};
 ghost use Rattle.plan_run.specs.RowViews.{row_view_seen};
 ghost use Rattle.query_plan.specs.Answers.{answer_at};
 ghost use Rattle.plan_run.specs.Running.{Shows};
 
+use crate::left_views::Shown;
 use crate::pairs::show_pairs;
 use crate::row_views::SeenRowView;
-use crate::shown::Shown;
 use mb_tree::PartTree;
 use query_plan::{BoundSources, Plan, push_alone, same_table};
 use std::alloc::{AllocError, Global};
 use vo_spec::{List, ScanFault, Value};
 
 /// The answer's rows of left rows that have no right ones.
-fn rows_alone(
+pub(crate) fn rows_alone(
     alloc: Global,
     plan: &Plan<'_, '_>,
     lefts: &[SeenRowView<'_>],

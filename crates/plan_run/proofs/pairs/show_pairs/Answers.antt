@@ -8,7 +8,7 @@ use Rattle.mb_tree.specs.View.{part_of}
 use Rattle.query_plan.specs.BoundViews.{join_seen}
 use Rattle.query_plan.specs.Plans.{QueryPlan, right_need_of}
 use Rattle.query_plan.specs.PlanViews.{plan_seen}
-use Rattle.plan_run.specs.declared.shown.Shown.{Shown}
+use Rattle.plan_run.specs.declared.left_views.Shown.{Shown}
 use Rattle.plan_run.specs.Running.{ShowsPairs, AddsPairs, is_unseen}
 use Rattle.plan_run.proofs.AnswerSteps.{any_row_view}
 use Rattle.plan_run.proofs.pairs.show_pairs.Goals as goal

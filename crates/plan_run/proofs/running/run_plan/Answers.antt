@@ -1,7 +1,7 @@
 use Rattle.std.proofs.Common.{◌≡◌, ◌<◌, Some, length, map, arith}
 use Rattle.vo_spec.specs.Scans.{seen}
 use Rattle.mb_tree.specs.View.{part_of}
-use Rattle.query_binding.specs.Sided.{bound_sources_seen}
+use Rattle.query_binding.specs.HeldSources.{bound_sources_seen}
 use Rattle.query_plan.specs.PlanViews.{plan_seen}
 use Rattle.plan_run.proofs.RunLaws.{used_some, first_tree, left_fault, run_done, right_fault}
 use Rattle.plan_run.proofs.running.run_plan.Goals as goal
