@@ -1,5 +1,8 @@
 pub mod CellLaws
 pub mod LeafLaws
-pub mod Judged
+pub mod ReplyTests
 pub mod Unread
-pub mod Accepted
+pub mod AcceptedRecords
+pub mod RisingColumns
+pub mod AloneLaws
+pub mod CheckingLaws

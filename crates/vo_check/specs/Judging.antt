@@ -10,7 +10,7 @@ use Rattle.vo_spec.specs.Results.{header}
 use Rattle.vo_spec.specs.Needs.{tables_used}
 use Rattle.vo_spec.specs.Replies.{Reply}
 use Rattle.vo_spec.specs.Trees.{RowTree}
-use Rattle.vo_spec.specs.Checks.{key_fault, leaf_fault, signature_fault, age_fault, count_fault, shape_fault, trees_of, root_fault, missing_fault, surplus_fault}
+use Rattle.vo_spec.specs.Checks.{key_fault, leaf_fault, signature_fault, age_fault, catalog_fault, count_fault, shape_fault, trees_of, root_fault, missing_fault, surplus_fault}
 use Rattle.query_plan.specs.BoundQueries.{BoundQuery}
 use Rattle.query_plan.specs.Plans.{QueryPlan, plan_of}
 use Rattle.plan_run.specs.Running.{run_rows, run_needs}
@@ -33,6 +33,10 @@ bound_fault b r = first_some (trees_fault (tables_used b.bound_sources) r
 abbrev pub record_fault : List ℕ → ℕ → Reply → Option CheckFault
 record_fault key least r = first_some
     (key_fault key r ∷ leaf_fault key r ∷ signature_fault key r ∷ age_fault least r ∷ [])
+
+-- the first test of what comes before the trees that does
+abbrev pub head_fault : List ℕ → ℕ → Reply → Option CheckFault
+head_fault key least r = first_some (record_fault key least r ∷ catalog_fault r ∷ [])
 
 -- the first test of the trees that does
 unfoldable pub proof_fault : Query → Reply → Option CheckFault

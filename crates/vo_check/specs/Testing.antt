@@ -1,8 +1,10 @@
 -- What the tests of a reply answer.
-use Rattle.std.specs.Prelude.{◌≡◌, List, [], ◌∷◌, ℕ, ◌==◌, length, map, zip, if◌then◌else◌, Option, Some, None, option_map, Result, Ok, Err, ◌⊎◌}
+use Rattle.std.specs.Prelude.{◌≡◌, List, [], ◌∷◌, ℕ, ◌==◌, length, map, zip, bytes_eq, if◌then◌else◌, Option, Some, None, option_map, Result, Ok, Err, ◌⊎◌}
 use Rattle.std.specs.List.{list_any, list_all}
 use Rattle.vo_spec.specs.declared.checks.CheckFault.{CheckFault}
-use Rattle.vo_spec.specs.declared.checks.CheckFault.TheVariants.{WrongTrees, WrongShape, Missing, Surplus, Memory}
+use Rattle.vo_spec.specs.declared.checks.CheckFault.TheVariants.{WrongTrees, WrongShape, WrongRoot, Missing, Surplus, Memory}
+use Rattle.vo_spec.specs.declared.records.Record.{Record}
+use Rattle.vo_spec.specs.declared.records.Catalog.{Catalog}
 use Rattle.vo_spec.specs.declared.records.CatalogTable.{CatalogTable}
 use Rattle.vo_spec.specs.declared.needs.Need.{Need}
 use Rattle.vo_spec.specs.Firsts.{first_some}
@@ -24,6 +26,12 @@ abbrev pub PassesTests : Result (Unit {0}) CheckFault → Option CheckFault → 
 PassesTests (Ok done) found = found ≡ None
 PassesTests (Err fault) found = (fault ≡ Memory) ⊎ (found ≡ Some fault)
 
+-- The tests of what comes before the trees look at no tree.
+
+abbrev pub bare_reply : Record → List ℕ → Catalog → Reply
+bare_reply rec signature catalog =
+    record { rec = rec; signature = signature; catalog = catalog; trees = [] }
+
 -- The tests of trees, by the names of the tables that are wanted.
 
 abbrev pub tree_in : TableTree → RowTree
@@ -36,9 +44,17 @@ tree_seen t = (option_map (λ table. table.now) t.table, tree_in t)
 abbrev pub tables_with_trees : List (List ℕ) → Reply → List (Option CatalogTable × RowTree)
 tables_with_trees wanted r = zip (map (λ name. table_named name r.catalog) wanted) r.trees
 
+-- the digest of a tree is its table's root
+abbrev pub digest_fault : CatalogTable → List ℕ → Option CheckFault
+digest_fault table got = if bytes_eq table.root got then None
+    else Some (WrongRoot table.name table.root got)
+
+-- so many trees are wanted, and there are so many
+abbrev pub count_fault_of : ℕ → ℕ → Option CheckFault
+count_fault_of want got = if got == want then None else Some (WrongTrees want got)
+
 abbrev pub number_fault : List (List ℕ) → Reply → Option CheckFault
-number_fault wanted r = if length r.trees == length wanted then None
-    else Some (WrongTrees (length wanted) (length r.trees))
+number_fault wanted r = count_fault_of (length wanted) (length r.trees)
 
 abbrev pub shapes_fault : List (Option CatalogTable × RowTree) → Option CheckFault
 shapes_fault trees = if list_all has_table_shape trees then None else Some WrongShape

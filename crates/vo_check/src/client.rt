@@ -3,10 +3,14 @@ ghost use Rattle.std.specs.Prelude.{◌≡◌, ◌⊎◌, IfOk, OnErr, Err};
 ghost use Rattle.vo_spec.specs.Conditions.{query_of};
 ghost use Rattle.vo_spec.specs.Checks.{CheckOf};
 ghost use Rattle.vo_check.specs.Accepting.{IsSignedReply};
+ghost use Rattle.vo_check.specs.Checkings.{no_bytes_of};
 
-use crate::judging::judge;
-use crate::reading::read_within;
+use crate::checking::Checking;
+use crate::feeding::first_progress;
+use crate::reading::answer_whole;
+use byte_log::ByteLog;
 use lms_sign::PublicKey;
+use reply_stream::ReplyLength;
 use std::alloc::Global;
 use vo_spec::{Answer, CheckFault, QueryText};
 
@@ -33,9 +37,27 @@ impl Client {
         self.least
     }
 
+    /// The key that the client trusts.
+    pub(crate) fn key(&self) -> &PublicKey
+        ensures { result.now ≡ self.now.key }
+    {
+        &self.key
+    }
+
+    /// The check of a reply to this query, of which no bytes came yet.
+    pub fn begin<'q>(&self, alloc: Global, query: &'q QueryText) -> Checking<'q>
+        ensures { result ≡ no_bytes_of query.now }
+    {
+        Checking {
+            query,
+            count: ReplyLength::new(),
+            progress: first_progress(alloc, query),
+            log: ByteLog::empty(),
+        }
+    }
+
     /// The answer of a reply to the query, or the first test that refuses it. The client takes no
     /// older version from then on.
-    #[tactic(auto, unfolding(vo_spec::specs::Checks::CheckOf))]
     pub fn check(
         &mut self,
         alloc: Global,
@@ -50,14 +72,42 @@ impl Client {
         ensures key { self.new.key ≡ self.old.key }
         ensures kept { OnErr result (self.new ≡ self.old) }
     {
-        let reply = match read_within(alloc, reply) {
-            Ok(reply) => reply,
-            Err(fault) => return Err(fault),
-        };
-        let answer = judge(alloc, &self.key, self.least, query, &reply);
-        if let Ok(answer) = &answer {
+        let mut checking = self.begin(alloc, query);
+        match checking.feed(alloc, reply) {
+            Ok(()) => checking.end(alloc, self),
+            Err(_) => Err(CheckFault::Memory),
+        }
+    }
+
+    /// The same by the part trees of the reply, all of which are held. It is what replies to
+    /// queries with a join are checked by.
+    pub fn check_whole(
+        &mut self,
+        alloc: Global,
+        query: &QueryText,
+        reply: &[u8],
+    ) -> Result<Answer, CheckFault>
+        ensures answers { (result ≡ Err CheckFault.Memory)
+            ⊎ CheckOf self.old.key self.old.least (query_of query.now) reply.now result }
+        ensures accepted { IfOk result (λ answer.
+            IsSignedReply self.old.key self.old.least reply.now answer.version) }
+        ensures least { IfOk result (λ answer. self.new.least ≡ answer.version) }
+        ensures key { self.new.key ≡ self.old.key }
+        ensures kept { OnErr result (self.new ≡ self.old) }
+    {
+        let answer = answer_whole(alloc, self, query, reply);
+        self.keep_version(&answer);
+        answer
+    }
+
+    /// Takes no version below that of the answer from now on.
+    pub(crate) fn keep_version(&mut self, answer: &Result<Answer, CheckFault>)
+        ensures least { IfOk answer.now (λ answer. self.new.least ≡ answer.version) }
+        ensures key { self.new.key ≡ self.old.key }
+        ensures kept { OnErr answer.now (self.new ≡ self.old) }
+    {
+        if let Ok(answer) = answer {
             self.least = answer.version;
         }
-        answer
     }
 }

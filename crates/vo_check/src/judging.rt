@@ -7,7 +7,7 @@ ghost use Rattle.vo_spec.specs.Results.{schema_at, binding_fault};
 ghost use Rattle.vo_spec.specs.Needs.{tables_used};
 ghost use Rattle.vo_spec.specs.Checks.{check_fault, seen_outcome, answer_to};
 ghost use Rattle.vo_spec.specs.Batches.{max_columns};
-ghost use Rattle.query_binding.specs.Sided.{bound_sources_seen};
+ghost use Rattle.query_binding.specs.HeldSources.{bound_sources_seen};
 ghost use Rattle.query_plan.specs.BoundViews.{query_seen};
 ghost use Rattle.query_plan.specs.Plans.{plan_of};
 ghost use Rattle.query_plan.specs.PlanViews.{plan_seen};
@@ -15,9 +15,8 @@ ghost use Rattle.vo_format.specs.View.{reply_of};
 ghost use Rattle.vo_check.specs.Testing.{GivesIfPassed, needs_fault};
 ghost use Rattle.vo_check.specs.Judging.{needed_for, shown_for, bound_fault, proof_fault};
 
-use crate::catalog_fault::test_catalog;
+use crate::head_faults::test_head;
 use crate::need_faults::test_needs;
-use crate::record_faults::record_fault;
 use crate::tree_faults::test_trees;
 use lms_sign::PublicKey;
 use plan_run::run_plan;
@@ -52,7 +51,7 @@ fn judge_needs(alloc: Global, plan: &Plan<'_, '_>, reply: &Reply<'_>) -> Result<
 }
 
 /// The outcome of a bound query whose tables have no more columns than a table may have.
-#[tactic(auto, using(crate::proofs::Judged::has_trees, crate::proofs::Judged::trees_passed))]
+#[tactic(auto, using(crate::proofs::ReplyTests::has_trees, crate::proofs::ReplyTests::trees_passed))]
 fn judge_bound(alloc: Global, query: &Query<'_>, reply: &Reply<'_>) -> Result<Outcome, CheckFault>
     requires fits { FitsReply (reply_of reply.now) }
     requires left { length (schema_at (bound_sources_seen query.now.bound_sources) 0).columns ≤
@@ -111,7 +110,7 @@ fn judge_trees<'q>(
     }
 }
 
-/// The tests in their order, the cheap ones first: the record, the catalog, the trees.
+/// The tests in their order, the cheap ones first: what comes before the trees, and then these.
 fn answer_of(
     alloc: Global,
     key: &PublicKey,
@@ -124,10 +123,14 @@ fn answer_of(
         GivesIfPassed result (check_fault key.now least q r)
         (record { version = r.rec.version; outcome = seen_outcome q r.catalog r.trees }) }
 {
-    if let Some(fault) = record_fault(key, least, reply) {
-        return Err(fault);
-    }
-    match test_catalog(alloc, reply) {
+    match test_head(
+        alloc,
+        key,
+        least,
+        &reply.rec,
+        reply.signature,
+        &reply.catalog,
+    ) {
         Ok(()) => {},
         Err(fault) => return Err(fault),
     }

@@ -2,7 +2,7 @@
 ghost use Rattle.std.specs.Prelude.{◌≡◌, length, map, option_map, IfOk};
 ghost use Rattle.vo_spec.specs.Checks.{table_named};
 ghost use Rattle.vo_format.specs.View.{reply_of, trees_of};
-ghost use Rattle.query_plan.specs.Used.{lent_name};
+ghost use Rattle.query_plan.specs.UsedTables.{lent_name};
 ghost use Rattle.vo_check.specs.Testing.{tree_in, tree_seen, tables_with_trees};
 
 use crate::table_tree::TableTree;
@@ -10,7 +10,8 @@ use std::alloc::{AllocError, Global};
 use vo_format::Reply;
 use vo_spec::{CatalogTable, Name};
 
-fn table_named<'r>(tables: &'r [CatalogTable], name: &Name) -> Option<&'r CatalogTable>
+/// The catalog's table of this name.
+pub(crate) fn table_named<'r>(tables: &'r [CatalogTable], name: &Name) -> Option<&'r CatalogTable>
     ensures { option_map (λ t. t.now) result
         ≡ table_named name.now (record { tables = tables.now }) }
 {

@@ -1,9 +1,14 @@
-//! The reading of a reply within its limit.
+//! The check of a reply that is held whole: its reading within the limit, and what it answers.
+ghost use Rattle.std.specs.Prelude.{◌≡◌, ◌⊎◌, Err};
+ghost use Rattle.vo_spec.specs.Checks.{CheckOf};
+ghost use Rattle.vo_spec.specs.Conditions.{query_of};
 ghost use Rattle.vo_check.specs.Reading.{ReadsReply};
 
+use crate::client::Client;
+use crate::judging::judge;
 use std::alloc::Global;
 use vo_format::{ReadFault, Reply, read_reply};
-use vo_spec::{CheckFault, MAX_REPLY};
+use vo_spec::{Answer, CheckFault, MAX_REPLY, QueryText};
 
 /// The reply that the bytes are, or why a client refuses them unread.
 #[tactic(auto, unfolding(vo_spec::specs::Checks::CheckOf))]
@@ -19,5 +24,22 @@ pub fn read_within<'b>(alloc: Global, bytes: &'b [u8]) -> Result<Reply<'b>, Chec
         Ok(reply) => Ok(reply),
         Err(ReadFault::BadForm) => Err(CheckFault::BadForm),
         Err(ReadFault::Memory) => Err(CheckFault::Memory),
+    }
+}
+
+/// What the client says of the reply by all of its part trees.
+#[tactic(auto, unfolding(vo_spec::specs::Checks::CheckOf))]
+pub(crate) fn answer_whole(
+    alloc: Global,
+    client: &Client,
+    query: &QueryText,
+    reply: &[u8],
+) -> Result<Answer, CheckFault>
+    ensures { (result ≡ Err CheckFault.Memory)
+        ⊎ CheckOf client.now.key client.now.least (query_of query.now) reply.now result }
+{
+    match read_within(alloc, reply) {
+        Ok(reply) => judge(alloc, client.key(), client.least(), query, &reply),
+        Err(fault) => Err(fault),
     }
 }

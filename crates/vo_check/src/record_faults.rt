@@ -1,25 +1,25 @@
 //! The tests of a reply's record: whose it is, how it is signed, and how old it is.
-ghost use Rattle.std.specs.Prelude.{◌≡◌};
+ghost use Rattle.std.specs.Prelude.{◌≡◌, []};
 ghost use Rattle.vo_spec.specs.Lms.{leaf_of};
+ghost use Rattle.vo_spec.specs.Records.{no_tables};
 ghost use Rattle.vo_spec.specs.Checks.{key_fault, leaf_fault, signature_fault, age_fault};
-ghost use Rattle.vo_format.specs.View.{reply_of};
 ghost use Rattle.vo_check.specs.Judging.{record_fault};
+ghost use Rattle.vo_check.specs.Testing.{bare_reply};
 
 use lms_sign::{PublicKey, verify};
 use version_record::record_bytes;
-use vo_format::Reply;
-use vo_spec::CheckFault;
+use vo_spec::{CheckFault, Record};
 
-fn key_fault(key: &PublicKey, reply: &Reply<'_>) -> Option<CheckFault>
-    ensures { result ≡ key_fault key.now (reply_of reply.now) }
+fn key_fault(key: &PublicKey, rec: &Record) -> Option<CheckFault>
+    ensures { result ≡ key_fault key.now (bare_reply rec.now [] no_tables) }
 {
     let want = key.id();
-    if reply.rec.id == *want {
+    if rec.id == *want {
         return None;
     }
     Some(CheckFault::WrongKey {
         want: *want,
-        got: reply.rec.id,
+        got: rec.id,
     })
 }
 
@@ -35,30 +35,30 @@ fn leaf_named(key: &PublicKey, signature: &[u8]) -> Option<u32>
 }
 
 /// A signature too short to name a leaf passes here.
-fn leaf_fault(key: &PublicKey, reply: &Reply<'_>) -> Option<CheckFault>
-    ensures { result ≡ leaf_fault key.now (reply_of reply.now) }
+fn leaf_fault(key: &PublicKey, rec: &Record, signature: &[u8]) -> Option<CheckFault>
+    ensures { result ≡ leaf_fault key.now (bare_reply rec.now signature.now no_tables) }
 {
-    let version = reply.rec.version;
-    match leaf_named(key, reply.signature) {
+    let version = rec.version;
+    match leaf_named(key, signature) {
         Some(q) if u64::from(q) != version => Some(CheckFault::WrongLeaf { version, q }),
         _ => None,
     }
 }
 
-fn signature_fault(key: &PublicKey, reply: &Reply<'_>) -> Option<CheckFault>
-    ensures { result ≡ signature_fault key.now (reply_of reply.now) }
+fn signature_fault(key: &PublicKey, rec: &Record, signature: &[u8]) -> Option<CheckFault>
+    ensures { result ≡ signature_fault key.now (bare_reply rec.now signature.now no_tables) }
 {
-    if verify(key, &record_bytes(&reply.rec), reply.signature) {
+    if verify(key, &record_bytes(rec), signature) {
         None
     } else {
         Some(CheckFault::BadSignature)
     }
 }
 
-fn age_fault(least: u64, reply: &Reply<'_>) -> Option<CheckFault>
-    ensures { result ≡ age_fault least (reply_of reply.now) }
+fn age_fault(least: u64, rec: &Record) -> Option<CheckFault>
+    ensures { result ≡ age_fault least (bare_reply rec.now [] no_tables) }
 {
-    let got = reply.rec.version;
+    let got = rec.version;
     if got < least {
         Some(CheckFault::Stale { least, got })
     } else {
@@ -66,18 +66,23 @@ fn age_fault(least: u64, reply: &Reply<'_>) -> Option<CheckFault>
     }
 }
 
-/// The first of these tests that refuses the reply.
-pub(crate) fn record_fault(key: &PublicKey, least: u64, reply: &Reply<'_>) -> Option<CheckFault>
-    ensures { result ≡ record_fault key.now least (reply_of reply.now) }
+/// The first of these tests that refuses a reply with this record and signature.
+pub(crate) fn record_fault(
+    key: &PublicKey,
+    least: u64,
+    rec: &Record,
+    signature: &[u8],
+) -> Option<CheckFault>
+    ensures { result ≡ record_fault key.now least (bare_reply rec.now signature.now no_tables) }
 {
-    if let Some(fault) = key_fault(key, reply) {
+    if let Some(fault) = key_fault(key, rec) {
         return Some(fault);
     }
-    if let Some(fault) = leaf_fault(key, reply) {
+    if let Some(fault) = leaf_fault(key, rec, signature) {
         return Some(fault);
     }
-    if let Some(fault) = signature_fault(key, reply) {
+    if let Some(fault) = signature_fault(key, rec, signature) {
         return Some(fault);
     }
-    age_fault(least, reply)
+    age_fault(least, rec)
 }

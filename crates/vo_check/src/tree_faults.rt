@@ -1,25 +1,24 @@
 //! The tests of a reply's trees: how many there are, their shape and their roots.
-ghost use Rattle.std.specs.Prelude.{◌≡◌, map, IfOk};
+ghost use Rattle.std.specs.Prelude.{◌≡◌, map};
 ghost use Rattle.std.specs.List.{AllByRecursion, list_all};
 ghost use Rattle.vo_spec.specs.Firsts.{first_some};
 ghost use Rattle.vo_spec.specs.Fits.{FitsTree};
 ghost use Rattle.vo_spec.specs.Checks.{has_table_shape, root_fault};
 ghost use Rattle.vo_format.specs.View.{reply_of, trees_of};
-ghost use Rattle.query_plan.specs.Used.{lent_name};
-ghost use Rattle.vo_check.specs.Testing.{PassesTests, tree_in, tree_seen, number_fault, shapes_fault, trees_fault};
+ghost use Rattle.query_plan.specs.UsedTables.{lent_name};
+ghost use Rattle.vo_check.specs.Testing.{PassesTests, tree_in, tree_seen, count_fault_of, digest_fault, trees_fault};
 
 use crate::pairing::pair_trees;
 use crate::shape::has_shape;
 use crate::table_tree::TableTree;
-use std::alloc::{AllocError, Global};
+use std::alloc::Global;
 use vo_format::Reply;
-use vo_spec::{CheckFault, Name};
+use vo_spec::{CatalogTable, CheckFault, Digest, Name};
 
-fn number_fault(names: &[&Name], reply: &Reply<'_>) -> Option<CheckFault>
-    ensures { result ≡ number_fault (map lent_name names.now) (reply_of reply.now) }
+/// Whether there are as many trees as are wanted.
+pub(crate) fn count_fault(want: usize, got: usize) -> Option<CheckFault>
+    ensures { result ≡ count_fault_of want got }
 {
-    let want = names.len();
-    let got = reply.trees.len();
     if got == want {
         return None;
     }
@@ -49,22 +48,32 @@ fn have_table_shapes(trees: &[TableTree<'_, '_>]) -> bool
     true
 }
 
-/// Refuses another tree than the one of the catalog's root.
-fn test_root(alloc: Global, tree: &TableTree<'_, '_>) -> Result<(), CheckFault>
-    requires { FitsTree (tree_in tree.now) }
-    ensures { PassesTests result (root_fault (tree_seen tree.now)) }
+/// Refuses a digest that isn't the table's root.
+pub(crate) fn test_digest(
+    alloc: Global,
+    table: &CatalogTable,
+    got: Digest,
+) -> Result<(), CheckFault>
+    ensures { PassesTests result (digest_fault table.now got) }
 {
-    let Some(table) = tree.table else {
-        return Ok(());
-    };
     let want = table.root;
-    let got = tree.tree.node_digest();
     if want == got {
         return Ok(());
     }
     match table.name.copy(alloc) {
         Ok(table) => Err(CheckFault::WrongRoot { table, want, got }),
         Err(_) => Err(CheckFault::Memory),
+    }
+}
+
+/// Refuses another tree than the one of the catalog's root.
+fn test_root(alloc: Global, tree: &TableTree<'_, '_>) -> Result<(), CheckFault>
+    requires { FitsTree (tree_in tree.now) }
+    ensures { PassesTests result (root_fault (tree_seen tree.now)) }
+{
+    match tree.table {
+        Some(table) => test_digest(alloc, table, tree.tree.node_digest()),
+        None => Ok(()),
     }
 }
 
@@ -90,7 +99,7 @@ pub(crate) fn test_trees(
     requires { AllByRecursion FitsTree (trees_of reply.now.trees) }
     ensures { PassesTests result (trees_fault (map lent_name names.now) (reply_of reply.now)) }
 {
-    if let Some(fault) = number_fault(names, reply) {
+    if let Some(fault) = count_fault(names.len(), reply.trees.len()) {
         return Err(fault);
     }
     let Ok(trees) = pair_trees(alloc, names, reply) else {

@@ -1,30 +1,26 @@
-use Rattle.std.proofs.Common.{◌≡◌, ap, inr, ◌∙◌}
+use Rattle.std.proofs.Common.{◌≡◌, ap, ◌∙◌}
 use Rattle.vo_spec.specs.declared.checks.Answer.{Answer}
 use Rattle.vo_spec.specs.declared.queries.Outcome.{Outcome}
 use Rattle.vo_spec.specs.Conditions.{query_of}
 use Rattle.vo_spec.specs.Checks.{check_fault}
 use Rattle.vo_format.specs.View.{reply_of}
 use Rattle.vo_check.specs.Judging.{proof_fault}
-use Rattle.vo_check.proofs.Judged.{refused_record, refused_catalog, left_to_trees}
+use Rattle.vo_check.proofs.ReplyTests.{refused_head, left_to_trees}
 use Rattle.vo_check.proofs.judging.answer_of.Goals as goal
 
-pub returns-in-Some : goal.returns-in-Some
-returns-in-Some c = inr (refused_record c.args.key.now c.args.least (query_of c.args.query.now) (reply_of c.args.reply.now) c.in-Some.fault c.in-Some.ensures)
-
 pub returns-in-Err : goal.returns-in-Err
-returns-in-Err c =
-    refused_catalog c.args.key.now c.args.least (query_of c.args.query.now) (reply_of c.args.reply.now) c.in-Err.fault c.in_default.ensures c.in-Err.ensures
+returns-in-Err c = refused_head c.args.key.now c.args.least (query_of c.args.query.now) (reply_of c.args.reply.now) c.in-Err.fault c.in-Err.ensures
 
 pub returns-in-Ok-judge_trees : goal.returns-in-Ok-judge_trees
 returns-in-Ok-judge_trees c =
     let q = query_of c.args.query.now in
     let r = reply_of c.args.reply.now in
-    let left : check_fault c.args.key.now c.args.least q r ≡ proof_fault q r = left_to_trees c.args.key.now c.args.least q r c.in_default.ensures c.in-Ok.ensures in
+    let left : check_fault c.args.key.now c.args.least q r ≡ proof_fault q r = left_to_trees c.args.key.now c.args.least q r c.in-Ok.ensures in
     (left ∙ c.in-Ok-judge_trees.ensures.0, ap (λ (o : Outcome). let a : Answer = record { version = r.rec.version; outcome = o } in a) c.in-Ok-judge_trees.ensures.1)
 
 pub returns-in-Err-judge_trees : goal.returns-in-Err-judge_trees
 returns-in-Err-judge_trees c =
     let q = query_of c.args.query.now in
     let r = reply_of c.args.reply.now in
-    let left : check_fault c.args.key.now c.args.least q r ≡ proof_fault q r = left_to_trees c.args.key.now c.args.least q r c.in_default.ensures c.in-Ok.ensures in
+    let left : check_fault c.args.key.now c.args.least q r ≡ proof_fault q r = left_to_trees c.args.key.now c.args.least q r c.in-Ok.ensures in
     rw left c.in-Err-judge_trees.ensures

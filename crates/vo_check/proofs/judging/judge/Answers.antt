@@ -1,5 +1,5 @@
 use Rattle.vo_spec.specs.Checks.{answer_to}
-use Rattle.vo_check.proofs.Judged.{answered}
+use Rattle.vo_check.proofs.ReplyTests.{answered}
 use Rattle.vo_check.proofs.judging.judge.Goals as goal
 
 pub returns : goal.returns

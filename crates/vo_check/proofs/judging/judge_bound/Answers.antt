@@ -1,11 +1,11 @@
 use Rattle.std.proofs.Common.{◌≡◌, map, ap, ◌∙◌}
 use Rattle.vo_spec.specs.Needs.{tables_used}
-use Rattle.query_binding.specs.Sided.{bound_sources_seen}
+use Rattle.query_binding.specs.HeldSources.{bound_sources_seen}
 use Rattle.query_plan.specs.BoundViews.{query_seen}
 use Rattle.query_plan.specs.PlanViews.{plan_seen}
-use Rattle.query_plan.specs.Used.{lent_name}
+use Rattle.query_plan.specs.UsedTables.{lent_name}
 use Rattle.vo_format.specs.View.{reply_of}
-use Rattle.vo_check.proofs.Judged.{trees_refused, bound_given}
+use Rattle.vo_check.proofs.ReplyTests.{trees_refused, bound_given}
 use Rattle.vo_check.proofs.judging.judge_bound.Goals as goal
 
 pub returns-in-Err : goal.returns-in-Err

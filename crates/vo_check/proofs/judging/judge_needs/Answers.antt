@@ -6,7 +6,7 @@ use Rattle.query_plan.proofs.SourceLaws.{paired}
 use Rattle.plan_run.specs.Running.{stops}
 use Rattle.plan_run.proofs.MissingLaws.{stopped_missing}
 use Rattle.vo_format.specs.View.{reply_of}
-use Rattle.vo_check.proofs.Judged.{needs_refused}
+use Rattle.vo_check.proofs.ReplyTests.{needs_refused}
 use Rattle.vo_check.proofs.judging.judge_needs.Goals as goal
 
 pub returns-in-Err-Missing : goal.returns-in-Err-Missing

@@ -8,7 +8,7 @@ use Rattle.query_plan.proofs.Narrow.{bound_sources_narrow}
 use Rattle.vo_format.specs.View.{reply_of}
 use Rattle.vo_check.specs.Testing.{GivesIfPassed}
 use Rattle.vo_check.specs.Judging.{bound_fault, shown_for}
-use Rattle.vo_check.proofs.Judged.{bound_same}
+use Rattle.vo_check.proofs.ReplyTests.{bound_same}
 use Rattle.vo_check.proofs.judging.judge_trees.Goals as goal
 
 abbrev few_at : BoundQuery → Type 0

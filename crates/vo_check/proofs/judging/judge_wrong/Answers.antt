@@ -1,6 +1,6 @@
 use Rattle.vo_spec.specs.Conditions.{query_of}
 use Rattle.vo_format.specs.View.{reply_of}
-use Rattle.vo_check.proofs.Judged.{wrong_gives, wrong_refused}
+use Rattle.vo_check.proofs.ReplyTests.{wrong_gives, wrong_refused}
 use Rattle.vo_check.proofs.judging.judge_wrong.Goals as goal
 
 pub returns-in-Ok : goal.returns-in-Ok

@@ -2,7 +2,7 @@ use Rattle.std.proofs.Common.{◌≡◌, ◌++◌, map, drop, zip}
 use Rattle.vo_spec.specs.Checks.{table_named}
 use Rattle.mb_tree.specs.View.{part_of}
 use Rattle.vo_format.specs.View.{reply_of, trees_of}
-use Rattle.query_plan.specs.Used.{lent_name}
+use Rattle.query_plan.specs.UsedTables.{lent_name}
 use Rattle.vo_check.specs.Testing.{tree_in, tree_seen, tables_with_trees}
 use Rattle.vo_check.proofs.pairing.pair_trees.Given as goal
 

@@ -22,7 +22,7 @@ use Rattle.query_plan.specs.Plans.{QueryPlan, plan_of}
 use Rattle.plan_run.specs.Running.{is_any_missing}
 use Rattle.plan_run.proofs.ByNames.{rows_same, needs_same}
 use Rattle.vo_check.specs.Testing.{GivesIfPassed, PassesTests, tables_with_trees, number_fault, shapes_fault, trees_fault, missed_fault, excess_fault, needs_fault}
-use Rattle.vo_check.specs.Judging.{needed_for, shown_for, bound_fault, record_fault, proof_fault}
+use Rattle.vo_check.specs.Judging.{needed_for, shown_for, bound_fault, head_fault, record_fault, proof_fault}
 
 -- Lists of faults in groups.
 
@@ -50,6 +50,11 @@ four_one None None (Some f) d e rest = refl
 four_one None None None (Some f) e rest = refl
 four_one None None None None (Some f) rest = refl
 four_one None None None None None rest = sym (alone (first_some rest))
+
+two_one : {F : Type 0} (a b c : Option F) → first_some (a ∷ b ∷ c ∷ []) ≡ first_some (first_some (a ∷ b ∷ []) ∷ c ∷ [])
+two_one (Some f) b c = refl
+two_one None (Some f) c = refl
+two_one None None c = refl
 
 first_if : (b : Bool) (f : CheckFault) (rest : List (Option CheckFault)) → first_some ((if b then None else Some f) ∷ rest) ≡ None → b ≡ true
 first_if true f rest e = refl
@@ -158,15 +163,15 @@ module _ (key : List ℕ) (least : ℕ) (q : Query) (r : Reply) where
   reply_parts = four_one (key_fault key r) (leaf_fault key r) (signature_fault key r) (age_fault least r) (catalog_fault r)
       (count_fault q r ∷ shape_fault q r ∷ first_some (map root_fault (trees_of q r)) ∷ missing_fault q r ∷ surplus_fault q r ∷ [])
 
-  pub refused_record : (fault : CheckFault) → Some fault ≡ record_fault key least r → check_fault key least q r ≡ Some fault
-  refused_record fault e = reply_parts ∙ rw (sym e) refl
+  head_first : check_fault key least q r ≡ first_some (head_fault key least r ∷ proof_fault q r ∷ [])
+  head_first = reply_parts ∙ two_one (record_fault key least r) (catalog_fault r) (proof_fault q r)
 
-  pub refused_catalog : (fault : CheckFault) → None ≡ record_fault key least r → PassesTests (Err fault) (catalog_fault r) → PassesTests (Err fault) (check_fault key least q r)
-  refused_catalog fault none (inl memory) = inl memory
-  refused_catalog fault none (inr found) = inr (reply_parts ∙ rw (sym none, found) refl)
+  pub refused_head : (fault : CheckFault) → PassesTests (Err fault) (head_fault key least r) → PassesTests (Err fault) (check_fault key least q r)
+  refused_head fault (inl memory) = inl memory
+  refused_head fault (inr found) = inr (head_first ∙ rw found refl)
 
-  pub left_to_trees : None ≡ record_fault key least r → catalog_fault r ≡ None → check_fault key least q r ≡ proof_fault q r
-  left_to_trees none passed = reply_parts ∙ rw (sym none, passed) (alone (proof_fault q r))
+  pub left_to_trees : head_fault key least r ≡ None → check_fault key least q r ≡ proof_fault q r
+  left_to_trees passed = head_first ∙ rw passed (alone (proof_fault q r))
 
 pub answered : {A : Type 0} (result : Result A CheckFault) (found : Option CheckFault) (value : A) → GivesIfPassed result found value
     → (result ≡ Err Memory) ⊎ (result ≡ unless found value)

@@ -87,7 +87,7 @@ module _ (key : List ℕ) (least : ℕ) (r : Reply) where
         let same : a ≡ record { version = r.rec.version; outcome = seen_outcome q r.catalog r.trees } = cc in
         record { reply = r; read = read; signed = known.0; age = known.1; version_is = ap (λ (x : Answer). x.version) same }
 
-accepted : (key : List ℕ) (least : ℕ) (q : Query) (bytes : List ℕ) (r : Result Answer CheckFault) → (r ≡ Err Memory) ⊎ CheckOf key least q bytes r
+pub accepted : (key : List ℕ) (least : ℕ) (q : Query) (bytes : List ℕ) (r : Result Answer CheckFault) → (r ≡ Err Memory) ⊎ CheckOf key least q bytes r
     → IfOk r (λ answer. IsSignedReply key least bytes answer.version)
 unfolding CheckOf answer_to
 accepted key least q bytes (Err f) h = tt

@@ -1,0 +1,78 @@
+-- What a client says of a reply to a query without a join, by the reply's head and by what was
+-- found in its trees.
+use Rattle.std.specs.Prelude.{◌≡◌, if◌then◌else◌, Option, Some, None, is_some}
+use Rattle.vo_spec.specs.declared.checks.CheckFault.{CheckFault}
+use Rattle.vo_spec.specs.declared.checks.CheckFault.TheVariants.{WrongShape, Missing, Surplus}
+use Rattle.vo_spec.specs.declared.records.Catalog.{Catalog}
+use Rattle.vo_spec.specs.declared.records.CatalogTable.{CatalogTable}
+use Rattle.vo_spec.specs.Conditions.{Query}
+use Rattle.vo_spec.specs.Fits.{FitsTree}
+use Rattle.vo_spec.specs.Needs.{left_need}
+use Rattle.vo_spec.specs.Records.{table_headers}
+use Rattle.vo_spec.specs.Replies.{Reply, FitsReply}
+use Rattle.vo_spec.specs.Results.{binding_fault, bound_source_at, bound_sources, schema_at}
+use Rattle.vo_spec.specs.Trees.{RowTree, digest}
+use Rattle.vo_spec.specs.Checks.{table_named}
+use Rattle.query_plan.specs.BoundQueries.{BoundQuery}
+use Rattle.query_plan.specs.Plans.{bound_left_need}
+use Rattle.tree_stream.specs.declared.findings.Findings.{Findings}
+use Rattle.tree_stream.specs.declared.findings.Summary.{Summary}
+use Rattle.tree_stream.specs.declared.target.Target.{Target}
+use Rattle.tree_stream.specs.Findings.{findings_in, no_target, target_of}
+use Rattle.tree_stream.specs.Remaining.{summary}
+use Rattle.reply_stream.specs.declared.trees_summary.TreesSummary.{TreesSummary}
+use Rattle.reply_stream.specs.ReplyHeads.{ReplyHead}
+use Rattle.reply_stream.specs.ReplyTrees.{trees_summary}
+use Rattle.vo_check.specs.Testing.{digest_fault}
+
+-- What the first tree is read for: the rows that the query needs of it, or none where the query is
+-- wrong.
+
+abbrev pub bound_target : BoundQuery → Target
+bound_target b = target_of (bound_left_need b) (schema_at b.bound_sources 0)
+
+abbrev pub target_for : Query → Catalog → Target
+target_for q c =
+    let ss = bound_sources (table_headers c) q in
+    if is_some (binding_fault (table_headers c) q) then no_target
+    else target_of (left_need ss q) (schema_at ss 0)
+
+abbrev pub plan_for : Query → ReplyHead → Target
+plan_for q head = target_for q head.catalog
+
+-- the first of two tests that refuses
+abbrev pub or_fault : Option CheckFault → Option CheckFault → Option CheckFault
+or_fault None next = next
+or_fault (Some fault) next = Some fault
+
+-- the tests of a tree by its summary: against its table, if there is one, and by what is needed
+
+abbrev pub table_fault : Option CatalogTable → Summary → Option CheckFault
+table_fault None s = None
+table_fault (Some table) s =
+    if s.findings.has_shape then digest_fault table s.digest else Some WrongShape
+
+abbrev pub findings_fault : Findings → Option CheckFault
+findings_fault f =
+    if f.is_missing then Some Missing else if f.has_surplus then Some Surplus else None
+
+abbrev pub summary_fault : Option CatalogTable → Summary → Option CheckFault
+summary_fault table s = or_fault (table_fault table s) (findings_fault s.findings)
+
+-- the table of a bound query's one source
+abbrev pub table_of : BoundQuery → Catalog → Option CatalogTable
+table_of b c = table_named (bound_source_at b.bound_sources 0).table c
+
+-- it has the schema that the query is bound to
+abbrev pub HasSchema : BoundQuery → Catalog → Type 0
+HasSchema b c = (table : CatalogTable) → table_of b c ≡ Some table
+    → table.schema ≡ schema_at b.bound_sources 0
+
+-- the tree has this summary
+abbrev pub IsSummedUp : Target → RowTree → Summary → Type 0
+IsSummedUp target tree s = FitsTree tree × (s ≡ summary (digest tree) (findings_in target tree))
+
+-- a reply of this catalog has trees of which this was found
+abbrev pub HasFound : Target → Catalog → TreesSummary → Reply → Type 0
+HasFound target c trees r = FitsReply r × (r.catalog ≡ c)
+    × (trees ≡ trees_summary target r.trees)

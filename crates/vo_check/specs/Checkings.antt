@@ -1,0 +1,80 @@
+-- The check of a reply whose bytes come in pieces: how far it is, and what it stands for.
+use Rattle.std.specs.Prelude.{◌≡◌, ℕ, ◌<◌, Bool, true, false, List, [], ◌++◌, length, Some, None, is_some, IsTrue}
+use Rattle.row_bytes.specs.Fields.{whole}
+use Rattle.vo_spec.specs.declared.queries.QueryText.{QueryText}
+use Rattle.vo_spec.specs.Conditions.{Query}
+use Rattle.vo_spec.specs.Replies.{max_reply}
+use Rattle.reply_stream.specs.declared.trees_stream.TreesStream.{TreesStream}
+use Rattle.reply_stream.specs.Heads.{head_at}
+use Rattle.reply_stream.specs.HeadStreams.{head_of}
+use Rattle.reply_stream.specs.ReplyHeads.{ReplyHead}
+use Rattle.reply_stream.specs.ReplyTrees.{trees_at}
+use Rattle.reply_stream.specs.TreesStreams.{trees_of, WantsMemory}
+use Rattle.vo_check.specs.declared.progress.Progress.{Progress}
+use Rattle.vo_check.specs.declared.progress.Progress.TheVariants.{Head, Trees, Kept, TooLong, OutOfMemory}
+use Rattle.vo_check.specs.Alone.{plan_for}
+
+-- a query, the bytes of its reply that came, and whether one of the pieces found no memory
+pub record CheckingModel : Type 0 where
+  pub query : QueryText
+  pub bytes : List ℕ
+  pub is_out_of_memory : Bool
+
+abbrev pub no_bytes_of : QueryText → CheckingModel
+no_bytes_of q = record { query = q; bytes = []; is_out_of_memory = false }
+
+abbrev pub with_piece : CheckingModel → List ℕ → CheckingModel
+with_piece c piece = record {
+  query = c.query;
+  bytes = c.bytes ++ piece;
+  is_out_of_memory = c.is_out_of_memory;
+}
+
+-- the same where the piece found no memory
+abbrev pub without_memory : CheckingModel → List ℕ → CheckingModel
+without_memory c piece =
+    record { query = c.query; bytes = c.bytes ++ piece; is_out_of_memory = true }
+
+abbrev pub is_out_of_memory : Progress → Bool
+is_out_of_memory OutOfMemory = true
+is_out_of_memory _ = false
+
+-- what comes before the trees isn't whole
+abbrev pub is_of_head : Progress → Bool
+is_of_head (Head stream) = true
+is_of_head _ = false
+
+-- The bytes are a head and what came behind it, and the trees so far are that; the first of them is
+-- read for what the query needs.
+pub record ReadsTrees (q : Query) (head : ReplyHead) (trees : TreesStream) (bytes : List ℕ)
+    : Type 0 where
+  pub behind : List ℕ
+  pub head_is : (more : List ℕ) → head_at (bytes ++ more) ≡ Some (head, behind ++ more)
+  pub trees_are : (more : List ℕ)
+      → trees_of trees more ≡ whole (trees_at (plan_for q head) (behind ++ more))
+
+-- the check of a reply to this query is so far behind these bytes
+abbrev pub StandsBehind : Query → Progress → List ℕ → Type 0
+StandsBehind q (Head stream) bytes = (q.join ≡ None) × (head_of stream [] ≡ None)
+    × ((more : List ℕ) → head_of stream more ≡ head_at (bytes ++ more))
+StandsBehind q (Trees reply) bytes =
+    (q.join ≡ None) × ReadsTrees q reply.head reply.trees bytes
+StandsBehind q (Kept held) bytes = IsTrue (is_some q.join) × (held.items ≡ bytes)
+StandsBehind q TooLong bytes = max_reply < length bytes
+StandsBehind q OutOfMemory bytes = Unit {0}
+
+-- only of a reply to a query without a join are the trees read as they come
+abbrev pub SuitsQuery : Query → Progress → Type 0
+SuitsQuery q (Trees reply) = q.join ≡ None
+SuitsQuery q _ = Unit {0}
+
+-- What a call may want memory for that begins behind the catalog's last byte.
+
+abbrev pub HasHead : List ℕ → Type 0
+HasHead bytes = (head : ReplyHead) × (behind : List ℕ) × (head_at bytes ≡ Some (head, behind))
+
+-- some byte of the piece is of a row of the first tree whose key is in the interval that the query
+-- needs
+abbrev pub WantsRow : Query → List ℕ → List ℕ → Type 0
+WantsRow q bytes piece = (head : ReplyHead) × (trees : TreesStream)
+    × ReadsTrees q head trees bytes × WantsMemory trees piece

@@ -1,0 +1,161 @@
+//! The steps of a check whose bytes come in pieces.
+ghost use Rattle.std.specs.Prelude.{◌≡◌, ◌<◌, ◌++◌, ℕ, List, [], None, Some, Ok, true, false, length, IsErr, IsOk, IfOk, OnOk, OnErr};
+ghost use Rattle.vo_spec.specs.Conditions.{Query, query_of};
+ghost use Rattle.vo_spec.specs.Bytes.{IsBytes};
+ghost use Rattle.vo_spec.specs.Replies.{IsNoReply, max_reply};
+ghost use Rattle.reply_stream.specs.Heads.{head_at};
+ghost use Rattle.vo_check.specs.Checkings.{HasHead, StandsBehind, WantsRow, is_of_head, is_out_of_memory};
+
+use crate::progress::{OpenReply, Progress};
+use crate::targets::target_for;
+use reply_stream::{Head, HeadStream, TreesStream};
+use std::alloc::{AllocError, Global};
+use std::mem;
+use vo_spec::QueryText;
+
+/// Where the check of a reply to this query begins.
+pub(crate) fn first_progress(alloc: Global, query: &QueryText) -> Progress
+    ensures stands { StandsBehind (query_of query.now) result [] }
+    ensures out { is_out_of_memory result ≡ false }
+{
+    match query.join {
+        Some(_) => Progress::Kept(Vec::new(alloc)),
+        None => Progress::Head(HeadStream::new(alloc)),
+    }
+}
+
+/// Lets go of what was read of a reply over the limit, of which only the length counts.
+pub(crate) fn let_go(progress: &mut Progress)
+    ensures stands { (q : Query) (bytes : List ℕ) → max_reply < length bytes
+        → StandsBehind q progress.new bytes }
+    ensures out { is_out_of_memory progress.new ≡ is_out_of_memory progress.old }
+{
+    *progress = match progress {
+        Progress::OutOfMemory => Progress::OutOfMemory,
+        _ => Progress::TooLong,
+    };
+}
+
+/// Takes the piece that comes next.
+pub(crate) fn feed_progress(
+    progress: &mut Progress,
+    alloc: Global,
+    query: &QueryText,
+    piece: &[u8],
+) -> Result<(), AllocError>
+    ensures stands { OnOk result ((bytes : List ℕ)
+        → StandsBehind (query_of query.now) progress.old bytes
+        → StandsBehind (query_of query.now) progress.new (bytes ++ piece.now)) }
+    ensures out { OnOk result (is_out_of_memory progress.new ≡ is_out_of_memory progress.old) }
+    ensures err { OnErr result (progress.new ≡ Progress.OutOfMemory) }
+    ensures dead { (bytes : List ℕ) → IsBytes bytes
+        → StandsBehind (query_of query.now) progress.old bytes → query.now.join ≡ None
+        → HasHead bytes → ((more : List ℕ) → IsBytes more → IsNoReply (bytes ++ more))
+        → IsOk result }
+    ensures memory { (bytes : List ℕ) → StandsBehind (query_of query.now) progress.old bytes
+        → query.now.join ≡ None → HasHead bytes → IsErr result
+        → WantsRow (query_of query.now) bytes piece.now }
+{
+    match feed_in_place(progress, alloc, piece) {
+        Ok(true) => Ok(()),
+        Ok(false) => feed_head(progress, alloc, query, piece),
+        Err(error) => {
+            let _ = mem::replace(progress, Progress::OutOfMemory);
+            Err(error)
+        },
+    }
+}
+
+/// Takes a piece where the progress stands, unless that is of a head, and says whether it did. The
+/// progress of trees is large, and isn't moved for a piece.
+fn feed_in_place(progress: &mut Progress, alloc: Global, piece: &[u8]) -> Result<bool, AllocError>
+    ensures stands { result ≡ Ok true → (q : Query) (bytes : List ℕ)
+        → StandsBehind q progress.old bytes → StandsBehind q progress.new (bytes ++ piece.now) }
+    ensures out { result ≡ Ok true
+        → is_out_of_memory progress.new ≡ is_out_of_memory progress.old }
+    ensures head { result ≡ Ok false
+        → (progress.new ≡ progress.old) × (is_of_head progress.old ≡ true) }
+    ensures dead { (q : Query) (bytes : List ℕ) → IsBytes bytes → q.join ≡ None
+        → StandsBehind q progress.old bytes
+        → ((more : List ℕ) → IsBytes more → IsNoReply (bytes ++ more)) → IsOk result }
+    ensures memory { (q : Query) (bytes : List ℕ) → q.join ≡ None
+        → StandsBehind q progress.old bytes → IsErr result → WantsRow q bytes piece.now }
+{
+    match progress {
+        Progress::Head(_) => Ok(false),
+        Progress::Trees(reply) => {
+            reply.trees.feed(alloc, piece)?;
+            Ok(true)
+        },
+        Progress::Kept(held) => {
+            held.extend_from_slice(piece)?;
+            Ok(true)
+        },
+        Progress::TooLong => Ok(true),
+        Progress::OutOfMemory => Ok(true),
+    }
+}
+
+/// Takes a piece of the head, and where that ends in it, of the trees.
+fn feed_head(
+    progress: &mut Progress,
+    alloc: Global,
+    query: &QueryText,
+    piece: &[u8],
+) -> Result<(), AllocError>
+    requires { is_of_head progress.old ≡ true }
+    ensures stands { OnOk result ((bytes : List ℕ)
+        → StandsBehind (query_of query.now) progress.old bytes
+        → StandsBehind (query_of query.now) progress.new (bytes ++ piece.now)) }
+    ensures out { OnOk result (is_out_of_memory progress.new ≡ is_out_of_memory progress.old) }
+    ensures err { OnErr result (progress.new ≡ Progress.OutOfMemory) }
+    ensures before { (q : Query) (bytes : List ℕ) → StandsBehind q progress.old bytes
+        → HasHead bytes → ⊥ }
+{
+    match mem::replace(progress, Progress::OutOfMemory) {
+        Progress::Head(stream) => {
+            *progress = progress_behind(stream, alloc, query, piece)?;
+            Ok(())
+        },
+        _ => unreachable!(),
+    }
+}
+
+/// What a piece leaves that is of the head, and where that ends in it, of the trees.
+fn progress_behind(
+    mut stream: HeadStream,
+    alloc: Global,
+    query: &QueryText,
+    piece: &[u8],
+) -> Result<Progress, AllocError>
+    ensures stands { IfOk result (λ next. (bytes : List ℕ)
+        → StandsBehind (query_of query.now) (Progress.Head stream) bytes
+        → StandsBehind (query_of query.now) next (bytes ++ piece.now)) }
+    ensures out { IfOk result (λ next. is_out_of_memory next ≡ false) }
+{
+    let left = stream.feed(alloc, piece)?;
+    if stream.head().is_none() {
+        return Ok(Progress::Head(stream));
+    }
+    match stream.end() {
+        Some(head) => begin_trees(alloc, query, head, left),
+        None => unreachable!(),
+    }
+}
+
+/// Begins the trees behind a head, of which these bytes came.
+fn begin_trees(
+    alloc: Global,
+    query: &QueryText,
+    head: Head,
+    left: &[u8],
+) -> Result<Progress, AllocError>
+    ensures stands { IfOk result (λ next. (bytes : List ℕ) → query.now.join ≡ None
+        → ((more : List ℕ) → head_at (bytes ++ more) ≡ Some (head, left.now ++ more))
+        → StandsBehind (query_of query.now) next bytes) }
+    ensures out { IfOk result (λ next. is_out_of_memory next ≡ false) }
+{
+    let mut trees = TreesStream::new(target_for(alloc, query, head.catalog())?);
+    trees.feed(alloc, left)?;
+    Ok(Progress::Trees(OpenReply { head, trees }))
+}
