@@ -1,17 +1,20 @@
 -- What a question and its answer are as a request.
-use Rattle.std.proofs.Common.{◌≡◌, ℕ, ◌+◌, ◌<◌, ◌^◌, List, [], ◌∷◌, length, Option, Some, IfSome, IfOk, Result, Ok, Err, IsErr, IsTrue, refl, sym, ap, ◌∙◌, subst, inr, zero-add, rules, tests}
+use Rattle.std.proofs.Common.{◌≡◌, ◌≢◌, ℕ, ◌+◌, ◌<◌, ◌^◌, List, [], ◌∷◌, ◌++◌, length, Option, Some, IfSome, IfOk, Result, Ok, Err, IsErr, IsTrue, refl, sym, ap, ◌∙◌, subst, inr, zero-add, rules, tests}
 use Rattle.std.specs.Prelude.{nat_lt}
 use Rattle.std.specs.Result.{result_map_both}
 use Rattle.std.specs.Global.{Vec}
 use Rattle.outside.specs.ConnectionModel.{ConnectionModel, send_on, has_next}
 use Rattle.link_frames.specs.declared.frame_kind.FrameKind.{FrameKind}
+use Rattle.link_frames.specs.declared.frame_kind.FrameKind.TheVariants as kind
+use Rattle.link_frames.specs.declared.received.Received.{Received}
+use Rattle.link_frames.specs.declared.received.Received.TheVariants as received
 use Rattle.link_frames.specs.declared.frame.NoFrame.{NoFrame}
 use Rattle.link_frames.specs.declared.frame.NoFrame.TheVariants as no_frame
 use Rattle.link_frames.specs.Frames.{Coming, Whole, Ended, Cut, Bad, span}
-use Rattle.link_frames.specs.Reading.{Took, TookRest, Asks}
+use Rattle.link_frames.specs.Reading.{Took, TookRest, AsksAs, Receives}
 use Rattle.connections.specs.declared.wire_fault.WireFault.{WireFault}
 use Rattle.connections.specs.declared.wire_fault.WireFault.TheVariants as fault
-use Rattle.connections.specs.Requesting.{answer_in, body_of, fault_of, Requests}
+use Rattle.connections.specs.Requesting.{answer_in, body_of, fault_of, received_answer, Requests, RequestsInto}
 
 -- a read from the beginning took what comes first
 took_span : (first : Coming) (before : ConnectionModel) (after : Option ConnectionModel)
@@ -59,17 +62,41 @@ whole_requested frame first kind body result before after h gives =
     (gives ∙ sym (answer_whole first kind body h.0)) (took_span first (send_on frame before) after h.1)
 
 -- no frame was read
-pub unanswered : (frame : List ℕ) (first : Coming) (why : NoFrame) (before : ConnectionModel)
-    (after : Option ConnectionModel) → Asks frame first (Err why) before after
-    → Requests {X = Vec ℕ} (λ bytes. bytes.items) frame first (answer_in first) (Err (fault_of why)) before after
-unanswered frame first no_frame.Ended before after h =
+pub unanswered : {X Y : Type 0} (view : X → List ℕ) (Is : Coming → Y → Type 0) (frame : List ℕ) (first : Coming)
+    (why : NoFrame) (before : ConnectionModel) (after : Option ConnectionModel) → AsksAs Is frame first (Err why) before after
+    → Requests view frame first (answer_in first) (Err (fault_of why)) before after
+unanswered view Is frame first no_frame.Ended before after h =
     (answer_ended first h.0, took_span first (send_on frame before) after h.1)
-unanswered frame first (no_frame.Cut got) before after h =
+unanswered view Is frame first (no_frame.Cut got) before after h =
     (answer_cut first got h.0, took_span first (send_on frame before) after h.1)
-unanswered frame first (no_frame.BadFrame length) before after h =
+unanswered view Is frame first (no_frame.BadFrame length) before after h =
     (answer_bad first length h.0.0 h.0.1, took_span first (send_on frame before) after h.1)
-unanswered frame first no_frame.LinkFault before after h = h
-unanswered frame first no_frame.Memory before after h = h
+unanswered view Is frame first no_frame.LinkFault before after h = h
+unanswered view Is frame first no_frame.Memory before after h = h
+
+-- a body is an answer, but for a refusal's
+body_kept : (k : FrameKind) (body : List ℕ) → k ≢ kind.Refusal → body_of k body ≡ Ok body
+body_kept kind.Query body other = refl
+body_kept kind.Status body other = refl
+body_kept kind.Propose body other = refl
+body_kept kind.Install body other = refl
+body_kept kind.Reply body other = refl
+body_kept kind.Standing body other = refl
+body_kept kind.Proofs body other = refl
+body_kept kind.Installed body other = refl
+body_kept kind.Refusal body other = absurd (other refl)
+
+-- an answer was read, and its body gathered
+pub gathered_requested : (old new frame : List ℕ) (first : Coming) (received : Received) (before : ConnectionModel)
+    (after : Option ConnectionModel) → Receives old new first received × TookRest 0 first (send_on frame before) after
+    → RequestsInto (λ body. new ≡ old ++ body) frame first (received_answer received) before after
+gathered_requested old new frame first (received.Body k) before after h = (
+  h.0.1.0,
+  h.0.1.2,
+  (answer_whole first k h.0.1.0 h.0.1.1 ∙ body_kept k h.0.1.0 h.0.0, took_span first (send_on frame before) after h.1),
+)
+gathered_requested old new frame first (received.Refusal code) before after h =
+    ([], tt, (answer_whole first kind.Refusal (code ∷ []) h.0.1, took_span first (send_on frame before) after h.1))
 
 -- a body that was read is not too long for a frame
 pub short_body : (result : Result (Vec ℕ) WireFault) (body : Vec ℕ) → IfOk result (λ bytes. bytes ≡ body)

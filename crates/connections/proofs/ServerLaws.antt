@@ -3,10 +3,10 @@ use Rattle.std.proofs.Common.{◌≡◌, ◌≢◌, ℕ, ◌+◌, ◌<◌, ◌�
 use Rattle.std.proofs.lemmas.List.{drop-drop, length-drop}
 use Rattle.std.specs.Prelude.{nat_lt}
 use Rattle.std.specs.List.{AllByRecursion}
-use Rattle.outside.specs.ConnectionModel.{ConnectionModel, open_next, shut, has_next, open_known, close_known}
+use Rattle.outside.specs.ConnectionModel.{ConnectionModel, open_next, close_wire, has_next, open_known, close_known}
 use Rattle.outside.specs.FaultRose.{FaultRose}
 use Rattle.outside.specs.Miss.{CountsMiss}
-use Rattle.outside.specs.Sink.{added}
+use Rattle.outside.specs.Sink.{append_known}
 use Rattle.link_frames.specs.declared.end.End.{End}
 use Rattle.link_frames.specs.declared.end.End.TheVariants as ended
 use Rattle.link_frames.specs.Scripts.{Event, Puts, Takes, Does, Script, wire_next, wire_after, IsBegun, Stops}
@@ -103,11 +103,11 @@ pub one_served : {S : Type 0} (reply : Reply S) (next : Next S) (end : End) (old
     → later ≡ close_known last → AreServedKnown reply next (end ∷ []) old new wire later
 one_served reply next end old new wire opened last later came opens serves closes = λ before is.
     let s = serves (open_next before) (opens ∙ ap open_known is) in (
-      shut s.0,
+      close_wire s.0,
       closes ∙ ap close_known s.1,
       (
         new,
-        shut s.0,
+        close_wire s.0,
         record { came = came before is; last = s.0; serves = s.2; closed = refl },
         (refl, refl),
       ),
@@ -124,11 +124,11 @@ lines-append number (first ∷ ends) end =
     (lines-append (number + 1) ends end ∙ ap (λ (n : ℕ). end_lines (number + 1) ends ++ end_line n end) moved)
     ∙ sym (append_assoc (end_line number first) (end_lines (number + 1) ends) (end_line (number + length (first ∷ ends)) end))
 
-added-added : (a b : List ℕ) (o : Option (List ℕ)) → added (added o a) b ≡ added o (a ++ b)
+added-added : (a b : List ℕ) (o : Option (List ℕ)) → append_known (append_known o a) b ≡ append_known o (a ++ b)
 added-added a b None = refl
 added-added a b (Some bytes) = ap (λ (all : List ℕ). Some all) (append_assoc bytes a b)
 
-added-nothing : (o : Option (List ℕ)) → o ≡ added o []
+added-nothing : (o : Option (List ℕ)) → o ≡ append_known o []
 added-nothing None = refl
 added-nothing (Some bytes) = ap (λ (all : List ℕ). Some all) (sym (append-nil bytes))
 
@@ -277,11 +277,11 @@ serves_more reply next number done old now new wire mid later written between af
     number_is : 1 + length h.ends ≡ number + 1
     number_is = omega (arith, h.count_is)
 
-    line : after ≡ added written (end_lines 1 (h.ends ++ one.0 ∷ []))
+    line : after ≡ append_known written (end_lines 1 (h.ends ++ one.0 ∷ []))
     line =
-        one.2.1 ∙ ap (λ (o : Option (List ℕ)). added o (end_line (number + 1) one.0)) h.lines.1
+        one.2.1 ∙ ap (λ (o : Option (List ℕ)). append_known o (end_line (number + 1) one.0)) h.lines.1
         ∙ added-added (end_lines 1 h.ends) (end_line (number + 1) one.0) written
-        ∙ ap (λ (bytes : List ℕ). added written bytes)
+        ∙ ap (λ (bytes : List ℕ). append_known written bytes)
         (sym (lines-append 1 h.ends one.0 ∙ ap (λ (n : ℕ). end_lines 1 h.ends ++ end_line n one.0) number_is))
 
 -- all
@@ -320,9 +320,9 @@ serves_to_fault reply next number count fault.Output old now new wire mid later 
     refl,
     all-append HasLine h.ends one.0 h.lines.0 one.2.0,
     one.2.1,
-    one.2.2 ∙ ap (λ (o : Option (List ℕ)). added o (take one.2.1 (end_line (number + 1) one.0))) h.lines.1
+    one.2.2 ∙ ap (λ (o : Option (List ℕ)). append_known o (take one.2.1 (end_line (number + 1) one.0))) h.lines.1
         ∙ added-added (end_lines 1 h.ends) (take one.2.1 (end_line (number + 1) one.0)) written
-        ∙ ap (λ (n : ℕ). added written (end_lines 1 h.ends ++ take one.2.1 (end_line n one.0)))
+        ∙ ap (λ (n : ℕ). append_known written (end_lines 1 h.ends ++ take one.2.1 (end_line n one.0)))
         (sym (length-one_more h.ends one.0 ∙ ap (λ (n : ℕ). n + 1) h.count_is)),
   );
   known = served_known-append reply next h.ends (one.0 ∷ []) old now new wire mid later h.known one.1;

@@ -1,5 +1,5 @@
 -- What a request gives: the body of its answer, or why there is none.
-use Rattle.std.specs.Prelude.{◌≡◌, ℕ, List, slice_index, Option, Result, Ok, Err}
+use Rattle.std.specs.Prelude.{◌≡◌, ℕ, List, slice_index, Option, Result, Ok, Err, OnOk}
 use Rattle.outside.specs.ConnectionModel.{ConnectionModel, send_on}
 use Rattle.link_frames.specs.declared.frame_kind.FrameKind.{FrameKind}
 use Rattle.link_frames.specs.declared.frame_kind.FrameKind.TheVariants.{Refusal}
@@ -7,6 +7,8 @@ use Rattle.link_frames.specs.Frames.{Coming, Whole, Ended, Cut, Bad, span}
 use Rattle.link_frames.specs.Reading.{Took, IsHalfAsked}
 use Rattle.link_frames.specs.declared.frame.NoFrame.{NoFrame}
 use Rattle.link_frames.specs.declared.frame.NoFrame.TheVariants as no_frame
+use Rattle.link_frames.specs.declared.received.Received.{Received}
+use Rattle.link_frames.specs.declared.received.Received.TheVariants as received
 use Rattle.connections.specs.declared.wire_fault.WireFault.{WireFault}
 use Rattle.connections.specs.declared.wire_fault.WireFault.TheVariants as fault
 
@@ -40,3 +42,14 @@ Requests view frame first answer (Err fault.LinkFault) before after = IsHalfAske
 Requests view frame first answer (Err fault.Memory) before after = IsHalfAsked frame before after
 Requests view frame first answer (Err why) before after =
     (answer ≡ Err why) × Took (span first) (send_on frame before) after
+
+-- what a frame is as an answer, whose body was gathered
+abbrev pub received_answer : Received → Result (Unit {0}) WireFault
+received_answer (received.Body kind) = Ok tt
+received_answer (received.Refusal code) = Err (fault.Refused code)
+
+-- The same of a request whose answer's body is one of which this holds.
+abbrev pub RequestsInto : (List ℕ → Type 0) → List ℕ → Coming → Result (Unit {0}) WireFault
+    → ConnectionModel → Option ConnectionModel → Type 0
+RequestsInto Is frame first result before after = (body : List ℕ) × OnOk result (Is body)
+    × Requests (λ _. body) frame first (answer_in first) result before after

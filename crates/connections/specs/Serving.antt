@@ -2,8 +2,8 @@
 use Rattle.std.specs.Prelude.{◌≡◌, ◌≢◌, ◌⊎◌, ℕ, ◌<◌, ◌≤◌, List, [], ◌∷◌, ◌++◌, length, take, Option, Some, Result, Ok, Err, IsTrue}
 use Rattle.std.specs.List.{AllByRecursion}
 use Rattle.outside.specs.FaultRose.{FaultRose}
-use Rattle.outside.specs.ConnectionModel.{ConnectionModel, open_next, shut, has_next}
-use Rattle.outside.specs.Sink.{added}
+use Rattle.outside.specs.ConnectionModel.{ConnectionModel, open_next, close_wire, has_next}
+use Rattle.outside.specs.Sink.{append_known}
 use Rattle.link_frames.specs.declared.end.End.{End}
 use Rattle.link_frames.specs.declared.end.End.TheVariants.{LinkFault}
 use Rattle.link_frames.specs.Serving.{Reply, Next, serving_script, max_turns, Serves}
@@ -17,9 +17,9 @@ pub record IsServed {S : Type 0} (reply : Reply S) (next : Next S) (end : End) (
     (before after : ConnectionModel) : Type 0 where
   pub came : IsTrue (has_next before)
   pub last : ConnectionModel
-  pub serves : Serves (serving_script reply next max_turns old (open_next before).coming) end old new
-      (open_next before) last
-  pub closed : after ≡ shut last
+  pub serves : Serves (serving_script reply next max_turns old (open_next before).coming)
+      end old new (open_next before) last
+  pub closed : after ≡ close_wire last
 
 -- the same of connections in turn, each from the state that the one before it left
 abbrev pub AreServed : {S : Type 0} → Reply S → Next S → List End → S → S → ConnectionModel
@@ -34,12 +34,13 @@ abbrev pub AreServedKnown : {S : Type 0} → Reply S → Next S → List End →
     → Option ConnectionModel → Option ConnectionModel → Type 0
 AreServedKnown reply next ends old new wire later =
     (before : ConnectionModel) → wire ≡ Some before
-    → (after : ConnectionModel) × (later ≡ Some after) × AreServed reply next ends old new before after
+    → (after : ConnectionModel) × (later ≡ Some after)
+    × AreServed reply next ends old new before after
 
 -- connections that ended so have their lines
 abbrev pub AreWritten : List End → Option (List ℕ) → Option (List ℕ) → Type 0
 AreWritten ends before after =
-    AllByRecursion HasLine ends × (after ≡ added before (end_lines 1 ends))
+    AllByRecursion HasLine ends × (after ≡ append_known before (end_lines 1 ends))
 
 -- What is written of connections that ended so, by how their serving ended: the line of each; where
 -- the output failed, a front of the last line, behind all others; where memory ran out, all but the
@@ -51,7 +52,8 @@ WritesLines count (Err fault.Network) ends before after =
     (length ends < count) × AreWritten ends before after
 WritesLines count (Err fault.Output) ends before after = (length ends ≤ count)
     × (others : List End) × (end : End) × (ends ≡ others ++ end ∷ []) × AllByRecursion HasLine ends
-    × (n : ℕ) × (after ≡ added before (end_lines 1 others ++ take n (end_line (length ends) end)))
+    × (n : ℕ) × (after ≡ append_known before
+    (end_lines 1 others ++ take n (end_line (length ends) end)))
 WritesLines count (Err fault.Memory) ends before after = (length ends ≤ count)
     × (others : List End) × (end : End) × (ends ≡ others ++ end ∷ [])
     × AreWritten others before after
@@ -60,10 +62,10 @@ WritesLines count (Err fault.Memory) ends before after = (length ends ≤ count)
 abbrev pub WritesLine : ℕ → End → Result (Unit {0}) ServeFault → Option (List ℕ)
     → Option (List ℕ) → Type 0
 WritesLine number end (Ok done) before after =
-    HasLine end × (after ≡ added before (end_line number end))
+    HasLine end × (after ≡ append_known before (end_line number end))
 WritesLine number end (Err fault.Network) before after = ⊥
 WritesLine number end (Err fault.Output) before after =
-    HasLine end × (n : ℕ) × (after ≡ added before (take n (end_line number end)))
+    HasLine end × (n : ℕ) × (after ≡ append_known before (take n (end_line number end)))
 WritesLine number end (Err fault.Memory) before after = after ≡ before
 
 -- no connection ended by a fault of the network, or its count of faults rose

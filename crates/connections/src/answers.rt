@@ -1,14 +1,14 @@
 //! Answers to requests.
-ghost use Rattle.std.specs.Prelude.{◌≡◌, ◌+◌, ◌<◌, ◌≤◌, ◌^◌, length, Some, IfOk, IsErrOf};
+ghost use Rattle.std.specs.Prelude.{◌≡◌, ◌+◌, ◌<◌, ◌≤◌, ◌^◌, ◌++◌, length, Some, IfOk, OnOk, IsErrOf};
 ghost use Rattle.std.specs.Result.{result_map_both};
 ghost use Rattle.outside.specs.ConnectionModel.{ConnectionModel};
 ghost use Rattle.outside.specs.FaultRose.{FaultRose};
 ghost use Rattle.link_frames.specs.Frames.{Whole, frame_bytes, first_frame};
 ghost use Rattle.link_frames.specs.Reading.{StaysWhereItStands};
-ghost use Rattle.connections.specs.Requesting.{Requests, answer_in, body_of};
+ghost use Rattle.connections.specs.Requesting.{Requests, RequestsInto, answer_in, body_of, received_answer};
 
 use crate::wire_fault::WireFault;
-use link_frames::{Awaits, Frame, FrameKind, ask};
+use link_frames::{Awaits, Frame, FrameKind, Gathers, Received, ask, ask_into};
 use outside::Link;
 use std::alloc::Global;
 
@@ -36,6 +36,45 @@ pub fn answer_body<L: Link>(
     match ask(alloc, link, kind, body, awaits) {
         Ok(answer) => body_of(answer),
         Err(fault) => Err(WireFault::without_answer(fault)),
+    }
+}
+
+/// The same with the body of the answer added to what is gathered, as it comes. What is gathered
+/// after an error is open.
+pub fn answer_into<L: Link, G: Gathers>(
+    link: &mut L,
+    kind: FrameKind,
+    body: &[u8],
+    awaits: Awaits,
+    into: &mut G,
+) -> Result<(), WireFault>
+    requires { length body.now + 1 < 2 ^ 32 }
+    ensures known { (before : ConnectionModel) → L.wire link.old ≡ Some before
+        → RequestsInto (λ added. G.gathered into.new ≡ G.gathered into.old ++ added)
+        (frame_bytes kind body.now) (first_frame awaits before.coming) result before
+        (L.wire link.new) }
+    ensures short { OnOk result
+        (length (G.gathered into.new) + 1 < length (G.gathered into.old) + 2 ^ 32) }
+    ensures kept { G.kept into.new ≡ G.kept into.old }
+
+    ensures counts { L.faults link.old ≤ L.faults link.new }
+    ensures cause { IsErrOf result WireFault.LinkFault
+        → FaultRose (L.faults link.old) (L.faults link.new) }
+    ensures misses { StaysWhereItStands (L.wire link.old) (L.misses link.old) (L.misses link.new) }
+{
+    match ask_into(link, kind, body, awaits, into) {
+        Ok(received) => received_answer(received),
+        Err(fault) => Err(WireFault::without_answer(fault)),
+    }
+}
+
+/// A refusal is no answer.
+fn received_answer(received: Received) -> Result<(), WireFault>
+    ensures { result ≡ received_answer received }
+{
+    match received {
+        Received::Body { .. } => Ok(()),
+        Received::Refusal { code } => Err(WireFault::Refused { code }),
     }
 }
 

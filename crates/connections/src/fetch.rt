@@ -1,29 +1,32 @@
 //! A reply that is asked for over a connection of its own.
-ghost use Rattle.std.specs.Prelude.{◌≡◌, ◌≤◌, length, Some, true, IsTrue, IsErrOf};
+ghost use Rattle.std.specs.Prelude.{◌≡◌, ◌+◌, ◌<◌, ◌≤◌, ◌^◌, ◌++◌, length, Some, true, IsTrue, OnOk, IsErrOf};
 ghost use Rattle.outside.specs.ConnectionModel.{ConnectionModel, has_next};
 ghost use Rattle.outside.specs.FaultRose.{FaultRose};
 ghost use Rattle.link_frames.specs.declared.frame_kind.FrameKind.TheVariants.{Query};
 ghost use Rattle.link_frames.specs.Frames.{frame_bytes, max_query};
 ghost use Rattle.connections.specs.Fetching.{Fetches};
 
-use crate::answers::answer_body;
+use crate::answers::answer_into;
 use crate::wire_fault::WireFault;
-use link_frames::{Awaits, FrameKind};
+use link_frames::{Awaits, FrameKind, Gathers};
 use outside::Net;
-use std::alloc::Global;
 
-/// The store's reply to a query, given as text: a connection is made to this address, and stays as
-/// it is afterwards.
-pub fn fetch_reply<N: Net>(
-    alloc: Global,
+/// Adds the store's reply to a query, given as text, to what is gathered, as it comes: a connection
+/// is made to this address, and stays as it is afterwards. What is gathered after an error is open.
+pub fn fetch_into<N: Net, G: Gathers>(
     net: &mut N,
     address: &str,
     text: &[u8],
-) -> Result<Vec<u8>, WireFault>
+    into: &mut G,
+) -> Result<(), WireFault>
     requires some { 1 ≤ length text.now }
     requires fits { length text.now ≤ max_query }
     ensures known { (before : ConnectionModel) → N.wire net.old ≡ Some before
-        → Fetches (frame_bytes Query text.now) result before (N.wire net.new) }
+        → Fetches (λ added. G.gathered into.new ≡ G.gathered into.old ++ added)
+        (frame_bytes Query text.now) result before (N.wire net.new) }
+    ensures short { OnOk result
+        (length (G.gathered into.new) + 1 < length (G.gathered into.old) + 2 ^ 32) }
+    ensures kept { G.kept into.new ≡ G.kept into.old }
 
     ensures counts { N.faults net.old ≤ N.faults net.new }
     ensures cause { IsErrOf result WireFault.LinkFault
@@ -32,7 +35,7 @@ pub fn fetch_reply<N: Net>(
         → IsTrue (has_next before) → N.misses net.new ≡ N.misses net.old }
 {
     match net.connect(address) {
-        Ok(()) => answer_body(alloc, net, FrameKind::Query, text, Awaits::Reply),
+        Ok(()) => answer_into(net, FrameKind::Query, text, Awaits::Reply, into),
         Err(_) => Err(WireFault::LinkFault),
     }
 }

@@ -11,8 +11,8 @@ mod serve_fault;
 mod server;
 mod wire_fault;
 
-pub use answers::answer_body;
-pub use fetch::fetch_reply;
+pub use answers::{answer_body, answer_into};
+pub use fetch::fetch_into;
 pub use serve_fault::ServeFault;
 pub use server::serve_all;
 pub use wire_fault::WireFault;

@@ -2,7 +2,7 @@
 ghost use Rattle.std.specs.Prelude.{[], ◌∷◌, Some};
 ghost use Rattle.link_frames.specs.declared.frame_kind.FrameKind.TheVariants.{Refusal};
 
-use crate::{ServeFault, WireFault, fetch_reply, serve_all};
+use crate::{ServeFault, WireFault, fetch_into, serve_all};
 use link_frames::{Frame, FrameKind, Responder};
 use outside::{FailAt, Failure, MemNet, MemSink, Never};
 use std::alloc::{AllocError, Global};
@@ -57,7 +57,7 @@ fn each_connection_has_its_line(rt: HostRuntime) -> Result<(), Fail> {
     let sent = net.past().first().map(|sent| sent.as_slice());
     let lines = b"connection 1 closed\nconnection 2 bad frame 0\nconnection 3 cut 2\n";
     assert_eq!(rt;
-        (end, sent, out.written()),
+        (end, sent, out.contents()),
         (
             Ok(()),
             Some(b"\x00\x00\x00\x02\x8f\x02".as_slice()),
@@ -83,7 +83,7 @@ fn a_failing_output_ends_the_serving(rt: HostRuntime) -> Result<(), Fail> {
     let mut out = MemSink::new(rt.alloc(), FailAt::new(failures));
     let end = serve_all(rt.alloc(), &mut Refuser, &mut net, &mut out, 3);
     assert_eq!(rt;
-        (end, net.past().len(), out.written()),
+        (end, net.past().len(), out.contents()),
         (
             Err(ServeFault::Output),
             2,
@@ -100,20 +100,25 @@ fn a_failing_link_has_its_line(rt: HostRuntime) -> Result<(), Fail> {
     let mut out = MemSink::new(rt.alloc(), Never);
     let end = serve_all(rt.alloc(), &mut Refuser, &mut net, &mut out, 1);
     assert_eq!(rt;
-        (end, out.written()),
+        (end, out.contents()),
         (Ok(()), b"connection 1 fault\n".as_slice())
     );
     Ok(())
 }
 
 #[test]
-fn a_reply_is_fetched(rt: HostRuntime) -> Result<(), Fail> {
+fn a_reply_is_fetched_behind_other_bytes(rt: HostRuntime) -> Result<(), Fail> {
     let coming = vec![in rt.alloc(); bytes(rt.alloc(), b"\x00\x00\x00\x03\x81ab?")?]?;
     let mut net = MemNet::new(rt.alloc(), coming, Never)?.in_pieces(1);
-    let reply = fetch_reply(rt.alloc(), &mut net, "there", b"who")?;
+    let mut reply = bytes(rt.alloc(), b"of ")?;
+    let end = fetch_into(&mut net, "there", b"who", &mut reply);
     assert_eq!(rt;
-        (reply.as_slice(), net.sent()),
-        (b"ab".as_slice(), b"\x00\x00\x00\x04\x01who".as_slice())
+        (end, reply.as_slice(), net.sent()),
+        (
+            Ok(()),
+            b"of ab".as_slice(),
+            b"\x00\x00\x00\x04\x01who".as_slice()
+        )
     );
     Ok(())
 }
@@ -125,17 +130,21 @@ fn a_reply_is_refused_or_cut(rt: HostRuntime) -> Result<(), Fail> {
         bytes(rt.alloc(), b"")?,
     ]?;
     let mut net = MemNet::new(rt.alloc(), coming, Never)?;
+    let mut reply = bytes(rt.alloc(), b"")?;
     let faults = (
-        fetch_reply(rt.alloc(), &mut net, "there", b"who").err(),
-        fetch_reply(rt.alloc(), &mut net, "there", b"who").err(),
-        fetch_reply(rt.alloc(), &mut net, "there", b"who").err(),
+        fetch_into(&mut net, "there", b"who", &mut reply).err(),
+        fetch_into(&mut net, "there", b"who", &mut reply).err(),
+        fetch_into(&mut net, "there", b"who", &mut reply).err(),
     );
     assert_eq!(rt;
-        faults,
+        (faults, reply.as_slice()),
         (
-            Some(WireFault::Refused { code: 7 }),
-            Some(WireFault::Cut { got: 0 }),
-            Some(WireFault::LinkFault)
+            (
+                Some(WireFault::Refused { code: 7 }),
+                Some(WireFault::Cut { got: 0 }),
+                Some(WireFault::LinkFault)
+            ),
+            b"".as_slice()
         )
     );
     Ok(())

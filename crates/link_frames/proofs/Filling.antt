@@ -2,7 +2,7 @@
 use Rattle.std.proofs.Common.{◌≡◌, ℕ, ◌+◌, ◌-◌, ◌<◌, ◌≤◌, Bool, List, [], ◌++◌, length, take, drop, Option, Some, IfSome, Result, Ok, Err, IsErr, refl, sym, ap, ◌∙◌, subst, arith, append_assoc, append-nil, length-append}
 use Rattle.std.proofs.lemmas.List.{drop-drop, drop_all, length-drop, length-take, take_at, drop_at, take-take, drop-take, take-append-drop, length-take-le}
 use borrow.Rule.Slice.PartMut.{put_mid}
-use Rattle.outside.specs.ConnectionModel.{ConnectionModel, take_from, got, Gets}
+use Rattle.outside.specs.ConnectionModel.{ConnectionModel, take_from, take_known, Gets}
 use Rattle.outside.specs.Miss.{CountsMiss}
 use Rattle.link_frames.specs.Reading.{Took, TookSome, StaysWhereItStands, Fills, Gathered, HandsOn}
 use Rattle.link_frames.specs.declared.interrupted.Interrupted.{Interrupted}
@@ -22,8 +22,8 @@ gets_at filled n old now before wire took g =
     subst (λ (o : Option ConnectionModel). IfSome o (λ (w : ConnectionModel). Gets n w.coming old now)) took g
 
 got_at : (filled n : ℕ) (before : ConnectionModel) (wire later : Option ConnectionModel)
-    → Took filled before wire → later ≡ got n wire → Took (filled + n) before later
-got_at filled n before wire later took l = took_later filled n before later (l ∙ ap (got n) took)
+    → Took filled before wire → later ≡ take_known n wire → Took (filled + n) before later
+got_at filled n before wire later took l = took_later filled n before later (l ∙ ap (take_known n) took)
 
 -- a count that stayed where the connection stood, and then again after something was done on it
 pub stays_on : (first wire : Option ConnectionModel) (old now later : ℕ)
@@ -86,7 +86,7 @@ put_behind filled n coming old now piece within is came =
 -- a call took n bytes more into the rest of the buffer
 pub filled_more : (filled n : ℕ) (old now rest piece : List ℕ) (before : ConnectionModel)
     (wire later : Option ConnectionModel) → rest ≡ drop filled now → FilledTo filled old now before wire
-    → IfSome wire (λ (w : ConnectionModel). Gets n w.coming rest piece) → later ≡ got n wire
+    → IfSome wire (λ (w : ConnectionModel). Gets n w.coming rest piece) → later ≡ take_known n wire
     → FilledTo (filled + n) old (put_mid filled (length now - filled) now piece) before later
 filled_more filled n old now rest piece before wire later is h g l =
     let gets : Gets n (drop filled before.coming) (drop filled now) piece =
@@ -110,7 +110,7 @@ pub record IsFilling (filled : ℕ) (old now : List ℕ) (first wire : Option Co
 pub filled_end : (E : Type 0) (filled n : ℕ) (old now rest piece : List ℕ) (before : ConnectionModel)
     (wire later : Option ConnectionModel) → n ≡ 0 → filled < length now → length now ≡ length old
     → rest ≡ drop filled now → FilledTo filled old now before wire
-    → IfSome wire (λ (w : ConnectionModel). Gets n w.coming rest piece) → later ≡ got n wire
+    → IfSome wire (λ (w : ConnectionModel). Gets n w.coming rest piece) → later ≡ take_known n wire
     → Fills {E = E} old (put_mid filled (length now - filled) now piece) (Ok filled) before later
 filled_end E filled n old now rest piece before wire later zero_ room same is h g l =
     let gets : Gets n (drop filled before.coming) (drop filled now) piece =
@@ -150,13 +150,13 @@ filled_full E filled old now before wire full within h = (omega (arith, h.0), h.
 
 -- a call took n bytes, and they were added
 pub one_piece : (n : ℕ) (old now room piece : List ℕ) (before : ConnectionModel) (wire later : Option ConnectionModel)
-    → wire ≡ Some before → IfSome wire (λ (w : ConnectionModel). Gets n w.coming room piece) → later ≡ got n wire
+    → wire ≡ Some before → IfSome wire (λ (w : ConnectionModel). Gets n w.coming room piece) → later ≡ take_known n wire
     → now ≡ old ++ take n piece → Gathered (length room) old now (Ok n) before later
 one_piece n old now room piece before wire later is g l added =
     let gets : Gets n before.coming room piece = gets_at 0 n room piece before wire is g in
     let front : take n piece ≡ take n before.coming =
     ap (take n) gets.filled ∙ take_at (take n before.coming) (drop n room) n (length-take-le n before.coming gets.fits) in
-    (gets.fits, added ∙ ap (λ (ys : List ℕ). old ++ ys) front, gets.end, l ∙ ap (got n) is)
+    (gets.fits, added ∙ ap (λ (ys : List ℕ). old ++ ys) front, gets.end, l ∙ ap (take_known n) is)
 
 -- the first n bytes of what comes were added
 abbrev pub HandedTo : ℕ → List ℕ → List ℕ → ConnectionModel → Option ConnectionModel → Type 0

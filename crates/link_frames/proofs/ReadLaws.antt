@@ -1,18 +1,19 @@
 -- Reads that go on where others ended.
-use Rattle.std.proofs.Common.{◌≡◌, ◌≢◌, ℕ, ◌+◌, ◌-◌, ◌<◌, ◌≤◌, Bool, true, false, ◌&&◌, cond, eqb, ltb, List, [], ◌∷◌, ◌++◌, length, take, drop, get_or, Option, Some, None, Result, Ok, Err, refl, sym, ap, ◌∙◌, subst, inr, arith, append-nil}
+use Rattle.std.proofs.Common.{◌≡◌, ◌≢◌, ℕ, ◌+◌, ◌-◌, ◌<◌, ◌≤◌, Bool, true, false, ◌&&◌, cond, eqb, ltb, List, [], ◌∷◌, ◌++◌, length, take, drop, get_or, Option, Some, None, Result, Ok, Err, refl, sym, ap, ◌∙◌, subst, inr, arith, append-nil, IsTrue}
 use Rattle.std.proofs.lemmas.List.{drop-drop, drop_all, length-take-le}
 use Rattle.std.specs.Int.{w32, from_be_bytes}
+use Rattle.std.proofs.lemmas.Bool.{eqb-true}
 use Rattle.std.proofs.lemmas.Bool.Decides.{nat_tests}
 use Rattle.outside.specs.ConnectionModel.{ConnectionModel, take_from, send_on}
 use Rattle.vo_spec.specs.Bytes.{u32_of}
 use Rattle.link_frames.specs.declared.awaits.Awaits.{Awaits}
-use Rattle.link_frames.specs.declared.frame.Frame.{Frame}
 use Rattle.link_frames.specs.declared.frame.NoFrame.{NoFrame}
 use Rattle.link_frames.specs.declared.frame.NoFrame.TheVariants as no_frame
 use Rattle.link_frames.specs.declared.head.FrameHead.{FrameHead}
 use Rattle.link_frames.specs.declared.frame_kind.FrameKind.{FrameKind}
-use Rattle.link_frames.specs.Frames.{Coming, Whole, Bad, span, with_body, with_kind, may_come, is_length, behind_length, first_frame, kind_of}
-use Rattle.link_frames.specs.Reading.{Took, TookSome, TookRest, TookRestOrSome, Reads, ReadsHead, Fills, HandsOn, IsHeadOf, Asks}
+use Rattle.link_frames.specs.declared.frame_kind.FrameKind.TheVariants.{Refusal}
+use Rattle.link_frames.specs.Frames.{Coming, Bad, span, with_body, with_kind, may_come, is_length, behind_length, first_frame, kind_of}
+use Rattle.link_frames.specs.Reading.{Took, TookSome, TookRest, TookRestOrSome, ReadsAs, Adds, ReadsHead, Fills, HandsOn, IsHeadOf, AsksAs}
 
 -- taken twice is taken at once
 pub took_later : (k n : ℕ) (w : ConnectionModel) (wire : Option ConnectionModel)
@@ -45,10 +46,11 @@ head_later k first (Ok head) w wire h =
 head_later k first (Err fault) w wire h = (h.0, fault_later k first fault w wire h.1)
 
 -- a frame whose head was taken before
-pub frame_later : (k : ℕ) (first : Coming) (result : Result Frame NoFrame) (w : ConnectionModel)
-    (wire : Option ConnectionModel) → Reads k first result (take_from k w) wire → Reads 0 first result w wire
-frame_later k first (Ok frame) w wire h = (h.0, rest_later k first w wire h.1)
-frame_later k first (Err fault) w wire h = (h.0, fault_later k first fault w wire h.1)
+frame_later : {X : Type 0} (Is : Coming → X → Type 0) (k : ℕ) (first : Coming) (result : Result X NoFrame)
+    (w : ConnectionModel) (wire : Option ConnectionModel) → ReadsAs Is k first result (take_from k w) wire
+    → ReadsAs Is 0 first result w wire
+frame_later Is k first (Ok x) w wire h = (h.0, rest_later k first w wire h.1)
+frame_later Is k first (Err fault) w wire h = (h.0, fault_later k first fault w wire h.1)
 
 -- The head.
 
@@ -212,51 +214,62 @@ length_read E awaits number old new result w wire later four is h known =
 -- The body.
 
 -- the bytes end inside the body
-pub body_cut : (kind : FrameKind) (n came : ℕ) (now : List ℕ) (w : ConnectionModel)
-    (wire : Option ConnectionModel) → came < n → HandsOn n [] now (Ok came) w wire
-    → Reads 5 (with_body kind n w.coming) (Err (no_frame.Cut (5 + came))) w wire
-body_cut kind n came now w wire short h =
+pub body_cut : {X : Type 0} (Is : Coming → X → Type 0) (kind : FrameKind) (n came : ℕ) (old now : List ℕ)
+    (w : ConnectionModel) (wire : Option ConnectionModel) → came < n → HandsOn n old now (Ok came) w wire
+    → ReadsAs Is 5 (with_body kind n w.coming) (Err (no_frame.Cut (5 + came))) w wire
+body_cut Is kind n came old now w wire short h =
     let all : length w.coming ≡ came = omega (arith, h.0) in
     let short_test : ltb (length w.coming) n ≡ true = grind (arith, nat_tests) in
     rw (short_test, all) (refl, (came, refl, h.2))
 
 -- the body is there
-pub body_whole : (kind : FrameKind) (n came : ℕ) (now : List ℕ) (w : ConnectionModel)
-    (wire : Option ConnectionModel) → n ≤ came → HandsOn n [] now (Ok came) w wire
-    → (with_body kind n w.coming ≡ Whole kind now) × TookRest 5 (with_body kind n w.coming) w wire
-body_whole kind n came now w wire long h =
+pub body_whole : (kind : FrameKind) (n came : ℕ) (old now : List ℕ) (w : ConnectionModel)
+    (wire : Option ConnectionModel) → n ≤ came → HandsOn n old now (Ok came) w wire
+    → Adds kind old now (with_body kind n w.coming) × TookRest 5 (with_body kind n w.coming) w wire
+body_whole kind n came old now w wire long h =
     let all : came ≡ n = omega (arith, h.0) in
     let enough : n ≤ length w.coming = omega (arith, h.0) in
     let long_test : ltb (length w.coming) n ≡ false = grind (arith, nat_tests) in
-    let body : take n w.coming ≡ now = ap (λ (k : ℕ). take k w.coming) (sym all) ∙ sym h.1 in
+    let added : now ≡ old ++ take n w.coming = h.1 ∙ ap (λ (k : ℕ). old ++ take k w.coming) all in
     let size : length (take n w.coming) ≡ came = length-take-le n w.coming enough ∙ sym all in
-    rw long_test (ap (Whole kind) body, (came, ap (λ (k : ℕ). 5 + k) (sym size), h.2))
+    rw long_test ((take n w.coming, refl, added), (came, ap (λ (k : ℕ). 5 + k) (sym size), h.2))
+
+-- the body of a refusal
+pub code_behind : {X : Type 0} (Is : Coming → X → Type 0) (kind : FrameKind) (n : ℕ) (result : Result X NoFrame)
+    (w : ConnectionModel) (wire : Option ConnectionModel) → kind ≡ Refusal → IsTrue (is_length kind n)
+    → ReadsAs Is 5 (with_body Refusal 1 w.coming) result w wire → ReadsAs Is 5 (with_body kind n w.coming) result w wire
+code_behind Is kind n result w wire refusal fits h =
+    let one : n ≡ 1 = eqb-true n 1 (subst (λ (k : FrameKind). IsTrue (is_length k n)) refusal fits) in
+    let same : with_body Refusal 1 w.coming ≡ with_body kind n w.coming =
+    ap (λ (k : ℕ). with_body Refusal k w.coming) (sym one) ∙ ap (λ (k : FrameKind). with_body k n w.coming) (sym refusal) in
+    subst (λ (c : Coming). ReadsAs Is 5 c result w wire) same h
 
 -- One frame.
 
 -- a read that began with a head went on with the body
-pub head_then_body : (head : FrameHead) (first : Coming) (result : Result Frame NoFrame) (w : ConnectionModel)
-    (wire later : Option ConnectionModel) → ReadsHead 0 first (Ok head) w wire
+pub head_then_body : {X : Type 0} (Is : Coming → X → Type 0) (head : FrameHead) (first : Coming)
+    (result : Result X NoFrame) (w : ConnectionModel) (wire later : Option ConnectionModel)
+    → ReadsHead 0 first (Ok head) w wire
     → ((mid : ConnectionModel) → wire ≡ Some mid
-    → Reads 5 (with_body head.kind head.length mid.coming) result mid later)
-    → Reads 0 first result w later
-head_then_body head first result w wire later h known =
+    → ReadsAs Is 5 (with_body head.kind head.length mid.coming) result mid later)
+    → ReadsAs Is 0 first result w later
+head_then_body Is head first result w wire later h known =
     let five : h.0 ≡ 5 = omega (arith, h.1) in
     let took : Took 5 w wire = subst (λ (k : ℕ). Took k w wire) five h.3 in
     let first_is : first ≡ with_body head.kind head.length (drop 5 w.coming) =
     subst (λ (k : ℕ). first ≡ with_body head.kind head.length (drop k w.coming)) five h.2 in
-    subst (λ (c : Coming). Reads 0 c result w later) (sym first_is)
-    (frame_later 5 (with_body head.kind head.length (drop 5 w.coming)) result w later (known (take_from 5 w) took))
+    subst (λ (c : Coming). ReadsAs Is 0 c result w later) (sym first_is)
+    (frame_later Is 5 (with_body head.kind head.length (drop 5 w.coming)) result w later (known (take_from 5 w) took))
 
 -- A frame and its answer.
 
 -- what was read after a frame was put
-pub read_asks : (frame : List ℕ) (first : Coming) (result : Result Frame NoFrame) (before : ConnectionModel)
-    (wire : Option ConnectionModel) → Reads 0 first result (send_on frame before) wire
-    → Asks frame first result before wire
-read_asks frame first (Ok answer) before wire h = h
-read_asks frame first (Err no_frame.LinkFault) before wire h = inr h.1
-read_asks frame first (Err no_frame.Memory) before wire h = inr h.1
-read_asks frame first (Err no_frame.Ended) before wire h = h
-read_asks frame first (Err (no_frame.Cut got)) before wire h = h
-read_asks frame first (Err (no_frame.BadFrame size)) before wire h = h
+pub read_asks : {X : Type 0} (Is : Coming → X → Type 0) (frame : List ℕ) (first : Coming) (result : Result X NoFrame)
+    (before : ConnectionModel) (wire : Option ConnectionModel) → ReadsAs Is 0 first result (send_on frame before) wire
+    → AsksAs Is frame first result before wire
+read_asks Is frame first (Ok answer) before wire h = h
+read_asks Is frame first (Err no_frame.LinkFault) before wire h = inr h.1
+read_asks Is frame first (Err no_frame.Memory) before wire h = inr h.1
+read_asks Is frame first (Err no_frame.Ended) before wire h = h
+read_asks Is frame first (Err (no_frame.Cut got)) before wire h = h
+read_asks Is frame first (Err (no_frame.BadFrame size)) before wire h = h

@@ -1,11 +1,15 @@
 -- What calls do that read from a connection or put on it.
-use Rattle.std.specs.Prelude.{◌≡◌, ℕ, ◌+◌, ◌⊎◌, ◌<◌, ◌≤◌, ◌↔◌, min, List, [], ◌++◌, length, take, drop, Option, Some, Result, Ok, Err, true}
+use Rattle.std.specs.Prelude.{◌≡◌, ◌≢◌, ℕ, ◌+◌, ◌⊎◌, ◌<◌, ◌≤◌, ◌↔◌, min, List, [], ◌∷◌, ◌++◌, length, take, drop, Option, Some, Result, Ok, Err, true}
 use Rattle.outside.specs.ConnectionModel.{ConnectionModel, take_from, send_on}
 use Rattle.link_frames.specs.declared.frame.Frame.{Frame}
 use Rattle.link_frames.specs.declared.frame.NoFrame.{NoFrame}
 use Rattle.link_frames.specs.declared.frame.NoFrame.TheVariants as no_frame
+use Rattle.link_frames.specs.declared.frame_kind.FrameKind.{FrameKind}
+use Rattle.link_frames.specs.declared.frame_kind.FrameKind.TheVariants.{Refusal}
 use Rattle.link_frames.specs.declared.head.FrameHead.{FrameHead}
 use Rattle.link_frames.specs.declared.interrupted.Interrupted.{Interrupted}
+use Rattle.link_frames.specs.declared.received.Received.{Received}
+use Rattle.link_frames.specs.declared.received.Received.TheVariants as received
 use Rattle.link_frames.specs.Frames.{Coming, Whole, Ended, Cut, Bad, span, with_body}
 
 -- a connection, where it is known, of which n bytes were taken
@@ -64,13 +68,31 @@ TookRestOrSome k first no_frame.LinkFault before after = TookSome before after
 TookRestOrSome k first no_frame.Memory before after = TookSome before after
 TookRestOrSome k first _ before after = TookRest k first before after
 
--- a read that began k bytes before gives what comes first, whole, or says why it is no frame
+-- a read that began k bytes before gives what comes first, in this form, or says why it is no frame
+abbrev pub ReadsAs : {X : Type 0} → (Coming → X → Type 0) → ℕ → Coming → Result X NoFrame
+    → ConnectionModel → Option ConnectionModel → Type 0
+ReadsAs Is k first (Ok x) before after = Is first x × TookRest k first before after
+ReadsAs Is k first (Err fault) before after =
+    Misses first fault × TookRestOrSome k first fault before after
+
+-- what comes first is this frame
+abbrev pub IsWhole : Coming → Frame → Type 0
+IsWhole first frame = first ≡ Whole frame.kind frame.body.items
+
+-- of a frame that is given whole
 abbrev pub Reads : ℕ → Coming → Result Frame NoFrame → ConnectionModel → Option ConnectionModel
     → Type 0
-Reads k first (Ok frame) before after =
-    (first ≡ Whole frame.kind frame.body.items) × TookRest k first before after
-Reads k first (Err fault) before after =
-    Misses first fault × TookRestOrSome k first fault before after
+Reads k first result before after = ReadsAs IsWhole k first result before after
+
+-- what comes first has this kind, and its body was put behind what was gathered
+abbrev pub Adds : FrameKind → List ℕ → List ℕ → Coming → Type 0
+Adds kind old new first = (body : List ℕ) × (first ≡ Whole kind body) × (new ≡ old ++ body)
+
+-- the same but of a refusal, of which nothing is gathered
+abbrev pub Receives : List ℕ → List ℕ → Coming → Received → Type 0
+Receives old new first (received.Body kind) = (kind ≢ Refusal) × Adds kind old new first
+Receives old new first (received.Refusal code) =
+    (new ≡ old) × (first ≡ Whole Refusal (code ∷ []))
 
 -- the same, up to the body
 abbrev pub ReadsHead : ℕ → Coming → Result FrameHead NoFrame → ConnectionModel
@@ -94,9 +116,15 @@ IsHalfAsked frame before after =
     ((n : ℕ) × (after ≡ Some (send_on (take n frame) before)))
     ⊎ TookSome (send_on frame before) after
 
--- a frame was put, and then what comes first was read
+-- a frame was put, and then what comes first was read, in this form
+abbrev pub AsksAs : {X : Type 0} → (Coming → X → Type 0) → List ℕ → Coming → Result X NoFrame
+    → ConnectionModel → Option ConnectionModel → Type 0
+AsksAs Is frame first (Err no_frame.LinkFault) before after = IsHalfAsked frame before after
+AsksAs Is frame first (Err no_frame.Memory) before after = IsHalfAsked frame before after
+AsksAs Is frame first result before after =
+    ReadsAs Is 0 first result (send_on frame before) after
+
+-- the same where the frame that answers is given whole
 abbrev pub Asks : List ℕ → Coming → Result Frame NoFrame → ConnectionModel → Option ConnectionModel
     → Type 0
-Asks frame first (Err no_frame.LinkFault) before after = IsHalfAsked frame before after
-Asks frame first (Err no_frame.Memory) before after = IsHalfAsked frame before after
-Asks frame first result before after = Reads 0 first result (send_on frame before) after
+Asks frame first result before after = AsksAs IsWhole frame first result before after

@@ -14,16 +14,26 @@ const PIECE: usize = 2_048;
 
 /// What takes bytes piece by piece.
 pub trait Gathers {
+    ghost Kept: { Type 0 };
+
     /// All bytes that were added.
     ghost gathered: { Self → List ℕ };
 
-    /// Adds a piece at the end. What there is after an error is open.
+    /// What stays as it is, whatever is added.
+    ghost kept: { Self → Kept };
+
+    /// Adds a piece at the end. Which bytes there are after an error is open.
     fn add(&mut self, piece: &[u8]) -> Result<(), AllocError>
-        ensures { OnOk result (gathered self.new ≡ gathered self.old ++ piece.now) };
+        ensures added { OnOk result (gathered self.new ≡ gathered self.old ++ piece.now) }
+        ensures kept { kept self.new ≡ kept self.old };
 }
 
 impl Gathers for Vec<u8> {
+    ghost Kept = { Unit {0} };
+
     ghost gathered = { λ bytes. bytes.items };
+
+    ghost kept = { λ _. tt };
 
     fn add(&mut self, piece: &[u8]) -> Result<(), AllocError> {
         self.extend_from_slice(piece)
@@ -42,6 +52,7 @@ pub fn hand_on<L: Link, G: Gathers>(
     ensures fits { IfOk result (λ n. n ≤ count) }
     ensures grows { IfOk result
         (λ n. length (G.gathered into.new) ≡ length (G.gathered into.old) + n) }
+    ensures kept { G.kept into.new ≡ G.kept into.old }
 
     ensures counts { L.faults link.old ≤ L.faults link.new }
     ensures cause { IsErrOf result Interrupted.LinkFault
@@ -72,6 +83,7 @@ fn hand_piece<L: Link, G: Gathers>(
     ensures fits { IfOk result (λ n. n ≤ length piece.old) }
     ensures grows { IfOk result
         (λ n. length (G.gathered into.new) ≡ length (G.gathered into.old) + n) }
+    ensures kept { G.kept into.new ≡ G.kept into.old }
 
     ensures counts { L.faults link.old ≤ L.faults link.new }
     ensures cause { IsErrOf result Interrupted.LinkFault

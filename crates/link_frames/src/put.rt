@@ -1,6 +1,6 @@
 //! Putting one frame.
 ghost use Rattle.std.specs.Prelude.{◌≡◌, ℕ, ◌≤◌, ◌<◌, ◌+◌, ◌^◌, [], ◌∷◌, ◌++◌, length, take, OnOk, IsErr, IsErrOf};
-ghost use Rattle.outside.specs.ConnectionModel.{sent_on};
+ghost use Rattle.outside.specs.ConnectionModel.{send_known};
 ghost use Rattle.outside.specs.FaultRose.{FaultRose};
 ghost use Rattle.vo_spec.specs.Bytes.{u32_bytes};
 ghost use Rattle.link_frames.specs.Frames.{code_of, frame_bytes};
@@ -16,9 +16,9 @@ use vo_spec::u32_bytes;
 pub fn put_frame<L: Link>(link: &mut L, kind: FrameKind, body: &[u8]) -> Result<(), PutFault>
     requires { length body.now + 1 < 2 ^ 32 }
     ensures ok { OnOk result
-        (L.wire link.new ≡ sent_on (frame_bytes kind body.now) (L.wire link.old)) }
+        (L.wire link.new ≡ send_known (frame_bytes kind body.now) (L.wire link.old)) }
     ensures err { IsErr result → ((n : ℕ)
-        × (L.wire link.new ≡ sent_on (take n (frame_bytes kind body.now)) (L.wire link.old))) }
+        × (L.wire link.new ≡ send_known (take n (frame_bytes kind body.now)) (L.wire link.old))) }
 
     ensures counts { L.faults link.old ≤ L.faults link.new }
     ensures cause { IsErrOf result PutFault.Failed

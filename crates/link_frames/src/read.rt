@@ -7,9 +7,8 @@ ghost use Rattle.link_frames.specs.Reading.{Reads, StaysWhereItStands};
 
 use crate::awaits::Awaits;
 use crate::frame::{Frame, NoFrame};
-use crate::gathers::hand_on;
-use crate::head::{FrameHead, HEAD, read_head};
-use crate::interrupted::Interrupted;
+use crate::head::{FrameHead, read_head};
+use crate::receive::gather_body;
 use outside::Link;
 use std::alloc::Global;
 
@@ -32,6 +31,7 @@ pub fn read_frame<L: Link>(alloc: Global, link: &mut L, awaits: Awaits) -> Resul
 
 /// Reads the body behind a head.
 pub fn read_body<L: Link>(alloc: Global, link: &mut L, head: FrameHead) -> Result<Frame, NoFrame>
+    requires { IsTrue (is_length head.kind head.length) }
     ensures known { (before : ConnectionModel) → L.wire link.old ≡ Some before
         → Reads 5 (with_body head.kind head.length before.coming) result before (L.wire link.new) }
     ensures kind { IfOk result (λ frame. frame.kind ≡ head.kind) }
@@ -43,13 +43,11 @@ pub fn read_body<L: Link>(alloc: Global, link: &mut L, head: FrameHead) -> Resul
     ensures misses { StaysWhereItStands (L.wire link.old) (L.misses link.old) (L.misses link.new) }
 {
     let mut body = Vec::new(alloc);
-    match hand_on(link, &mut body, head.length) {
-        Ok(came) if came < head.length => Err(NoFrame::Cut { got: HEAD + came }),
-        Ok(_) => Ok(Frame {
+    match gather_body(link, head, &mut body) {
+        Ok(()) => Ok(Frame {
             kind: head.kind,
             body,
         }),
-        Err(Interrupted::LinkFault) => Err(NoFrame::LinkFault),
-        Err(Interrupted::Memory) => Err(NoFrame::Memory),
+        Err(fault) => Err(fault),
     }
 }

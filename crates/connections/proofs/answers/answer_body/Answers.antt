@@ -1,6 +1,7 @@
 use Rattle.std.proofs.Common.{length, Err, sym, subst, ℕ}
 use Rattle.std.specs.Global.{Vec}
 use Rattle.link_frames.specs.Frames.{frame_bytes, first_frame}
+use Rattle.link_frames.specs.Reading.{IsWhole}
 use Rattle.connections.specs.declared.wire_fault.WireFault.{WireFault}
 use Rattle.connections.specs.Requesting.{Requests, answer_in}
 use Rattle.connections.proofs.RequestLaws.{whole_requested, unanswered, short_body}
@@ -20,7 +21,7 @@ returns-in-Err-clause-known g c =
     subst
     (λ (why : WireFault). Requests {X = Vec ℕ} (λ bytes. bytes.items) (frame_bytes c.args.kind c.args.body.now) first (answer_in first) (Err why) before (g.L.Link.wire c.ask.new.link))
     (sym c.without_answer.ensures)
-    (unanswered (frame_bytes c.args.kind c.args.body.now) first c.in-Err.fault before (g.L.Link.wire c.ask.new.link) (c.in-Err.ensures.known before is))
+    (unanswered (λ (bytes : Vec ℕ). bytes.items) IsWhole (frame_bytes c.args.kind c.args.body.now) first c.in-Err.fault before (g.L.Link.wire c.ask.new.link) (c.in-Err.ensures.known before is))
 
 pub returns-in-Ok-clause-short : goal.returns-in-Ok-clause-short
 returns-in-Ok-clause-short g c =

@@ -1,4 +1,4 @@
-use Rattle.std.proofs.Common.{length, take, refl, arith}
+use Rattle.std.proofs.Common.{length, take, refl, ◌∙◌, arith}
 use Rattle.std.proofs.lemmas.List.{length-take}
 use Rattle.outside.specs.ConnectionModel.{take_from}
 use Rattle.link_frames.proofs.ReadLaws.{some_later}
@@ -8,57 +8,63 @@ use Rattle.link_frames.proofs.gathers.hand_on.Goals as goal
 pub loop-handed-init : goal.loop-handed-init
 loop-handed-init g c =
     record {
-      within = omega arith;
-      grows = omega arith;
-      known = λ before is. handed_none (g.G.Gathers.gathered c.args.into.now) before (g.L.Link.wire c.args.link.now) is;
-      counts = omega arith;
-      stays = λ w is stands. refl;
+      handing = record {
+        within = omega arith;
+        grows = omega arith;
+        known = λ before is. handed_none (g.G.Gathers.gathered c.args.into.now) before (g.L.Link.wire c.args.link.now) is;
+        counts = omega arith;
+        stays = λ w is stands. refl;
+      };
+      kept = refl;
     }
 
 pub returns-in_err-came-clause-known : goal.returns-in_err-came-clause-known
 returns-in_err-came-clause-known g c =
     λ before is. hands_err _ _ _ c.from_residual.result before _ c.from_residual.ensures.0
-    (some_later c.loop-handed.handed before _ (c.in_err-came.ensures.known (take_from c.loop-handed.handed before) (c.loop-handed.invariant.known before is).2))
+    (some_later c.loop-handed.handed before _ (c.in_err-came.ensures.known (take_from c.loop-handed.handed before) (c.loop-handed.invariant.handing.known before is).2))
 
 pub returns-in_err-came-clause-misses : goal.returns-in_err-came-clause-misses
 returns-in_err-came-clause-misses g c =
-    stays_on _ _ _ _ _ (λ before is. (take_from c.loop-handed.handed before, (c.loop-handed.invariant.known before is).2, refl)) c.loop-handed.invariant.stays c.hand_piece.ensures.misses
+    stays_on _ _ _ _ _ (λ before is. (take_from c.loop-handed.handed before, (c.loop-handed.invariant.handing.known before is).2, refl)) c.loop-handed.invariant.handing.stays c.hand_piece.ensures.misses
 
 pub returns-in-0-clause-known : goal.returns-in-0-clause-known
 returns-in-0-clause-known g c =
     λ before is. handed_end c.loop-handed.handed c.in_ok-came.came c.args.count (length (take c.min-room.result c.loop-handed.piece))
     (g.G.Gathers.gathered c.args.into.now) (g.G.Gathers.gathered c.loop-handed.into) (g.G.Gathers.gathered c.hand_piece.new.into)
     before (g.L.Link.wire c.loop-handed.link) (g.L.Link.wire c.hand_piece.new.link) c.in-0.is (omega arith)
-    (omega (arith, length-take c.min-room.result c.loop-handed.piece, c.min-room.ensures)) (c.loop-handed.invariant.known before is) c.in_ok-came.ensures.known
+    (omega (arith, length-take c.min-room.result c.loop-handed.piece, c.min-room.ensures)) (c.loop-handed.invariant.handing.known before is) c.in_ok-came.ensures.known
 
 pub returns-in-0-clause-grows : goal.returns-in-0-clause-grows
 returns-in-0-clause-grows g c =
-    omega (arith, c.in_ok-came.ensures.grows, c.loop-handed.invariant.grows, c.in-0.is)
+    omega (arith, c.in_ok-came.ensures.grows, c.loop-handed.invariant.handing.grows, c.in-0.is)
 
 pub returns-in-0-clause-misses : goal.returns-in-0-clause-misses
 returns-in-0-clause-misses g c =
-    stays_on _ _ _ _ _ (λ before is. (take_from c.loop-handed.handed before, (c.loop-handed.invariant.known before is).2, refl)) c.loop-handed.invariant.stays c.hand_piece.ensures.misses
+    stays_on _ _ _ _ _ (λ before is. (take_from c.loop-handed.handed before, (c.loop-handed.invariant.handing.known before is).2, refl)) c.loop-handed.invariant.handing.stays c.hand_piece.ensures.misses
 
 pub loop-handed-preserved : goal.loop-handed-preserved
 loop-handed-preserved g c =
     record {
-      within = omega (arith, length-take c.min-room.result c.loop-handed.piece, c.min-room.ensures, c.in_ok-came.ensures.fits);
-      grows = omega (arith, c.in_ok-came.ensures.grows, c.loop-handed.invariant.grows);
-      known = λ before is. handed_more c.loop-handed.handed c.in_ok-came.came (length (take c.min-room.result c.loop-handed.piece))
-          (g.G.Gathers.gathered c.args.into.now) (g.G.Gathers.gathered c.loop-handed.into) (g.G.Gathers.gathered c.hand_piece.new.into)
-          before (g.L.Link.wire c.loop-handed.link) (g.L.Link.wire c.hand_piece.new.link)
-          (c.loop-handed.invariant.known before is) c.in_ok-came.ensures.known;
-      counts = omega (arith, c.hand_piece.ensures.counts);
-      stays = stays_on _ _ _ _ _ (λ before is. (take_from c.loop-handed.handed before, (c.loop-handed.invariant.known before is).2, refl)) c.loop-handed.invariant.stays c.hand_piece.ensures.misses;
+      handing = record {
+        within = omega (arith, length-take c.min-room.result c.loop-handed.piece, c.min-room.ensures, c.in_ok-came.ensures.fits);
+        grows = omega (arith, c.in_ok-came.ensures.grows, c.loop-handed.invariant.handing.grows);
+        known = λ before is. handed_more c.loop-handed.handed c.in_ok-came.came (length (take c.min-room.result c.loop-handed.piece))
+            (g.G.Gathers.gathered c.args.into.now) (g.G.Gathers.gathered c.loop-handed.into) (g.G.Gathers.gathered c.hand_piece.new.into)
+            before (g.L.Link.wire c.loop-handed.link) (g.L.Link.wire c.hand_piece.new.link)
+            (c.loop-handed.invariant.handing.known before is) c.in_ok-came.ensures.known;
+        counts = omega (arith, c.hand_piece.ensures.counts);
+        stays = stays_on _ _ _ _ _ (λ before is. (take_from c.loop-handed.handed before, (c.loop-handed.invariant.handing.known before is).2, refl)) c.loop-handed.invariant.handing.stays c.hand_piece.ensures.misses;
+      };
+      kept = c.hand_piece.ensures.kept ∙ c.loop-handed.invariant.kept;
     }
 
 pub returns-clause-known : goal.returns-clause-known
 returns-clause-known g c =
     λ before is. handed_all c.loop-handed.handed c.args.count (g.G.Gathers.gathered c.args.into.now)
-    (g.G.Gathers.gathered c.loop-handed.into) before (g.L.Link.wire c.loop-handed.link) (omega arith) c.loop-handed.invariant.within (c.loop-handed.invariant.known before is)
+    (g.G.Gathers.gathered c.loop-handed.into) before (g.L.Link.wire c.loop-handed.link) (omega arith) c.loop-handed.invariant.handing.within (c.loop-handed.invariant.handing.known before is)
 
 pub returns-clause-grows : goal.returns-clause-grows
-returns-clause-grows g c = c.loop-handed.invariant.grows
+returns-clause-grows g c = c.loop-handed.invariant.handing.grows
 
 pub returns-clause-misses : goal.returns-clause-misses
-returns-clause-misses g c = c.loop-handed.invariant.stays
+returns-clause-misses g c = c.loop-handed.invariant.handing.stays

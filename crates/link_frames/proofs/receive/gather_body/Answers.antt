@@ -1,0 +1,13 @@
+use Rattle.std.proofs.Common.{arith}
+use Rattle.link_frames.proofs.FrameLaws.{below_limit}
+use Rattle.link_frames.proofs.ReadLaws.{body_whole}
+use Rattle.link_frames.proofs.receive.gather_body.Goals as goal
+
+pub overflow_add-result : goal.overflow_add-result
+overflow_add-result g c = omega (arith, below_limit c.args.head.kind c.args.head.length c.requires)
+
+pub returns-in-Ok-2-clause-known : goal.returns-in-Ok-2-clause-known
+returns-in-Ok-2-clause-known g c =
+    λ before is. body_whole c.args.head.kind c.args.head.length c.in-Ok.came (g.G.Gathers.gathered c.args.into.now)
+    (g.G.Gathers.gathered c.hand_on.new.into) before (g.L.Link.wire c.hand_on.new.link) c.if-came-head.false
+    (c.in-Ok.ensures.known before is)
