@@ -3,7 +3,7 @@ use Rattle.std.proofs.Common.{◌≡◌, ℕ, ◌+◌, ◌-◌, ◌<◌, ◌≤�
 use Rattle.std.proofs.lemmas.List.{drop_all, drop_more}
 use Rattle.std.specs.Global.{Vec}
 use Rattle.outside.specs.ConnectionModel.{ConnectionModel}
-use Rattle.outside.specs.Sink.{added}
+use Rattle.outside.specs.Sink.{append_known}
 use Rattle.link_frames.specs.Reading.{StaysWhereItStands}
 use Rattle.link_frames.specs.Scripts.{Does, behind, others}
 use Rattle.link_frames.proofs.ScriptLaws.{stands-after}
@@ -12,9 +12,9 @@ use Rattle.owner_session.specs.declared.refusals.RefusalCause.{RefusalCause}
 use Rattle.owner_session.specs.declared.refusals.NoStep.{NoStep}
 use Rattle.owner_session.specs.declared.refusals.NoStep.TheVariants as no_step
 use Rattle.owner_session.specs.declared.refusals.Refusal.{Refusal}
-use Rattle.owner_session.specs.declared.stop.Report.{Report}
-use Rattle.owner_session.specs.declared.stop.Stop.{Stop}
-use Rattle.owner_session.specs.declared.stop.Stop.TheVariants as stop
+use Rattle.owner_session.specs.declared.stop.SessionReport.{SessionReport}
+use Rattle.owner_session.specs.declared.stop.SessionStop.{SessionStop}
+use Rattle.owner_session.specs.declared.stop.SessionStop.TheVariants as stop
 use Rattle.owner_session.specs.Endings.{OwnerRefuses, Reports, StopsWith, version_line}
 use Rattle.owner_session.specs.Work.{Forms, Judgement, Makes, Refuses, StepsTo, Steps, Appends, Says, Work, Input, installation, proposal, publication, commit, step, batch_commit, commits, catch_up, session_on}
 use Rattle.owner_session.specs.Runs.{Snapshot, Piece, Reaches, Fails, Runs, RunsOnWire, RunsTo, TakesStep, PutsLine, snapshot_of, input_of, continuation, continuation_with}
@@ -25,7 +25,7 @@ use Rattle.owner_session.proofs.WireLaws.{on_wire}
 -- a call did something to the connection, and then another ran
 pub to-then : {S B E G H T U : Type 0} (IsJudgement : S → B → List ℕ → Judgement S E → Type 0) (K : E → Type 0) (first : Piece S B E H)
     (given : U → Piece S B E H) (in_it : G → H) (work : Piece S B E G) (rest : T → Piece S B E G) (x : U)
-    (result : Result T Stop) (before : Snapshot S E) (mid wire : Option ConnectionModel) (written : Option (List ℕ)) (state : S)
+    (result : Result T SessionStop) (before : Snapshot S E) (mid wire : Option ConnectionModel) (written : Option (List ℕ)) (state : S)
     (entries : List E)
     → ((input : Input S E) (go : G) → work input go ≡ first input (in_it go))
     → RunsOnWire IsJudgement first given (Ok x) before mid
@@ -43,7 +43,7 @@ to-then {S} {B} {E} {G} IsJudgement K first given in_it work rest x result befor
 
 -- a call stopped that does something to the connection alone
 pub to-fails : {S B E G H T U : Type 0} (IsJudgement : S → B → List ℕ → Judgement S E → Type 0) (K : E → Type 0) (first : Piece S B E H)
-    (given : U → Piece S B E H) (in_it : G → H) (work : Piece S B E G) (rest : T → Piece S B E G) (why : Stop)
+    (given : U → Piece S B E H) (in_it : G → H) (work : Piece S B E G) (rest : T → Piece S B E G) (why : SessionStop)
     (before : Snapshot S E) (wire : Option ConnectionModel)
     → ((input : Input S E) (go : G) → work input go ≡ first input (in_it go))
     → RunsOnWire IsJudgement first given (Err why) before wire
@@ -61,7 +61,7 @@ to-fails {S} {B} {E} {G} IsJudgement K first given in_it work rest why before wi
 abbrev pub says_first : {S B E : Type 0} → List ℕ → Piece S B E (Input S E → Work S B E)
 says_first line input go = behind (Does (Says line) ∷ []) (go input)
 
-said : {S B E : Type 0} (IsJudgement : S → B → List ℕ → Judgement S E → Type 0) (line : List ℕ) (result : Result (Unit {0}) Stop)
+said : {S B E : Type 0} (IsJudgement : S → B → List ℕ → Judgement S E → Type 0) (line : List ℕ) (result : Result (Unit {0}) SessionStop)
     (wire : ConnectionModel) (written later : Option (List ℕ)) (state : S) (entries : List E)
     → PutsLine line result written later
     → Runs IsJudgement (λ entry. ⊥) (says_first line) (λ done. continuation) result (snapshot_of wire written state entries) (snapshot_of wire later state entries)
@@ -73,7 +73,7 @@ said {S} {B} {E} IsJudgement line (Ok done) wire written later state entries h =
   done = record { others_are = refl; wire_is = refl };
   are_judgements = tt;
   leads = record { state = refl; entries = sym (append-nil entries) };
-  wrote = h ∙ ap (added written) (sym (append-nil (line ++ []) ∙ append-nil line));
+  wrote = h ∙ ap (append_known written) (sym (append-nil (line ++ []) ∙ append-nil line));
 }
 said {S} {B} {E} IsJudgement line (Err stop.OutputFault) wire written later state entries h = record {
   judgements = [];
@@ -101,7 +101,7 @@ unfolding publication
 publication-is forms entry input go = refl
 
 pub published : {S B E : Type 0} (IsJudgement : S → B → List ℕ → Judgement S E → Type 0) (forms : Forms B E) (entry : E) (version : ℕ)
-    (done : Unit {0}) (result : Result (Unit {0}) Stop) (before : ConnectionModel) (mid : Option ConnectionModel)
+    (done : Unit {0}) (result : Result (Unit {0}) SessionStop) (before : ConnectionModel) (mid : Option ConnectionModel)
     (written later : Option (List ℕ)) (state : S) (entries : List E) → version ≡ forms.version entry
     → RunsOnWire IsJudgement (installation forms entry) (λ (done : Unit {0}). continuation) (Ok done) (snapshot_of before written state entries) mid
     → PutsLine (version_line version) result written later
@@ -115,7 +115,7 @@ published {S} {B} {E} IsJudgement forms entry version done result before mid wri
     (publication-is forms entry) f
     (λ now there. (now, there, said IsJudgement (version_line (forms.version entry)) result now written later state entries line_is))
 
-pub not_published : {S B E : Type 0} (IsJudgement : S → B → List ℕ → Judgement S E → Type 0) (forms : Forms B E) (entry : E) (why : Stop)
+pub not_published : {S B E : Type 0} (IsJudgement : S → B → List ℕ → Judgement S E → Type 0) (forms : Forms B E) (entry : E) (why : SessionStop)
     (before : ConnectionModel) (wire : Option ConnectionModel) (written : Option (List ℕ)) (state : S) (entries : List E)
     → RunsOnWire IsJudgement (installation forms entry) (λ (done : Unit {0}). continuation) (Err why) (snapshot_of before written state entries) wire
     → RunsTo {T = Unit {0}} IsJudgement (λ entry. ⊥) (publication forms entry) (λ done. continuation) (Err why) (snapshot_of before written state entries) wire written state entries
@@ -138,7 +138,7 @@ last_at {E} entries entry =
 
 -- a rest that is handed something known
 runs-given : {S B E X : Type 0} (IsJudgement : S → B → List ℕ → Judgement S E → Type 0) (K : E → Type 0)
-    (work : Piece S B E (Input S E → Work S B E)) (x : X) (result : Result (Unit {0}) Stop) (a b : Snapshot S E)
+    (work : Piece S B E (Input S E → Work S B E)) (x : X) (result : Result (Unit {0}) SessionStop) (a b : Snapshot S E)
     → Runs IsJudgement K work (λ (done : Unit {0}). continuation) result a b
     → Runs {G = X → Input S E → Work S B E} {T = Unit {0}} IsJudgement K (λ input go. work input (go x)) (λ done. continuation_with x) result a b
 runs-given {S} {B} {E} {X} IsJudgement K work x (Ok done) a b r =
@@ -164,7 +164,7 @@ appended IsJudgement forms entry next wire written state new entries more is are
 }
 
 pub committed : {S B E : Type 0} (IsJudgement : S → B → List ℕ → Judgement S E → Type 0) (K : E → Type 0) (forms : Forms B E)
-    (entry : E) (next : S) (result : Result (Unit {0}) Stop) (before : ConnectionModel) (wire : Option ConnectionModel)
+    (entry : E) (next : S) (result : Result (Unit {0}) SessionStop) (before : ConnectionModel) (wire : Option ConnectionModel)
     (written later : Option (List ℕ)) (state new : S) (entries more : List E) → new ≡ next
     → more ≡ entries ++ entry ∷ []
     → RunsTo IsJudgement (λ entry. ⊥) (publication forms entry) (λ (done : Unit {0}). continuation) result (snapshot_of before written new more) wire later new more
@@ -245,7 +245,7 @@ stepped IsJudgement forms state batch proofs entry next a h = record {
 
 pub step_committed : {S B E T : Type 0} (IsJudgement : S → B → List ℕ → Judgement S E → Type 0) (K : E → Type 0) (forms : Forms B E)
     (state : S) (batch : B) (proofs : List ℕ) (entry : E) (next : S) (rest : T → Piece S B E (S → Input S E → Work S B E))
-    (result : Result T Stop) (before : Snapshot S E) (wire : Option ConnectionModel) (written : Option (List ℕ)) (new : S)
+    (result : Result T SessionStop) (before : Snapshot S E) (wire : Option ConnectionModel) (written : Option (List ℕ)) (new : S)
     (entries : List E) → IsJudgement state batch proofs (Makes entry next)
     → RunsTo IsJudgement K (commit forms entry next) rest result before wire written new entries
     → RunsTo IsJudgement K (step forms state batch proofs) rest result before wire written new entries
@@ -262,7 +262,7 @@ step_wants : {S B E : Type 0} (IsJudgement : S → B → List ℕ → Judgement 
 step_wants IsJudgement K forms state batch proofs a = wants-here IsJudgement K (step forms state batch proofs) a
 
 step_refused : {S B E : Type 0} (IsJudgement : S → B → List ℕ → Judgement S E → Type 0) (K : E → Type 0) (forms : Forms B E) (state : S)
-    (batch : B) (proofs : List ℕ) (cause : RefusalCause) (lines : List ℕ) (report : Report) (a : Snapshot S E)
+    (batch : B) (proofs : List ℕ) (cause : RefusalCause) (lines : List ℕ) (report : SessionReport) (a : Snapshot S E)
     → IsJudgement state batch proofs (Refuses cause lines) → Reports report (OwnerRefuses cause lines)
     → Fails IsJudgement K (step forms state batch proofs) (stop.Refused report) a a
 unfolding step
@@ -276,19 +276,19 @@ step_refused IsJudgement K forms state batch proofs cause lines report a h k = r
 
 pub not_stepped : {S B E T U : Type 0} (IsJudgement : S → B → List ℕ → Judgement S E → Type 0) (K : E → Type 0) (forms : Forms B E)
     (state : S) (batch : B) (proofs : List ℕ) (entry_of : U → E) (next_of : U → S) (rest : T → Piece S B E (S → Input S E → Work S B E))
-    (why : Stop) (before : Snapshot S E) (wire : Option ConnectionModel) → wire ≡ Some before.wire
+    (why : SessionStop) (before : Snapshot S E) (wire : Option ConnectionModel) → wire ≡ Some before.wire
     → TakesStep (IsJudgement state batch proofs) entry_of next_of (Err why)
     → RunsTo IsJudgement K (step forms state batch proofs) rest (Err why) before wire before.written before.state before.entries
 not_stepped IsJudgement K forms state batch proofs entry_of next_of rest why before wire there (inl is) = (
   before.wire,
   there,
-  subst (λ (w : Stop). Fails IsJudgement K (step forms state batch proofs) w before before) (sym is)
+  subst (λ (w : SessionStop). Fails IsJudgement K (step forms state batch proofs) w before before) (sym is)
       (step_wants IsJudgement K forms state batch proofs before),
 )
 not_stepped IsJudgement K forms state batch proofs entry_of next_of rest why before wire there (inr h) = (
   before.wire,
   there,
-  subst (λ (w : Stop). Fails IsJudgement K (step forms state batch proofs) w before before) (sym h.4)
+  subst (λ (w : SessionStop). Fails IsJudgement K (step forms state batch proofs) w before before) (sym h.4)
       (step_refused IsJudgement K forms state batch proofs h.0 h.1 h.3 before h.2 h.5),
 )
 
@@ -301,7 +301,7 @@ unfolding batch_commit
 batch_commit-is forms state batch input go = refl
 
 pub batch_committed : {S B E T : Type 0} (IsJudgement : S → B → List ℕ → Judgement S E → Type 0) (K : E → Type 0) (forms : Forms B E)
-    (batch : B) (proofs : Vec ℕ) (bytes : List ℕ) (rest : T → Piece S B E (S → Input S E → Work S B E)) (result : Result T Stop)
+    (batch : B) (proofs : Vec ℕ) (bytes : List ℕ) (rest : T → Piece S B E (S → Input S E → Work S B E)) (result : Result T SessionStop)
     (before : Snapshot S E) (mid wire : Option ConnectionModel) (written : Option (List ℕ)) (new : S) (entries : List E)
     → bytes ≡ proofs.items
     → RunsOnWire IsJudgement (proposal forms batch) (λ (given : Vec ℕ). continuation_with given.items) (Ok proofs) before mid
@@ -315,7 +315,7 @@ batch_committed {S} {B} {E} IsJudgement K forms batch proofs bytes rest result b
     (λ now there. subst (λ (b : List ℕ). RunsTo IsJudgement K (step forms before.state batch b) rest result (on_wire now before) wire written new entries) same (s now there))
 
 pub batch_not_proposed : {S B E T : Type 0} (IsJudgement : S → B → List ℕ → Judgement S E → Type 0) (K : E → Type 0) (forms : Forms B E)
-    (batch : B) (rest : T → Piece S B E (S → Input S E → Work S B E)) (why : Stop) (before : Snapshot S E) (wire : Option ConnectionModel)
+    (batch : B) (rest : T → Piece S B E (S → Input S E → Work S B E)) (why : SessionStop) (before : Snapshot S E) (wire : Option ConnectionModel)
     → RunsOnWire IsJudgement (proposal forms batch) (λ (given : Vec ℕ). continuation_with given.items) (Err why) before wire
     → RunsTo IsJudgement K (batch_commit forms before.state batch) rest (Err why) before wire before.written before.state before.entries
 batch_not_proposed {S} {B} {E} IsJudgement K forms batch rest why before wire f =
@@ -325,14 +325,14 @@ batch_not_proposed {S} {B} {E} IsJudgement K forms batch rest why before wire f 
 
 -- a step that the owner refused
 pub step_refusal : {S E U : Type 0} (IsJudgement : Judgement S E → Type 0) (entry_of : U → E) (next_of : U → S) (fault : NoStep)
-    (refusal : Refusal) (why : Stop) → fault ≡ no_step.Refused refusal → StepsTo IsJudgement entry_of next_of (Err fault)
+    (refusal : Refusal) (why : SessionStop) → fault ≡ no_step.Refused refusal → StepsTo IsJudgement entry_of next_of (Err fault)
     → StopsWith (OwnerRefuses refusal.cause refusal.lines.items) why → TakesStep IsJudgement entry_of next_of (Err why)
 step_refusal IsJudgement entry_of next_of fault refusal why is h k =
     refused_by IsJudgement entry_of next_of refusal.cause refusal.lines.items why
     (subst (λ (f : NoStep). StepsTo IsJudgement entry_of next_of (Err f)) is h) k
   where
     refused_by : {S E U : Type 0} (IsJudgement : Judgement S E → Type 0) (entry_of : U → E) (next_of : U → S) (cause : RefusalCause)
-        (lines : List ℕ) (why : Stop) → IsJudgement (Refuses cause lines) → StopsWith (OwnerRefuses cause lines) why
+        (lines : List ℕ) (why : SessionStop) → IsJudgement (Refuses cause lines) → StopsWith (OwnerRefuses cause lines) why
         → TakesStep IsJudgement entry_of next_of (Err why)
     refused_by IsJudgement entry_of next_of cause lines (stop.Refused report) h k = inr (cause, lines, h, report, refl, k)
     refused_by IsJudgement entry_of next_of cause lines stop.LinkFault h k = absurd k
@@ -376,7 +376,7 @@ commits-next {S} {B} {E} forms state batches i batch input go within is =
 
 -- what a call says that commits a batch
 abbrev pub Commits : {S B E : Type 0} → (S → B → List ℕ → Judgement S E → Type 0) → (E → Type 0) → Forms B E → B
-    → Result (Unit {0}) Stop → Option ConnectionModel → Option ConnectionModel → Option (List ℕ) → Option (List ℕ)
+    → Result (Unit {0}) SessionStop → Option ConnectionModel → Option ConnectionModel → Option (List ℕ) → Option (List ℕ)
     → S → S → List E → List E → Type 0
 Commits IsJudgement K forms batch result wire now written later state new entries more =
     (before : ConnectionModel) → wire ≡ Some before
@@ -405,7 +405,7 @@ committed_more {S} {B} {E} IsJudgement K forms batches i batch done wire now end
     )
 
 pub commit_stops : {S B E : Type 0} (IsJudgement : S → B → List ℕ → Judgement S E → Type 0) (K L : E → Type 0)
-    → ((e : E) → K e → L e) → (forms : Forms B E) (batches : List B) (i : ℕ) (batch : B) (why : Stop)
+    → ((e : E) → K e → L e) → (forms : Forms B E) (batches : List B) (i : ℕ) (batch : B) (why : SessionStop)
     (wire now end : Option ConnectionModel) (written later last : Option (List ℕ)) (state new newer : S)
     (entries more most : List E) → i < length batches → batch ≡ get_or batches i batch
     → CommittedTo IsJudgement forms batches i wire now written later state new entries more
@@ -472,7 +472,7 @@ unfolding session_on
 session_on-is forms state entries batches input go = refl
 
 pub session_done : {S B E : Type 0} (IsJudgement : S → B → List ℕ → Judgement S E → Type 0) (K : E → Type 0) (forms : Forms B E)
-    (batches : List B) (done : Unit {0}) (result : Result (Unit {0}) Stop) (before : Snapshot S E) (mid wire : Option ConnectionModel)
+    (batches : List B) (done : Unit {0}) (result : Result (Unit {0}) SessionStop) (before : Snapshot S E) (mid wire : Option ConnectionModel)
     (written : Option (List ℕ)) (new : S) (more : List E)
     → RunsOnWire IsJudgement (catch_up forms before.entries) (λ (done : Unit {0}). continuation) (Ok done) before mid
     → ((now : ConnectionModel) → mid ≡ Some now
@@ -485,7 +485,7 @@ session_done {S} {B} {E} IsJudgement K forms batches done result before mid wire
     (session_on-is forms before.state before.entries batches) f s
 
 pub session_not_begun : {S B E : Type 0} (IsJudgement : S → B → List ℕ → Judgement S E → Type 0) (K : E → Type 0) (forms : Forms B E)
-    (batches : List B) (why : Stop) (before : Snapshot S E) (wire : Option ConnectionModel)
+    (batches : List B) (why : SessionStop) (before : Snapshot S E) (wire : Option ConnectionModel)
     → RunsOnWire IsJudgement (catch_up forms before.entries) (λ (done : Unit {0}). continuation) (Err why) before wire
     → RunsTo {T = Unit {0}} IsJudgement K (session_on forms before.state before.entries batches) (λ done. continuation) (Err why) before wire
     before.written before.state before.entries

@@ -1,6 +1,6 @@
 -- Deeds that are done one after the other.
 use Rattle.std.proofs.Common.{◌≡◌, ℕ, List, [], ◌∷◌, ◌++◌, Option, Some, None, refl, sym, ap, ◌∙◌, append_assoc, append-nil}
-use Rattle.outside.specs.Sink.{added}
+use Rattle.outside.specs.Sink.{append_known}
 use Rattle.link_frames.specs.Scripts.{Event, Puts, Takes, Does, behind, others}
 use Rattle.owner_session.specs.Work.{Judgement, Deed, Steps, Appends, Says, Work}
 use Rattle.owner_session.specs.Runs.{Snapshot, LeadsTo, AreJudgements, IsNext, HasWritten, lines_of, entries_of, state_after}
@@ -44,21 +44,21 @@ leads-append {S} {B} {E} ds es a b c f s = record {
 pub leads-nothing : {S B E : Type 0} (a : Snapshot S E) → LeadsTo {B = B} [] a a
 leads-nothing a = record { state = refl; entries = sym (append-nil a.entries) }
 
-pub added-nil : (written : Option (List ℕ)) → written ≡ added written []
+pub added-nil : (written : Option (List ℕ)) → written ≡ append_known written []
 added-nil None = refl
 added-nil (Some bytes) = ap (λ (b : List ℕ). Some b) (sym (append-nil bytes))
 
 pub added-added : (written : Option (List ℕ)) (first second : List ℕ)
-    → added (added written first) second ≡ added written (first ++ second)
+    → append_known (append_known written first) second ≡ append_known written (first ++ second)
 added-added None first second = refl
 added-added (Some bytes) first second = ap (λ (b : List ℕ). Some b) (append_assoc bytes first second)
 
 pub wrote-append : {S B E : Type 0} (ds es : List (Deed S B E)) (besides : List ℕ) (a b c : Snapshot S E)
     → HasWritten ds [] a b → HasWritten es besides b c → HasWritten (ds ++ es) besides a c
 wrote-append ds es besides a b c f s =
-    s ∙ ap (λ (w : Option (List ℕ)). added w (lines_of es ++ besides)) f
+    s ∙ ap (λ (w : Option (List ℕ)). append_known w (lines_of es ++ besides)) f
     ∙ added-added a.written (lines_of ds ++ []) (lines_of es ++ besides)
-    ∙ ap (added a.written)
+    ∙ ap (append_known a.written)
     (ap (λ (x : List ℕ). x ++ (lines_of es ++ besides)) (append-nil (lines_of ds))
     ∙ sym (append_assoc (lines_of ds) (lines_of es) besides)
     ∙ ap (λ (x : List ℕ). x ++ besides) (sym (lines_of-append ds es)))

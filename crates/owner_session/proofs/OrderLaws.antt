@@ -14,7 +14,7 @@ use Rattle.owner_session.specs.declared.place.Place.{Place}
 use Rattle.owner_session.specs.declared.place.Place.TheVariants.{Holds, Elsewhere, NoStanding}
 use Rattle.owner_session.specs.declared.refusals.RefusalCause.{RefusalCause}
 use Rattle.owner_session.specs.Endings.{Done, StandsElsewhere, version_line}
-use Rattle.owner_session.specs.Work.{Forms, Judgement, Makes, Refuses, Deed, Steps, Appends, Says, Work, Input, Answer, Body, NoBody, answer_of, with_answer, with_place, with_judgement, with_first_judgement, input_after, ends_with, exchange, installation, proposal, standing, delivery, deliveries, catch_up, publication, commit, step, batch_commit, commits, session_on, session}
+use Rattle.owner_session.specs.Work.{Forms, Judgement, Makes, Refuses, Deed, Steps, Appends, Says, Work, Input, AnswerBody, Body, NoBody, answer_of, with_answer, with_place, with_judgement, with_first_judgement, input_after, ends_with, exchange, installation, proposal, standing, delivery, deliveries, catch_up, publication, commit, step, batch_commit, commits, session_on, session}
 use Rattle.owner_session.specs.Requests.{Request, AsksStanding, Proposes, Installs, request_bytes, IsRequestOf}
 use Rattle.owner_session.specs.Orders.{Alternates, InstallsOneOf, KeepsFirst, StepsFirst}
 
@@ -47,7 +47,7 @@ pub record IsCarried {S B E : Type 0} (forms : Forms B E) (batches : List B)
 
 module _ {S B E : Type 0} (forms : Forms B E) (asked : List B)
     (P : S → List E → List (Event (Deed S B E)) → Type 0) (c : IsCarried forms asked P) where
-  answer_carries : (s : S) (es : List E) (answer : Answer) (input : Input S E) (go : List ℕ → Input S E → Work S B E)
+  answer_carries : (s : S) (es : List E) (answer : AnswerBody) (input : Input S E) (go : List ℕ → Input S E → Work S B E)
       → ((body : List ℕ) (rest : Input S E) → P s es (go body rest).events) → P s es (with_answer answer input go).events
   answer_carries s es (Body body) input go h = h body input
   answer_carries s es (NoBody ending) input go h = c.ends s es

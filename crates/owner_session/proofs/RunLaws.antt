@@ -4,8 +4,8 @@ use Rattle.outside.specs.ConnectionModel.{ConnectionModel}
 use Rattle.outside.specs.FaultRose.{FaultRose}
 use Rattle.link_frames.specs.Scripts.{Event, Puts, Takes, Does, behind, Stops}
 use Rattle.link_frames.proofs.ScriptLaws.{behind-behind, done-append, stops-append}
-use Rattle.owner_session.specs.declared.stop.Stop.{Stop}
-use Rattle.owner_session.specs.declared.stop.Stop.TheVariants as stop
+use Rattle.owner_session.specs.declared.stop.SessionStop.{SessionStop}
+use Rattle.owner_session.specs.declared.stop.SessionStop.TheVariants as stop
 use Rattle.owner_session.specs.Faults.{CountsFaults}
 use Rattle.owner_session.specs.Endings.{Ending, StopsWith, IsOfLink}
 use Rattle.owner_session.specs.Work.{Judgement, Deed, Appends, Says, Work, Input, ends_with}
@@ -30,7 +30,7 @@ reaches-then {S} {B} {E} {G} IsJudgement work mid rest a b c f s = record {
 
 halts-behind : {S B E G : Type 0} (IsJudgement : S → B → List ℕ → Judgement S E → Type 0) (Kept : E → Type 0)
     (work mid : Piece S B E G) (a b c : Snapshot S E) (f : Reaches IsJudgement work mid a b) (es : List (Deed S B E))
-    (rest : Work S B E) (why : Stop) → Halts Kept rest why es b c
+    (rest : Work S B E) (why : SessionStop) → Halts Kept rest why es b c
     → Halts Kept (behind f.events rest) why (f.deeds ++ es) a c
 halts-behind IsJudgement Kept work mid a b c f es rest (stop.Refused report) h = (
   h.0,
@@ -66,7 +66,7 @@ halts-behind IsJudgement Kept work mid a b c f es rest stop.Memory h = (
 )
 
 pub fails-then : {S B E G : Type 0} (IsJudgement : S → B → List ℕ → Judgement S E → Type 0) (Kept : E → Type 0)
-    (work mid : Piece S B E G) (why : Stop) (a b c : Snapshot S E) → Reaches IsJudgement work mid a b
+    (work mid : Piece S B E G) (why : SessionStop) (a b c : Snapshot S E) → Reaches IsJudgement work mid a b
     → Fails IsJudgement Kept mid why b c → Fails IsJudgement Kept work why a c
 fails-then {S} {B} {E} {G} IsJudgement Kept work mid why a b c f s = record {
   judgements = f.judgements ++ s.judgements;
@@ -82,7 +82,7 @@ fails-then {S} {B} {E} {G} IsJudgement Kept work mid why a b c f s = record {
 
 -- a piece was done, and then a call ran in its rest
 pub runs-then : {S B E G T : Type 0} (IsJudgement : S → B → List ℕ → Judgement S E → Type 0) (Kept : E → Type 0)
-    (work mid : Piece S B E G) (rest : T → Piece S B E G) (result : Result T Stop) (a b c : Snapshot S E)
+    (work mid : Piece S B E G) (rest : T → Piece S B E G) (result : Result T SessionStop) (a b c : Snapshot S E)
     → Reaches IsJudgement work mid a b → Runs IsJudgement Kept mid rest result b c → Runs IsJudgement Kept work rest result a c
 runs-then IsJudgement Kept work mid rest (Ok given) a b c f s = reaches-then IsJudgement work mid (rest given) a b c f s
 runs-then IsJudgement Kept work mid rest (Err why) a b c f s = fails-then IsJudgement Kept work mid why a b c f s
@@ -104,7 +104,7 @@ reaches-in IsJudgement work rest in_it a b f = record {
 }
 
 pub fails-in : {S B E G H : Type 0} (IsJudgement : S → B → List ℕ → Judgement S E → Type 0) (Kept : E → Type 0)
-    (work : Piece S B E G) (why : Stop) (in_it : H → G) (a b : Snapshot S E) → Fails IsJudgement Kept work why a b
+    (work : Piece S B E G) (why : SessionStop) (in_it : H → G) (a b : Snapshot S E) → Fails IsJudgement Kept work why a b
     → Fails {G = H} IsJudgement Kept (λ input go. work input (in_it go)) why a b
 fails-in IsJudgement Kept work why in_it a b f = record {
   judgements = f.judgements;
@@ -131,7 +131,7 @@ reaches-as {S} {B} {E} {G} IsJudgement first mid in_it work a b is f = record {
 }
 
 pub fails-as : {S B E G H : Type 0} (IsJudgement : S → B → List ℕ → Judgement S E → Type 0) (Kept : E → Type 0)
-    (first : Piece S B E H) (why : Stop) (in_it : G → H) (work : Piece S B E G) (a b : Snapshot S E)
+    (first : Piece S B E H) (why : SessionStop) (in_it : G → H) (work : Piece S B E G) (a b : Snapshot S E)
     → ((input : Input S E) (go : G) → work input go ≡ first input (in_it go)) → Fails IsJudgement Kept first why a b
     → Fails IsJudgement Kept work why a b
 fails-as {S} {B} {E} {G} IsJudgement Kept first why in_it work a b is f = record {
@@ -145,7 +145,7 @@ fails-as {S} {B} {E} {G} IsJudgement Kept first why in_it work a b is f = record
 
 -- What is kept with an entry may be weaker.
 
-halts-kept : {S B E : Type 0} (K L : E → Type 0) → ((e : E) → K e → L e) → (work : Work S B E) (why : Stop)
+halts-kept : {S B E : Type 0} (K L : E → Type 0) → ((e : E) → K e → L e) → (work : Work S B E) (why : SessionStop)
     (deeds : List (Deed S B E)) (a b : Snapshot S E) → Halts K work why deeds a b → Halts L work why deeds a b
 halts-kept K L weaker work (stop.Refused report) deeds a b h = h
 halts-kept K L weaker work stop.LinkFault deeds a b h = h
@@ -155,7 +155,7 @@ halts-kept K L weaker work stop.OutputFault deeds a b h = h
 halts-kept K L weaker work stop.Memory deeds a b h = h
 
 pub fails-kept : {S B E G : Type 0} (IsJudgement : S → B → List ℕ → Judgement S E → Type 0) (K L : E → Type 0)
-    → ((e : E) → K e → L e) → (work : Piece S B E G) (why : Stop) (a b : Snapshot S E)
+    → ((e : E) → K e → L e) → (work : Piece S B E G) (why : SessionStop) (a b : Snapshot S E)
     → Fails IsJudgement K work why a b → Fails IsJudgement L work why a b
 fails-kept IsJudgement K L weaker work why a b f = record {
   judgements = f.judgements;
@@ -166,7 +166,7 @@ fails-kept IsJudgement K L weaker work why a b f = record {
 }
 
 pub runs-kept : {S B E G T : Type 0} (IsJudgement : S → B → List ℕ → Judgement S E → Type 0) (K L : E → Type 0)
-    → ((e : E) → K e → L e) → (work : Piece S B E G) (rest : T → Piece S B E G) (result : Result T Stop)
+    → ((e : E) → K e → L e) → (work : Piece S B E G) (rest : T → Piece S B E G) (result : Result T SessionStop)
     (a b : Snapshot S E) → Runs IsJudgement K work rest result a b → Runs IsJudgement L work rest result a b
 runs-kept IsJudgement K L weaker work rest (Ok given) a b r = r
 runs-kept IsJudgement K L weaker work rest (Err why) a b r = fails-kept IsJudgement K L weaker work why a b r
@@ -187,7 +187,7 @@ reaches-here {S} {B} {E} {G} IsJudgement work rest a same = record {
 }
 
 -- it ends there
-ends-with : {S E : Type 0} (B : Type 0) (Kept : E → Type 0) (ending : Ending) (why : Stop) (a : Snapshot S E)
+ends-with : {S E : Type 0} (B : Type 0) (Kept : E → Type 0) (ending : Ending) (why : SessionStop) (a : Snapshot S E)
     → StopsWith ending why → Halts {B = B} Kept (ends_with ending) why [] a a
 ends-with B Kept ending (stop.Refused report) a h =
     ((ending, refl, h), record { others_are = refl; wire_is = refl }, added-nil a.written)
@@ -197,7 +197,7 @@ ends-with B Kept ending stop.OutputFault a h = absurd h
 ends-with B Kept ending stop.Memory a h = ((refl, refl), added-nil a.written)
 
 pub ends-here : {S B E G : Type 0} (IsJudgement : S → B → List ℕ → Judgement S E → Type 0) (Kept : E → Type 0)
-    (work : Piece S B E G) (ending : Ending) (why : Stop) (a : Snapshot S E)
+    (work : Piece S B E G) (ending : Ending) (why : SessionStop) (a : Snapshot S E)
     → ((input : Input S E) (go : G) → work input go ≡ ends_with ending) → StopsWith ending why
     → Fails IsJudgement Kept work why a a
 ends-here {S} {B} {E} {G} IsJudgement Kept work ending why a is h = record {
@@ -230,14 +230,14 @@ wants-here {S} {B} {E} {G} IsJudgement Kept work a = record {
 
 -- A stop that is no fault of the disk or of the output.
 
-pub no_disk_fault : {T : Type 0} (why : Stop) (P : Type 0) → IsOfLink why → IsErrOf {T = T} (Err why) stop.DiskFault → P
+pub no_disk_fault : {T : Type 0} (why : SessionStop) (P : Type 0) → IsOfLink why → IsErrOf {T = T} (Err why) stop.DiskFault → P
 no_disk_fault (stop.Refused report) P h is = absurd (cc is)
 no_disk_fault stop.LinkFault P h is = absurd (cc is)
 no_disk_fault stop.DiskFault P h is = absurd h
 no_disk_fault stop.OutputFault P h is = absurd h
 no_disk_fault stop.Memory P h is = absurd (cc is)
 
-no_output_fault : {T : Type 0} (why : Stop) (P : Type 0) → IsOfLink why → IsErrOf {T = T} (Err why) stop.OutputFault → P
+no_output_fault : {T : Type 0} (why : SessionStop) (P : Type 0) → IsOfLink why → IsErrOf {T = T} (Err why) stop.OutputFault → P
 no_output_fault (stop.Refused report) P h is = absurd (cc is)
 no_output_fault stop.LinkFault P h is = absurd (cc is)
 no_output_fault stop.DiskFault P h is = absurd h
@@ -245,7 +245,7 @@ no_output_fault stop.OutputFault P h is = absurd h
 no_output_fault stop.Memory P h is = absurd (cc is)
 
 -- what stopped so on the link alone counts no faults but the link's
-pub link_faults : {T U : Type 0} (why : Stop) (before after disk out : ℕ) → before ≤ after
+pub link_faults : {T U : Type 0} (why : SessionStop) (before after disk out : ℕ) → before ≤ after
     → (IsErrOf {T = T} (Err why) stop.LinkFault → FaultRose before after) → IsOfLink why
     → CountsFaults {T = U} (Err why) (record { link = before; disk = disk; out = out })
     (record { link = after; disk = disk; out = out })
@@ -253,7 +253,7 @@ link_faults why before after disk out counts cause inside = record {
   link_counts = counts;
   link_cause = λ is.
       let same : why ≡ stop.LinkFault = cc is in
-      cause (ap (λ (stop : Stop). Err stop) same);
+      cause (ap (λ (stop : SessionStop). Err stop) same);
   disk_counts = omega arith;
   disk_cause = no_disk_fault why (FaultRose disk disk) inside;
   out_counts = omega arith;

@@ -1,15 +1,15 @@
 -- How a session ends, by how its work stopped and by what was written last.
 use Rattle.std.proofs.Common.{◌≡◌, ℕ, ◌<◌, ◌≤◌, List, [], ◌++◌, Option, Some, Err, refl, sym, ap, ◌∙◌, subst, inl, inr, append-nil, arith}
 use Rattle.outside.specs.FaultRose.{FaultRose}
-use Rattle.outside.specs.Sink.{added}
+use Rattle.outside.specs.Sink.{append_known}
 use Rattle.link_frames.specs.Scripts.{Event, IsDone}
 use Rattle.exit_output.specs.Outputs.{Output, Writes, outside_failure}
 use Rattle.owner_session.specs.declared.refusals.RefusalCause.TheVariants as causes
-use Rattle.owner_session.specs.declared.stop.Status.{Status}
-use Rattle.owner_session.specs.declared.stop.Status.TheVariants as statuses
-use Rattle.owner_session.specs.declared.stop.Report.{Report}
-use Rattle.owner_session.specs.declared.stop.Stop.{Stop}
-use Rattle.owner_session.specs.declared.stop.Stop.TheVariants as stop
+use Rattle.owner_session.specs.declared.stop.SessionStatus.{SessionStatus}
+use Rattle.owner_session.specs.declared.stop.SessionStatus.TheVariants as statuses
+use Rattle.owner_session.specs.declared.stop.SessionReport.{SessionReport}
+use Rattle.owner_session.specs.declared.stop.SessionStop.{SessionStop}
+use Rattle.owner_session.specs.declared.stop.SessionStop.TheVariants as stop
 use Rattle.owner_session.specs.Endings.{Ending, Done, StoreRefuses, StandsElsewhere, OwnerRefuses, BadAnswer, CutAnswer, Reports, output_of, code_of}
 use Rattle.owner_session.specs.Work.{Forms, Judgement, Deed, Work, Input, ends_with, session_on, session}
 use Rattle.owner_session.specs.Runs.{Snapshot, HasWritten, Reaches, Fails, Halts, input_of, lines_of, continuation, UnlessDisk}
@@ -24,9 +24,9 @@ pub rose_before : (a b c : ℕ) → FaultRose a b → b ≤ c → FaultRose a c
 rose_before a b c rose then_more = λ below. let more : a < b = rose (omega (arith, then_more, below)) in omega (arith, then_more, more)
 
 -- what is kept unless the disk failed, at a known stop
-pub unless_disk : (why known : Stop) (P : Type 0) → why ≡ known → UnlessDisk {T = Unit {0}} (Err why) P
+pub unless_disk : (why known : SessionStop) (P : Type 0) → why ≡ known → UnlessDisk {T = Unit {0}} (Err why) P
     → UnlessDisk {T = Unit {0}} (Err known) P
-unless_disk why known P is h = subst (λ (w : Stop). UnlessDisk {T = Unit {0}} (Err w) P) is h
+unless_disk why known P is h = subst (λ (w : SessionStop). UnlessDisk {T = Unit {0}} (Err w) P) is h
 
 -- Last lines.
 
@@ -40,9 +40,9 @@ writes-rose output P Q wider status before after (inr (inr h)) = inr (inr h)
 last : {S B E : Type 0} (output : Output) (P Q : Type 0) → (P → Q) → (status : ℕ) (deeds : List (Deed S B E)) (a b c : Snapshot S E)
     → HasWritten deeds [] a b → Writes output P status b.written c.written → WritesLast output Q status deeds a c
 last output P Q wider status deeds a b c wrote h =
-    writes-rose output P Q wider status (added a.written (lines_of deeds)) c.written
+    writes-rose output P Q wider status (append_known a.written (lines_of deeds)) c.written
     (subst (λ (w : Option (List ℕ)). Writes output P status w c.written)
-    (wrote ∙ ap (added a.written) (append-nil (lines_of deeds))) h)
+    (wrote ∙ ap (append_known a.written) (append-nil (lines_of deeds))) h)
 
 -- the same moment, but for what is written
 abbrev pub on_output : {S E : Type 0} → Option (List ℕ) → Snapshot S E → Snapshot S E
@@ -54,12 +54,12 @@ unfolding session
 session-is forms state entries batches input = refl
 
 -- no report is of an ending that has nothing to report
-reports_other : {S B E : Type 0} (report : Report) (ending : Ending) (OutRose : Type 0) (status : ℕ) (deeds : List (Deed S B E))
+reports_other : {S B E : Type 0} (report : SessionReport) (ending : Ending) (OutRose : Type 0) (status : ℕ) (deeds : List (Deed S B E))
     (a b : Snapshot S E) → Reports report ending → WritesLast (output_of ending) OutRose status deeds a b
     → WritesEnding ending OutRose status deeds a b
 reports_other report Done OutRose status deeds a b is h = absurd (never_0 report.status (ap (λ (o : Output). o.status) is))
   where
-    never_0 : (s : Status) → code_of s ≡ 0 → ⊥
+    never_0 : (s : SessionStatus) → code_of s ≡ 0 → ⊥
     never_0 statuses.Refused none = cc none
     never_0 statuses.RefusedCommand none = cc none
     never_0 statuses.BadAnswer none = cc none
@@ -96,13 +96,13 @@ module _ {S B E : Type 0} (IsJudgement : S → B → List ℕ → Judgement S E 
       }
 
   -- how it stopped, at the whole session
-  halted : (K : E → Type 0) (why : Stop) (f : Fails IsJudgement K (session_on forms a.state a.entries batches) why a b)
+  halted : (K : E → Type 0) (why : SessionStop) (f : Fails IsJudgement K (session_on forms a.state a.entries batches) why a b)
       → Halts K (session forms a.state a.entries batches (input_of a (f.judgements ++ []))) why f.deeds a b
   halted K why f =
       subst (λ (w : Work S B E). Halts K w why f.deeds a b)
       (sym (session-is forms a.state a.entries batches (input_of a (f.judgements ++ [])))) (f.halts [] (λ (rest : Input S E). ends_with Done))
 
-  runs_to : (K : E → Type 0) (why : Stop) (f : Fails IsJudgement K (session_on forms a.state a.entries batches) why a b)
+  runs_to : (K : E → Type 0) (why : SessionStop) (f : Fails IsJudgement K (session_on forms a.state a.entries batches) why a b)
       (status : ℕ) (written : Option (List ℕ))
       → SessionEnds (session forms a.state a.entries batches (input_of a (f.judgements ++ []))) LinkRose DiskRose OutRose Kept KeptWith status f.deeds a (on_output written b)
       → SessionRuns forms IsJudgement batches LinkRose DiskRose OutRose Kept KeptWith status a (on_output written b)
@@ -115,14 +115,14 @@ module _ {S B E : Type 0} (IsJudgement : S → B → List ℕ → Judgement S E 
   }
 
   -- it came to an ending, whose report was written
-  pub session_refused : (why : Stop) (report : Report) (P : Type 0) (status code : ℕ) (bytes : List ℕ) (written : Option (List ℕ))
+  pub session_refused : (why : SessionStop) (report : SessionReport) (P : Type 0) (status code : ℕ) (bytes : List ℕ) (written : Option (List ℕ))
       → why ≡ stop.Refused report → code ≡ code_of report.status → bytes ≡ report.bytes.items
       → Fails IsJudgement KeptWith (session_on forms a.state a.entries batches) why a b → Kept → (P → OutRose)
       → Writes (record { status = code; bytes = bytes }) P status b.written written
       → SessionRuns forms IsJudgement batches LinkRose DiskRose OutRose Kept KeptWith status a (on_output written b)
   session_refused why report P status code bytes written is is_code are_bytes f kept wider h =
       let f' : Fails IsJudgement KeptWith (session_on forms a.state a.entries batches) (stop.Refused report) a b =
-      subst (λ (w : Stop). Fails IsJudgement KeptWith (session_on forms a.state a.entries batches) w a b) is f in
+      subst (λ (w : SessionStop). Fails IsJudgement KeptWith (session_on forms a.state a.entries batches) w a b) is f in
       let halt = halted KeptWith (stop.Refused report) f' in
       let output : record { status = code; bytes = bytes } ≡ output_of halt.0.0 =
       ap (λ (c : ℕ). record { status = c; bytes = bytes }) is_code
@@ -140,43 +140,43 @@ module _ {S B E : Type 0} (IsJudgement : S → B → List ℕ → Judgement S E 
         ),
       ))
 
-  pub session_link_fault : (why : Stop) (P : Type 0) (status : ℕ) (written : Option (List ℕ)) → why ≡ stop.LinkFault
+  pub session_link_fault : (why : SessionStop) (P : Type 0) (status : ℕ) (written : Option (List ℕ)) → why ≡ stop.LinkFault
       → Fails IsJudgement KeptWith (session_on forms a.state a.entries batches) why a b → LinkRose → Kept → (P → OutRose)
       → Writes outside_failure P status b.written written
       → SessionRuns forms IsJudgement batches LinkRose DiskRose OutRose Kept KeptWith status a (on_output written b)
   session_link_fault why P status written is f rose kept wider h =
       let f' : Fails IsJudgement KeptWith (session_on forms a.state a.entries batches) stop.LinkFault a b =
-      subst (λ (w : Stop). Fails IsJudgement KeptWith (session_on forms a.state a.entries batches) w a b) is f in
+      subst (λ (w : SessionStop). Fails IsJudgement KeptWith (session_on forms a.state a.entries batches) w a b) is f in
       let halt = halted KeptWith stop.LinkFault f' in
       runs_to KeptWith stop.LinkFault f' status written
       (inr (inl (rose, kept, (halt.0, last outside_failure P OutRose wider status f'.deeds a b (on_output written b) halt.1 h))))
 
-  pub session_disk_fault : (why : Stop) (P : Type 0) (status : ℕ) (written : Option (List ℕ)) → why ≡ stop.DiskFault
+  pub session_disk_fault : (why : SessionStop) (P : Type 0) (status : ℕ) (written : Option (List ℕ)) → why ≡ stop.DiskFault
       → Fails IsJudgement KeptWith (session_on forms a.state a.entries batches) why a b → DiskRose → (P → OutRose)
       → Writes outside_failure P status b.written written
       → SessionRuns forms IsJudgement batches LinkRose DiskRose OutRose Kept KeptWith status a (on_output written b)
   session_disk_fault why P status written is f rose wider h =
       let f' : Fails IsJudgement KeptWith (session_on forms a.state a.entries batches) stop.DiskFault a b =
-      subst (λ (w : Stop). Fails IsJudgement KeptWith (session_on forms a.state a.entries batches) w a b) is f in
+      subst (λ (w : SessionStop). Fails IsJudgement KeptWith (session_on forms a.state a.entries batches) w a b) is f in
       let halt = halted KeptWith stop.DiskFault f' in
       runs_to KeptWith stop.DiskFault f' status written
       (inr (inr (inl (rose, halt.2, (halt.0, last outside_failure P OutRose wider status f'.deeds a b (on_output written b) halt.1 h)))))
 
-  pub session_output_fault : (why : Stop) → why ≡ stop.OutputFault
+  pub session_output_fault : (why : SessionStop) → why ≡ stop.OutputFault
       → Fails IsJudgement KeptWith (session_on forms a.state a.entries batches) why a b → OutRose → Kept
       → SessionRuns forms IsJudgement batches LinkRose DiskRose OutRose Kept KeptWith 3 a b
   session_output_fault why is f rose kept =
       let f' : Fails IsJudgement KeptWith (session_on forms a.state a.entries batches) stop.OutputFault a b =
-      subst (λ (w : Stop). Fails IsJudgement KeptWith (session_on forms a.state a.entries batches) w a b) is f in
+      subst (λ (w : SessionStop). Fails IsJudgement KeptWith (session_on forms a.state a.entries batches) w a b) is f in
       let halt = halted KeptWith stop.OutputFault f' in
       runs_to KeptWith stop.OutputFault f' 3 b.written (inr (inr (inr (inl (rose, kept, (refl, halt.0, halt.1))))))
 
-  pub session_wants : (why : Stop) → why ≡ stop.Memory
+  pub session_wants : (why : SessionStop) → why ≡ stop.Memory
       → Fails IsJudgement KeptWith (session_on forms a.state a.entries batches) why a b → Kept
       → SessionRuns forms IsJudgement batches LinkRose DiskRose OutRose Kept KeptWith 4 a b
   session_wants why is f kept =
       let f' : Fails IsJudgement KeptWith (session_on forms a.state a.entries batches) stop.Memory a b =
-      subst (λ (w : Stop). Fails IsJudgement KeptWith (session_on forms a.state a.entries batches) w a b) is f in
+      subst (λ (w : SessionStop). Fails IsJudgement KeptWith (session_on forms a.state a.entries batches) w a b) is f in
       let halt = halted KeptWith stop.Memory f' in
       runs_to KeptWith stop.Memory f' 4 b.written (inr (inr (inr (inr (kept, (refl, halt.0, halt.1))))))
 
@@ -193,17 +193,17 @@ done_alone : {S B E : Type 0} (ending : Ending) (P : Type 0) (deeds : List (Deed
     → WritesEnding ending P 0 deeds a b → (ending ≡ Done) × HasWritten deeds [] a b
 done_alone Done P deeds a b h = (refl, h.1)
 done_alone (StoreRefuses code) P deeds a b h =
-    absurd (no_output_0 (output_of (StoreRefuses code)) P (added a.written (lines_of deeds)) b.written (λ is. cc is) h)
+    absurd (no_output_0 (output_of (StoreRefuses code)) P (append_known a.written (lines_of deeds)) b.written (λ is. cc is) h)
 done_alone StandsElsewhere P deeds a b h =
-    absurd (no_output_0 (output_of StandsElsewhere) P (added a.written (lines_of deeds)) b.written (λ is. cc is) h)
+    absurd (no_output_0 (output_of StandsElsewhere) P (append_known a.written (lines_of deeds)) b.written (λ is. cc is) h)
 done_alone (OwnerRefuses causes.Proofs lines) P deeds a b h =
-    absurd (no_output_0 (output_of (OwnerRefuses causes.Proofs lines)) P (added a.written (lines_of deeds)) b.written (λ is. cc is) h)
+    absurd (no_output_0 (output_of (OwnerRefuses causes.Proofs lines)) P (append_known a.written (lines_of deeds)) b.written (λ is. cc is) h)
 done_alone (OwnerRefuses causes.Command lines) P deeds a b h =
-    absurd (no_output_0 (output_of (OwnerRefuses causes.Command lines)) P (added a.written (lines_of deeds)) b.written (λ is. cc is) h)
+    absurd (no_output_0 (output_of (OwnerRefuses causes.Command lines)) P (append_known a.written (lines_of deeds)) b.written (λ is. cc is) h)
 done_alone (BadAnswer length) P deeds a b h =
-    absurd (no_output_0 (output_of (BadAnswer length)) P (added a.written (lines_of deeds)) b.written (λ is. cc is) h)
+    absurd (no_output_0 (output_of (BadAnswer length)) P (append_known a.written (lines_of deeds)) b.written (λ is. cc is) h)
 done_alone (CutAnswer got) P deeds a b h =
-    absurd (no_output_0 (output_of (CutAnswer got)) P (added a.written (lines_of deeds)) b.written (λ is. cc is) h)
+    absurd (no_output_0 (output_of (CutAnswer got)) P (append_known a.written (lines_of deeds)) b.written (λ is. cc is) h)
 
 -- work that ended with 0 was done
 ends_done : {S B E : Type 0} (work : Work S B E) (LinkRose DiskRose OutRose Kept : Type 0) (KeptWith : E → Type 0)
@@ -214,9 +214,9 @@ ends_done work L D O K W deeds a b (inl h) =
     let alone = done_alone h.1.0 O deeds a b h.1.3 in
     (h.1.1 ∙ ap (λ (e : Ending). Some e) alone.0, h.1.2, alone.1)
 ends_done work L D O K W deeds a b (inr (inl h)) =
-    absurd (no_output_0 outside_failure O (added a.written (lines_of deeds)) b.written (λ is. cc is) h.2.1)
+    absurd (no_output_0 outside_failure O (append_known a.written (lines_of deeds)) b.written (λ is. cc is) h.2.1)
 ends_done work L D O K W deeds a b (inr (inr (inl h))) =
-    absurd (no_output_0 outside_failure O (added a.written (lines_of deeds)) b.written (λ is. cc is) h.2.1)
+    absurd (no_output_0 outside_failure O (append_known a.written (lines_of deeds)) b.written (λ is. cc is) h.2.1)
 ends_done work L D O K W deeds a b (inr (inr (inr (inl h)))) = absurd (cc (h.2.0))
 ends_done work L D O K W deeds a b (inr (inr (inr (inr h)))) = absurd (cc (h.1.0))
 

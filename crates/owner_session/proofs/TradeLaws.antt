@@ -7,8 +7,8 @@ use Rattle.link_frames.specs.declared.frame.NoFrame.TheVariants as no_frame
 use Rattle.link_frames.specs.declared.frame_kind.FrameKind.{FrameKind}
 use Rattle.link_frames.specs.Frames.{Coming, Whole, span}
 use Rattle.link_frames.specs.Reading.{TookRest, Took, Asks}
-use Rattle.owner_session.specs.declared.stop.Stop.{Stop}
-use Rattle.owner_session.specs.declared.stop.Stop.TheVariants as stop
+use Rattle.owner_session.specs.declared.stop.SessionStop.{SessionStop}
+use Rattle.owner_session.specs.declared.stop.SessionStop.TheVariants as stop
 use Rattle.owner_session.specs.Endings.{Ending, StoreRefuses, BadAnswer, CutAnswer, StopsWith}
 use Rattle.owner_session.specs.Work.{Body, NoBody, answer_of, is_refusal}
 use Rattle.owner_session.specs.Runs.{Trades, AnswersBody}
@@ -20,7 +20,7 @@ took_all first before wire t =
     let all : t.0 ≡ span first = omega (arith, t.1) in
     subst (λ (k : ℕ). Took k before wire) all t.2
 
-pub trades_not : (frame : List ℕ) (first : Coming) (ending : Ending) (why : Stop) (before : ConnectionModel)
+pub trades_not : (frame : List ℕ) (first : Coming) (ending : Ending) (why : SessionStop) (before : ConnectionModel)
     (wire : Option ConnectionModel) → answer_of first ≡ NoBody ending → TookRest 0 first (send_on frame before) wire
     → StopsWith ending why → Trades frame first (Err why) before wire
 trades_not frame first ending (stop.Refused report) before wire is t h =
@@ -30,7 +30,7 @@ trades_not frame first ending stop.LinkFault before wire is t h = absurd h
 trades_not frame first ending stop.DiskFault before wire is t h = absurd h
 trades_not frame first ending stop.OutputFault before wire is t h = absurd h
 
-pub trades : (frame : List ℕ) (first : Coming) (kind : FrameKind) (body : List ℕ) (result : Result (Vec ℕ) Stop)
+pub trades : (frame : List ℕ) (first : Coming) (kind : FrameKind) (body : List ℕ) (result : Result (Vec ℕ) SessionStop)
     (before : ConnectionModel) (wire : Option ConnectionModel) → first ≡ Whole kind body
     → TookRest 0 first (send_on frame before) wire → AnswersBody kind body result
     → Trades frame first result before wire
@@ -52,14 +52,14 @@ is_no_body kind body code refused is =
     ∙ ap (λ (c : ℕ). NoBody (StoreRefuses c)) (sym is)
 
 -- why no answer was read is why it stops
-abbrev pub StopsFor : NoFrame → Stop → Type 0
+abbrev pub StopsFor : NoFrame → SessionStop → Type 0
 StopsFor no_frame.Ended why = StopsWith (CutAnswer 0) why
 StopsFor (no_frame.Cut got) why = StopsWith (CutAnswer got) why
 StopsFor (no_frame.BadFrame length) why = StopsWith (BadAnswer length) why
 StopsFor no_frame.LinkFault why = why ≡ stop.LinkFault
 StopsFor no_frame.Memory why = why ≡ stop.Memory
 
-asks_not : (frame : List ℕ) (first : Coming) (fault : NoFrame) (why : Stop) (before : ConnectionModel)
+asks_not : (frame : List ℕ) (first : Coming) (fault : NoFrame) (why : SessionStop) (before : ConnectionModel)
     (wire : Option ConnectionModel) → Asks frame first (Err fault) before wire → StopsFor fault why
     → Trades frame first (Err why) before wire
 asks_not frame first no_frame.Ended why before wire h k =
@@ -69,11 +69,11 @@ asks_not frame first (no_frame.Cut got) why before wire h k =
 asks_not frame first (no_frame.BadFrame length) why before wire h k =
     trades_not frame first (BadAnswer length) why before wire (ap answer_of h.0.1) h.1 k
 asks_not frame first no_frame.LinkFault why before wire h k =
-    subst (λ (w : Stop). Trades frame first (Err w) before wire) (sym k) h
+    subst (λ (w : SessionStop). Trades frame first (Err w) before wire) (sym k) h
 asks_not frame first no_frame.Memory why before wire h k =
-    subst (λ (w : Stop). Trades frame first (Err w) before wire) (sym k) h
+    subst (λ (w : SessionStop). Trades frame first (Err w) before wire) (sym k) h
 
-pub no_trade : (frame : List ℕ) (first : Coming) (fault known : NoFrame) (why : Stop) (before : ConnectionModel)
+pub no_trade : (frame : List ℕ) (first : Coming) (fault known : NoFrame) (why : SessionStop) (before : ConnectionModel)
     (wire : Option ConnectionModel) → fault ≡ known → Asks frame first (Err fault) before wire → StopsFor known why
     → Trades frame first (Err why) before wire
 no_trade frame first fault known why before wire is h k =

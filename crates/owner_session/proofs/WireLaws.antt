@@ -13,10 +13,10 @@ use Rattle.link_frames.specs.Reading.{IsHalfAsked, StaysWhereItStands}
 use Rattle.link_frames.specs.Scripts.{Event, Puts, Takes, behind, Stops}
 use Rattle.owner_session.specs.declared.place.Place.{Place}
 use Rattle.owner_session.specs.declared.place.Place.TheVariants.{Holds, Elsewhere, NoStanding}
-use Rattle.owner_session.specs.declared.stop.Stop.{Stop}
-use Rattle.owner_session.specs.declared.stop.Stop.TheVariants as stop
+use Rattle.owner_session.specs.declared.stop.SessionStop.{SessionStop}
+use Rattle.owner_session.specs.declared.stop.SessionStop.TheVariants as stop
 use Rattle.owner_session.specs.Endings.{Ending, StandsElsewhere, BadAnswer}
-use Rattle.owner_session.specs.Work.{Forms, Judgement, Deed, Work, Input, Answer, Body, NoBody, answer_of, with_answer, with_place, input_after, ends_with, exchange, installation, proposal, standing, delivery, deliveries, catch_up}
+use Rattle.owner_session.specs.Work.{Forms, Judgement, Deed, Work, Input, AnswerBody, Body, NoBody, answer_of, with_answer, with_place, input_after, ends_with, exchange, installation, proposal, standing, delivery, deliveries, catch_up}
 use Rattle.owner_session.specs.Runs.{Snapshot, LeadsTo, Piece, Reaches, Halts, Runs, RunsOnWire, Trades, ChecksVersion, HoldsSome, snapshot_of, input_of, continuation, continuation_with}
 use Rattle.owner_session.proofs.DeedLaws.{added-nil}
 use Rattle.link_frames.proofs.ScriptLaws.{stands-after}
@@ -33,14 +33,14 @@ leads-on-wire wire a = record { state = refl; entries = sym (append-nil a.entrie
 -- Exchanges.
 
 answered : {S B E : Type 0} (kind : FrameKind) (body : List ℕ) (awaits : Awaits) (input : Input S E)
-    (go : List ℕ → Input S E → Work S B E) (answer : Answer)
+    (go : List ℕ → Input S E → Work S B E) (answer : AnswerBody)
     → answer_of (first_frame awaits input.coming) ≡ answer
     → exchange kind body awaits input go
     ≡ behind (Puts (frame_bytes kind body) ∷ Takes (span (first_frame awaits input.coming)) ∷ [])
     (with_answer answer (input_after (span (first_frame awaits input.coming)) input) go)
 unfolding exchange
 answered {S} {B} {E} kind body awaits input go answer is =
-    ap (λ (a : Answer). behind {X = Deed S B E} {A = Option Ending}
+    ap (λ (a : AnswerBody). behind {X = Deed S B E} {A = Option Ending}
     (Puts (frame_bytes kind body) ∷ Takes (span (first_frame awaits input.coming)) ∷ [])
     (with_answer a (input_after (span (first_frame awaits input.coming)) input) go)) is
 
@@ -59,7 +59,7 @@ half_stops kind body awaits input go before wire (inl h) = inl (refl, (h.0, refl
 half_stops kind body awaits input go before wire (inr h) = inr ([], refl, inl (refl, (h.0, refl)))
 
 half_fails : {S B E : Type 0} (IsJudgement : S → B → List ℕ → Judgement S E → Type 0) (kind : FrameKind) (body : List ℕ)
-    (awaits : Awaits) (why : Stop) (before : Snapshot S E) (wire : Option ConnectionModel)
+    (awaits : Awaits) (why : SessionStop) (before : Snapshot S E) (wire : Option ConnectionModel)
     → ((work : Work S B E) (later : ConnectionModel) → Stops work.events [] before.wire later
     → Halts (λ (e : E). ⊥) work why [] before (on_wire later before))
     → IsHalfAsked (frame_bytes kind body) before.wire wire
@@ -81,7 +81,7 @@ half_fails {S} {B} {E} IsJudgement kind body awaits why before wire halts h =
 
 -- a call that did the exchange, or stopped in it
 pub traded : {S B E : Type 0} (IsJudgement : S → B → List ℕ → Judgement S E → Type 0) (kind : FrameKind) (body : List ℕ)
-    (awaits : Awaits) (result : Result (Vec ℕ) Stop) (before : Snapshot S E) (wire : Option ConnectionModel)
+    (awaits : Awaits) (result : Result (Vec ℕ) SessionStop) (before : Snapshot S E) (wire : Option ConnectionModel)
     → Trades (frame_bytes kind body) (first_frame awaits before.wire.coming) result before.wire wire
     → RunsOnWire IsJudgement (exchange kind body awaits) (λ (given : Vec ℕ). continuation_with given.items) result before wire
 traded {S} {B} {E} IsJudgement kind body awaits (Ok given) before wire h =
@@ -127,7 +127,7 @@ traded IsJudgement kind body awaits (Err stop.OutputFault) before wire h = absur
 
 -- the same, where the body is known by another term
 pub exchanged : {S B E : Type 0} (IsJudgement : S → B → List ℕ → Judgement S E → Type 0) (kind : FrameKind) (bytes body : List ℕ)
-    (awaits : Awaits) (result : Result (Vec ℕ) Stop) (before : Snapshot S E) (wire : Option ConnectionModel) → bytes ≡ body
+    (awaits : Awaits) (result : Result (Vec ℕ) SessionStop) (before : Snapshot S E) (wire : Option ConnectionModel) → bytes ≡ body
     → Trades (frame_bytes kind bytes) (first_frame awaits before.wire.coming) result before.wire wire
     → RunsOnWire IsJudgement (exchange kind body awaits) (λ (given : Vec ℕ). continuation_with given.items) result before wire
 exchanged IsJudgement kind bytes body awaits result before wire is h =
@@ -145,7 +145,7 @@ not_traded IsJudgement work rest before wire is = (before.wire, is, wants-here I
 -- a call did the first piece, and another ran in the rest
 pub wire-then : {S B E G H T U : Type 0} (IsJudgement : S → B → List ℕ → Judgement S E → Type 0) (first : Piece S B E H)
     (given : U → Piece S B E H) (in_it : G → H) (work : Piece S B E G) (rest : T → Piece S B E G) (x : U)
-    (result : Result T Stop) (before : Snapshot S E) (mid later : Option ConnectionModel)
+    (result : Result T SessionStop) (before : Snapshot S E) (mid later : Option ConnectionModel)
     → ((input : Input S E) (go : G) → work input go ≡ first input (in_it go))
     → RunsOnWire IsJudgement first given (Ok x) before mid
     → ((now : Snapshot S E) → mid ≡ Some now.wire
@@ -162,7 +162,7 @@ wire-then {S} {B} {E} {G} IsJudgement first given in_it work rest x result befor
 
 -- a call stopped in the first piece
 pub wire-fails : {S B E G H T U : Type 0} (IsJudgement : S → B → List ℕ → Judgement S E → Type 0) (first : Piece S B E H)
-    (given : U → Piece S B E H) (in_it : G → H) (work : Piece S B E G) (rest : T → Piece S B E G) (why : Stop)
+    (given : U → Piece S B E H) (in_it : G → H) (work : Piece S B E G) (rest : T → Piece S B E G) (why : SessionStop)
     (before : Snapshot S E) (later : Option ConnectionModel)
     → ((input : Input S E) (go : G) → work input go ≡ first input (in_it go))
     → RunsOnWire IsJudgement first given (Err why) before later → RunsOnWire IsJudgement work rest (Err why) before later
@@ -181,7 +181,7 @@ installation-is forms entry input go = refl
 abbrev pub version_test : {S B E : Type 0} → Bool → Piece S B E (Input S E → Work S B E)
 version_test same input go = if same then go input else ends_with StandsElsewhere
 
-checked : {S B E : Type 0} (IsJudgement : S → B → List ℕ → Judgement S E → Type 0) (same : Bool) (result : Result (Unit {0}) Stop)
+checked : {S B E : Type 0} (IsJudgement : S → B → List ℕ → Judgement S E → Type 0) (same : Bool) (result : Result (Unit {0}) SessionStop)
     (now : Snapshot S E) → ChecksVersion same result → Runs IsJudgement (λ entry. ⊥) (version_test same) (λ done. continuation) result now now
 checked {S} {B} {E} IsJudgement same (Ok done) now is =
     reaches-here IsJudgement (version_test same) continuation now
@@ -191,7 +191,7 @@ checked {S} {B} {E} IsJudgement same (Err why) now h =
     (λ (input : Input S E) (go : Input S E → Work S B E). ap (λ (b : Bool). version_test b input go) h.0) h.1
 
 pub version_checked : {S B E : Type 0} (IsJudgement : S → B → List ℕ → Judgement S E → Type 0) (forms : Forms B E) (entry : E)
-    (answer : Vec ℕ) (bytes : List ℕ) (version : ℕ) (result : Result (Unit {0}) Stop) (before : Snapshot S E)
+    (answer : Vec ℕ) (bytes : List ℕ) (version : ℕ) (result : Result (Unit {0}) SessionStop) (before : Snapshot S E)
     (mid : Option ConnectionModel) → bytes ≡ answer.items → version ≡ forms.version entry
     → RunsOnWire IsJudgement (exchange kind.Install (forms.install entry) awaits.Installed) (λ (given : Vec ℕ). continuation_with given.items) (Ok answer) before mid
     → ChecksVersion (bytes_eq bytes (u64_bytes version)) result
@@ -208,7 +208,7 @@ version_checked {S} {B} {E} IsJudgement forms entry answer bytes version result 
     (λ now there. (now.wire, there, checked IsJudgement (bytes_eq answer.items (u64_bytes (forms.version entry))) result now checks))
 
 pub not_installed : {S B E : Type 0} (IsJudgement : S → B → List ℕ → Judgement S E → Type 0) (forms : Forms B E) (entry : E)
-    (why : Stop) (before : Snapshot S E) (later : Option ConnectionModel)
+    (why : SessionStop) (before : Snapshot S E) (later : Option ConnectionModel)
     → RunsOnWire IsJudgement (exchange kind.Install (forms.install entry) awaits.Installed) (λ (given : Vec ℕ). continuation_with given.items) (Err why) before later
     → RunsOnWire {T = Unit {0}} IsJudgement (installation forms entry) (λ done. continuation) (Err why) before later
 not_installed {S} {B} {E} IsJudgement forms entry why before later f =
@@ -226,7 +226,7 @@ unfolding standing
 standing-is forms entries input go = refl
 
 placed : {S B E : Type 0} (IsJudgement : S → B → List ℕ → Judgement S E → Type 0) (place : Place) (body : List ℕ)
-    (result : Result ℕ Stop) (now : Snapshot S E) → HoldsSome place (length body) result
+    (result : Result ℕ SessionStop) (now : Snapshot S E) → HoldsSome place (length body) result
     → Runs IsJudgement (λ entry. ⊥) (λ (input : Input S E) (go : ℕ → Input S E → Work S B E). with_place place body input go) continuation_with result now now
 placed {S} {B} {E} IsJudgement place body (Ok count) now is =
     reaches-here IsJudgement (λ (input : Input S E) (go : ℕ → Input S E → Work S B E). with_place place body input go) (continuation_with count) now
@@ -240,7 +240,7 @@ placed {S} {B} {E} IsJudgement NoStanding body (Err why) now h =
 placed IsJudgement (Holds count) body (Err why) now h = absurd h
 
 pub place_known : {S B E : Type 0} (IsJudgement : S → B → List ℕ → Judgement S E → Type 0) (forms : Forms B E) (entries : List E)
-    (answer : Vec ℕ) (bytes : List ℕ) (place : Place) (result : Result ℕ Stop) (before : Snapshot S E)
+    (answer : Vec ℕ) (bytes : List ℕ) (place : Place) (result : Result ℕ SessionStop) (before : Snapshot S E)
     (mid : Option ConnectionModel) → bytes ≡ answer.items → place ≡ forms.place entries bytes
     → RunsOnWire IsJudgement (exchange kind.Status [] awaits.Standing) (λ (given : Vec ℕ). continuation_with given.items) (Ok answer) before mid
     → HoldsSome place (length bytes) result
@@ -257,7 +257,7 @@ place_known {S} {B} {E} IsJudgement forms entries answer bytes place result befo
     (λ now there. (now.wire, there, placed IsJudgement (forms.place entries answer.items) answer.items result now holds))
 
 pub no_place : {S B E : Type 0} (IsJudgement : S → B → List ℕ → Judgement S E → Type 0) (forms : Forms B E) (entries : List E)
-    (why : Stop) (before : Snapshot S E) (later : Option ConnectionModel)
+    (why : SessionStop) (before : Snapshot S E) (later : Option ConnectionModel)
     → RunsOnWire IsJudgement (exchange kind.Status [] awaits.Standing) (λ (given : Vec ℕ). continuation_with given.items) (Err why) before later
     → RunsOnWire IsJudgement (standing forms entries) continuation_with (Err why) before later
 no_place {S} {B} {E} IsJudgement forms entries why before later f =
@@ -274,7 +274,7 @@ unfolding proposal
 proposal-is forms batch input go = refl
 
 pub proposed : {S B E : Type 0} (IsJudgement : S → B → List ℕ → Judgement S E → Type 0) (forms : Forms B E) (batch : B)
-    (body : List ℕ) (result : Result (Vec ℕ) Stop) (before : Snapshot S E) (wire : Option ConnectionModel)
+    (body : List ℕ) (result : Result (Vec ℕ) SessionStop) (before : Snapshot S E) (wire : Option ConnectionModel)
     → body ≡ forms.proposal batch
     → Trades (frame_bytes kind.Propose body) (first_frame awaits.Proofs before.wire.coming) result before.wire wire
     → RunsOnWire IsJudgement (proposal forms batch) (λ (given : Vec ℕ). continuation_with given.items) result before wire
@@ -286,7 +286,7 @@ proposed IsJudgement forms batch body result before wire is h =
 -- Delivering.
 
 pub first_delivered : {S B E : Type 0} (IsJudgement : S → B → List ℕ → Judgement S E → Type 0) (forms : Forms B E) (i : ℕ)
-    (entry : E) (result : Result (Unit {0}) Stop) (before : Snapshot S E) (wire : Option ConnectionModel) → i ≡ 0
+    (entry : E) (result : Result (Unit {0}) SessionStop) (before : Snapshot S E) (wire : Option ConnectionModel) → i ≡ 0
     → RunsOnWire IsJudgement (installation forms entry) (λ (done : Unit {0}). continuation) result before wire
     → RunsOnWire IsJudgement (delivery forms i entry) (λ (done : Unit {0}). continuation) result before wire
 unfolding delivery
@@ -300,7 +300,7 @@ unfolding delivery
 delivery-is forms i entry input go = refl
 
 pub later_delivered : {S B E : Type 0} (IsJudgement : S → B → List ℕ → Judgement S E → Type 0) (forms : Forms B E) (i j : ℕ)
-    (entry : E) (proofs : Vec ℕ) (result : Result (Unit {0}) Stop) (before : Snapshot S E)
+    (entry : E) (proofs : Vec ℕ) (result : Result (Unit {0}) SessionStop) (before : Snapshot S E)
     (mid later : Option ConnectionModel) → i ≡ suc j
     → RunsOnWire IsJudgement (proposal forms (forms.batch entry)) (λ (given : Vec ℕ). continuation_with given.items) (Ok proofs) before mid
     → ((now : Snapshot S E) → mid ≡ Some now.wire → RunsOnWire IsJudgement (installation forms entry) (λ (done : Unit {0}). continuation) result now later)
@@ -313,7 +313,7 @@ later_delivered {S} {B} {E} IsJudgement forms i j entry proofs result before mid
     (delivery forms (suc j) entry) (λ (done : Unit {0}). continuation) proofs result before mid later (delivery-is forms j entry) f s)
 
 pub not_delivered : {S B E : Type 0} (IsJudgement : S → B → List ℕ → Judgement S E → Type 0) (forms : Forms B E) (i j : ℕ)
-    (entry : E) (why : Stop) (before : Snapshot S E) (later : Option ConnectionModel) → i ≡ suc j
+    (entry : E) (why : SessionStop) (before : Snapshot S E) (later : Option ConnectionModel) → i ≡ suc j
     → RunsOnWire IsJudgement (proposal forms (forms.batch entry)) (λ (given : Vec ℕ). continuation_with given.items) (Err why) before later
     → RunsOnWire {T = Unit {0}} IsJudgement (delivery forms i entry) (λ done. continuation) (Err why) before later
 not_delivered {S} {B} {E} IsJudgement forms i j entry why before later is f =
@@ -367,7 +367,7 @@ delivery_next {S} {B} {E} IsJudgement forms entries i entry a is =
 
 -- what a call says that delivers an entry
 abbrev pub Delivers : {S B E : Type 0} → (S → B → List ℕ → Judgement S E → Type 0) → Forms B E → List E → ℕ
-    → Result (Unit {0}) Stop → Option ConnectionModel → Option ConnectionModel → Type 0
+    → Result (Unit {0}) SessionStop → Option ConnectionModel → Option ConnectionModel → Type 0
 Delivers {S} {B} {E} IsJudgement forms entries i result wire later =
     (entry : E) (before : Snapshot S E) → slice_get entries i ≡ Some entry → wire ≡ Some before.wire
     → RunsOnWire {T = Unit {0}} IsJudgement (delivery forms i entry) (λ done. continuation) result before later
@@ -397,7 +397,7 @@ delivered_more {S} {B} {E} IsJudgement forms entries held i next done wire now l
     )
 
 pub delivery_stops : {S B E : Type 0} (IsJudgement : S → B → List ℕ → Judgement S E → Type 0) (forms : Forms B E) (entries : List E)
-    (held i : ℕ) (why : Stop) (wire now later : Option ConnectionModel) → i < length entries
+    (held i : ℕ) (why : SessionStop) (wire now later : Option ConnectionModel) → i < length entries
     → DeliveredTo IsJudgement forms entries held i wire now → Delivers IsJudgement forms entries i (Err why) now later
     → (before : Snapshot S E) → wire ≡ Some before.wire
     → RunsOnWire {T = Unit {0}} IsJudgement (deliveries forms held (drop held entries)) (λ done. continuation) (Err why) before later
@@ -447,7 +447,7 @@ unfolding catch_up
 catch_up-is forms entries input go = refl
 
 pub caught_up : {S B E : Type 0} (IsJudgement : S → B → List ℕ → Judgement S E → Type 0) (forms : Forms B E) (entries : List E)
-    (count : ℕ) (result : Result (Unit {0}) Stop) (before : Snapshot S E) (mid later : Option ConnectionModel)
+    (count : ℕ) (result : Result (Unit {0}) SessionStop) (before : Snapshot S E) (mid later : Option ConnectionModel)
     → RunsOnWire IsJudgement (standing forms entries) continuation_with (Ok count) before mid
     → ((now : Snapshot S E) → mid ≡ Some now.wire
     → RunsOnWire IsJudgement (deliveries forms count (drop count entries)) (λ (done : Unit {0}). continuation) result now later)
@@ -458,7 +458,7 @@ caught_up {S} {B} {E} IsJudgement forms entries count result before mid later f 
     (catch_up forms entries) (λ (done : Unit {0}). continuation) count result before mid later (catch_up-is forms entries) f s
 
 pub not_caught_up : {S B E : Type 0} (IsJudgement : S → B → List ℕ → Judgement S E → Type 0) (forms : Forms B E) (entries : List E)
-    (why : Stop) (before : Snapshot S E) (later : Option ConnectionModel)
+    (why : SessionStop) (before : Snapshot S E) (later : Option ConnectionModel)
     → RunsOnWire IsJudgement (standing forms entries) continuation_with (Err why) before later
     → RunsOnWire {T = Unit {0}} IsJudgement (catch_up forms entries) (λ done. continuation) (Err why) before later
 not_caught_up {S} {B} {E} IsJudgement forms entries why before later f =

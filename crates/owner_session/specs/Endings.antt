@@ -5,11 +5,11 @@ use Rattle.std.specs.declared.alloc.AllocError.{AllocError}
 use Rattle.exit_output.specs.Outputs.{Output, line}
 use Rattle.owner_session.specs.declared.refusals.RefusalCause.{RefusalCause}
 use Rattle.owner_session.specs.declared.refusals.RefusalCause.TheVariants.{Proofs, Command}
-use Rattle.owner_session.specs.declared.stop.Status.{Status}
-use Rattle.owner_session.specs.declared.stop.Status.TheVariants as status
-use Rattle.owner_session.specs.declared.stop.Report.{Report}
-use Rattle.owner_session.specs.declared.stop.Stop.{Stop}
-use Rattle.owner_session.specs.declared.stop.Stop.TheVariants as stop
+use Rattle.owner_session.specs.declared.stop.SessionStatus.{SessionStatus}
+use Rattle.owner_session.specs.declared.stop.SessionStatus.TheVariants as status
+use Rattle.owner_session.specs.declared.stop.SessionReport.{SessionReport}
+use Rattle.owner_session.specs.declared.stop.SessionStop.{SessionStop}
+use Rattle.owner_session.specs.declared.stop.SessionStop.TheVariants as stop
 
 -- all is done; the store refuses, with this code; its record, or the version that it installed, is
 -- another than the journal's; the owner refuses, in these lines; an answer has a bad frame of this
@@ -46,29 +46,29 @@ output_of (BadAnswer length) = record {
 }
 output_of (CutAnswer got) = record { status = 9; bytes = number_line (codes "cut ") got }
 
-abbrev pub code_of : Status → ℕ
+abbrev pub code_of : SessionStatus → ℕ
 code_of status.Refused = 1
 code_of status.RefusedCommand = 8
 code_of status.BadAnswer = 9
 
 -- the report of an ending
-abbrev pub Reports : Report → Ending → Type 0
+abbrev pub Reports : SessionReport → Ending → Type 0
 Reports report ending =
     record { status = code_of report.status; bytes = report.bytes.items } ≡ output_of ending
 
 -- it stops with this ending, or memory ran out before its report was made
-abbrev pub StopsWith : Ending → Stop → Type 0
+abbrev pub StopsWith : Ending → SessionStop → Type 0
 StopsWith ending (stop.Refused report) = Reports report ending
 StopsWith ending stop.Memory = Unit {0}
 StopsWith ending _ = ⊥
 
 -- it is no fault of the disk or of the output
-abbrev pub IsOfLink : Stop → Type 0
+abbrev pub IsOfLink : SessionStop → Type 0
 IsOfLink stop.DiskFault = ⊥
 IsOfLink stop.OutputFault = ⊥
 IsOfLink _ = Unit {0}
 
 -- it stops with this status and these lines, or memory ran out
-abbrev pub StopsAs : Status → Result (Vec ℕ) AllocError → Stop → Type 0
+abbrev pub StopsAs : SessionStatus → Result (Vec ℕ) AllocError → SessionStop → Type 0
 StopsAs status (Ok bytes) why = why ≡ stop.Refused (record { status = status; bytes = bytes })
 StopsAs status (Err want) why = why ≡ stop.Memory

@@ -1,8 +1,8 @@
 -- How many calls of the outside have failed: each kind has a count.
 use Rattle.std.specs.Prelude.{ℕ, ◌≤◌, Result, IsErrOf}
 use Rattle.outside.specs.FaultRose.{FaultRose}
-use Rattle.owner_session.specs.declared.stop.Stop.{Stop}
-use Rattle.owner_session.specs.declared.stop.Stop.TheVariants.{LinkFault, DiskFault, OutputFault}
+use Rattle.owner_session.specs.declared.stop.SessionStop.{SessionStop}
+use Rattle.owner_session.specs.declared.stop.SessionStop.TheVariants.{LinkFault, DiskFault, OutputFault}
 
 pub record FaultCounts : Type 0 where
   pub link : ℕ
@@ -10,7 +10,7 @@ pub record FaultCounts : Type 0 where
   pub out : ℕ
 
 -- No count falls, and where a fault stopped the work its own count rose.
-pub record CountsFaults {T : Type 0} (result : Result T Stop) (before after : FaultCounts)
+pub record CountsFaults {T : Type 0} (result : Result T SessionStop) (before after : FaultCounts)
     : Type 0 where
   pub link_counts : before.link ≤ after.link
   pub link_cause : IsErrOf result LinkFault → FaultRose before.link after.link

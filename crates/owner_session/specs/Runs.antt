@@ -2,7 +2,7 @@
 use Rattle.std.specs.Prelude.{◌≡◌, ◌⊎◌, ℕ, ◌+◌, Bool, true, false, List, [], ◌∷◌, ◌++◌, take, Option, Some, Result, Ok, Err}
 use Rattle.std.specs.Global.{Vec}
 use Rattle.outside.specs.ConnectionModel.{ConnectionModel, take_from, send_on}
-use Rattle.outside.specs.Sink.{added}
+use Rattle.outside.specs.Sink.{append_known}
 use Rattle.link_frames.specs.declared.frame_kind.FrameKind.{FrameKind}
 use Rattle.link_frames.specs.Frames.{Coming, Whole, span}
 use Rattle.link_frames.specs.Reading.{IsHalfAsked}
@@ -10,9 +10,9 @@ use Rattle.link_frames.specs.Scripts.{Event, behind, others, IsDone, Stops}
 use Rattle.owner_session.specs.declared.refusals.RefusalCause.{RefusalCause}
 use Rattle.owner_session.specs.declared.refusals.NoAppend.{NoAppend}
 use Rattle.owner_session.specs.declared.refusals.NoAppend.TheVariants as no_append
-use Rattle.owner_session.specs.declared.stop.Report.{Report}
-use Rattle.owner_session.specs.declared.stop.Stop.{Stop}
-use Rattle.owner_session.specs.declared.stop.Stop.TheVariants as stop
+use Rattle.owner_session.specs.declared.stop.SessionReport.{SessionReport}
+use Rattle.owner_session.specs.declared.stop.SessionStop.{SessionStop}
+use Rattle.owner_session.specs.declared.stop.SessionStop.TheVariants as stop
 use Rattle.owner_session.specs.declared.place.Place.{Place}
 use Rattle.owner_session.specs.declared.place.Place.TheVariants.{Holds, Elsewhere, NoStanding}
 use Rattle.owner_session.specs.Endings.{Ending, StandsElsewhere, BadAnswer, OwnerRefuses, Reports, StopsWith}
@@ -70,7 +70,7 @@ pub record LeadsTo {S B E : Type 0} (deeds : List (Deed S B E)) (before after : 
 abbrev pub HasWritten : {S B E : Type 0} → List (Deed S B E) → List ℕ → Snapshot S E → Snapshot S E
     → Type 0
 HasWritten deeds besides before after =
-    after.written ≡ added before.written (lines_of deeds ++ besides)
+    after.written ≡ append_known before.written (lines_of deeds ++ besides)
 
 -- the next of the work's deeds is this
 abbrev pub IsNext : {S B E : Type 0} → Deed S B E → List (Deed S B E) → Work S B E → Type 0
@@ -110,7 +110,7 @@ pub record Reaches {S B E G : Type 0} (IsJudgement : S → B → List ℕ → Ju
 
 -- The work stopped so: it was done; or it stopped in the midst of an event, where after a failing
 -- disk the entry that was next has Kept.
-abbrev pub Halts : {S B E : Type 0} → (E → Type 0) → Work S B E → Stop → List (Deed S B E)
+abbrev pub Halts : {S B E : Type 0} → (E → Type 0) → Work S B E → SessionStop → List (Deed S B E)
     → Snapshot S E → Snapshot S E → Type 0
 Halts Kept work (stop.Refused report) deeds before after =
     ((ending : Ending) × (work.value ≡ Some ending) × Reports report ending)
@@ -129,7 +129,7 @@ Halts Kept work stop.Memory deeds before after =
 
 -- the piece stopped so, whatever the rest is
 pub record Fails {S B E G : Type 0} (IsJudgement : S → B → List ℕ → Judgement S E → Type 0)
-    (Kept : E → Type 0) (work : Piece S B E G) (why : Stop) (before after : Snapshot S E)
+    (Kept : E → Type 0) (work : Piece S B E G) (why : SessionStop) (before after : Snapshot S E)
     : Type 0 where
   pub judgements : List (Judgement S E)
   pub deeds : List (Deed S B E)
@@ -140,7 +140,8 @@ pub record Fails {S B E G : Type 0} (IsJudgement : S → B → List ℕ → Judg
 
 -- a call did the piece, and what it gave is handed to the rest; or the piece stopped
 abbrev pub Runs : {S B E G T : Type 0} → (S → B → List ℕ → Judgement S E → Type 0) → (E → Type 0)
-    → Piece S B E G → (T → Piece S B E G) → Result T Stop → Snapshot S E → Snapshot S E → Type 0
+    → Piece S B E G → (T → Piece S B E G) → Result T SessionStop → Snapshot S E → Snapshot S E
+    → Type 0
 Runs IsJudgement Kept work rest (Ok given) before after =
     Reaches IsJudgement work (rest given) before after
 Runs IsJudgement Kept work rest (Err why) before after =
@@ -148,15 +149,15 @@ Runs IsJudgement Kept work rest (Err why) before after =
 
 -- the same of a call that does something to the connection alone
 abbrev pub RunsOnWire : {S B E G T : Type 0} → (S → B → List ℕ → Judgement S E → Type 0)
-    → Piece S B E G → (T → Piece S B E G) → Result T Stop → Snapshot S E → Option ConnectionModel
-    → Type 0
+    → Piece S B E G → (T → Piece S B E G) → Result T SessionStop → Snapshot S E
+    → Option ConnectionModel → Type 0
 RunsOnWire IsJudgement work rest result before wire =
     (later : ConnectionModel) × (wire ≡ Some later)
     × Runs IsJudgement (λ entry. ⊥) work rest result before (record before { wire = later })
 
 -- the same of a call after which there is this
 abbrev pub RunsTo : {S B E G T : Type 0} → (S → B → List ℕ → Judgement S E → Type 0) → (E → Type 0)
-    → Piece S B E G → (T → Piece S B E G) → Result T Stop → Snapshot S E
+    → Piece S B E G → (T → Piece S B E G) → Result T SessionStop → Snapshot S E
     → Option ConnectionModel → Option (List ℕ) → S → List E → Type 0
 RunsTo IsJudgement Kept work rest result before wire written state entries =
     (later : ConnectionModel) × (wire ≡ Some later)
@@ -165,7 +166,7 @@ RunsTo IsJudgement Kept work rest result before wire written state entries =
 -- One exchange.
 
 -- a frame was put, and its answer is this body; or it stopped
-abbrev pub Trades : List ℕ → Coming → Result (Vec ℕ) Stop → ConnectionModel
+abbrev pub Trades : List ℕ → Coming → Result (Vec ℕ) SessionStop → ConnectionModel
     → Option ConnectionModel → Type 0
 Trades frame first (Ok body) before wire =
     (answer_of first ≡ Body body.items)
@@ -178,18 +179,18 @@ Trades frame first (Err stop.Memory) before wire = IsHalfAsked frame before wire
 Trades frame first (Err _) before wire = ⊥
 
 -- of an answer that came whole, this is the body, or why there is none
-abbrev pub AnswersBody : FrameKind → List ℕ → Result (Vec ℕ) Stop → Type 0
+abbrev pub AnswersBody : FrameKind → List ℕ → Result (Vec ℕ) SessionStop → Type 0
 AnswersBody kind body (Ok given) = answer_of (Whole kind body) ≡ Body given.items
 AnswersBody kind body (Err why) =
     (ending : Ending) × (answer_of (Whole kind body) ≡ NoBody ending) × StopsWith ending why
 
 -- the installed version is the entry's, or the session ends
-abbrev pub ChecksVersion : Bool → Result (Unit {0}) Stop → Type 0
+abbrev pub ChecksVersion : Bool → Result (Unit {0}) SessionStop → Type 0
 ChecksVersion same (Ok done) = same ≡ true
 ChecksVersion same (Err why) = (same ≡ false) × StopsWith StandsElsewhere why
 
 -- so many entries are held, or the session ends
-abbrev pub HoldsSome : Place → ℕ → Result ℕ Stop → Type 0
+abbrev pub HoldsSome : Place → ℕ → Result ℕ SessionStop → Type 0
 HoldsSome place length (Ok count) = place ≡ Holds count
 HoldsSome Elsewhere length (Err why) = StopsWith StandsElsewhere why
 HoldsSome NoStanding length (Err why) = StopsWith (BadAnswer (length + 1)) why
@@ -197,18 +198,21 @@ HoldsSome (Holds count) length (Err why) = ⊥
 
 -- what the owner makes of a batch; where it makes no entry, so the session ends
 abbrev pub TakesStep : {S E T : Type 0} → (Judgement S E → Type 0) → (T → E) → (T → S)
-    → Result T Stop → Type 0
+    → Result T SessionStop → Type 0
 TakesStep IsJudgement entry_of next_of (Ok step) =
     IsJudgement (Makes (entry_of step) (next_of step))
 TakesStep IsJudgement entry_of next_of (Err why) =
     (why ≡ stop.Memory)
     ⊎ ((cause : RefusalCause) × (lines : List ℕ) × IsJudgement (Refuses cause lines)
-    × (report : Report) × (why ≡ stop.Refused report) × Reports report (OwnerRefuses cause lines))
+    × (report : SessionReport) × (why ≡ stop.Refused report)
+    × Reports report (OwnerRefuses cause lines))
 
 -- a line was put, or a front of it where the output failed
-abbrev pub PutsLine : List ℕ → Result (Unit {0}) Stop → Option (List ℕ) → Option (List ℕ) → Type 0
-PutsLine line (Ok done) before after = after ≡ added before line
-PutsLine line (Err stop.OutputFault) before after = (n : ℕ) × (after ≡ added before (take n line))
+abbrev pub PutsLine : List ℕ → Result (Unit {0}) SessionStop → Option (List ℕ)
+    → Option (List ℕ) → Type 0
+PutsLine line (Ok done) before after = after ≡ append_known before line
+PutsLine line (Err stop.OutputFault) before after =
+    (n : ℕ) × (after ≡ append_known before (take n line))
 PutsLine line (Err stop.Memory) before after = after ≡ before
 PutsLine line (Err _) before after = ⊥
 
@@ -221,6 +225,6 @@ KeepsBy (Err no_append.Memory) Kept KeptWith = Kept
 KeepsBy (Err no_append.Disk) Kept KeptWith = KeptWith
 
 -- P, unless the disk failed
-abbrev pub UnlessDisk : {T : Type 0} → Result T Stop → Type 0 → Type 0
+abbrev pub UnlessDisk : {T : Type 0} → Result T SessionStop → Type 0 → Type 0
 UnlessDisk (Err stop.DiskFault) P = Unit {0}
 UnlessDisk _ P = P

@@ -1,6 +1,6 @@
 -- A run of a whole session, with its exit status and its output.
 use Rattle.std.specs.Prelude.{◌≡◌, ◌⊎◌, ℕ, List, [], take, Option, Some}
-use Rattle.outside.specs.Sink.{added}
+use Rattle.outside.specs.Sink.{append_known}
 use Rattle.link_frames.specs.Scripts.{IsDone, Stops}
 use Rattle.exit_output.specs.Outputs.{Output, Writes, line, outside_failure}
 use Rattle.owner_session.specs.Endings.{Ending, Done, output_of}
@@ -11,7 +11,7 @@ use Rattle.owner_session.specs.Runs.{Snapshot, LeadsTo, AreJudgements, IsNext, H
 abbrev pub WritesLast : {S B E : Type 0} → Output → Type 0 → ℕ → List (Deed S B E) → Snapshot S E
     → Snapshot S E → Type 0
 WritesLast output OutRose status deeds before after =
-    Writes output OutRose status (added before.written (lines_of deeds)) after.written
+    Writes output OutRose status (append_known before.written (lines_of deeds)) after.written
 
 -- the ending is written; where all is done there is nothing to write, and the status is 0
 abbrev pub WritesEnding : {S B E : Type 0} → Ending → Type 0 → ℕ → List (Deed S B E) → Snapshot S E

@@ -63,23 +63,23 @@ abbrev pub input_after : {S E : Type 0} → ℕ → Input S E → Input S E
 input_after n input = record input { coming = drop n input.coming }
 
 -- an answer has this body; or there is none, and so the session ends
-pub data Answer : Type 0 where
-  Body : (body : List ℕ) → Answer
-  NoBody : (ending : Ending) → Answer
+pub data AnswerBody : Type 0 where
+  Body : (body : List ℕ) → AnswerBody
+  NoBody : (ending : Ending) → AnswerBody
 
 abbrev pub is_refusal : FrameKind → Bool
 is_refusal kind.Refusal = true
 is_refusal _ = false
 
-abbrev pub answer_of : Coming → Answer
+abbrev pub answer_of : Coming → AnswerBody
 answer_of (Whole kind body) =
     if is_refusal kind then NoBody (StoreRefuses (slice_index body 0)) else Body body
 answer_of Ended = NoBody (CutAnswer 0)
 answer_of (Cut got) = NoBody (CutAnswer got)
 answer_of (Bad length taken) = NoBody (BadAnswer length)
 
-abbrev pub with_answer : {S B E : Type 0} → Answer → Input S E → (List ℕ → Input S E → Work S B E)
-    → Work S B E
+abbrev pub with_answer : {S B E : Type 0} → AnswerBody → Input S E
+    → (List ℕ → Input S E → Work S B E) → Work S B E
 with_answer (Body body) input go = go body input
 with_answer (NoBody ending) input go = ends_with ending
 

@@ -5,32 +5,32 @@ ghost use Rattle.owner_session.specs.Endings.{version_line};
 ghost use Rattle.owner_session.specs.Runs.{PutsLine};
 
 use crate::lines::version_line;
-use crate::stop::Stop;
+use crate::stop::SessionStop;
 use outside::{PutFault, Sink};
 use std::alloc::Global;
 
 /// Writes that a version is installed.
-pub fn announce<S: Sink>(alloc: Global, version: u64, out: &mut S) -> Result<(), Stop>
+pub fn announce<S: Sink>(alloc: Global, version: u64, out: &mut S) -> Result<(), SessionStop>
     ensures puts { PutsLine (version_line version) result (S.written out.old) (S.written out.new) }
     ensures counts { S.faults out.old ≤ S.faults out.new }
-    ensures cause { IsErrOf result Stop.OutputFault
+    ensures cause { IsErrOf result SessionStop.OutputFault
         → FaultRose (S.faults out.old) (S.faults out.new) }
 {
     match version_line(alloc, version) {
         Ok(line) => put_line(out, &line),
-        Err(_) => Err(Stop::Memory),
+        Err(_) => Err(SessionStop::Memory),
     }
 }
 
-fn put_line<S: Sink>(out: &mut S, line: &[u8]) -> Result<(), Stop>
+fn put_line<S: Sink>(out: &mut S, line: &[u8]) -> Result<(), SessionStop>
     ensures puts { PutsLine line.now result (S.written out.old) (S.written out.new) }
     ensures counts { S.faults out.old ≤ S.faults out.new }
-    ensures cause { IsErrOf result Stop.OutputFault
+    ensures cause { IsErrOf result SessionStop.OutputFault
         → FaultRose (S.faults out.old) (S.faults out.new) }
 {
     match out.put(line) {
         Ok(()) => Ok(()),
-        Err(PutFault::Failed) => Err(Stop::OutputFault),
-        Err(PutFault::Memory) => Err(Stop::Memory),
+        Err(PutFault::Failed) => Err(SessionStop::OutputFault),
+        Err(PutFault::Memory) => Err(SessionStop::Memory),
     }
 }

@@ -10,24 +10,28 @@ ghost use Rattle.owner_session.specs.Runs.{Snapshot, RunsOnWire, HoldsSome, cont
 
 use crate::install::install_entry;
 use crate::lines::{bad_answer, stands_elsewhere};
-use crate::owner::Owner;
 use crate::place::Place;
 use crate::propose::propose_entry;
-use crate::stop::Stop;
+use crate::session_owner::SessionOwner;
+use crate::stop::SessionStop;
 use crate::trade::trade;
 use link_frames::{Awaits, FrameKind};
 use outside::Link;
 use std::alloc::Global;
 
 /// Asks where the store stands, and gives it what it lacks.
-pub fn catch_up<O: Owner, L: Link>(alloc: Global, owner: &O, link: &mut L) -> Result<(), Stop>
+pub fn catch_up<O: SessionOwner, L: Link>(
+    alloc: Global,
+    owner: &O,
+    link: &mut L,
+) -> Result<(), SessionStop>
     requires { O.Works owner.now }
     ensures known { (before : Snapshot O.State O.Entry) → L.wire link.old ≡ Some before.wire
         → RunsOnWire O.IsJudgement (catch_up O.forms (O.entries owner.now))
         (λ _. continuation) result before (L.wire link.new) }
 
     ensures counts { L.faults link.old ≤ L.faults link.new }
-    ensures cause { IsErrOf result Stop.LinkFault
+    ensures cause { IsErrOf result SessionStop.LinkFault
         → FaultRose (L.faults link.old) (L.faults link.new) }
     ensures misses { StaysWhereItStands (L.wire link.old) (L.misses link.old) (L.misses link.new) }
     ensures inside { IfErr result IsOfLink }
@@ -39,13 +43,17 @@ pub fn catch_up<O: Owner, L: Link>(alloc: Global, owner: &O, link: &mut L) -> Re
 }
 
 /// Asks how many entries the store holds.
-fn ask_standing<O: Owner, L: Link>(alloc: Global, owner: &O, link: &mut L) -> Result<usize, Stop>
+fn ask_standing<O: SessionOwner, L: Link>(
+    alloc: Global,
+    owner: &O,
+    link: &mut L,
+) -> Result<usize, SessionStop>
     ensures known { (before : Snapshot O.State O.Entry) → L.wire link.old ≡ Some before.wire
         → RunsOnWire O.IsJudgement (standing O.forms (O.entries owner.now))
         continuation_with result before (L.wire link.new) }
 
     ensures counts { L.faults link.old ≤ L.faults link.new }
-    ensures cause { IsErrOf result Stop.LinkFault
+    ensures cause { IsErrOf result SessionStop.LinkFault
         → FaultRose (L.faults link.old) (L.faults link.new) }
     ensures misses { StaysWhereItStands (L.wire link.old) (L.misses link.old) (L.misses link.new) }
     ensures inside { IfErr result IsOfLink }
@@ -57,7 +65,7 @@ fn ask_standing<O: Owner, L: Link>(alloc: Global, owner: &O, link: &mut L) -> Re
 }
 
 /// How many entries are held by a standing that was answered.
-fn count_held(alloc: Global, place: Place, standing: &[u8]) -> Result<usize, Stop>
+fn count_held(alloc: Global, place: Place, standing: &[u8]) -> Result<usize, SessionStop>
     ensures held { HoldsSome place (length standing.now) result }
     ensures inside { IfErr result IsOfLink }
 {
@@ -69,19 +77,19 @@ fn count_held(alloc: Global, place: Place, standing: &[u8]) -> Result<usize, Sto
 }
 
 /// Gives the store the entries from this one on.
-fn deliver<O: Owner, L: Link>(
+fn deliver<O: SessionOwner, L: Link>(
     alloc: Global,
     owner: &O,
     held: usize,
     link: &mut L,
-) -> Result<(), Stop>
+) -> Result<(), SessionStop>
     requires { O.Works owner.now }
     ensures known { (before : Snapshot O.State O.Entry) → L.wire link.old ≡ Some before.wire
         → RunsOnWire O.IsJudgement (deliveries O.forms held (drop held (O.entries owner.now)))
         (λ _. continuation) result before (L.wire link.new) }
 
     ensures counts { L.faults link.old ≤ L.faults link.new }
-    ensures cause { IsErrOf result Stop.LinkFault
+    ensures cause { IsErrOf result SessionStop.LinkFault
         → FaultRose (L.faults link.old) (L.faults link.new) }
     ensures misses { StaysWhereItStands (L.wire link.old) (L.misses link.old) (L.misses link.new) }
     ensures inside { IfErr result IsOfLink }
@@ -96,12 +104,12 @@ fn deliver<O: Owner, L: Link>(
 }
 
 /// Gives the store an entry: its batch is proposed, but of the first, and it is installed.
-fn deliver_entry<O: Owner, L: Link>(
+fn deliver_entry<O: SessionOwner, L: Link>(
     alloc: Global,
     owner: &O,
     index: usize,
     link: &mut L,
-) -> Result<(), Stop>
+) -> Result<(), SessionStop>
     requires index { index < length (O.entries owner.now) }
     requires works { O.Works owner.now }
     ensures known { (entry : O.Entry) (before : Snapshot O.State O.Entry)
@@ -110,7 +118,7 @@ fn deliver_entry<O: Owner, L: Link>(
         (L.wire link.new) }
 
     ensures counts { L.faults link.old ≤ L.faults link.new }
-    ensures cause { IsErrOf result Stop.LinkFault
+    ensures cause { IsErrOf result SessionStop.LinkFault
         → FaultRose (L.faults link.old) (L.faults link.new) }
     ensures misses { StaysWhereItStands (L.wire link.old) (L.misses link.old) (L.misses link.new) }
     ensures inside { IfErr result IsOfLink }

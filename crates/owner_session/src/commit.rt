@@ -9,21 +9,21 @@ ghost use Rattle.owner_session.specs.Runs.{RunsTo, TakesStep, UnlessDisk, snapsh
 use crate::announce::announce;
 use crate::install::install_entry;
 use crate::lines::owner_refusal;
-use crate::owner::Owner;
 use crate::propose::propose_batch;
 use crate::refusals::{NoAppend, NoStep};
-use crate::stop::Stop;
+use crate::session_owner::SessionOwner;
+use crate::stop::SessionStop;
 use outside::{Link, Sink};
 use std::alloc::Global;
 
 /// Commits the batches in order.
-pub fn commit_batches<O: Owner, L: Link, S: Sink>(
+pub fn commit_batches<O: SessionOwner, L: Link, S: Sink>(
     alloc: Global,
     owner: &mut O,
     batches: &[O::Batch],
     link: &mut L,
     out: &mut S,
-) -> Result<(), Stop>
+) -> Result<(), SessionStop>
     requires batches { All O.CanPropose batches.now }
     requires works { O.Works owner.old }
     ensures known { (before : ConnectionModel) → L.wire link.old ≡ Some before
@@ -48,13 +48,13 @@ pub fn commit_batches<O: Owner, L: Link, S: Sink>(
 }
 
 /// Proposes a batch, and commits it by the proofs that come.
-fn commit_batch<O: Owner, L: Link, S: Sink>(
+fn commit_batch<O: SessionOwner, L: Link, S: Sink>(
     alloc: Global,
     owner: &mut O,
     batch: &O::Batch,
     link: &mut L,
     out: &mut S,
-) -> Result<(), Stop>
+) -> Result<(), SessionStop>
     requires batch { O.CanPropose batch.now }
     requires works { O.Works owner.old }
     ensures known { (before : ConnectionModel) → L.wire link.old ≡ Some before
@@ -78,14 +78,14 @@ fn commit_batch<O: Owner, L: Link, S: Sink>(
 }
 
 /// Steps on the proofs of a batch, and commits the step.
-fn commit_by_proofs<O: Owner, L: Link, S: Sink>(
+fn commit_by_proofs<O: SessionOwner, L: Link, S: Sink>(
     alloc: Global,
     owner: &mut O,
     batch: &O::Batch,
     proofs: &[u8],
     link: &mut L,
     out: &mut S,
-) -> Result<(), Stop>
+) -> Result<(), SessionStop>
     requires batch { O.CanPropose batch.now }
     requires works { O.Works owner.old }
     ensures known { (before : ConnectionModel) → L.wire link.old ≡ Some before
@@ -109,12 +109,12 @@ fn commit_by_proofs<O: Owner, L: Link, S: Sink>(
 }
 
 /// What the owner makes of a batch by the proofs that came.
-fn take_step<O: Owner>(
+fn take_step<O: SessionOwner>(
     alloc: Global,
     owner: &O,
     batch: &O::Batch,
     proofs: &[u8],
-) -> Result<O::Step, Stop>
+) -> Result<O::Step, SessionStop>
     requires { O.CanPropose batch.now }
     ensures answer { TakesStep (O.IsJudgement (O.state owner.now) batch.now proofs.now) O.entry_of
         (O.next_of (O.state owner.now)) result }
@@ -123,18 +123,18 @@ fn take_step<O: Owner>(
     match owner.step(alloc, batch, proofs) {
         Ok(step) => Ok(step),
         Err(NoStep::Refused(refusal)) => Err(owner_refusal(refusal)),
-        Err(NoStep::Memory) => Err(Stop::Memory),
+        Err(NoStep::Memory) => Err(SessionStop::Memory),
     }
 }
 
 /// Appends the entry of a step, and publishes it only then.
-fn commit_step<O: Owner, L: Link, S: Sink>(
+fn commit_step<O: SessionOwner, L: Link, S: Sink>(
     alloc: Global,
     owner: &mut O,
     step: O::Step,
     link: &mut L,
     out: &mut S,
-) -> Result<(), Stop>
+) -> Result<(), SessionStop>
     requires follows { O.Follows (O.state owner.old) step }
     requires works { O.Works owner.old }
     ensures known { (before : ConnectionModel) → L.wire link.old ≡ Some before
@@ -153,18 +153,18 @@ fn commit_step<O: Owner, L: Link, S: Sink>(
 {
     match owner.append(alloc, step) {
         Ok(()) => publish(alloc, owner, link, out),
-        Err(NoAppend::Disk) => Err(Stop::DiskFault),
-        Err(NoAppend::Memory) => Err(Stop::Memory),
+        Err(NoAppend::Disk) => Err(SessionStop::DiskFault),
+        Err(NoAppend::Memory) => Err(SessionStop::Memory),
     }
 }
 
 /// Installs the journal's last entry, and writes its version.
-fn publish<O: Owner, L: Link, S: Sink>(
+fn publish<O: SessionOwner, L: Link, S: Sink>(
     alloc: Global,
     owner: &O,
     link: &mut L,
     out: &mut S,
-) -> Result<(), Stop>
+) -> Result<(), SessionStop>
     requires some { 0 < length (O.entries owner.now) }
     requires works { O.Works owner.now }
     ensures known { (entry : O.Entry) (before : ConnectionModel)
@@ -173,7 +173,7 @@ fn publish<O: Owner, L: Link, S: Sink>(
         → RunsTo O.IsJudgement (λ entry. ⊥) (publication O.forms entry) (λ _. continuation) result
         (snapshot_of before (S.written out.old) (O.state owner.now) (O.entries owner.now))
         (L.wire link.new) (S.written out.new) (O.state owner.now) (O.entries owner.now) }
-    ensures inside { IsErrOf result Stop.DiskFault → ⊥ }
+    ensures inside { IsErrOf result SessionStop.DiskFault → ⊥ }
 
     ensures faults { CountsFaults result
         (record { link = L.faults link.old; disk = O.faults owner.now; out = S.faults out.old })

@@ -10,8 +10,8 @@ ghost use Rattle.owner_session.specs.Work.{exchange, installation};
 ghost use Rattle.owner_session.specs.Runs.{Snapshot, RunsOnWire, ChecksVersion, continuation, continuation_with};
 
 use crate::lines::stands_elsewhere;
-use crate::owner::Owner;
-use crate::stop::Stop;
+use crate::session_owner::SessionOwner;
+use crate::stop::SessionStop;
 use crate::trade::trade;
 use link_frames::{Awaits, FrameKind};
 use outside::Link;
@@ -19,12 +19,12 @@ use std::alloc::Global;
 use vo_spec::u64_bytes;
 
 /// Installs the entry of this number. The store is to answer with its version.
-pub fn install_entry<O: Owner, L: Link>(
+pub fn install_entry<O: SessionOwner, L: Link>(
     alloc: Global,
     owner: &O,
     index: usize,
     link: &mut L,
-) -> Result<(), Stop>
+) -> Result<(), SessionStop>
     requires index { index < length (O.entries owner.now) }
     requires works { O.Works owner.now }
     ensures known { (entry : O.Entry) (before : Snapshot O.State O.Entry)
@@ -33,7 +33,7 @@ pub fn install_entry<O: Owner, L: Link>(
         (L.wire link.new) }
 
     ensures counts { L.faults link.old ≤ L.faults link.new }
-    ensures cause { IsErrOf result Stop.LinkFault
+    ensures cause { IsErrOf result SessionStop.LinkFault
         → FaultRose (L.faults link.old) (L.faults link.new) }
     ensures misses { StaysWhereItStands (L.wire link.old) (L.misses link.old) (L.misses link.new) }
     ensures inside { IfErr result IsOfLink }
@@ -45,12 +45,12 @@ pub fn install_entry<O: Owner, L: Link>(
 }
 
 /// Puts the frame that installs an entry, and gives the answer's body.
-fn put_install<O: Owner, L: Link>(
+fn put_install<O: SessionOwner, L: Link>(
     alloc: Global,
     owner: &O,
     index: usize,
     link: &mut L,
-) -> Result<Vec<u8>, Stop>
+) -> Result<Vec<u8>, SessionStop>
     requires index { index < length (O.entries owner.now) }
     requires works { O.Works owner.now }
     ensures known { (entry : O.Entry) (before : Snapshot O.State O.Entry)
@@ -59,19 +59,19 @@ fn put_install<O: Owner, L: Link>(
         (λ body. continuation_with body.items) result before (L.wire link.new) }
 
     ensures counts { L.faults link.old ≤ L.faults link.new }
-    ensures cause { IsErrOf result Stop.LinkFault
+    ensures cause { IsErrOf result SessionStop.LinkFault
         → FaultRose (L.faults link.old) (L.faults link.new) }
     ensures misses { StaysWhereItStands (L.wire link.old) (L.misses link.old) (L.misses link.new) }
     ensures inside { IfErr result IsOfLink }
 {
     match owner.install_body(alloc, index) {
         Ok(body) => trade(alloc, link, FrameKind::Install, &body, Awaits::Installed),
-        Err(_) => Err(Stop::Memory),
+        Err(_) => Err(SessionStop::Memory),
     }
 }
 
 /// Whether an answer is this version.
-fn check_version(alloc: Global, version: u64, answer: &[u8]) -> Result<(), Stop>
+fn check_version(alloc: Global, version: u64, answer: &[u8]) -> Result<(), SessionStop>
     ensures version { ChecksVersion (bytes_eq answer.now (u64_bytes version)) result }
     ensures inside { IfErr result IsOfLink }
 {

@@ -7,14 +7,14 @@ ghost use Rattle.owner_session.specs.Runs.{entries_of};
 ghost use Rattle.owner_session.specs.Requests.{PutsRequests};
 ghost use Rattle.owner_session.specs.Orders.{Alternates, KeepsFirst, StepsFirst, CommitsEach};
 
-use crate::owner::Owner;
+use crate::session_owner::SessionOwner;
 
 /// Whatever comes and whatever the owner makes: each frame is followed by its answer, no entry is
 /// installed before the journal has it, none is appended but what the owner just made, and where
 /// all is done each batch was committed and told of. Wherever it stopped, it has put requests
 /// alone, the last perhaps in part: none proposes but these batches and the journal's, and none
 /// installs but an entry that the journal has.
-pub fn sessions_in_order<O: Owner>()
+pub fn sessions_in_order<O: SessionOwner>()
     ensures alternates { (state : O.State) (entries : List O.Entry) (batches : List O.Batch)
         (input : Input O.State O.Entry)
         → Alternates (session O.forms state entries batches input).events }

@@ -3,7 +3,7 @@
 //!
 //! A batch is proposed, the owner steps on the proofs that come back, the entry is appended to the
 //! journal, and only then it is installed. What is to happen is a function of the bytes that come
-//! and of what the owner makes of them; owner and journal are a trait (`Owner`).
+//! and of what the owner makes of them; owner and journal are a trait (`SessionOwner`).
 #![tactic(auto)]
 
 mod announce;
@@ -12,18 +12,18 @@ mod commit;
 mod install;
 mod laws;
 mod lines;
-mod owner;
 mod place;
 mod propose;
 mod refusals;
 mod session;
+mod session_owner;
 mod stop;
 #[cfg(test)]
 mod tests;
 mod trade;
 
 pub use laws::sessions_in_order;
-pub use owner::Owner;
 pub use place::Place;
 pub use refusals::{NoAppend, NoStep, Refusal, RefusalCause};
 pub use session::run_session;
+pub use session_owner::SessionOwner;

@@ -4,53 +4,59 @@ ghost use Rattle.exit_output.specs.Outputs.{line};
 ghost use Rattle.owner_session.specs.Endings.{number_line, version_line, IsOfLink, StopsAs, StopsWith, StoreRefuses, StandsElsewhere, BadAnswer, CutAnswer, OwnerRefuses};
 
 use crate::refusals::Refusal;
-use crate::stop::{Report, Status, Stop};
+use crate::stop::{SessionReport, SessionStatus, SessionStop};
 use std::alloc::{AllocError, Global};
 
 /// The store refuses a request, with this code.
-pub fn store_refusal(alloc: Global, code: u8) -> Stop
+pub fn store_refusal(alloc: Global, code: u8) -> SessionStop
     ensures ending { StopsWith (StoreRefuses code) result }
     ensures inside { IsOfLink result }
 {
     stop_with(
-        Status::Refused,
+        SessionStatus::Refused,
         number_line(alloc, "refused: store ", code as u64),
     )
 }
 
 /// The store's record, or the version that it installed, is another than the journal's.
-pub fn stands_elsewhere(alloc: Global) -> Stop
+pub fn stands_elsewhere(alloc: Global) -> SessionStop
     ensures ending { StopsWith StandsElsewhere result }
     ensures inside { IsOfLink result }
 {
     stop_with(
-        Status::Refused,
+        SessionStatus::Refused,
         Vec::from_slice(alloc, b"refused: store stands elsewhere\n"),
     )
 }
 
 /// An answer has a bad frame of this length.
-pub fn bad_answer(alloc: Global, length: u64) -> Stop
+pub fn bad_answer(alloc: Global, length: u64) -> SessionStop
     ensures ending { StopsWith (BadAnswer length) result }
     ensures inside { IsOfLink result }
 {
-    stop_with(Status::BadAnswer, number_line(alloc, "bad frame ", length))
+    stop_with(
+        SessionStatus::BadAnswer,
+        number_line(alloc, "bad frame ", length),
+    )
 }
 
 /// An answer ends after so many bytes.
-pub fn cut_answer(alloc: Global, got: usize) -> Stop
+pub fn cut_answer(alloc: Global, got: usize) -> SessionStop
     ensures ending { StopsWith (CutAnswer got) result }
     ensures inside { IsOfLink result }
 {
-    stop_with(Status::BadAnswer, number_line(alloc, "cut ", got as u64))
+    stop_with(
+        SessionStatus::BadAnswer,
+        number_line(alloc, "cut ", got as u64),
+    )
 }
 
 /// The owner refuses to make an entry.
-pub fn owner_refusal(refusal: Refusal) -> Stop
+pub fn owner_refusal(refusal: Refusal) -> SessionStop
     ensures ending { StopsWith (OwnerRefuses refusal.cause refusal.lines.items) result }
     ensures inside { IsOfLink result }
 {
-    Stop::Refused(Report {
+    SessionStop::Refused(SessionReport {
         status: refusal.cause.status(),
         bytes: refusal.lines,
     })
@@ -72,12 +78,12 @@ fn number_line(alloc: Global, phrase: &str, number: u64) -> Result<Vec<u8>, Allo
     Ok(bytes)
 }
 
-fn stop_with(status: Status, line: Result<Vec<u8>, AllocError>) -> Stop
+fn stop_with(status: SessionStatus, line: Result<Vec<u8>, AllocError>) -> SessionStop
     ensures judgement { StopsAs status line result }
     ensures inside { IsOfLink result }
 {
     match line {
-        Ok(bytes) => Stop::Refused(Report { status, bytes }),
-        Err(_) => Stop::Memory,
+        Ok(bytes) => SessionStop::Refused(SessionReport { status, bytes }),
+        Err(_) => SessionStop::Memory,
     }
 }

@@ -6,44 +6,44 @@ ghost use Rattle.owner_session.specs.Endings.{IsOfLink};
 ghost use Rattle.owner_session.specs.Work.{proposal};
 ghost use Rattle.owner_session.specs.Runs.{Snapshot, RunsOnWire, continuation_with};
 
-use crate::owner::Owner;
-use crate::stop::Stop;
+use crate::session_owner::SessionOwner;
+use crate::stop::SessionStop;
 use crate::trade::trade;
 use link_frames::{Awaits, FrameKind};
 use outside::Link;
 use std::alloc::Global;
 
 /// Proposes a batch, and gives the bytes of its proofs.
-pub fn propose_batch<O: Owner, L: Link>(
+pub fn propose_batch<O: SessionOwner, L: Link>(
     alloc: Global,
     owner: &O,
     batch: &O::Batch,
     link: &mut L,
-) -> Result<Vec<u8>, Stop>
+) -> Result<Vec<u8>, SessionStop>
     requires { O.CanPropose batch.now }
     ensures known { (before : Snapshot O.State O.Entry) → L.wire link.old ≡ Some before.wire
         → RunsOnWire O.IsJudgement (proposal O.forms batch.now)
         (λ proofs. continuation_with proofs.items) result before (L.wire link.new) }
 
     ensures counts { L.faults link.old ≤ L.faults link.new }
-    ensures cause { IsErrOf result Stop.LinkFault
+    ensures cause { IsErrOf result SessionStop.LinkFault
         → FaultRose (L.faults link.old) (L.faults link.new) }
     ensures misses { StaysWhereItStands (L.wire link.old) (L.misses link.old) (L.misses link.new) }
     ensures inside { IfErr result IsOfLink }
 {
     match owner.batch_proposal(alloc, batch) {
         Ok(body) => trade(alloc, link, FrameKind::Propose, &body, Awaits::Proofs),
-        Err(_) => Err(Stop::Memory),
+        Err(_) => Err(SessionStop::Memory),
     }
 }
 
 /// Proposes an entry's batch, and gives the bytes of its proofs.
-pub fn propose_entry<O: Owner, L: Link>(
+pub fn propose_entry<O: SessionOwner, L: Link>(
     alloc: Global,
     owner: &O,
     index: usize,
     link: &mut L,
-) -> Result<Vec<u8>, Stop>
+) -> Result<Vec<u8>, SessionStop>
     requires index { index < length (O.entries owner.now) }
     requires works { O.Works owner.now }
     ensures known { (entry : O.Entry) (before : Snapshot O.State O.Entry)
@@ -52,13 +52,13 @@ pub fn propose_entry<O: Owner, L: Link>(
         (λ proofs. continuation_with proofs.items) result before (L.wire link.new) }
 
     ensures counts { L.faults link.old ≤ L.faults link.new }
-    ensures cause { IsErrOf result Stop.LinkFault
+    ensures cause { IsErrOf result SessionStop.LinkFault
         → FaultRose (L.faults link.old) (L.faults link.new) }
     ensures misses { StaysWhereItStands (L.wire link.old) (L.misses link.old) (L.misses link.new) }
     ensures inside { IfErr result IsOfLink }
 {
     match owner.entry_proposal(alloc, index) {
         Ok(body) => trade(alloc, link, FrameKind::Propose, &body, Awaits::Proofs),
-        Err(_) => Err(Stop::Memory),
+        Err(_) => Err(SessionStop::Memory),
     }
 }

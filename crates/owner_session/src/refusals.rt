@@ -1,7 +1,7 @@
 //! Why an owner takes no step, or an entry isn't appended.
 ghost use Rattle.std.specs.Prelude.{◌≡◌};
 
-use crate::stop::Status;
+use crate::stop::SessionStatus;
 use thiserror::Error;
 
 /// What is refused.
@@ -17,12 +17,12 @@ impl RefusalCause {
     ghost use Rattle.owner_session.specs.Endings.{code_of, status_of};
 
     /// The exit status.
-    pub(crate) fn status(self) -> Status
+    pub(crate) fn status(self) -> SessionStatus
         ensures { code_of result ≡ status_of self }
     {
         match self {
-            RefusalCause::Proofs => Status::Refused,
-            RefusalCause::Command => Status::RefusedCommand,
+            RefusalCause::Proofs => SessionStatus::Refused,
+            RefusalCause::Command => SessionStatus::RefusedCommand,
         }
     }
 }

@@ -11,15 +11,15 @@ ghost use Rattle.owner_session.specs.Sessions.{SessionRuns, SessionIsDone};
 
 use crate::catch_up::catch_up;
 use crate::commit::commit_batches;
-use crate::owner::Owner;
-use crate::stop::Stop;
+use crate::session_owner::SessionOwner;
+use crate::stop::SessionStop;
 use exit_output::write_output;
 use outside::{Link, Sink};
 use std::alloc::Global;
 
 /// Gives the store at the other end what it lacks of the owner's journal, and commits the batches;
 /// for each a line goes to `out`. Returns the exit status: 0 only where all is done.
-pub fn run_session<O: Owner, L: Link, S: Sink>(
+pub fn run_session<O: SessionOwner, L: Link, S: Sink>(
     alloc: Global,
     owner: &mut O,
     batches: &[O::Batch],
@@ -64,21 +64,21 @@ pub fn run_session<O: Owner, L: Link, S: Sink>(
 {
     match do_session(alloc, owner, batches, link, out) {
         Ok(()) => 0,
-        Err(Stop::Refused(report)) => write_output(out, report.status.code(), &report.bytes),
-        Err(Stop::LinkFault) => write_output(out, 3, b"fault: outside\n"),
-        Err(Stop::DiskFault) => write_output(out, 3, b"fault: outside\n"),
-        Err(Stop::OutputFault) => 3,
-        Err(Stop::Memory) => 4,
+        Err(SessionStop::Refused(report)) => write_output(out, report.status.code(), &report.bytes),
+        Err(SessionStop::LinkFault) => write_output(out, 3, b"fault: outside\n"),
+        Err(SessionStop::DiskFault) => write_output(out, 3, b"fault: outside\n"),
+        Err(SessionStop::OutputFault) => 3,
+        Err(SessionStop::Memory) => 4,
     }
 }
 
-fn do_session<O: Owner, L: Link, S: Sink>(
+fn do_session<O: SessionOwner, L: Link, S: Sink>(
     alloc: Global,
     owner: &mut O,
     batches: &[O::Batch],
     link: &mut L,
     out: &mut S,
-) -> Result<(), Stop>
+) -> Result<(), SessionStop>
     requires batches { All O.CanPropose batches.now }
     requires works { O.Works owner.old }
     ensures known { (before : ConnectionModel) → L.wire link.old ≡ Some before

@@ -3,7 +3,7 @@ ghost use Rattle.std.specs.Prelude.{◌≡◌, ◌≢◌};
 
 /// The exit statuses of what is refused.
 #[derive(Clone, Copy, Debug, PartialEq, Eq)]
-pub enum Status {
+pub enum SessionStatus {
     /// The store refuses, stands elsewhere, or its proofs are refused.
     Refused,
     /// A command is refused, or the key is spent.
@@ -12,7 +12,7 @@ pub enum Status {
     BadAnswer,
 }
 
-impl Status {
+impl SessionStatus {
     ghost use Rattle.owner_session.specs.Endings.{code_of};
 
     pub fn code(self) -> u8
@@ -20,24 +20,24 @@ impl Status {
         ensures own { result ≢ 3 }
     {
         match self {
-            Status::Refused => 1,
-            Status::RefusedCommand => 8,
-            Status::BadAnswer => 9,
+            SessionStatus::Refused => 1,
+            SessionStatus::RefusedCommand => 8,
+            SessionStatus::BadAnswer => 9,
         }
     }
 }
 
 /// An exit status, and the lines that come with it.
 #[derive(Debug, Drop)]
-pub struct Report {
-    pub status: Status,
+pub struct SessionReport {
+    pub status: SessionStatus,
     pub bytes: Vec<u8>,
 }
 
 #[derive(Debug, Drop)]
-pub enum Stop {
+pub enum SessionStop {
     /// It is at its end, which is none that it wants.
-    Refused(Report),
+    Refused(SessionReport),
     LinkFault,
     /// The disk failed in an append.
     DiskFault,

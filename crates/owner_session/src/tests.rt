@@ -3,7 +3,7 @@ ghost use Rattle.std.specs.Prelude.{ℕ, ◌+◌, ◌==◌, nat_lt, if◌then◌
 ghost use Rattle.vo_spec.specs.Bytes.{u64_bytes};
 ghost use Rattle.owner_session.specs.declared.place.Place.TheVariants.{Holds, Elsewhere};
 
-use crate::{NoAppend, NoStep, Owner, Place, Refusal, RefusalCause, run_session};
+use crate::{NoAppend, NoStep, Place, Refusal, RefusalCause, SessionOwner, run_session};
 use outside::{MemNet, MemSink, Net, Never};
 use std::alloc::{AllocError, Global};
 use std::test::Fail;
@@ -15,7 +15,7 @@ struct Numbers {
     entries: Vec<u64>,
 }
 
-impl Owner for Numbers {
+impl SessionOwner for Numbers {
     type Batch = u64;
 
     type Step = u64;
@@ -137,7 +137,7 @@ fn session(
     let status = run_session(alloc, &mut owner, batches, &mut net, &mut out);
     Ok(Outcome {
         status,
-        written: Vec::from_slice(alloc, out.written())?,
+        written: Vec::from_slice(alloc, out.contents())?,
         sent: Vec::from_slice(alloc, net.sent())?,
         entries: Vec::from_slice(alloc, &owner.entries)?,
     })

@@ -9,7 +9,7 @@ ghost use Rattle.owner_session.specs.Work.{is_refusal};
 ghost use Rattle.owner_session.specs.Runs.{Trades, AnswersBody};
 
 use crate::lines::{bad_answer, cut_answer, store_refusal};
-use crate::stop::Stop;
+use crate::stop::SessionStop;
 use link_frames::{Awaits, Frame, FrameKind, NoFrame, ask};
 use outside::Link;
 use std::alloc::Global;
@@ -21,14 +21,14 @@ pub fn trade<L: Link>(
     kind: FrameKind,
     body: &[u8],
     awaits: Awaits,
-) -> Result<Vec<u8>, Stop>
+) -> Result<Vec<u8>, SessionStop>
     requires { length body.now + 1 < 2 ^ 32 }
     ensures known { (before : ConnectionModel) → L.wire link.old ≡ Some before
         → Trades (frame_bytes kind body.now) (first_frame awaits before.coming) result before
         (L.wire link.new) }
 
     ensures counts { L.faults link.old ≤ L.faults link.new }
-    ensures cause { IsErrOf result Stop.LinkFault
+    ensures cause { IsErrOf result SessionStop.LinkFault
         → FaultRose (L.faults link.old) (L.faults link.new) }
     ensures misses { StaysWhereItStands (L.wire link.old) (L.misses link.old) (L.misses link.new) }
     ensures inside { IfErr result IsOfLink }
@@ -38,13 +38,13 @@ pub fn trade<L: Link>(
         Err(NoFrame::Ended) => Err(cut_answer(alloc, 0)),
         Err(NoFrame::Cut { got }) => Err(cut_answer(alloc, got)),
         Err(NoFrame::BadFrame { length }) => Err(bad_answer(alloc, length as u64)),
-        Err(NoFrame::LinkFault) => Err(Stop::LinkFault),
-        Err(NoFrame::Memory) => Err(Stop::Memory),
+        Err(NoFrame::LinkFault) => Err(SessionStop::LinkFault),
+        Err(NoFrame::Memory) => Err(SessionStop::Memory),
     }
 }
 
 /// The body of an answer that is no refusal.
-fn answer_body(alloc: Global, frame: Frame) -> Result<Vec<u8>, Stop>
+fn answer_body(alloc: Global, frame: Frame) -> Result<Vec<u8>, SessionStop>
     ensures body { AnswersBody frame.kind frame.body.items result }
     ensures inside { IfErr result IsOfLink }
 {

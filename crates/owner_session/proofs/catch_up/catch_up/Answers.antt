@@ -5,17 +5,17 @@ use Rattle.owner_session.proofs.catch_up.catch_up.Goals as goal
 
 pub returns-in-Ok-clause-known : goal.returns-in-Ok-clause-known
 returns-in-Ok-clause-known g c =
-    λ before is. caught_up g.O.Owner.IsJudgement g.O.Owner.forms (g.O.Owner.entries c.args.owner.now) c.in-Ok.held c.deliver.result before
+    λ before is. caught_up g.O.SessionOwner.IsJudgement g.O.SessionOwner.forms (g.O.SessionOwner.entries c.args.owner.now) c.in-Ok.held c.deliver.result before
     (g.L.Link.wire c.ask_standing.new.link) (g.L.Link.wire c.deliver.new.link) (c.in-Ok.ensures.known before is) c.deliver.ensures.known
 
 pub returns-in-Ok-clause-misses : goal.returns-in-Ok-clause-misses
 returns-in-Ok-clause-misses g c =
-    stays_then g.O.Owner.IsJudgement (standing g.O.Owner.forms (g.O.Owner.entries c.args.owner.now)) continuation_with c.in-Ok.held
-    (g.O.Owner.state c.args.owner.now) (g.O.Owner.entries c.args.owner.now) (g.L.Link.wire c.args.link.now) (g.L.Link.wire c.ask_standing.new.link)
+    stays_then g.O.SessionOwner.IsJudgement (standing g.O.SessionOwner.forms (g.O.SessionOwner.entries c.args.owner.now)) continuation_with c.in-Ok.held
+    (g.O.SessionOwner.state c.args.owner.now) (g.O.SessionOwner.entries c.args.owner.now) (g.L.Link.wire c.args.link.now) (g.L.Link.wire c.ask_standing.new.link)
     (g.L.Link.misses c.args.link.now) (g.L.Link.misses c.ask_standing.new.link) (g.L.Link.misses c.deliver.new.link)
     c.in-Ok.ensures.known c.in-Ok.ensures.misses c.deliver.ensures.misses
 
 pub returns-in-Err-clause-known : goal.returns-in-Err-clause-known
 returns-in-Err-clause-known g c =
-    λ before is. not_caught_up g.O.Owner.IsJudgement g.O.Owner.forms (g.O.Owner.entries c.args.owner.now) c.in-Err.stop before
+    λ before is. not_caught_up g.O.SessionOwner.IsJudgement g.O.SessionOwner.forms (g.O.SessionOwner.entries c.args.owner.now) c.in-Err.stop before
     (g.L.Link.wire c.ask_standing.new.link) (c.in-Err.ensures.known before is)

@@ -4,37 +4,37 @@ use Rattle.owner_session.proofs.catch_up.deliver.Goals as goal
 
 pub loop-index-init : goal.loop-index-init
 loop-index-init g c = record {
-  known = delivered_none g.O.Owner.IsJudgement g.O.Owner.forms (g.O.Owner.entries c.args.owner.now) c.args.held (g.L.Link.wire c.args.link.now);
+  known = delivered_none g.O.SessionOwner.IsJudgement g.O.SessionOwner.forms (g.O.SessionOwner.entries c.args.owner.now) c.args.held (g.L.Link.wire c.args.link.now);
   counts = omega arith;
   stays = λ w is stands. refl;
 }
 
 pub loop-index-preserved : goal.loop-index-preserved
 loop-index-preserved g c =
-    let within : c.loop-index.index < length (g.O.Owner.entries c.args.owner.now) = omega arith in
+    let within : c.loop-index.index < length (g.O.SessionOwner.entries c.args.owner.now) = omega arith in
     record {
-      known = delivered_more g.O.Owner.IsJudgement g.O.Owner.forms (g.O.Owner.entries c.args.owner.now) c.args.held c.loop-index.index (c.loop-index.index + 1) c.in-Ok.field-0
+      known = delivered_more g.O.SessionOwner.IsJudgement g.O.SessionOwner.forms (g.O.SessionOwner.entries c.args.owner.now) c.args.held c.loop-index.index (c.loop-index.index + 1) c.in-Ok.field-0
           (g.L.Link.wire c.args.link.now) (g.L.Link.wire c.loop-index.link) (g.L.Link.wire c.deliver_entry.new.link) within (omega arith)
           c.loop-index.invariant.known c.in-Ok.ensures.known;
       counts = omega (arith, c.loop-index.invariant.counts, c.in-Ok.ensures.counts);
-      stays = delivered_stays g.O.Owner.IsJudgement g.O.Owner.forms (g.O.Owner.entries c.args.owner.now) c.args.held c.loop-index.index
-          (g.O.Owner.state c.args.owner.now) (g.L.Link.wire c.args.link.now) (g.L.Link.wire c.loop-index.link) (g.L.Link.misses c.args.link.now) (g.L.Link.misses c.loop-index.link)
+      stays = delivered_stays g.O.SessionOwner.IsJudgement g.O.SessionOwner.forms (g.O.SessionOwner.entries c.args.owner.now) c.args.held c.loop-index.index
+          (g.O.SessionOwner.state c.args.owner.now) (g.L.Link.wire c.args.link.now) (g.L.Link.wire c.loop-index.link) (g.L.Link.misses c.args.link.now) (g.L.Link.misses c.loop-index.link)
           (g.L.Link.misses c.deliver_entry.new.link) c.loop-index.invariant.known c.loop-index.invariant.stays c.in-Ok.ensures.misses;
     }
 
 pub returns-in-Err-clause-known : goal.returns-in-Err-clause-known
 returns-in-Err-clause-known g c =
-    delivery_stops g.O.Owner.IsJudgement g.O.Owner.forms (g.O.Owner.entries c.args.owner.now) c.args.held c.loop-index.index c.in-Err.stop
+    delivery_stops g.O.SessionOwner.IsJudgement g.O.SessionOwner.forms (g.O.SessionOwner.entries c.args.owner.now) c.args.held c.loop-index.index c.in-Err.stop
     (g.L.Link.wire c.args.link.now) (g.L.Link.wire c.loop-index.link) (g.L.Link.wire c.deliver_entry.new.link) (omega arith)
     c.loop-index.invariant.known c.in-Err.ensures.known
 
 pub returns-in-Err-clause-misses : goal.returns-in-Err-clause-misses
 returns-in-Err-clause-misses g c =
-    delivered_stays g.O.Owner.IsJudgement g.O.Owner.forms (g.O.Owner.entries c.args.owner.now) c.args.held c.loop-index.index
-    (g.O.Owner.state c.args.owner.now) (g.L.Link.wire c.args.link.now) (g.L.Link.wire c.loop-index.link) (g.L.Link.misses c.args.link.now) (g.L.Link.misses c.loop-index.link)
+    delivered_stays g.O.SessionOwner.IsJudgement g.O.SessionOwner.forms (g.O.SessionOwner.entries c.args.owner.now) c.args.held c.loop-index.index
+    (g.O.SessionOwner.state c.args.owner.now) (g.L.Link.wire c.args.link.now) (g.L.Link.wire c.loop-index.link) (g.L.Link.misses c.args.link.now) (g.L.Link.misses c.loop-index.link)
     (g.L.Link.misses c.deliver_entry.new.link) c.loop-index.invariant.known c.loop-index.invariant.stays c.in-Err.ensures.misses
 
 pub returns-clause-known : goal.returns-clause-known
 returns-clause-known g c =
-    delivered_all g.O.Owner.IsJudgement g.O.Owner.forms (g.O.Owner.entries c.args.owner.now) c.args.held c.loop-index.index tt
+    delivered_all g.O.SessionOwner.IsJudgement g.O.SessionOwner.forms (g.O.SessionOwner.entries c.args.owner.now) c.args.held c.loop-index.index tt
     (g.L.Link.wire c.args.link.now) (g.L.Link.wire c.loop-index.link) (omega arith) c.loop-index.invariant.known

@@ -5,7 +5,7 @@ use Rattle.owner_session.proofs.catch_up.deliver.Given as goal
 
 abbrev pub invariant-loop-index : goal.invariant-loop-index
 invariant-loop-index g l = record {
-  known : DeliveredTo g.O.Owner.IsJudgement g.O.Owner.forms (g.O.Owner.entries l.owner) l.held l.index (g.L.Link.wire l.initial.link) (g.L.Link.wire l.link);
+  known : DeliveredTo g.O.SessionOwner.IsJudgement g.O.SessionOwner.forms (g.O.SessionOwner.entries l.owner) l.held l.index (g.L.Link.wire l.initial.link) (g.L.Link.wire l.link);
   counts : g.L.Link.faults l.initial.link ≤ g.L.Link.faults l.link;
   stays : StaysWhereItStands (g.L.Link.wire l.initial.link) (g.L.Link.misses l.initial.link) (g.L.Link.misses l.link);
 }

@@ -7,24 +7,24 @@ use Rattle.owner_session.proofs.catch_up.deliver_entry.Goals as goal
 
 pub returns-then-index-eq0-clause-known : goal.returns-then-index-eq0-clause-known
 returns-then-index-eq0-clause-known g c =
-    λ entry before there is. first_delivered g.O.Owner.IsJudgement g.O.Owner.forms c.args.index entry c.install_entry.result before
+    λ entry before there is. first_delivered g.O.SessionOwner.IsJudgement g.O.SessionOwner.forms c.args.index entry c.install_entry.result before
     (g.L.Link.wire c.install_entry.new.link) (omega arith) (c.install_entry.ensures.known entry before there is)
 
 pub returns-in-Ok-clause-known : goal.returns-in-Ok-clause-known
 returns-in-Ok-clause-known g c =
-    λ entry before there is. later_delivered g.O.Owner.IsJudgement g.O.Owner.forms c.args.index (c.args.index - 1) entry c.in-Ok.field-0
+    λ entry before there is. later_delivered g.O.SessionOwner.IsJudgement g.O.SessionOwner.forms c.args.index (c.args.index - 1) entry c.in-Ok.field-0
     c.install_entry-in-Ok.result before (g.L.Link.wire c.propose_entry.new.link) (g.L.Link.wire c.install_entry-in-Ok.new.link) (omega arith)
     (c.in-Ok.ensures.known entry before there is) (λ now is. c.install_entry-in-Ok.ensures.known entry now there is)
 
 pub returns-in-Ok-clause-misses : goal.returns-in-Ok-clause-misses
 returns-in-Ok-clause-misses g c =
-    let e = some_entry (g.O.Owner.entries c.args.owner.now) c.args.index c.requires.index in
-    stays_then g.O.Owner.IsJudgement (proposal g.O.Owner.forms (g.O.Owner.forms.batch e.0)) (λ (given : Vec ℕ). continuation_with given.items) c.in-Ok.field-0
-    (g.O.Owner.state c.args.owner.now) (g.O.Owner.entries c.args.owner.now) (g.L.Link.wire c.args.link.now) (g.L.Link.wire c.propose_entry.new.link)
+    let e = some_entry (g.O.SessionOwner.entries c.args.owner.now) c.args.index c.requires.index in
+    stays_then g.O.SessionOwner.IsJudgement (proposal g.O.SessionOwner.forms (g.O.SessionOwner.forms.batch e.0)) (λ (given : Vec ℕ). continuation_with given.items) c.in-Ok.field-0
+    (g.O.SessionOwner.state c.args.owner.now) (g.O.SessionOwner.entries c.args.owner.now) (g.L.Link.wire c.args.link.now) (g.L.Link.wire c.propose_entry.new.link)
     (g.L.Link.misses c.args.link.now) (g.L.Link.misses c.propose_entry.new.link) (g.L.Link.misses c.install_entry-in-Ok.new.link)
     (λ before is. c.in-Ok.ensures.known e.0 before e.1 is) c.in-Ok.ensures.misses c.install_entry-in-Ok.ensures.misses
 
 pub returns-clause-known : goal.returns-clause-known
 returns-clause-known g c =
-    λ entry before there is. not_delivered g.O.Owner.IsJudgement g.O.Owner.forms c.args.index (c.args.index - 1) entry c.in-Err.stop before
+    λ entry before there is. not_delivered g.O.SessionOwner.IsJudgement g.O.SessionOwner.forms c.args.index (c.args.index - 1) entry c.in-Err.stop before
     (g.L.Link.wire c.propose_entry.new.link) (omega arith) (c.in-Err.ensures.known entry before there is)

@@ -10,31 +10,31 @@ use Rattle.owner_session.proofs.commit.commit_batch.Goals as goal
 pub returns-in-Ok-clause-known : goal.returns-in-Ok-clause-known
 returns-in-Ok-clause-known g c =
     λ before is.
-    let a = snapshot_of before (g.S.Sink.written c.args.out.now) (g.O.Owner.state c.args.owner.now) (g.O.Owner.entries c.args.owner.now) in
-    batch_committed {T = Unit {0}} g.O.Owner.IsJudgement (λ (e : g.O.Owner.Entry). g.O.Owner.Keeps c.args.owner.now → g.O.Owner.KeepsWith c.commit_by_proofs.new.owner e)
-    g.O.Owner.forms c.args.batch.now c.in-Ok.proofs c.deref.result.now (λ done. continuation_with (g.O.Owner.state c.commit_by_proofs.new.owner))
+    let a = snapshot_of before (g.S.Sink.written c.args.out.now) (g.O.SessionOwner.state c.args.owner.now) (g.O.SessionOwner.entries c.args.owner.now) in
+    batch_committed {T = Unit {0}} g.O.SessionOwner.IsJudgement (λ (e : g.O.SessionOwner.Entry). g.O.SessionOwner.Keeps c.args.owner.now → g.O.SessionOwner.KeepsWith c.commit_by_proofs.new.owner e)
+    g.O.SessionOwner.forms c.args.batch.now c.in-Ok.proofs c.deref.result.now (λ done. continuation_with (g.O.SessionOwner.state c.commit_by_proofs.new.owner))
     c.commit_by_proofs.result a (g.L.Link.wire c.propose_batch.new.link) (g.L.Link.wire c.commit_by_proofs.new.link)
-    (g.S.Sink.written c.commit_by_proofs.new.out) (g.O.Owner.state c.commit_by_proofs.new.owner) (g.O.Owner.entries c.commit_by_proofs.new.owner)
+    (g.S.Sink.written c.commit_by_proofs.new.out) (g.O.SessionOwner.state c.commit_by_proofs.new.owner) (g.O.SessionOwner.entries c.commit_by_proofs.new.owner)
     c.deref.ensures.value (c.in-Ok.ensures.known a is) c.commit_by_proofs.ensures.known
 
 pub returns-in-Ok-clause-misses : goal.returns-in-Ok-clause-misses
 returns-in-Ok-clause-misses g c =
-    stays_then g.O.Owner.IsJudgement (proposal g.O.Owner.forms c.args.batch.now) (λ (given : Vec ℕ). continuation_with given.items) c.in-Ok.proofs
-    (g.O.Owner.state c.args.owner.now) (g.O.Owner.entries c.args.owner.now) (g.L.Link.wire c.args.link.now) (g.L.Link.wire c.propose_batch.new.link)
+    stays_then g.O.SessionOwner.IsJudgement (proposal g.O.SessionOwner.forms c.args.batch.now) (λ (given : Vec ℕ). continuation_with given.items) c.in-Ok.proofs
+    (g.O.SessionOwner.state c.args.owner.now) (g.O.SessionOwner.entries c.args.owner.now) (g.L.Link.wire c.args.link.now) (g.L.Link.wire c.propose_batch.new.link)
     (g.L.Link.misses c.args.link.now) (g.L.Link.misses c.propose_batch.new.link) (g.L.Link.misses c.commit_by_proofs.new.link)
     c.in-Ok.ensures.known c.in-Ok.ensures.misses c.commit_by_proofs.ensures.misses
 
 pub returns-in-Err-clause-known : goal.returns-in-Err-clause-known
 returns-in-Err-clause-known g c =
     λ before is.
-    let a = snapshot_of before (g.S.Sink.written c.args.out.now) (g.O.Owner.state c.args.owner.now) (g.O.Owner.entries c.args.owner.now) in
-    batch_not_proposed {T = Unit {0}} g.O.Owner.IsJudgement (λ (e : g.O.Owner.Entry). g.O.Owner.Keeps c.args.owner.now → g.O.Owner.KeepsWith c.args.owner.now e)
-    g.O.Owner.forms c.args.batch.now (λ done. continuation_with (g.O.Owner.state c.args.owner.now)) c.in-Err.stop a (g.L.Link.wire c.propose_batch.new.link)
+    let a = snapshot_of before (g.S.Sink.written c.args.out.now) (g.O.SessionOwner.state c.args.owner.now) (g.O.SessionOwner.entries c.args.owner.now) in
+    batch_not_proposed {T = Unit {0}} g.O.SessionOwner.IsJudgement (λ (e : g.O.SessionOwner.Entry). g.O.SessionOwner.Keeps c.args.owner.now → g.O.SessionOwner.KeepsWith c.args.owner.now e)
+    g.O.SessionOwner.forms c.args.batch.now (λ done. continuation_with (g.O.SessionOwner.state c.args.owner.now)) c.in-Err.stop a (g.L.Link.wire c.propose_batch.new.link)
     (c.in-Err.ensures.known a is)
 
 pub returns-in-Err-clause-faults : goal.returns-in-Err-clause-faults
 returns-in-Err-clause-faults g c =
     link_faults c.in-Err.stop (g.L.Link.faults c.args.link.now)
-    (g.L.Link.faults c.propose_batch.new.link) (g.O.Owner.faults c.args.owner.now)
+    (g.L.Link.faults c.propose_batch.new.link) (g.O.SessionOwner.faults c.args.owner.now)
     (g.S.Sink.faults c.args.out.now) c.in-Err.ensures.counts c.in-Err.ensures.cause
     c.in-Err.ensures.inside

@@ -9,10 +9,10 @@ use Rattle.owner_session.proofs.install.put_install.Goals as goal
 
 pub returns-in-Ok-clause-known : goal.returns-in-Ok-clause-known
 returns-in-Ok-clause-known g c =
-    λ entry before there is. exchanged g.O.Owner.IsJudgement Install c.deref.result.now (g.O.Owner.forms.install entry) Installed c.trade.result
+    λ entry before there is. exchanged g.O.SessionOwner.IsJudgement Install c.deref.result.now (g.O.SessionOwner.forms.install entry) Installed c.trade.result
     before (g.L.Link.wire c.trade.new.link) (c.deref.ensures.value ∙ c.in-Ok.ensures.body entry there) (c.trade.ensures.known before.wire is)
 
 pub returns-in-Err-clause-known : goal.returns-in-Err-clause-known
 returns-in-Err-clause-known g c =
-    λ entry before there is. not_traded g.O.Owner.IsJudgement (exchange Install (g.O.Owner.forms.install entry) Installed)
+    λ entry before there is. not_traded g.O.SessionOwner.IsJudgement (exchange Install (g.O.SessionOwner.forms.install entry) Installed)
     (λ (given : Vec ℕ). continuation_with given.items) before (g.L.Link.wire c.args.link.now) is

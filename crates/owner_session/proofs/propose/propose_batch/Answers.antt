@@ -7,10 +7,10 @@ use Rattle.owner_session.proofs.propose.propose_batch.Goals as goal
 
 pub returns-in-Ok-clause-known : goal.returns-in-Ok-clause-known
 returns-in-Ok-clause-known g c =
-    λ before is. proposed g.O.Owner.IsJudgement g.O.Owner.forms c.args.batch.now c.deref.result.now c.trade.result before
+    λ before is. proposed g.O.SessionOwner.IsJudgement g.O.SessionOwner.forms c.args.batch.now c.deref.result.now c.trade.result before
     (g.L.Link.wire c.trade.new.link) (c.deref.ensures.value ∙ c.in-Ok.ensures.body) (c.trade.ensures.known before.wire is)
 
 pub returns-in-Err-clause-known : goal.returns-in-Err-clause-known
 returns-in-Err-clause-known g c =
-    λ before is. not_traded g.O.Owner.IsJudgement (proposal g.O.Owner.forms c.args.batch.now)
+    λ before is. not_traded g.O.SessionOwner.IsJudgement (proposal g.O.SessionOwner.forms c.args.batch.now)
     (λ (given : Vec ℕ). continuation_with given.items) before (g.L.Link.wire c.args.link.now) is

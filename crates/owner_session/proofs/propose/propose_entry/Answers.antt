@@ -7,10 +7,10 @@ use Rattle.owner_session.proofs.propose.propose_entry.Goals as goal
 
 pub returns-in-Ok-clause-known : goal.returns-in-Ok-clause-known
 returns-in-Ok-clause-known g c =
-    λ entry before there is. proposed g.O.Owner.IsJudgement g.O.Owner.forms (g.O.Owner.forms.batch entry) c.deref.result.now c.trade.result before
+    λ entry before there is. proposed g.O.SessionOwner.IsJudgement g.O.SessionOwner.forms (g.O.SessionOwner.forms.batch entry) c.deref.result.now c.trade.result before
     (g.L.Link.wire c.trade.new.link) (c.deref.ensures.value ∙ c.in-Ok.ensures.body entry there) (c.trade.ensures.known before.wire is)
 
 pub returns-in-Err-clause-known : goal.returns-in-Err-clause-known
 returns-in-Err-clause-known g c =
-    λ entry before there is. not_traded g.O.Owner.IsJudgement (proposal g.O.Owner.forms (g.O.Owner.forms.batch entry))
+    λ entry before there is. not_traded g.O.SessionOwner.IsJudgement (proposal g.O.SessionOwner.forms (g.O.SessionOwner.forms.batch entry))
     (λ (given : Vec ℕ). continuation_with given.items) before (g.L.Link.wire c.args.link.now) is

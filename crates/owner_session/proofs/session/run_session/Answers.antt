@@ -1,7 +1,7 @@
 use Rattle.std.proofs.Common.{ap, Err}
 use Rattle.outside.specs.FaultRose.{FaultRose}
-use Rattle.owner_session.specs.declared.stop.Stop.{Stop}
-use Rattle.owner_session.specs.declared.stop.Stop.TheVariants as stop
+use Rattle.owner_session.specs.declared.stop.SessionStop.{SessionStop}
+use Rattle.owner_session.specs.declared.stop.SessionStop.TheVariants as stop
 use Rattle.owner_session.specs.Runs.{snapshot_of}
 use Rattle.owner_session.proofs.RequestLaws.{session_puts}
 use Rattle.owner_session.proofs.SessionLaws.{rose_later, unless_disk, session_finishes, session_refused, session_link_fault, session_disk_fault, session_output_fault, session_wants, session_done_at_0}
@@ -13,14 +13,14 @@ returns-in-Ok-clause-known g c =
     let r = c.in-Ok.ensures.known before is in (
       r.0,
       r.1,
-      session_finishes g.O.Owner.IsJudgement g.O.Owner.forms c.args.batches.now
+      session_finishes g.O.SessionOwner.IsJudgement g.O.SessionOwner.forms c.args.batches.now
           (FaultRose (g.L.Link.faults c.args.link.now) (g.L.Link.faults c.do_session.new.link))
-          (FaultRose (g.O.Owner.faults c.args.owner.now) (g.O.Owner.faults c.do_session.new.owner))
+          (FaultRose (g.O.SessionOwner.faults c.args.owner.now) (g.O.SessionOwner.faults c.do_session.new.owner))
           (FaultRose (g.S.Sink.faults c.args.out.now) (g.S.Sink.faults c.do_session.new.out))
-          (g.O.Owner.Keeps c.args.owner.now → g.O.Owner.Keeps c.do_session.new.owner)
-          (λ (e : g.O.Owner.Entry). g.O.Owner.Keeps c.args.owner.now → g.O.Owner.KeepsWith c.do_session.new.owner e)
-          (snapshot_of before (g.S.Sink.written c.args.out.now) (g.O.Owner.state c.args.owner.now) (g.O.Owner.entries c.args.owner.now))
-          (snapshot_of r.0 (g.S.Sink.written c.do_session.new.out) (g.O.Owner.state c.do_session.new.owner) (g.O.Owner.entries c.do_session.new.owner))
+          (g.O.SessionOwner.Keeps c.args.owner.now → g.O.SessionOwner.Keeps c.do_session.new.owner)
+          (λ (e : g.O.SessionOwner.Entry). g.O.SessionOwner.Keeps c.args.owner.now → g.O.SessionOwner.KeepsWith c.do_session.new.owner e)
+          (snapshot_of before (g.S.Sink.written c.args.out.now) (g.O.SessionOwner.state c.args.owner.now) (g.O.SessionOwner.entries c.args.owner.now))
+          (snapshot_of r.0 (g.S.Sink.written c.do_session.new.out) (g.O.SessionOwner.state c.do_session.new.owner) (g.O.SessionOwner.entries c.do_session.new.owner))
           r.2 c.in-Ok.ensures.keeps,
     )
 
@@ -30,17 +30,17 @@ returns-in-Err-Refused-clause-known g c =
     let r = c.in-Err-Refused.ensures.known before is in (
       r.0,
       r.1,
-      session_refused g.O.Owner.IsJudgement g.O.Owner.forms c.args.batches.now
+      session_refused g.O.SessionOwner.IsJudgement g.O.SessionOwner.forms c.args.batches.now
           (FaultRose (g.L.Link.faults c.args.link.now) (g.L.Link.faults c.do_session.new.link))
-          (FaultRose (g.O.Owner.faults c.args.owner.now) (g.O.Owner.faults c.do_session.new.owner))
+          (FaultRose (g.O.SessionOwner.faults c.args.owner.now) (g.O.SessionOwner.faults c.do_session.new.owner))
           (FaultRose (g.S.Sink.faults c.args.out.now) (g.S.Sink.faults c.write_output.new.out))
-          (g.O.Owner.Keeps c.args.owner.now → g.O.Owner.Keeps c.do_session.new.owner)
-          (λ (e : g.O.Owner.Entry). g.O.Owner.Keeps c.args.owner.now → g.O.Owner.KeepsWith c.do_session.new.owner e)
-          (snapshot_of before (g.S.Sink.written c.args.out.now) (g.O.Owner.state c.args.owner.now) (g.O.Owner.entries c.args.owner.now))
-          (snapshot_of r.0 (g.S.Sink.written c.do_session.new.out) (g.O.Owner.state c.do_session.new.owner) (g.O.Owner.entries c.do_session.new.owner))
+          (g.O.SessionOwner.Keeps c.args.owner.now → g.O.SessionOwner.Keeps c.do_session.new.owner)
+          (λ (e : g.O.SessionOwner.Entry). g.O.SessionOwner.Keeps c.args.owner.now → g.O.SessionOwner.KeepsWith c.do_session.new.owner e)
+          (snapshot_of before (g.S.Sink.written c.args.out.now) (g.O.SessionOwner.state c.args.owner.now) (g.O.SessionOwner.entries c.args.owner.now))
+          (snapshot_of r.0 (g.S.Sink.written c.do_session.new.out) (g.O.SessionOwner.state c.do_session.new.owner) (g.O.SessionOwner.entries c.do_session.new.owner))
           c.in-Err-Refused.field-0 c.in-Err-Refused.report (FaultRose (g.S.Sink.faults c.do_session.new.out) (g.S.Sink.faults c.write_output.new.out)) c.write_output.result c.code.result c.deref.result.now
           (g.S.Sink.written c.write_output.new.out) c.in-Err-Refused.field-0-is c.code.ensures.value c.deref.ensures.value r.2
-          (λ keeps. unless_disk c.in-Err-Refused.field-0 (stop.Refused c.in-Err-Refused.report) (g.O.Owner.Keeps c.do_session.new.owner) c.in-Err-Refused.field-0-is (c.in-Err-Refused.ensures.keeps keeps))
+          (λ keeps. unless_disk c.in-Err-Refused.field-0 (stop.Refused c.in-Err-Refused.report) (g.O.SessionOwner.Keeps c.do_session.new.owner) c.in-Err-Refused.field-0-is (c.in-Err-Refused.ensures.keeps keeps))
           (rose_later (g.S.Sink.faults c.args.out.now) (g.S.Sink.faults c.do_session.new.out) (g.S.Sink.faults c.write_output.new.out) c.in-Err-Refused.ensures.faults.out_counts) c.write_output.ensures.wrote,
     )
 
@@ -50,17 +50,17 @@ returns-in-Err-LinkFault-clause-known g c =
     let r = c.in-Err-LinkFault.ensures.known before is in (
       r.0,
       r.1,
-      session_link_fault g.O.Owner.IsJudgement g.O.Owner.forms c.args.batches.now
+      session_link_fault g.O.SessionOwner.IsJudgement g.O.SessionOwner.forms c.args.batches.now
           (FaultRose (g.L.Link.faults c.args.link.now) (g.L.Link.faults c.do_session.new.link))
-          (FaultRose (g.O.Owner.faults c.args.owner.now) (g.O.Owner.faults c.do_session.new.owner))
+          (FaultRose (g.O.SessionOwner.faults c.args.owner.now) (g.O.SessionOwner.faults c.do_session.new.owner))
           (FaultRose (g.S.Sink.faults c.args.out.now) (g.S.Sink.faults c.write_output-in-Err-LinkFault.new.out))
-          (g.O.Owner.Keeps c.args.owner.now → g.O.Owner.Keeps c.do_session.new.owner)
-          (λ (e : g.O.Owner.Entry). g.O.Owner.Keeps c.args.owner.now → g.O.Owner.KeepsWith c.do_session.new.owner e)
-          (snapshot_of before (g.S.Sink.written c.args.out.now) (g.O.Owner.state c.args.owner.now) (g.O.Owner.entries c.args.owner.now))
-          (snapshot_of r.0 (g.S.Sink.written c.do_session.new.out) (g.O.Owner.state c.do_session.new.owner) (g.O.Owner.entries c.do_session.new.owner))
+          (g.O.SessionOwner.Keeps c.args.owner.now → g.O.SessionOwner.Keeps c.do_session.new.owner)
+          (λ (e : g.O.SessionOwner.Entry). g.O.SessionOwner.Keeps c.args.owner.now → g.O.SessionOwner.KeepsWith c.do_session.new.owner e)
+          (snapshot_of before (g.S.Sink.written c.args.out.now) (g.O.SessionOwner.state c.args.owner.now) (g.O.SessionOwner.entries c.args.owner.now))
+          (snapshot_of r.0 (g.S.Sink.written c.do_session.new.out) (g.O.SessionOwner.state c.do_session.new.owner) (g.O.SessionOwner.entries c.do_session.new.owner))
           c.in-Err-LinkFault.field-0 (FaultRose (g.S.Sink.faults c.do_session.new.out) (g.S.Sink.faults c.write_output-in-Err-LinkFault.new.out)) c.write_output-in-Err-LinkFault.result (g.S.Sink.written c.write_output-in-Err-LinkFault.new.out) c.in-Err-LinkFault.field-0-is r.2
-          (c.in-Err-LinkFault.ensures.faults.link_cause (ap (λ (s : Stop). Err s) c.in-Err-LinkFault.field-0-is))
-          (λ keeps. unless_disk c.in-Err-LinkFault.field-0 stop.LinkFault (g.O.Owner.Keeps c.do_session.new.owner) c.in-Err-LinkFault.field-0-is (c.in-Err-LinkFault.ensures.keeps keeps))
+          (c.in-Err-LinkFault.ensures.faults.link_cause (ap (λ (s : SessionStop). Err s) c.in-Err-LinkFault.field-0-is))
+          (λ keeps. unless_disk c.in-Err-LinkFault.field-0 stop.LinkFault (g.O.SessionOwner.Keeps c.do_session.new.owner) c.in-Err-LinkFault.field-0-is (c.in-Err-LinkFault.ensures.keeps keeps))
           (rose_later (g.S.Sink.faults c.args.out.now) (g.S.Sink.faults c.do_session.new.out) (g.S.Sink.faults c.write_output-in-Err-LinkFault.new.out) c.in-Err-LinkFault.ensures.faults.out_counts) c.write_output-in-Err-LinkFault.ensures.wrote,
     )
 
@@ -70,16 +70,16 @@ returns-in-Err-DiskFault-clause-known g c =
     let r = c.in-Err-DiskFault.ensures.known before is in (
       r.0,
       r.1,
-      session_disk_fault g.O.Owner.IsJudgement g.O.Owner.forms c.args.batches.now
+      session_disk_fault g.O.SessionOwner.IsJudgement g.O.SessionOwner.forms c.args.batches.now
           (FaultRose (g.L.Link.faults c.args.link.now) (g.L.Link.faults c.do_session.new.link))
-          (FaultRose (g.O.Owner.faults c.args.owner.now) (g.O.Owner.faults c.do_session.new.owner))
+          (FaultRose (g.O.SessionOwner.faults c.args.owner.now) (g.O.SessionOwner.faults c.do_session.new.owner))
           (FaultRose (g.S.Sink.faults c.args.out.now) (g.S.Sink.faults c.write_output-in-Err-DiskFault.new.out))
-          (g.O.Owner.Keeps c.args.owner.now → g.O.Owner.Keeps c.do_session.new.owner)
-          (λ (e : g.O.Owner.Entry). g.O.Owner.Keeps c.args.owner.now → g.O.Owner.KeepsWith c.do_session.new.owner e)
-          (snapshot_of before (g.S.Sink.written c.args.out.now) (g.O.Owner.state c.args.owner.now) (g.O.Owner.entries c.args.owner.now))
-          (snapshot_of r.0 (g.S.Sink.written c.do_session.new.out) (g.O.Owner.state c.do_session.new.owner) (g.O.Owner.entries c.do_session.new.owner))
+          (g.O.SessionOwner.Keeps c.args.owner.now → g.O.SessionOwner.Keeps c.do_session.new.owner)
+          (λ (e : g.O.SessionOwner.Entry). g.O.SessionOwner.Keeps c.args.owner.now → g.O.SessionOwner.KeepsWith c.do_session.new.owner e)
+          (snapshot_of before (g.S.Sink.written c.args.out.now) (g.O.SessionOwner.state c.args.owner.now) (g.O.SessionOwner.entries c.args.owner.now))
+          (snapshot_of r.0 (g.S.Sink.written c.do_session.new.out) (g.O.SessionOwner.state c.do_session.new.owner) (g.O.SessionOwner.entries c.do_session.new.owner))
           c.in-Err-DiskFault.field-0 (FaultRose (g.S.Sink.faults c.do_session.new.out) (g.S.Sink.faults c.write_output-in-Err-DiskFault.new.out)) c.write_output-in-Err-DiskFault.result (g.S.Sink.written c.write_output-in-Err-DiskFault.new.out) c.in-Err-DiskFault.field-0-is r.2
-          (c.in-Err-DiskFault.ensures.faults.disk_cause (ap (λ (s : Stop). Err s) c.in-Err-DiskFault.field-0-is))
+          (c.in-Err-DiskFault.ensures.faults.disk_cause (ap (λ (s : SessionStop). Err s) c.in-Err-DiskFault.field-0-is))
           (rose_later (g.S.Sink.faults c.args.out.now) (g.S.Sink.faults c.do_session.new.out) (g.S.Sink.faults c.write_output-in-Err-DiskFault.new.out) c.in-Err-DiskFault.ensures.faults.out_counts) c.write_output-in-Err-DiskFault.ensures.wrote,
     )
 
@@ -89,17 +89,17 @@ returns-in-Err-OutputFault-clause-known g c =
     let r = c.in-Err-OutputFault.ensures.known before is in (
       r.0,
       r.1,
-      session_output_fault g.O.Owner.IsJudgement g.O.Owner.forms c.args.batches.now
+      session_output_fault g.O.SessionOwner.IsJudgement g.O.SessionOwner.forms c.args.batches.now
           (FaultRose (g.L.Link.faults c.args.link.now) (g.L.Link.faults c.do_session.new.link))
-          (FaultRose (g.O.Owner.faults c.args.owner.now) (g.O.Owner.faults c.do_session.new.owner))
+          (FaultRose (g.O.SessionOwner.faults c.args.owner.now) (g.O.SessionOwner.faults c.do_session.new.owner))
           (FaultRose (g.S.Sink.faults c.args.out.now) (g.S.Sink.faults c.do_session.new.out))
-          (g.O.Owner.Keeps c.args.owner.now → g.O.Owner.Keeps c.do_session.new.owner)
-          (λ (e : g.O.Owner.Entry). g.O.Owner.Keeps c.args.owner.now → g.O.Owner.KeepsWith c.do_session.new.owner e)
-          (snapshot_of before (g.S.Sink.written c.args.out.now) (g.O.Owner.state c.args.owner.now) (g.O.Owner.entries c.args.owner.now))
-          (snapshot_of r.0 (g.S.Sink.written c.do_session.new.out) (g.O.Owner.state c.do_session.new.owner) (g.O.Owner.entries c.do_session.new.owner))
+          (g.O.SessionOwner.Keeps c.args.owner.now → g.O.SessionOwner.Keeps c.do_session.new.owner)
+          (λ (e : g.O.SessionOwner.Entry). g.O.SessionOwner.Keeps c.args.owner.now → g.O.SessionOwner.KeepsWith c.do_session.new.owner e)
+          (snapshot_of before (g.S.Sink.written c.args.out.now) (g.O.SessionOwner.state c.args.owner.now) (g.O.SessionOwner.entries c.args.owner.now))
+          (snapshot_of r.0 (g.S.Sink.written c.do_session.new.out) (g.O.SessionOwner.state c.do_session.new.owner) (g.O.SessionOwner.entries c.do_session.new.owner))
           c.in-Err-OutputFault.field-0 c.in-Err-OutputFault.field-0-is r.2
-          (c.in-Err-OutputFault.ensures.faults.out_cause (ap (λ (s : Stop). Err s) c.in-Err-OutputFault.field-0-is))
-          (λ keeps. unless_disk c.in-Err-OutputFault.field-0 stop.OutputFault (g.O.Owner.Keeps c.do_session.new.owner) c.in-Err-OutputFault.field-0-is (c.in-Err-OutputFault.ensures.keeps keeps)),
+          (c.in-Err-OutputFault.ensures.faults.out_cause (ap (λ (s : SessionStop). Err s) c.in-Err-OutputFault.field-0-is))
+          (λ keeps. unless_disk c.in-Err-OutputFault.field-0 stop.OutputFault (g.O.SessionOwner.Keeps c.do_session.new.owner) c.in-Err-OutputFault.field-0-is (c.in-Err-OutputFault.ensures.keeps keeps)),
     )
 
 pub returns-in-Err-Memory-clause-known : goal.returns-in-Err-Memory-clause-known
@@ -108,16 +108,16 @@ returns-in-Err-Memory-clause-known g c =
     let r = c.in-Err-Memory.ensures.known before is in (
       r.0,
       r.1,
-      session_wants g.O.Owner.IsJudgement g.O.Owner.forms c.args.batches.now
+      session_wants g.O.SessionOwner.IsJudgement g.O.SessionOwner.forms c.args.batches.now
           (FaultRose (g.L.Link.faults c.args.link.now) (g.L.Link.faults c.do_session.new.link))
-          (FaultRose (g.O.Owner.faults c.args.owner.now) (g.O.Owner.faults c.do_session.new.owner))
+          (FaultRose (g.O.SessionOwner.faults c.args.owner.now) (g.O.SessionOwner.faults c.do_session.new.owner))
           (FaultRose (g.S.Sink.faults c.args.out.now) (g.S.Sink.faults c.do_session.new.out))
-          (g.O.Owner.Keeps c.args.owner.now → g.O.Owner.Keeps c.do_session.new.owner)
-          (λ (e : g.O.Owner.Entry). g.O.Owner.Keeps c.args.owner.now → g.O.Owner.KeepsWith c.do_session.new.owner e)
-          (snapshot_of before (g.S.Sink.written c.args.out.now) (g.O.Owner.state c.args.owner.now) (g.O.Owner.entries c.args.owner.now))
-          (snapshot_of r.0 (g.S.Sink.written c.do_session.new.out) (g.O.Owner.state c.do_session.new.owner) (g.O.Owner.entries c.do_session.new.owner))
+          (g.O.SessionOwner.Keeps c.args.owner.now → g.O.SessionOwner.Keeps c.do_session.new.owner)
+          (λ (e : g.O.SessionOwner.Entry). g.O.SessionOwner.Keeps c.args.owner.now → g.O.SessionOwner.KeepsWith c.do_session.new.owner e)
+          (snapshot_of before (g.S.Sink.written c.args.out.now) (g.O.SessionOwner.state c.args.owner.now) (g.O.SessionOwner.entries c.args.owner.now))
+          (snapshot_of r.0 (g.S.Sink.written c.do_session.new.out) (g.O.SessionOwner.state c.do_session.new.owner) (g.O.SessionOwner.entries c.do_session.new.owner))
           c.in-Err-Memory.field-0 c.in-Err-Memory.field-0-is r.2
-          (λ keeps. unless_disk c.in-Err-Memory.field-0 stop.Memory (g.O.Owner.Keeps c.do_session.new.owner) c.in-Err-Memory.field-0-is (c.in-Err-Memory.ensures.keeps keeps)),
+          (λ keeps. unless_disk c.in-Err-Memory.field-0 stop.Memory (g.O.SessionOwner.Keeps c.do_session.new.owner) c.in-Err-Memory.field-0-is (c.in-Err-Memory.ensures.keeps keeps)),
     )
 
 pub returns-in-Ok-clause-done : goal.returns-in-Ok-clause-done
@@ -126,14 +126,14 @@ returns-in-Ok-clause-done g c =
     let known = returns-in-Ok-clause-known g c before is in (
       known.0,
       known.1,
-      session_done_at_0 g.O.Owner.IsJudgement g.O.Owner.forms c.args.batches.now
+      session_done_at_0 g.O.SessionOwner.IsJudgement g.O.SessionOwner.forms c.args.batches.now
           (FaultRose (g.L.Link.faults c.args.link.now) (g.L.Link.faults c.do_session.new.link))
-          (FaultRose (g.O.Owner.faults c.args.owner.now) (g.O.Owner.faults c.do_session.new.owner))
+          (FaultRose (g.O.SessionOwner.faults c.args.owner.now) (g.O.SessionOwner.faults c.do_session.new.owner))
           (FaultRose (g.S.Sink.faults c.args.out.now) (g.S.Sink.faults c.do_session.new.out))
-          (g.O.Owner.Keeps c.args.owner.now → g.O.Owner.Keeps c.do_session.new.owner)
-          (λ (e : g.O.Owner.Entry). g.O.Owner.Keeps c.args.owner.now → g.O.Owner.KeepsWith c.do_session.new.owner e)
-          0 (snapshot_of before (g.S.Sink.written c.args.out.now) (g.O.Owner.state c.args.owner.now) (g.O.Owner.entries c.args.owner.now))
-          (snapshot_of known.0 (g.S.Sink.written c.do_session.new.out) (g.O.Owner.state c.do_session.new.owner) (g.O.Owner.entries c.do_session.new.owner))
+          (g.O.SessionOwner.Keeps c.args.owner.now → g.O.SessionOwner.Keeps c.do_session.new.owner)
+          (λ (e : g.O.SessionOwner.Entry). g.O.SessionOwner.Keeps c.args.owner.now → g.O.SessionOwner.KeepsWith c.do_session.new.owner e)
+          0 (snapshot_of before (g.S.Sink.written c.args.out.now) (g.O.SessionOwner.state c.args.owner.now) (g.O.SessionOwner.entries c.args.owner.now))
+          (snapshot_of known.0 (g.S.Sink.written c.do_session.new.out) (g.O.SessionOwner.state c.do_session.new.owner) (g.O.SessionOwner.entries c.do_session.new.owner))
           zero known.2,
     )
 
@@ -143,14 +143,14 @@ returns-in-Err-Refused-clause-done g c =
     let known = returns-in-Err-Refused-clause-known g c before is in (
       known.0,
       known.1,
-      session_done_at_0 g.O.Owner.IsJudgement g.O.Owner.forms c.args.batches.now
+      session_done_at_0 g.O.SessionOwner.IsJudgement g.O.SessionOwner.forms c.args.batches.now
           (FaultRose (g.L.Link.faults c.args.link.now) (g.L.Link.faults c.do_session.new.link))
-          (FaultRose (g.O.Owner.faults c.args.owner.now) (g.O.Owner.faults c.do_session.new.owner))
+          (FaultRose (g.O.SessionOwner.faults c.args.owner.now) (g.O.SessionOwner.faults c.do_session.new.owner))
           (FaultRose (g.S.Sink.faults c.args.out.now) (g.S.Sink.faults c.write_output.new.out))
-          (g.O.Owner.Keeps c.args.owner.now → g.O.Owner.Keeps c.do_session.new.owner)
-          (λ (e : g.O.Owner.Entry). g.O.Owner.Keeps c.args.owner.now → g.O.Owner.KeepsWith c.do_session.new.owner e)
-          c.write_output.result (snapshot_of before (g.S.Sink.written c.args.out.now) (g.O.Owner.state c.args.owner.now) (g.O.Owner.entries c.args.owner.now))
-          (snapshot_of known.0 (g.S.Sink.written c.write_output.new.out) (g.O.Owner.state c.do_session.new.owner) (g.O.Owner.entries c.do_session.new.owner))
+          (g.O.SessionOwner.Keeps c.args.owner.now → g.O.SessionOwner.Keeps c.do_session.new.owner)
+          (λ (e : g.O.SessionOwner.Entry). g.O.SessionOwner.Keeps c.args.owner.now → g.O.SessionOwner.KeepsWith c.do_session.new.owner e)
+          c.write_output.result (snapshot_of before (g.S.Sink.written c.args.out.now) (g.O.SessionOwner.state c.args.owner.now) (g.O.SessionOwner.entries c.args.owner.now))
+          (snapshot_of known.0 (g.S.Sink.written c.write_output.new.out) (g.O.SessionOwner.state c.do_session.new.owner) (g.O.SessionOwner.entries c.do_session.new.owner))
           zero known.2,
     )
 
@@ -160,14 +160,14 @@ returns-in-Err-LinkFault-clause-done g c =
     let known = returns-in-Err-LinkFault-clause-known g c before is in (
       known.0,
       known.1,
-      session_done_at_0 g.O.Owner.IsJudgement g.O.Owner.forms c.args.batches.now
+      session_done_at_0 g.O.SessionOwner.IsJudgement g.O.SessionOwner.forms c.args.batches.now
           (FaultRose (g.L.Link.faults c.args.link.now) (g.L.Link.faults c.do_session.new.link))
-          (FaultRose (g.O.Owner.faults c.args.owner.now) (g.O.Owner.faults c.do_session.new.owner))
+          (FaultRose (g.O.SessionOwner.faults c.args.owner.now) (g.O.SessionOwner.faults c.do_session.new.owner))
           (FaultRose (g.S.Sink.faults c.args.out.now) (g.S.Sink.faults c.write_output-in-Err-LinkFault.new.out))
-          (g.O.Owner.Keeps c.args.owner.now → g.O.Owner.Keeps c.do_session.new.owner)
-          (λ (e : g.O.Owner.Entry). g.O.Owner.Keeps c.args.owner.now → g.O.Owner.KeepsWith c.do_session.new.owner e)
-          c.write_output-in-Err-LinkFault.result (snapshot_of before (g.S.Sink.written c.args.out.now) (g.O.Owner.state c.args.owner.now) (g.O.Owner.entries c.args.owner.now))
-          (snapshot_of known.0 (g.S.Sink.written c.write_output-in-Err-LinkFault.new.out) (g.O.Owner.state c.do_session.new.owner) (g.O.Owner.entries c.do_session.new.owner))
+          (g.O.SessionOwner.Keeps c.args.owner.now → g.O.SessionOwner.Keeps c.do_session.new.owner)
+          (λ (e : g.O.SessionOwner.Entry). g.O.SessionOwner.Keeps c.args.owner.now → g.O.SessionOwner.KeepsWith c.do_session.new.owner e)
+          c.write_output-in-Err-LinkFault.result (snapshot_of before (g.S.Sink.written c.args.out.now) (g.O.SessionOwner.state c.args.owner.now) (g.O.SessionOwner.entries c.args.owner.now))
+          (snapshot_of known.0 (g.S.Sink.written c.write_output-in-Err-LinkFault.new.out) (g.O.SessionOwner.state c.do_session.new.owner) (g.O.SessionOwner.entries c.do_session.new.owner))
           zero known.2,
     )
 
@@ -177,14 +177,14 @@ returns-in-Err-DiskFault-clause-done g c =
     let known = returns-in-Err-DiskFault-clause-known g c before is in (
       known.0,
       known.1,
-      session_done_at_0 g.O.Owner.IsJudgement g.O.Owner.forms c.args.batches.now
+      session_done_at_0 g.O.SessionOwner.IsJudgement g.O.SessionOwner.forms c.args.batches.now
           (FaultRose (g.L.Link.faults c.args.link.now) (g.L.Link.faults c.do_session.new.link))
-          (FaultRose (g.O.Owner.faults c.args.owner.now) (g.O.Owner.faults c.do_session.new.owner))
+          (FaultRose (g.O.SessionOwner.faults c.args.owner.now) (g.O.SessionOwner.faults c.do_session.new.owner))
           (FaultRose (g.S.Sink.faults c.args.out.now) (g.S.Sink.faults c.write_output-in-Err-DiskFault.new.out))
-          (g.O.Owner.Keeps c.args.owner.now → g.O.Owner.Keeps c.do_session.new.owner)
-          (λ (e : g.O.Owner.Entry). g.O.Owner.Keeps c.args.owner.now → g.O.Owner.KeepsWith c.do_session.new.owner e)
-          c.write_output-in-Err-DiskFault.result (snapshot_of before (g.S.Sink.written c.args.out.now) (g.O.Owner.state c.args.owner.now) (g.O.Owner.entries c.args.owner.now))
-          (snapshot_of known.0 (g.S.Sink.written c.write_output-in-Err-DiskFault.new.out) (g.O.Owner.state c.do_session.new.owner) (g.O.Owner.entries c.do_session.new.owner))
+          (g.O.SessionOwner.Keeps c.args.owner.now → g.O.SessionOwner.Keeps c.do_session.new.owner)
+          (λ (e : g.O.SessionOwner.Entry). g.O.SessionOwner.Keeps c.args.owner.now → g.O.SessionOwner.KeepsWith c.do_session.new.owner e)
+          c.write_output-in-Err-DiskFault.result (snapshot_of before (g.S.Sink.written c.args.out.now) (g.O.SessionOwner.state c.args.owner.now) (g.O.SessionOwner.entries c.args.owner.now))
+          (snapshot_of known.0 (g.S.Sink.written c.write_output-in-Err-DiskFault.new.out) (g.O.SessionOwner.state c.do_session.new.owner) (g.O.SessionOwner.entries c.do_session.new.owner))
           zero known.2,
     )
 

@@ -9,7 +9,7 @@ use crate::refusals::{NoAppend, NoStep};
 use std::alloc::{AllocError, Global};
 
 /// An owner with its journal, which stands on a disk.
-pub trait Owner {
+pub trait SessionOwner {
     type Batch;
 
     /// An entry, and where the owner stands behind it.
