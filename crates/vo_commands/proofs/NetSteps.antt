@@ -1,8 +1,7 @@
 -- Work on the reply of a store over a network.
-use Rattle.std.proofs.Common.{◌≡◌, ℕ, List, [], ◌∷◌, length, Option, Some, None, Result, Ok, Err, refl, sym, ap, ◌∙◌, subst}
+use Rattle.std.proofs.Common.{◌≡◌, ℕ, List, [], ◌∷◌, ◌++◌, length, Option, Some, None, Result, Ok, Err, refl, sym, ap, ◌∙◌, subst}
 use mathlib.Core.Logic.{inl, inr}
 use Rattle.std.specs.Prelude.{IfSome, IsTrue, nat_lt, slice_index, slice_index_or, option_map, option_and_then}
-use Rattle.std.specs.Global.{Vec}
 use Rattle.outside.specs.Shelf.{Files}
 use Rattle.outside.specs.ConnectionModel.{ConnectionModel, open_next, has_next}
 use Rattle.link_frames.specs.declared.awaits.Awaits.TheVariants.{Reply}
@@ -14,6 +13,7 @@ use Rattle.connections.specs.declared.wire_fault.WireFault.{WireFault}
 use Rattle.connections.specs.declared.wire_fault.WireFault.TheVariants as fault
 use Rattle.connections.specs.Requesting.{body_of, answer_in}
 use Rattle.connections.specs.Fetching.{Fetches}
+use Rattle.vo_check.specs.Checkings.{CheckingModel, with_piece}
 use Rattle.vo_commands.specs.declared.report.Stop.{Stop}
 use Rattle.vo_commands.specs.declared.report.Stop.TheVariants.{Refused, Outside, Memory}
 use Rattle.vo_commands.specs.Lines.{store_refusal, bad_frame, cut_off}
@@ -81,12 +81,18 @@ on_first before has rest = step before.queue has
     step [] has = absurd (cc)
     step (coming ∷ queue) has = refl
 
-pub reply_goes : (frame : List ℕ) (reply : Vec ℕ) (before : ConnectionModel) (after : Option ConnectionModel) → Fetches frame (Ok reply) before after
-    → (rest : List ℕ → Expected) → with_reply before.queue rest ≡ rest reply.items
-reply_goes frame reply before after (inl fails) rest = absurd (cc)
-reply_goes frame reply before after (inr asked) rest =
+-- a check was fed with the reply that was fetched
+abbrev pub Feeds : CheckingModel → CheckingModel → List ℕ → Result (Unit {0}) WireFault → ConnectionModel → Option ConnectionModel → Type 0
+Feeds old new frame r before after = Fetches (λ reply. new ≡ with_piece old reply) frame r before after
+
+pub reply_goes : (frame : List ℕ) (old new : CheckingModel) (before : ConnectionModel) (after : Option ConnectionModel) → old.bytes ≡ []
+    → Feeds old new frame (Ok tt) before after → (rest : List ℕ → Expected) → with_reply before.queue rest ≡ rest new.bytes
+reply_goes frame old new before after none (inl fails) rest = absurd (cc)
+reply_goes frame old new before after none (inr asked) rest =
+    let fed : new.bytes ≡ asked.1.0 = ap (λ (c : CheckingModel). c.bytes) asked.1.1 ∙ ap (λ (bytes : List ℕ). bytes ++ asked.1.0) none in
     on_first before asked.0 (λ coming. with_answer (first_frame Reply coming) rest)
-    ∙ answer_goes (first_frame Reply (open_next before).coming) reply.items asked.1.0 rest
+    ∙ answer_goes (first_frame Reply (open_next before).coming) asked.1.0 asked.1.2.0 rest
+    ∙ ap rest (sym fed)
 
 says_why : (frame : List ℕ) (why : WireFault) (before : ConnectionModel) (after : Option ConnectionModel) (output : Output)
     → answer_in (first_frame Reply (open_next before).coming) ≡ Err why → IsTrue (has_next before) → Says why output
@@ -95,30 +101,32 @@ says_why frame why before after output e has says rest =
     on_first before has (λ coming. with_answer (first_frame Reply coming) rest)
     ∙ answer_stops (first_frame Reply (open_next before).coming) why e output says rest
 
-pub reply_stops : (frame : List ℕ) (why : WireFault) (before : ConnectionModel) (after : Option ConnectionModel) (stop : Stop) → Fetches frame (Err why) before after
-    → StopsWithout why stop → GoesOn {A = Vec ℕ} (λ bytes. bytes.items) (with_reply before.queue) (Err stop)
-reply_stops frame why before after Outside fetches stops = tt
-reply_stops frame why before after Memory fetches stops = tt
-reply_stops frame (fault.Refused code) before after (Refused report) (inl fails) stops = absurd (cc)
-reply_stops frame (fault.Refused code) before after (Refused report) (inr asked) stops =
-    says_why frame (fault.Refused code) before after (output_of report) asked.1.0 asked.0 stops
-reply_stops frame (fault.BadFrame size) before after (Refused report) (inl fails) stops = absurd (cc)
-reply_stops frame (fault.BadFrame size) before after (Refused report) (inr asked) stops =
-    says_why frame (fault.BadFrame size) before after (output_of report) asked.1.0 asked.0 stops
-reply_stops frame (fault.Cut got) before after (Refused report) (inl fails) stops = absurd (cc)
-reply_stops frame (fault.Cut got) before after (Refused report) (inr asked) stops =
-    says_why frame (fault.Cut got) before after (output_of report) asked.1.0 asked.0 stops
-reply_stops frame fault.LinkFault before after (Refused report) fetches stops = absurd (cc)
-reply_stops frame fault.Memory before after (Refused report) fetches stops = absurd (cc)
+pub reply_stops : (frame : List ℕ) (old new : CheckingModel) (why : WireFault) (before : ConnectionModel) (after : Option ConnectionModel) (stop : Stop)
+    → Feeds old new frame (Err why) before after → StopsWithout why stop
+    → GoesOn {A = Unit {0}} (λ _. new.bytes) (with_reply before.queue) (Err stop)
+reply_stops frame old new why before after Outside fetches stops = tt
+reply_stops frame old new why before after Memory fetches stops = tt
+reply_stops frame old new (fault.Refused code) before after (Refused report) (inl fails) stops = absurd (cc)
+reply_stops frame old new (fault.Refused code) before after (Refused report) (inr asked) stops =
+    says_why frame (fault.Refused code) before after (output_of report) asked.1.2.0 asked.0 stops
+reply_stops frame old new (fault.BadFrame size) before after (Refused report) (inl fails) stops = absurd (cc)
+reply_stops frame old new (fault.BadFrame size) before after (Refused report) (inr asked) stops =
+    says_why frame (fault.BadFrame size) before after (output_of report) asked.1.2.0 asked.0 stops
+reply_stops frame old new (fault.Cut got) before after (Refused report) (inl fails) stops = absurd (cc)
+reply_stops frame old new (fault.Cut got) before after (Refused report) (inr asked) stops =
+    says_why frame (fault.Cut got) before after (output_of report) asked.1.2.0 asked.0 stops
+reply_stops frame old new fault.LinkFault before after (Refused report) fetches stops = absurd (cc)
+reply_stops frame old new fault.Memory before after (Refused report) fetches stops = absurd (cc)
 
-pub asks_only : (frame : List ℕ) (r : Result (Vec ℕ) WireFault) (before : ConnectionModel) (after : Option ConnectionModel) → Fetches frame r before after → AsksOnly frame before after
-asks_only frame r before after (inl fails) = inl fails.1
-asks_only frame (Ok reply) before after (inr asked) = inr (inr (span (first_frame Reply (open_next before).coming), asked.1.1))
-asks_only frame (Err (fault.Refused code)) before after (inr asked) = inr (inr (span (first_frame Reply (open_next before).coming), asked.1.1))
-asks_only frame (Err (fault.BadFrame size)) before after (inr asked) = inr (inr (span (first_frame Reply (open_next before).coming), asked.1.1))
-asks_only frame (Err (fault.Cut got)) before after (inr asked) = inr (inr (span (first_frame Reply (open_next before).coming), asked.1.1))
-asks_only frame (Err fault.LinkFault) before after (inr asked) = inr asked.1
-asks_only frame (Err fault.Memory) before after (inr asked) = inr asked.1
+pub asks_only : (frame : List ℕ) (old new : CheckingModel) (r : Result (Unit {0}) WireFault) (before : ConnectionModel) (after : Option ConnectionModel)
+    → Feeds old new frame r before after → AsksOnly frame before after
+asks_only frame old new r before after (inl fails) = inl fails.1
+asks_only frame old new (Ok done) before after (inr asked) = inr (inr (span (first_frame Reply (open_next before).coming), asked.1.2.1))
+asks_only frame old new (Err (fault.Refused code)) before after (inr asked) = inr (inr (span (first_frame Reply (open_next before).coming), asked.1.2.1))
+asks_only frame old new (Err (fault.BadFrame size)) before after (inr asked) = inr (inr (span (first_frame Reply (open_next before).coming), asked.1.2.1))
+asks_only frame old new (Err (fault.Cut got)) before after (inr asked) = inr (inr (span (first_frame Reply (open_next before).coming), asked.1.2.1))
+asks_only frame old new (Err fault.LinkFault) before after (inr asked) = inr asked.1.2
+asks_only frame old new (Err fault.Memory) before after (inr asked) = inr asked.1.2
 
 -- What is expected of a command by the files, and by the connections to come.
 

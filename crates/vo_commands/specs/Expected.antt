@@ -3,7 +3,7 @@ use Rattle.std.specs.Prelude.{◌≡◌, ◌⊎◌, ℕ, Bool, true, false, ◌&
 use Rattle.std.specs.Option.{option_map_or}
 use Rattle.std.specs.Str.{is_utf8}
 use Rattle.outside.specs.Shelf.{Files}
-use Rattle.outside.specs.Sink.{added}
+use Rattle.outside.specs.Sink.{append_known}
 use Rattle.outside.specs.ConnectionModel.{ConnectionModel, open_next}
 use Rattle.link_frames.specs.declared.awaits.Awaits.TheVariants.{Reply as ReplyAwaited}
 use Rattle.link_frames.specs.declared.frame_kind.FrameKind.{FrameKind}

@@ -60,8 +60,8 @@ Prepares expected secret (Err Memory) = Unit {0}
 
 -- The journal on the disk.
 
--- What is there is damaged at the entry of this number; or it is a journal of some entries, of which
--- this is the first that the owner of the key doesn't write there.
+-- What is there is damaged at the entry of this number; or it is a journal of some entries, of
+-- which this is the first that the owner of the key doesn't write there.
 abbrev pub IsBadJournal : Secret → List ℕ → ℕ → Type 0
 IsBadJournal secret bytes index = (es : List Entry)
     × ((IsDamaged bytes es × (index ≡ length es))

@@ -8,14 +8,15 @@ ghost use Rattle.vo_spec.specs.Conditions.{query_of};
 ghost use Rattle.vo_commands.specs.Expected.{AsksOnly, Checks, HoldsEach, OfQuery, ask_expected, with_reply};
 ghost use Rattle.vo_commands.specs.Reports.{Answers};
 
-use crate::check::check_report;
+use crate::check::client_report;
 use crate::files::take_key;
 use crate::report::{Report, Stop};
-use crate::store_replies::take_reply;
+use crate::store_replies::feed_reply;
 use crate::texts::query_in;
 use lms_sign::PublicKey;
 use outside::{Net, Shelf};
 use std::alloc::Global;
+use vo_check::Client;
 use vo_spec::QueryText;
 
 /// The answer that a client of the key accepts from the store at this address, of no version below
@@ -101,8 +102,10 @@ fn ask_store<N: Net>(
     ensures misses { (before : ConnectionModel) → N.wire net.old ≡ Some before
         → IsTrue (has_next before) → N.misses net.new ≡ N.misses net.old }
 {
-    match take_reply(alloc, net, address, text) {
-        Ok(reply) => check_report(alloc, key, least, query, &reply),
+    let mut client = Client::new(key, least);
+    let mut checking = client.begin(alloc, query);
+    match feed_reply(alloc, net, address, text, &mut checking) {
+        Ok(()) => client_report(alloc, checking.end(alloc, &mut client)),
         Err(stop) => Err(stop),
     }
 }

@@ -1,8 +1,9 @@
 //! `check`: the answer that a client takes from a reply, or why it refuses it.
-ghost use Rattle.std.specs.Prelude.{◌≡◌, ◌≤◌, [], ◌∷◌, is_some, IfSome, IsErrOf};
+ghost use Rattle.std.specs.Prelude.{◌≡◌, ◌⊎◌, ◌≤◌, ℕ, List, [], ◌∷◌, Err, is_some, IfSome, IsErrOf};
 ghost use Rattle.outside.specs.Miss.{CountsMiss};
 ghost use Rattle.outside.specs.FaultRose.{FaultRose};
-ghost use Rattle.vo_spec.specs.Conditions.{query_of};
+ghost use Rattle.vo_spec.specs.Checks.{CheckOf};
+ghost use Rattle.vo_spec.specs.Conditions.{Query, query_of};
 ghost use Rattle.vo_commands.specs.Expected.{HoldsEach, check_expected, with_file, reply_limit, Checks};
 ghost use Rattle.vo_commands.specs.Reports.{Answers};
 
@@ -16,7 +17,7 @@ use lms_sign::PublicKey;
 use outside::Shelf;
 use std::alloc::Global;
 use vo_check::Client;
-use vo_spec::{CheckFault, QueryText};
+use vo_spec::{Answer, CheckFault, QueryText};
 
 /// The answer that a client of the key accepts, of no version below `least`, or why it refuses the
 /// reply.
@@ -81,7 +82,17 @@ pub fn check_report(
     ensures inside { IsErrOf result Stop.Outside → ⊥ }
 {
     let mut client = Client::new(key, least);
-    match client.check(alloc, query, reply) {
+    client_report(alloc, client.check(alloc, query, reply))
+}
+
+/// What is printed of what a client says of a reply.
+pub fn client_report(alloc: Global, answer: Result<Answer, CheckFault>) -> Result<Report, Stop>
+    ensures known { (key : List ℕ) (least : ℕ) (q : Query) (reply : List ℕ)
+        → (answer ≡ Err CheckFault.Memory) ⊎ CheckOf key least q reply answer
+        → Answers (Checks key least q reply) result }
+    ensures inside { IsErrOf result Stop.Outside → ⊥ }
+{
+    match answer {
         Ok(answer) => Ok(answer_report(alloc, &answer)?),
         Err(CheckFault::Memory) => Err(Stop::Memory),
         Err(fault) => Err(Stop::Refused(reply_refusal(alloc, "refused:", &fault)?)),

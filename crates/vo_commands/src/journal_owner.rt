@@ -13,7 +13,7 @@ use batch_format::batch_bytes;
 use outside::Disk;
 use owner_journal::{Journal, JournalFault};
 use owner_roots::OwnerFault;
-use owner_session::{NoAppend, NoStep, Owner, Place, Refusal, RefusalCause};
+use owner_session::{NoAppend, NoStep, Place, Refusal, RefusalCause, SessionOwner};
 use owner_state::{Owner as KeyOwner, Step};
 use std::alloc::{AllocError, Global};
 use std::marker::PhantomData;
@@ -39,7 +39,7 @@ pub struct JournalOwner<'a, D: Disk, K: Loan> {
     ghost versions: { AreOfVersions (entries_of journal) },
 }
 
-impl<D: Disk, K: Loan> Owner for JournalOwner<'_, D, K> {
+impl<D: Disk, K: Loan> SessionOwner for JournalOwner<'_, D, K> {
     ghost use Rattle.vo_spec.specs.declared.records.Entry.{Entry};
     ghost use Rattle.owner_state.specs.Held.{Held};
 

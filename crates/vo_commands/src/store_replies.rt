@@ -1,5 +1,5 @@
-//! Taking a reply from a store, over a network.
-ghost use Rattle.std.specs.Prelude.{◌≡◌, ◌≤◌, length, Some, IsTrue, IfOk, IsErrOf};
+//! Checking the reply of a store as it comes, over a network.
+ghost use Rattle.std.specs.Prelude.{◌≡◌, ◌<◌, ◌≤◌, ◌^◌, [], length, Some, IsTrue, IfOk, OnOk, IsErrOf};
 ghost use Rattle.outside.specs.ConnectionModel.{ConnectionModel, has_next};
 ghost use Rattle.outside.specs.FaultRose.{FaultRose};
 ghost use Rattle.link_frames.specs.declared.frame_kind.FrameKind.TheVariants.{Query};
@@ -10,23 +10,29 @@ ghost use Rattle.vo_commands.specs.Reports.{GoesOn, StopsWithout};
 use crate::piece::Word;
 use crate::refusals::{line_report, refusal};
 use crate::report::{Status, Stop};
-use connections::{WireFault, fetch_reply};
 use outside::Net;
 use std::alloc::{AllocError, Global};
+use vo_check::Checking;
+use vo_wire::{WireFault, fetch_into};
 
-/// The reply to a query, given as text, of the store at this address.
-pub fn take_reply<N: Net>(
+/// Feeds a check that has no bytes yet with the reply to its query, given as text, of the store at
+/// this address.
+pub fn feed_reply<N: Net>(
     alloc: Global,
     net: &mut N,
     address: &str,
     query: &str,
-) -> Result<Vec<u8>, Stop>
+    checking: &mut Checking<'_>,
+) -> Result<(), Stop>
+    requires new { checking.old.bytes ≡ [] }
     requires some { 1 ≤ length query.now }
     requires fits { length query.now ≤ max_query }
     ensures known { (before : ConnectionModel) → N.wire net.old ≡ Some before
-        → GoesOn (λ bytes. bytes.items) (with_reply before.queue) result }
+        → GoesOn (λ _. checking.new.bytes) (with_reply before.queue) result }
     ensures asks { (before : ConnectionModel) → N.wire net.old ≡ Some before
         → AsksOnly (frame_bytes Query query.now) before (N.wire net.new) }
+    ensures short { OnOk result (length checking.new.bytes < 2 ^ 32) }
+    ensures query { checking.new.query ≡ checking.old.query }
 
     ensures counts { N.faults net.old ≤ N.faults net.new }
     ensures cause { IsErrOf result Stop.Outside
@@ -34,8 +40,8 @@ pub fn take_reply<N: Net>(
     ensures misses { (before : ConnectionModel) → N.wire net.old ≡ Some before
         → IsTrue (has_next before) → N.misses net.new ≡ N.misses net.old }
 {
-    match fetch_reply(alloc, net, address, query.as_bytes()) {
-        Ok(reply) => Ok(reply),
+    match fetch_into(alloc, net, address, query.as_bytes(), checking) {
+        Ok(()) => Ok(()),
         Err(fault) => Err(stop_without(alloc, fault)?),
     }
 }

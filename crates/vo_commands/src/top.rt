@@ -27,9 +27,9 @@ use std::alloc::Global;
 use vo_words::{Command, Request, read_words};
 
 /// Runs the program: `words` are the command line with the program's name first, `files` has the
-/// files that they name, `disk` has the owner's journal, and all output goes to `out`: in one piece,
-/// but that of `own`, which writes a line as each batch is installed, and of `serve`, which writes one
-/// as each connection ends. Returns the exit status.
+/// files that they name, `disk` has the owner's journal, and all output goes to `out`: in one
+/// piece, but that of `own`, which writes a line as each batch is installed, and of `serve`, which
+/// writes one as each connection ends. Returns the exit status.
 pub fn run<F: Shelf, D: Disk, N: Net, S: Sink>(
     alloc: Global,
     words: &[String],
@@ -51,8 +51,8 @@ pub fn run<F: Shelf, D: Disk, N: Net, S: Sink>(
         ⊎ FaultRose (N.faults net.old) (N.faults net.new)
         ⊎ FaultRose (D.faults disk.old) (D.faults disk.new)
         ⊎ FaultRose (S.faults out.old) (S.faults out.new) }
-    ensures memory { writes_as_it_works (request_in (map string_bytes words.now)) ≡ false → result ≡ 4
-        → S.written out.new ≡ S.written out.old }
+    ensures memory { writes_as_it_works (request_in (map string_bytes words.now)) ≡ false
+        → result ≡ 4 → S.written out.new ≡ S.written out.old }
     // Where the contents of the files are known, `serve` ends so, or as is expected before that.
     ensures serves { IfSome (serve_expected (request_in (map string_bytes words.now))
         (F.contents files.old))

@@ -15,18 +15,18 @@ use Rattle.vo_store.specs.declared.fault.StoreFault.TheVariants as fault
 use Rattle.vo_store.specs.declared.signed_record.SignedRecord.{SignedRecord}
 use Rattle.vo_store.specs.StoreState.{StoreState}
 use Rattle.vo_store.specs.Calls.{Gives, answer_of, within_limit}
-use Rattle.vo_wire.specs.Answering.{Answer, seen, refusal, code_of, proofs_answer, store_after, reply_to}
+use Rattle.vo_wire.specs.Answering.{KindAndBody, frame_answer, refusal, code_of, proofs_answer, store_after, reply_to}
 
-abbrev pub IsAnswer : Result (Option Frame) AllocError → Option Answer → Type 0
-IsAnswer result due = IfOk result (λ answer. seen answer ≡ due)
+abbrev pub IsAnswer : Result (Option Frame) AllocError → Option KindAndBody → Type 0
+IsAnswer result due = IfOk result (λ answer. frame_answer answer ≡ due)
 
 abbrev pub FailsAtMemory : StoreFault → Result (Option Frame) AllocError → Type 0
 FailsAtMemory why result = why ≡ fault.Memory → IsErr result
 
-same_answer : (result : Result (Option Frame) AllocError) (a b : Option Answer) → a ≡ b → IsAnswer result a → IsAnswer result b
+same_answer : (result : Result (Option Frame) AllocError) (a b : Option KindAndBody) → a ≡ b → IsAnswer result a → IsAnswer result b
 same_answer result a b same h = subst (IsAnswer result) same h
 
-failed_answer : (result : Result (Option Frame) AllocError) (answer : Option Answer) → IsErr result → IsAnswer result answer
+failed_answer : (result : Result (Option Frame) AllocError) (answer : Option KindAndBody) → IsErr result → IsAnswer result answer
 failed_answer (Ok frame) answer err = absurd (cc err)
 failed_answer (Err why) answer err = tt
 
@@ -35,16 +35,16 @@ on_ok (Ok frame) p = p
 on_ok (Err why) p = tt
 
 -- a refusal, unless memory ran out
-pub refused : {X Y : Type 0} (view : X → Y) (to : Result Y StoreFault → Answer) (why : StoreFault) (due : Result Y StoreFault)
+pub refused : {X Y : Type 0} (view : X → Y) (to : Result Y StoreFault → KindAndBody) (why : StoreFault) (due : Result Y StoreFault)
     (result : Result (Option Frame) AllocError) → to (Err why) ≡ refusal (code_of why) → Gives view (Err why) due
     → FailsAtMemory why result → IsAnswer result (Some (refusal (code_of why))) → IsAnswer result (Some (to due))
 refused view to fault.Memory due result is g memory h = failed_answer result (Some (to due)) (memory refl)
-refused view to fault.Empty due result is g memory h = same_answer result _ _ (ap (λ (a : Answer). Some a) (sym is ∙ sym (ap to g))) h
-refused view to (fault.TooLarge size) due result is g memory h = same_answer result _ _ (ap (λ (a : Answer). Some a) (sym is ∙ sym (ap to g))) h
-refused view to fault.NothingProposed due result is g memory h = same_answer result _ _ (ap (λ (a : Answer). Some a) (sym is ∙ sym (ap to g))) h
-refused view to (fault.WrongRecord want got) due result is g memory h = same_answer result _ _ (ap (λ (a : Answer). Some a) (sym is ∙ sym (ap to g))) h
-refused view to fault.BadSignature due result is g memory h = same_answer result _ _ (ap (λ (a : Answer). Some a) (sym is ∙ sym (ap to g))) h
-refused view to (fault.Command index because proofs) due result is g memory h = same_answer result _ _ (ap (λ (a : Answer). Some a) (sym is ∙ sym (ap to g))) h
+refused view to fault.Empty due result is g memory h = same_answer result _ _ (ap (λ (a : KindAndBody). Some a) (sym is ∙ sym (ap to g))) h
+refused view to (fault.TooLarge size) due result is g memory h = same_answer result _ _ (ap (λ (a : KindAndBody). Some a) (sym is ∙ sym (ap to g))) h
+refused view to fault.NothingProposed due result is g memory h = same_answer result _ _ (ap (λ (a : KindAndBody). Some a) (sym is ∙ sym (ap to g))) h
+refused view to (fault.WrongRecord want got) due result is g memory h = same_answer result _ _ (ap (λ (a : KindAndBody). Some a) (sym is ∙ sym (ap to g))) h
+refused view to fault.BadSignature due result is g memory h = same_answer result _ _ (ap (λ (a : KindAndBody). Some a) (sym is ∙ sym (ap to g))) h
+refused view to (fault.Command index because proofs) due result is g memory h = same_answer result _ _ (ap (λ (a : KindAndBody). Some a) (sym is ∙ sym (ap to g))) h
 
 -- the store stays where it refused
 pub stayed : {X Y : Type 0} (view : X → Y) (after : Y → StoreState) (why : StoreFault) (due : Result Y StoreFault)
@@ -66,7 +66,7 @@ on_some P (Ok (Some frame)) p = p
 on_some P (Err why) p = tt
 
 -- where there is an answer there is one
-pub never_none : (P : Type 0) (result : Result (Option Frame) AllocError) (due : Answer) → IsAnswer result (Some due)
+pub never_none : (P : Type 0) (result : Result (Option Frame) AllocError) (due : KindAndBody) → IsAnswer result (Some due)
     → IfOk result (λ answer. answer ≡ None → P)
 never_none P (Ok None) due h = absurd (cc h)
 never_none P (Ok (Some frame)) due h = λ e. absurd (cc e)

@@ -20,17 +20,17 @@ use Rattle.vo_store.specs.Calls.{answer_of, proposal_of, install_of}
 -- Answers.
 
 -- the kind of the frame and its body
-abbrev pub Answer : Type 0
-Answer = FrameKind × List ℕ
+abbrev pub KindAndBody : Type 0
+KindAndBody = FrameKind × List ℕ
 
-abbrev pub seen : Option Frame → Option Answer
-seen answer = option_map (λ (frame : Frame). (frame.kind, frame.body.items)) answer
+abbrev pub frame_answer : Option Frame → Option KindAndBody
+frame_answer answer = option_map (λ (frame : Frame). (frame.kind, frame.body.items)) answer
 
 -- an answer that is not too long for a frame
 abbrev pub FitsFrame : Option Frame → Type 0
 FitsFrame answer = IfSome answer (λ (frame : Frame). length frame.body.items + 1 < 2 ^ 32)
 
-abbrev pub refusal : ℕ → Answer
+abbrev pub refusal : ℕ → KindAndBody
 refusal code = (kind.Refusal, code ∷ [])
 
 -- the text is no query
@@ -49,11 +49,11 @@ code_of fault.Memory = 0
 
 -- Queries.
 
-abbrev pub reply_answer : Result (List ℕ) StoreFault → Answer
+abbrev pub reply_answer : Result (List ℕ) StoreFault → KindAndBody
 reply_answer (Ok reply) = (kind.Reply, reply)
 reply_answer (Err why) = refusal (code_of why)
 
-abbrev pub query_answer : StoreState → Option Query → Answer
+abbrev pub query_answer : StoreState → Option Query → KindAndBody
 query_answer s None = refusal no_query
 query_answer s (Some q) = reply_answer (answer_of s q)
 
@@ -62,24 +62,25 @@ query_answer s (Some q) = reply_answer (answer_of s q)
 abbrev pub standing_of : StoreState → Option Record
 standing_of s = option_map (λ (e : SignedRecord). e.rec) s.installed
 
-abbrev pub status_answer : StoreState → List ℕ → Option Answer
+abbrev pub status_answer : StoreState → List ℕ → Option KindAndBody
 status_answer s body =
     if length body == 0 then Some (kind.Standing, standing_bytes (standing_of s)) else None
 
 -- Proposals. Where a command is refused the proofs are the answer too, since an owner finds the
 -- refusal by them.
 
-abbrev pub proofs_answer : Result (StoreState × List ℕ) StoreFault → Answer
+abbrev pub proofs_answer : Result (StoreState × List ℕ) StoreFault → KindAndBody
 proofs_answer (Ok proposal) = (kind.Proofs, proposal.1)
 proofs_answer (Err (fault.Command index why proofs)) = (kind.Proofs, proofs)
 proofs_answer (Err why) = refusal (code_of why)
 
 -- the store goes on to what the call gave, or stays
-abbrev pub store_after : {X : Type 0} → (X → StoreState) → StoreState → Result X StoreFault → StoreState
+abbrev pub store_after : {X : Type 0} → (X → StoreState) → StoreState → Result X StoreFault
+    → StoreState
 store_after view s (Ok x) = view x
 store_after view s (Err why) = s
 
-abbrev pub proposal_answer : StoreState → List Command → Answer
+abbrev pub proposal_answer : StoreState → List Command → KindAndBody
 proposal_answer s commands = proofs_answer (proposal_of s commands)
 
 abbrev pub after_proposal : StoreState → List Command → StoreState
@@ -88,11 +89,11 @@ after_proposal s commands = store_after (λ proposal. proposal.0) s (proposal_of
 -- Installs.
 
 -- the version that is installed, as eight bytes
-abbrev pub version_answer : ℕ → Result StoreState StoreFault → Answer
+abbrev pub version_answer : ℕ → Result StoreState StoreFault → KindAndBody
 version_answer version (Ok next) = (kind.Installed, u64_bytes version)
 version_answer version (Err why) = refusal (code_of why)
 
-abbrev pub install_answer : StoreState → Record × List ℕ → Answer
+abbrev pub install_answer : StoreState → Record × List ℕ → KindAndBody
 install_answer s signed = version_answer signed.0.version (install_of s signed.0 signed.1)
 
 abbrev pub after_install : StoreState → Record × List ℕ → StoreState
@@ -101,7 +102,7 @@ after_install s signed = store_after (λ next. next) s (install_of s signed.0 si
 -- All requests.
 
 -- none where the body is none of its kind
-unfoldable pub reply_to : StoreState → FrameKind → List ℕ → Option Answer
+unfoldable pub reply_to : StoreState → FrameKind → List ℕ → Option KindAndBody
 reply_to s kind.Query body = Some (query_answer s (query_in body))
 reply_to s kind.Status body = status_answer s body
 reply_to s kind.Propose body = option_map (proposal_answer s) (batch_of body)

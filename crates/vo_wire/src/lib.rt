@@ -5,6 +5,8 @@
 #![tactic(auto)]
 
 mod answers;
+mod asking;
+mod feeder;
 mod link_serving;
 mod loan;
 mod net_serving;
@@ -14,7 +16,8 @@ mod responder;
 mod statuses;
 mod versions;
 
-pub use connections::{ServeFault, fetch_reply};
+pub use asking::{ask_into, fetch_into};
+pub use connections::ServeFault;
 pub use link_frames::End;
 pub use link_serving::serve_link;
 pub use loan::Loan;

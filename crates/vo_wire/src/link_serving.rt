@@ -13,8 +13,8 @@ use std::alloc::Global;
 use std::marker::{Brand, PhantomData};
 use vo_store::Store;
 
-/// Answers the requests that come, one after the other, until the link ends or a frame comes that is
-/// no request. The store is changed by whole requests alone.
+/// Answers the requests that come, one after the other, until the link ends or a frame comes that
+/// is no request. The store is changed by whole requests alone.
 pub fn serve_link<L: Link>(alloc: Global, store: &mut Store, link: &mut L) -> End
     ensures known { (before : ConnectionModel) → L.wire link.old ≡ Some before
         → ServesKnown (serving_script reply_to next_after max_turns store.old before.coming)

@@ -3,7 +3,7 @@ ghost use Rattle.std.specs.Prelude.{◌≡◌, Some, IfOk};
 ghost use Rattle.vo_spec.specs.Conditions.{query_of};
 ghost use Rattle.store_requests.specs.Texts.{query_in};
 ghost use Rattle.vo_store.specs.Calls.{answer_of};
-ghost use Rattle.vo_wire.specs.Answering.{FitsFrame, query_answer, reply_answer, seen};
+ghost use Rattle.vo_wire.specs.Answering.{FitsFrame, query_answer, reply_answer, frame_answer};
 
 use crate::answers::{NO_QUERY, refusal, refusal_by};
 use link_frames::{Frame, FrameKind};
@@ -18,7 +18,7 @@ pub(crate) fn answer_query(
     body: &[u8],
 ) -> Result<Option<Frame>, AllocError>
     ensures answer { IfOk result
-        (λ answer. seen answer ≡ Some (query_answer store.now (query_in body.now))) }
+        (λ answer. frame_answer answer ≡ Some (query_answer store.now (query_in body.now))) }
     ensures fits { IfOk result FitsFrame }
 {
     match read_query(alloc, body) {
@@ -31,7 +31,8 @@ pub(crate) fn answer_query(
 /// The reply to a query.
 fn reply(alloc: Global, store: &Store, query: &QueryText) -> Result<Option<Frame>, AllocError>
     ensures answer { IfOk result
-        (λ answer. seen answer ≡ Some (reply_answer (answer_of store.now (query_of query.now)))) }
+        (λ answer. frame_answer answer
+        ≡ Some (reply_answer (answer_of store.now (query_of query.now)))) }
     ensures fits { IfOk result FitsFrame }
 {
     match store.answer(alloc, query) {

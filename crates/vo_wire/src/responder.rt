@@ -1,6 +1,6 @@
 //! A store as what answers requests.
 ghost use Rattle.std.specs.Prelude.{◌≡◌, None, IfOk, IfSome, OnErr};
-ghost use Rattle.vo_wire.specs.Answering.{FitsFrame, seen, reply_to, next_after};
+ghost use Rattle.vo_wire.specs.Answering.{FitsFrame, frame_answer, reply_to, next_after};
 
 use crate::loan::{LentStore, Loan, StoreServer};
 use crate::queries::answer_query;
@@ -42,7 +42,7 @@ impl LentStore<'_> {
     ) -> Result<Option<Frame>, AllocError>
         ensures same { self.new.store.ghost_name ≡ self.old.store.ghost_name }
         ensures answer { IfOk result
-            (λ answer. seen answer ≡ reply_to self.old.store.now kind body.now) }
+            (λ answer. frame_answer answer ≡ reply_to self.old.store.now kind body.now) }
         ensures fits { IfOk result FitsFrame }
         ensures next { IfOk result (λ answer. IfSome answer
             (λ _. self.new.store.now ≡ next_after self.old.store.now kind body.now)) }
@@ -62,7 +62,8 @@ fn answer_request(
     kind: FrameKind,
     body: &[u8],
 ) -> Result<Option<Frame>, AllocError>
-    ensures answer { IfOk result (λ answer. seen answer ≡ reply_to store.old kind body.now) }
+    ensures answer { IfOk result
+        (λ answer. frame_answer answer ≡ reply_to store.old kind body.now) }
     ensures fits { IfOk result FitsFrame }
     ensures next { IfOk result (λ answer. IfSome answer
         (λ _. store.new ≡ next_after store.old kind body.now)) }

@@ -1,6 +1,6 @@
 //! Where a store stands, as an answer.
 ghost use Rattle.std.specs.Prelude.{◌≡◌, IfOk};
-ghost use Rattle.vo_wire.specs.Answering.{FitsFrame, seen, status_answer};
+ghost use Rattle.vo_wire.specs.Answering.{FitsFrame, frame_answer, status_answer};
 
 use link_frames::{Frame, FrameKind};
 use std::alloc::{AllocError, Global};
@@ -13,7 +13,8 @@ pub(crate) fn answer_status(
     store: &Store,
     body: &[u8],
 ) -> Result<Option<Frame>, AllocError>
-    ensures answer { IfOk result (λ answer. seen answer ≡ status_answer store.now body.now) }
+    ensures answer { IfOk result
+        (λ answer. frame_answer answer ≡ status_answer store.now body.now) }
     ensures fits { IfOk result FitsFrame }
 {
     if !body.is_empty() {

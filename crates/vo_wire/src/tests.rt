@@ -1,11 +1,16 @@
-//! Served connections of an empty store, and of one that an owner fills.
-use crate::{End, WireFault, install_link, propose_link, serve_link, status_link};
+//! Served connections of an empty store, and of one that an owner fills, and a reply that is
+//! checked as it comes.
+use crate::{
+    End, WireFault, ask_into, fetch_into, install_link, propose_link, serve_link, status_link,
+};
 use lms_sign::{OtsType, PublicKey, SecretKey};
 use outside::{MemNet, Net, Never};
 use owner_state::Owner;
 use std::alloc::{AllocError, Global};
 use std::test::Fail;
-use vo_spec::{Batch, Digest, List, Record};
+use store_requests::read_query;
+use vo_check::Client;
+use vo_spec::{Batch, Digest, List, Outcome, QueryFault, Record};
 use vo_store::Store;
 
 /// A network of one connection, which stands.
@@ -101,5 +106,39 @@ fn answers_are_read(rt: HostRuntime) -> Result<(), Fail> {
             Some(WireFault::Cut { got: 1 })
         )
     );
+    Ok(())
+}
+
+/// A network of one connection to come, on which a store of this key answers a query.
+fn net_with_reply(alloc: Global, key: &SecretKey) -> Result<MemNet<Never>, Fail> {
+    let mut store = Store::new(alloc, key.public())?;
+    let mut net = connection(alloc, &owner_requests(alloc, key)?)?;
+    let _ = serve_link(alloc, &mut store, &mut net);
+    let mut net = connection(alloc, b"\x00\x00\x00\x10\x01SELECT * FROM t")?;
+    let _ = serve_link(alloc, &mut store, &mut net);
+    let coming = vec![in alloc; Vec::from_slice(alloc, net.sent())?]?;
+    Ok(MemNet::new(alloc, coming, Never)?.in_pieces(3))
+}
+
+#[test]
+fn a_reply_is_checked_as_it_comes(rt: HostRuntime) -> Result<(), Fail> {
+    let key = SecretKey::make(rt.alloc(), [7; 16], [8; 32], OtsType::W1, 5)?;
+    let text = b"SELECT * FROM t".as_slice();
+    let Some(query) = read_query(rt.alloc(), text)? else {
+        return Err(AllocError.into());
+    };
+    let mut client = Client::new(key.public(), 0);
+    let mut net = net_with_reply(rt.alloc(), &key)?;
+    net.next()?;
+    let mut checking = client.begin(rt.alloc(), &query);
+    ask_into(rt.alloc(), &mut net, text, &mut checking)?;
+    let first = checking.end(rt.alloc(), &mut client)?;
+    let mut net = net_with_reply(rt.alloc(), &key)?;
+    let mut checking = client.begin(rt.alloc(), &query);
+    fetch_into(rt.alloc(), &mut net, "there", text, &mut checking)?;
+    let second = checking.end(rt.alloc(), &mut client)?;
+    assert_eq!(rt; (first.version, second.version), (0, 0));
+    assert!(rt; matches!(first.outcome, Outcome::Wrong(QueryFault::NoTable(_))));
+    assert!(rt; matches!(second.outcome, Outcome::Wrong(QueryFault::NoTable(_))));
     Ok(())
 }

@@ -4,7 +4,7 @@ ghost use Rattle.std.specs.Option.{option_map_or};
 ghost use Rattle.vo_spec.specs.Batches.{FitsBatch};
 ghost use Rattle.batch_format.specs.BatchReading.{batch_of};
 ghost use Rattle.store_requests.specs.Bodies.{install_in};
-ghost use Rattle.vo_wire.specs.Answering.{FitsFrame, seen, proposal_answer, after_proposal, install_answer, after_install};
+ghost use Rattle.vo_wire.specs.Answering.{FitsFrame, frame_answer, proposal_answer, after_proposal, install_answer, after_install};
 
 use crate::answers::refusal_by;
 use crate::proof_sizes::proofs_fit;
@@ -20,7 +20,7 @@ pub(crate) fn answer_proposal(
     store: &mut Store,
     body: &[u8],
 ) -> Result<Option<Frame>, AllocError>
-    ensures answer { IfOk result (λ answer. seen answer
+    ensures answer { IfOk result (λ answer. frame_answer answer
         ≡ option_map (proposal_answer store.old) (batch_of body.now)) }
     ensures fits { IfOk result FitsFrame }
     ensures next { IfOk result (λ answer. IfSome answer (λ _. store.new
@@ -39,7 +39,7 @@ pub(crate) fn answer_proposal(
 fn propose(alloc: Global, store: &mut Store, batch: &Batch) -> Result<Option<Frame>, AllocError>
     requires { FitsBatch batch.now.commands }
     ensures answer { IfOk result
-        (λ answer. seen answer ≡ Some (proposal_answer store.old batch.now.commands)) }
+        (λ answer. frame_answer answer ≡ Some (proposal_answer store.old batch.now.commands)) }
     ensures fits { IfOk result FitsFrame }
     ensures next { OnOk result (store.new ≡ after_proposal store.old batch.now.commands) }
     ensures err { OnErr result (store.new ≡ store.old) }
@@ -64,7 +64,7 @@ pub(crate) fn answer_install(
     store: &mut Store,
     body: &[u8],
 ) -> Result<Option<Frame>, AllocError>
-    ensures answer { IfOk result (λ answer. seen answer
+    ensures answer { IfOk result (λ answer. frame_answer answer
         ≡ option_map (install_answer store.old) (install_in body.now)) }
     ensures fits { IfOk result FitsFrame }
     ensures next { IfOk result (λ answer. IfSome answer (λ _. store.new
@@ -84,7 +84,7 @@ fn install(
     store: &mut Store,
     signed: &SignedBody<'_>,
 ) -> Result<Option<Frame>, AllocError>
-    ensures answer { IfOk result (λ answer. seen answer
+    ensures answer { IfOk result (λ answer. frame_answer answer
         ≡ Some (install_answer store.old (signed.now.rec, signed.now.signature.now))) }
     ensures fits { IfOk result FitsFrame }
     ensures next { OnOk result

@@ -1,13 +1,13 @@
 use Rattle.std.proofs.Common.{ℕ, List, refl, sym, ap, ◌∙◌, Some}
 use Rattle.link_frames.specs.declared.frame_kind.FrameKind.TheVariants.{Installed}
-use Rattle.vo_wire.specs.Answering.{Answer, version_answer, store_after}
+use Rattle.vo_wire.specs.Answering.{KindAndBody, version_answer, store_after}
 use Rattle.vo_wire.proofs.AnswerLaws.{refused, stayed}
 use Rattle.vo_wire.proofs.versions.install.Goals as goal
 
 pub returns-in-Ok-clause-answer : goal.returns-in-Ok-clause-answer
 returns-in-Ok-clause-answer c =
     ap (λ (body : List ℕ). Some (Installed, body)) (c.in_ok-body.ensures.items ∙ c.u64_bytes.ensures)
-    ∙ ap (λ (a : Answer). Some a) (sym (ap (version_answer c.args.signed.now.rec.version) c.in-Ok.ensures.answer))
+    ∙ ap (λ (a : KindAndBody). Some a) (sym (ap (version_answer c.args.signed.now.rec.version) c.in-Ok.ensures.answer))
 
 pub returns-in-Ok-clause-next : goal.returns-in-Ok-clause-next
 returns-in-Ok-clause-next c = sym (ap (store_after (λ next. next) c.args.store.now) c.in-Ok.ensures.answer)

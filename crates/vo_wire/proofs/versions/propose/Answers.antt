@@ -4,11 +4,11 @@ use Rattle.vo_store.specs.declared.fault.StoreFault.{StoreFault}
 use Rattle.vo_store.specs.declared.fault.StoreFault.TheVariants.{Command}
 use Rattle.vo_store.specs.Calls.{Gives, proposal_of}
 use Rattle.link_frames.specs.declared.frame_kind.FrameKind.TheVariants.{Proofs}
-use Rattle.vo_wire.specs.Answering.{Answer, proofs_answer, store_after}
+use Rattle.vo_wire.specs.Answering.{KindAndBody, proofs_answer, store_after}
 use Rattle.vo_wire.proofs.versions.propose.Goals as goal
 
 pub returns-in-Ok-clause-answer : goal.returns-in-Ok-clause-answer
-returns-in-Ok-clause-answer c = ap (λ (a : Answer). Some a) (sym (ap proofs_answer c.in-Ok.ensures.answer))
+returns-in-Ok-clause-answer c = ap (λ (a : KindAndBody). Some a) (sym (ap proofs_answer c.in-Ok.ensures.answer))
 
 pub returns-in-Ok-clause-fits : goal.returns-in-Ok-clause-fits
 returns-in-Ok-clause-fits c =
@@ -23,4 +23,4 @@ returns-in-Err-Command-clause-answer c =
     subst
     (λ (why : StoreFault). Gives {X = Vec ℕ} (λ proofs. (c.propose.new.self, proofs.items)) (Err why) (proposal_of c.args.store.now c.args.batch.now.commands))
     c.in-Err-Command.field-0-is c.in-Err-Command.ensures.answer in
-    ap (λ (body : List ℕ). Some (Proofs, body)) c.into_vec.ensures ∙ ap (λ (a : Answer). Some a) (sym (ap proofs_answer refused_is))
+    ap (λ (body : List ℕ). Some (Proofs, body)) c.into_vec.ensures ∙ ap (λ (a : KindAndBody). Some a) (sym (ap proofs_answer refused_is))

@@ -1,6 +1,6 @@
 use Rattle.std.proofs.Common.{Ok, subst}
 use Rattle.vo_commands.proofs.OwnerLaws.{follows_given}
-use Rattle.vo_commands.proofs.journal_owner.JournalOwnerOwner.step.Goals as goal
+use Rattle.vo_commands.proofs.journal_owner.JournalOwnerSessionOwner.step.Goals as goal
 
 pub returns-in-Ok-clause-follows : goal.returns-in-Ok-clause-follows
 returns-in-Ok-clause-follows g c =

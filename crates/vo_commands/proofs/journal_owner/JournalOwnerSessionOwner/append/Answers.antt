@@ -1,6 +1,6 @@
 use Rattle.owner_journal.specs.Entries.{entries_of}
 use Rattle.vo_commands.proofs.OwnerLaws.{count_appended, versions_appended}
-use Rattle.vo_commands.proofs.journal_owner.JournalOwnerOwner.append.Goals as goal
+use Rattle.vo_commands.proofs.journal_owner.JournalOwnerSessionOwner.append.Goals as goal
 
 pub invariant_of-self-clause-count : goal.invariant_of-self-clause-count
 invariant_of-self-clause-count g c =
