@@ -1,0 +1,28 @@
+//! The answer to a line.
+use crate::file_checks::check_file;
+use crate::line::{Line, read_line};
+use crate::reply_checks::{check_both_ways, check_fronts};
+use crate::state::State;
+use line_pieces::NoAnswer;
+use std::io;
+
+/// The answer to a line.
+pub fn answer(rt: &HostRuntime, state: &mut State, line: &str) -> io::Result<String> {
+    match answer_line(rt, state, line) {
+        Ok(answer) => Ok(answer),
+        Err(fault) => Ok(format!(in rt.alloc(); "{fault}")?),
+    }
+}
+
+fn answer_line(rt: &HostRuntime, state: &mut State, line: &str) -> Result<String, NoAnswer> {
+    let alloc = rt.alloc();
+    match read_line(alloc, line)? {
+        Line::Key(bytes) => state.keep_key(alloc, &bytes),
+        Line::Query(text) => state.keep_query(alloc, &text),
+        Line::Reply(bytes) => state.keep_reply(alloc, bytes),
+        Line::Splice(splice) => state.splice_reply(alloc, &splice),
+        Line::Check(pieces) => check_both_ways(alloc, state, &pieces, &state.reply),
+        Line::Fronts(pieces) => check_fronts(alloc, state, &pieces),
+        Line::File(pieces) => check_file(rt, state, &pieces),
+    }
+}

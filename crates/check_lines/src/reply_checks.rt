@@ -1,0 +1,106 @@
+//! The checks of a reply that is at hand, whole and in pieces.
+use crate::check_faults::form_of_fault;
+use crate::line::Pieces;
+use crate::state::State;
+use line_pieces::{NoAnswer, form_of};
+use std::alloc::{AllocError, Global};
+use vo_check::{Answer, CheckFault, Checking, Client};
+
+/// The answers to the reply's shorter fronts: how many have that of the first one, and what the
+/// next one has.
+pub fn check_fronts(alloc: Global, state: &State, pieces: &Pieces) -> Result<String, NoAnswer> {
+    let first = check_both_ways(alloc, state, pieces, &[])?;
+    for length in 1..state.reply.len() {
+        let answer = check_both_ways(alloc, state, pieces, &state.reply[..length])?;
+        if answer != first {
+            return Ok(format!(in alloc; "{length} * {first}, then {answer}")?);
+        }
+    }
+    Ok(format!(in alloc; "{} * {first}", state.reply.len())?)
+}
+
+/// The answer to a reply, or both where it has another one in pieces.
+pub fn check_both_ways(
+    alloc: Global,
+    state: &State,
+    pieces: &Pieces,
+    reply: &[u8],
+) -> Result<String, NoAnswer> {
+    let whole = check_whole(alloc, state, pieces.least, reply)?;
+    let in_pieces = check_in_pieces(alloc, state, pieces, reply)?;
+    if whole == in_pieces {
+        Ok(whole)
+    } else {
+        Ok(format!(in alloc; "whole {whole} pieces {in_pieces}")?)
+    }
+}
+
+fn check_whole(alloc: Global, state: &State, least: u64, reply: &[u8]) -> Result<String, NoAnswer> {
+    let mut client = Client::new(state.key()?, least);
+    let answer = client.check_whole(alloc, state.query()?, reply);
+    answer_text(alloc, &client, &answer)
+}
+
+fn check_in_pieces(
+    alloc: Global,
+    state: &State,
+    pieces: &Pieces,
+    reply: &[u8],
+) -> Result<String, NoAnswer> {
+    let mut client = Client::new(state.key()?, pieces.least);
+    let mut checking = client.begin(alloc, state.query()?);
+    feed_pieces(alloc, &mut checking, &pieces.sizes, reply)?;
+    let answer = checking.end(alloc, &mut client);
+    answer_text(alloc, &client, &answer)
+}
+
+fn feed_pieces(
+    alloc: Global,
+    checking: &mut Checking<'_>,
+    sizes: &[usize],
+    reply: &[u8],
+) -> Result<(), AllocError> {
+    let mut left = reply;
+    // A round takes a byte at least.
+    for _ in 0..reply.len() {
+        if left.is_empty() {
+            break;
+        }
+        left = feed_round(alloc, checking, sizes, left)?;
+    }
+    Ok(())
+}
+
+/// Feeds a piece of each size, and has what is left.
+fn feed_round<'b>(
+    alloc: Global,
+    checking: &mut Checking<'_>,
+    sizes: &[usize],
+    bytes: &'b [u8],
+) -> Result<&'b [u8], AllocError> {
+    let mut left = bytes;
+    for size in sizes {
+        let (piece, behind) = left.split_at(left.len().min(*size));
+        checking.feed(alloc, piece)?;
+        left = behind;
+    }
+    Ok(left)
+}
+
+/// What the client answered, and the least version that it takes now.
+pub fn answer_text(
+    alloc: Global,
+    client: &Client,
+    answer: &Result<Answer, CheckFault>,
+) -> Result<String, NoAnswer> {
+    let form = match answer {
+        Ok(answer) => form_of_answer(alloc, answer)?,
+        Err(fault) => form_of_fault(alloc, fault)?,
+    };
+    Ok(format!(in alloc; "{form} least {}", client.least())?)
+}
+
+fn form_of_answer(alloc: Global, answer: &Answer) -> Result<String, AllocError> {
+    let outcome = form_of(alloc, &answer.outcome)?;
+    format!(in alloc; "(answer {} {outcome})", answer.version)
+}
