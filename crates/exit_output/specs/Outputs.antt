@@ -1,6 +1,6 @@
 -- Exit statuses with what is written last.
 use Rattle.std.specs.Prelude.{◌≡◌, ◌⊎◌, ℕ, List, [], ◌∷◌, ◌++◌, take, codes, Option}
-use Rattle.outside.specs.Sink.{added}
+use Rattle.outside.specs.Sink.{append_known}
 
 -- an exit status, and what is written last
 pub record Output : Type 0 where
@@ -19,6 +19,6 @@ outside_failure = record { status = 3; bytes = line (codes "fault: outside") }
 -- of it was; or memory ran out, and nothing was.
 abbrev pub Writes : Output → Type 0 → ℕ → Option (List ℕ) → Option (List ℕ) → Type 0
 Writes output OutRose status before after =
-    ((status ≡ output.status) × (after ≡ added before output.bytes))
-    ⊎ ((status ≡ 3) × OutRose × ((n : ℕ) × (after ≡ added before (take n output.bytes))))
+    ((status ≡ output.status) × (after ≡ append_known before output.bytes))
+    ⊎ ((status ≡ 3) × OutRose × ((n : ℕ) × (after ≡ append_known before (take n output.bytes))))
     ⊎ ((status ≡ 4) × (after ≡ before))

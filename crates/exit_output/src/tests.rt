@@ -7,6 +7,6 @@ use std::test::Fail;
 fn writes_the_bytes_and_gives_their_status(rt: HostRuntime) -> Result<(), Fail> {
     let mut out = MemSink::new(rt.alloc(), Never);
     assert_eq!(rt; write_output(&mut out, 7, b"bad journal 0\n"), 7);
-    assert_eq!(rt; out.written(), b"bad journal 0\n".as_slice());
+    assert_eq!(rt; out.contents(), b"bad journal 0\n".as_slice());
     Ok(())
 }

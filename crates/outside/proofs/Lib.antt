@@ -1,5 +1,5 @@
 pub mod LostBytes
-pub mod Logged
+pub mod LogLaws
 pub mod MomentLaws
 pub mod RoomLaws
 pub mod Replays

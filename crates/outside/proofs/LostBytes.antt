@@ -22,20 +22,20 @@ image_with down lost image is = record {
 }
 
 -- what was down with some bytes changed, and behind it the lost ones as far as the writes reach
-abbrev joined : ℕ → ℕ → List ℕ → List ℕ → List ℕ
-joined old end lost front = front ++ take (end - length front) (drop (min old (length lost)) lost)
+abbrev front_with_lost : ℕ → ℕ → List ℕ → List ℕ → List ℕ
+front_with_lost old end lost front = front ++ take (end - length front) (drop (min old (length lost)) lost)
 
-length-joined : (old end : ℕ) (lost front : List ℕ) → length front ≡ old → old ≤ end
-    → length (joined old end lost front) ≡ max old (min (length lost) end)
-length-joined old end lost front long reach = simp (length-append, length-take, length-drop) (omega arith)
+length-front_with_lost : (old end : ℕ) (lost front : List ℕ) → length front ≡ old → old ≤ end
+    → length (front_with_lost old end lost front) ≡ max old (min (length lost) end)
+length-front_with_lost old end lost front long reach = simp (length-append, length-take, length-drop) (omega arith)
 
-front-joined : (old end : ℕ) (lost front : List ℕ) (k : ℕ) → k < length front → get_or (joined old end lost front) k 0 ≡ get_or front k 0
-front-joined old end lost front k before = search (rules, places)
+front-front_with_lost : (old end : ℕ) (lost front : List ℕ) (k : ℕ) → k < length front → get_or (front_with_lost old end lost front) k 0 ≡ get_or front k 0
+front-front_with_lost old end lost front k before = search (rules, places)
 
 -- past what was down a byte is the lost one of its place
-past-joined : (old end : ℕ) (lost front : List ℕ) (k : ℕ) → length front ≡ old → old ≤ k → k < max old (min (length lost) end)
-    → get_or (joined old end lost front) k 0 ≡ get_or lost k 0
-past-joined old end lost front k long past within = search (rules, places)
+past-front_with_lost : (old end : ℕ) (lost front : List ℕ) (k : ℕ) → length front ≡ old → old ≤ k → k < max old (min (length lost) end)
+    → get_or (front_with_lost old end lost front) k 0 ≡ get_or lost k 0
+past-front_with_lost old end lost front k long past within = search (rules, places)
 
 byte-past : (inside written past : Bool) (lost down : ℕ) → inside ≡ true → past ≡ true
     → lost ≡ cond (inside && (written || past)) lost down
@@ -57,19 +57,19 @@ joined_image down lost front image n from long bytes same =
     end : ℕ
     end = furthest old down.ranges
 
-    image_is : image ≡ joined old end lost front
+    image_is : image ≡ front_with_lost old end lost front
     image_is =
         same ∙ ap (λ (t : List ℕ). front ++ take (end - length front) t)
         (take_all (length lost - n) (drop n lost) (simp length-drop (omega arith)) ∙ ap (λ (m : ℕ). drop m lost) from)
 
     length_is : length image ≡ max old (min (length lost) end)
-    length_is = ap length image_is ∙ length-joined old end lost front long (furthest_from old down.ranges)
+    length_is = ap length image_is ∙ length-front_with_lost old end lost front long (furthest_from old down.ranges)
 
     by_side : (k : ℕ) → k < max old (min (length lost) end) → (k < old) ⊎ (old ≤ k) → get_or image k 0 ≡ byte_after down lost k
     by_side k within (inl before) =
-        ap (λ (t : List ℕ). get_or t k 0) image_is ∙ front-joined old end lost front k (omega arith) ∙ bytes k before
+        ap (λ (t : List ℕ). get_or t k 0) image_is ∙ front-front_with_lost old end lost front k (omega arith) ∙ bytes k before
     by_side k within (inr past) =
         let inside : nat_lt k (length lost) ≡ true = grind (arith, nat_tests) in
         let behind : nat_le old k ≡ true = grind (arith, nat_tests) in
-        ap (λ (t : List ℕ). get_or t k 0) image_is ∙ past-joined old end lost front k long past within
+        ap (λ (t : List ℕ). get_or t k 0) image_is ∙ past-front_with_lost old end lost front k long past within
         ∙ byte-past (nat_lt k (length lost)) (is_written k down.ranges) (nat_le old k) (get_or lost k 0) (get_or down.contents k 0) inside behind

@@ -2,8 +2,8 @@
 use Rattle.std.proofs.Common.{◌≡◌, ℕ, ◌+◌, ◌≤◌, ◌⊎◌, inl, inr, List, [], ◌∷◌, ◌++◌, length, take, Option, Some, None, refl, sym, ap, subst, ◌∙◌, append_assoc, append-nil, arith}
 use Rattle.std.proofs.lemmas.List.{take_all, take-append-le, length-append, ext_get_or}
 use Rattle.std.proofs.lemmas.List.Sums.{fold-append}
-use Rattle.outside.specs.DiskModel.{Call, Wrote, Synced, DiskModel, Down, IsImage, MayLeave, LeftSince, crashed_at, now, down_after, overwrite_at, write_leaving, write_on, sync_now, torn, wrote}
-use Rattle.outside.specs.Moments.{IsDown, Torn, LeavesOnly, IfKnown, written_down}
+use Rattle.outside.specs.DiskModel.{Call, Wrote, Synced, DiskModel, Down, IsImage, MayLeave, LeftSince, crashed_at, now, down_after, overwrite_at, write_leaving, write_on, sync_now, fail_write_known, write_known}
+use Rattle.outside.specs.Moments.{IsDown, IsTornImage, LeavesOnly, IfKnown, persist_known}
 use Rattle.outside.specs.ImageLaws.{after_write}
 
 -- Moments of a disk and of what it becomes.
@@ -99,33 +99,33 @@ seen_left drive down = subst (λ (d : Down). IsImage d drive.seen) (sym down) (r
 
 -- Writes over what was down.
 
-pub torn_whole : (place count : ℕ) (contents : List ℕ) → Torn place count contents contents
+pub torn_whole : (place count : ℕ) (contents : List ℕ) → IsTornImage place count contents contents
 torn_whole place count contents = record { no_shorter = omega arith; no_longer = omega arith; stays = λ k within free. refl }
 
 -- a write whose front was kept, and then nothing else
-pub torn_written : (place : ℕ) (piece contents : List ℕ) → Torn place (length piece) contents (overwrite_at place piece contents)
+pub torn_written : (place : ℕ) (piece contents : List ℕ) → IsTornImage place (length piece) contents (overwrite_at place piece contents)
 torn_written place piece contents =
     after_write (record { contents = contents; ranges = [] }) contents piece place (length piece) (omega arith)
     (record { no_shorter = omega arith; no_longer = omega arith; stays = λ k within free. refl })
 
-torn_after : (drive : DiskModel) (place count : ℕ) (seen : List ℕ) → IsDown drive → (image : List ℕ) → MayLeave (write_leaving place count seen drive) image → Torn place count drive.seen image
+torn_after : (drive : DiskModel) (place count : ℕ) (seen : List ℕ) → IsDown drive → (image : List ℕ) → MayLeave (write_leaving place count seen drive) image → IsTornImage place count drive.seen image
 torn_after drive place count seen down image left =
     let is = one_call drive (write_leaving place count seen drive) (Wrote place count) refl refl in
     subst (λ (d : Down). IsImage d image) (is ∙ ap (λ (d : Down). down_after d (Wrote place count)) down) left
 
-torn_before : (drive : DiskModel) (place count : ℕ) → IsDown drive → (image : List ℕ) → MayLeave drive image → Torn place count drive.seen image
+torn_before : (drive : DiskModel) (place count : ℕ) → IsDown drive → (image : List ℕ) → MayLeave drive image → IsTornImage place count drive.seen image
 torn_before drive place count down image left =
-    subst (Torn place count drive.seen) (sym (only_seen drive image down left)) (torn_whole place count drive.seen)
+    subst (IsTornImage place count drive.seen) (sym (only_seen drive image down left)) (torn_whole place count drive.seen)
 
-write_leaves : (drive : DiskModel) (place count : ℕ) (seen : List ℕ) → IsDown drive → LeavesOnly drive (write_leaving place count seen drive) (Torn place count drive.seen)
+write_leaves : (drive : DiskModel) (place count : ℕ) (seen : List ℕ) → IsDown drive → LeavesOnly drive (write_leaving place count seen drive) (IsTornImage place count drive.seen)
 write_leaves drive place count seen down =
-    one_more drive (write_leaving place count seen drive) (Wrote place count) (Torn place count drive.seen) refl refl
+    one_more drive (write_leaving place count seen drive) (Wrote place count) (IsTornImage place count drive.seen) refl refl
     (torn_before drive place count down) (torn_after drive place count seen down)
 
-down_leaves : (drive : DiskModel) (place : ℕ) (piece : List ℕ) → IsDown drive → LeavesOnly drive (sync_now (write_on place piece drive)) (Torn place (length piece) drive.seen)
+down_leaves : (drive : DiskModel) (place : ℕ) (piece : List ℕ) → IsDown drive → LeavesOnly drive (sync_now (write_on place piece drive)) (IsTornImage place (length piece) drive.seen)
 down_leaves drive place piece down =
     let mid : DiskModel = write_on place piece drive in
-    let P = Torn place (length piece) drive.seen in
+    let P = IsTornImage place (length piece) drive.seen in
     joins drive mid (sync_now mid) P (write_leaves drive place (length piece) mid.seen down)
     (one_more mid (sync_now mid) (Synced mid.seen) P refl refl (torn_after drive place (length piece) mid.seen down)
     (λ image left. subst P (sym (only_seen (sync_now mid) image (synced_down mid) left)) (torn_written place piece drive.seen)))
@@ -133,32 +133,32 @@ down_leaves drive place piece down =
 -- The same of a disk that may be unknown, by how a write that is to be put down ends.
 
 abbrev pub TearsOnly : ℕ → ℕ → Option DiskModel → Option DiskModel → Type 0
-TearsOnly place count old new = IfKnown old new (λ before after. IsDown before → LeavesOnly before after (Torn place count before.seen))
+TearsOnly place count old new = IfKnown old new (λ before after. IsDown before → LeavesOnly before after (IsTornImage place count before.seen))
 
 known : (old new : DiskModel) → Some new ≡ Some old → old ≡ new
 known old new same = cc
 
-pub tears_failed : (old new : Option DiskModel) (place count : ℕ) (seen : List ℕ) → new ≡ torn place count seen old → TearsOnly place count old new
+pub tears_failed : (old new : Option DiskModel) (place count : ℕ) (seen : List ℕ) → new ≡ fail_write_known place count seen old → TearsOnly place count old new
 tears_failed None None place count seen same = tt
 tears_failed None (Some new) place count seen same = absurd (cc)
 tears_failed (Some old) None place count seen same = absurd (cc)
 tears_failed (Some old) (Some new) place count seen same = λ down.
-    subst (λ (d : DiskModel). LeavesOnly old d (Torn place count old.seen)) (known (write_leaving place count seen old) new same)
+    subst (λ (d : DiskModel). LeavesOnly old d (IsTornImage place count old.seen)) (known (write_leaving place count seen old) new same)
     (write_leaves old place count seen down)
 
-pub tears_down : (old new : Option DiskModel) (place : ℕ) (piece : List ℕ) → new ≡ written_down place piece old → TearsOnly place (length piece) old new
+pub tears_down : (old new : Option DiskModel) (place : ℕ) (piece : List ℕ) → new ≡ persist_known place piece old → TearsOnly place (length piece) old new
 tears_down None None place piece same = tt
 tears_down None (Some new) place piece same = absurd (cc)
 tears_down (Some old) None place piece same = absurd (cc)
 tears_down (Some old) (Some new) place piece same = λ down.
-    subst (λ (d : DiskModel). LeavesOnly old d (Torn place (length piece) old.seen)) (known (sync_now (write_on place piece old)) new same)
+    subst (λ (d : DiskModel). LeavesOnly old d (IsTornImage place (length piece) old.seen)) (known (sync_now (write_on place piece old)) new same)
     (down_leaves old place piece down)
 
 -- a write that went well, and wasn't put down
-pub tears_written : (old new : Option DiskModel) (place : ℕ) (piece : List ℕ) → new ≡ wrote place piece old → TearsOnly place (length piece) old new
+pub tears_written : (old new : Option DiskModel) (place : ℕ) (piece : List ℕ) → new ≡ write_known place piece old → TearsOnly place (length piece) old new
 tears_written None None place piece same = tt
 tears_written None (Some new) place piece same = absurd (cc)
 tears_written (Some old) None place piece same = absurd (cc)
 tears_written (Some old) (Some new) place piece same = λ down.
-    subst (λ (d : DiskModel). LeavesOnly old d (Torn place (length piece) old.seen)) (known (write_on place piece old) new same)
+    subst (λ (d : DiskModel). LeavesOnly old d (IsTornImage place (length piece) old.seen)) (known (write_on place piece old) new same)
     (write_leaves old place (length piece) (overwrite_at place piece old.seen) down)

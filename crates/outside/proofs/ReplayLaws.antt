@@ -5,7 +5,7 @@ use Rattle.std.proofs.lemmas.List.Sums.{fold-append}
 use Rattle.outside.specs.DiskModel.{Down, IsImage, LeftSince, crashed_at, down_after}
 use Rattle.outside.specs.Done.{seen_next, call_of, seen_after, calls_after}
 use Rattle.outside.specs.declared.mem_disk.done.Done.{Done}
-use Rattle.outside.proofs.Logged.{calls_push, calls_length}
+use Rattle.outside.proofs.LogLaws.{calls_push, calls_length}
 
 -- what was down, and is written over, after these calls
 abbrev pub crash_state : List ℕ → List ℕ → List Done → Down

@@ -22,8 +22,8 @@ abbrev pub send_on : List ℕ → ConnectionModel → ConnectionModel
 send_on piece wire = record wire { sent = wire.sent ++ piece }
 
 -- the connection, if one stands, is ended, and what was put on it is kept
-abbrev pub shut : ConnectionModel → ConnectionModel
-shut wire = record wire {
+abbrev pub close_wire : ConnectionModel → ConnectionModel
+close_wire wire = record wire {
   stands = false;
   coming = [];
   sent = [];
@@ -32,7 +32,7 @@ shut wire = record wire {
 
 -- the first connection to come stands, and any that stood before is ended
 abbrev pub open_next : ConnectionModel → ConnectionModel
-open_next wire = record (shut wire) {
+open_next wire = record (close_wire wire) {
   stands = true;
   coming = slice_index_or wire.queue 0 [];
   queue = drop 1 wire.queue;
@@ -42,14 +42,14 @@ abbrev pub has_next : ConnectionModel → Bool
 has_next wire = nat_lt 0 (length wire.queue)
 
 -- the same, where the wire is known
-abbrev pub got : ℕ → Option ConnectionModel → Option ConnectionModel
-got n wire = option_map (take_from n) wire
+abbrev pub take_known : ℕ → Option ConnectionModel → Option ConnectionModel
+take_known n wire = option_map (take_from n) wire
 
-abbrev pub sent_on : List ℕ → Option ConnectionModel → Option ConnectionModel
-sent_on piece wire = option_map (send_on piece) wire
+abbrev pub send_known : List ℕ → Option ConnectionModel → Option ConnectionModel
+send_known piece wire = option_map (send_on piece) wire
 
 abbrev pub close_known : Option ConnectionModel → Option ConnectionModel
-close_known wire = option_map shut wire
+close_known wire = option_map close_wire wire
 
 abbrev pub open_known : Option ConnectionModel → Option ConnectionModel
 open_known wire = option_map open_next wire

@@ -43,14 +43,14 @@ abbrev pub sync_now : DiskModel → DiskModel
 sync_now drive = record drive { calls = drive.calls ++ Synced drive.seen ∷ [] }
 
 -- the same, where the disk is known
-abbrev pub torn : ℕ → ℕ → List ℕ → Option DiskModel → Option DiskModel
-torn place count seen drive = option_map (write_leaving place count seen) drive
+abbrev pub fail_write_known : ℕ → ℕ → List ℕ → Option DiskModel → Option DiskModel
+fail_write_known place count seen drive = option_map (write_leaving place count seen) drive
 
-abbrev pub wrote : ℕ → List ℕ → Option DiskModel → Option DiskModel
-wrote place piece drive = option_map (write_on place piece) drive
+abbrev pub write_known : ℕ → List ℕ → Option DiskModel → Option DiskModel
+write_known place piece drive = option_map (write_on place piece) drive
 
-abbrev pub put_down : Option DiskModel → Option DiskModel
-put_down drive = option_map sync_now drive
+abbrev pub sync_known : Option DiskModel → Option DiskModel
+sync_known drive = option_map sync_now drive
 
 -- room for contents up to end, and for so many writes and syncs that write so many bytes in all
 pub record HasRoom (end bytes calls : ℕ) (room : Room) : Type 0 where

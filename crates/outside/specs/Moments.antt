@@ -1,15 +1,15 @@
 -- What crashes may leave while calls go on.
 use Rattle.std.specs.Prelude.{◌≡◌, ℕ, List, [], ◌∷◌, ◌++◌, Option, Some, None}
 use Rattle.outside.specs.declared.room.Room.{Room}
-use Rattle.outside.specs.DiskModel.{Call, DiskModel, IsImage, LeftSince, crashed_at, now, wrote, put_down, room_after}
+use Rattle.outside.specs.DiskModel.{Call, DiskModel, IsImage, LeftSince, crashed_at, now, write_known, sync_known, room_after}
 
 -- nothing was written since the last sync: a crash now leaves what reads give
 abbrev pub IsDown : DiskModel → Type 0
 IsDown drive = crashed_at drive (now drive) ≡ record { contents = drive.seen; ranges = [] }
 
 -- what a crash may leave while count bytes are written from a place on over these, which were down
-abbrev pub Torn : ℕ → ℕ → List ℕ → List ℕ → Type 0
-Torn place count contents image =
+abbrev pub IsTornImage : ℕ → ℕ → List ℕ → List ℕ → Type 0
+IsTornImage place count contents image =
     IsImage (record { contents = contents; ranges = (place, count) ∷ [] }) image
 
 -- The later disk is the earlier one and some calls more, and a crash at any moment since leaves
@@ -27,8 +27,8 @@ IfKnown None (Some after) R = ⊥
 IfKnown (Some before) None R = ⊥
 
 -- a piece was written, and then put down
-abbrev pub written_down : ℕ → List ℕ → Option DiskModel → Option DiskModel
-written_down place piece drive = put_down (wrote place piece drive)
+abbrev pub persist_known : ℕ → List ℕ → Option DiskModel → Option DiskModel
+persist_known place piece drive = sync_known (write_known place piece drive)
 
 -- what that leaves of the room, where it is known
 abbrev pub room_down : ℕ → Option Room → Option Room

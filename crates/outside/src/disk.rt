@@ -1,7 +1,7 @@
 //! A device that keeps one file through crashes.
 ghost use Rattle.std.specs.Prelude.{◌≡◌, ℕ, ◌+◌, ◌≤◌, List, length, take, drop, Option, IfSome, IfOk, OnOk, OnErr, IsErr};
 ghost use Rattle.outside.specs.declared.room.Room.{Room};
-ghost use Rattle.outside.specs.DiskModel.{DiskModel, HasRoom, NoLess, MayLeave, wrote, torn, put_down, room_after};
+ghost use Rattle.outside.specs.DiskModel.{DiskModel, HasRoom, NoLess, MayLeave, write_known, fail_write_known, sync_known, room_after};
 ghost use Rattle.outside.specs.FaultRose.{FaultRose};
 
 use crate::faults::Failed;
@@ -40,9 +40,9 @@ pub trait Disk {
     fn write_at(&mut self, at: u64, piece: &[u8]) -> Result<(), Failed>
         requires { IfSome (room self.old)
             (HasRoom (at + length piece.now) (length piece.now) 1) }
-        ensures ok { OnOk result (drive self.new ≡ wrote at piece.now (drive self.old)) }
+        ensures ok { OnOk result (drive self.new ≡ write_known at piece.now (drive self.old)) }
         ensures err { OnErr result ((seen : List ℕ)
-            × (drive self.new ≡ torn at (length piece.now) seen (drive self.old))) }
+            × (drive self.new ≡ fail_write_known at (length piece.now) seen (drive self.old))) }
         ensures room { room self.new ≡ room_after (length piece.now) (room self.old) }
         ensures counts { faults self.old ≤ faults self.new }
         ensures cause { IsErr result → FaultRose (faults self.old) (faults self.new) };
@@ -50,7 +50,7 @@ pub trait Disk {
     /// Puts down what was written, so that a crash leaves what reads give.
     fn sync(&mut self) -> Result<(), Failed>
         requires { IfSome (room self.old) (HasRoom 0 0 1) }
-        ensures ok { OnOk result (drive self.new ≡ put_down (drive self.old)) }
+        ensures ok { OnOk result (drive self.new ≡ sync_known (drive self.old)) }
         ensures err { OnErr result (drive self.new ≡ drive self.old) }
         ensures room { room self.new ≡ room_after 0 (room self.old) }
         ensures counts { faults self.old ≤ faults self.new }

@@ -2,7 +2,7 @@
 ghost use Rattle.std.specs.Prelude.{◌≡◌, ℕ, ◌≤◌, Option, false, length, take, IfSome, IfOk, OnOk, OnErr, IsErr, IsErrOf};
 ghost use Rattle.outside.specs.Miss.{CountsMiss};
 ghost use Rattle.outside.specs.FaultRose.{FaultRose};
-ghost use Rattle.outside.specs.ConnectionModel.{ConnectionModel, Gets, got, sent_on};
+ghost use Rattle.outside.specs.ConnectionModel.{ConnectionModel, Gets, take_known, send_known};
 
 use crate::faults::{Failed, PutFault};
 
@@ -24,7 +24,7 @@ pub trait Link {
         ensures some { IfOk result (λ n. n ≤ length into.old) }
         ensures taken { IfOk result
             (λ n. IfSome (wire self.old) (λ wire. Gets n wire.coming into.old into.new)) }
-        ensures ok { IfOk result (λ n. wire self.new ≡ got n (wire self.old)) }
+        ensures ok { IfOk result (λ n. wire self.new ≡ take_known n (wire self.old)) }
         ensures err { OnErr result (wire self.new ≡ wire self.old) }
         ensures down { IfSome (wire self.old) (λ wire. wire.stands ≡ false → IsErr result) }
 
@@ -34,9 +34,9 @@ pub trait Link {
             (λ wire. CountsMiss wire.stands (misses self.old) (misses self.new)) };
 
     fn put(&mut self, piece: &[u8]) -> Result<(), PutFault>
-        ensures ok { OnOk result (wire self.new ≡ sent_on piece.now (wire self.old)) }
+        ensures ok { OnOk result (wire self.new ≡ send_known piece.now (wire self.old)) }
         ensures failed { IsErrOf result PutFault.Failed
-            → ((n : ℕ) × (wire self.new ≡ sent_on (take n piece.now) (wire self.old))) }
+            → ((n : ℕ) × (wire self.new ≡ send_known (take n piece.now) (wire self.old))) }
         ensures memory { IsErrOf result PutFault.Memory → wire self.new ≡ wire self.old }
         ensures down { IfSome (wire self.old)
             (λ wire. wire.stands ≡ false → IsErrOf result PutFault.Failed) }

@@ -61,14 +61,14 @@ impl<P: Failures> MemDisk<P> {
     }
 
     /// What reads give.
-    pub fn seen(&self) -> &[u8]
+    pub fn contents(&self) -> &[u8]
         ensures { result.now ≡ (drive_of self.now).seen }
     {
         self.seen.as_slice()
     }
 
     /// How many writes and syncs were kept: the number of this moment.
-    #[tactic(auto, using(crate::proofs::Logged::calls_length))]
+    #[tactic(auto, using(crate::proofs::LogLaws::calls_length))]
     pub fn moment(&self) -> usize
         ensures { result ≡ now (drive_of self.now) }
     {
@@ -113,7 +113,7 @@ impl<P: Failures> MemDisk<P> {
     }
 
     /// Writes a front of a piece, the rest of which is lost.
-    #[tactic(auto, using(crate::proofs::Logged::seen_write, crate::proofs::Logged::calls_write, crate::proofs::Logged::within_write))]
+    #[tactic(auto, using(crate::proofs::LogLaws::seen_write, crate::proofs::LogLaws::calls_write, crate::proofs::LogLaws::within_write))]
     fn write_front(&mut self, at: u64, front: &[u8], lost: usize)
         requires { HasRoom (at + (length front.now + lost)) (length front.now + lost) 1
             (room_of self.old) }
@@ -219,7 +219,7 @@ impl<P: Failures> Disk for MemDisk<P> {
         }
     }
 
-    #[tactic(auto, using(crate::proofs::Logged::calls_push))]
+    #[tactic(auto, using(crate::proofs::LogLaws::calls_push))]
     fn sync(&mut self) -> Result<(), Failed>
         requires { HasRoom 0 0 1 (room_of self.old) }
         ensures ok { OnOk result (drive_of self.new ≡ sync_now (drive_of self.old)) }

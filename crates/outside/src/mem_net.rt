@@ -4,7 +4,7 @@ ghost use Rattle.std.specs.VecDeque.{deque_len};
 ghost use Rattle.outside.specs.Failure.{PutsFront, front_of};
 ghost use Rattle.outside.specs.Miss.{CountsMiss};
 ghost use Rattle.outside.specs.FaultRose.{FaultRose};
-ghost use Rattle.outside.specs.ConnectionModel.{Gets, take_from, send_on, shut, open_next, has_next};
+ghost use Rattle.outside.specs.ConnectionModel.{Gets, take_from, send_on, close_wire, open_next, has_next};
 
 use crate::failures::Failures;
 use crate::faults::{Failed, PutFault};
@@ -287,7 +287,7 @@ impl<P: Failures> Net for MemNet<P> {
     }
 
     fn close(&mut self)
-        ensures closed { wire_of self.new ≡ shut (wire_of self.old) }
+        ensures closed { wire_of self.new ≡ close_wire (wire_of self.old) }
         ensures misses { misses_of self.new ≡ misses_of self.old }
         ensures most { most_of self.new ≡ most_of self.old }
         ensures plan { plan_of self.new ≡ plan_of self.old }

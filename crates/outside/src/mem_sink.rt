@@ -28,7 +28,7 @@ impl<P: Failures> MemSink<P> {
         }
     }
 
-    pub fn written(&self) -> &[u8]
+    pub fn contents(&self) -> &[u8]
         ensures { result.now ≡ written_of self.now }
     {
         self.written.as_slice()

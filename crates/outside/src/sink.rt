@@ -1,7 +1,7 @@
 //! Where output goes.
 ghost use Rattle.std.specs.Prelude.{◌≡◌, ℕ, ◌≤◌, Option, List, take, OnOk, IsErrOf};
 ghost use Rattle.outside.specs.FaultRose.{FaultRose};
-ghost use Rattle.outside.specs.Sink.{added};
+ghost use Rattle.outside.specs.Sink.{append_known};
 
 use crate::faults::PutFault;
 
@@ -14,9 +14,9 @@ pub trait Sink {
     ghost faults: { Self → ℕ };
 
     fn put(&mut self, piece: &[u8]) -> Result<(), PutFault>
-        ensures ok { OnOk result (written self.new ≡ added (written self.old) piece.now) }
+        ensures ok { OnOk result (written self.new ≡ append_known (written self.old) piece.now) }
         ensures failed { IsErrOf result PutFault.Failed
-            → ((n : ℕ) × (written self.new ≡ added (written self.old) (take n piece.now))) }
+            → ((n : ℕ) × (written self.new ≡ append_known (written self.old) (take n piece.now))) }
         ensures memory { IsErrOf result PutFault.Memory → written self.new ≡ written self.old }
 
         ensures counts { faults self.old ≤ faults self.new }

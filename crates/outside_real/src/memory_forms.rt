@@ -22,7 +22,7 @@ fn sink_fails_at_its_call(rt: HostRuntime) -> Result<(), Fail> {
     let mut sink = MemSink::new(rt.alloc(), fail_at(rt.alloc(), 1, 2)?);
     let put = (sink.put(b"ab"), sink.put(b"cde"), sink.put(b"f"));
     assert_eq!(rt;
-        (put, sink.written()),
+        (put, sink.contents()),
         ((Ok(()), Err(PutFault::Failed), Ok(())), b"abcdf".as_slice())
     );
     Ok(())
@@ -111,7 +111,7 @@ fn disk_writes_and_reads(rt: HostRuntime) -> Result<(), Fail> {
     let mut buffer = [0u8; 2];
     let read = (disk.read(2, &mut buffer), buffer);
     assert_eq!(rt;
-        (written, found, read, disk.seen()),
+        (written, found, read, disk.contents()),
         (
             (Ok(()), Ok(()), Ok(())),
             (Ok(7), 3),
@@ -128,7 +128,10 @@ fn disk_fails_at_its_call(rt: HostRuntime) -> Result<(), Fail> {
     let mut disk = MemDisk::new(rt.alloc(), bytes(rt.alloc(), "abc")?, failing)?;
     disk.reserve(4, 4, 1)?;
     let written = disk.write_at(0, b"ABCD");
-    assert_eq!(rt; (written, disk.seen()), (Err(Failed), b"Abc".as_slice()));
+    assert_eq!(rt;
+        (written, disk.contents()),
+        (Err(Failed), b"Abc".as_slice())
+    );
     Ok(())
 }
 

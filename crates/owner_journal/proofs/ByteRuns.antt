@@ -4,7 +4,7 @@ use Rattle.std.proofs.lemmas.Bool.Decides.{nat_tests}
 use Rattle.std.proofs.lemmas.List.{take_at, length-append, ext_get_or}
 use Rattle.std.proofs.lemmas.List.Prefix.{front_from_reads, front_reads}
 use Rattle.outside.specs.DiskModel.{overwrite_at, is_written}
-use Rattle.outside.specs.Moments.{Torn}
+use Rattle.outside.specs.Moments.{IsTornImage}
 use Rattle.std.proofs.Math.Seq.{drop-append-add}
 
 misses-below : (k place count : ℕ) → k < place → IsTrue (not (is_written k ((place, count) ∷ [])))
@@ -14,7 +14,7 @@ misses-above : (k place count : ℕ) → place + count ≤ k → IsTrue (not (is
 misses-above k place count le = grind (arith, nat_tests)
 
 -- what stands before a write that is cut short stays
-pub torn_front : (front tail image : List ℕ) (place count : ℕ) → length front ≤ place → Torn place count (front ++ tail) image → image ≡ front ++ drop (length front) image
+pub torn_front : (front tail image : List ℕ) (place count : ℕ) → length front ≤ place → IsTornImage place count (front ++ tail) image → image ≡ front ++ drop (length front) image
 torn_front front tail image place count before torn =
     let len = length-append front tail in
     front_from_reads 0 image front (omega (arith, torn.no_shorter, len))
@@ -34,7 +34,7 @@ three : (k n : ℕ) → (k < n) ⊎ ((k ≡ n) ⊎ (n < k))
 three k n = grind arith
 
 -- of a write of one byte that is cut short, all but that byte stays
-stays-at : (front : List ℕ) (byte : ℕ) (tail image : List ℕ) → Torn (length front) 1 (front ++ byte ∷ tail) image → (k : ℕ) → k < length image
+stays-at : (front : List ℕ) (byte : ℕ) (tail image : List ℕ) → IsTornImage (length front) 1 (front ++ byte ∷ tail) image → (k : ℕ) → k < length image
     → (k < length front) ⊎ ((k ≡ length front) ⊎ (length front < k)) → get_or image k 0 ≡ get_or (front ++ get_or image (length front) 0 ∷ tail) k 0
 stays-at front byte tail image torn k within (inl below) =
     torn.stays k (omega (arith, length-append front (byte ∷ tail))) (misses-below k (length front) 1 below)
@@ -48,7 +48,7 @@ stays-at front byte tail image torn k within (inr (inr above)) =
     torn.stays k (omega (arith, torn.no_longer, was)) (misses-above k (length front) 1 (omega arith))
     ∙ get-beyond front byte (get_or image (length front) 0) tail k above
 
-pub torn_byte : (front : List ℕ) (byte : ℕ) (tail image : List ℕ) → Torn (length front) 1 (front ++ byte ∷ tail) image → image ≡ front ++ get_or image (length front) 0 ∷ tail
+pub torn_byte : (front : List ℕ) (byte : ℕ) (tail image : List ℕ) → IsTornImage (length front) 1 (front ++ byte ∷ tail) image → image ≡ front ++ get_or image (length front) 0 ∷ tail
 torn_byte front byte tail image torn =
     let now : List ℕ = front ++ get_or image (length front) 0 ∷ tail in
     let was = length-append front (byte ∷ tail) in

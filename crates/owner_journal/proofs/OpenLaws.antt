@@ -2,8 +2,8 @@
 use Rattle.std.proofs.Common.{◌≡◌, ℕ, ◌<◌, ◌≤◌, inl, inr, List, [], ◌∷◌, length, drop, Option, Some, None, IfSome, Result, Ok, Err, IfErr, refl, sym, ap, subst, arith}
 use Rattle.vo_spec.specs.declared.records.Entry.{Entry}
 use Rattle.vo_spec.specs.Journals.{IsJournal}
-use Rattle.outside.specs.DiskModel.{DiskModel, MayLeave, Synced, sync_now, write_on, put_down}
-use Rattle.outside.specs.Moments.{IsDown, Torn, LeavesOnly, IfKnown, written_down}
+use Rattle.outside.specs.DiskModel.{DiskModel, MayLeave, Synced, sync_now, write_on, sync_known}
+use Rattle.outside.specs.Moments.{IsDown, IsTornImage, LeavesOnly, IfKnown, persist_known}
 use Rattle.outside.proofs.MomentLaws.{rests, weaker, joins, one_more, only_seen, synced_down}
 use Rattle.owner_journal.specs.declared.fault.JournalFault.{JournalFault}
 use Rattle.owner_journal.specs.declared.fault.JournalFault.TheVariants.{Disk, Damaged, Memory}
@@ -28,7 +28,7 @@ synced drive sees =
     one_more drive (sync_now drive) (Synced drive.seen) (MayLeave drive) refl refl (λ image left. left)
     (λ image left. subst (MayLeave drive) (sym (only_seen (sync_now drive) image (synced_down drive) left)) sees)
 
-pub sync_settles : (old new : Option DiskModel) → IfSome old (λ drive. MayLeave drive drive.seen) → new ≡ put_down old
+pub sync_settles : (old new : Option DiskModel) → IfSome old (λ drive. MayLeave drive drive.seen) → new ≡ sync_known old
     → IfKnown old new (λ before after. LeavesOnly before after (MayLeave before))
 sync_settles None None sees same = tt
 sync_settles None (Some new) sees same = absurd (cc)
@@ -48,20 +48,20 @@ settled_leaves (Some old) (Some new) leaves = weaker old new (MayLeave old) (Hol
 -- The first gate of an empty disk.
 
 -- while it is written, the disk holds no entries
-torn_empty : (contents image : List ℕ) → length contents < 2 → Torn 0 1 contents image → IsJournal image []
+torn_empty : (contents image : List ℕ) → length contents < 2 → IsTornImage 0 1 contents image → IsJournal image []
 torn_empty contents image short torn = inl (omega (arith, torn.no_longer, short))
 
 first_leaves : (old new : DiskModel) → MayLeave old old.seen → length old.seen < 2
-    → LeavesOnly old (sync_now old) (MayLeave old) → (IsDown (sync_now old) → LeavesOnly (sync_now old) new (Torn 0 1 old.seen)) → LeavesOnly old new (HoldsAsBefore old)
+    → LeavesOnly old (sync_now old) (MayLeave old) → (IsDown (sync_now old) → LeavesOnly (sync_now old) new (IsTornImage 0 1 old.seen)) → LeavesOnly old new (HoldsAsBefore old)
 first_leaves old new sees short first then =
     let P = HoldsAsBefore old in
     joins old (sync_now old) new P (weaker old (sync_now old) (MayLeave old) P (λ image left. inl left) first)
-    (weaker (sync_now old) new (Torn 0 1 old.seen) P
+    (weaker (sync_now old) new (IsTornImage 0 1 old.seen) P
     (λ image torn. inr (old.seen, sees, [], inl short, torn_empty old.seen image short torn)) (then (synced_down old)))
 
-pub first_gate_leaves : (old mid new : Option DiskModel) → IfSome old (λ drive. MayLeave drive drive.seen) → mid ≡ put_down old → IfSome old (λ drive. length drive.seen < 2)
+pub first_gate_leaves : (old mid new : Option DiskModel) → IfSome old (λ drive. MayLeave drive drive.seen) → mid ≡ sync_known old → IfSome old (λ drive. length drive.seen < 2)
     → IfKnown old mid (λ before after. LeavesOnly before after (MayLeave before))
-    → IfKnown mid new (λ before after. IsDown before → LeavesOnly before after (Torn 0 1 before.seen))
+    → IfKnown mid new (λ before after. IsDown before → LeavesOnly before after (IsTornImage 0 1 before.seen))
     → IfKnown old new (λ before after. LeavesOnly before after (HoldsAsBefore before))
 first_gate_leaves None None None sees same short first then = tt
 first_gate_leaves None None (Some new) sees same short first then = absurd then
@@ -71,7 +71,7 @@ first_gate_leaves (Some old) (Some mid) None sees same short first then = absurd
 first_gate_leaves (Some old) (Some mid) (Some new) sees same short first then =
     let is : mid ≡ sync_now old = sym (known (sync_now old) mid same) in
     first_leaves old new sees short (subst (λ (d : DiskModel). LeavesOnly old d (MayLeave old)) is first)
-    (subst (λ (d : DiskModel). IsDown d → LeavesOnly d new (Torn 0 1 d.seen)) is then)
+    (subst (λ (d : DiskModel). IsDown d → LeavesOnly d new (IsTornImage 0 1 d.seen)) is then)
 
 -- At the end.
 
@@ -82,7 +82,7 @@ first_rests old = record {
   end = (0 ∷ drop 1 old.seen, (λ same. omega (arith, same)), written_over [] (0 ∷ []) old.seen);
 }
 
-pub first_gate_rests : (old new : Option DiskModel) → new ≡ written_down 0 (0 ∷ []) (put_down old) → IfSome new (IsAtRest [])
+pub first_gate_rests : (old new : Option DiskModel) → new ≡ persist_known 0 (0 ∷ []) (sync_known old) → IfSome new (IsAtRest [])
 first_gate_rests None None same = tt
 first_gate_rests None (Some new) same = absurd (cc)
 first_gate_rests (Some old) None same = absurd (cc)
@@ -93,7 +93,7 @@ journal_rests old [] long (inl short) = absurd (omega (arith, long, short))
 journal_rests old [] long (inr shut) = record { down = synced_down old; fits = tt; end = (old.seen, shut, refl) }
 journal_rests old (e ∷ es) long j = record { down = synced_down old; fits = j.0; end = (j.1, j.2, j.3) }
 
-pub read_rests : (old new : Option DiskModel) (es : List Entry) → new ≡ put_down old → IfSome old (λ drive. 2 ≤ length drive.seen) → IfSome old (λ drive. IsJournal drive.seen es)
+pub read_rests : (old new : Option DiskModel) (es : List Entry) → new ≡ sync_known old → IfSome old (λ drive. 2 ≤ length drive.seen) → IfSome old (λ drive. IsJournal drive.seen es)
     → IfSome new (IsAtRest es)
 read_rests None None es same long j = tt
 read_rests None (Some new) es same long j = absurd (cc)
@@ -105,13 +105,13 @@ some_holds None es rest = tt
 some_holds (Some drive) es rest = rest_holds es drive rest
 
 -- what is said of the contents stays true of them once they are put down
-pub seen_down : (old new : Option DiskModel) (P : List ℕ → Type 0) → new ≡ put_down old → IfSome new (λ drive. P drive.seen) → IfSome old (λ drive. P drive.seen)
+pub seen_down : (old new : Option DiskModel) (P : List ℕ → Type 0) → new ≡ sync_known old → IfSome new (λ drive. P drive.seen) → IfSome old (λ drive. P drive.seen)
 seen_down None new P same holds = tt
 seen_down (Some old) None P same holds = absurd (cc)
 seen_down (Some old) (Some new) P same holds =
     subst P (sym (ap (λ (d : DiskModel). d.seen) (known (sync_now old) new same))) holds
 
-pub down_seen : (old new : Option DiskModel) (P : List ℕ → Type 0) → new ≡ put_down old → IfSome old (λ drive. P drive.seen) → IfSome new (λ drive. P drive.seen)
+pub down_seen : (old new : Option DiskModel) (P : List ℕ → Type 0) → new ≡ sync_known old → IfSome old (λ drive. P drive.seen) → IfSome new (λ drive. P drive.seen)
 down_seen old None P same holds = tt
 down_seen None (Some new) P same holds = absurd (cc)
 down_seen (Some old) (Some new) P same holds =

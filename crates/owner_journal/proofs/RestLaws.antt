@@ -3,7 +3,7 @@ use Rattle.std.proofs.Common.{◌≡◌, ℕ, ◌+◌, inl, inr, List, [], ◌�
 use Rattle.vo_spec.specs.declared.records.Entry.{Entry}
 use Rattle.vo_spec.specs.Journals.{FitsEntry, IsJournal}
 use Rattle.outside.specs.DiskModel.{DiskModel, MayLeave, overwrite_at, sync_now, write_on}
-use Rattle.outside.specs.Moments.{IsDown, Torn, LeavesOnly, IfKnown, written_down}
+use Rattle.outside.specs.Moments.{IsDown, IsTornImage, LeavesOnly, IfKnown, persist_known}
 use Rattle.outside.proofs.MomentLaws.{rests, weaker, joins, only_seen, synced_down}
 use Rattle.owner_journal.specs.Slots.{slot_down, WhileSlot}
 use Rattle.owner_journal.specs.Resting.{IsAtRest, HoldsWith, behind_gate, end_of}
@@ -66,18 +66,18 @@ same_leaves (Some old) (Some new) es e same = λ rest.
 -- Writing a slot: two pieces put down, one after the other.
 
 slot_ends : (old mid new : DiskModel) (gate : ℕ) (behind : List ℕ) → mid ≡ sync_now (write_on (gate + 1) behind old)
-    → LeavesOnly old mid (Torn (gate + 1) (length behind) old.seen) → (IsDown mid → LeavesOnly mid new (Torn gate 1 mid.seen))
+    → LeavesOnly old mid (IsTornImage (gate + 1) (length behind) old.seen) → (IsDown mid → LeavesOnly mid new (IsTornImage gate 1 mid.seen))
     → LeavesOnly old new (WhileSlot gate behind old.seen)
 slot_ends old mid new gate behind is first then =
     let P = WhileSlot gate behind old.seen in
     let down : IsDown mid = subst IsDown (sym is) (synced_down (write_on (gate + 1) behind old)) in
     let seen : mid.seen ≡ overwrite_at (gate + 1) behind old.seen = ap (λ (d : DiskModel). d.seen) is in
-    joins old mid new P (weaker old mid (Torn (gate + 1) (length behind) old.seen) P (λ image torn. inl torn) first)
-    (weaker mid new (Torn gate 1 mid.seen) P (λ image torn. inr (subst (λ (t : List ℕ). Torn gate 1 t image) seen torn)) (then down))
+    joins old mid new P (weaker old mid (IsTornImage (gate + 1) (length behind) old.seen) P (λ image torn. inl torn) first)
+    (weaker mid new (IsTornImage gate 1 mid.seen) P (λ image torn. inr (subst (λ (t : List ℕ). IsTornImage gate 1 t image) seen torn)) (then down))
 
-pub slot_ended : (old mid new : Option DiskModel) (gate : ℕ) (behind : List ℕ) → mid ≡ written_down (gate + 1) behind old
-    → IfKnown old mid (λ before after. IsDown before → LeavesOnly before after (Torn (gate + 1) (length behind) before.seen))
-    → IfKnown mid new (λ before after. IsDown before → LeavesOnly before after (Torn gate 1 before.seen))
+pub slot_ended : (old mid new : Option DiskModel) (gate : ℕ) (behind : List ℕ) → mid ≡ persist_known (gate + 1) behind old
+    → IfKnown old mid (λ before after. IsDown before → LeavesOnly before after (IsTornImage (gate + 1) (length behind) before.seen))
+    → IfKnown mid new (λ before after. IsDown before → LeavesOnly before after (IsTornImage gate 1 before.seen))
     → IfKnown old new (λ before after. IsDown before → LeavesOnly before after (WhileSlot gate behind before.seen))
 slot_ended None None None gate behind same first then = tt
 slot_ended None None (Some new) gate behind same first then = absurd then

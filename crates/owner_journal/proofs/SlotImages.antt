@@ -6,7 +6,7 @@ use Rattle.vo_spec.specs.declared.records.Entry.{Entry}
 use Rattle.vo_spec.specs.Bytes.{block}
 use Rattle.vo_spec.specs.Journals.{FitsEntry, entry_bytes, slot, IsClosed, IsJournal}
 use Rattle.outside.specs.DiskModel.{overwrite_at}
-use Rattle.outside.specs.Moments.{Torn}
+use Rattle.outside.specs.Moments.{IsTornImage}
 use Rattle.owner_journal.specs.Slots.{WhileSlot}
 use Rattle.owner_journal.specs.Resting.{HoldsWith, behind_gate, end_of}
 use Rattle.owner_journal.proofs.ByteRuns.{torn_front, torn_byte, written_over}
@@ -29,13 +29,13 @@ opened bytes es e tail all fits parts =
 
 -- behind a closed gate
 pub holds_behind : (es : List Entry) (e : Entry) (rest image : List ℕ) → AllByRecursion FitsEntry es → IsClosed rest
-    → Torn (end_of es + 1) (length (behind_gate e)) (flat_map slot es ++ rest) image → IsJournal image es
+    → IsTornImage (end_of es + 1) (length (behind_gate e)) (flat_map slot es ++ rest) image → IsJournal image es
 holds_behind es e [] image all shut torn = absurd shut
 holds_behind es e (gate ∷ more) image all shut torn =
     let front : List ℕ = flat_map slot es ++ gate ∷ [] in
     let long : length front ≡ end_of es + 1 = length-append (flat_map slot es) (gate ∷ []) in
     let parts : flat_map slot es ++ (gate ∷ more) ≡ front ++ more = sym (append_assoc (flat_map slot es) (gate ∷ []) more) in
-    let stays = torn_front front more image (end_of es + 1) (length (behind_gate e)) (omega arith) (subst (λ (t : List ℕ). Torn (end_of es + 1) (length (behind_gate e)) t image) parts torn) in
+    let stays = torn_front front more image (end_of es + 1) (length (behind_gate e)) (omega arith) (subst (λ (t : List ℕ). IsTornImage (end_of es + 1) (length (behind_gate e)) t image) parts torn) in
     is_journal image es (gate ∷ drop (length front) image) all shut (stays ∙ append_assoc (flat_map slot es) (gate ∷ []) (drop (length front) image))
 
 -- what stood behind a gate is now this
@@ -66,10 +66,10 @@ any_gate es e gate tail image all fits parts (inr shut) =
 
 -- while the gate is opened
 pub holds_gate : (es : List Entry) (e : Entry) (rest image : List ℕ) → AllByRecursion FitsEntry es → FitsEntry e → IsClosed rest
-    → Torn (end_of es) 1 (overwrite_at (end_of es + 1) (behind_gate e) (flat_map slot es ++ rest)) image → HoldsWith es e image
+    → IsTornImage (end_of es) 1 (overwrite_at (end_of es + 1) (behind_gate e) (flat_map slot es ++ rest)) image → HoldsWith es e image
 holds_gate es e [] image all fits shut torn = absurd shut
 holds_gate es e (gate ∷ more) image all fits shut torn =
-    let here = subst (λ (t : List ℕ). Torn (end_of es) 1 t image) (behind_parts es e gate more) torn in
+    let here = subst (λ (t : List ℕ). IsTornImage (end_of es) 1 t image) (behind_parts es e gate more) torn in
     let parts = torn_byte (flat_map slot es) gate (written_behind e more) image here in
     any_gate es e (get_or image (end_of es) 0) (drop (length (behind_gate e)) more) image all fits parts (open_or_closed (get_or image (end_of es) 0))
 
@@ -77,10 +77,10 @@ holds_gate es e (gate ∷ more) image all fits shut torn =
 pub holds_with : (es : List Entry) (e : Entry) (contents rest image : List ℕ) → AllByRecursion FitsEntry es → FitsEntry e → IsClosed rest → contents ≡ flat_map slot es ++ rest
     → WhileSlot (end_of es) (behind_gate e) contents image → HoldsWith es e image
 holds_with es e contents rest image all fits shut parts (inl torn) =
-    inl (holds_behind es e rest image all shut (subst (λ (t : List ℕ). Torn (end_of es + 1) (length (behind_gate e)) t image) parts torn))
+    inl (holds_behind es e rest image all shut (subst (λ (t : List ℕ). IsTornImage (end_of es + 1) (length (behind_gate e)) t image) parts torn))
 holds_with es e contents rest image all fits shut parts (inr torn) =
     holds_gate es e rest image all fits shut
-    (subst (λ (t : List ℕ). Torn (end_of es) 1 (overwrite_at (end_of es + 1) (behind_gate e) t) image) parts torn)
+    (subst (λ (t : List ℕ). IsTornImage (end_of es) 1 (overwrite_at (end_of es + 1) (behind_gate e) t) image) parts torn)
 
 -- at the end
 pub slot_parts : (es : List Entry) (e : Entry) (contents rest : List ℕ) → AllByRecursion FitsEntry es → FitsEntry e → IsClosed rest → contents ≡ flat_map slot es ++ rest

@@ -1,9 +1,9 @@
 //! Opening a journal, whatever a crash left on its disk.
 ghost use Rattle.std.specs.Prelude.{◌≡◌, ◌⊎◌, ℕ, ◌+◌, ◌<◌, ◌≤◌, List, ◌∷◌, [], false, length, IfOk, IfErr, IfSome, OnOk, IsErrOf};
 ghost use Rattle.std.specs.List.{AllByRecursion};
-ghost use Rattle.outside.specs.DiskModel.{HasRoom, MayLeave, put_down};
+ghost use Rattle.outside.specs.DiskModel.{HasRoom, MayLeave, sync_known};
 ghost use Rattle.outside.specs.FaultRose.{FaultRose};
-ghost use Rattle.outside.specs.Moments.{IfKnown, IsDown, LeavesOnly, Torn, written_down};
+ghost use Rattle.outside.specs.Moments.{IfKnown, IsDown, LeavesOnly, IsTornImage, persist_known};
 ghost use Rattle.vo_spec.specs.Journals.{FitsEntry, IsJournal};
 ghost use Rattle.owner_journal.specs.Resting.{IsAtRest, HoldsAsBefore, IsFaultOf, IsNoDamage};
 ghost use Rattle.owner_journal.specs.Entries.{entries_of, has_failed};
@@ -33,9 +33,9 @@ impl Journal {
 
         // What it does to the disk, and what a crash leaves at any moment since it began.
         ensures first { OnOk result (IfSome (D.drive disk.old) (λ before. length before.seen < 2
-            → D.drive disk.new ≡ written_down 0 (0 ∷ []) (put_down (D.drive disk.old)))) }
+            → D.drive disk.new ≡ persist_known 0 (0 ∷ []) (sync_known (D.drive disk.old)))) }
         ensures later { OnOk result (IfSome (D.drive disk.old) (λ before. 2 ≤ length before.seen
-            → D.drive disk.new ≡ put_down (D.drive disk.old))) }
+            → D.drive disk.new ≡ sync_known (D.drive disk.old))) }
         ensures at_rest { IfOk result (λ journal. IfSome (D.drive disk.new)
             (IsAtRest (entries_of journal))) }
         ensures holds { IfOk result (λ journal. IfSome (D.drive disk.new) (λ after.
@@ -56,7 +56,7 @@ impl Journal {
 fn settle<D: Disk>(disk: &mut D) -> Result<u64, JournalFault>
     ensures len { IfOk result (λ end. IfSome (D.drive disk.old)
         (λ before. end ≡ length before.seen)) }
-    ensures ok { OnOk result (D.drive disk.new ≡ put_down (D.drive disk.old)) }
+    ensures ok { OnOk result (D.drive disk.new ≡ sync_known (D.drive disk.old)) }
     ensures room { OnOk result (IfSome (D.room disk.new) (HasRoom 1 1 2)) }
     ensures any_moment { IfKnown (D.drive disk.old) (D.drive disk.new)
         (λ before after. LeavesOnly before after (MayLeave before)) }
@@ -81,9 +81,9 @@ fn close_first<D: Disk>(alloc: Global, disk: &mut D) -> Result<Journal, JournalF
     ensures empty { IfOk result (λ journal. entries_of journal ≡ []) }
     ensures works { IfOk result (λ journal. has_failed journal ≡ false) }
     ensures ok { OnOk result (D.drive disk.new
-        ≡ written_down 0 (0 ∷ []) (D.drive disk.old)) }
+        ≡ persist_known 0 (0 ∷ []) (D.drive disk.old)) }
     ensures any_moment { IfKnown (D.drive disk.old) (D.drive disk.new)
-        (λ before after. IsDown before → LeavesOnly before after (Torn 0 1 before.seen)) }
+        (λ before after. IsDown before → LeavesOnly before after (IsTornImage 0 1 before.seen)) }
     ensures fault { IfErr result IsNoDamage }
     ensures counts { D.faults disk.old ≤ D.faults disk.new }
     ensures cause { IsErrOf result JournalFault.Disk

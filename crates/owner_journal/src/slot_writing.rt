@@ -2,7 +2,7 @@
 ghost use Rattle.std.specs.Prelude.{◌≡◌, ◌+◌, ◌<◌, ◌≤◌, ◌^◌, length, IfSome, OnOk, IsErr};
 ghost use Rattle.outside.specs.DiskModel.{HasRoom};
 ghost use Rattle.outside.specs.FaultRose.{FaultRose};
-ghost use Rattle.outside.specs.Moments.{IfKnown, IsDown, LeavesOnly, Torn, written_down, room_down};
+ghost use Rattle.outside.specs.Moments.{IfKnown, IsDown, LeavesOnly, IsTornImage, persist_known, room_down};
 ghost use Rattle.owner_journal.specs.Slots.{slot_down, WhileSlot};
 
 use outside::{Disk, Failed};
@@ -11,9 +11,9 @@ use outside::{Disk, Failed};
 #[tactic(auto, using(outside::proofs::MomentLaws::tears_down, outside::proofs::MomentLaws::tears_written))]
 pub fn write_down<D: Disk>(disk: &mut D, at: u64, piece: &[u8]) -> Result<(), Failed>
     requires { IfSome (D.room disk.old) (HasRoom (at + length piece.now) (length piece.now) 2) }
-    ensures ok { OnOk result (D.drive disk.new ≡ written_down at piece.now (D.drive disk.old)) }
+    ensures ok { OnOk result (D.drive disk.new ≡ persist_known at piece.now (D.drive disk.old)) }
     ensures any_moment { IfKnown (D.drive disk.old) (D.drive disk.new) (λ before after.
-        IsDown before → LeavesOnly before after (Torn at (length piece.now) before.seen)) }
+        IsDown before → LeavesOnly before after (IsTornImage at (length piece.now) before.seen)) }
     ensures room { OnOk result (D.room disk.new ≡ room_down (length piece.now) (D.room disk.old)) }
     ensures counts { D.faults disk.old ≤ D.faults disk.new }
     ensures cause { IsErr result → FaultRose (D.faults disk.old) (D.faults disk.new) }

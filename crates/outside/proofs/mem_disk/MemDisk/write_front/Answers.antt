@@ -1,6 +1,6 @@
 use Rattle.std.proofs.Common.{arith, refl, length}
 use Rattle.std.proofs.lemmas.Grind.{common_steps}
-use Rattle.outside.proofs.Logged.{seen_write, within_put}
+use Rattle.outside.proofs.LogLaws.{seen_write, within_put}
 use Rattle.outside.proofs.mem_disk.MemDisk.write_front.Goals as goal
 
 pub invariant_of-self-clause-kept : goal.invariant_of-self-clause-kept

@@ -2,7 +2,7 @@ use Rattle.std.proofs.Common.{◌≡◌, ◌<◌, ◌≤◌, List, [], ◌∷◌
 use Rattle.vo_spec.specs.declared.records.Entry.{Entry}
 use Rattle.vo_spec.specs.Journals.{IsJournal}
 use Rattle.outside.specs.DiskModel.{DiskModel, MayLeave}
-use Rattle.outside.specs.Moments.{IfKnown, LeavesOnly, written_down}
+use Rattle.outside.specs.Moments.{IfKnown, LeavesOnly, persist_known}
 use Rattle.owner_journal.specs.Resting.{IsAtRest, IsFaultOf}
 use Rattle.owner_journal.specs.Entries.{entries_of}
 use Rattle.owner_journal.proofs.Cases.{where_ok, of_ok, if_ok, if_err, on_ok}
@@ -27,7 +27,7 @@ returns-then-end-lt2-clause-damaged g c =
 pub returns-then-end-lt2-clause-first : goal.returns-then-end-lt2-clause-first
 returns-then-end-lt2-clause-first g c =
     where_ok c.close_first.result _ _
-    (λ same. is_so (g.D.Disk.drive c.args.disk.now) (λ before. length before.seen < 2) _ (same ∙ ap (written_down 0 (0 ∷ [])) c.in_ok-end.ensures.ok)) c.close_first.ensures.ok
+    (λ same. is_so (g.D.Disk.drive c.args.disk.now) (λ before. length before.seen < 2) _ (same ∙ ap (persist_known 0 (0 ∷ [])) c.in_ok-end.ensures.ok)) c.close_first.ensures.ok
 
 pub returns-then-end-lt2-clause-later : goal.returns-then-end-lt2-clause-later
 returns-then-end-lt2-clause-later g c =
@@ -38,8 +38,8 @@ returns-then-end-lt2-clause-at_rest g c =
     let old = g.D.Disk.drive c.args.disk.now in
     let mid = g.D.Disk.drive c.settle.new.disk in
     let new = g.D.Disk.drive c.close_first.new.disk in
-    of_ok c.close_first.result (new ≡ written_down 0 (0 ∷ []) mid) (λ journal. entries_of journal ≡ []) _
-    (λ journal same none. subst (λ (es : List Entry). IfSome new (IsAtRest es)) (sym none) (first_gate_rests old new (same ∙ ap (written_down 0 (0 ∷ [])) c.in_ok-end.ensures.ok)))
+    of_ok c.close_first.result (new ≡ persist_known 0 (0 ∷ []) mid) (λ journal. entries_of journal ≡ []) _
+    (λ journal same none. subst (λ (es : List Entry). IfSome new (IsAtRest es)) (sym none) (first_gate_rests old new (same ∙ ap (persist_known 0 (0 ∷ [])) c.in_ok-end.ensures.ok)))
     c.close_first.ensures.ok c.close_first.ensures.empty
 
 pub returns-then-end-lt2-clause-holds : goal.returns-then-end-lt2-clause-holds
@@ -47,9 +47,9 @@ returns-then-end-lt2-clause-holds g c =
     let old = g.D.Disk.drive c.args.disk.now in
     let mid = g.D.Disk.drive c.settle.new.disk in
     let new = g.D.Disk.drive c.close_first.new.disk in
-    of_ok c.close_first.result (new ≡ written_down 0 (0 ∷ []) mid) (λ journal. entries_of journal ≡ []) _
+    of_ok c.close_first.result (new ≡ persist_known 0 (0 ∷ []) mid) (λ journal. entries_of journal ≡ []) _
     (λ journal same none. some_holds new (entries_of journal)
-    (subst (λ (es : List Entry). IfSome new (IsAtRest es)) (sym none) (first_gate_rests old new (same ∙ ap (written_down 0 (0 ∷ [])) c.in_ok-end.ensures.ok))))
+    (subst (λ (es : List Entry). IfSome new (IsAtRest es)) (sym none) (first_gate_rests old new (same ∙ ap (persist_known 0 (0 ∷ [])) c.in_ok-end.ensures.ok))))
     c.close_first.ensures.ok c.close_first.ensures.empty
 
 pub returns-then-end-lt2-clause-any_moment : goal.returns-then-end-lt2-clause-any_moment
