@@ -1,7 +1,7 @@
 //! Calls of a plan and of part trees: what the trees show for it.
 ghost use Rattle.std.specs.Prelude.{◌≡◌, IsTrue, length};
 ghost use Rattle.vo_spec.specs.Needs.{tables_used};
-ghost use Rattle.query_binding.specs.Sided.{bound_sources_seen};
+ghost use Rattle.query_binding.specs.HeldSources.{bound_sources_seen};
 
 use line_pieces::{describe, word};
 use plan_run::{Ran, right_needs, run_plan};

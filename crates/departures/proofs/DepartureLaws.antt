@@ -10,7 +10,7 @@ use Rattle.vo_spec.specs.Firsts.{and_then}
 use Rattle.vo_spec.specs.Trees.{RowTree}
 use Rattle.vo_spec.specs.Replies.{AreProofs}
 use Rattle.vo_spec.specs.Honest.{Stored, catalog_of, work, work_all}
-use Rattle.stored_tables.specs.Standing.{IsStanding}
+use Rattle.stored_tables.specs.Representation.{IsStanding}
 use Rattle.owner_roots.specs.declared.owner_fault.OwnerFault.{OwnerFault}
 use Rattle.owner_roots.specs.declared.roots.Roots.{Roots}
 use Rattle.owner_roots.specs.Next.{NextOf, next_roots, roots_with, tables_after, tables_from, trees_taken}

@@ -15,7 +15,7 @@ use Rattle.table_list.specs.TableHeaders.{command_name}
 use Rattle.table_list.specs.Changes.{Returns}
 use Rattle.table_list.specs.declared.fault.ApplyFault.{ApplyFault}
 use Rattle.table_list.specs.declared.fault.ApplyFault.TheVariants.{Refused}
-use Rattle.stored_tables.specs.Standing.{IsStanding}
+use Rattle.stored_tables.specs.Representation.{IsStanding}
 use Rattle.stored_tables.proofs.StandingLaws.{kept_standing}
 use Rattle.mb_tree.specs.declared.parts.PartTree.{PartTree}
 use Rattle.mb_tree.specs.View.{part_of}

@@ -5,7 +5,7 @@ ghost use Rattle.vo_spec.specs.Batches.{FitsBatch, FitsCommand};
 ghost use Rattle.vo_spec.specs.Collides.{Collides};
 ghost use Rattle.vo_spec.specs.Fits.{FitsTree};
 ghost use Rattle.mb_tree.specs.View.{part_of};
-ghost use Rattle.stored_tables.specs.Standing.{IsStanding};
+ghost use Rattle.stored_tables.specs.Representation.{IsStanding};
 ghost use Rattle.departures.specs.Departures.{DepartBy, IsDeparture};
 ghost use Rattle.departures.specs.Evidence.{AreHashedInBatch, AreHashedInTurn};
 

@@ -5,7 +5,7 @@ ghost use Rattle.vo_spec.specs.Batches.{FitsCommand};
 ghost use Rattle.vo_spec.specs.Fits.{FitsTree};
 ghost use Rattle.vo_spec.specs.Honest.{work};
 ghost use Rattle.mb_tree.specs.View.{part_of};
-ghost use Rattle.stored_tables.specs.Standing.{IsStanding};
+ghost use Rattle.stored_tables.specs.Representation.{IsStanding};
 ghost use Rattle.tree_collide.specs.Agreements.{HoldsOrCollides};
 ghost use Rattle.owner_roots.specs.Next.{trees_taken};
 ghost use Rattle.root_laws.specs.Following.{TakesPart};

@@ -103,7 +103,7 @@ fn found_text(
         Ok(mut journal) => {
             let count = journal.entries().len();
             match append_rest(alloc, &mut disk, &mut journal, entries) {
-                Ok(()) if disk.seen().starts_with(bytes) => Ok(format!(in alloc; "{count}")?),
+                Ok(()) if disk.contents().starts_with(bytes) => Ok(format!(in alloc; "{count}")?),
                 Ok(()) => Ok("others".to_string(alloc)?),
                 Err(fault) => fault_text(alloc, fault),
             }

@@ -13,7 +13,7 @@ use Rattle.grammar.proofs.Truths.{and_left, and_right, tested}
 use Rattle.grammar.proofs.Completions.{Begun, plain}
 use Rattle.grammar.proofs.Shorter.{solid_shorter}
 use Rattle.grammar.proofs.Widen.{uncounted, deeper}
-use Rattle.grammar.proofs.Traced.{peek, Opens, Finds, IsViable, Trace, Traced, traced}
+use Rattle.grammar.proofs.ReadTraces.{peek, Opens, Finds, IsViable, Trace, Traced, traced}
 
 -- the tests that each nonterminal's rule passes
 pub record IsGrammar {l : Language} (g : Grammar l) : Type 0 where

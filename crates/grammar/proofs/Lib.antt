@@ -5,6 +5,6 @@ pub mod Completions
 pub mod Complete
 pub mod Shorter
 pub mod Widen
-pub mod Traced
+pub mod ReadTraces
 pub mod Levels
-pub mod Judged
+pub mod WholeReading

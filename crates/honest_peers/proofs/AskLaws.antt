@@ -43,13 +43,13 @@ use Rattle.vo_store.specs.declared.signed_record.SignedRecord.{SignedRecord}
 use Rattle.vo_store.specs.Calls.{answer_of, within_limit}
 use Rattle.vo_store.specs.HonestStores.{IsHonestAfter, IsInstalled, IsRecordOf}
 use Rattle.vo_store.specs.StoreState.{StoreState}
-use Rattle.vo_wire.specs.Answering.{Answer, code_of, query_answer, reply_answer, reply_to}
+use Rattle.vo_wire.specs.Answering.{KindAndBody, code_of, query_answer, reply_answer, reply_to}
 use Rattle.vo_commands.specs.Expected.{Allows, Checks, Expected, OfQuery, ask_expected, is_public_key, with_answer, with_key, with_reply}
 use Rattle.vo_commands.specs.Lines.{check_output, store_refusal}
 use Rattle.vo_commands.specs.Texts.{IsQueryText}
 use Rattle.vo_commands.proofs.QueryTexts.{has_byte}
 use Rattle.honest_peers.specs.Asking.{IsAsked, question}
-use Rattle.honest_peers.proofs.Served.{served_answers}
+use Rattle.honest_peers.proofs.ServedConnections.{served_answers}
 use Rattle.honest_peers.proofs.Trading.{IsRequest}
 
 -- Checks.
@@ -179,18 +179,18 @@ query_numbers text q utf8 is =
 module _ (s : StoreState) (key text : List ℕ) (least : ℕ) (files : Files) (q : Query)
     (coming : List ℕ) (queue : List (List ℕ)) (output : Output)
     (asked : IsAsked key text files s q coming) where
-  abbrev expected : Expected
-  expected = ask_expected key text least files (coming ∷ queue)
+  abbrev expected_output : Expected
+  expected_output = ask_expected key text least files (coming ∷ queue)
 
   abbrev by_reply : List (List ℕ) → Expected
   by_reply connections = with_reply connections (λ r. Checks s.key least q r)
 
-  expected_is : expected ≡ OfQuery text
+  expected_is : expected_output ≡ OfQuery text
       (λ x. with_reply (coming ∷ queue) (λ r. Checks s.key least x r))
   expected_is = key_goes files key s.key asked.key_is asked.is_key
       (λ k. OfQuery text (λ x. with_reply (coming ∷ queue) (λ r. Checks k least x r)))
 
-  goes : Allows expected output ↔ Allows (by_reply (coming ∷ queue)) output
+  goes : Allows expected_output output ↔ Allows (by_reply (coming ∷ queue)) output
   goes =
       subst (λ (x : Expected). Allows x output ↔ Allows (by_reply (coming ∷ queue)) output)
       (sym expected_is)
@@ -206,12 +206,12 @@ module _ (s : StoreState) (key text : List ℕ) (least : ℕ) (files : Files) (q
       let found = each kind.Query text (reply_answer (answer_of s q))
       (question_is text q asked.is_query) (query_reply s text q asked.is_text asked.is_query) in
       let frame : coming ≡ frame_bytes k body ++ found.0 = found.1
-      ∙ ap (λ (a : Answer). frame_bytes a.0 a.1 ++ found.0) e in
+      ∙ ap (λ (a : KindAndBody). frame_bytes a.0 a.1 ++ found.0) e in
       ap (λ (bytes : List ℕ). by_reply (bytes ∷ queue)) frame
       ∙ frame_goes k body found.0 queue may fits (λ r. Checks s.key least q r)
 
   pub refused : (why : StoreFault) → answer_of s q ≡ Err why
-      → Allows expected output ↔ (output ≡ store_refusal (code_of why))
+      → Allows expected_output output ↔ (output ≡ store_refusal (code_of why))
   refused why e =
       let is = came kind.Refusal (code_of why ∷ []) (ap reply_answer e) refl refl in
       let after : Allows (by_reply (coming ∷ queue)) output ↔
@@ -221,7 +221,7 @@ module _ (s : StoreState) (key text : List ℕ) (least : ℕ) (files : Files) (q
       (λ h. after.0 (goes.0 h), λ h. goes.1 (after.1 h))
 
   pub accepted : (bytes : List ℕ) (answer : Accepted) → answer_of s q ≡ Ok bytes
-      → CheckOf s.key least q bytes (Ok answer) → Allows expected output ↔
+      → CheckOf s.key least q bytes (Ok answer) → Allows expected_output output ↔
       (output ≡ check_output (Ok answer))
   accepted bytes answer e check =
       let fits : IsTrue (is_length kind.Reply (length bytes)) = le-leb (length bytes) max_reply
@@ -260,7 +260,7 @@ module _ (s : StoreState) (key text : List ℕ) (least : ℕ) (files : Files) (q
 
   pub answered : AreAccepted → (batches : List (List Command)) (bytes : List ℕ)
       → IsHonestAfter batches s → least ≤ length batches → answer_of s q ≡ Ok bytes
-      → Allows expected output ↔ (output ≡ check_output (Ok (plain_answer batches q)))
+      → Allows expected_output output ↔ (output ≡ check_output (Ok (plain_answer batches q)))
   unfolding honest_record
   answered law batches bytes honest recent e =
       let there = installed_there bytes e in

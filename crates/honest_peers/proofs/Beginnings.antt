@@ -17,7 +17,7 @@ use Rattle.owner_roots.specs.declared.owner_fault.OwnerFault.{OwnerFault}
 use Rattle.owner_roots.specs.declared.roots.Roots.{Roots}
 use Rattle.owner_roots.specs.Next.{NextOf}
 use Rattle.root_laws.proofs.BatchSteps.{accepted_roots}
-use Rattle.root_laws.proofs.Standing.{read_honestly}
+use Rattle.root_laws.proofs.Representation.{read_honestly}
 use Rattle.round_trips.proofs.Entries.{sealable_first}
 use Rattle.owner_state.proofs.OwnerSteps.{step_made}
 use Rattle.honest_peers.proofs.Sealing.{made_entry}
@@ -29,7 +29,7 @@ use Rattle.vo_spec.specs.Secret.{Secret, public_of_secret}
 use Rattle.vo_laws.specs.Sealing.{SignsValidly}
 use Rattle.owner_roots.specs.Owners.{first_roots, honest_roots, record_of_roots}
 use Rattle.round_trips.specs.Trips.{AreSealable}
-use Rattle.round_trips.proofs.Sealed.{are_loadable, entries_fit, length-seal_batches, some_leaf}
+use Rattle.round_trips.proofs.SealedJournals.{are_loadable, entries_fit, length-seal_batches, some_leaf}
 use Rattle.owner_state.specs.Stepping.{AreStepsTo, IsStepTo, first_entry, signed_entry}
 use Rattle.owner_state.proofs.ReplayLaws.{first_step, step_more}
 use Rattle.honest_peers.specs.Owning.{IsOwnerAfter}

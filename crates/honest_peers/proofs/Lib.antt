@@ -1,7 +1,7 @@
 pub mod AskLaws
 pub mod LoadedLaws
 pub mod Trading
-pub mod Served
+pub mod ServedConnections
 pub mod StoreSteps
 pub mod Requests
 pub mod CatchingUp

@@ -27,7 +27,7 @@ use Rattle.vo_store.specs.declared.fault.StoreFault.{StoreFault}
 use Rattle.vo_store.specs.declared.fault.StoreFault.TheVariants as fault
 use Rattle.vo_store.specs.StoreState.{StoreState}
 use Rattle.vo_store.specs.Calls.{install_of, proposal_of}
-use Rattle.vo_wire.specs.Answering.{Answer, after_install, after_proposal, install_answer, next_after, proofs_answer, proposal_answer, reply_to, standing_of, store_after, version_answer}
+use Rattle.vo_wire.specs.Answering.{KindAndBody, after_install, after_proposal, install_answer, next_after, proofs_answer, proposal_answer, reply_to, standing_of, store_after, version_answer}
 use Rattle.owner_session.specs.Endings.{Ending, StandsElsewhere}
 use Rattle.owner_session.specs.Work.{ends_with, installation, proposal}
 use Rattle.vo_commands.specs.Committing.{entry_forms}
@@ -138,7 +138,7 @@ module _ (Q : Deeds → Type 0) (s later : StoreState) (ending : Ending) (input 
       → Q (others (proposal entry_forms batch input go).events)
   unfolding proposal
   proposes batch go proofs next fits short answer after runs goes =
-      let reply = batch_reply s batch.commands fits ∙ ap (λ (a : Answer). Some a) answer in
+      let reply = batch_reply s batch.commands fits ∙ ap (λ (a : KindAndBody). Some a) answer in
       let on : next_after s kind.Propose (batch_bytes batch.commands) ≡ next =
       behind_batch s batch.commands fits ∙ after in
       traded Q kind.Propose (batch_bytes batch.commands) awaits.Proofs input go s later ending

@@ -28,7 +28,7 @@ use Rattle.owner_roots.specs.Next.{NextOf}
 use Rattle.owner_roots.specs.Owners.{honest_roots, record_of_roots}
 use Rattle.root_laws.proofs.OneAnswer.{one_answer}
 use Rattle.round_trips.specs.Trips.{AreSealable}
-use Rattle.round_trips.proofs.Sealed.{entries_fit}
+use Rattle.round_trips.proofs.SealedJournals.{entries_fit}
 use Rattle.owner_state.specs.Held.{Held}
 use Rattle.owner_state.specs.Stepping.{StepOf, signed_entry, step_to}
 use Rattle.owner_session.specs.declared.refusals.RefusalCause.TheVariants.{Command as CommandCause}

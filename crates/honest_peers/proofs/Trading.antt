@@ -13,7 +13,7 @@ use Rattle.link_frames.specs.Scripts.{Event, Puts, Takes, Does, others}
 use Rattle.link_frames.proofs.FrameLaws.{length-u32, read_back}
 use Rattle.vo_spec.specs.Bytes.{u32_bytes}
 use Rattle.vo_store.specs.StoreState.{StoreState}
-use Rattle.vo_wire.specs.Answering.{Answer, next_after, reply_to}
+use Rattle.vo_wire.specs.Answering.{KindAndBody, next_after, reply_to}
 use Rattle.owner_session.specs.Endings.{Ending}
 use Rattle.owner_session.specs.Runs.{AreJudgements}
 use Rattle.owner_session.specs.Work.{Deed, Input, Work, answer_of, exchange, input_after, is_refusal, with_answer}
@@ -43,7 +43,7 @@ pub record IsRequest (frame : List ℕ) (k : FrameKind) (body : List ℕ) : Type
 abbrev pub AnswersEach : {X : Type 0} → StoreState → List (Event X) → List ℕ → StoreState → Type 0
 AnswersEach s [] coming later = later ≡ s
 AnswersEach s (Puts frame ∷ events) coming later =
-    (k : FrameKind) (body : List ℕ) (answer : Answer) → IsRequest frame k body
+    (k : FrameKind) (body : List ℕ) (answer : KindAndBody) → IsRequest frame k body
     → reply_to s k body ≡ Some answer
     → (rest : List ℕ) × (coming ≡ frame_bytes answer.0 answer.1 ++ rest) × AnswersEach
     (next_after s k body) events rest later
@@ -78,7 +78,7 @@ goes_on k body input go test is not = rw (is ∙ not) refl
 
 pub traded : (Q : Deeds → Type 0) (k : FrameKind) (body : List ℕ) (awaits : Awaits)
     (input : OwnInput) (go : List ℕ → OwnInput → OwnWork) (s later : StoreState)
-    (ending : Ending) (answer : Answer) → IsTrue (may_come Request k)
+    (ending : Ending) (answer : KindAndBody) → IsTrue (may_come Request k)
     → IsTrue (is_length k (length body)) → reply_to s k body ≡ Some answer
     → IsTrue (may_come awaits answer.0) → IsTrue (is_length answer.0 (length answer.1))
     → is_refusal answer.0 ≡ false

@@ -3,4 +3,4 @@ pub mod Keys
 pub mod Forms
 pub mod Trees
 pub mod Ways
-pub mod Signed
+pub mod SignatureLaws

@@ -10,9 +10,9 @@ use Rattle.vo_spec.specs.Parts.{leaf, inner, entries, entries_in, levels, levels
 use Rattle.vo_spec.specs.Trees.{RowTree, open_parts}
 use Rattle.mb_tree.specs.declared.subtrees.Node.{Node}
 use Rattle.mb_tree.specs.declared.subtrees.Node.TheVariants.{Inner}
-use Rattle.mb_tree.specs.Standing.{IsWhole}
+use Rattle.mb_tree.specs.RowCounts.{IsWhole}
 use Rattle.mb_tree.specs.Whole.{whole_of}
-use Rattle.vo_spec.specs.Standing.{Represents, shown_values, row_in, rows_in}
+use Rattle.vo_spec.specs.Representation.{Represents, shown_values, row_in, rows_in}
 
 shown_whole : (vs : List Value) → shown_values (whole_cells vs) ≡ vs
 shown_whole [] = refl

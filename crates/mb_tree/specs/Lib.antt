@@ -1,8 +1,8 @@
 pub mod Codes
 pub mod View
 pub mod Sizes
-pub mod Hashed
+pub mod NodeDigests
 pub mod Whole
 pub mod WholeSizes
-pub mod Standing
+pub mod RowCounts
 pub mod Writing

@@ -20,7 +20,7 @@ pub struct HashedCells {
 impl Model for HashedCells {
     ghost use Rattle.std.specs.Prelude.{List};
     ghost use Rattle.vo_spec.specs.declared.values.Value.{Value as Plain};
-    ghost use Rattle.mb_tree.specs.Hashed.{IsHashed};
+    ghost use Rattle.mb_tree.specs.NodeDigests.{IsHashed};
 
     ghost Value = { List Plain };
 

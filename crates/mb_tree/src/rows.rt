@@ -1,7 +1,7 @@
 //! The rows that stand below a subtree, in order.
 ghost use Rattle.std.specs.Prelude.{◌≡◌, ◌++◌, OnOk, IfOk, flat_map};
 ghost use Rattle.vo_spec.specs.Trees.{open_parts};
-ghost use Rattle.vo_spec.specs.Standing.{rows_in};
+ghost use Rattle.vo_spec.specs.Representation.{rows_in};
 
 use crate::entries::TreeEntry;
 use crate::subtrees::{Node, Subtree};

@@ -47,7 +47,7 @@ impl Model for Subtree {
     ghost coded = { coded_tree };
 
     ghost use Rattle.vo_spec.specs.Parts.{levels};
-    ghost use Rattle.mb_tree.specs.Hashed.{IsSubtree};
+    ghost use Rattle.mb_tree.specs.NodeDigests.{IsSubtree};
     ghost use Rattle.mb_tree.specs.Whole.{whole_of};
 
     ghost view = { λ subtree. whole_of subtree.node.value };

@@ -3,8 +3,8 @@ ghost use Rattle.std.specs.Prelude.{◌≡◌, ◌++◌, [], length, IfOk, OnOk,
 ghost use Rattle.vo_spec.specs.Parts.{leaf, entries};
 ghost use Rattle.vo_spec.specs.Fits.{FitsPart};
 ghost use Rattle.vo_spec.specs.Trees.{digest};
-ghost use Rattle.vo_spec.specs.Standing.{IsShown, Represents, rows_in};
-ghost use Rattle.mb_tree.specs.Standing.{IsWhole};
+ghost use Rattle.vo_spec.specs.Representation.{IsShown, Represents, rows_in};
+ghost use Rattle.mb_tree.specs.RowCounts.{IsWhole};
 
 use crate::rows::push_rows;
 use crate::subtrees::Subtree;
@@ -23,7 +23,7 @@ pub struct Tree {
 impl Model for Tree {
     ghost use Rattle.vo_spec.specs.Trees.{RowTree};
     ghost use Rattle.mb_tree.specs.Codes.{coded_tree};
-    ghost use Rattle.mb_tree.specs.Standing.{IsWhole};
+    ghost use Rattle.mb_tree.specs.RowCounts.{IsWhole};
 
     ghost Value = { RowTree };
 

@@ -12,10 +12,10 @@ use Rattle.vo_spec.specs.Parts.{entries}
 use Rattle.vo_spec.specs.Trees.{RowTree, row_family, key_in}
 use Rattle.vo_spec.specs.Inserts.{tree_with_entry}
 use Rattle.vo_spec.specs.Removes.{set_cells, set_row, tree_without_key, tree_with_cells}
-use Rattle.vo_spec.specs.Standing.{row_in, rows_in, shown_values, IsTree, Represents}
+use Rattle.vo_spec.specs.Representation.{row_in, rows_in, shown_values, IsTree, Represents}
 use Rattle.vo_laws.specs.Changing.{Inserts, Changes}
-use Rattle.vo_laws.proofs.StandingTrees.{inserted_stands, removed_stands, replaced_stands}
-use Rattle.mb_tree.specs.Standing.{IsWhole}
+use Rattle.vo_laws.proofs.RepresentingTrees.{inserted_stands, removed_stands, replaced_stands}
+use Rattle.mb_tree.specs.RowCounts.{IsWhole}
 use Rattle.mb_update.specs.ChangeResults.{set_entry, GivesTree}
 use Rattle.mb_update.specs.Sets.{changed_by}
 use Rattle.btree.proofs.OkResults.{ok_same}

@@ -5,7 +5,7 @@ use Rattle.vo_spec.specs.declared.trees.UpdateFault.{UpdateFault}
 use Rattle.vo_spec.specs.declared.trees.UpdateFault.TheVariants.{DuplicateKey, NoRow, Missing, Memory}
 use Rattle.vo_spec.specs.Trees.{RowTree, row_family, Prunes}
 use Rattle.vo_spec.specs.Removes.{edited_by}
-use Rattle.vo_spec.specs.Standing.{IsTree}
+use Rattle.vo_spec.specs.Representation.{IsTree}
 use Rattle.btree.specs.Agreement.{AgreesWithTree}
 
 -- the change as it is seen, or the fault; a want of memory may come in any case

@@ -6,7 +6,7 @@ ghost use Rattle.vo_spec.specs.Inserts.{tree_with_entry};
 ghost use Rattle.vo_spec.specs.Parts.{entries};
 ghost use Rattle.vo_spec.specs.Removes.{tree_without_key, tree_with_cells};
 ghost use Rattle.vo_spec.specs.Tables.{max_rows};
-ghost use Rattle.mb_tree.specs.Standing.{IsWhole};
+ghost use Rattle.mb_tree.specs.RowCounts.{IsWhole};
 ghost use Rattle.mb_update.specs.ChangeResults.{ChangesTo, GivesTree, set_entry};
 ghost use Rattle.mb_update.specs.Sets.{change_of, FitsSets};
 

@@ -17,7 +17,7 @@ use Rattle.vo_spec.specs.Replies.{Reply, IsReply, reply_bytes, max_reply}
 use Rattle.vo_spec.specs.Secret.{Secret, public_of_secret}
 use Rattle.owner_roots.specs.Owners.{IsBadAt, IsOwned, OwnedAuditOf}
 use Rattle.round_trips.specs.Trips.{AreSealable, IsHonestReply, plain_answer}
-use Rattle.round_trips.proofs.Sealed.{owned}
+use Rattle.round_trips.proofs.SealedJournals.{owned}
 use Rattle.round_trips.proofs.Entries.{sealable_first}
 use Rattle.round_trips.proofs.TripLaws.{answer_is, only_exact, read}
 use Rattle.one_reading.proofs.Readings.{never_bad, one_owned, one_reply}

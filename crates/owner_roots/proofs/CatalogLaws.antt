@@ -9,7 +9,7 @@ use Rattle.vo_spec.specs.declared.records.Catalog.{Catalog}
 use Rattle.vo_spec.specs.Values.{key_lt}
 use Rattle.vo_spec.specs.Tables.{max_tables}
 use Rattle.vo_spec.specs.Records.{FitsCatalog, FitsCatalogTable, are_rising}
-use Rattle.vo_spec.specs.Standing.{AreRising}
+use Rattle.vo_spec.specs.Representation.{AreRising}
 use Rattle.vo_laws.proofs.KeyOrder.{key_lt_lt}
 use Rattle.vo_laws.proofs.ListLaws.{each_weaker}
 use Rattle.owner_roots.specs.Working.{FitCatalog, names_of}

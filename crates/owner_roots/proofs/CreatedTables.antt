@@ -14,7 +14,7 @@ use Rattle.vo_spec.specs.Values.{key_lt}
 use Rattle.vo_spec.specs.Batches.{FitsCommand}
 use Rattle.vo_spec.specs.Tables.{table_header_of, table_header_named, refusal, put_table, max_tables, column_number, is_bad_schema}
 use Rattle.vo_spec.specs.Records.{FitsCatalogTable, FitsSchema}
-use Rattle.vo_spec.specs.Standing.{AreRising}
+use Rattle.vo_spec.specs.Representation.{AreRising}
 use Rattle.vo_spec.specs.Parts.{leaf}
 use Rattle.vo_spec.specs.Trees.{digest}
 use Rattle.vo_laws.proofs.CommandLaws.{FitTables, FitsTable, created_fit}

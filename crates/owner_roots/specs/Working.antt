@@ -9,7 +9,7 @@ use Rattle.vo_spec.specs.Batches.{FitsSet}
 use Rattle.vo_spec.specs.Fits.{FitsRow}
 use Rattle.vo_spec.specs.Tables.{max_tables, row_of}
 use Rattle.vo_spec.specs.Records.{FitsCatalogTable}
-use Rattle.vo_spec.specs.Standing.{AreRising}
+use Rattle.vo_spec.specs.Representation.{AreRising}
 use Rattle.mb_update.specs.declared.ops.Op.{Op}
 use Rattle.mb_update.specs.declared.ops.Op.TheVariants.{Insert as PutRow, Replace, Remove}
 use Rattle.mb_update.specs.Sets.{FitsSets}

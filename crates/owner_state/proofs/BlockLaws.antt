@@ -1,4 +1,4 @@
--- Bytes behind their length of four bytes: what is read is encoded so, and what is encoded so is
+-- Bytes behind their length of four bytes: what is read is as_block so, and what is as_block so is
 -- read.
 use Rattle.std.proofs.Common.{◌≡◌, ℕ, ◌^◌, ◌<◌, ◌≤◌, leb, ltb, false, List, ◌++◌, length, take, drop, Option, Some, None, refl, sym, ap, subst, ◌∙◌, append_assoc, arith, inl, inr}
 use Rattle.std.proofs.lemmas.Bool.{ltb-false, le-ltb, leb-true, le-leb}
@@ -113,25 +113,25 @@ front_bytes : (text rest bytes : List ℕ) → bytes ≡ text ++ rest → IsByte
 front_bytes text rest bytes e fits = subst IsBytes (take_at text rest (length text) refl) (IsBytes-take (length text) (text ++ rest) (subst IsBytes e fits))
 
 module _ {A : Type 0} (read : List ℕ → Option A) (encoding : A → List ℕ) (Fits : A → Type 0) (law : IsWholeReader read encoding Fits) where
-  abbrev encoded : A → List ℕ
-  encoded x = block (encoding x)
+  abbrev as_block : A → List ℕ
+  as_block x = block (encoding x)
 
   the_same : (bytes s t rest : List ℕ) → s ≡ t → Took bytes (block s) rest → Took bytes (block t) rest
   the_same bytes s t rest e took = subst (λ (x : List ℕ). Took bytes (block x) rest) e took
 
-  within_found : (bytes : List ℕ) (x : A) (rest : List ℕ) → IsBytes bytes → within read bytes ≡ Some (x, rest) → Took bytes (encoded x) rest × Fits x
+  within_found : (bytes : List ℕ) (x : A) (rest : List ℕ) → IsBytes bytes → within read bytes ≡ Some (x, rest) → Took bytes (as_block x) rest × Fits x
   within_found bytes x rest fits e =
       let b = bound (block_at bytes) (λ found. read found.0 >>= λ x. Some (x, found.1)) (x, rest) e in
       let c = bound (read b.0.0) (λ x. Some (x, b.0.1)) (x, rest) b.2 in
       let t = (block_found bytes b.0.0 b.0.1 fits b.1).0 in
       let behind : IsBytes (b.0.0 ++ b.0.1) = IsBytes-after (u32_bytes (length b.0.0)) (b.0.0 ++ b.0.1) bytes (t.parts ∙ append_assoc (u32_bytes (length b.0.0)) b.0.0 b.0.1) fits in
       let f = law.found b.0.0 c.0 (front_bytes b.0.0 b.0.1 (b.0.0 ++ b.0.1) refl behind) c.1 in
-      let all : Took bytes (encoded c.0) b.0.1 = the_same bytes b.0.0 (encoding c.0) b.0.1 f.0 t in
+      let all : Took bytes (as_block c.0) b.0.1 = the_same bytes b.0.0 (encoding c.0) b.0.1 f.0 t in
       let is : (c.0, b.0.1) ≡ (x, rest) = some_is (c.0, b.0.1) (x, rest) c.2 in
-      subst (λ (p : A × List ℕ). Took bytes (encoded p.0) p.1 × Fits p.0) is (all, f.1)
+      subst (λ (p : A × List ℕ). Took bytes (as_block p.0) p.1 × Fits p.0) is (all, f.1)
 
-  within_again : (x : A) (rest : List ℕ) → Fits x → within read (encoded x ++ rest) ≡ Some (x, rest)
+  within_again : (x : A) (rest : List ℕ) → Fits x → within read (as_block x ++ rest) ≡ Some (x, rest)
   within_again x rest fits = rw (block_again (encoding x) rest (law.short x fits), law.again x fits) refl
 
-  pub within_read : IsReader (within read) encoded Fits
+  pub within_read : IsReader (within read) as_block Fits
   within_read = record { found = within_found; again = within_again }

@@ -15,7 +15,7 @@ use Rattle.owner_roots.specs.Next.{NextOf}
 use Rattle.owner_roots.specs.Owners.{AreOwned, AreOwnedTo, IsNextEntry, IsSignedFor, honest_roots, record_of_roots}
 use Rattle.owner_roots.proofs.OwnedLaws.{version}
 use Rattle.owner_state.specs.declared.departures.Departure.{Departure}
-use Rattle.owner_state.specs.Departed.{DepartsNext}
+use Rattle.owner_state.specs.NextDeparture.{DepartsNext}
 use Rattle.owner_state.specs.Departing.{AreHonestBelow, Departs, DepartsAt, trees_at}
 use Rattle.owner_state.specs.Owning.{IsBehind, LeadsTo}
 use Rattle.owner_state.proofs.LeadLaws.{behind_more, owned_more}

@@ -11,7 +11,7 @@ use Rattle.vo_spec.specs.Owners.{IsLoadableEntry, AreLoadable}
 use Rattle.vo_spec.specs.Honest.{Stored, after_work, work_all, honest_record, honest_trees}
 use Rattle.vo_laws.proofs.StepLaws.{trees_follow, no_commands_fit, no_trees_before, both_take}
 use Rattle.vo_laws.proofs.EntryLaws.{taken_first, taken_grows, all_fit}
-use Rattle.owner_state.specs.Standing.{IsRecorded, IsLoadableOn}
+use Rattle.owner_state.specs.EntriesOnTrees.{IsRecorded, IsLoadableOn}
 use Rattle.owner_state.specs.Walking.{GivesTreesIf}
 
 -- Batches that fit, and the trees that they make.

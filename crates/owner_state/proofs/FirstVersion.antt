@@ -7,7 +7,7 @@ use Rattle.vo_spec.specs.Secret.{Secret, public_of_secret, tree_node}
 use Rattle.lms_sign.proofs.Keys.{leaf_count-public_bytes}
 use Rattle.owner_roots.specs.Owners.{IsFirstEntry, IsSignedFor, first_roots}
 use Rattle.owner_state.specs.Stepping.{first_entry, signed_entry}
-use Rattle.owner_state.specs.Standing.{entry_on}
+use Rattle.owner_state.specs.EntriesOnTrees.{entry_on}
 
 -- the public key says how many leaves the secret one has
 pub leaves_told : (secret : Secret) → leaf_count (public_of_secret secret) ≡ leaves_of secret.lms

@@ -84,20 +84,20 @@ one_stop bytes xs es a b s t =
 
 -- Where no slot can be.
 
-abbrev closed : Option (Entry × List ℕ)
-closed = None
+abbrev no_slot : Option (Entry × List ℕ)
+no_slot = None
 
 closed_stops : (bytes : List ℕ) → IsClosed bytes → slot_at bytes ≡ None
 unfolding slot_at
 closed_stops [] c = refl
-closed_stops (gate ∷ bytes) c = ap (λ (b : Bool). cond b (within entry_of bytes) closed) (ne_eqb gate 1 c)
+closed_stops (gate ∷ bytes) c = ap (λ (b : Bool). cond b (within entry_of bytes) no_slot) (ne_eqb gate 1 c)
 
 short_stops : (bytes : List ℕ) → length bytes < 2 → slot_at bytes ≡ None
 unfolding slot_at block_at u32_at
 short_stops [] short = refl
 short_stops (gate ∷ []) short = either (eqb gate 1)
   where
-    either : (b : Bool) → cond b closed closed ≡ closed
+    either : (b : Bool) → cond b no_slot no_slot ≡ no_slot
     either true = refl
     either false = refl
 short_stops (gate ∷ byte ∷ bytes) short = absurd (omega (arith, short))

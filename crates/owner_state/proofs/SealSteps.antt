@@ -22,19 +22,19 @@ use Rattle.vo_spec.specs.Honest.{Stored, RepresentTables, after_work, work_all, 
 use Rattle.vo_laws.proofs.TreeFits.{each_loadable}
 use Rattle.vo_laws.proofs.ListLaws.{each_map}
 use Rattle.vo_laws.proofs.StepLaws.{trees_follow, no_commands_fit, no_trees_before, both_take}
-use Rattle.vo_laws.proofs.StandingLaws.{stands}
+use Rattle.vo_laws.proofs.RepresentationLaws.{stands}
 use Rattle.vo_laws.proofs.ProofSizes.{honest_proofs_fit}
 use Rattle.vo_laws.proofs.SealedLaws.{sealed_grows}
 use Rattle.table_list.specs.declared.fault.BatchFault.TheVariants as batch_fault
 use Rattle.stored_tables.specs.Working.{work_from}
-use Rattle.stored_tables.specs.Standing.{IsStanding}
+use Rattle.stored_tables.specs.Representation.{IsStanding}
 use Rattle.stored_tables.proofs.WorkLaws.{gives_plain}
 use Rattle.owner_roots.specs.declared.owner_fault.OwnerFault.{OwnerFault}
 use Rattle.owner_roots.specs.declared.owner_fault.OwnerFault.TheVariants as owner
 use Rattle.owner_roots.specs.declared.roots.Roots.{Roots}
 use Rattle.owner_roots.specs.Next.{NextOf}
 use Rattle.root_laws.proofs.BatchSteps.{accepted_roots, batch_proved}
-use Rattle.root_laws.proofs.Standing.{honest_standing}
+use Rattle.root_laws.proofs.Representation.{honest_standing}
 use Rattle.owner_state.specs.declared.next_version.Sealed.{Sealed}
 use Rattle.owner_state.specs.declared.sealing.SealFault.{SealFault}
 use Rattle.owner_state.specs.declared.sealing.SealFault.TheVariants.{KeySpent, Command as Refused, Memory}
@@ -42,9 +42,9 @@ use Rattle.owner_roots.specs.Owners.{honest_roots, record_of_roots}
 use Rattle.owner_state.specs.declared.steps.Step.{Step}
 use Rattle.owner_state.specs.Held.{Held}
 use Rattle.owner_state.specs.Stepping.{signed_entry, step_to}
-use Rattle.owner_state.specs.Standing.{entry_on}
+use Rattle.owner_state.specs.EntriesOnTrees.{entry_on}
 use Rattle.owner_state.specs.Sealing.{FitEach, commands_of, or_later, seal_fault}
-use Rattle.owner_state.specs.Sealed.{IsAt, Seals}
+use Rattle.owner_state.specs.SealResults.{IsAt, Seals}
 use Rattle.owner_state.proofs.OwnerSteps.{Steps, one_step, step_made}
 use Rattle.owner_state.proofs.WorkTurns.{work_accepted, work_left}
 

@@ -24,7 +24,7 @@ use Rattle.owner_state.specs.declared.sealing.SealFault.{SealFault}
 use Rattle.owner_state.specs.declared.sealing.SealFault.TheVariants.{KeySpent}
 use Rattle.owner_state.specs.Sealing.{commands_of, or_later, seal_fault, FitEach}
 use Rattle.owner_state.proofs.SealSteps.{each_fits}
-use Rattle.round_trips.proofs.Sealed.{loaded, owned, some_leaf}
+use Rattle.round_trips.proofs.SealedJournals.{loaded, owned, some_leaf}
 
 -- Batches that no fault keeps from being sealed.
 

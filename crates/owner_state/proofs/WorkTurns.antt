@@ -6,7 +6,7 @@ use Rattle.vo_spec.specs.declared.tables.Command.{Command}
 use Rattle.vo_spec.specs.declared.tables.CommandFault.{CommandFault}
 use Rattle.vo_spec.specs.Firsts.{and_then}
 use Rattle.vo_spec.specs.Honest.{Stored, after_work, work, work_all}
-use Rattle.table_list.specs.Batched.{BatchGives}
+use Rattle.table_list.specs.BatchResults.{BatchGives}
 use Rattle.table_list.specs.declared.fault.BatchFault.{BatchFault}
 use Rattle.table_list.specs.declared.fault.BatchFault.TheVariants.{Command as Refused}
 use Rattle.stored_tables.specs.Working.{numbered_work, work_from}

@@ -1,13 +1,13 @@
 pub mod Reading
 pub mod Endings
-pub mod Standing
+pub mod EntriesOnTrees
 pub mod BatchProofs
 pub mod Held
 pub mod Stepping
 pub mod Replaying
 pub mod Owning
 pub mod Departing
-pub mod Departed
+pub mod NextDeparture
 pub mod Walking
-pub mod Sealed
+pub mod SealResults
 pub mod Sealing

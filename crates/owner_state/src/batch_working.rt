@@ -5,7 +5,7 @@ ghost use Rattle.vo_spec.specs.Batches.{FitsBatch, FitsCommand, max_commands};
 ghost use Rattle.vo_spec.specs.TreeBytes.{tree_bytes};
 ghost use Rattle.vo_spec.specs.Honest.{command_proof, honest_proofs};
 ghost use Rattle.vo_spec.specs.Replies.{proofs_bytes};
-ghost use Rattle.table_list.specs.Batched.{BatchGives};
+ghost use Rattle.table_list.specs.BatchResults.{BatchGives};
 ghost use Rattle.stored_tables.specs.Working.{work_from};
 ghost use Rattle.owner_state.specs.BatchProofs.{UnlessMemory, allowed_proof};
 

@@ -3,7 +3,7 @@ ghost use Rattle.std.specs.Prelude.{◌≡◌, ◌↔◌, IfOk, IsTrue};
 ghost use Rattle.vo_spec.specs.Batches.{FitsBatch};
 ghost use Rattle.vo_spec.specs.Records.{FitsCatalog};
 ghost use Rattle.vo_spec.specs.Honest.{after_work, catalog_of};
-ghost use Rattle.owner_state.specs.Departed.{DepartsNext};
+ghost use Rattle.owner_state.specs.NextDeparture.{DepartsNext};
 
 use std::alloc::{AllocError, Global};
 use stored_tables::{BatchFault, StoredTables};
@@ -54,7 +54,7 @@ fn has_catalog(alloc: Global, tables: &StoredTables, catalog: &Catalog) -> Resul
 
 /// The honest trees behind one entry more, of this number and with this batch, whose roots have
 /// this catalog.
-pub(crate) fn follow(
+pub(crate) fn honest_trees_behind(
     alloc: Global,
     before: HonestTrees,
     index: u64,

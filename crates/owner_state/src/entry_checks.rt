@@ -2,7 +2,7 @@
 ghost use Rattle.std.specs.Prelude.{IfOk, IsOk};
 ghost use Rattle.vo_spec.specs.Batches.{FitsBatch};
 ghost use Rattle.vo_spec.specs.Honest.{after_work, work_all};
-ghost use Rattle.owner_state.specs.Standing.{IsRecorded, IsLoadableOn};
+ghost use Rattle.owner_state.specs.EntriesOnTrees.{IsRecorded, IsLoadableOn};
 ghost use Rattle.owner_state.specs.Walking.{GivesTreesIf};
 
 use crate::recording::is_recorded;

@@ -5,8 +5,8 @@ ghost use Rattle.vo_spec.specs.Batches.{FitsBatch};
 ghost use Rattle.vo_spec.specs.Secret.{Secret};
 ghost use Rattle.vo_spec.specs.Replies.{FitsProofs};
 ghost use Rattle.vo_spec.specs.Honest.{honest_proofs};
-ghost use Rattle.stored_tables.specs.Standing.{IsStanding};
-ghost use Rattle.owner_state.specs.Sealed.{IsAt, Seals};
+ghost use Rattle.stored_tables.specs.Representation.{IsStanding};
+ghost use Rattle.owner_state.specs.SealResults.{IsAt, Seals};
 
 use crate::batch_working::work_batch;
 use crate::journal_writing::put_slot;

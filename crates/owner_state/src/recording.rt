@@ -5,7 +5,7 @@ ghost use Rattle.vo_spec.specs.Lms.{key_id};
 ghost use Rattle.vo_spec.specs.Owners.{IsSigned};
 ghost use Rattle.vo_spec.specs.Honest.{honest_record};
 ghost use Rattle.owner_roots.specs.Owners.{IsSignedFor, record_of_roots};
-ghost use Rattle.owner_state.specs.Standing.{IsRecorded};
+ghost use Rattle.owner_state.specs.EntriesOnTrees.{IsRecorded};
 
 use lms_sign::{PublicKey, verify};
 use owner_roots::Roots;

@@ -6,8 +6,8 @@ ghost use Rattle.vo_spec.specs.Journals.{journal_bytes, slot};
 ghost use Rattle.vo_spec.specs.Honest.{seal_batches};
 ghost use Rattle.vo_spec.specs.Owners.{IsLoadable};
 ghost use Rattle.owner_roots.specs.Owners.{IsOwned};
-ghost use Rattle.owner_state.specs.Standing.{entry_on};
-ghost use Rattle.owner_state.specs.Sealed.{IsAt};
+ghost use Rattle.owner_state.specs.EntriesOnTrees.{entry_on};
+ghost use Rattle.owner_state.specs.SealResults.{IsAt};
 ghost use Rattle.owner_state.specs.Sealing.{commands_of, seal_fault, FitEach};
 
 use crate::journal_writing::put_slot;

@@ -8,7 +8,7 @@ ghost use Rattle.owner_roots.specs.Owners.{AreOwned};
 ghost use Rattle.owner_state.specs.Departing.{Departs, trees_at};
 ghost use Rattle.owner_state.specs.Walking.{GivesTreesIf, StopsAt};
 
-use crate::departures::{Departure, HonestTrees, follow};
+use crate::departures::{Departure, HonestTrees, honest_trees_behind};
 use crate::entry_checks::{check_record, check_store_entry};
 use crate::journals::JournalFault;
 use crate::leading::lead;
@@ -101,7 +101,13 @@ pub(crate) fn walk_owned(
     for (index, entry) in entries.iter().enumerate() {
         match lead(alloc, key, &roots, entry)? {
             Some(after) => {
-                honest = follow(alloc, honest, index as u64, &entry.batch, &after.catalog)?;
+                honest = honest_trees_behind(
+                    alloc,
+                    honest,
+                    index as u64,
+                    &entry.batch,
+                    &after.catalog,
+                )?;
                 roots = Some(after);
             }
             None => {

@@ -7,7 +7,7 @@ ghost use Rattle.vo_spec.specs.Conditions.{query_of};
 ghost use Rattle.vo_spec.specs.Tables.{table_header_of};
 ghost use Rattle.vo_spec.specs.Results.{bound_sources as bound_sources_of, header as header_of, place_value};
 ghost use Rattle.vo_spec.specs.Results.{result as result_of};
-ghost use Rattle.query_binding.specs.Sided.{bound_sources_seen};
+ghost use Rattle.query_binding.specs.HeldSources.{bound_sources_seen};
 ghost use Rattle.query_plan.specs.BoundConditions.{all_hold};
 ghost use Rattle.query_plan.specs.BoundViews.{conjunct_seen, join_seen, query_seen};
 ghost use Rattle.query_plan.specs.Plans.{plan_of};

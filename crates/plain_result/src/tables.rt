@@ -2,7 +2,7 @@
 ghost use Rattle.std.specs.Prelude.{◌≡◌, map, IfOk};
 ghost use Rattle.vo_spec.specs.Tables.{table_header_of, rows_named};
 ghost use Rattle.vo_spec.specs.Results.{row_view_of};
-ghost use Rattle.query_binding.specs.Sided.{bound_source_seen};
+ghost use Rattle.query_binding.specs.HeldSources.{bound_source_seen};
 ghost use Rattle.plain_result.specs.RowViews.{view_of_row};
 
 use crate::table_rows::TableRow;
@@ -28,7 +28,7 @@ impl Schemas for TableSlice<'_> {
     }
 }
 
-fn row_row_views<'t>(
+fn views_of_rows<'t>(
     alloc: Global,
     schema: &'t Schema,
     rows: &'t [Row],
@@ -54,7 +54,7 @@ pub(crate) fn row_views_of<'t>(
         (rows_named (bound_source_seen bound_source.entry).table tables.now)) }
 {
     match table_named(tables, bound_source.table.as_bytes()) {
-        Some(table) => row_row_views(alloc, bound_source.schema, table.rows.as_slice()),
+        Some(table) => views_of_rows(alloc, bound_source.schema, table.rows.as_slice()),
         None => Ok(Vec::new(alloc)),
     }
 }

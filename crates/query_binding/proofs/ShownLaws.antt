@@ -2,7 +2,7 @@
 use Rattle.std.proofs.Common.{◌≡◌, ℕ, ◌+◌, zero, suc, List, [], ◌∷◌, ◌++◌, map, ap, arith, ◌∙◌}
 use Rattle.std.proofs.lemmas.List.{map-append}
 use Rattle.vo_spec.specs.Results.{numbers_from}
-use Rattle.query_binding.specs.Shown.{column_of, places_until}
+use Rattle.query_binding.specs.ShownColumns.{column_of, places_until}
 
 numbers_more : (first n : ℕ) → numbers_from first (suc n) ≡ numbers_from first n ++ (first + n) ∷ []
 numbers_more first zero = let e : first ≡ first + 0 = omega arith in ap (λ (m : ℕ). m ∷ []) e

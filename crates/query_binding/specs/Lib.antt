@@ -1,4 +1,4 @@
-pub mod Sided
+pub mod HeldSources
 pub mod Binding
 pub mod Catalogs
-pub mod Shown
+pub mod ShownColumns

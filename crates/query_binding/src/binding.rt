@@ -3,7 +3,7 @@ ghost use Rattle.std.specs.Prelude.{◌≡◌, [], ◌∷◌, map, IfOk};
 ghost use Rattle.vo_spec.specs.Firsts.{first_some};
 ghost use Rattle.vo_spec.specs.Conditions.{query_of};
 ghost use Rattle.vo_spec.specs.Results.{sources, bound_source_of, bound_sources, missing_table, same_alias, ref_fault, query_refs, binding_fault};
-ghost use Rattle.query_binding.specs.Sided.{bound_source_seen, bound_sources_seen};
+ghost use Rattle.query_binding.specs.HeldSources.{bound_source_seen, bound_sources_seen};
 ghost use Rattle.query_binding.specs.Binding.{PassesBinding, shown_refs, kind_tests, name_tests};
 
 use crate::bind_fault::BindFault;

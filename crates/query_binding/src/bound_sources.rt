@@ -4,7 +4,7 @@ ghost use Rattle.std.specs.Prelude.{◌≡◌, nat_lt, length, is_some};
 ghost use Rattle.std.specs.Option.{option_map_or};
 ghost use Rattle.std.specs.List.{list_any, count_by, position_or_len};
 ghost use Rattle.vo_spec.specs.Results.{qualifies, means_column_of, no_bound_source, no_schema, bound_source_at, schema_at, place_of, kind_at, ref_kind};
-ghost use Rattle.query_binding.specs.Sided.{bound_source_seen, bound_sources_seen, place_seen};
+ghost use Rattle.query_binding.specs.HeldSources.{bound_source_seen, bound_sources_seen, place_seen};
 
 use table_list::{column_number, has_column};
 use vo_spec::{Kind, Name, Ref, Schema};

@@ -4,7 +4,7 @@ ghost use Rattle.std.specs.Option.{option_map_or};
 ghost use Rattle.vo_spec.specs.Firsts.{first_some};
 ghost use Rattle.vo_spec.specs.Conditions.{condition_of, conditions, comparisons, comparisons_in};
 ghost use Rattle.vo_spec.specs.Results.{ref_kind, operand_kind, kind_fault};
-ghost use Rattle.query_binding.specs.Sided.{bound_sources_seen};
+ghost use Rattle.query_binding.specs.HeldSources.{bound_sources_seen};
 ghost use Rattle.query_binding.specs.Binding.{PassesBinding};
 
 use crate::bind_fault::BindFault;

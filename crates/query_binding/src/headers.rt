@@ -2,10 +2,10 @@
 ghost use Rattle.std.specs.Prelude.{◌≡◌, map, length, IfOk};
 ghost use Rattle.vo_spec.specs.Tables.{column_at};
 ghost use Rattle.vo_spec.specs.Results.{header, dotted_title, ref_title, place_title, schema_at, bound_source_at};
-ghost use Rattle.query_binding.specs.Sided.{bound_sources_seen, place_seen};
+ghost use Rattle.query_binding.specs.HeldSources.{bound_sources_seen, place_seen};
 
 use crate::bound_sources::{BoundSources, ColumnPlace};
-use crate::shown::shown_places;
+use crate::shown_columns::shown_places;
 use std::alloc::{AllocError, Global};
 use table_list::name_at as column_name;
 use vo_spec::{Items, List, Ref, Text};

@@ -2,7 +2,7 @@
 ghost use Rattle.std.specs.Prelude.{◌≡◌, map, option_to_list};
 ghost use Rattle.vo_spec.specs.Firsts.{first_some};
 ghost use Rattle.vo_spec.specs.Results.{join_places, is_key_join, join_fault, schema_at};
-ghost use Rattle.query_binding.specs.Sided.{bound_sources_seen, place_seen};
+ghost use Rattle.query_binding.specs.HeldSources.{bound_sources_seen, place_seen};
 ghost use Rattle.query_binding.specs.Binding.{PassesBinding};
 
 use crate::bind_fault::BindFault;

@@ -10,11 +10,11 @@ mod headers;
 mod joins;
 mod references;
 mod schemas;
-mod shown;
+mod shown_columns;
 
 pub use bind_fault::BindFault;
 pub use binding::bind_sources;
 pub use bound_sources::{BoundSource, BoundSources, ColumnPlace};
 pub use headers::header;
 pub use schemas::Schemas;
-pub use shown::shown_places;
+pub use shown_columns::shown_places;

@@ -4,7 +4,7 @@ ghost use Rattle.std.specs.Option.{option_map_or};
 ghost use Rattle.vo_spec.specs.Firsts.{first_some};
 ghost use Rattle.vo_spec.specs.Conditions.{condition_of, conditions, condition_refs, conditions_refs, operand_refs};
 ghost use Rattle.vo_spec.specs.Results.{ref_fault, qualifier_of, item_refs, join_refs};
-ghost use Rattle.query_binding.specs.Sided.{bound_sources_seen};
+ghost use Rattle.query_binding.specs.HeldSources.{bound_sources_seen};
 ghost use Rattle.query_binding.specs.Binding.{PassesBinding};
 
 use crate::bind_fault::BindFault;

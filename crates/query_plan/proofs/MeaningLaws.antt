@@ -22,7 +22,7 @@ use Rattle.vo_spec.specs.Results.{BoundSource, ColumnPlace, schema_at, place_of,
 use Rattle.vo_spec.specs.Needs.{all_keys, keys_that, intersection, join_value, test_interval, interval_of, interval_of_all, is_left, left_truth, left_truths, is_place, shows_all, is_named_column, named_cells, left_need, right_need, meets_left as meets_by_names}
 use Rattle.query_plan.specs.BoundConditions.{BoundCondition, BoundConditions, conjunction, disjunction, negation, comparison, no_parts, part_and, term_value, bound_truth, every_true, some_true, all_hold, term_places, condition_places, parts_places, comparison_interval, bound_interval, intersection_of_all, is_left_place, is_on_left, one_where, conjuncts_where, all_where}
 use Rattle.query_plan.specs.BoundQueries.{bound_term, bound_condition, bound_conditions, bound_join, bound_query, join_columns}
-use Rattle.query_plan.specs.Named.{is_at, names, is_named_cell, bound_cells}
+use Rattle.query_plan.specs.NamedCells.{is_at, names, is_named_cell, bound_cells}
 use Rattle.query_plan.specs.Plans.{plan_of, left_column, right_need_of, meets_left}
 
 -- Tests of mapped items, and tests that agree.

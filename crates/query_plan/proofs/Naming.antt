@@ -5,7 +5,7 @@ use Rattle.vo_spec.specs.declared.tables.Schema.{Schema}
 use Rattle.vo_spec.specs.Tables.{cell_number}
 use Rattle.vo_spec.specs.Results.{numbers_from}
 use Rattle.query_plan.specs.BoundQueries.{BoundQuery}
-use Rattle.query_plan.specs.Named.{is_named_cell, cells_from}
+use Rattle.query_plan.specs.NamedCells.{is_named_cell, cells_from}
 
 numbers_next : (i n : ℕ) → i < n → numbers_from i (n - i) ≡ i ∷ numbers_from (i + 1) (n - (i + 1))
 numbers_next i n lt =

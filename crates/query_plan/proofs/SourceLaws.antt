@@ -5,7 +5,7 @@ use Rattle.vo_spec.specs.declared.queries.Join.{Join}
 use Rattle.vo_spec.specs.Tables.{TableHeader}
 use Rattle.vo_spec.specs.Conditions.{Query}
 use Rattle.vo_spec.specs.Results.{ColumnPlace, bound_source_of, bound_sources}
-use Rattle.query_binding.specs.Sided.{bound_source_seen, bound_sources_seen}
+use Rattle.query_binding.specs.HeldSources.{bound_source_seen, bound_sources_seen}
 use Rattle.query_binding.specs.declared.bound_sources.BoundSource.{BoundSource as HeldBoundSource}
 use Rattle.query_binding.specs.declared.bound_sources.BoundSources.{BoundSources}
 use Rattle.query_plan.specs.declared.bound_query.BoundJoin.{BoundJoin}

@@ -1,7 +1,7 @@
 -- Bound conditions and queries as the program holds them.
 use Rattle.std.specs.Prelude.{List, [], ◌∷◌, map, option_map}
 use Rattle.vo_spec.specs.Results.{ColumnPlace}
-use Rattle.query_binding.specs.Sided.{bound_sources_seen, place_seen}
+use Rattle.query_binding.specs.HeldSources.{bound_sources_seen, place_seen}
 use Rattle.query_plan.specs.declared.bound_cond.BoundOperand.{BoundOperand}
 use Rattle.query_plan.specs.declared.bound_cond.BoundOperand.TheVariants.{Column, Literal}
 use Rattle.query_plan.specs.declared.bound_cond.BoundCond.{BoundCond, fold-BoundCond}

@@ -2,7 +2,7 @@ pub mod Answers
 pub mod BoundConditions
 pub mod BoundQueries
 pub mod BoundViews
-pub mod Named
+pub mod NamedCells
 pub mod Plans
 pub mod PlanViews
-pub mod Used
+pub mod UsedTables

@@ -8,7 +8,7 @@ use Rattle.vo_spec.specs.Results.{ColumnPlace, schema_at, RowView, place_value}
 use Rattle.vo_spec.specs.Needs.{all_keys, keys_that}
 use Rattle.query_plan.specs.BoundConditions.{BoundCondition, all_hold, bound_interval, conjuncts_where}
 use Rattle.query_plan.specs.BoundQueries.{BoundQuery}
-use Rattle.query_plan.specs.Named.{bound_cells}
+use Rattle.query_plan.specs.NamedCells.{bound_cells}
 
 -- The bound query, the need of the left tree, the cells that each need of the right tree names, and
 -- the conjuncts of the left and of the late condition.

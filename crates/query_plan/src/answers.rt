@@ -1,7 +1,7 @@
 //! The rows that a bound query shows of rows of its sources, whoever saw these.
 ghost use Rattle.std.specs.Prelude.{◌≡◌, ◌++◌, [], ◌∷◌, map, option_map, IfOk, OnOk, OnErr};
 ghost use Rattle.vo_spec.specs.Results.{place_value};
-ghost use Rattle.query_binding.specs.Sided.{place_seen};
+ghost use Rattle.query_binding.specs.HeldSources.{place_seen};
 ghost use Rattle.query_plan.specs.BoundViews.{conjunct_seen, join_seen, query_seen};
 ghost use Rattle.query_plan.specs.Answers.{BeginsWith, are_joined, answer_at, pair_answers};
 

@@ -1,4 +1,4 @@
-//! Needs once more.
+//! Copies of needs.
 ghost use Rattle.std.specs.Prelude.{◌≡◌, IfOk};
 
 use std::alloc::{AllocError, Global};

@@ -1,6 +1,6 @@
 //! The interval of keys that a condition leaves of the left table.
 ghost use Rattle.std.specs.Prelude.{◌≡◌, map, drop, IfOk};
-ghost use Rattle.query_binding.specs.Sided.{place_seen};
+ghost use Rattle.query_binding.specs.HeldSources.{place_seen};
 ghost use Rattle.query_plan.specs.BoundConditions.{is_left_key, comparison_interval, bound_interval, intersection_of_all};
 ghost use Rattle.query_plan.specs.BoundViews.{term_seen, parts_seen, condition_seen};
 

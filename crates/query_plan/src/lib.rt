@@ -12,14 +12,14 @@ mod intervals;
 mod keys;
 mod laws;
 mod left_interval;
-mod named;
+mod named_cells;
 mod needs;
 mod planning;
 mod plans;
 mod row_views;
 mod rows;
 mod truths;
-mod used;
+mod used_tables;
 mod value_order;
 
 pub use answers::{push_alone, push_pair, push_pairs};
@@ -37,5 +37,5 @@ pub use query_binding::{BindFault, BoundSource, BoundSources, ColumnPlace, Schem
 pub use row_views::{RowView, value_at};
 pub use rows::{LeftRow, PlaceValues, RowPair};
 pub use truths::all_hold;
-pub use used::{has_one_tree, same_table, tables_used};
+pub use used_tables::{has_one_tree, same_table, tables_used};
 pub use vo_spec::{Catalog, Interval, Need, QueryText};

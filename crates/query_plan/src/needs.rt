@@ -2,7 +2,7 @@
 ghost use Rattle.std.specs.Prelude.{◌≡◌, ◌≤◌, ◌↔◌, [], ◌∷◌, length, IfOk, IsTrue};
 ghost use Rattle.vo_spec.specs.Batches.{max_columns};
 ghost use Rattle.vo_spec.specs.Results.{schema_at, place_value};
-ghost use Rattle.query_binding.specs.Sided.{bound_sources_seen, place_seen};
+ghost use Rattle.query_binding.specs.HeldSources.{bound_sources_seen, place_seen};
 ghost use Rattle.query_plan.specs.BoundConditions.{all_hold};
 ghost use Rattle.query_plan.specs.BoundViews.{join_seen};
 ghost use Rattle.query_plan.specs.Plans.{left_column, right_need_of, meets_left};

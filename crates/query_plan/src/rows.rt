@@ -3,7 +3,7 @@ ghost use Rattle.std.specs.Prelude.{◌≡◌, [], ◌∷◌};
 ghost use Rattle.vo_spec.specs.declared.values.Value.{Value as Plain};
 ghost use Rattle.vo_spec.specs.Lent.{value_of};
 ghost use Rattle.vo_spec.specs.Results.{ColumnPlace as PlainColumnPlace, place_value};
-ghost use Rattle.query_binding.specs.Sided.{place_seen};
+ghost use Rattle.query_binding.specs.HeldSources.{place_seen};
 
 use crate::row_views::RowView;
 use query_binding::ColumnPlace;

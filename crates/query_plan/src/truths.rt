@@ -2,7 +2,7 @@
 ghost use Rattle.std.specs.Prelude.{◌≡◌, map, drop};
 ghost use Rattle.vo_spec.specs.Lent.{value_of};
 ghost use Rattle.vo_spec.specs.Conditions.{compares};
-ghost use Rattle.query_binding.specs.Sided.{place_seen};
+ghost use Rattle.query_binding.specs.HeldSources.{place_seen};
 ghost use Rattle.query_plan.specs.BoundConditions.{term_value, bound_truth, every_true, some_true, all_hold};
 ghost use Rattle.query_plan.specs.BoundViews.{term_seen, parts_seen, condition_seen, conjunct_seen};
 

@@ -30,7 +30,7 @@ use Rattle.tree_collide.specs.Walks.{walk, AreOneWalk}
 use Rattle.tree_collide.proofs.OneWalk.{walk_complete, walks_seen}
 use Rattle.reply_meeting.specs.Accepting.{HasPassed}
 use Rattle.reply_meeting.specs.Comparing.{AreTwins, AreComparable}
-use Rattle.reply_meeting.proofs.Wanted.{zip_with_tables, tables_there, are_twins, are_canonical}
+use Rattle.reply_meeting.proofs.TwinTrees.{zip_with_tables, tables_there, are_twins, are_canonical}
 
 abbrev missing_of : List (List Need × RowTree) → Option CheckFault
 missing_of ts = if list_any (λ (t : List Need × RowTree). is_missing t.0 t.1) ts then Some Missing else None

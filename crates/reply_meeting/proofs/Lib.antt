@@ -1,6 +1,6 @@
-pub mod Accepted
+pub mod AcceptedReplies
 pub mod Telling
-pub mod Wanted
+pub mod TwinTrees
 pub mod Comparable
 pub mod ProofSteps
 pub mod Meets

@@ -9,7 +9,7 @@ use vo_format::Reply;
 use vo_spec::{CheckFault, QueryText};
 
 /// The reply that the bytes are, or why a client of the key, who takes any version, refuses it.
-#[tactic(auto, using(crate::proofs::Accepted::refused_unread, crate::proofs::Accepted::refused, crate::proofs::Accepted::accepted))]
+#[tactic(auto, using(crate::proofs::AcceptedReplies::refused_unread, crate::proofs::AcceptedReplies::refused, crate::proofs::AcceptedReplies::accepted))]
 pub(crate) fn read_accepted<'b>(
     alloc: Global,
     key: &PublicKey,

@@ -7,7 +7,7 @@ ghost use Rattle.reply_meeting.specs.Accepting.{HasPassed};
 ghost use Rattle.reply_meeting.specs.Comparing.{HoldsUnlessFound, ShowTheSame};
 
 use crate::catalogs::compare_catalogs;
-use crate::needed::compare_needed;
+use crate::common_needs::compare_needed;
 use query_plan::{BindFault, bind};
 use std::alloc::{AllocError, Global};
 use tree_collide::are_all_same;

@@ -3,10 +3,10 @@
 
 mod accepting;
 mod catalogs;
+mod common_needs;
 mod comparing;
 mod laws;
 mod meeting;
-mod needed;
 mod readers;
 mod trees;
 

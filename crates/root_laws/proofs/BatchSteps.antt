@@ -14,11 +14,11 @@ use Rattle.vo_spec.specs.Trees.{RowTree}
 use Rattle.vo_spec.specs.Inserts.{result_map}
 use Rattle.vo_spec.specs.Honest.{Stored, RepresentTables, stored_table_header, catalog_of, work, work_all, command_proof, honest_proofs}
 use Rattle.vo_laws.proofs.CommandLaws.{FitTables}
-use Rattle.table_list.specs.Batched.{BatchGives}
+use Rattle.table_list.specs.BatchResults.{BatchGives}
 use Rattle.table_list.specs.declared.fault.BatchFault.{BatchFault}
 use Rattle.table_list.specs.declared.fault.BatchFault.TheVariants as batch
 use Rattle.stored_tables.specs.Plain.{catalog_table, GivesPlain}
-use Rattle.stored_tables.specs.Standing.{IsStanding}
+use Rattle.stored_tables.specs.Representation.{IsStanding}
 use Rattle.stored_tables.specs.Working.{numbered_work, work_from}
 use Rattle.stored_tables.proofs.StandingLaws.{kept_standing}
 use Rattle.stored_tables.proofs.WorkLaws.{work_refused, gives_plain}

@@ -4,6 +4,6 @@ mod TableSteps
 mod ProvedChanges
 pub mod CommandSteps
 pub mod BatchSteps
-pub mod Standing
+pub mod Representation
 pub mod TakenTrees
 pub mod OneAnswer

@@ -14,16 +14,16 @@ use Rattle.vo_spec.specs.Tables.{changed_row, put_row}
 use Rattle.vo_spec.specs.Cells.{whole_entry}
 use Rattle.vo_spec.specs.Parts.{entries}
 use Rattle.vo_spec.specs.Trees.{RowTree, row_family, digest, Prunes}
-use Rattle.vo_spec.specs.Standing.{Represents}
+use Rattle.vo_spec.specs.Representation.{Represents}
 use Rattle.vo_spec.specs.Honest.{Stored, RepresentsTable, row_refusal}
 use Rattle.vo_laws.specs.Changing.{Changes, Inserts}
 use Rattle.vo_laws.specs.UpdateProofs.{IsUpdateProof, lacks}
 use Rattle.vo_laws.proofs.CommandLaws.{FitsTable, put_row_length}
 use Rattle.vo_laws.proofs.PrunedLaws.{digest_same}
-use Rattle.vo_laws.proofs.Shrunk.{TreeShrinks, tree_shrinks}
-use Rattle.vo_laws.proofs.StandingTrees.{inserted_stands, replaced_stands}
+use Rattle.vo_laws.proofs.Removal.{TreeShrinks, tree_shrinks}
+use Rattle.vo_laws.proofs.RepresentingTrees.{inserted_stands, replaced_stands}
 use Rattle.vo_laws.proofs.UpdateProofLaws.{insertion_proved, replacement_proved, removal_proved, insertion_works, replacement_works, removal_works}
-use Rattle.vo_laws.proofs.Without.{without_length}
+use Rattle.vo_laws.proofs.WithoutEntry.{without_length}
 use Rattle.mb_update.specs.declared.ops.Op.{Op}
 use Rattle.mb_update.specs.declared.ops.Op.TheVariants.{Insert as PutRow, Replace, Remove}
 use Rattle.mb_update.specs.ChangeResults.{GoesOnPruning}

@@ -7,10 +7,10 @@ use Rattle.std.specs.List.{AllByRecursion}
 use Rattle.std.proofs.lemmas.Slice.Eq.{bytes_eq-Decides}
 use Rattle.vo_spec.specs.declared.records.CatalogTable.{CatalogTable}
 use Rattle.vo_spec.specs.Values.{key_lt}
-use Rattle.vo_spec.specs.Standing.{AreRising}
+use Rattle.vo_spec.specs.Representation.{AreRising}
 use Rattle.vo_spec.specs.Honest.{Stored, RepresentTables, put_stored, stored_table_header}
 use Rattle.vo_spec.specs.declared.tables.Table.{Table}
-use Rattle.vo_laws.proofs.Growing.{other_back}
+use Rattle.vo_laws.proofs.InsertionNodes.{other_back}
 use Rattle.vo_laws.proofs.CommandLaws.{names_of}
 use Rattle.stored_tables.specs.Plain.{catalog_table}
 use Rattle.stored_tables.specs.Positions.{is_named}

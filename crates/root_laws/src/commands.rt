@@ -6,7 +6,7 @@ ghost use Rattle.vo_spec.specs.declared.records.CatalogTable.{CatalogTable};
 ghost use Rattle.vo_spec.specs.Batches.{FitsCommand};
 ghost use Rattle.vo_spec.specs.Trees.{RowTree, digest};
 ghost use Rattle.vo_spec.specs.Honest.{Stored, catalog_of, table_of, work};
-ghost use Rattle.stored_tables.specs.Standing.{IsStanding};
+ghost use Rattle.stored_tables.specs.Representation.{IsStanding};
 ghost use Rattle.owner_roots.specs.Next.{tables_after, trees_taken};
 ghost use Rattle.root_laws.specs.Following.{IsOrRefusesProof, TakesPart};
 ghost use Rattle.root_laws.specs.HonestRoots.{honest_tables_after};

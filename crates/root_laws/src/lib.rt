@@ -14,7 +14,7 @@ ghost use Rattle.vo_spec.specs.Trees.{RowTree};
 ghost use Rattle.vo_spec.specs.Tables.{apply_batch, tables_after};
 ghost use Rattle.vo_spec.specs.Replies.{AreProofs, proofs_bytes};
 ghost use Rattle.vo_spec.specs.Honest.{Stored, honest_proofs, honest_trees, work_all};
-ghost use Rattle.stored_tables.specs.Standing.{IsStanding};
+ghost use Rattle.stored_tables.specs.Representation.{IsStanding};
 ghost use Rattle.stored_tables.specs.Working.{work_from};
 ghost use Rattle.owner_roots.specs.declared.owner_fault.OwnerFault.TheVariants.{Command as Refused};
 ghost use Rattle.owner_roots.specs.Next.{NextOf, next_roots};

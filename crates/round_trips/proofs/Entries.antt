@@ -19,7 +19,7 @@ use Rattle.vo_laws.proofs.EntryLaws.{entry_held}
 use Rattle.vo_laws.proofs.ReplyFits.{reply_fits}
 use Rattle.vo_laws.proofs.SealedLaws.{batches_sealed}
 use Rattle.round_trips.specs.Trips.{AreSealable}
-use Rattle.round_trips.proofs.Sealed.{are_loadable, entries_fit, length-seal_batches}
+use Rattle.round_trips.proofs.SealedJournals.{are_loadable, entries_fit, length-seal_batches}
 
 -- Lists.
 

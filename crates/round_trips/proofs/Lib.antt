@@ -1,4 +1,4 @@
 pub mod SealedOwners
-pub mod Sealed
+pub mod SealedJournals
 pub mod Entries
 pub mod TripLaws

@@ -24,7 +24,7 @@ use Rattle.owner_roots.specs.Next.{NextOf}
 use Rattle.owner_roots.specs.Owners.{AreNextEntries, AreOwned, AreOwnedTo, IsFirstEntry, IsNextEntry, IsSignedFor, first_roots, honest_roots, record_of_roots}
 use Rattle.root_laws.specs.HonestRoots.{honest_next_roots}
 use Rattle.root_laws.proofs.BatchSteps.{accepted_roots}
-use Rattle.root_laws.proofs.Standing.{read_honestly}
+use Rattle.root_laws.proofs.Representation.{read_honestly}
 
 abbrev Signed : Secret → Entry → Type 0
 Signed secret e = IsSigned (public_of_secret secret) e.rec e.signature

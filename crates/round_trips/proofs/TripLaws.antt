@@ -18,10 +18,10 @@ use Rattle.vo_spec.specs.Honest.{honest_record, seal_batches}
 use Rattle.vo_spec.specs.Journals.{Holds, journal_bytes, tables_at}
 use Rattle.vo_spec.specs.Replies.{Reply, IsReply, reply_bytes, max_reply}
 use Rattle.vo_spec.specs.Secret.{Secret, public_of_secret}
-use Rattle.vo_laws.proofs.Complete.{honest_answer}
+use Rattle.vo_laws.proofs.CompleteReplies.{honest_answer}
 use Rattle.owner_roots.specs.Owners.{IsOwned, OwnedAuditOf}
 use Rattle.round_trips.specs.Trips.{AreSealable, IsHonestReply, plain_answer}
-use Rattle.round_trips.proofs.Sealed.{owned}
+use Rattle.round_trips.proofs.SealedJournals.{owned}
 use Rattle.round_trips.proofs.Entries.{holds, reply_after, sealable_first, tables_are, within_limits}
 
 -- The client.

@@ -46,7 +46,7 @@ fn bytes_left(
 ) -> Result<Vec<u8>, AllocError> {
     match crash {
         Some(crash) => disk.image(alloc, crash.moment, &crash.lost),
-        None => Vec::from_slice(alloc, disk.seen()),
+        None => Vec::from_slice(alloc, disk.contents()),
     }
 }
 

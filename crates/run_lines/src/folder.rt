@@ -146,7 +146,7 @@ fn run_over<D: Disk>(
     let status = run(alloc, words, shelf, disk, net, &mut out);
     Ok(RunEnd {
         status,
-        written: Vec::from_slice(alloc, out.written())?,
+        written: Vec::from_slice(alloc, out.contents())?,
         put: all_put(alloc, net)?,
     })
 }

@@ -25,7 +25,7 @@ use Rattle.sql_text.specs.Scripts.{IsScript, AnswersScript}
 use Rattle.sql_text.specs.Fits.{FitCommands, AllFit}
 use Rattle.sql_text.proofs.Made.{Made, made, of_before, of_closed, of_parens, few_listed, few_ended, all_mapped}
 use Rattle.sql_text.proofs.BatchLengths.{IsSmall, text_small, script_small}
-use Rattle.sql_text.proofs.Named.{named_fits, literal_fits}
+use Rattle.sql_text.proofs.NameLaws.{named_fits, literal_fits}
 use Rattle.sql_text.proofs.TokenSounds.{AreUtf8, IsSound}
 use Rattle.sql_tokens.proofs.Alone.{tokens_real}
 

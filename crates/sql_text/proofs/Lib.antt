@@ -4,14 +4,14 @@ pub mod Conds
 pub mod Closing
 pub mod Repeats
 pub mod Good
-pub mod Answered
+pub mod AnswerLaws
 pub mod LongBatches
 pub mod Places
 pub mod Made
 pub mod TokenFits
 pub mod TokenSounds
 pub mod TokenEnds
-pub mod Named
+pub mod NameLaws
 pub mod BatchFits
 pub mod QueryFits
 pub mod PrintTexts

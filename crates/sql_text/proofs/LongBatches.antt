@@ -9,7 +9,7 @@ use Rattle.grammar.specs.Text.{IsText, Begins, StopsAt, FaultsAt, Judges}
 use Rattle.grammar.specs.Reading.{Found, read, reader, at_end}
 use Rattle.grammar.specs.declared.ParseFault.{ParseFault}
 use Rattle.grammar.specs.declared.ParseFault.TheVariants as stop
-use Rattle.grammar.proofs.Judged.{judged}
+use Rattle.grammar.proofs.WholeReading.{judged}
 use Rattle.sql_tokens.specs.declared.kinds.TokenKind.TheVariants as k
 use Rattle.sql_tokens.specs.declared.lexemes.TokenFault.TheVariants as lapse
 use Rattle.sql_tokens.specs.declared.lexemes.LexFault.{LexFault}
@@ -34,7 +34,7 @@ use Rattle.sql_text.specs.Scripts.{closes, commits, has_long, AreShort, IsScript
 use Rattle.sql_text.proofs.Rounds.{with_front, front_none}
 use Rattle.sql_text.proofs.Repeats.{many_of}
 use Rattle.sql_text.proofs.Good.{is_sql, script_good}
-use Rattle.sql_text.proofs.Answered.{answers, accepts, same_ok, unplaced_is, drop_placed}
+use Rattle.sql_text.proofs.AnswerLaws.{answers, accepts, same_ok, unplaced_is, drop_placed}
 
 -- the loop over batches, at its begin
 pub script_is : (levels : ℕ) (left : List Token) (none : List Batch) → none ≡ []

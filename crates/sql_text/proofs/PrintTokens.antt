@@ -14,7 +14,7 @@ use Rattle.std.proofs.lemmas.Str.Parse.{IsNumeralModel, numerals_by_value, tells
 use Rattle.sql_tokens.specs.declared.kinds.TokenKind.TheVariants as k
 use Rattle.sql_tokens.specs.declared.lexemes.TokenFault.TheVariants as lapse
 use Rattle.sql_tokens.specs.Kinds.{keyword}
-use Rattle.sql_tokens.specs.Lex.{is_letter, is_word_byte, keyword_or_name, integer_value, integer, closing, single_quotes, quoted_value, fits_text, string_token, token_at}
+use Rattle.sql_tokens.specs.Lex.{is_letter, is_word_byte, keyword_or_name, integer_value, integer, closing_len, single_quotes, quoted_value, fits_text, string_token, token_at}
 use Rattle.sql_tokens.proofs.Alone.{letter_at, digit_at, minus_at, quote_at}
 use Rattle.vo_spec.specs.declared.values.Value.TheVariants as value
 use Rattle.vo_spec.specs.Names.{is_digit, is_name_byte, FitsName}
@@ -160,12 +160,12 @@ integer_is (negsuc n) h =
 
 -- Texts in quotes.
 
-closes_at : (s : List ℕ) → closing false (flat_map quoted_byte s ++ 39 ∷ []) ≡ Some (length (flat_map quoted_byte s ++ 39 ∷ []))
+closes_at : (s : List ℕ) → closing_len false (flat_map quoted_byte s ++ 39 ∷ []) ≡ Some (length (flat_map quoted_byte s ++ 39 ∷ []))
 closes_at [] = refl
 closes_at (b ∷ s) = by_quote (b == 39) refl (closes_at s)
   where
-    by_quote : (q : Bool) → (b == 39) ≡ q → closing false (flat_map quoted_byte s ++ 39 ∷ []) ≡ Some (length (flat_map quoted_byte s ++ 39 ∷ []))
-        → closing false ((cond q (39 ∷ 39 ∷ []) (b ∷ []) ++ flat_map quoted_byte s) ++ 39 ∷ []) ≡ Some (length ((cond q (39 ∷ 39 ∷ []) (b ∷ []) ++ flat_map quoted_byte s) ++ 39 ∷ []))
+    by_quote : (q : Bool) → (b == 39) ≡ q → closing_len false (flat_map quoted_byte s ++ 39 ∷ []) ≡ Some (length (flat_map quoted_byte s ++ 39 ∷ []))
+        → closing_len false ((cond q (39 ∷ 39 ∷ []) (b ∷ []) ++ flat_map quoted_byte s) ++ 39 ∷ []) ≡ Some (length ((cond q (39 ∷ 39 ∷ []) (b ∷ []) ++ flat_map quoted_byte s) ++ 39 ∷ []))
     by_quote true e again = ap (λ o. option_map suc (option_map suc o)) again
     by_quote false e again = rw e (ap (option_map suc) again)
 

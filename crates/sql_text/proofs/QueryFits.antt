@@ -29,7 +29,7 @@ use Rattle.sql_text.specs.Queries.{name, reference, ref_of, source, source_of, o
 use Rattle.sql_text.specs.Texts.{without_places, IsTextOf, AnswersText}
 use Rattle.sql_text.specs.Printable.{PrintableRef, PrintableSource, PrintableItems, PrintableJoin, PrintableOperand, PrintableSides, PrintableQuery}
 use Rattle.sql_text.proofs.Made.{Made, made, of_before, of_listed, all_both, all_mapped}
-use Rattle.sql_text.proofs.Named.{named_fits, literal_fits}
+use Rattle.sql_text.proofs.NameLaws.{named_fits, literal_fits}
 use Rattle.sql_text.proofs.TokenSounds.{AreUtf8, IsSound}
 use Rattle.sql_text.proofs.BatchFits.{all_sound}
 

@@ -13,7 +13,7 @@ use Rattle.sql_tokens.specs.declared.kinds.TokenKind.TheVariants as k
 use Rattle.sql_tokens.specs.declared.lexemes.TokenFault.{TokenFault}
 use Rattle.sql_tokens.specs.declared.lexemes.TokenFault.TheVariants as lapse
 use Rattle.sql_tokens.specs.Kinds.{keyword, spelling}
-use Rattle.sql_tokens.specs.Lex.{Token, Placed, is_blank, is_letter, is_word_byte, closing, keyword_or_name, integer, integer_value, string_token, symbol, symbolic, fits_text, token_at, then_tokens, at_place, tokens_from}
+use Rattle.sql_tokens.specs.Lex.{Token, Placed, is_blank, is_letter, is_word_byte, closing_len, keyword_or_name, integer, integer_value, string_token, symbol, symbolic, fits_text, token_at, then_tokens, at_place, tokens_from}
 use Rattle.sql_text.specs.Texts.{without_places}
 use Rattle.sql_text.proofs.TokenFits.{pick, word_of, symbol_text, quote_text, minus_text, minus_or, digit_text, digit_or, cases}
 use Rattle.sql_text.proofs.TokenSounds.{word_small, word_letter, closing_last, closed_at_once, within, text_in, read_ok, read_err, AreUtf8}
@@ -59,7 +59,7 @@ minus_ends (b ∷ z) e = by_size (prefix_len is_ascii_digit z) refl
         one_more : (n : ℕ) → 1 + suc n ≡ suc (suc n)
         one_more n = omega arith
 
-quote_ends : (z : List ℕ) (len : ℕ) → (slice_index z 0 == 39) ≡ true → closing false (drop 1 z) ≡ Some len → EndsAt z (take (suc len) z)
+quote_ends : (z : List ℕ) (len : ℕ) → (slice_index z 0 == 39) ≡ true → closing_len false (drop 1 z) ≡ Some len → EndsAt z (take (suc len) z)
 quote_ends [] len q e = absurd (cc)
 quote_ends (b ∷ ys) zero q e = let f : false ≡ true = closed_at_once false ys e in absurd (cc)
 quote_ends (b ∷ ys) (suc n) q e =
@@ -162,8 +162,8 @@ symbolic_ends z None t h e = absurd (cc)
 symbolic_ends z (Some kind) t h e = subst (EndsAt z) (ap text_in e) (h kind refl)
 
 module _ (z : List ℕ) (t : Token) (some : 0 < length z) where
-  by_quote : ((slice_index z 0 == 39) ≡ true) × (string_token (closing false (drop 1 z)) z ≡ Ok t) ⊎ ((slice_index z 0 == 39) ≡ false) × (symbol_text z t ≡ Ok t) → EndsAt z t.text
-  by_quote (inl h) = quoted_ends z (closing false (drop 1 z)) t (λ len e. quote_ends z len h.0 e) h.1
+  by_quote : ((slice_index z 0 == 39) ≡ true) × (string_token (closing_len false (drop 1 z)) z ≡ Ok t) ⊎ ((slice_index z 0 == 39) ≡ false) × (symbol_text z t ≡ Ok t) → EndsAt z t.text
+  by_quote (inl h) = quoted_ends z (closing_len false (drop 1 z)) t (λ len e. quote_ends z len h.0 e) h.1
   by_quote (inr h) = symbolic_ends z (symbol (slice_index z 0) (slice_index z 1)) t (λ kind e. symbol_ends z kind (is_symbol _ _ kind e)) h.1
 
   by_minus : ((slice_index z 0 == 45 && is_ascii_digit (slice_index z 1)) ≡ true) × (integer (integer_value (minus_text z t)) (minus_text z t) ≡ Ok t)

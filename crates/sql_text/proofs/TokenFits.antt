@@ -10,7 +10,7 @@ use Rattle.sql_tokens.specs.declared.kinds.TokenKind.TheVariants as k
 use Rattle.sql_tokens.specs.declared.lexemes.TokenFault.{TokenFault}
 use Rattle.sql_tokens.specs.declared.lexemes.TokenFault.TheVariants as lapse
 use Rattle.sql_tokens.specs.Kinds.{keyword}
-use Rattle.sql_tokens.specs.Lex.{Token, is_letter, is_word_byte, closing, symbol, digits, integer_value, keyword_or_name, integer, string_token, symbolic, token_at}
+use Rattle.sql_tokens.specs.Lex.{Token, is_letter, is_word_byte, closing_len, symbol, digits, integer_value, keyword_or_name, integer, string_token, symbolic, token_at}
 
 pub pick : {X : Type 0} (b : Bool) (x y z : X) → cond b x y ≡ z → ((b ≡ true) × (x ≡ z)) ⊎ ((b ≡ false) × (y ≡ z))
 pick true x y z e = inl (refl, e)
@@ -24,7 +24,7 @@ abbrev pub ReadAs : List ℕ → Token → Type 0
 ReadAs z t =
     ((is_letter (slice_index z 0) ≡ true) × (keyword_or_name (keyword (word_of z)) (word_of z) ≡ Ok t))
     ⊎ ((text : List ℕ) × (integer (integer_value text) text ≡ Ok t))
-    ⊎ (((slice_index z 0 == 39) ≡ true) × (string_token (closing false (drop 1 z)) z ≡ Ok t))
+    ⊎ (((slice_index z 0 == 39) ≡ true) × (string_token (closing_len false (drop 1 z)) z ≡ Ok t))
     ⊎ (symbolic (symbol (slice_index z 0) (slice_index z 1)) z ≡ Ok t)
 
 module _ (z : List ℕ) (t : Token) where
@@ -32,7 +32,7 @@ module _ (z : List ℕ) (t : Token) where
   symbol_text = symbolic (symbol (slice_index z 0) (slice_index z 1)) z
 
   abbrev pub quote_text : Result Token TokenFault
-  quote_text = cond (slice_index z 0 == 39) (string_token (closing false (drop 1 z)) z) symbol_text
+  quote_text = cond (slice_index z 0 == 39) (string_token (closing_len false (drop 1 z)) z) symbol_text
 
   abbrev pub minus_text : List ℕ
   minus_text = take (1 + prefix_len is_ascii_digit (drop 1 z)) z
@@ -50,7 +50,7 @@ module _ (z : List ℕ) (t : Token) where
   unfolding token_at
   cases h = h
 
-  by_quote : ((slice_index z 0 == 39) ≡ true) × (string_token (closing false (drop 1 z)) z ≡ Ok t) ⊎ ((slice_index z 0 == 39) ≡ false) × (symbol_text ≡ Ok t) → ReadAs z t
+  by_quote : ((slice_index z 0 == 39) ≡ true) × (string_token (closing_len false (drop 1 z)) z ≡ Ok t) ⊎ ((slice_index z 0 == 39) ≡ false) × (symbol_text ≡ Ok t) → ReadAs z t
   by_quote (inl h) = inr (inr (inl h))
   by_quote (inr h) = inr (inr (inr h.1))
 
@@ -141,5 +141,5 @@ number_fits z t h = by_reading (read_as z t h)
     by_reading : ReadAs z t → FitsSigned w64 t.number
     by_reading (inl (_, e)) = other_number z t _ (named_zero (keyword (word_of z)) (word_of z)) e
     by_reading (inr (inl (text, e))) = integer_fits text t (integer_value text) refl e
-    by_reading (inr (inr (inl (_, e)))) = other_number z t _ (quoted_zero (closing false (drop 1 z)) z) e
+    by_reading (inr (inr (inl (_, e)))) = other_number z t _ (quoted_zero (closing_len false (drop 1 z)) z) e
     by_reading (inr (inr (inr e))) = other_number z t _ (symbolic_zero (symbol (slice_index z 0) (slice_index z 1)) z) e

@@ -16,7 +16,7 @@ use Rattle.sql_tokens.specs.declared.kinds.TokenKind.TheVariants as k
 use Rattle.sql_tokens.specs.declared.lexemes.TokenFault.{TokenFault}
 use Rattle.sql_tokens.specs.declared.lexemes.TokenFault.TheVariants as lapse
 use Rattle.sql_tokens.specs.Kinds.{keyword, keywords, spelling}
-use Rattle.sql_tokens.specs.Lex.{Token, Placed, closing, single_quotes, quoted_value, tokens_of, is_letter, is_word_byte, keyword_or_name, integer, string_token, symbolic, fits_text, token_at}
+use Rattle.sql_tokens.specs.Lex.{Token, Placed, closing_len, single_quotes, quoted_value, tokens_of, is_letter, is_word_byte, keyword_or_name, integer, string_token, symbolic, fits_text, token_at}
 use Rattle.vo_spec.specs.declared.values.Value.TheVariants as value
 use Rattle.vo_spec.specs.Values.{is_text, FitsValue}
 use Rattle.vo_spec.specs.Names.{is_name, is_digit, is_name_byte, FitsName}
@@ -210,7 +210,7 @@ one_more : (o : Option ℕ) (n : ℕ) → option_map suc o ≡ Some (suc n) → 
 one_more None n e = absurd (cc)
 one_more (Some m) n e = cc
 
-pub closed_at_once : (s : Bool) (ys : List ℕ) → closing s ys ≡ Some 0 → s ≡ true
+pub closed_at_once : (s : Bool) (ys : List ℕ) → closing_len s ys ≡ Some 0 → s ≡ true
 closed_at_once true ys e = refl
 closed_at_once false [] e = absurd (cc)
 closed_at_once false (b ∷ ys) e = absurd (some_more _ e)
@@ -219,13 +219,13 @@ same_byte : (b : ℕ) (s : Bool) → (not s && b == 39) ≡ true → b ≡ 39
 same_byte b true e = absurd (cc)
 same_byte b false e = grind (arith, nat_tests)
 
-pub closing_last : (s : Bool) (ys : List ℕ) (n : ℕ) → closing s ys ≡ Some (suc n) → get_or ys n 0 ≡ 39
+pub closing_last : (s : Bool) (ys : List ℕ) (n : ℕ) → closing_len s ys ≡ Some (suc n) → get_or ys n 0 ≡ 39
 closing_last true [] n e = absurd (cc)
 closing_last false [] n e = absurd (cc)
-closing_last s (b ∷ ys) n e = by_end n (λ m f. closing_last (not s && b == 39) ys m f) (pick (s && not (b == 39)) (Some 0) (option_map suc (closing (not s && b == 39) ys)) (Some (suc n)) e)
+closing_last s (b ∷ ys) n e = by_end n (λ m f. closing_last (not s && b == 39) ys m f) (pick (s && not (b == 39)) (Some 0) (option_map suc (closing_len (not s && b == 39) ys)) (Some (suc n)) e)
   where
-    by_end : (n : ℕ) → ((m : ℕ) → closing (not s && b == 39) ys ≡ Some (suc m) → get_or ys m 0 ≡ 39)
-        → (((s && not (b == 39)) ≡ true) × (Some 0 ≡ Some (suc n))) ⊎ (((s && not (b == 39)) ≡ false) × (option_map suc (closing (not s && b == 39) ys) ≡ Some (suc n)))
+    by_end : (n : ℕ) → ((m : ℕ) → closing_len (not s && b == 39) ys ≡ Some (suc m) → get_or ys m 0 ≡ 39)
+        → (((s && not (b == 39)) ≡ true) × (Some 0 ≡ Some (suc n))) ⊎ (((s && not (b == 39)) ≡ false) × (option_map suc (closing_len (not s && b == 39) ys) ≡ Some (suc n)))
         → get_or (b ∷ ys) n 0 ≡ 39
     by_end n again (inl (_, f)) = absurd (cc)
     by_end zero again (inr (_, f)) = same_byte b s (closed_at_once _ ys (one_more _ 0 f))
@@ -326,7 +326,7 @@ within n [] e = absurd (cc)
 within zero (y ∷ ys) e = omega arith
 within (suc n) (y ∷ ys) e = let h = within n ys e in omega arith
 
-text_is : (z : List ℕ) (len : ℕ) → IsUtf8 z → (slice_index z 0 == 39) ≡ true → closing false (drop 1 z) ≡ Some len → take (suc len) z ≡ z → fits_text z ≡ true → is_text (quoted_value z) ≡ true
+text_is : (z : List ℕ) (len : ℕ) → IsUtf8 z → (slice_index z 0 == 39) ≡ true → closing_len false (drop 1 z) ≡ Some len → take (suc len) z ≡ z → fits_text z ≡ true → is_text (quoted_value z) ≡ true
 text_is [] len u q c w f = absurd (cc)
 text_is (b ∷ ys) zero u q c w f = let e : false ≡ true = closed_at_once false ys c in absurd (cc)
 text_is (b ∷ ys) (suc n) u q c w f =
@@ -341,7 +341,7 @@ text_is (b ∷ ys) (suc n) u q c w f =
 pub value_fits : (t : Token) → IsSound t → t.kind ≡ k.Quoted → FitsValue (value.Text (quoted_value t.text))
 value_fits t (real, u) kind = by_reading (read_as t.text t real)
   where
-    by_fit : (len : ℕ) → (slice_index t.text 0 == 39) ≡ true → closing false (drop 1 t.text) ≡ Some len
+    by_fit : (len : ℕ) → (slice_index t.text 0 == 39) ≡ true → closing_len false (drop 1 t.text) ≡ Some len
         → ((fits_text (take (suc len) t.text) ≡ true) × (read_ok (record { kind = k.Quoted; text = take (suc len) t.text; number = pos 0 }) ≡ Ok t))
         ⊎ ((fits_text (take (suc len) t.text) ≡ false) × (read_err lapse.Literal ≡ Ok t)) → FitsValue (value.Text (quoted_value t.text))
     by_fit len q c (inl (f, e)) =
@@ -349,7 +349,7 @@ value_fits t (real, u) kind = by_reading (read_as t.text t real)
         text_is t.text len u q c whole (subst (λ z. fits_text z ≡ true) whole f)
     by_fit len q c (inr (_, e)) = absurd (cc)
 
-    by_closing : (o : Option ℕ) → closing false (drop 1 t.text) ≡ o → (slice_index t.text 0 == 39) ≡ true → string_token o t.text ≡ Ok t → FitsValue (value.Text (quoted_value t.text))
+    by_closing : (o : Option ℕ) → closing_len false (drop 1 t.text) ≡ o → (slice_index t.text 0 == 39) ≡ true → string_token o t.text ≡ Ok t → FitsValue (value.Text (quoted_value t.text))
     by_closing None c q e = absurd (cc)
     by_closing (Some len) c q e = by_fit len q c (pick (fits_text (take (suc len) t.text)) _ _ (Ok t) e)
 
@@ -362,5 +362,5 @@ value_fits t (real, u) kind = by_reading (read_as t.text t real)
     by_reading : ReadAs t.text t → FitsValue (value.Text (quoted_value t.text))
     by_reading (inl (l, e)) = by_keyword (keyword (word_of t.text)) refl e
     by_reading (inr (inl (text, e))) = let same : k.Integer ≡ k.Quoted = no_integer _ text t e ∙ kind in absurd (cc)
-    by_reading (inr (inr (inl (q, e)))) = by_closing (closing false (drop 1 t.text)) refl q e
+    by_reading (inr (inr (inl (q, e)))) = by_closing (closing_len false (drop 1 t.text)) refl q e
     by_reading (inr (inr (inr e))) = absurd (no_symbol t _ real (ap spelling kind) e)

@@ -34,7 +34,7 @@ impl<'a> Parser<'a> {
     }
 
     /// The tokens that are left.
-    #[tactic(auto, using(crate::proofs::Answered::drop_all))]
+    #[tactic(auto, using(crate::proofs::AnswerLaws::drop_all))]
     pub fn left(&self) -> &'a [Lexeme<'a>]
         ensures { result.now ≡ drop self.now.place self.now.list.now }
     {

@@ -10,7 +10,7 @@ use Rattle.sql_tokens.specs.declared.kinds.TokenKind.TheVariants as k
 use Rattle.sql_tokens.specs.declared.lexemes.TokenFault.{TokenFault}
 use Rattle.sql_tokens.specs.declared.lexemes.TokenFault.TheVariants as lapse
 use Rattle.sql_tokens.specs.Kinds.{spelling, keyword}
-use Rattle.sql_tokens.specs.Lex.{Token, Placed, is_blank, is_letter, is_word_byte, keyword_or_name, integer_value, integer, closing, fits_text, string_token, symbol, symbolic, token_at, then_tokens, at_place, tokens_from, tokens_of}
+use Rattle.sql_tokens.specs.Lex.{Token, Placed, is_blank, is_letter, is_word_byte, keyword_or_name, integer_value, integer, closing_len, fits_text, string_token, symbol, symbolic, token_at, then_tokens, at_place, tokens_from, tokens_of}
 
 -- a run of bytes alone is a run
 run_alone : (p : ℕ → Bool) (z : List ℕ) → let w = take (prefix_len p z) z in take (prefix_len p w) w ≡ w
@@ -145,7 +145,7 @@ unfolding token_at
 minus_at b z e f h = rw (e, f, h) refl
 
 pub quote_at : (b : ℕ) (z : List ℕ) → is_letter b ≡ false → is_ascii_digit b ≡ false → (b == 45 && is_ascii_digit (slice_index z 0)) ≡ false → (b == 39) ≡ true
-    → token_at (b ∷ z) ≡ string_token (closing false z) (b ∷ z)
+    → token_at (b ∷ z) ≡ string_token (closing_len false z) (b ∷ z)
 unfolding token_at
 quote_at b z e f h i = rw (e, f, h, i) refl
 
@@ -208,27 +208,27 @@ first_true : (x y : Bool) → (x && y) ≡ true → x ≡ true
 first_true true y e = refl
 first_true false y e = e
 
-closing_alone : (second : Bool) (z : List ℕ) (len : ℕ) → closing second z ≡ Some len → closing second (take len z) ≡ Some len
-closing_alone second [] len e = ap (closing second) (take_none len) ∙ e
+closing_alone : (second : Bool) (z : List ℕ) (len : ℕ) → closing_len second z ≡ Some len → closing_len second (take len z) ≡ Some len
+closing_alone second [] len e = ap (closing_len second) (take_none len) ∙ e
 closing_alone second (b ∷ z) zero e = by_end (second && not (b == 39)) refl e
   where
-    by_end : (c : Bool) → (second && not (b == 39)) ≡ c → cond {A = Option ℕ} c (Some 0) (option_map suc (closing (not second && b == 39) z)) ≡ Some 0 → cond {A = Option ℕ} second (Some 0) None ≡ Some 0
+    by_end : (c : Bool) → (second && not (b == 39)) ≡ c → cond {A = Option ℕ} c (Some 0) (option_map suc (closing_len (not second && b == 39) z)) ≡ Some 0 → cond {A = Option ℕ} second (Some 0) None ≡ Some 0
     by_end true h f = rw (first_true second (not (b == 39)) h) refl
-    by_end false h f = absurd (some_more (closing (not second && b == 39) z) f)
+    by_end false h f = absurd (some_more (closing_len (not second && b == 39) z) f)
 closing_alone second (b ∷ z) (suc n) e = by_end (second && not (b == 39)) refl e (closing_alone (not second && b == 39) z n)
   where
-    by_end : (c : Bool) → (second && not (b == 39)) ≡ c → cond {A = Option ℕ} c (Some 0) (option_map suc (closing (not second && b == 39) z)) ≡ Some (suc n)
-        → (closing (not second && b == 39) z ≡ Some n → closing (not second && b == 39) (take n z) ≡ Some n)
-        → cond {A = Option ℕ} (second && not (b == 39)) (Some 0) (option_map suc (closing (not second && b == 39) (take n z))) ≡ Some (suc n)
+    by_end : (c : Bool) → (second && not (b == 39)) ≡ c → cond {A = Option ℕ} c (Some 0) (option_map suc (closing_len (not second && b == 39) z)) ≡ Some (suc n)
+        → (closing_len (not second && b == 39) z ≡ Some n → closing_len (not second && b == 39) (take n z) ≡ Some n)
+        → cond {A = Option ℕ} (second && not (b == 39)) (Some 0) (option_map suc (closing_len (not second && b == 39) (take n z))) ≡ Some (suc n)
     by_end true h f others = absurd (let g : 0 ≡ suc n = cc in omega arith)
-    by_end false h f others = rw h (ap (option_map suc) (others (one_more (closing (not second && b == 39) z) n f)))
+    by_end false h f others = rw h (ap (option_map suc) (others (one_more (closing_len (not second && b == 39) z) n f)))
 
 take_again : (n : ℕ) (z : List ℕ) → take n (take n z) ≡ take n z
 take_again zero z = refl
 take_again (suc n) [] = refl
 take_again (suc n) (b ∷ z) = ap (λ y. b ∷ y) (take_again n z)
 
-quote_token : (z : List ℕ) (t : Token) (o : Option ℕ) → closing false z ≡ o → string_token o (39 ∷ z) ≡ Ok t → token_at t.text ≡ Ok t
+quote_token : (z : List ℕ) (t : Token) (o : Option ℕ) → closing_len false z ≡ o → string_token o (39 ∷ z) ≡ Ok t → token_at t.text ≡ Ok t
 quote_token z t None e h = absurd (cc)
 quote_token z t (Some len) e h =
     ap token_at (quoted_text len (39 ∷ z) t h) ∙ quote_at 39 (take len z) refl refl refl refl
@@ -269,8 +269,8 @@ alone (b ∷ z) t h = by_letter (is_letter b) refl
     by_quote : is_letter b ≡ false → is_ascii_digit b ≡ false → (b == 45 && is_ascii_digit (slice_index z 0)) ≡ false → (q : Bool) → (b == 39) ≡ q → token_at t.text ≡ Ok t
     by_quote e f m true g =
         let same : b ≡ 39 = eqb-true b 39 g in
-        let found : string_token (closing false z) (39 ∷ z) ≡ Ok t = ap (λ y. string_token (closing false z) (y ∷ z)) (sym same) ∙ sym (quote_at b z e f m g) ∙ h in
-        quote_token z t (closing false z) refl found
+        let found : string_token (closing_len false z) (39 ∷ z) ≡ Ok t = ap (λ y. string_token (closing_len false z) (y ∷ z)) (sym same) ∙ sym (quote_at b z e f m g) ∙ h in
+        quote_token z t (closing_len false z) refl found
     by_quote e f m false g = symbol_token b z t (symbol b (slice_index z 0)) e f g refl (sym (symbol_at b z e f m g) ∙ h)
 
     by_minus : is_letter b ≡ false → is_ascii_digit b ≡ false → (m : Bool) → (b == 45 && is_ascii_digit (slice_index z 0)) ≡ m → token_at t.text ≡ Ok t

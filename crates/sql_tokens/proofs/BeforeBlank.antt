@@ -10,7 +10,7 @@ use Rattle.sql_tokens.specs.declared.kinds.TokenKind.TheVariants as k
 use Rattle.sql_tokens.specs.declared.lexemes.TokenFault.{TokenFault}
 use Rattle.sql_tokens.specs.declared.lexemes.TokenFault.TheVariants as lapse
 use Rattle.sql_tokens.specs.Kinds.{spelling, keyword}
-use Rattle.sql_tokens.specs.Lex.{Token, is_blank, is_letter, is_word_byte, keyword_or_name, integer_value, integer, closing, fits_text, string_token, symbol, symbolic, token_at}
+use Rattle.sql_tokens.specs.Lex.{Token, is_blank, is_letter, is_word_byte, keyword_or_name, integer_value, integer, closing_len, fits_text, string_token, symbol, symbolic, token_at}
 use Rattle.sql_tokens.proofs.Alone.{Stands, stands, named_text, integer_text, symbolic_text, quoted_text, letter_at, digit_at, minus_at, quote_at, symbol_at, word_letter, both_true, one_more, some_more, none_at_end}
 
 behind : (b : ℕ) (x y : List ℕ) → b ∷ x ≡ b ∷ y → x ≡ y
@@ -57,24 +57,24 @@ minus_before b (c ∷ w) z t e f m is h =
     minus_at b (c ∷ w ++ 32 ∷ z) e f m ∙ ap (λ y. integer (integer_value y) y) (further ∙ sym all) ∙ found
 
 -- texts in quotes
-closing_before : (s : Bool) (w z : List ℕ) (len : ℕ) → closing s w ≡ Some len → take len w ≡ w
-    → (closing s (w ++ 32 ∷ z) ≡ Some len) × (take len (w ++ 32 ∷ z) ≡ w)
+closing_before : (s : Bool) (w z : List ℕ) (len : ℕ) → closing_len s w ≡ Some len → take len w ≡ w
+    → (closing_len s (w ++ 32 ∷ z) ≡ Some len) × (take len (w ++ 32 ∷ z) ≡ w)
 closing_before true [] z zero e f = (e, refl)
 closing_before true [] z (suc n) e f = absurd (let g : 0 ≡ suc n = cc in omega arith)
 closing_before false [] z len e f = absurd (cc)
 closing_before s (b ∷ w) z zero e f = absurd (cc)
 closing_before s (b ∷ w) z (suc n) e f = by_end (s && not (b == 39)) refl e (λ g. closing_before (not s && b == 39) w z n g (behind b _ w f))
   where
-    by_end : (c : Bool) → (s && not (b == 39)) ≡ c → cond {A = Option ℕ} c (Some 0) (option_map suc (closing (not s && b == 39) w)) ≡ Some (suc n)
-        → (closing (not s && b == 39) w ≡ Some n → (closing (not s && b == 39) (w ++ 32 ∷ z) ≡ Some n) × (take n (w ++ 32 ∷ z) ≡ w))
-        → (closing s (b ∷ w ++ 32 ∷ z) ≡ Some (suc n)) × (b ∷ take n (w ++ 32 ∷ z) ≡ b ∷ w)
+    by_end : (c : Bool) → (s && not (b == 39)) ≡ c → cond {A = Option ℕ} c (Some 0) (option_map suc (closing_len (not s && b == 39) w)) ≡ Some (suc n)
+        → (closing_len (not s && b == 39) w ≡ Some n → (closing_len (not s && b == 39) (w ++ 32 ∷ z) ≡ Some n) × (take n (w ++ 32 ∷ z) ≡ w))
+        → (closing_len s (b ∷ w ++ 32 ∷ z) ≡ Some (suc n)) × (b ∷ take n (w ++ 32 ∷ z) ≡ b ∷ w)
     by_end true g h again = absurd (let i : 0 ≡ suc n = cc in omega arith)
     by_end false g h again =
-        let others = again (one_more (closing (not s && b == 39) w) n h) in
-        (ap (λ c. cond {A = Option ℕ} c (Some 0) (option_map suc (closing (not s && b == 39) (w ++ 32 ∷ z)))) g ∙ ap (option_map suc) others.0, ap (λ y. b ∷ y) others.1)
+        let others = again (one_more (closing_len (not s && b == 39) w) n h) in
+        (ap (λ c. cond {A = Option ℕ} c (Some 0) (option_map suc (closing_len (not s && b == 39) (w ++ 32 ∷ z)))) g ∙ ap (option_map suc) others.0, ap (λ y. b ∷ y) others.1)
 
-quote_before : (b : ℕ) (w z : List ℕ) (t : Token) (o : Option ℕ) → ((y : List ℕ) → token_at (b ∷ w ++ y) ≡ string_token (closing false (w ++ y)) (b ∷ w ++ y))
-    → closing false w ≡ o → string_token o (b ∷ w) ≡ Ok t → t.text ≡ b ∷ w → token_at (b ∷ w ++ 32 ∷ z) ≡ Ok t
+quote_before : (b : ℕ) (w z : List ℕ) (t : Token) (o : Option ℕ) → ((y : List ℕ) → token_at (b ∷ w ++ y) ≡ string_token (closing_len false (w ++ y)) (b ∷ w ++ y))
+    → closing_len false w ≡ o → string_token o (b ∷ w) ≡ Ok t → t.text ≡ b ∷ w → token_at (b ∷ w ++ 32 ∷ z) ≡ Ok t
 quote_before b w z t None at c h is = absurd (cc)
 quote_before b w z t (Some len) at c h is =
     let whole : take len w ≡ w = behind b _ w (sym (quoted_text len (b ∷ w) t h) ∙ is) in
@@ -118,8 +118,8 @@ before_blank (b ∷ w) z t h is = by_letter (is_letter b) refl
     by_quote : is_letter b ≡ false → is_ascii_digit b ≡ false → (b == 45 && is_ascii_digit (slice_index w 0)) ≡ false → (q : Bool) → (b == 39) ≡ q → token_at (b ∷ w ++ 32 ∷ z) ≡ Ok t
     by_quote e f m true g =
         let same : b ≡ 39 = eqb-true b 39 g in
-        let at : (y : List ℕ) → token_at (b ∷ w ++ y) ≡ string_token (closing false (w ++ y)) (b ∷ w ++ y) = λ y. quote_at b (w ++ y) e f (ap (λ c. c == 45 && is_ascii_digit (slice_index (w ++ y) 0)) same) g in
-        quote_before b w z t (closing false w) at refl (sym (quote_at b w e f m g) ∙ h) is
+        let at : (y : List ℕ) → token_at (b ∷ w ++ y) ≡ string_token (closing_len false (w ++ y)) (b ∷ w ++ y) = λ y. quote_at b (w ++ y) e f (ap (λ c. c == 45 && is_ascii_digit (slice_index (w ++ y) 0)) same) g in
+        quote_before b w z t (closing_len false w) at refl (sym (quote_at b w e f m g) ∙ h) is
     by_quote e f m false g =
         symbol_before b w z t (symbol b (slice_index w 0)) (λ y n. symbol_at b y e f (no_minus b _ n) g) refl (sym (symbol_at b w e f m g) ∙ h) is
 

@@ -60,10 +60,10 @@ integer (Some number) text = Ok (record { kind = k.Integer; text = text; number 
 
 -- how many bytes a quoted text goes on for behind its first quote, where `second` says that the
 -- byte before was a quote that may be its last; two quotes stand for one
-abbrev pub closing : Bool → List ℕ → Option ℕ
-closing second [] = if second then Some 0 else None
-closing second (b ∷ bytes) = if second && not (b == 39) then Some 0
-    else option_map suc (closing (not second && b == 39) bytes)
+abbrev pub closing_len : Bool → List ℕ → Option ℕ
+closing_len second [] = if second then Some 0 else None
+closing_len second (b ∷ bytes) = if second && not (b == 39) then Some 0
+    else option_map suc (closing_len (not second && b == 39) bytes)
 
 -- the bytes that stand between the quotes, one for two quotes
 abbrev pub single_quotes : Bool → List ℕ → List ℕ
@@ -116,7 +116,7 @@ token_at bytes =
     else (if first == 45 && is_ascii_digit second then
     (let text = take (1 + prefix_len is_ascii_digit (drop 1 bytes)) bytes in
     integer (integer_value text) text)
-    else (if first == 39 then string_token (closing false (drop 1 bytes)) bytes
+    else (if first == 39 then string_token (closing_len false (drop 1 bytes)) bytes
     else symbolic (symbol first second) bytes)))
 
 abbrev pub then_tokens : Placed → Result (List Placed) (TokenFault × ℕ)

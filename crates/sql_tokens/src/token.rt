@@ -4,7 +4,7 @@ ghost use Rattle.std.specs.Str.{all_ascii_digits};
 ghost use Rattle.std.specs.List.{prefix_len};
 ghost use Rattle.std.specs.Char.{is_ascii_digit};
 ghost use Rattle.sql_tokens.specs.Kinds.{keyword, spelling};
-ghost use Rattle.sql_tokens.specs.Lex.{is_letter, is_word_byte, closing, symbol, digits, integer_value, keyword_or_name, integer, string_token, symbolic, ReadsToken, token_at};
+ghost use Rattle.sql_tokens.specs.Lex.{is_letter, is_word_byte, closing_len, symbol, digits, integer_value, keyword_or_name, integer, string_token, symbolic, ReadsToken, token_at};
 
 use crate::kinds::TokenKind;
 use crate::lexemes::{Lexeme, TokenFault};
@@ -58,7 +58,8 @@ fn number<'a>(text: &'a [u8], len: usize, at: usize) -> Result<Lexeme<'a>, Token
 /// A text in quotes, of which the first stands first.
 fn string_token<'a>(text: &'a [u8], at: usize) -> Result<Lexeme<'a>, TokenFault>
     requires { 0 < length text.now }
-    ensures value { ReadsToken result (string_token (closing false (drop 1 text.now)) text.now) }
+    ensures value { ReadsToken result
+        (string_token (closing_len false (drop 1 text.now)) text.now) }
     ensures place { IfOk result (λ x. x.at ≡ at) }
     ensures within { IfOk result (λ x. (1 ≤ length x.text.now)
         × (length x.text.now ≤ length text.now)) }

@@ -5,7 +5,7 @@ ghost use Rattle.std.specs.Str.{str_eq_ignore_ascii_case};
 ghost use Rattle.std.specs.List.{prefix_len, list_all};
 ghost use Rattle.std.specs.Char.{is_ascii_digit};
 ghost use Rattle.sql_tokens.specs.Kinds.{keyword, spelling};
-ghost use Rattle.sql_tokens.specs.Lex.{is_blank, is_letter, is_word_byte, closing, single_quotes, symbol, digits, integer_value, fits_text};
+ghost use Rattle.sql_tokens.specs.Lex.{is_blank, is_letter, is_word_byte, closing_len, single_quotes, symbol, digits, integer_value, fits_text};
 
 use crate::kinds::{KEYWORDS, TokenKind};
 use vo_spec::MAX_TEXT;
@@ -75,7 +75,7 @@ pub fn keyword(word: &[u8]) -> Option<TokenKind>
 
 /// Where a quoted text ends, counted from behind its first quote.
 pub fn closing_len(text: &[u8]) -> Option<usize>
-    ensures value { result ≡ closing false text.now }
+    ensures value { result ≡ closing_len false text.now }
     ensures within { IfSome result (λ len. (1 ≤ len) × (len ≤ length text.now)) }
 {
     let mut is_second = false;

@@ -9,7 +9,7 @@ use Rattle.vo_spec.specs.Conditions.{Query, query_of}
 use Rattle.grammar.specs.Reading.{Found, parse}
 use Rattle.grammar.specs.Text.{IsText, Judges}
 use Rattle.grammar.specs.declared.ParseFault.{ParseFault}
-use Rattle.grammar.proofs.Judged.{judged, parsed}
+use Rattle.grammar.proofs.WholeReading.{judged, parsed}
 use Rattle.grammar.proofs.Truths.{and_right}
 use Rattle.row_bytes.proofs.Utf8.{passes, fails}
 use Rattle.sql_tokens.specs.declared.lexemes.TokenFault.{TokenFault}

@@ -26,8 +26,8 @@ pub fn ask_link<L: Link>(alloc: Global, link: &mut L, text: &[u8]) -> Result<Vec
     requires fits { length text.now ≤ max_query }
     ensures known { (before : ConnectionModel) → L.wire link.old ≡ Some before
         → Requests (λ bytes. bytes.items) (frame_bytes Query text.now)
-        (first_frame awaits.Reply before.coming) (answer_in (first_frame awaits.Reply before.coming))
-        result before (L.wire link.new) }
+        (first_frame awaits.Reply before.coming)
+        (answer_in (first_frame awaits.Reply before.coming)) result before (L.wire link.new) }
 
     ensures counts { L.faults link.old ≤ L.faults link.new }
     ensures cause { IsErrOf result WireFault.LinkFault
@@ -65,8 +65,8 @@ pub fn propose_link<L: Link>(
     requires { FitsBatch batch.now.commands }
     ensures known { (before : ConnectionModel) → L.wire link.old ≡ Some before
         → Requests (λ bytes. bytes.items) (frame_bytes Propose (batch_bytes batch.now.commands))
-        (first_frame awaits.Proofs before.coming) (answer_in (first_frame awaits.Proofs before.coming))
-        result before (L.wire link.new) }
+        (first_frame awaits.Proofs before.coming)
+        (answer_in (first_frame awaits.Proofs before.coming)) result before (L.wire link.new) }
 
     ensures counts { L.faults link.old ≤ L.faults link.new }
     ensures cause { IsErrOf result WireFault.LinkFault

@@ -6,7 +6,7 @@ use Rattle.vo_spec.specs.Honest.{Stored, RepresentTables, RepresentsTable, catal
 use Rattle.vo_laws.proofs.CommandLaws.{FitTables}
 use Rattle.vo_laws.proofs.StoredFits.{catalog_fits}
 use Rattle.mb_tree.proofs.RowLaws.{rows_in_leaf}
-use Rattle.stored_tables.specs.Standing.{IsStanding}
+use Rattle.stored_tables.specs.Representation.{IsStanding}
 use Rattle.stored_tables.specs.Plain.{plain_table}
 
 one_plain : (s : Stored) (t : Table) → RepresentsTable s t → plain_table s ≡ t

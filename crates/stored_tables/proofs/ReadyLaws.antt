@@ -17,9 +17,9 @@ use Rattle.vo_spec.specs.Batches.{FitsCommand, max_columns}
 use Rattle.vo_spec.specs.Tables.{TableHeader, Tests, table_header_of, on_table, insert_tests, update_tests, delete_tests, refusal, row_of, max_rows}
 use Rattle.vo_spec.specs.Honest.{Stored, stored_table_header}
 use Rattle.vo_laws.proofs.CommandLaws.{insertable, row_fits}
-use Rattle.vo_laws.proofs.StandingLaws.{stored_table_headers}
+use Rattle.vo_laws.proofs.RepresentationLaws.{stored_table_headers}
 use Rattle.table_list.specs.TableHeaders.{command_name}
-use Rattle.stored_tables.specs.Standing.{IsStanding}
+use Rattle.stored_tables.specs.Representation.{IsStanding}
 use Rattle.stored_tables.specs.Positions.{IsUnlike, IsAt}
 use Rattle.stored_tables.specs.Ready.{changes_rows, IsReady}
 use Rattle.stored_tables.proofs.PositionLaws.{table_header_nowhere}

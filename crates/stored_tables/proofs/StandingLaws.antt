@@ -9,11 +9,11 @@ use Rattle.vo_spec.specs.Batches.{FitsCommand}
 use Rattle.vo_spec.specs.Tables.{table_named, apply}
 use Rattle.vo_spec.specs.Honest.{Stored, RepresentsTable, RepresentTables, work}
 use Rattle.vo_laws.proofs.CommandLaws.{FitsTable}
-use Rattle.vo_laws.proofs.StandingLaws.{InStep, FitAfter, command_in_step}
+use Rattle.vo_laws.proofs.RepresentationLaws.{InStep, FitAfter, command_in_step}
 use Rattle.vo_laws.proofs.StoredFits.{SeparatedAfter, work_separated}
 use Rattle.table_list.specs.Changes.{Returns}
 use Rattle.table_list.specs.declared.fault.ApplyFault.{ApplyFault}
-use Rattle.stored_tables.specs.Standing.{IsStanding}
+use Rattle.stored_tables.specs.Representation.{IsStanding}
 use Rattle.stored_tables.specs.Positions.{is_named, IsUnlike, IsAt}
 use Rattle.stored_tables.proofs.ListLaws.{parted_at}
 

@@ -10,8 +10,8 @@ use Rattle.vo_spec.specs.Batches.{FitsCommand}
 use Rattle.vo_spec.specs.Tables.{refusal, apply, apply_from, with_index}
 use Rattle.vo_spec.specs.Honest.{Stored, RepresentTables, stored_table_header, changed_trees, work, work_all}
 use Rattle.vo_laws.proofs.CommandLaws.{FitTables}
-use Rattle.vo_laws.proofs.StandingLaws.{InStep, FitAfter, command_in_step}
-use Rattle.table_list.specs.Batched.{BatchGives}
+use Rattle.vo_laws.proofs.RepresentationLaws.{InStep, FitAfter, command_in_step}
+use Rattle.table_list.specs.BatchResults.{BatchGives}
 use Rattle.table_list.specs.declared.fault.BatchFault.{BatchFault}
 use Rattle.table_list.specs.declared.fault.BatchFault.TheVariants as fault
 use Rattle.stored_tables.specs.Working.{numbered_work, work_from}

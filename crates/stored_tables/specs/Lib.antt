@@ -1,6 +1,6 @@
 pub mod Codes
 pub mod View
-pub mod Standing
+pub mod Representation
 pub mod Positions
 pub mod Ready
 pub mod Working

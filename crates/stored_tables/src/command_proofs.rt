@@ -4,7 +4,7 @@ ghost use Rattle.std.specs.List.{AllByRecursion};
 ghost use Rattle.vo_spec.specs.Fits.{FitsTree};
 ghost use Rattle.vo_spec.specs.Honest.{command_proof, proof_on};
 ghost use Rattle.stored_tables.specs.View.{proof_list, stored_in, stored_of};
-ghost use Rattle.stored_tables.specs.Standing.{IsStanding};
+ghost use Rattle.stored_tables.specs.Representation.{IsStanding};
 
 use crate::positions::place_of;
 use crate::row_changes::key_of;

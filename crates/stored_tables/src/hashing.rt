@@ -1,7 +1,7 @@
 //! Tables whose trees keep the digests of their nodes.
 ghost use Rattle.std.specs.Prelude.{◌≡◌, IfOk};
 ghost use Rattle.stored_tables.specs.View.{stored_in, stored_of};
-ghost use Rattle.stored_tables.specs.Standing.{IsStanding};
+ghost use Rattle.stored_tables.specs.Representation.{IsStanding};
 
 use crate::table::StoredTable;
 use std::alloc::{AllocError, Global};

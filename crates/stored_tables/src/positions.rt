@@ -4,7 +4,7 @@ ghost use Rattle.vo_spec.specs.Values.{key_lt};
 ghost use Rattle.vo_spec.specs.Fits.{FitsTree};
 ghost use Rattle.vo_spec.specs.Honest.{put_stored};
 ghost use Rattle.stored_tables.specs.View.{lent_stored, stored_in, stored_of};
-ghost use Rattle.stored_tables.specs.Standing.{IsStanding};
+ghost use Rattle.stored_tables.specs.Representation.{IsStanding};
 ghost use Rattle.stored_tables.specs.Positions.{IsFound, IsThere, is_named};
 
 use crate::table::StoredTable;

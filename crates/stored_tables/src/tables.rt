@@ -8,9 +8,9 @@ ghost use Rattle.vo_spec.specs.Records.{FitsCatalog};
 ghost use Rattle.vo_spec.specs.Honest.{RepresentTables, stored_table_header, work, work_all, command_proof, catalog_of};
 ghost use Rattle.vo_laws.proofs.CommandLaws.{FitTables};
 ghost use Rattle.table_list.specs.Changes.{Returns};
-ghost use Rattle.table_list.specs.Batched.{BatchGives};
+ghost use Rattle.table_list.specs.BatchResults.{BatchGives};
 ghost use Rattle.stored_tables.specs.View.{lent_stored, proof_list, stored_in};
-ghost use Rattle.stored_tables.specs.Standing.{IsStanding};
+ghost use Rattle.stored_tables.specs.Representation.{IsStanding};
 ghost use Rattle.stored_tables.specs.Working.{work_from};
 ghost use Rattle.stored_tables.specs.Plain.{GivesPlain};
 
@@ -42,7 +42,7 @@ impl Model for StoredTables {
     ghost use Rattle.vo_spec.specs.Honest.{Stored};
     ghost use Rattle.stored_tables.specs.Codes.{coded_tables};
     ghost use Rattle.stored_tables.specs.View.{stored_in};
-    ghost use Rattle.stored_tables.specs.Standing.{IsStanding};
+    ghost use Rattle.stored_tables.specs.Representation.{IsStanding};
 
     ghost Value = { List Stored };
 

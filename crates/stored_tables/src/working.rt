@@ -6,7 +6,7 @@ ghost use Rattle.vo_spec.specs.Batches.{FitsCommand, max_columns};
 ghost use Rattle.vo_spec.specs.Honest.{changed_trees, stored_table_header, work};
 ghost use Rattle.table_list.specs.Changes.{Returns};
 ghost use Rattle.stored_tables.specs.View.{stored_in};
-ghost use Rattle.stored_tables.specs.Standing.{IsStanding};
+ghost use Rattle.stored_tables.specs.Representation.{IsStanding};
 ghost use Rattle.stored_tables.specs.Ready.{changes_rows};
 
 use crate::changing::{new_table, replace_table, with_table, without_table};

@@ -1,3 +1,3 @@
 pub mod TableHeaders
 pub mod Changes
-pub mod Batched
+pub mod BatchResults

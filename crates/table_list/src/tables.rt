@@ -3,7 +3,7 @@ ghost use Rattle.std.specs.Prelude.{◌≡◌, ◌≤◌, [], length, OnErr};
 ghost use Rattle.std.specs.List.{AllByRecursion};
 ghost use Rattle.vo_spec.specs.Tables.{apply, apply_batch};
 ghost use Rattle.vo_spec.specs.Batches.{FitsCommand, FitsBatch, max_commands};
-ghost use Rattle.table_list.specs.Batched.{BatchGives};
+ghost use Rattle.table_list.specs.BatchResults.{BatchGives};
 ghost use Rattle.table_list.specs.Changes.{Returns};
 
 use crate::commands::apply_command;

@@ -53,11 +53,11 @@ schema_of columns key = record { columns = columns; key = key }
 abbrev schema_bytes : Schema → List ℕ
 schema_bytes s = list_bytes column_bytes s.columns ++ one_byte s.key
 
-abbrev ended : List Column → ℕ → Reader Schema
-ended columns key rest = where_true (is_schema (schema_of columns key)) (schema_of columns key, rest)
+abbrev schema_at_end : List Column → ℕ → Reader Schema
+schema_at_end columns key rest = where_true (is_schema (schema_of columns key)) (schema_of columns key, rest)
 
 abbrev key_of : List Column → Reader Schema
-key_of columns bytes = byte_at bytes >>= λ key. ended columns key.0 key.1
+key_of columns bytes = byte_at bytes >>= λ key. schema_at_end columns key.0 key.1
 
 schema_fits : (s : Schema) → FitCounted FitsColumn s.columns → is_schema s ≡ true → FitsSchema s
 schema_fits s columns e =
@@ -75,7 +75,7 @@ unfolding schema_at
 schema_found bytes s rest fits e =
     let y : Schema × List ℕ = (s, rest) in
     let cs = next_found columns_law key_of bytes y fits e in
-    let k = next_found byte_law (ended cs.0) cs.1 y cs.2.behind cs.4 in
+    let k = next_found byte_law (schema_at_end cs.0) cs.1 y cs.2.behind cs.4 in
     let t = tested (is_schema (schema_of cs.0 k.0)) (schema_of cs.0 k.0, k.1) y k.4 in
     subst (λ (p : Schema × List ℕ). Took bytes (schema_bytes p.0) p.1 × FitsSchema p.0) t.1
     (took_then bytes (list_bytes column_bytes cs.0) cs.1 (one_byte k.0) k.1 cs.2 k.2, schema_fits (schema_of cs.0 k.0) cs.3 t.0)
@@ -85,7 +85,7 @@ unfolding schema_at
 schema_again s rest fits =
     ap schema_at (append_assoc (list_bytes column_bytes s.columns) (one_byte s.key) rest)
     ∙ next_again columns_law key_of s.columns (one_byte s.key ++ rest) fits.columns
-    ∙ next_again byte_law (ended s.columns) s.key rest tt
+    ∙ next_again byte_law (schema_at_end s.columns) s.key rest tt
     ∙ rw (schema_is s fits) refl
 
 schemas_read : IsReader schema_at schema_bytes FitsSchema

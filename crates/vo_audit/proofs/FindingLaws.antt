@@ -11,7 +11,7 @@ use Rattle.vo_spec.specs.Records.{FitsCatalog, catalog_bytes, catalog_digest}
 use Rattle.vo_spec.specs.Replies.{Reply}
 use Rattle.vo_spec.specs.Honest.{Stored, RepresentTables}
 use Rattle.vo_laws.proofs.CatalogEncoding.{catalog_told}
-use Rattle.vo_laws.proofs.Exact.{exact}
+use Rattle.vo_laws.proofs.ExactOutcomes.{exact}
 use Rattle.tree_collide.specs.Agreements.{HoldsOrCollides}
 use Rattle.tree_collide.specs.Preimages.{OfStrings}
 use Rattle.vo_audit.specs.Auditing.{CollidesOr, HasPassed, IsPartOf, seen_answer}

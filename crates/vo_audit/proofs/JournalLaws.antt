@@ -11,13 +11,13 @@ use Rattle.vo_spec.specs.Records.{catalog_digest}
 use Rattle.vo_spec.specs.Journals.{FitsEntry, Holds, IsJournal, batches_of, tables_at}
 use Rattle.vo_spec.specs.Honest.{Stored, RepresentTables, catalog_of, honest_record, work_all}
 use Rattle.vo_laws.proofs.EntryLaws.{fit_at}
-use Rattle.vo_laws.proofs.StandingLaws.{stands}
-use Rattle.stored_tables.specs.Standing.{IsStanding}
+use Rattle.vo_laws.proofs.RepresentationLaws.{stands}
+use Rattle.stored_tables.specs.Representation.{IsStanding}
 use Rattle.owner_roots.specs.Owners.{IsOwned}
 use Rattle.owner_state.specs.declared.departures.Departure.{Departure}
 use Rattle.owner_state.specs.declared.journals.OwnedJournal.{OwnedJournal}
 use Rattle.owner_state.specs.Departing.{AreHonestBelow, Departs, DepartsAt, trees_at}
-use Rattle.root_laws.proofs.Standing.{honest_standing}
+use Rattle.root_laws.proofs.Representation.{honest_standing}
 use Rattle.vo_audit.specs.Auditing.{IsBefore, IsDepartureIn, IsReadAt}
 use Rattle.vo_audit.proofs.VerdictLaws.{held_within}
 

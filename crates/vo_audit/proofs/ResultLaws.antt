@@ -1,7 +1,7 @@
 -- Trees stand for one list of plain tables.
 use Rattle.std.proofs.Common.{◌≡◌, List, [], ◌∷◌, map, refl, sym, ap, ◌∙◌}
 use Rattle.vo_spec.specs.declared.tables.Table.{Table}
-use Rattle.vo_spec.specs.Standing.{row_in}
+use Rattle.vo_spec.specs.Representation.{row_in}
 use Rattle.vo_spec.specs.Honest.{Stored, RepresentTables, RepresentsTable}
 use Rattle.mb_tree.proofs.RowLaws.{rows_in_leaf}
 

@@ -33,7 +33,7 @@ use Rattle.tree_collide.specs.Preimages.{OfStrings}
 use Rattle.departures.specs.Evidence.{HasRoot, AreHashedIn}
 use Rattle.root_laws.specs.Following.{PrunesTable}
 use Rattle.vo_audit.specs.Showing.{AreHashedInOne}
-use Rattle.vo_audit.specs.Wanted.{table_at}
+use Rattle.vo_audit.specs.WantedTables.{table_at}
 
 abbrev pub stored_named : List ℕ → List Stored → Option Stored
 stored_named name stored = find (λ s. bytes_eq s.name name) stored
@@ -72,17 +72,17 @@ sources_there stored (s ∷ ss) others e =
 
 -- The tables that are wanted.
 
-abbrev alone : Bool → List ℕ → List (List ℕ)
-alone wrong left = if wrong then [] else left ∷ []
+abbrev single_table : Bool → List ℕ → List (List ℕ)
+single_table wrong left = if wrong then [] else left ∷ []
 
-abbrev joined : Bool → Bool → List ℕ → List ℕ → List (List ℕ)
-joined wrong same left right = if wrong then [] else if same then left ∷ [] else left ∷ right ∷ []
+abbrev joined_tables : Bool → Bool → List ℕ → List ℕ → List (List ℕ)
+joined_tables wrong same left right = if wrong then [] else if same then left ∷ [] else left ∷ right ∷ []
 
-alone_there : (P : List ℕ → Type 0) (wrong : Bool) (left : List ℕ) → (wrong ≡ false → P left) → AllByRecursion P (alone wrong left)
+alone_there : (P : List ℕ → Type 0) (wrong : Bool) (left : List ℕ) → (wrong ≡ false → P left) → AllByRecursion P (single_table wrong left)
 alone_there P true left there = tt
 alone_there P false left there = (there refl, tt)
 
-joined_there : (P : List ℕ → Type 0) (wrong same : Bool) (left right : List ℕ) → (wrong ≡ false → P left × P right) → AllByRecursion P (joined wrong same left right)
+joined_there : (P : List ℕ → Type 0) (wrong same : Bool) (left right : List ℕ) → (wrong ≡ false → P left × P right) → AllByRecursion P (joined_tables wrong same left right)
 joined_there P true same left right there = tt
 joined_there P false true left right there = ((there refl).0, tt)
 joined_there P false false left right there = ((there refl).0, ((there refl).1, tt))
@@ -106,13 +106,13 @@ wanted_there_of stored items left (Some j) condition =
 wanted_there : (stored : List Stored) (q : Query) → AllByRecursion (IsThere stored) (tables_wanted q (catalog_of stored))
 wanted_there stored q = wanted_there_of stored q.items q.left q.join q.condition
 
-alone_at : (wrong : Bool) (left right d : List ℕ) (place : ℕ) → place < length (alone wrong left) → get_or (alone wrong left) place d ≡ (if place == 0 then left else right)
+alone_at : (wrong : Bool) (left right d : List ℕ) (place : ℕ) → place < length (single_table wrong left) → get_or (single_table wrong left) place d ≡ (if place == 0 then left else right)
 alone_at true left right d place h = absurd (omega arith)
 alone_at false left right d zero h = refl
 alone_at false left right d (suc place) h = absurd (omega arith)
 
-joined_at : (wrong same : Bool) (left right d : List ℕ) (place : ℕ) → place < length (joined wrong same left right)
-    → get_or (joined wrong same left right) place d ≡ (if place == 0 then left else right)
+joined_at : (wrong same : Bool) (left right d : List ℕ) (place : ℕ) → place < length (joined_tables wrong same left right)
+    → get_or (joined_tables wrong same left right) place d ≡ (if place == 0 then left else right)
 joined_at true same left right d place h = absurd (omega arith)
 joined_at false true left right d zero h = refl
 joined_at false true left right d (suc place) h = absurd (omega arith)
@@ -163,23 +163,23 @@ one_wanted : (stored : List Stored) (name : List ℕ) (tree : RowTree) → IsThe
 one_wanted stored name tree there fits root =
     wanted_by stored name tree (stored_named name stored) refl there fits (ap (λ (o : Option CatalogTable). root_fault (o, tree)) (sym (catalog_has name stored)) ∙ root)
 
-abbrev paired : List Stored → List (List ℕ) → List RowTree → List (Option CatalogTable × RowTree)
-paired stored names trees = zip (map (λ name. table_named name (catalog_of stored)) names) trees
+abbrev with_catalog_tables : List Stored → List (List ℕ) → List RowTree → List (Option CatalogTable × RowTree)
+with_catalog_tables stored names trees = zip (map (λ name. table_named name (catalog_of stored)) names) trees
 
 each_wanted : (stored : List Stored) (names : List (List ℕ)) (trees : List RowTree) → length trees ≡ length names → AllByRecursion (IsThere stored) names
-    → AllByRecursion FitsTree trees → first_some (map root_fault (paired stored names trees)) ≡ None → AllZip (HasRoot stored) names trees
+    → AllByRecursion FitsTree trees → first_some (map root_fault (with_catalog_tables stored names trees)) ≡ None → AllZip (HasRoot stored) names trees
 each_wanted stored [] [] count there fits roots = tt
 each_wanted stored [] (t ∷ trees) count there fits roots = absurd (cc)
 each_wanted stored (name ∷ names) [] count there fits roots = absurd (cc)
 each_wanted stored (name ∷ names) (t ∷ trees) count there fits roots =
-    let p = first_none (root_fault (table_named name (catalog_of stored), t)) (map root_fault (paired stored names trees)) roots in
+    let p = first_none (root_fault (table_named name (catalog_of stored), t)) (map root_fault (with_catalog_tables stored names trees)) roots in
     (one_wanted stored name t there.0 fits.0 p.0, each_wanted stored names trees (cc) there.1 fits.1 p.1)
 
 pub trees_wanted : (q : Query) (r : Reply) (stored : List Stored) → FitsReply r → HasPassed q r → r.catalog ≡ catalog_of stored
     → AllZip (HasRoot stored) (tables_wanted q (catalog_of stored)) r.trees
 trees_wanted q r stored fits passed same =
     let count : length r.trees ≡ length (tables_wanted q (catalog_of stored)) = subst (λ (c : Catalog). length r.trees ≡ length (tables_wanted q c)) same passed.count in
-    let roots : first_some (map root_fault (paired stored (tables_wanted q (catalog_of stored)) r.trees)) ≡ None =
+    let roots : first_some (map root_fault (with_catalog_tables stored (tables_wanted q (catalog_of stored)) r.trees)) ≡ None =
     subst (λ (c : Catalog). first_some (map root_fault (zip (map (λ name. table_named name c) (tables_wanted q c)) r.trees)) ≡ None) same passed.roots in
     each_wanted stored (tables_wanted q (catalog_of stored)) r.trees count (wanted_there stored q) fits.trees roots
 

@@ -27,7 +27,7 @@ use Rattle.vo_spec.specs.Honest.{Stored, RepresentTables, catalog_of, trees_for}
 use Rattle.vo_spec.specs.Audits.{IsVerdict}
 use Rattle.vo_format.specs.declared.reply.Reply.{Reply as ReadReply}
 use Rattle.tree_collide.specs.Preimages.{OfStrings}
-use Rattle.stored_tables.specs.Standing.{IsStanding}
+use Rattle.stored_tables.specs.Representation.{IsStanding}
 use Rattle.owner_state.specs.declared.departures.Departure.{Departure}
 use Rattle.owner_state.specs.declared.journals.OwnedJournal.{OwnedJournal}
 use Rattle.owner_state.specs.Departing.{trees_at}

@@ -1,3 +1,3 @@
 pub mod Auditing
 pub mod Showing
-pub mod Wanted
+pub mod WantedTables

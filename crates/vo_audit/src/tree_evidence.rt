@@ -9,7 +9,7 @@ ghost use Rattle.mb_tree.specs.View.{part_of};
 ghost use Rattle.departures.specs.Evidence.{HasRoot};
 ghost use Rattle.vo_audit.specs.Auditing.{CollidesOr};
 ghost use Rattle.vo_audit.specs.Showing.{AreHashedInOne};
-ghost use Rattle.vo_audit.specs.Wanted.{table_at};
+ghost use Rattle.vo_audit.specs.WantedTables.{table_at};
 
 use departures::compare_with_table;
 use mb_tree::PartTree;

@@ -24,7 +24,7 @@ use vo_format::Reply;
 use vo_spec::{Answer, Collision, Entry, List, QueryText, Verdict};
 
 /// The journal of so many entries does not hold the reply's record.
-fn unsigned(alloc: Global, entries: usize, reply: &Reply<'_>) -> Result<Verdict, AllocError>
+fn unsigned_verdict(alloc: Global, entries: usize, reply: &Reply<'_>) -> Result<Verdict, AllocError>
     requires { 0 < entries }
     ensures { IfOk result (λ verdict. verdict
         ≡ Unsigned reply.now.rec reply.now.signature.now (entries - 1)) }
@@ -146,7 +146,7 @@ pub(crate) fn verdict_on(
         Shows verdict (AreShown (query_of query.now) (reply_of reply.now) owned.now.entries)) }
 {
     if !holds(owned.entries.as_slice(), &reply.rec) {
-        return unsigned(alloc, owned.entries.len(), reply);
+        return unsigned_verdict(alloc, owned.entries.len(), reply);
     }
     match &owned.tables {
         Some(tables) => match departure_by(owned, reply.rec.version) {

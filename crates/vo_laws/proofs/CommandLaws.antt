@@ -27,7 +27,7 @@ use Rattle.vo_spec.specs.Names.{FitsName}
 use Rattle.vo_spec.specs.Batches.{FitCounted, FitsCommand}
 use Rattle.vo_spec.specs.Records.{FitsSchema}
 use Rattle.vo_spec.specs.Fits.{FitsRow}
-use Rattle.vo_spec.specs.Standing.{AreRising}
+use Rattle.vo_spec.specs.Representation.{AreRising}
 use Rattle.vo_spec.specs.Checks.{key_kind, is_key_of}
 use Rattle.vo_laws.proofs.KeyOrder.{same_key, key_lt_lt}
 use Rattle.vo_laws.proofs.ListLaws.{each_weaker, each_both, each_map, each_mapped}

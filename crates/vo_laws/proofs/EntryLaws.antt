@@ -12,7 +12,7 @@ use Rattle.vo_spec.specs.Journals.{FitsEntry, Holds, batches_of, tables_at}
 use Rattle.vo_spec.specs.Honest.{RepresentTables, honest_trees, honest_record}
 use Rattle.vo_spec.specs.Owners.{IsSigned, IsLoadableEntry, AreLoadableAfter, AreLoadable}
 use Rattle.vo_laws.proofs.TreeFits.{each_loadable, each_dropped}
-use Rattle.vo_laws.proofs.StandingLaws.{stands}
+use Rattle.vo_laws.proofs.RepresentationLaws.{stands}
 use Rattle.vo_laws.proofs.StepLaws.{no_trees_before}
 
 -- Entries one after the other.

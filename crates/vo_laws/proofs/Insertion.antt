@@ -10,10 +10,10 @@ use Rattle.vo_spec.specs.declared.trees.UpdateFault.TheVariants.{DuplicateKey, N
 use Rattle.vo_spec.specs.Values.{key_lt}
 use Rattle.vo_spec.specs.Parts.{Part, Parts, Family, stub, leaf, inner, none, more, count, entries, entries_in}
 use Rattle.vo_spec.specs.Inserts.{min_fill, result_map, Insertion, one, two, Children, after_child, has_key, put_entry, split_leaf, split_inner, put_insertion, grow, grow_in, root_of, inserted_by}
-use Rattle.vo_spec.specs.Standing.{is_from, is_before, is_up_to, is_between, is_within, AreRising, IsNode, AreNodes, IsTree, fewest_in_root}
+use Rattle.vo_spec.specs.Representation.{is_from, is_before, is_up_to, is_between, is_within, AreRising, IsNode, AreNodes, IsTree, fewest_in_root}
 use Rattle.vo_laws.proofs.KeyOrder.{key_lt_back, key_le_le, key_lt_le}
 use Rattle.vo_laws.proofs.NodeBounds.{Between, node_between, nodes_between}
-use Rattle.vo_laws.proofs.Growing.{keys_in, Below, NotAbove, Above, put_left, put_right, put_length, put_each, put_rises, has_left, has_right, rising_left, rising_right, insertion_entries, IsInsertion, leaf_insertion, inner_insertion}
+use Rattle.vo_laws.proofs.InsertionNodes.{keys_in, Below, NotAbove, Above, put_left, put_right, put_length, put_each, put_rises, has_left, has_right, rising_left, rising_right, insertion_entries, IsInsertion, leaf_insertion, inner_insertion}
 
 pub wider : (lower upper : Option (List ℕ)) (s key : List ℕ) → is_within lower upper s ≡ true → is_within lower (Some s) key ≡ true → is_within lower upper key ≡ true
 wider lower upper s key a b =

@@ -1,5 +1,5 @@
-mod WorkedRows
-mod WorkedTrees
+mod RowExamples
+mod TreeExamples
 pub mod KeyOrder
 pub mod ListLaws
 pub mod NodeBounds
@@ -10,19 +10,19 @@ pub mod ValueOrder
 pub mod ConditionLaws
 pub mod AnswerLaws
 pub mod JoinLaws
-pub mod Exact
-pub mod Growing
+pub mod ExactOutcomes
+pub mod InsertionNodes
 pub mod Insertion
-pub mod Settling
-pub mod Shrinking
-pub mod Without
-pub mod Shrunk
-pub mod Edited
-pub mod StandingTrees
+pub mod Rebalance
+pub mod ChildRebalance
+pub mod WithoutEntry
+pub mod Removal
+pub mod Replacement
+pub mod RepresentingTrees
 pub mod CommandLaws
 pub mod TableChanges
 pub mod TableSteps
-pub mod StandingLaws
+pub mod RepresentationLaws
 pub mod TreeFits
 pub mod ChangedFits
 pub mod TreeLevels
@@ -32,7 +32,7 @@ pub mod PrunedLaws
 pub mod OneProof
 pub mod ReplyTrees
 pub mod NamedFits
-pub mod Complete
+pub mod CompleteReplies
 pub mod PrunedFits
 pub mod ReplyFits
 pub mod ByteLengths

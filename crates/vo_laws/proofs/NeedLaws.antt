@@ -17,15 +17,15 @@ use Rattle.vo_spec.specs.Parts.{leaf}
 use Rattle.vo_spec.specs.Trees.{RowTree}
 use Rattle.vo_spec.specs.Scans.{is_empty_interval, seen}
 use Rattle.vo_spec.specs.Pruning.{prune_tree}
-use Rattle.vo_spec.specs.Standing.{Represents}
+use Rattle.vo_spec.specs.Representation.{Represents}
 use Rattle.vo_spec.specs.Needs.{left_need, right_need, meets_left, seen_row_view, needs, tables_used, same_table, tree_at}
 use Rattle.vo_spec.specs.Honest.{Stored, RepresentTables, catalog_of, stored_tree, trees_for, honest_trees}
 use Rattle.vo_laws.proofs.CommandLaws.{FitTables}
-use Rattle.vo_laws.proofs.StandingLaws.{stands}
+use Rattle.vo_laws.proofs.RepresentationLaws.{stands}
 use Rattle.vo_laws.proofs.NamedFits.{cells_of, named_fits, named_cells_below}
 use Rattle.vo_laws.proofs.ReplyTrees.{pruned_complete}
-use Rattle.vo_laws.proofs.Exact.{named_stands, same_table_headers}
-use Rattle.vo_laws.proofs.Complete.{seen_same}
+use Rattle.vo_laws.proofs.ExactOutcomes.{named_stands, same_table_headers}
+use Rattle.vo_laws.proofs.CompleteReplies.{seen_same}
 
 -- For a need whose columns the rows have.
 pub seen_of_proof : (n : ℕ) (need : Need) (t : RowTree) (rows : List Row) → Represents t rows → AllByRecursion (λ column. column < n) need.columns

@@ -7,7 +7,7 @@ use Rattle.std.proofs.lemmas.Bool.{and_parts, and_from, not-true, not_from_false
 use Rattle.vo_spec.specs.Values.{key_lt}
 use Rattle.vo_spec.specs.Parts.{Part, Parts, Family, stub, leaf, inner, none, more, count, entries, entries_in}
 use Rattle.vo_spec.specs.Inserts.{min_fill}
-use Rattle.vo_spec.specs.Standing.{is_from, is_before, is_up_to, is_between, is_within, IsNode, AreNodes}
+use Rattle.vo_spec.specs.Representation.{is_from, is_before, is_up_to, is_between, is_within, IsNode, AreNodes}
 use Rattle.vo_laws.proofs.KeyOrder.{key_le_le, key_lt_le}
 use Rattle.vo_laws.proofs.ListLaws.{each_both, each_weaker}
 

@@ -15,7 +15,7 @@ use Rattle.vo_spec.specs.Cells.{cell_digest, row_digest, whole_cells, whole_entr
 use Rattle.vo_spec.specs.Trees.{RowTree, row_family, Prunes}
 use Rattle.vo_spec.specs.Scans.{in_interval}
 use Rattle.vo_spec.specs.Pruning.{at_root, is_any, needed_columns, has_column, hides_any, shows_surplus, row_has_surplus, shown_cell, shown_cells, shown_row, shown_entry, walk_for, IsCanonical, prune_tree}
-use Rattle.vo_spec.specs.Standing.{Represents, fewest_in_root}
+use Rattle.vo_spec.specs.Representation.{Represents, fewest_in_root}
 use Rattle.vo_laws.specs.Columns.{HasColumns, HaveColumns}
 use Rattle.vo_laws.proofs.ListLaws.{IsIn, each_of, each_weaker, each_both, any_in, none_any}
 use Rattle.vo_laws.proofs.WalkLaws.{only_part}

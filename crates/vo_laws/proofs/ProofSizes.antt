@@ -27,7 +27,7 @@ use Rattle.vo_spec.specs.Replies.{proofs_bytes, FitsProofs}
 use Rattle.vo_spec.specs.Honest.{Stored, RepresentTables, stored_table_header, work, proof_on, table_of, command_proof, honest_proofs, honest_trees}
 use Rattle.vo_laws.proofs.ListLaws.{each_both, each_weaker}
 use Rattle.vo_laws.proofs.CommandLaws.{FitTables}
-use Rattle.vo_laws.proofs.StandingLaws.{InStep, FitAfter, command_in_step, stands}
+use Rattle.vo_laws.proofs.RepresentationLaws.{InStep, FitAfter, command_in_step, stands}
 use Rattle.vo_laws.proofs.StoredFits.{AreSeparatedIn, SeparatedAfter, work_separated, honest_separated, each_tree_fits}
 use Rattle.vo_laws.proofs.PrunedFits.{insert_proof_fits}
 use Rattle.vo_laws.proofs.ByteLengths.{length-u16, flat_within, keys_within, entries_within}

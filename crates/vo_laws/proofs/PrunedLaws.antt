@@ -15,7 +15,7 @@ use Rattle.vo_spec.specs.Parts.{entries}
 use Rattle.vo_spec.specs.Trees.{RowTree, row_family, digest, Prunes}
 use Rattle.vo_spec.specs.Pruning.{Walk, is_missing_by, has_surplus_by, pruned_by, at_root, is_any, needed_columns, has_column, shows_surplus, row_has_surplus, shown_cells, shown_row, walk_for, has_surplus, prune_tree}
 use Rattle.vo_spec.specs.Inserts.{walk_to, insert_proof, insert_is_missing, insert_has_surplus}
-use Rattle.vo_spec.specs.Standing.{IsNode, IsTree, fewest_in_root}
+use Rattle.vo_spec.specs.Representation.{IsNode, IsTree, fewest_in_root}
 use Rattle.vo_laws.proofs.WalkLaws as walks
 use Rattle.vo_laws.proofs.WalkLaws.{digest_kept}
 

@@ -134,7 +134,7 @@ closed_count : (ps : RowTrees) → count (closed_parts ps) ≡ count ps
 closed_count none = refl
 closed_count (more m p ps) = ap (λ n. n + 1) (closed_count ps)
 
--- A small node and the sibling that is looked at.
+-- An underfull node and the sibling that is opened.
 
 right_many : (s : List ℕ) (u v q : RowTree) → Alike u v → Follows AsMany (with_right row_family u s (opened_sibling q)) (with_right row_family v s q)
 right_many s (stub d) v q z = absurd z
@@ -287,7 +287,7 @@ module _ (key : List ℕ) where
   pub removal_lacks : (t : RowTree) → lacks (tree_without_key key (remove_proof key t)) ≡ lacks (tree_without_key key t)
   removal_lacks t = lacks_same settled_root settled_root (shrink row_family key (remove_proof key t)) (shrink row_family key t) (shrink_lacks t)
 
-  -- Nothing is open beyond. Whether a child becomes small is the same in the proof and in the tree.
+  -- Nothing is open beyond. Whether a child becomes underfull is the same in the proof and in the tree.
 
   quiet_when : (p : RowTree) (fault : UpdateFault) → shrink row_family key p ≡ Err fault → becomes_underfull key p ≡ false
   quiet_when p fault is = rw is refl

@@ -21,7 +21,7 @@ use Rattle.vo_spec.specs.Checks.{tables_wanted}
 use Rattle.vo_spec.specs.Replies.{FitsReply}
 use Rattle.vo_spec.specs.Tables.{tables_after}
 use Rattle.vo_spec.specs.Honest.{Stored, catalog_of, stored_tree, trees_for, pruned_each, honest_reply, honest_trees}
-use Rattle.vo_laws.proofs.StandingLaws.{stands}
+use Rattle.vo_laws.proofs.RepresentationLaws.{stands}
 use Rattle.vo_laws.proofs.StoredFits.{honest_trees_fit, catalog_fits}
 use Rattle.vo_laws.proofs.PrunedFits.{pruned_fits}
 

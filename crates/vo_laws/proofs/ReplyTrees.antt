@@ -20,7 +20,7 @@ use Rattle.vo_spec.specs.Cells.{cell_digest, row_digest, whole_cells, whole_row,
 use Rattle.vo_spec.specs.Parts.{leaf, entries}
 use Rattle.vo_spec.specs.Trees.{RowTree, digest}
 use Rattle.vo_spec.specs.Pruning.{at_root, is_any, needed_columns, has_column, shown_cell, shown_cells, shown_row, shown_entry, walk_for, is_missing, prune_tree}
-use Rattle.vo_spec.specs.Standing.{Represents}
+use Rattle.vo_spec.specs.Representation.{Represents}
 use Rattle.vo_spec.specs.Checks.{key_kind, is_key_of, shows_kind, cells_fit, row_fits, entry_fits, has_shape, table_named, has_table_shape, root_fault}
 use Rattle.vo_spec.specs.Honest.{Stored, RepresentTables, catalog_of, stored_tree}
 use Rattle.vo_laws.specs.Columns.{HaveColumns}

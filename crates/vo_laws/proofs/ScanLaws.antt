@@ -21,7 +21,7 @@ use Rattle.vo_spec.specs.Parts.{stub, leaf, inner, none, more, entries, entries_
 use Rattle.vo_spec.specs.Trees.{RowTree, RowTrees, row_family, Prunes}
 use Rattle.vo_spec.specs.Scans.{is_above, is_below, in_interval, is_empty_interval, ends_above, begins_below, visits, put_before, append_both, values_in, with_key, seen_entries, seen_in, seen_in_each, seen}
 use Rattle.vo_spec.specs.Pruning.{walk_for, is_missing_by, is_missing_in, at_root, descend, is_any, needed_columns, hides_any, is_missing}
-use Rattle.vo_spec.specs.Standing.{is_from, is_before, IsNode, AreNodes, IsTree, fewest_in_root}
+use Rattle.vo_spec.specs.Representation.{is_from, is_before, IsNode, AreNodes, IsTree, fewest_in_root}
 use Rattle.vo_spec.specs.Inserts.{min_fill}
 use Rattle.vo_laws.proofs.KeyOrder.{key_lt_back, key_le_le, key_lt_le}
 use Rattle.vo_laws.proofs.NodeBounds.{Between, node_between}

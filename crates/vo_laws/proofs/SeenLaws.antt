@@ -19,7 +19,7 @@ use Rattle.vo_spec.specs.Cells.{value_in, whole_entry, whole_row}
 use Rattle.vo_spec.specs.Trees.{RowTree, Prunes}
 use Rattle.vo_spec.specs.Scans.{is_above, is_below, in_interval, are_crossed, is_empty_interval, put_before, values_in, with_key, seen_entries, seen_in, seen}
 use Rattle.vo_spec.specs.Pruning.{is_missing}
-use Rattle.vo_spec.specs.Standing.{Represents}
+use Rattle.vo_spec.specs.Representation.{Represents}
 use Rattle.vo_spec.specs.Needs.{seen_row_view, seen_row_views}
 use Rattle.vo_laws.proofs.KeyOrder.{key_lt_back, key_le_le, key_lt_le, key_le_lt}
 use Rattle.vo_laws.proofs.ListLaws.{IsIn, zip_map, zip_weaker}

@@ -13,7 +13,7 @@ use Rattle.vo_spec.specs.Tables.{apply_batch, after_batch, tables_after}
 use Rattle.vo_spec.specs.Batches.{batch_bytes, FitsBatch}
 use Rattle.vo_spec.specs.Honest.{Stored, work_all, after_work, honest_trees}
 use Rattle.vo_laws.proofs.ByteLengths.{length-u16}
-use Rattle.vo_laws.proofs.StandingLaws.{InStepFrom, batch_in_step, stands}
+use Rattle.vo_laws.proofs.RepresentationLaws.{InStepFrom, batch_in_step, stands}
 
 pub trees_follow : (batches : List (List Command)) (batch : List Command) → honest_trees (batches ++ batch ∷ []) ≡ after_work (honest_trees batches) batch
 unfolding honest_trees

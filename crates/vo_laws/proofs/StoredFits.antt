@@ -25,13 +25,13 @@ use Rattle.vo_spec.specs.Cells.{whole_entry}
 use Rattle.vo_spec.specs.Parts.{stub, leaf, inner, entries, leaf_bytes}
 use Rattle.vo_spec.specs.Trees.{RowTree, row_family, digest}
 use Rattle.vo_spec.specs.Fits.{FitsKey, FitsRow, FitsTree}
-use Rattle.vo_spec.specs.Standing.{AreRising, IsTree, IsNode, fewest_in_root}
+use Rattle.vo_spec.specs.Representation.{AreRising, IsTree, IsNode, fewest_in_root}
 use Rattle.vo_spec.specs.Honest.{Stored, RepresentTables, put_stored, tree_after, with_tree, behind_stored, change_tree, changed_trees, work, work_all, after_work, honest_trees, catalog_of, honest_record}
 use Rattle.vo_laws.proofs.CommandLaws.{insertable, FitsTable, FitTables, names_of, each_filter}
 use Rattle.vo_laws.proofs.TreeFits.{Separated, SeparatedTree, KeyFits, tree_separated}
 use Rattle.vo_laws.proofs.ChangedFits.{removed_separated, replaced_separated}
 use Rattle.vo_laws.proofs.TreeLevels.{whole_fits}
-use Rattle.vo_laws.proofs.StandingLaws.{InStep, FitAfter, stored_table_headers, command_in_step, batch_in_step, InStepFrom, stands}
+use Rattle.vo_laws.proofs.RepresentationLaws.{InStep, FitAfter, stored_table_headers, command_in_step, batch_in_step, InStepFrom, stands}
 
 -- The separators of what is stored fit.
 

@@ -17,9 +17,9 @@ use Rattle.vo_spec.specs.Values.{kind_of, same_kind, key_lt, FitsValue}
 use Rattle.vo_spec.specs.Tables.{max_rows, column_at, column_number, cell_number, has_twice, are_of_kinds, table_header_of, is_key, suits, update_tests, refusal, row_of, put_row, with_rows, CellChange, changed_cells, changed_row, cell_changes, without_row, table_named}
 use Rattle.vo_spec.specs.Batches.{FitCounted, FitsSet, FitsCommand}
 use Rattle.vo_spec.specs.Fits.{FitsRow}
-use Rattle.vo_spec.specs.Standing.{AreRising}
+use Rattle.vo_spec.specs.Representation.{AreRising}
 use Rattle.vo_laws.proofs.ListLaws.{each_weaker, each_map, none_any}
-use Rattle.vo_laws.proofs.Growing.{other_back}
+use Rattle.vo_laws.proofs.InsertionNodes.{other_back}
 use Rattle.vo_laws.proofs.CommandLaws.{not_false, tests_fail, IsInsertable, insertable, HasKinds, row_has_kinds, FitsTable, names_of, FitTables, each_filter, filter_shorter, each_put_row, put_row_length, row_fits}
 
 -- The rows of one table.

@@ -25,13 +25,13 @@ use Rattle.vo_spec.specs.Parts.{leaf}
 use Rattle.vo_spec.specs.Trees.{RowTree}
 use Rattle.vo_spec.specs.Inserts.{tree_with_entry}
 use Rattle.vo_spec.specs.Removes.{tree_without_key, tree_with_cells}
-use Rattle.vo_spec.specs.Standing.{AreRising, Represents}
+use Rattle.vo_spec.specs.Representation.{AreRising, Represents}
 use Rattle.vo_spec.specs.Checks.{key_kind}
 use Rattle.vo_spec.specs.Honest.{Stored, RepresentsTable, RepresentTables, put_stored, row_refusal, tree_after, with_tree, behind_stored, change_tree}
 use Rattle.vo_laws.proofs.ListLaws.{each_weaker, each_map}
 use Rattle.vo_laws.specs.Changing.{Changes}
-use Rattle.vo_laws.proofs.StandingTrees.{Inserts, inserted_stands, removed_stands, replaced_stands}
-use Rattle.vo_laws.proofs.Exact.{nothing_stands}
+use Rattle.vo_laws.proofs.RepresentingTrees.{Inserts, inserted_stands, removed_stands, replaced_stands}
+use Rattle.vo_laws.proofs.ExactOutcomes.{nothing_stands}
 use Rattle.vo_laws.proofs.CommandLaws.{names_of, each_filter, each_put_row}
 use Rattle.vo_laws.proofs.TableChanges.{others_kept}
 
@@ -89,12 +89,12 @@ behind_in_step s t (Err fault) None tables z i = absurd i
 behind_in_step s t (Err fault) (Some why) tables z i = i
 
 module _ (c : Command) (name : List ℕ) (after : Table → List Row) (why : Table → Option CommandFault) where
-  abbrev refused : Option Table → Option CommandFault
-  refused found = option_map_or why found None
+  abbrev refusal_in : Option Table → Option CommandFault
+  refusal_in found = option_map_or why found None
 
   change_in_step : (stored : List Stored) (tables : List Table) → RepresentTables stored tables → AreRising (names_of tables)
       → ((s : Stored) (t : Table) → table_named name tables ≡ Some t → RepresentsTable s t → Follows t (after t) (why t) (tree_after c s))
-      → InStep (change_tree name c stored) (unless (refused (table_named name tables)) (with_rows name after tables))
+      → InStep (change_tree name c stored) (unless (refusal_in (table_named name tables)) (with_rows name after tables))
   change_in_step [] [] zs rising follows = tt
   change_in_step [] (t ∷ tables) zs rising follows = absurd zs
   change_in_step (s ∷ stored) [] zs rising follows = absurd zs
@@ -104,16 +104,16 @@ module _ (c : Command) (name : List ℕ) (after : Table → List Row) (why : Tab
       step : (b d : Bool) → b ≡ d → bytes_eq t.name name ≡ d
           → ((r : Stored) (u : Table) → cond d (Some t) (table_named name tables) ≡ Some u → RepresentsTable r u → Follows u (after u) (why u) (tree_after c r))
           → (((r : Stored) (u : Table) → table_named name tables ≡ Some u → RepresentsTable r u → Follows u (after u) (why u) (tree_after c r))
-          → InStep (change_tree name c stored) (unless (refused (table_named name tables)) (with_rows name after tables)))
+          → InStep (change_tree name c stored) (unless (refusal_in (table_named name tables)) (with_rows name after tables)))
           → InStep (cond b (with_tree s stored (tree_after c s)) (behind_stored s (change_tree name c stored)))
-          (unless (refused (cond d (Some t) (table_named name tables))) (cond d (record { name = t.name; schema = t.schema; rows = after t }) t ∷ with_rows name after tables))
+          (unless (refusal_in (cond d (Some t) (table_named name tables))) (cond d (record { name = t.name; schema = t.schema; rows = after t }) t ∷ with_rows name after tables))
       step true true e f follows rest =
           here_in_step s t (after t) stored tables (with_rows name after tables) (tree_after c s) (why t) zs.0 zs.1
           (others_kept name after tables (subst (λ n. AllByRecursion (λ k. key_lt n k ≡ true) (names_of tables)) ((bytes_eq-Decides t.name name).0 f) rising.0))
           (follows s t refl zs.0)
       step true false e f follows rest = absurd (cc)
       step false true e f follows rest = absurd (cc)
-      step false false e f follows rest = behind_in_step s t (change_tree name c stored) (refused (table_named name tables)) (with_rows name after tables) zs.0 (rest follows)
+      step false false e f follows rest = behind_in_step s t (change_tree name c stored) (refusal_in (table_named name tables)) (with_rows name after tables) zs.0 (rest follows)
 
 -- A row is put.
 

@@ -11,10 +11,10 @@ use Rattle.vo_spec.specs.Parts.{stub, leaf, inner, none, more, count, entries, e
 use Rattle.vo_spec.specs.Trees.{RowTree, RowTrees, row_family}
 use Rattle.vo_spec.specs.Fits.{FitsKey, FitsEntry, FitsEach, FitsPart}
 use Rattle.vo_spec.specs.Inserts.{min_fill, result_map, goes_here, Insertion, one, two, Children, take_parts, drop_parts, after_child, has_key, put_entry, first_key, split_leaf, split_inner, put_insertion, grow, grow_in, root_of, tree_with_entry}
-use Rattle.vo_spec.specs.Standing.{IsNode, AreNodes, fewest_in_root}
+use Rattle.vo_spec.specs.Representation.{IsNode, AreNodes, fewest_in_root}
 use Rattle.vo_laws.proofs.ListLaws.{each_left, each_right, each_both}
 use Rattle.vo_laws.proofs.NodeBounds as bounds
-use Rattle.vo_laws.proofs.Growing.{put_each}
+use Rattle.vo_laws.proofs.InsertionNodes.{put_each}
 use Rattle.vo_laws.proofs.Insertion.{root_few}
 
 -- Separators that fit.

@@ -14,7 +14,7 @@ use Rattle.vo_spec.specs.Parts.{Part, Parts, Family, stub, leaf, inner, none, mo
 use Rattle.vo_spec.specs.Trees.{RowTree, row_family}
 use Rattle.vo_spec.specs.Fits.{FitsCell, FitsEntry, FitsRow, FitsTree}
 use Rattle.vo_spec.specs.Inserts.{min_fill}
-use Rattle.vo_spec.specs.Standing.{IsNode, AreNodes, fewest_in_root, Represents}
+use Rattle.vo_spec.specs.Representation.{IsNode, AreNodes, fewest_in_root, Represents}
 use Rattle.vo_laws.proofs.TreeFits.{Separated, node_fits}
 
 -- how many entries a node has at least that isn't the root, so many levels above its leaves

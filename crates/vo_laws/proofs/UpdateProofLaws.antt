@@ -8,11 +8,11 @@ use Rattle.vo_spec.specs.Cells.{whole_entry}
 use Rattle.vo_spec.specs.Trees.{RowTree, row_family}
 use Rattle.vo_spec.specs.Inserts.{tree_with_entry, insert_is_missing, insert_has_surplus, insert_proof}
 use Rattle.vo_spec.specs.Removes.{settled_root, shrink, tree_without_key, tree_with_cells, remove_proof, replace_proof}
-use Rattle.vo_spec.specs.Standing.{Represents}
+use Rattle.vo_spec.specs.Representation.{Represents}
 use Rattle.vo_laws.specs.Changing.{Changes, Inserts}
 use Rattle.vo_laws.specs.UpdateProofs.{lacks, replace_is_missing, replace_has_surplus, remove_is_missing, remove_has_surplus, IsUpdateProof}
 use Rattle.vo_laws.proofs.PrunedLaws.{insert_prunes, insert_bare, insert_complete}
-use Rattle.vo_laws.proofs.StandingTrees.{inserted_stands, removed_stands, replaced_stands}
+use Rattle.vo_laws.proofs.RepresentingTrees.{inserted_stands, removed_stands, replaced_stands}
 use Rattle.vo_laws.proofs.PathProofs.{lacks_map, insertion_lacks, replace_prunes, replace_bare, replacement_lacks}
 use Rattle.vo_laws.proofs.RemovalProofs.{remove_prunes, remove_bare, shrink_lacks, removal_lacks}
 

@@ -37,14 +37,14 @@ int_greater a b lt = by_ranked (a <ℤ b) (a ≡ b) (b <ℤ a) (int_cmp a b) (in
 -- first.
 
 -- the number that the bytes spell behind these that were read
-abbrev encoded : ℕ → List ℕ → ℕ
-encoded n [] = n
-encoded n (b ∷ bytes) = encoded (n * 256 + b) bytes
+abbrev number_of : ℕ → List ℕ → ℕ
+number_of n [] = n
+number_of n (b ∷ bytes) = number_of (n * 256 + b) bytes
 
 abbrev AreBytes : List ℕ → Type 0
 AreBytes = AllByRecursion (λ b. b < 256)
 
-ahead : (m n : ℕ) (xs ys : List ℕ) → AreBytes xs → length xs ≡ length ys → m < n → encoded m xs < encoded n ys
+ahead : (m n : ℕ) (xs ys : List ℕ) → AreBytes xs → length xs ≡ length ys → m < n → number_of m xs < number_of n ys
 ahead m n [] [] all len lt = lt
 ahead m n [] (y ∷ ys) all len lt = absurd (omega arith)
 ahead m n (x ∷ xs) [] all len lt = absurd (omega arith)
@@ -53,7 +53,7 @@ ahead m n (x ∷ xs) (y ∷ ys) all len lt =
     ahead (m * 256 + x) (n * 256 + y) xs ys all.1 (omega arith) (omega arith)
 
 in_order : (n : ℕ) (xs ys : List ℕ) → AreBytes xs → AreBytes ys → length xs ≡ length ys
-    → slice_cmp nat_cmp xs ys ≡ nat_cmp (encoded n xs) (encoded n ys)
+    → slice_cmp nat_cmp xs ys ≡ nat_cmp (number_of n xs) (number_of n ys)
 in_order n [] [] p q len = sym (same n)
   where
     same : (k : ℕ) → nat_cmp k k ≡ Equal
@@ -66,21 +66,21 @@ in_order n (x ∷ xs) (y ∷ ys) p q len =
     rest : length xs ≡ length ys
     rest = omega arith
 
-    below : nat_cmp x y ≡ Less → x < y → ordering_then (nat_cmp x y) (slice_cmp nat_cmp xs ys) ≡ nat_cmp (encoded n (x ∷ xs)) (encoded n (y ∷ ys))
-    below e lt = rw (e, nat_less (encoded n (x ∷ xs)) (encoded n (y ∷ ys)) (ahead (n * 256 + x) (n * 256 + y) xs ys p.1 rest (omega arith))) refl
+    below : nat_cmp x y ≡ Less → x < y → ordering_then (nat_cmp x y) (slice_cmp nat_cmp xs ys) ≡ nat_cmp (number_of n (x ∷ xs)) (number_of n (y ∷ ys))
+    below e lt = rw (e, nat_less (number_of n (x ∷ xs)) (number_of n (y ∷ ys)) (ahead (n * 256 + x) (n * 256 + y) xs ys p.1 rest (omega arith))) refl
 
-    above : nat_cmp x y ≡ Greater → y < x → ordering_then (nat_cmp x y) (slice_cmp nat_cmp xs ys) ≡ nat_cmp (encoded n (x ∷ xs)) (encoded n (y ∷ ys))
-    above e lt = rw (e, nat_greater (encoded n (x ∷ xs)) (encoded n (y ∷ ys)) (ahead (n * 256 + y) (n * 256 + x) ys xs q.1 (sym rest) (omega arith))) refl
+    above : nat_cmp x y ≡ Greater → y < x → ordering_then (nat_cmp x y) (slice_cmp nat_cmp xs ys) ≡ nat_cmp (number_of n (x ∷ xs)) (number_of n (y ∷ ys))
+    above e lt = rw (e, nat_greater (number_of n (x ∷ xs)) (number_of n (y ∷ ys)) (ahead (n * 256 + y) (n * 256 + x) ys xs q.1 (sym rest) (omega arith))) refl
 
-    equal : slice_cmp nat_cmp xs ys ≡ nat_cmp (encoded (n * 256 + x) xs) (encoded (n * 256 + x) ys)
-        → nat_cmp x y ≡ Equal → x ≡ y → ordering_then (nat_cmp x y) (slice_cmp nat_cmp xs ys) ≡ nat_cmp (encoded n (x ∷ xs)) (encoded n (y ∷ ys))
+    equal : slice_cmp nat_cmp xs ys ≡ nat_cmp (number_of (n * 256 + x) xs) (number_of (n * 256 + x) ys)
+        → nat_cmp x y ≡ Equal → x ≡ y → ordering_then (nat_cmp x y) (slice_cmp nat_cmp xs ys) ≡ nat_cmp (number_of n (x ∷ xs)) (number_of n (y ∷ ys))
     equal more e same = rw (e, ← same) more
 
 eight_encode : (a b c d e f g h : ℕ)
-    → encoded 0 (a ∷ b ∷ c ∷ d ∷ e ∷ f ∷ g ∷ h ∷ []) ≡ from_be_bytes w64 (a ∷ b ∷ c ∷ d ∷ e ∷ f ∷ g ∷ h ∷ [])
+    → number_of 0 (a ∷ b ∷ c ∷ d ∷ e ∷ f ∷ g ∷ h ∷ []) ≡ from_be_bytes w64 (a ∷ b ∷ c ∷ d ∷ e ∷ f ∷ g ∷ h ∷ [])
 eight_encode a b c d e f g h = omega arith
 
-number_encoded : (n : ℕ) → n < 2 ^ 64 → encoded 0 (u64_bytes n) ≡ n
+number_encoded : (n : ℕ) → n < 2 ^ 64 → number_of 0 (u64_bytes n) ≡ n
 unfolding u64_bytes
 number_encoded n lt = eight_encode _ _ _ _ _ _ _ _ ∙ from_be_bytes-to_be_bytes_8 n lt
 
@@ -95,12 +95,12 @@ number_length n = refl
 pub numbers_in_order : (a b : ℕ) → a < 2 ^ 64 → b < 2 ^ 64 → slice_cmp nat_cmp (u64_bytes a) (u64_bytes b) ≡ nat_cmp a b
 numbers_in_order a b la lb =
     in_order 0 (u64_bytes a) (u64_bytes b) (number_bytes a) (number_bytes b) (number_length a ∙ sym (number_length b))
-    ∙ ap (λ x. nat_cmp x (encoded 0 (u64_bytes b))) (number_encoded a la) ∙ ap (λ y. nat_cmp a y) (number_encoded b lb)
+    ∙ ap (λ x. nat_cmp x (number_of 0 (u64_bytes b))) (number_encoded a la) ∙ ap (λ y. nat_cmp a y) (number_encoded b lb)
 
 -- Integers with their sign bit flipped.
 
-abbrev shifted : ℤ → ℕ
-shifted z = cast_unsigned w64 (z +ℤ pos (2 ^ 63))
+abbrev sign_flipped : ℤ → ℕ
+sign_flipped z = cast_unsigned w64 (z +ℤ pos (2 ^ 63))
 
 positive : (y : ℤ) → pos 0 ≤ℤ y → pos (cast_unsigned w64 y) ≡ y
 positive (pos n) h = refl
@@ -110,10 +110,10 @@ pub record IsShifted (z : ℤ) (n : ℕ) : Type 0 where
   pub below : n < 2 ^ 64
   pub is : pos n ≡ z +ℤ pos (2 ^ 63)
 
-is_shifted : (z : ℤ) → FitsSigned w64 z → IsShifted z (shifted z)
+is_shifted : (z : ℤ) → FitsSigned w64 z → IsShifted z (sign_flipped z)
 is_shifted z fits =
     let low : pos 0 ≤ℤ (z +ℤ pos (2 ^ 63)) = omega (arith, ints) in
-    let is : pos (shifted z) ≡ z +ℤ pos (2 ^ 63) = positive (z +ℤ pos (2 ^ 63)) low in
+    let is : pos (sign_flipped z) ≡ z +ℤ pos (2 ^ 63) = positive (z +ℤ pos (2 ^ 63)) low in
     record { below = omega (arith, ints); is = is }
 
 shifted_in_order : (x y : ℤ) (m n : ℕ) → IsShifted x m → IsShifted y n → int_cmp x y ≡ nat_cmp m n
@@ -127,7 +127,7 @@ integers_in_order : (x y : ℤ) → FitsSigned w64 x → FitsSigned w64 y → in
 integers_in_order x y fx fy =
     let a = is_shifted x fx in
     let b = is_shifted y fy in
-    shifted_in_order x y (shifted x) (shifted y) a b ∙ sym (numbers_in_order (shifted x) (shifted y) a.below b.below)
+    shifted_in_order x y (sign_flipped x) (sign_flipped y) a b ∙ sym (numbers_in_order (sign_flipped x) (sign_flipped y) a.below b.below)
 
 number_again : (n : ℕ) → n < 2 ^ 64 → u64_of (u64_bytes n) ≡ n
 unfolding u64_bytes u64_of
@@ -137,8 +137,8 @@ number_again n lt = from_be_bytes-to_be_bytes_8 n lt
 pub integer_back : (z : ℤ) → FitsSigned w64 z → value_of_key kind.Int (key_of (Int z)) ≡ Int z
 integer_back z fits =
     let a = is_shifted z fits in
-    let n : u64_of (u64_bytes (shifted z)) ≡ shifted z = number_again (shifted z) a.below in
-    let back : pos (shifted z) -ℤ pos (2 ^ 63) ≡ z = omega (arith, ints, a.is) in
+    let n : u64_of (u64_bytes (sign_flipped z)) ≡ sign_flipped z = number_again (sign_flipped z) a.below in
+    let back : pos (sign_flipped z) -ℤ pos (2 ^ 63) ≡ z = omega (arith, ints, a.is) in
     rw n (ap Int back)
 
 -- A key's value compares with another value of its kind as the keys do.

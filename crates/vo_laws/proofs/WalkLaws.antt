@@ -7,7 +7,7 @@ use Rattle.std.proofs.lemmas.Bool.{or_from, or_parts, not-false, not_from_true}
 use Rattle.vo_spec.specs.Parts.{Part, Parts, stub, leaf, inner, none, more, Family, count, entries, entries_in, digest_by, child_bytes, PrunesBy, PrunesEach}
 use Rattle.vo_spec.specs.Pruning.{Walk, is_missing_by, is_missing_in, has_surplus_by, has_surplus_in, pruned_by, pruned_in}
 use Rattle.vo_spec.specs.Inserts.{min_fill}
-use Rattle.vo_spec.specs.Standing.{IsNode, AreNodes}
+use Rattle.vo_spec.specs.Representation.{IsNode, AreNodes}
 use Rattle.vo_laws.proofs.ListLaws.{each_left, each_right, each_both}
 
 -- What prunes a tree has its digest.

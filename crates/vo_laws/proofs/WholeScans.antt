@@ -10,7 +10,7 @@ use Rattle.vo_spec.specs.Tables.{value_at}
 use Rattle.vo_spec.specs.Cells.{whole_cells, whole_entry, whole_row, shown_value}
 use Rattle.vo_spec.specs.Trees.{RowTree, Prunes}
 use Rattle.vo_spec.specs.Scans.{in_interval, is_empty_interval, put_before, values_in, with_key, seen_entries, seen_in, seen}
-use Rattle.vo_spec.specs.Standing.{Represents}
+use Rattle.vo_spec.specs.Representation.{Represents}
 use Rattle.vo_laws.specs.Columns.{HaveColumns, seen_row}
 use Rattle.vo_laws.proofs.ScanLaws.{IsNoneOrSame, sound, scan_is_filter}
 use Rattle.vo_laws.proofs.SeenLaws.{rows_in, none_kept}

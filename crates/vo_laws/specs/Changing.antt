@@ -5,7 +5,7 @@ use Rattle.vo_spec.specs.declared.trees.UpdateFault.{UpdateFault}
 use Rattle.vo_spec.specs.declared.trees.UpdateFault.TheVariants.{DuplicateKey, NoRow, Missing, Memory}
 use Rattle.vo_spec.specs.Tables.{has_row, put_row}
 use Rattle.vo_spec.specs.Trees.{RowTree}
-use Rattle.vo_spec.specs.Standing.{Represents}
+use Rattle.vo_spec.specs.Representation.{Represents}
 
 -- Some row before has the key, and the tree stands for the rows after; or no row has it, which is
 -- the one fault.

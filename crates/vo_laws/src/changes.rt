@@ -7,7 +7,7 @@ ghost use Rattle.vo_spec.specs.Cells.{whole_entry};
 ghost use Rattle.vo_spec.specs.Trees.{RowTree};
 ghost use Rattle.vo_spec.specs.Inserts.{tree_with_entry, insert_is_missing, insert_has_surplus, insert_proof};
 ghost use Rattle.vo_spec.specs.Removes.{tree_without_key, tree_with_cells, remove_proof, replace_proof};
-ghost use Rattle.vo_spec.specs.Standing.{Represents};
+ghost use Rattle.vo_spec.specs.Representation.{Represents};
 ghost use Rattle.vo_laws.specs.Changing.{Changes, Inserts};
 ghost use Rattle.vo_laws.specs.UpdateProofs.{IsUpdateProof, lacks, replace_is_missing, replace_has_surplus, remove_is_missing, remove_has_surplus};
 

@@ -27,7 +27,7 @@ ghost use Rattle.vo_spec.specs.Results.{BoundSource, bound_sources, result as re
 ghost use Rattle.vo_spec.specs.Needs.{left_need, needs, tree_at};
 ghost use Rattle.vo_spec.specs.Scans.{seen};
 ghost use Rattle.vo_spec.specs.Pruning.{prune_tree};
-ghost use Rattle.vo_spec.specs.Standing.{Represents};
+ghost use Rattle.vo_spec.specs.Representation.{Represents};
 ghost use Rattle.vo_spec.specs.Trees.{RowTree, Prunes};
 ghost use Rattle.vo_spec.specs.Journals.{max_signature};
 ghost use Rattle.vo_spec.specs.Replies.{Reply, FitsReply};

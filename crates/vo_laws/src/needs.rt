@@ -6,7 +6,7 @@ ghost use Rattle.vo_spec.specs.declared.needs.Need.{Need};
 ghost use Rattle.vo_spec.specs.declared.values.Row.{Row};
 ghost use Rattle.vo_spec.specs.Trees.{RowTree, Prunes};
 ghost use Rattle.vo_spec.specs.Pruning.{IsCanonical, prune_tree};
-ghost use Rattle.vo_spec.specs.Standing.{Represents};
+ghost use Rattle.vo_spec.specs.Representation.{Represents};
 ghost use Rattle.vo_laws.specs.Columns.{HaveColumns};
 
 /// What a tree has open for some needs prunes it, and is canonical where the tree stands for rows

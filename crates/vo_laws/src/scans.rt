@@ -5,7 +5,7 @@ ghost use Rattle.vo_spec.specs.declared.needs.Need.{Need};
 ghost use Rattle.vo_spec.specs.declared.values.Row.{Row};
 ghost use Rattle.vo_spec.specs.Trees.{RowTree, Prunes};
 ghost use Rattle.vo_spec.specs.Scans.{in_interval, seen};
-ghost use Rattle.vo_spec.specs.Standing.{Represents};
+ghost use Rattle.vo_spec.specs.Representation.{Represents};
 ghost use Rattle.vo_laws.specs.Columns.{HaveColumns, seen_row};
 
 /// Of a tree that stands for rows, a scan for a need gives the rows with their keys in its

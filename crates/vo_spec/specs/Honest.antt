@@ -33,7 +33,7 @@ use Rattle.vo_spec.specs.Inserts.{result_map, tree_with_entry, insert_proof}
 use Rattle.vo_spec.specs.Removes.{tree_without_key, tree_with_cells, remove_proof, replace_proof}
 use Rattle.vo_spec.specs.Pruning.{prune_tree}
 use Rattle.vo_spec.specs.Needs.{needs}
-use Rattle.vo_spec.specs.Standing.{Represents}
+use Rattle.vo_spec.specs.Representation.{Represents}
 use Rattle.vo_spec.specs.Checks.{tables_wanted, key_kind}
 use Rattle.vo_spec.specs.Replies.{Reply, proofs_bytes}
 

@@ -17,7 +17,7 @@ use Rattle.vo_spec.specs.Replies.{proofs_bytes}
 use Rattle.vo_laws.proofs.ListLaws.{each_both}
 use Rattle.vo_laws.proofs.EntryLaws.{all_fit, entry_held, taken_front}
 use Rattle.stored_tables.specs.Working.{work_from}
-use Rattle.owner_state.specs.Standing.{IsLoadableOn, IsRecorded}
+use Rattle.owner_state.specs.EntriesOnTrees.{IsLoadableOn, IsRecorded}
 use Rattle.owner_state.specs.Walking.{StopsAt}
 use Rattle.owner_state.proofs.EntrySteps.{taken_at_first, taken_behind}
 use Rattle.owner_state.proofs.WorkTurns.{work_done, work_left, work_refused, work_accepted}

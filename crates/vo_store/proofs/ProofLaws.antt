@@ -25,11 +25,11 @@ use Rattle.vo_laws.proofs.NamedFits.{cells_of, named_fits, named_cells_below}
 use Rattle.vo_laws.proofs.ReplyTrees.{pruned_complete}
 use Rattle.vo_laws.proofs.ScanLaws.{Shows, complete}
 use Rattle.vo_laws.proofs.StoredFits.{catalog_fits}
-use Rattle.vo_laws.proofs.Exact.{named_stands, same_table_headers}
+use Rattle.vo_laws.proofs.ExactOutcomes.{named_stands, same_table_headers}
 use Rattle.vo_laws.proofs.NeedLaws.{needs_of_left}
 use Rattle.query_binding.specs.declared.bound_sources.BoundSource.{BoundSource as HeldBoundSource}
-use Rattle.query_binding.specs.Sided.{bound_source_seen}
-use Rattle.stored_tables.specs.Standing.{IsStanding}
+use Rattle.query_binding.specs.HeldSources.{bound_source_seen}
+use Rattle.stored_tables.specs.Representation.{IsStanding}
 use Rattle.query_plan.proofs.Narrow.{bound_sources_narrow}
 use Rattle.query_plan.specs.BoundQueries.{bound_query}
 use Rattle.query_plan.specs.Plans.{QueryPlan, plan_of}

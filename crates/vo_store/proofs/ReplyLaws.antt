@@ -11,8 +11,8 @@ use Rattle.vo_spec.specs.Trees.{RowTree}
 use Rattle.vo_spec.specs.Replies.{FitsReply, Reply}
 use Rattle.vo_spec.specs.Honest.{Stored, catalog_of, honest_reply}
 use Rattle.vo_laws.proofs.ReplyFits.{reply_fits}
-use Rattle.stored_tables.specs.Standing.{IsStanding}
-use Rattle.root_laws.proofs.Standing.{honest_standing}
+use Rattle.stored_tables.specs.Representation.{IsStanding}
+use Rattle.root_laws.proofs.Representation.{honest_standing}
 use Rattle.vo_store.specs.HonestStores.{AreHonest}
 use Rattle.vo_store.specs.Proving.{proofs_of}
 

@@ -20,9 +20,9 @@ use Rattle.vo_spec.specs.Records.{FitsRecord}
 use Rattle.vo_spec.specs.Replies.{FitsReply, IsReply, Reply, max_reply, proofs_bytes, reply_bytes}
 use Rattle.vo_spec.specs.Honest.{RepresentTables, Stored, after_work, honest_proofs, honest_record, honest_reply, work_all}
 use Rattle.vo_laws.proofs.CommandLaws.{FitTables}
-use Rattle.vo_laws.proofs.Complete.{honest_answer}
+use Rattle.vo_laws.proofs.CompleteReplies.{honest_answer}
 use Rattle.vo_laws.proofs.ReplyFits.{reply_fits}
-use Rattle.vo_laws.proofs.StandingLaws.{stands}
+use Rattle.vo_laws.proofs.RepresentationLaws.{stands}
 use Rattle.table_list.specs.declared.fault.BatchFault.TheVariants as batch
 use Rattle.stored_tables.specs.Plain.{RepresentAfter}
 use Rattle.stored_tables.specs.Working.{work_from}
@@ -33,7 +33,7 @@ use Rattle.owner_roots.specs.declared.roots.Roots.{Roots}
 use Rattle.owner_roots.specs.Next.{NextOf}
 use Rattle.owner_roots.specs.Owners.{IsSignedFor, honest_roots, record_of_roots}
 use Rattle.root_laws.specs.HonestRoots.{honest_next_roots}
-use Rattle.root_laws.proofs.Standing.{read_honestly}
+use Rattle.root_laws.proofs.Representation.{read_honestly}
 use Rattle.owner_state.proofs.WorkTurns.{work_done, work_left}
 use Rattle.vo_store.specs.declared.fault.StoreFault.{StoreFault}
 use Rattle.vo_store.specs.declared.fault.StoreFault.TheVariants as fault

@@ -1,2 +1,2 @@
-pub mod Parsed
+pub mod ParseLaws
 pub mod Folds

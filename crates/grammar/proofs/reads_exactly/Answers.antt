@@ -1,4 +1,4 @@
-use Rattle.grammar.proofs.Judged.{judged, parsed}
+use Rattle.grammar.proofs.WholeReading.{judged, parsed}
 use Rattle.grammar.proofs.reads_exactly.Goals as goal
 
 pub returns-clause-judged : goal.returns-clause-judged

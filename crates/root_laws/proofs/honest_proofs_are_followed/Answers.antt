@@ -1,9 +1,9 @@
 use Rattle.std.proofs.Common.{◌∙◌}
 use Rattle.vo_spec.specs.Honest.{honest_trees}
 use Rattle.vo_spec.specs.Tables.{tables_after}
-use Rattle.vo_laws.proofs.StandingLaws.{stands}
+use Rattle.vo_laws.proofs.RepresentationLaws.{stands}
 use Rattle.root_laws.proofs.BatchSteps.{batch_proved, accepted_roots, refused_roots, plainly_refused}
-use Rattle.root_laws.proofs.Standing.{honest_standing, read_honestly}
+use Rattle.root_laws.proofs.Representation.{honest_standing, read_honestly}
 use Rattle.root_laws.proofs.honest_proofs_are_followed.Goals as goal
 
 pub returns : goal.returns

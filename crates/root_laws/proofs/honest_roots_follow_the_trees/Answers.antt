@@ -1,8 +1,8 @@
 use Rattle.vo_spec.specs.Tables.{tables_after}
 use Rattle.vo_spec.specs.Honest.{honest_trees}
-use Rattle.vo_laws.proofs.StandingLaws.{stands}
+use Rattle.vo_laws.proofs.RepresentationLaws.{stands}
 use Rattle.root_laws.proofs.BatchSteps.{accepted_roots, refused_roots, plainly_refused}
-use Rattle.root_laws.proofs.Standing.{honest_standing}
+use Rattle.root_laws.proofs.Representation.{honest_standing}
 use Rattle.root_laws.proofs.honest_roots_follow_the_trees.Goals as goal
 
 pub returns : goal.returns

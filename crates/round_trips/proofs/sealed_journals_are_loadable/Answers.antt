@@ -1,4 +1,4 @@
-use Rattle.round_trips.proofs.Sealed.{loaded, owned}
+use Rattle.round_trips.proofs.SealedJournals.{loaded, owned}
 use Rattle.round_trips.proofs.sealed_journals_are_loadable.Goals as goal
 
 pub returns : goal.returns

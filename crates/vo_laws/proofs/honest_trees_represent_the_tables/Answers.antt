@@ -1,6 +1,6 @@
 use Rattle.vo_spec.specs.Tables.{tables_after}
 use Rattle.vo_spec.specs.Honest.{honest_trees}
-use Rattle.vo_laws.proofs.StandingLaws.{stands}
+use Rattle.vo_laws.proofs.RepresentationLaws.{stands}
 use Rattle.vo_laws.proofs.StoredFits.{honest_trees_fit, catalog_fits, record_fits}
 use Rattle.vo_laws.proofs.ReplyFits.{reply_fits}
 use Rattle.vo_laws.proofs.honest_trees_represent_the_tables.Goals as goal

@@ -1,6 +1,6 @@
 use Rattle.owner_session.specs.Work.{session}
 use Rattle.vo_commands.specs.Committing.{entry_forms}
-use Rattle.honest_peers.proofs.Served.{served_answers}
+use Rattle.honest_peers.proofs.ServedConnections.{served_answers}
 use Rattle.honest_peers.proofs.Sessions.{session_ends}
 use Rattle.honest_peers.proofs.StoreSteps.{StoreLaws}
 use Rattle.honest_peers.proofs.owning.sessions_end_plainly.Goals as goal

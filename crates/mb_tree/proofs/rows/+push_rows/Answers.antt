@@ -1,7 +1,7 @@
 use Rattle.std.proofs.Common.{◌≡◌, ◌≤◌, flat_map, arith}
 use Rattle.vo_spec.specs.Parts.{levels, levels_in}
 use Rattle.vo_spec.specs.Trees.{open_parts}
-use Rattle.vo_spec.specs.Standing.{rows_in}
+use Rattle.vo_spec.specs.Representation.{rows_in}
 use Rattle.mb_tree.proofs.RowLaws.{node_rows, subtree_falls}
 use Rattle.mb_tree.proofs.rows.+push_rows.Goals as goal
 

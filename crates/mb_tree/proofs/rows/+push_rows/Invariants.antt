@@ -1,7 +1,7 @@
 use Rattle.std.proofs.Common.{◌≡◌, ◌+◌, ◌*◌, ◌++◌, take, flat_map}
 use Rattle.vo_spec.specs.Parts.{levels, levels_in}
 use Rattle.vo_spec.specs.Trees.{open_parts}
-use Rattle.vo_spec.specs.Standing.{rows_in}
+use Rattle.vo_spec.specs.Representation.{rows_in}
 use Rattle.mb_tree.proofs.rows.+push_rows.Given as goal
 
 abbrev pub decreases-push_rows : goal.decreases-push_rows

@@ -4,7 +4,7 @@ use Rattle.vo_spec.specs.declared.tables.Batch.{Batch}
 use Rattle.vo_spec.specs.declared.tables.Command.{Command}
 use Rattle.vo_spec.specs.Secret.{Secret}
 use Rattle.owner_roots.specs.declared.roots.Roots.{Roots}
-use Rattle.owner_state.specs.Sealed.{Seals}
+use Rattle.owner_state.specs.SealResults.{Seals}
 use Rattle.owner_state.specs.Sealing.{commands_of}
 use Rattle.owner_state.proofs.SealSteps.{all_sealed, each_fits, first_sealed, next_is, next_sealed, not_sealed, ready}
 use Rattle.owner_state.proofs.sealing.seal_each.Goals as goal

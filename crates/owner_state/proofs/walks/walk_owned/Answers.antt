@@ -5,7 +5,7 @@ use Rattle.vo_spec.specs.declared.records.Entry.{Entry}
 use Rattle.vo_spec.specs.Honest.{Stored, after_work, honest_trees}
 use Rattle.vo_spec.specs.Journals.{batches_of}
 use Rattle.owner_roots.specs.Owners.{AreOwned, AreOwnedTo}
-use Rattle.owner_state.specs.Departed.{DepartsNext}
+use Rattle.owner_state.specs.NextDeparture.{DepartsNext}
 use Rattle.owner_state.specs.Owning.{Leads}
 use Rattle.owner_state.specs.Walking.{StopsAt}
 use Rattle.owner_state.proofs.DepartLaws.{IsTurn, departs_at_end, departs_next, kept_tables, trees_more}

@@ -3,7 +3,7 @@ use Rattle.std.specs.Prelude.{option_to_list}
 use Rattle.std.specs.Option.{option_map_or}
 use Rattle.vo_spec.specs.Conditions.{query_of, comparisons}
 use Rattle.vo_spec.specs.Results.{join_fault, kind_fault}
-use Rattle.query_binding.specs.Sided.{bound_sources_seen}
+use Rattle.query_binding.specs.HeldSources.{bound_sources_seen}
 use Rattle.query_binding.proofs.Passing.{passes_more, fails_more}
 use Rattle.query_binding.proofs.binding.test_kinds.Goals as goal
 

@@ -1,7 +1,7 @@
 use Rattle.std.proofs.Common.{map}
 use Rattle.vo_spec.specs.Conditions.{query_of}
 use Rattle.vo_spec.specs.Results.{ref_fault, query_refs}
-use Rattle.query_binding.specs.Sided.{bound_sources_seen}
+use Rattle.query_binding.specs.HeldSources.{bound_sources_seen}
 use Rattle.query_binding.specs.Binding.{kind_tests}
 use Rattle.query_binding.proofs.Passing.{passes_more, fails_more}
 use Rattle.query_binding.proofs.binding.test_names.Goals as goal

@@ -2,7 +2,7 @@ use Rattle.std.proofs.Common.{[]}
 use Rattle.std.specs.Option.{option_map_or}
 use Rattle.vo_spec.specs.Conditions.{query_of, condition_refs}
 use Rattle.vo_spec.specs.Results.{ref_fault}
-use Rattle.query_binding.specs.Sided.{bound_sources_seen}
+use Rattle.query_binding.specs.HeldSources.{bound_sources_seen}
 use Rattle.query_binding.specs.Binding.{shown_refs}
 use Rattle.query_binding.proofs.Passing.{passes_mapped, fails_mapped}
 use Rattle.query_binding.proofs.binding.test_references.Goals as goal

@@ -1,7 +1,7 @@
 use Rattle.std.proofs.Common.{map, refl}
 use Rattle.vo_spec.specs.Conditions.{condition_of, conditions, comparisons, comparisons_in}
 use Rattle.vo_spec.specs.Results.{kind_fault}
-use Rattle.query_binding.specs.Sided.{bound_sources_seen}
+use Rattle.query_binding.specs.HeldSources.{bound_sources_seen}
 use Rattle.query_binding.proofs.Passing.{passed_part, found_part}
 use Rattle.query_binding.proofs.comparisons.+condition_kinds.Goals as goal
 

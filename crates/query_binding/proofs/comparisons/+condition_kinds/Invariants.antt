@@ -2,7 +2,7 @@ use Rattle.std.proofs.Common.{◌≡◌, map, drop}
 use Rattle.vo_spec.specs.Firsts.{first_some}
 use Rattle.vo_spec.specs.Conditions.{condition_of, conditions, comparisons_in}
 use Rattle.vo_spec.specs.Results.{kind_fault}
-use Rattle.query_binding.specs.Sided.{bound_sources_seen}
+use Rattle.query_binding.specs.HeldSources.{bound_sources_seen}
 use Rattle.query_binding.proofs.comparisons.+condition_kinds.Given as goal
 
 abbrev pub invariant-test_parts-loop-part : goal.invariant-test_parts-loop-part

@@ -1,7 +1,7 @@
 use Rattle.std.proofs.Common.{map, refl}
 use Rattle.vo_spec.specs.Conditions.{condition_of, conditions, condition_refs, conditions_refs}
 use Rattle.vo_spec.specs.Results.{ref_fault}
-use Rattle.query_binding.specs.Sided.{bound_sources_seen}
+use Rattle.query_binding.specs.HeldSources.{bound_sources_seen}
 use Rattle.query_binding.proofs.Passing.{passed_part, found_part}
 use Rattle.query_binding.proofs.references.+condition_references.Goals as goal
 

@@ -1,7 +1,7 @@
 use Rattle.std.proofs.Common.{◌≡◌, map, drop}
 use Rattle.vo_spec.specs.Firsts.{first_some}
 use Rattle.vo_spec.specs.Results.{ref_fault}
-use Rattle.query_binding.specs.Sided.{bound_sources_seen}
+use Rattle.query_binding.specs.HeldSources.{bound_sources_seen}
 use Rattle.query_binding.proofs.references.test_refs.Given as goal
 
 abbrev pub invariant-loop-reference : goal.invariant-loop-reference

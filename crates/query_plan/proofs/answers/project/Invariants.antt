@@ -1,5 +1,5 @@
 use Rattle.std.proofs.Common.{◌≡◌, map, take}
-use Rattle.query_binding.specs.Sided.{place_seen}
+use Rattle.query_binding.specs.HeldSources.{place_seen}
 use Rattle.query_plan.proofs.answers.project.Given as goal
 
 -- the values at the places so far

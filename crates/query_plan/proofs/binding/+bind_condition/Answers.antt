@@ -1,5 +1,5 @@
 use Rattle.std.proofs.Common.{map, ap, ◌∙◌}
-use Rattle.query_binding.specs.Sided.{bound_sources_seen}
+use Rattle.query_binding.specs.HeldSources.{bound_sources_seen}
 use Rattle.query_plan.specs.BoundViews.{parts_seen, condition_seen}
 use Rattle.query_plan.proofs.BoundLaws.{each_bound}
 use Rattle.query_plan.proofs.binding.+bind_condition.Goals as goal

@@ -1,6 +1,6 @@
 use Rattle.std.proofs.Common.{◌≡◌, map, take}
 use Rattle.vo_spec.specs.Conditions.{condition_of}
-use Rattle.query_binding.specs.Sided.{bound_sources_seen}
+use Rattle.query_binding.specs.HeldSources.{bound_sources_seen}
 use Rattle.query_plan.specs.BoundQueries.{bound_condition}
 use Rattle.query_plan.specs.BoundViews.{condition_seen}
 use Rattle.query_plan.proofs.binding.+bind_condition.Given as goal

@@ -1,6 +1,6 @@
 use Rattle.vo_spec.specs.Conditions.{query_of}
 use Rattle.vo_format.specs.View.{reply_of}
-use Rattle.reply_meeting.proofs.Accepted.{accepted, refused}
+use Rattle.reply_meeting.proofs.AcceptedReplies.{accepted, refused}
 use Rattle.reply_meeting.proofs.accepting.read_accepted.Goals as goal
 
 pub returns-in-Ok-judge : goal.returns-in-Ok-judge

@@ -2,7 +2,7 @@ use Rattle.std.proofs.Common.{inr}
 use Rattle.vo_spec.specs.Conditions.{query_of}
 use Rattle.vo_format.specs.View.{reply_of}
 use Rattle.reply_meeting.specs.declared.meeting.MetReplies.{MetReplies}
-use Rattle.reply_meeting.proofs.Accepted.{has_passed}
+use Rattle.reply_meeting.proofs.AcceptedReplies.{has_passed}
 use Rattle.reply_meeting.proofs.Meets.{of_fault, first_told, second_told, meeting_told}
 use Rattle.reply_meeting.proofs.readers.meet_replies.Goals as goal
 

@@ -4,7 +4,7 @@ use Rattle.sql_tokens.specs.Lex.{tokens_of, Scans}
 use Rattle.sql_text.specs.Commands.{batch}
 use Rattle.sql_text.specs.Texts.{HasFault}
 use Rattle.sql_text.proofs.Good.{batch_good}
-use Rattle.sql_text.proofs.Answered.{lapsed, whole}
+use Rattle.sql_text.proofs.AnswerLaws.{lapsed, whole}
 use Rattle.sql_text.proofs.TokenEnds.{utf8_tokens}
 use Rattle.sql_text.proofs.BatchFits.{answer_batch_fits}
 use Rattle.sql_text.proofs.texts.parse_batch.Goals as goal

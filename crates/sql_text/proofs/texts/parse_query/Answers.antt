@@ -5,7 +5,7 @@ use Rattle.vo_spec.specs.Conditions.{query_of}
 use Rattle.sql_text.specs.Queries.{query}
 use Rattle.sql_text.specs.Texts.{HasFault}
 use Rattle.sql_text.proofs.Good.{query_good}
-use Rattle.sql_text.proofs.Answered.{lapsed, whole}
+use Rattle.sql_text.proofs.AnswerLaws.{lapsed, whole}
 use Rattle.sql_text.proofs.TokenEnds.{utf8_tokens}
 use Rattle.sql_text.proofs.QueryFits.{answer_printable, answer_fits}
 use Rattle.sql_text.proofs.texts.parse_query.Goals as goal

@@ -1,6 +1,6 @@
 use Rattle.std.proofs.Common.{◌≡◌, drop}
 use Rattle.stored_tables.specs.View.{stored_in}
-use Rattle.stored_tables.specs.Standing.{IsStanding}
+use Rattle.stored_tables.specs.Representation.{IsStanding}
 use Rattle.stored_tables.specs.Working.{work_from}
 use Rattle.stored_tables.proofs.batches.apply_commands.Given as goal
 

@@ -1,5 +1,5 @@
 use Rattle.std.proofs.Common.{sym, subst}
-use Rattle.stored_tables.specs.Standing.{IsStanding}
+use Rattle.stored_tables.specs.Representation.{IsStanding}
 use Rattle.stored_tables.proofs.ListLaws.{same_stored}
 use Rattle.stored_tables.proofs.batches.share_tables.Goals as goal
 

@@ -12,8 +12,8 @@ pub returns-then-not-holds-clause-verdict : goal.returns-then-not-holds-clause-v
 returns-then-not-holds-clause-verdict c =
     let es = c.args.owned.now.entries in
     let r = reply_of c.args.reply.now in
-    unsigned_verdict es (query_of c.args.query.now) r c.args.answer.now c.len.result c.unsigned.result
-    (not_held es c.as_slice.result.now r.rec c.holds.result c.holds.ensures c.as_slice.ensures c.if-not-holds.true) c.len.ensures c.unsigned.ensures
+    unsigned_verdict es (query_of c.args.query.now) r c.args.answer.now c.len.result c.unsigned_verdict.result
+    (not_held es c.as_slice.result.now r.rec c.holds.result c.holds.ensures c.as_slice.ensures c.if-not-holds.true) c.len.ensures c.unsigned_verdict.ensures
 
 pub unreachable-requires : goal.unreachable-requires
 unreachable-requires c =

@@ -1,4 +1,4 @@
-use Rattle.vo_laws.proofs.StandingTrees.{inserted_stands, removed_stands, replaced_stands}
+use Rattle.vo_laws.proofs.RepresentingTrees.{inserted_stands, removed_stands, replaced_stands}
 use Rattle.vo_laws.proofs.changes.trees_stand_after_changes.Goals as goal
 
 pub returns : goal.returns

@@ -5,7 +5,7 @@ use Rattle.vo_spec.specs.Pruning.{prune_tree}
 use Rattle.vo_spec.specs.Needs.{same_table}
 use Rattle.vo_spec.specs.Honest.{stored_tree}
 use Rattle.query_binding.specs.declared.bound_sources.BoundSource.{BoundSource as HeldBoundSource}
-use Rattle.query_binding.specs.Sided.{bound_sources_seen}
+use Rattle.query_binding.specs.HeldSources.{bound_sources_seen}
 use Rattle.query_plan.specs.PlanViews.{plan_seen}
 use Rattle.plan_run.specs.Running.{lefts_seen, needs_of}
 use Rattle.vo_format.specs.View.{trees_of}

@@ -4,7 +4,7 @@ use Rattle.vo_spec.specs.Scans.{seen}
 use Rattle.vo_spec.specs.Pruning.{prune_tree}
 use Rattle.mb_tree.specs.View.{part_of}
 use Rattle.query_binding.specs.declared.bound_sources.BoundSource.{BoundSource as HeldBoundSource}
-use Rattle.query_binding.specs.Sided.{bound_sources_seen}
+use Rattle.query_binding.specs.HeldSources.{bound_sources_seen}
 use Rattle.query_plan.specs.PlanViews.{plan_seen}
 use Rattle.vo_format.specs.View.{trees_of}
 use Rattle.vo_store.specs.Proving.{HasTables, left_proof}

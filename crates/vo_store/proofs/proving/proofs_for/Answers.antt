@@ -6,7 +6,7 @@ use Rattle.vo_spec.specs.Tables.{TableHeader}
 use Rattle.vo_spec.specs.Results.{schema_at, bound_sources, binding_fault}
 use Rattle.vo_spec.specs.Scans.{seen}
 use Rattle.vo_spec.specs.Honest.{Stored, catalog_of}
-use Rattle.stored_tables.specs.Standing.{IsStanding}
+use Rattle.stored_tables.specs.Representation.{IsStanding}
 use Rattle.vo_format.specs.View.{trees_of}
 use Rattle.query_plan.specs.BoundQueries.{BoundQuery, bound_query}
 use Rattle.query_plan.specs.BoundViews.{query_seen}

@@ -1,6 +1,6 @@
 -- What the parse says is what the words ask for.
 use Rattle.std.proofs.Common.{◌∙◌, map, string_bytes}
-use Rattle.vo_words.proofs.Parsed.{accepted, refused}
+use Rattle.vo_words.proofs.ParseLaws.{accepted, refused}
 use Rattle.vo_words.proofs.read.read_words.Goals as goal
 
 pub returns-in-Ok : goal.returns-in-Ok

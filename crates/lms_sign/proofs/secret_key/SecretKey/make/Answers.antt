@@ -1,4 +1,4 @@
-use Rattle.lms_sign.proofs.Signed.{signed_valid, signed_leaf}
+use Rattle.lms_sign.proofs.SignatureLaws.{signed_valid, signed_leaf}
 use Rattle.lms_sign.proofs.secret_key.SecretKey.make.Goals as goal
 
 pub returns-clause-valid : goal.returns-clause-valid

@@ -1,6 +1,6 @@
 use Rattle.std.proofs.Common.{refl}
 use Rattle.vo_spec.specs.Secret.{secret_of, public_of_secret}
-use Rattle.lms_sign.proofs.Signed.{signed_leaf, signed_valid}
+use Rattle.lms_sign.proofs.SignatureLaws.{signed_leaf, signed_valid}
 use Rattle.lms_sign.proofs.secret_key.SecretKey.public.Goals as goal
 
 pub returns-clause-value : goal.returns-clause-value

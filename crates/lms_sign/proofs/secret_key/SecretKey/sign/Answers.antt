@@ -1,7 +1,7 @@
 use Rattle.std.proofs.Common.{◌≡◌, ◌*◌, ◌%◌, ◌^◌, ◌<◌, length, arith}
 use Rattle.vo_spec.specs.LmsSets.{leaves_of}
 use Rattle.lms_sign.proofs.Keys.{leaves_fit}
-use Rattle.lms_sign.proofs.Signed.{signed_valid, signed_leaf, signed_len}
+use Rattle.lms_sign.proofs.SignatureLaws.{signed_valid, signed_leaf, signed_len}
 use Rattle.lms_sign.proofs.secret_key.SecretKey.sign.Goals as goal
 
 leaf_in : (c : goal.In_ok-sign_by_leaf) → c.args.q < leaves_of c.args.self.now.lms

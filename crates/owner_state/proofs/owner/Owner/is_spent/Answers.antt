@@ -1,7 +1,7 @@
 use Rattle.std.proofs.Common.{◌≡◌, ap, ◌∙◌, arith}
 use Rattle.vo_spec.specs.Lms.{leaf_count}
 use Rattle.vo_spec.specs.LmsSets.{leaves_of}
-use Rattle.round_trips.proofs.Sealed.{some_leaf}
+use Rattle.round_trips.proofs.SealedJournals.{some_leaf}
 use Rattle.owner_state.specs.Held.{Held}
 use Rattle.owner_state.proofs.FirstVersion.{leaves_told}
 use Rattle.owner_state.proofs.OwnerSteps.{spent_exactly}
