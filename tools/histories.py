@@ -7,10 +7,10 @@ from vo_ref.store import Store
 SECRET = SecretKey(bytes(range(16)), bytes(range(32)))
 
 
-def history(batches):
+def history(batches, secret=SECRET):
     """An owner's entries for those of the batches that are accepted, as far as its key goes, and the store that has them."""
-    owner, first = Owner.start(SECRET)
-    store = Store(SECRET.public())
+    owner, first = Owner.start(secret)
+    store = Store(secret.public())
     store.install(first.rec, first.signature)
     entries = [first]
     for batch in batches:
