@@ -1,4 +1,4 @@
-//! A line: the word of a call, and what it is asked of.
+//! A line of a checker: the word of a call, and the reply, pieces or file that it is asked of.
 use line_pieces::{NoAnswer, put_piece};
 use std::alloc::Global;
 
