@@ -21,7 +21,8 @@ pub fn put_name(out: &mut Vec<u8>, name: &Name) -> Result<(), AllocError>
     out.extend_from_slice(bytes)
 }
 
-fn byte_of(kind: Kind) -> u8
+/// The byte of a kind in a list of columns.
+pub fn type_byte(kind: Kind) -> u8
     ensures { result ≡ type_byte kind }
 {
     match kind {
@@ -38,7 +39,7 @@ fn put_column(out: &mut Vec<u8>, column: &Column) -> Result<(), AllocError>
     ensures err { OnErr result (StaysInFront out.old.items out.new.items) }
 {
     put_name(out, &column.name)?;
-    out.push(byte_of(column.kind))?;
+    out.push(type_byte(column.kind))?;
     Ok(())
 }
 

@@ -30,7 +30,7 @@ pub fn catalog(alloc: Global, strings: &[Vec<u8>]) -> Result<String, NoAnswer> {
 pub fn catalog_text(alloc: Global, catalog: &Catalog) -> Result<String, NoAnswer>
     requires { FitsCatalog catalog.now }
 {
-    let digest = catalog_digest(alloc, catalog)?;
+    let digest = catalog_digest(catalog);
     let digest = hex::encode(alloc, digest.as_bytes())?;
     let bytes = hex::encode(alloc, catalog_bytes(alloc, catalog)?)?;
     Ok(format!(in alloc; "{digest} {bytes}")?)

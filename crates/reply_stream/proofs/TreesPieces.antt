@@ -77,16 +77,18 @@ at_tree tree bytes = refl
 
 -- Where the tree stands.
 
-pub goes_in_place : (b : Bool) (old : TreesState) (tree new : OpenTree) (bytes : List ℕ) → old ≡ Tree tree → b ≡ true → GoesOn (Ok b) tree new bytes
+pub goes_in_place : (r : Result Bool AllocError) (old : TreesState) (tree new : OpenTree) (bytes : List ℕ) → old ≡ Tree tree → r ≡ Ok true → GoesOn r tree new bytes
     → (more : List ℕ) → rest_of_trees (Tree new) more ≡ rest_of_trees old (bytes ++ more)
-goes_in_place b old tree new bytes is does on more =
-    goes_true b tree new bytes does on more ∙ at_tree tree (bytes ++ more) ∙ sym (ap (λ (s : TreesState). rest_of_trees s (bytes ++ more)) is)
+goes_in_place r old tree new bytes is does on more =
+    goes_true true tree new bytes refl (subst (λ (r : Result Bool AllocError). GoesOn r tree new bytes) does on) more
+    ∙ at_tree tree (bytes ++ more) ∙ sym (ap (λ (s : TreesState). rest_of_trees s (bytes ++ more)) is)
 
-pub lost_in_place : (b : Bool) (old : TreesState) (tree new : OpenTree) (bytes : List ℕ) → old ≡ Tree tree → b ≡ false → GoesOn (Ok b) tree new bytes
+pub lost_in_place : (r : Result Bool AllocError) (old : TreesState) (tree new : OpenTree) (bytes : List ℕ) → old ≡ Tree tree → r ≡ Ok false → GoesOn r tree new bytes
     → (more : List ℕ) → rest_of_trees old (bytes ++ more) ≡ None
 unfolding rest_of_trees
-lost_in_place b old tree new bytes is not on more =
-    ap (λ (s : TreesState). rest_of_trees s (bytes ++ more)) is ∙ sym (at_tree tree (bytes ++ more)) ∙ sym (goes_false b tree new bytes not on more)
+lost_in_place r old tree new bytes is not on more =
+    ap (λ (s : TreesState). rest_of_trees s (bytes ++ more)) is ∙ sym (at_tree tree (bytes ++ more))
+    ∙ sym (goes_false false tree new bytes refl (subst (λ (r : Result Bool AllocError). GoesOn r tree new bytes) not on) more)
 
 -- The count.
 

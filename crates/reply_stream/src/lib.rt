@@ -8,8 +8,6 @@ mod head_state;
 mod head_stream;
 mod laws;
 mod reply_length;
-#[cfg(test)]
-mod tests;
 mod trees_state;
 mod trees_stream;
 mod trees_summary;

@@ -49,13 +49,15 @@ impl TreesStream {
         // in the target's interval.
         ensures memory { IsErr result → WantsMemory self.old piece.now }
     {
+        if awaits_count(&self.state) {
+            return self.feed_count(alloc, piece);
+        }
         match feed_in_place(&mut self.state, alloc, piece) {
-            Ok(Some(true)) => Ok(()),
-            Ok(Some(false)) => {
+            Ok(true) => Ok(()),
+            Ok(false) => {
                 let _ = mem::replace(&mut self.state, TreesState::Invalid);
                 Ok(())
             },
-            Ok(None) => self.feed_count(alloc, piece),
             Err(error) => {
                 let _ = mem::replace(&mut self.state, TreesState::Invalid);
                 Err(error)
@@ -98,27 +100,28 @@ impl TreesStream {
     }
 }
 
-/// Takes a piece where the state stands, unless that awaits the number of trees, and says whether
-/// these still can be trees. The state of an open tree is large, and isn't moved for a piece.
-fn feed_in_place(
-    state: &mut TreesState,
-    alloc: Global,
-    piece: &[u8],
-) -> Result<Option<bool>, AllocError>
-    ensures goes_on { result ≡ Ok (Some true) → (more : List ℕ)
+fn awaits_count(state: &TreesState) -> bool
+    ensures { result ≡ awaits_count state.now }
+{
+    matches!(state, TreesState::Count(_))
+}
+
+/// Takes a piece where the state stands, which has the number of trees, and says whether these
+/// still can be trees. The state of an open tree is large, and isn't moved for a piece.
+fn feed_in_place(state: &mut TreesState, alloc: Global, piece: &[u8]) -> Result<bool, AllocError>
+    requires { awaits_count state.old ≡ false }
+    ensures goes_on { result ≡ Ok true → (more : List ℕ)
         → rest_of_trees state.new more ≡ rest_of_trees state.old (piece.now ++ more) }
-    ensures lost { result ≡ Ok (Some false) → (more : List ℕ)
+    ensures lost { result ≡ Ok false → (more : List ℕ)
         → rest_of_trees state.old (piece.now ++ more) ≡ None }
-    ensures count { result ≡ Ok None
-        → (state.new ≡ state.old) × (awaits_count state.old ≡ true) }
     ensures way { IsErr result → CanBecomeTrees state.old }
     ensures memory { IsErr result → WantsRow state.old piece.now }
 {
     match state {
-        TreesState::Count(_) => Ok(None),
-        TreesState::Empty => Ok(Some(piece.is_empty())),
-        TreesState::Tree(tree) => Ok(Some(feed_trees(tree, alloc, piece)?)),
-        TreesState::Invalid => Ok(Some(true)),
+        TreesState::Count(_) => unreachable!(),
+        TreesState::Empty => Ok(piece.is_empty()),
+        TreesState::Tree(tree) => feed_trees(tree, alloc, piece),
+        TreesState::Invalid => Ok(true),
     }
 }
 

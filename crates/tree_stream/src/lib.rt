@@ -19,8 +19,6 @@ mod state;
 mod stream;
 mod take;
 mod target;
-#[cfg(test)]
-mod tests;
 mod tokens;
 
 pub use findings::{Findings, Summary};

@@ -1,4 +1,5 @@
 pub mod CatalogLaws
-pub mod Laid
+pub mod Joined
+mod Laid
 pub mod RecordLaws
 pub mod Rising

@@ -1,8 +1,8 @@
-//! Catalogs as bytes, and their digests.
+//! Catalogs as bytes.
 ghost use Rattle.std.specs.Prelude.{◌≡◌, ◌++◌, flat_map, IfOk, OnOk, OnErr, Some};
 ghost use Rattle.std.specs.List.{AllByRecursion};
 ghost use Rattle.vo_spec.specs.declared.records.Catalog.{Catalog as Plain};
-ghost use Rattle.vo_spec.specs.Records.{IsCatalog, FitsCatalog, FitsCatalogTable, are_rising, catalog_bytes, catalog_digest, catalog_table_bytes};
+ghost use Rattle.vo_spec.specs.Records.{IsCatalog, FitsCatalog, FitsCatalogTable, are_rising, catalog_bytes, catalog_table_bytes};
 ghost use Rattle.vo_spec.specs.Values.{key_lt};
 ghost use Rattle.row_bytes.specs.Fields.{FoundOr, ReadsAs, times, whole};
 ghost use Rattle.version_record.specs.Reading.{catalog_at, catalog_table_at, names_of};
@@ -11,8 +11,7 @@ ghost use Rattle.batch_format.specs.Writing.{StaysInFront};
 use crate::tables::{put_table, take_table};
 use row_bytes::{Cursor, ReadFault};
 use std::alloc::{AllocError, Global};
-use tagged_hash::Hasher;
-use vo_spec::{Catalog, CatalogTable, Digest, List, MAX_TABLES, Name, u16_bytes};
+use vo_spec::{Catalog, CatalogTable, List, MAX_TABLES, Name, u16_bytes};
 
 /// The one spelling of a catalog.
 pub fn catalog_bytes(alloc: Global, catalog: &Catalog) -> Result<Vec<u8>, AllocError>
@@ -34,19 +33,6 @@ pub fn put_catalog(out: &mut Vec<u8>, catalog: &Catalog) -> Result<(), AllocErro
     let tables = catalog.tables.as_slice();
     out.extend_from_slice(&u16_bytes(tables.len() as u16))?;
     put_tables(out, tables)
-}
-
-/// The digest of a catalog: that of its bytes behind `05`.
-#[tactic(auto, unfolding(vo_spec::specs::Records::catalog_digest))]
-pub fn catalog_digest(alloc: Global, catalog: &Catalog) -> Result<Digest, AllocError>
-    requires { FitsCatalog catalog.now }
-    ensures { IfOk result (λ digest. digest ≡ catalog_digest catalog.now) }
-{
-    let bytes = catalog_bytes(alloc, catalog)?;
-    let mut hasher = Hasher::new();
-    hasher.add(&[5]);
-    hasher.add(&bytes);
-    Ok(hasher.end())
 }
 
 #[tactic(auto, using(batch_format::proofs::Fronts::stays_itself, batch_format::proofs::Fronts::stays_before, batch_format::proofs::Fronts::stays_behind))]

@@ -188,7 +188,7 @@ fn answer_of(
         (record { version = r.rec.version; outcome = seen_outcome q r.catalog r.trees }) }
 {
     let rec = head.rec();
-    match test_head(alloc, key, least, rec, head.signature(), head.catalog()) {
+    match test_head(key, least, rec, head.signature(), head.catalog()) {
         Ok(()) => {},
         Err(fault) => return Err(fault),
     }

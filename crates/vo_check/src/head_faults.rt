@@ -7,26 +7,24 @@ ghost use Rattle.vo_check.specs.Testing.{PassesTests, bare_reply};
 
 use crate::record_faults::record_fault;
 use lms_sign::PublicKey;
-use std::alloc::Global;
 use version_record::catalog_digest;
 use vo_spec::{Catalog, CheckFault, Record};
 
 /// Refuses another catalog than that of the record.
-fn test_catalog(alloc: Global, rec: &Record, catalog: &Catalog) -> Result<(), CheckFault>
+fn test_catalog(rec: &Record, catalog: &Catalog) -> Result<(), CheckFault>
     requires { FitsCatalog catalog.now }
     ensures { PassesTests result (catalog_fault (bare_reply rec.now [] catalog.now)) }
 {
     let want = rec.catalog;
-    match catalog_digest(alloc, catalog) {
-        Err(_) => Err(CheckFault::Memory),
-        Ok(got) if want == got => Ok(()),
-        Ok(got) => Err(CheckFault::WrongCatalog { want, got }),
+    let got = catalog_digest(catalog);
+    if want == got {
+        return Ok(());
     }
+    Err(CheckFault::WrongCatalog { want, got })
 }
 
 /// Refuses a reply by its record, the record's signature or its catalog, in this order.
 pub(crate) fn test_head(
-    alloc: Global,
     key: &PublicKey,
     least: u64,
     rec: &Record,
@@ -39,6 +37,6 @@ pub(crate) fn test_head(
 {
     match record_fault(key, least, rec, signature) {
         Some(fault) => Err(fault),
-        None => test_catalog(alloc, rec, catalog),
+        None => test_catalog(rec, catalog),
     }
 }

@@ -123,14 +123,7 @@ fn answer_of(
         GivesIfPassed result (check_fault key.now least q r)
         (record { version = r.rec.version; outcome = seen_outcome q r.catalog r.trees }) }
 {
-    match test_head(
-        alloc,
-        key,
-        least,
-        &reply.rec,
-        reply.signature,
-        &reply.catalog,
-    ) {
+    match test_head(key, least, &reply.rec, reply.signature, &reply.catalog) {
         Ok(()) => {},
         Err(fault) => return Err(fault),
     }
