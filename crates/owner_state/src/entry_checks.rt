@@ -5,11 +5,12 @@ ghost use Rattle.vo_spec.specs.Honest.{after_work, work_all};
 ghost use Rattle.owner_state.specs.EntriesOnTrees.{IsRecorded, IsLoadableOn};
 ghost use Rattle.owner_state.specs.Walking.{GivesTreesIf};
 
+use crate::lent_entry::LentEntry;
 use crate::recording::is_recorded;
 use lms_sign::PublicKey;
 use std::alloc::{AllocError, Global};
 use stored_tables::{BatchFault, StoredTables};
-use vo_spec::{Batch, Entry};
+use vo_spec::Batch;
 
 /// The tables behind an entry of no matter which batch, if its record is that of these tables as
 /// this version.
@@ -18,7 +19,7 @@ pub(crate) fn check_record(
     key: &PublicKey,
     version: u64,
     tables: StoredTables,
-    entry: &Entry,
+    entry: &LentEntry<'_>,
 ) -> Result<Option<StoredTables>, AllocError>
     ensures { IfOk result (λ after.
         GivesTreesIf (IsRecorded key.now version tables entry.now) tables after) }
@@ -36,14 +37,14 @@ pub(crate) fn check_store_entry(
     key: &PublicKey,
     version: u64,
     tables: StoredTables,
-    entry: &Entry,
+    entry: &LentEntry<'_>,
 ) -> Result<Option<StoredTables>, AllocError>
     requires { FitsBatch entry.now.batch.commands }
     ensures { IfOk result (λ after.
         GivesTreesIf (IsLoadableOn key.now version tables entry.now)
         (after_work tables entry.now.batch.commands) after) }
 {
-    match tables_behind(alloc, tables, &entry.batch)? {
+    match tables_behind(alloc, tables, entry.batch())? {
         Some(after) => check_record(alloc, key, version, after, entry),
         None => Ok(None),
     }

@@ -4,15 +4,16 @@ ghost use Rattle.row_bytes.specs.Fields.{Found, FoundOr};
 ghost use Rattle.batch_format.specs.BatchReading.{batch_of, BatchRead};
 ghost use Rattle.owner_state.specs.Reading.{limited_at, batch_at, entry_at, entry_of, slot_at, EntryRead};
 
+use crate::lent_entry::LentEntry;
 use batch_format::read_batch;
 use row_bytes::{Cursor, ReadFault};
 use std::alloc::Global;
 use version_record::take_record;
-use vo_spec::{Batch, Entry, List, MAX_PROOFS, MAX_SIGNATURE};
+use vo_spec::{Batch, MAX_PROOFS, MAX_SIGNATURE};
 
 /// The entry of the slot that comes next, if that slot is open and its entry whole.
 #[tactic(auto, unfolding(crate::specs::Reading::slot_at, row_bytes::specs::Reading::byte_at))]
-pub fn take_slot(alloc: Global, cursor: &mut Cursor<'_>) -> Result<Entry, ReadFault>
+pub fn take_slot<'b>(alloc: Global, cursor: &mut Cursor<'b>) -> Result<LentEntry<'b>, ReadFault>
     ensures { FoundOr (λ entry. entry) result cursor.old cursor.new (slot_at cursor.old) }
 {
     let mut ahead = cursor.copy();
@@ -29,7 +30,7 @@ pub fn take_slot(alloc: Global, cursor: &mut Cursor<'_>) -> Result<Entry, ReadFa
 
 /// The entry that all the bytes are.
 #[tactic(auto, unfolding(crate::specs::Reading::entry_of))]
-fn read_entry(alloc: Global, bytes: &[u8]) -> Result<Entry, ReadFault>
+fn read_entry(alloc: Global, bytes: &[u8]) -> Result<LentEntry<'_>, ReadFault>
     ensures { EntryRead result (entry_of bytes.now) }
 {
     let mut cursor = Cursor::new(bytes);
@@ -41,22 +42,17 @@ fn read_entry(alloc: Global, bytes: &[u8]) -> Result<Entry, ReadFault>
 }
 
 #[tactic(auto, unfolding(crate::specs::Reading::entry_at))]
-fn take_entry(alloc: Global, cursor: &mut Cursor<'_>) -> Result<Entry, ReadFault>
+fn take_entry<'b>(alloc: Global, cursor: &mut Cursor<'b>) -> Result<LentEntry<'b>, ReadFault>
     ensures { FoundOr (λ entry. entry) result cursor.old cursor.new (entry_at cursor.old) }
 {
     let mut ahead = cursor.copy();
     ahead.take_word(b"VOE1").ok_or(ReadFault::BadForm)?;
     let batch = take_batch(alloc, &mut ahead)?;
-    let proofs = take_limited(alloc, &mut ahead, MAX_PROOFS)?;
+    let proofs = take_limited(&mut ahead, MAX_PROOFS).ok_or(ReadFault::BadForm)?;
     let rec = take_record(&mut ahead).ok_or(ReadFault::BadForm)?;
-    let signature = take_limited(alloc, &mut ahead, MAX_SIGNATURE)?;
+    let signature = take_limited(&mut ahead, MAX_SIGNATURE).ok_or(ReadFault::BadForm)?;
     *cursor = ahead;
-    Ok(Entry {
-        batch,
-        proofs,
-        rec,
-        signature,
-    })
+    Ok(LentEntry::new(batch, proofs, rec, signature))
 }
 
 #[tactic(auto, unfolding(crate::specs::Reading::batch_at))]
@@ -78,15 +74,14 @@ fn batch_of(alloc: Global, bytes: &[u8]) -> Result<Batch, ReadFault>
 
 /// Bytes behind their length, at most so many.
 #[tactic(auto, unfolding(crate::specs::Reading::limited_at))]
-fn take_limited(alloc: Global, cursor: &mut Cursor<'_>, most: usize) -> Result<List<u8>, ReadFault>
-    ensures { FoundOr (λ bytes. bytes) result cursor.old cursor.new (limited_at most cursor.old) }
+fn take_limited<'b>(cursor: &mut Cursor<'b>, most: usize) -> Option<&'b [u8]>
+    ensures { Found (λ bytes. bytes.now) result cursor.old cursor.new (limited_at most cursor.old) }
 {
     let mut ahead = cursor.copy();
-    let block = ahead.take_block().ok_or(ReadFault::BadForm)?;
+    let block = ahead.take_block()?;
     if block.len() > most {
-        return Err(ReadFault::BadForm);
+        return None;
     }
-    let bytes = Vec::from_slice(alloc, block)?;
     *cursor = ahead;
-    Ok(List::from_vec(bytes))
+    Some(block)
 }

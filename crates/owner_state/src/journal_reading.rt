@@ -4,10 +4,11 @@ ghost use Rattle.vo_spec.specs.declared.records.Entry.{Entry as Plain};
 ghost use Rattle.vo_spec.specs.Journals.{Begins, IsJournal, IsDamaged};
 ghost use Rattle.owner_state.specs.Endings.{IsFaultOf, Answers, AnswersDamage};
 
+use crate::lent_entry::LentEntry;
 use crate::slot_reading::{Ending, read_slots};
 use std::alloc::{AllocError, Global};
 use thiserror::Error;
-use vo_spec::{Entry, List};
+use vo_spec::List;
 
 /// Why bytes are no journal: the slot of this number is damaged, whose gate stands at this place;
 /// or memory ran out.
@@ -31,7 +32,7 @@ impl From<AllocError> for EntriesFault {
 }
 
 /// The entries of a journal.
-pub fn read_entries(alloc: Global, bytes: &[u8]) -> Result<List<Entry>, EntriesFault>
+pub fn read_entries(alloc: Global, bytes: &[u8]) -> Result<List<LentEntry<'_>>, EntriesFault>
     // What is read is a journal, and what is refused is damaged just there.
     ensures found { IfOk result (λ entries. IsJournal bytes.now entries) }
     ensures begins { IfOk result (λ entries. Begins bytes.now entries) }
@@ -42,11 +43,9 @@ pub fn read_entries(alloc: Global, bytes: &[u8]) -> Result<List<Entry>, EntriesF
     ensures only_damaged { (es : List Plain) → IsDamaged bytes.now es → AnswersDamage result es }
 {
     let slots = read_slots(alloc, bytes)?;
-    match slots.ending {
-        Ending::Closed { .. } => Ok(slots.entries),
-        Ending::Damaged { at } => Err(EntriesFault::Damaged {
-            index: slots.entries.len() as u64,
-            at,
-        }),
+    if let Ending::Damaged { at } = slots.ending {
+        let index = slots.entries.len() as u64;
+        return Err(EntriesFault::Damaged { index, at });
     }
+    Ok(slots.entries)
 }

@@ -8,13 +8,14 @@ ghost use Rattle.owner_state.specs.Departing.{Departs, trees_at};
 ghost use Rattle.owner_state.specs.Walking.{IsWhole};
 
 use crate::departures::Departure;
+use crate::lent_entry::LentEntry;
 use crate::slot_reading::{Ending, Slots, read_slots};
 use crate::walks::{walk_loadable, walk_owned};
 use lms_sign::PublicKey;
 use std::alloc::{AllocError, Global};
 use stored_tables::StoredTables;
 use thiserror::Error;
-use vo_spec::{Entry, List};
+use vo_spec::List;
 
 /// Why bytes are no such journal.
 #[derive(Clone, Copy, Debug, PartialEq, Eq, Error)]
@@ -41,8 +42,8 @@ impl From<AllocError> for JournalFault {
 /// An owner's journal, the honest tables at the version that was asked for, and where the owner's
 /// roots depart from such tables.
 #[derive(Drop)]
-pub struct OwnedJournal {
-    pub entries: List<Entry>,
+pub struct OwnedJournal<'b> {
+    pub entries: List<LentEntry<'b>>,
     /// None where the journal has no such version.
     pub tables: Option<StoredTables>,
     pub departure: Option<Departure>,
@@ -50,18 +51,18 @@ pub struct OwnedJournal {
 
 /// A journal that a store takes, and its tables after the last entry.
 #[derive(Drop)]
-pub struct LoadableJournal {
-    pub entries: List<Entry>,
+pub struct LoadableJournal<'b> {
+    pub entries: List<LentEntry<'b>>,
     pub tables: StoredTables,
 }
 
 /// Reads the journal of an owner of the key.
-pub fn read_owned(
+pub fn read_owned<'b>(
     alloc: Global,
     key: &PublicKey,
-    journal: &[u8],
+    journal: &'b [u8],
     version: u64,
-) -> Result<OwnedJournal, JournalFault>
+) -> Result<OwnedJournal<'b>, JournalFault>
     ensures owned { IfOk result (λ read. IsOwned key.now journal.now read.entries) }
     ensures tables { IfOk result (λ read.
         IfSome read.tables (λ tables. tables ≡ trees_at version read.entries)) }
@@ -72,27 +73,23 @@ pub fn read_owned(
         → IsBadAt key.now journal.now index }
 {
     let slots = read_slots(alloc, journal)?;
-    match walk_owned(alloc, key, slots.entries.as_slice(), version) {
-        Ok(walked) => {
-            if !is_whole(&slots) {
-                return Err(end_fault(&slots));
-            }
-            Ok(OwnedJournal {
-                entries: slots.entries,
-                tables: walked.tables,
-                departure: walked.departure,
-            })
-        }
-        Err(fault) => Err(fault),
+    let walked = walk_owned(alloc, key, slots.entries.as_slice(), version)?;
+    if !is_whole(&slots) {
+        return Err(end_fault(&slots));
     }
+    Ok(OwnedJournal {
+        entries: slots.entries,
+        tables: walked.tables,
+        departure: walked.departure,
+    })
 }
 
 /// Reads a journal that a store of the key takes.
-pub fn read_loadable(
+pub fn read_loadable<'b>(
     alloc: Global,
     key: &PublicKey,
-    journal: &[u8],
-) -> Result<LoadableJournal, JournalFault>
+    journal: &'b [u8],
+) -> Result<LoadableJournal<'b>, JournalFault>
     ensures taken { IfOk result (λ read. IsLoadable key.now journal.now read.entries) }
     ensures tables { IfOk result (λ read. read.tables
         ≡ honest_trees (batches_of (drop 1 read.entries))) }
@@ -100,20 +97,16 @@ pub fn read_loadable(
         → IsUnloadableAt key.now journal.now index }
 {
     let slots = read_slots(alloc, journal)?;
-    match walk_loadable(alloc, key, slots.entries.as_slice()) {
-        Ok(tables) => {
-            if !is_whole(&slots) {
-                return Err(end_fault(&slots));
-            }
-            let entries = slots.entries;
-            Ok(LoadableJournal { entries, tables })
-        }
-        Err(fault) => Err(fault),
+    let tables = walk_loadable(alloc, key, slots.entries.as_slice())?;
+    if !is_whole(&slots) {
+        return Err(end_fault(&slots));
     }
+    let entries = slots.entries;
+    Ok(LoadableJournal { entries, tables })
 }
 
 /// Whether a journal has entries, and a closed gate behind them.
-fn is_whole(slots: &Slots) -> bool
+fn is_whole(slots: &Slots<'_>) -> bool
     ensures { IsTrue result ↔ IsWhole slots.now.entries slots.now.ending }
 {
     match slots.ending {
@@ -123,7 +116,7 @@ fn is_whole(slots: &Slots) -> bool
 }
 
 /// The entry behind the last one is wanted, and isn't there.
-fn end_fault(slots: &Slots) -> JournalFault
+fn end_fault(slots: &Slots<'_>) -> JournalFault
     ensures { result ≡ JournalFault.BadAt (length slots.now.entries) }
 {
     JournalFault::BadAt {

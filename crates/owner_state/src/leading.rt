@@ -4,22 +4,26 @@ ghost use Rattle.vo_spec.specs.Journals.{FitsEntry};
 ghost use Rattle.vo_spec.specs.Records.{FitsCatalog};
 ghost use Rattle.owner_state.specs.Owning.{FitBehind, Leads};
 
+use crate::lent_entry::LentEntry;
 use crate::owner_faults::is_want_of_memory;
 use crate::recording::is_signed_for;
 use crate::version_zero::{first_roots, no_proofs};
 use lms_sign::PublicKey;
 use owner_roots::Roots;
 use std::alloc::{AllocError, Global};
-use vo_spec::Entry;
 
 /// The roots behind an entry that begins a journal, if it is one of an owner of the key.
-fn lead_first(alloc: Global, key: &PublicKey, entry: &Entry) -> Result<Option<Roots>, AllocError>
+fn lead_first(
+    alloc: Global,
+    key: &PublicKey,
+    entry: &LentEntry<'_>,
+) -> Result<Option<Roots>, AllocError>
     ensures { IfOk result (λ after. Leads key.now None entry.now after) }
 {
-    if !entry.batch.commands.is_empty() {
+    if !entry.batch().commands.is_empty() {
         return Ok(None);
     }
-    if entry.proofs.as_slice() != no_proofs(alloc)?.as_slice() {
+    if entry.proofs() != no_proofs(alloc)?.as_slice() {
         return Ok(None);
     }
     let roots = first_roots(alloc);
@@ -35,7 +39,7 @@ fn lead_on(
     alloc: Global,
     key: &PublicKey,
     before: &Roots,
-    entry: &Entry,
+    entry: &LentEntry<'_>,
 ) -> Result<Option<Roots>, AllocError>
     requires before { FitsCatalog before.now.catalog }
     requires fits { FitsEntry entry.now }
@@ -45,7 +49,7 @@ fn lead_on(
     if before.version == u64::MAX {
         return Ok(None);
     }
-    match before.next(alloc, &entry.batch, entry.proofs.as_slice()) {
+    match before.next(alloc, entry.batch(), entry.proofs()) {
         Ok(after) => {
             if is_signed_for(alloc, key, &after, entry)? {
                 Ok(Some(after))
@@ -67,7 +71,7 @@ pub(crate) fn lead(
     alloc: Global,
     key: &PublicKey,
     before: &Option<Roots>,
-    entry: &Entry,
+    entry: &LentEntry<'_>,
 ) -> Result<Option<Roots>, AllocError>
     requires before { FitBehind before.now }
     requires fits { FitsEntry entry.now }

@@ -5,13 +5,13 @@ ghost use Rattle.vo_spec.specs.Journals.{FitsEntry};
 ghost use Rattle.owner_roots.specs.Owners.{AreOwned};
 
 use crate::leading::lead;
+use crate::lent_entry::LentEntry;
 use lms_sign::PublicKey;
 use std::alloc::{AllocError, Global};
-use vo_spec::Entry;
 
 /// How many of the first entries an owner of the key has written, one behind the other from version
 /// 0 on.
-pub fn owned(alloc: Global, key: &PublicKey, entries: &[Entry]) -> Result<usize, AllocError>
+pub fn owned(alloc: Global, key: &PublicKey, entries: &[LentEntry<'_>]) -> Result<usize, AllocError>
     requires { AllByRecursion FitsEntry entries.now }
     ensures within { IfOk result (λ count. count ≤ length entries.now) }
     ensures owned { IfOk result (λ count. AreOwned key.now (take count entries.now)) }

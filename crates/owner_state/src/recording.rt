@@ -7,12 +7,13 @@ ghost use Rattle.vo_spec.specs.Honest.{honest_record};
 ghost use Rattle.owner_roots.specs.Owners.{IsSignedFor, record_of_roots};
 ghost use Rattle.owner_state.specs.EntriesOnTrees.{IsRecorded};
 
+use crate::lent_entry::LentEntry;
 use lms_sign::{PublicKey, verify};
 use owner_roots::Roots;
 use std::alloc::{AllocError, Global};
 use stored_tables::StoredTables;
 use version_record::{catalog_digest, record_bytes};
-use vo_spec::{Catalog, Digest, Entry, Record};
+use vo_spec::{Catalog, Digest, Record};
 
 fn record_with(id: [u8; 16], version: u64, catalog: Digest) -> Record
     ensures value { result ≡ record { id = id; version = version; catalog = catalog } }
@@ -79,15 +80,15 @@ pub(crate) fn is_recorded(
     key: &PublicKey,
     version: u64,
     tables: &StoredTables,
-    entry: &Entry,
+    entry: &LentEntry<'_>,
 ) -> Result<bool, AllocError>
     ensures { IfOk result (λ recorded. IsTrue recorded
         ↔ IsRecorded key.now version tables.now entry.now) }
 {
-    if !is_signed(key, &entry.rec, entry.signature.as_slice()) {
+    if !is_signed(key, entry.rec(), entry.signature()) {
         return Ok(false);
     }
-    Ok(entry.rec == record_of(alloc, key, version, tables)?)
+    Ok(*entry.rec() == record_of(alloc, key, version, tables)?)
 }
 
 /// Whether the entry's record is that of these roots, signed by the leaf of their version.
@@ -95,15 +96,15 @@ pub(crate) fn is_signed_for(
     alloc: Global,
     key: &PublicKey,
     roots: &Roots,
-    entry: &Entry,
+    entry: &LentEntry<'_>,
 ) -> Result<bool, AllocError>
     requires { FitsCatalog roots.now.catalog }
     ensures { IfOk result (λ is. IsTrue is ↔ IsSignedFor key.now roots.now entry.now) }
 {
-    if !is_signed(key, &entry.rec, entry.signature.as_slice()) {
+    if !is_signed(key, entry.rec(), entry.signature()) {
         return Ok(false);
     }
-    Ok(entry.rec == record_of_roots(alloc, key, roots)?)
+    Ok(*entry.rec() == record_of_roots(alloc, key, roots)?)
 }
 
 /// Whether the signature of the record is valid, and by the leaf of its version.

@@ -7,9 +7,10 @@ ghost use Rattle.owner_state.specs.Reading.{slot_at};
 ghost use Rattle.owner_state.specs.Endings.{StopsAt, EndsClosed, EndsAt, EndsSo};
 
 use crate::entry_reading::take_slot;
+use crate::lent_entry::LentEntry;
 use row_bytes::{Cursor, ReadFault};
 use std::alloc::{AllocError, Global};
-use vo_spec::{Entry, List};
+use vo_spec::List;
 
 /// How a journal ends: with a closed gate, or damaged. The gate that is closed, or that of the
 /// first slot that is damaged, stands at this place.
@@ -21,20 +22,20 @@ pub enum Ending {
 
 /// What can be read of a journal from its front.
 #[derive(Debug, Drop)]
-pub struct Slots {
-    pub entries: List<Entry>,
+pub struct Slots<'b> {
+    pub entries: List<LentEntry<'b>>,
     pub ending: Ending,
 }
 
 /// The entries of the first slots, and the bytes behind them.
 #[derive(Drop)]
 struct Front<'b> {
-    entries: Vec<Entry>,
+    entries: Vec<LentEntry<'b>>,
     rest: &'b [u8],
 }
 
 /// The entries of the slots that bytes begin with, and how the journal ends behind them.
-pub fn read_slots(alloc: Global, bytes: &[u8]) -> Result<Slots, AllocError>
+pub fn read_slots(alloc: Global, bytes: &[u8]) -> Result<Slots<'_>, AllocError>
     ensures begins { IfOk result (λ slots. Begins bytes.now slots.entries) }
     ensures ending { IfOk result (λ slots. EndsSo bytes.now slots.entries slots.ending) }
 
@@ -67,7 +68,10 @@ fn read_front(alloc: Global, bytes: &[u8]) -> Result<Front<'_>, AllocError>
 }
 
 /// The entry of the slot that comes next, if one does.
-fn next_slot(alloc: Global, cursor: &mut Cursor<'_>) -> Result<Option<Entry>, AllocError>
+fn next_slot<'b>(
+    alloc: Global,
+    cursor: &mut Cursor<'b>,
+) -> Result<Option<LentEntry<'b>>, AllocError>
     ensures { IfOk result (λ entry. Found (λ entry. entry) entry cursor.old cursor.new
         (slot_at cursor.old)) }
 {

@@ -12,16 +12,16 @@ use crate::departures::{Departure, HonestTrees, honest_trees_behind};
 use crate::entry_checks::{check_record, check_store_entry};
 use crate::journals::JournalFault;
 use crate::leading::lead;
+use crate::lent_entry::LentEntry;
 use lms_sign::PublicKey;
 use std::alloc::{AllocError, Global};
 use stored_tables::StoredTables;
-use vo_spec::Entry;
 
 /// The tables behind the entries, as far as a store takes them.
 pub fn walk_loadable(
     alloc: Global,
     key: &PublicKey,
-    entries: &[Entry],
+    entries: &[LentEntry<'_>],
 ) -> Result<StoredTables, JournalFault>
     requires { AllByRecursion FitsEntry entries.now }
     ensures taken { IfOk result (λ _. AreLoadable key.now entries.now) }
@@ -47,9 +47,9 @@ pub fn walk_loadable(
 fn check_next_of_store(
     alloc: Global,
     key: &PublicKey,
-    earlier: &[Entry],
+    earlier: &[LentEntry<'_>],
     tables: StoredTables,
-    entry: &Entry,
+    entry: &LentEntry<'_>,
 ) -> Result<Option<StoredTables>, AllocError>
     requires earlier_fit { AllByRecursion FitsEntry earlier.now }
     requires fits { FitsEntry entry.now }
@@ -78,7 +78,7 @@ pub(crate) struct Walked {
 pub(crate) fn walk_owned(
     alloc: Global,
     key: &PublicKey,
-    entries: &[Entry],
+    entries: &[LentEntry<'_>],
     version: u64,
 ) -> Result<Walked, JournalFault>
     requires { AllByRecursion FitsEntry entries.now }
@@ -105,7 +105,7 @@ pub(crate) fn walk_owned(
                     alloc,
                     honest,
                     index as u64,
-                    &entry.batch,
+                    entry.batch(),
                     &after.catalog,
                 )?;
                 roots = Some(after);

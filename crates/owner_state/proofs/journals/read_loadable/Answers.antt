@@ -1,4 +1,5 @@
 use Rattle.std.proofs.Common.{◌≡◌, true, List, Err, ap, subst, length}
+use Rattle.std.proofs.lemmas.Result.{err_from_is_err_and}
 use Rattle.vo_spec.specs.declared.records.Entry.{Entry}
 use Rattle.vo_spec.specs.Owners.{AreLoadable, FailsAt, IsLoadable, IsUnloadableAt}
 use Rattle.owner_state.specs.declared.journals.JournalFault.TheVariants.{BadAt}
@@ -14,22 +15,23 @@ returns-then-not-is_whole-clause-bad c =
     λ index e.
     let same : length es ≡ index = cc in
     subst (FailsAt (AreLoadable c.args.key.now) c.args.journal.now) same
-    (fails_behind (AreLoadable c.args.key.now) c.args.journal.now es slots (subst (AreLoadable c.args.key.now) c.as_slice.ensures c.in-Ok.ensures.taken)
+    (fails_behind (AreLoadable c.args.key.now) c.args.journal.now es slots (subst (AreLoadable c.args.key.now) c.as_slice.ensures c.in_ok-tables.ensures.taken)
     (not_whole (AreLoadable c.args.key.now) c.args.journal.now es c.in_ok-slots.slots.ending c.in_ok-slots.ensures.ending (λ w. let t = c.is_whole.ensures.1 w in absurd (cc))))
 
-pub returns-else-not-is_whole-clause-taken : goal.returns-else-not-is_whole-clause-taken
+pub returns-clause-taken : goal.returns-clause-taken
 unfolding IsLoadable
-returns-else-not-is_whole-clause-taken c =
+returns-clause-taken c =
     let true_is : c.is_whole.result ≡ true = cc in
     whole (AreLoadable c.args.key.now) c.args.journal.now c.in_ok-slots.slots.entries c.in_ok-slots.slots.ending c.in_ok-slots.ensures.ending (c.is_whole.ensures.0 true_is)
-    (subst (AreLoadable c.args.key.now) c.as_slice.ensures c.in-Ok.ensures.taken)
+    (subst (AreLoadable c.args.key.now) c.as_slice.ensures c.in_ok-tables.ensures.taken)
 
-pub returns-in-Err-clause-bad : goal.returns-in-Err-clause-bad
+pub returns-in_err-tables-clause-bad : goal.returns-in_err-tables-clause-bad
 unfolding IsUnloadableAt
-returns-in-Err-clause-bad c =
+returns-in_err-tables-clause-bad c =
     let es : List Entry = c.in_ok-slots.slots.entries in
     let slots : AreSlots c.args.journal.now es = record { begins = c.in_ok-slots.ensures.begins; only = λ fs b. c.in_ok-slots.ensures.only fs b } in
+    let left = err_from_is_err_and c.from_residual-in_err-tables.result c.from_residual-in_err-tables.ensures.1 in
     λ index e.
-    let same : c.in-Err.fault ≡ BadAt index = cc in
+    let same : c.in_err-tables.field-0.0 ≡ BadAt index = cc in
     fails_inside (AreLoadable c.args.key.now) c.args.journal.now es index slots
-    (subst (λ (xs : List Entry). StopsAt (AreLoadable c.args.key.now) xs index) c.as_slice.ensures (c.in-Err.ensures.bad index (ap Err same)))
+    (subst (λ (xs : List Entry). StopsAt (AreLoadable c.args.key.now) xs index) c.as_slice.ensures (c.in_err-tables.ensures.bad index (ap Err same)))

@@ -1,6 +1,7 @@
 use Rattle.std.proofs.Common.{◌≡◌, ℕ, ◌+◌, ◌++◌, ◌∷◌, [], List, Option, Some, None, take, refl, sym, ap, ◌∙◌, subst, arith}
 use Rattle.std.specs.Prelude.{IfSome, IsSome}
 use Rattle.std.proofs.lemmas.List.{take_all}
+use Rattle.vo_spec.specs.declared.tables.Batch.{Batch}
 use Rattle.vo_spec.specs.declared.records.Entry.{Entry}
 use Rattle.vo_spec.specs.Honest.{Stored, after_work, honest_trees}
 use Rattle.vo_spec.specs.Journals.{batches_of}
@@ -65,7 +66,8 @@ loop-index-preserved c =
       leads = leads.0;
       trees = c.loop-index.invariant.trees;
     } in
-    let worked : now ≡ after_work stored e.batch.commands = c.in_ok-honest-in-Some.ensures.tables in
+    let worked : now ≡ after_work stored e.batch.commands =
+    c.in_ok-honest-in-Some.ensures.tables ∙ ap (λ (batch : Batch). after_work stored batch.commands) c.batch.ensures in
     let trees : now ≡ honest_trees (batches_of (take (n + 1) es)) =
     worked ∙ trees_more (take n es) stored e c.loop-index.invariant.trees ∙ ap (λ (fs : List Entry). honest_trees (batches_of fs)) (sym more) in
     record {
