@@ -15,19 +15,17 @@ use vo_spec::Batch;
 /// The tables behind an entry of no matter which batch, if its record is that of these tables as
 /// this version.
 pub(crate) fn check_record(
-    alloc: Global,
     key: &PublicKey,
     version: u64,
     tables: StoredTables,
     entry: &LentEntry<'_>,
-) -> Result<Option<StoredTables>, AllocError>
-    ensures { IfOk result (λ after.
-        GivesTreesIf (IsRecorded key.now version tables entry.now) tables after) }
+) -> Option<StoredTables>
+    ensures { GivesTreesIf (IsRecorded key.now version tables entry.now) tables result }
 {
-    if is_recorded(alloc, key, version, &tables, entry)? {
-        Ok(Some(tables))
+    if is_recorded(key, version, &tables, entry) {
+        Some(tables)
     } else {
-        Ok(None)
+        None
     }
 }
 
@@ -45,7 +43,7 @@ pub(crate) fn check_store_entry(
         (after_work tables entry.now.batch.commands) after) }
 {
     match tables_behind(alloc, tables, entry.batch())? {
-        Some(after) => check_record(alloc, key, version, after, entry),
+        Some(after) => Ok(check_record(key, version, after, entry)),
         None => Ok(None),
     }
 }

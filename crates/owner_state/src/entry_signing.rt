@@ -33,7 +33,7 @@ pub(crate) fn sign_entry(
         IsSignedFor (public_of_secret key.now) roots.now entry) }
     ensures fits { IfOk result (λ entry. FitsEntry entry) }
 {
-    let rec = record_of_roots(alloc, &key.public(), roots)?;
+    let rec = record_of_roots(&key.public(), roots);
     match key.sign(alloc, roots.version, &record_bytes(&rec)) {
         Ok(signature) => Ok(Entry {
             batch,

@@ -27,7 +27,7 @@ fn lead_first(
         return Ok(None);
     }
     let roots = first_roots(alloc);
-    if is_signed_for(alloc, key, &roots, entry)? {
+    if is_signed_for(key, &roots, entry) {
         Ok(Some(roots))
     } else {
         Ok(None)
@@ -51,7 +51,7 @@ fn lead_on(
     }
     match before.next(alloc, entry.batch(), entry.proofs()) {
         Ok(after) => {
-            if is_signed_for(alloc, key, &after, entry)? {
+            if is_signed_for(key, &after, entry) {
                 Ok(Some(after))
             } else {
                 Ok(None)

@@ -60,7 +60,7 @@ fn check_next_of_store(
         (honest_trees (batches_of (drop 1 (earlier.now ++ entry.now ∷ [])))) after) }
 {
     if earlier.is_empty() {
-        check_record(alloc, key, 0, tables, entry)
+        Ok(check_record(key, 0, tables, entry))
     } else {
         check_store_entry(alloc, key, earlier.len() as u64, tables, entry)
     }

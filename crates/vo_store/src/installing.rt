@@ -35,7 +35,7 @@ pub(crate) fn signed_record(
     ensures { Gives (λ signed. signed) result
         (signed_record key.now (honest_record key.now version tables.now) rec.now signature.now) }
 {
-    let due = record_of(alloc, key, version, tables)?;
+    let due = record_of(key, version, tables);
     if *rec != due {
         return Err(StoreFault::WrongRecord {
             want: due,

@@ -12,7 +12,7 @@ returns-else-branch c =
     (subst (λ (batch : Batch). Gives c.args.before.now batch.commands c.proofs.result.now c.next.result) c.batch.ensures c.next.ensures.answer) in
     unsigned_leads c.args.key.now c.args.before.now c.args.entry.now c.in-Ok.after
     (subst (λ (bytes : List ℕ). NextOf c.args.before.now c.args.entry.now.batch.commands bytes (Ok c.in-Ok.after)) c.proofs.ensures next)
-    (λ signed. let yes : c.in_ok-is_signed_for-in-Ok.field-0 ≡ true = c.in_ok-is_signed_for-in-Ok.ensures.1 signed in let is_not = c.if-branch.false in absurd (cc))
+    (λ signed. let yes : c.is_signed_for.result ≡ true = c.is_signed_for.ensures.1 signed in let is_not = c.if-branch.false in absurd (cc))
 
 pub returns-else-is_want_of_memory : goal.returns-else-is_want_of_memory
 returns-else-is_want_of_memory c =

@@ -6,8 +6,7 @@ use Rattle.owner_state.proofs.walks.check_next_of_store.Goals as goal
 
 pub returns-then-is_empty : goal.returns-then-is_empty
 returns-then-is_empty c =
-    IfOk-weaker c.check_record.result _ _
-    (λ found g. taken_at_first c.args.key.now c.args.earlier.now c.args.tables c.args.entry.now found (eqb-true (length c.args.earlier.now) 0 (sym c.if-is_empty.ensures)) c.requires.tables g) c.check_record.ensures
+    taken_at_first c.args.key.now c.args.earlier.now c.args.tables c.args.entry.now c.check_record.result (eqb-true (length c.args.earlier.now) 0 (sym c.if-is_empty.ensures)) c.requires.tables c.check_record.ensures
 
 pub returns-else-is_empty : goal.returns-else-is_empty
 returns-else-is_empty c =
