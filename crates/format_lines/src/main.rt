@@ -11,9 +11,8 @@
 //!   `ots_sign` of an identifier, a leaf and a seed, and `candidate` of an identifier, a leaf, a
 //!   message and a signature.
 //! - Keys: `make` of a height, a type, an identifier and a seed has the key that `copy`, `node`,
-//! `sign`, `seal`, `start`, `step` and `replay` take; `key` reads a public key, `leaf` names the
-//! leaf of a signature, and
-//!   `verify` judges it.
+//!   `sign`, `seal`, `start`, `step` and `replay` take; `key` reads a public key, `leaf` names the
+//!   leaf of a signature, and `verify` judges it.
 //! - Rows: `value`, `attribute`, `cell`, `row`, `closed` and `whole` are digests; `hide` and
 //!   `hide_cells` hide the values but those of some columns.
 //! - Formats: `catalog`, `record`, `reply` and `proofs` read and write again, `begin` begins the
@@ -24,11 +23,9 @@
 //!   the call's number, how many bytes it still writes, lost bytes, what is on the disk before, and
 //!   the journal.
 //! - An owner that holds roots alone: `start` has its first entry, `next` the roots after a
-//! version, a
-//!   catalog, a batch and its proofs, `step` the entry behind a journal of a batch and its proofs,
-//! `replay` the roots behind a journal, and `owned_entries` counts a journal's first entries that
-//! are
-//!   an owner's.
+//!   version, a catalog, a batch and its proofs, `step` the entry behind a journal of a batch and
+//!   its proofs, `replay` the roots behind a journal, and `owned_entries` counts a journal's first
+//!   entries that are an owner's.
 #![tactic(auto)]
 
 mod answers;
