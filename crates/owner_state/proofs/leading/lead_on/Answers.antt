@@ -5,14 +5,14 @@ use Rattle.owner_state.proofs.LeadLaws.{exhausted_leads, refused_leads, unsigned
 use Rattle.owner_state.proofs.OwnerSteps.{Gives, given, refused}
 use Rattle.owner_state.proofs.leading.lead_on.Goals as goal
 
-pub returns-else-branch : goal.returns-else-branch
-returns-else-branch c =
+pub returns-else-is_signed_for : goal.returns-else-is_signed_for
+returns-else-is_signed_for c =
     let next : NextOf c.args.before.now c.args.entry.now.batch.commands c.proofs.result.now (Ok c.in-Ok.after) =
     given c.args.before.now c.args.entry.now.batch.commands c.proofs.result.now c.next.result c.in-Ok.after c.in-Ok.is
     (subst (λ (batch : Batch). Gives c.args.before.now batch.commands c.proofs.result.now c.next.result) c.batch.ensures c.next.ensures.answer) in
     unsigned_leads c.args.key.now c.args.before.now c.args.entry.now c.in-Ok.after
     (subst (λ (bytes : List ℕ). NextOf c.args.before.now c.args.entry.now.batch.commands bytes (Ok c.in-Ok.after)) c.proofs.ensures next)
-    (λ signed. let yes : c.is_signed_for.result ≡ true = c.is_signed_for.ensures.1 signed in let is_not = c.if-branch.false in absurd (cc))
+    (λ signed. let yes : c.is_signed_for.result ≡ true = c.is_signed_for.ensures.1 signed in let is_not = c.if-is_signed_for.false in absurd (cc))
 
 pub returns-else-is_want_of_memory : goal.returns-else-is_want_of_memory
 returns-else-is_want_of_memory c =
