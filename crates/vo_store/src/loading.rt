@@ -11,16 +11,20 @@ use crate::fault::LoadFault;
 use crate::signed_record::SignedRecord;
 use crate::store::Store;
 use lms_sign::PublicKey;
-use owner_state::{JournalFault, walk_loadable};
+use owner_state::{JournalFault, LentEntry, walk_loadable};
 use std::alloc::{AllocError, Global};
 use stored_tables::StoredTables;
-use vo_spec::{Entry, List};
+use vo_spec::List;
 
 impl Store {
     /// A store of the key that has taken these entries, from entry 0 on: of it the record is
     /// installed, of each later one the batch is proposed and then the record installed. Entry 0's
     /// batch and the entries' proofs are not looked at.
-    pub fn load(alloc: Global, key: PublicKey, entries: &[Entry]) -> Result<Store, LoadFault>
+    pub fn load(
+        alloc: Global,
+        key: PublicKey,
+        entries: &[LentEntry<'_>],
+    ) -> Result<Store, LoadFault>
         requires { AllByRecursion FitsEntry entries.now }
         // by the store's calls
         ensures loaded { IfOk result (λ store. load_entries key entries.now ≡ Ok store) }
@@ -44,7 +48,7 @@ impl Store {
 pub(crate) fn store_of(
     alloc: Global,
     key: PublicKey,
-    entries: &[Entry],
+    entries: &[LentEntry<'_>],
     tables: StoredTables,
 ) -> Result<Store, AllocError>
     requires fit { AllByRecursion FitsEntry entries.now }
@@ -65,14 +69,14 @@ pub(crate) fn store_of(
 }
 
 /// The record of the last entry, with its signature.
-fn last_signed(alloc: Global, entries: &[Entry]) -> Result<SignedRecord, AllocError>
+fn last_signed(alloc: Global, entries: &[LentEntry<'_>]) -> Result<SignedRecord, AllocError>
     requires { 0 < length entries.now }
     ensures { IfOk result (λ last. last_signed entries.now ≡ Some last) }
 {
     let last = &entries[entries.len() - 1];
-    let signature = Vec::from_slice(alloc, last.signature.as_slice())?;
+    let signature = Vec::from_slice(alloc, last.signature())?;
     Ok(SignedRecord {
-        rec: last.rec,
+        rec: *last.rec(),
         signature: List::from_vec(signature),
     })
 }
