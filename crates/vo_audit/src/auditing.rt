@@ -39,7 +39,7 @@ fn audit_fault(fault: CheckFault) -> AuditFault
 fn audit_reply(
     alloc: Global,
     key: &PublicKey,
-    owned: &OwnedJournal,
+    owned: &OwnedJournal<'_>,
     query: &QueryText,
     reply: &Reply<'_>,
 ) -> Result<Verdict, AuditFault>

@@ -17,11 +17,11 @@ use crate::holding::holds;
 use crate::numbers::see_numbers;
 use crate::outcome_test::is_result;
 use departures::collision_of_batch;
-use owner_state::{Departure, OwnedJournal};
+use owner_state::{Departure, LentEntry, OwnedJournal};
 use std::alloc::{AllocError, Global};
 use stored_tables::StoredTables;
 use vo_format::Reply;
-use vo_spec::{Answer, Collision, Entry, List, QueryText, Verdict};
+use vo_spec::{Answer, Collision, List, QueryText, Verdict};
 
 /// The journal of so many entries does not hold the reply's record.
 fn unsigned_verdict(alloc: Global, entries: usize, reply: &Reply<'_>) -> Result<Verdict, AllocError>
@@ -71,7 +71,7 @@ fn verdict_by(
 }
 
 /// The departure, where the version is not before it.
-fn departure_by(owned: &OwnedJournal, version: u64) -> Option<&Departure>
+fn departure_by<'o>(owned: &'o OwnedJournal<'_>, version: u64) -> Option<&'o Departure>
     ensures before { result ≡ None → IsBefore version owned.now.departure }
     ensures there { IfSome result (λ departure. owned.now.departure ≡ Some departure.now) }
 {
@@ -85,7 +85,7 @@ fn departure_by(owned: &OwnedJournal, version: u64) -> Option<&Departure>
 fn collision_at(
     alloc: Global,
     departure: &Departure,
-    entries: &[Entry],
+    entries: &[LentEntry<'_>],
 ) -> Result<Collision, AllocError>
     requires { IsDepartureIn entries.now departure.now }
     ensures collides { IfOk result (λ found. Collides found.0 found.1) }
@@ -93,12 +93,7 @@ fn collision_at(
 {
     match entries.get(departure.index as usize) {
         Some(entry) => {
-            collision_of_batch(
-                alloc,
-                &departure.tables,
-                &entry.batch,
-                entry.proofs.as_slice(),
-            )
+            collision_of_batch(alloc, &departure.tables, entry.batch(), entry.proofs())
         },
         None => unreachable!(),
     }
@@ -110,7 +105,7 @@ fn verdict_behind(
     alloc: Global,
     tables: &StoredTables,
     departure: &Departure,
-    entries: &[Entry],
+    entries: &[LentEntry<'_>],
     query: &QueryText,
     answer: &Answer,
 ) -> Result<Verdict, AllocError>
@@ -131,7 +126,7 @@ fn verdict_behind(
 /// The verdict by a journal that was read with the tables of the reply's version.
 pub(crate) fn verdict_on(
     alloc: Global,
-    owned: &OwnedJournal,
+    owned: &OwnedJournal<'_>,
     query: &QueryText,
     reply: &Reply<'_>,
     answer: &Answer,
