@@ -1,6 +1,6 @@
 -- How a run ends, from what its work answered and from what was put.
 use Rattle.std.proofs.Common.{◌≡◌, subst}
-use Rattle.std.specs.Prelude.{ℕ, List, Option, Some, None, IfSome, Result, Ok, Err, IsErrOf, refl}
+use Rattle.std.specs.Prelude.{ℕ, List, Option, Some, None, IfSome, Result, Ok, Err, refl}
 use mathlib.Core.Logic.{inl, inr}
 use Rattle.outside.specs.Shelf.{Files}
 use Rattle.outside.specs.ConnectionModel.{ConnectionModel}
@@ -10,7 +10,7 @@ use Rattle.vo_commands.specs.declared.report.Report.{Report}
 use Rattle.vo_commands.specs.declared.report.Stop.{Stop}
 use Rattle.vo_commands.specs.declared.report.Stop.TheVariants.{Refused, Outside, Memory}
 use Rattle.vo_commands.specs.Expected.{Expected, Ends, UsesNet, command_expected, expected_of}
-use Rattle.vo_commands.specs.Reports.{Answers, WritesOutcome, output_of}
+use Rattle.vo_commands.specs.Reports.{Answers, FailsOutside, WritesOutcome, output_of}
 use Rattle.vo_commands.specs.Owning.{OwnEnds}
 use Rattle.vo_commands.specs.Serving.{ServeEnds}
 
@@ -22,7 +22,7 @@ ends_empty (Some expected) outside_rose out_rose before = inl (refl, refl)
 
 -- with what a command came to
 outcome_ends : (expected : Expected) (outcome : Result Report Stop) (outside_rose out_rose : Type 0) (status : ℕ) (before after : Option (List ℕ))
-    → Answers expected outcome → (IsErrOf outcome Outside → outside_rose) → WritesOutcome outcome out_rose status before after
+    → Answers expected outcome → (FailsOutside outcome → outside_rose) → WritesOutcome outcome out_rose status before after
     → Ends expected outside_rose out_rose status before after
 outcome_ends expected (Ok report) outside_rose out_rose status before after answers rose wrote = inr (inl (output_of report, answers, wrote))
 outcome_ends expected (Err (Refused report)) outside_rose out_rose status before after answers rose wrote = inr (inl (output_of report, answers, wrote))
@@ -30,7 +30,7 @@ outcome_ends expected (Err Outside) outside_rose out_rose status before after an
 outcome_ends expected (Err Memory) outside_rose out_rose status before after answers rose wrote = inl wrote
 
 some_ends : (o : Option Expected) (outcome : Result Report Stop) (outside_rose out_rose : Type 0) (status : ℕ) (before after : Option (List ℕ))
-    → IfSome o (λ expected. Answers expected outcome) → (IsErrOf outcome Outside → outside_rose) → WritesOutcome outcome out_rose status before after
+    → IfSome o (λ expected. Answers expected outcome) → (FailsOutside outcome → outside_rose) → WritesOutcome outcome out_rose status before after
     → IfSome o (λ expected. Ends expected outside_rose out_rose status before after)
 some_ends None outcome outside_rose out_rose status before after answers rose wrote = _
 some_ends (Some expected) outcome outside_rose out_rose status before after answers rose wrote =
@@ -38,7 +38,7 @@ some_ends (Some expected) outcome outside_rose out_rose status before after answ
 
 pub command_ends : (command : PlainRequest) (request : Option PlainRequest) (files : Option Files) (queue : Option (List (List ℕ)))
     (outcome : Result Report Stop) (outside_rose out_rose : Type 0) (status : ℕ) (before after : Option (List ℕ)) → Some command ≡ request
-    → IfSome (command_expected command files queue) (λ expected. Answers expected outcome) → (IsErrOf outcome Outside → outside_rose)
+    → IfSome (command_expected command files queue) (λ expected. Answers expected outcome) → (FailsOutside outcome → outside_rose)
     → WritesOutcome outcome out_rose status before after
     → IfSome (expected_of request files queue) (λ expected. Ends expected outside_rose out_rose status before after)
 command_ends command request files queue outcome outside_rose out_rose status before after is answers rose wrote =

@@ -6,5 +6,6 @@ pub mod ServeSteps
 pub mod QueryTexts
 pub mod NetSteps
 pub mod CommandSteps
+pub mod TakingSteps
 pub mod OwnerLaws
 pub mod OwnSteps

@@ -3,6 +3,7 @@ pub mod Words
 pub mod Texts
 pub mod Reports
 pub mod Expected
+pub mod Taking
 pub mod Serving
 pub mod Committing
 pub mod Owning

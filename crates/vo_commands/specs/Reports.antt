@@ -24,6 +24,14 @@ status_code BadAnswer = 9
 abbrev pub output_of : Report → Output
 output_of report = record { status = status_code report.status; bytes = report.bytes.items }
 
+-- A call ends by a fault of the outside; or it has nothing to do with the outside.
+abbrev pub FailsOutside : {A : Type 0} → Result A Stop → Type 0
+FailsOutside (Ok a) = ⊥
+FailsOutside (Err stop) = stop ≡ Outside
+
+abbrev pub StaysInside : {A : Type 0} → Result A Stop → Type 0
+StaysInside result = FailsOutside result → ⊥
+
 -- The command's answer is an expected output, unless the outside failed or memory ran out.
 abbrev pub Answers : Expected → Result Report Stop → Type 0
 Answers expected (Ok report) = Allows expected (output_of report)

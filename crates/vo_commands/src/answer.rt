@@ -1,9 +1,9 @@
 //! `answer`: the reply of a store to a query.
-ghost use Rattle.std.specs.Prelude.{◌≡◌, ◌≤◌, [], ◌∷◌, IfSome, IsErrOf};
-ghost use Rattle.outside.specs.FaultRose.{FaultRose};
+ghost use Rattle.std.specs.Prelude.{[], ◌∷◌, IfSome};
 ghost use Rattle.vo_spec.specs.Conditions.{query_of};
-ghost use Rattle.vo_commands.specs.Expected.{HoldsEach, answer_expected, OfQuery, Replies};
-ghost use Rattle.vo_commands.specs.Reports.{Answers};
+ghost use Rattle.vo_commands.specs.Expected.{answer_expected, OfQuery, Replies};
+ghost use Rattle.vo_commands.specs.Reports.{Answers, StaysInside};
+ghost use Rattle.vo_commands.specs.Taking.{TakesFiles, SomeOf};
 
 use crate::files::{take_file, take_key};
 use crate::limits::JOURNAL_LIMIT;
@@ -27,13 +27,8 @@ pub fn answer<F: Shelf>(
 ) -> Result<Report, Stop>
     ensures known { IfSome (F.contents files.old)
         (λ known. Answers (answer_expected key.now journal.now query.now known) result) }
-    ensures kept { F.contents files.new ≡ F.contents files.old }
-    ensures counts { F.faults files.old ≤ F.faults files.new }
-    ensures cause { IsErrOf result Stop.Outside
-        → FaultRose (F.faults files.old) (F.faults files.new) }
-    ensures misses { IfSome (F.contents files.old)
-        (λ known. HoldsEach known (key.now ∷ journal.now ∷ [])
-        → F.misses files.new ≡ F.misses files.old) }
+    ensures files { TakesFiles F.contents F.faults F.misses (SomeOf (key.now ∷ journal.now ∷ []))
+        files.old files.new result }
 {
     let key = take_key(alloc, files, key)?;
     let journal = take_file(alloc, files, journal, JOURNAL_LIMIT)?;
@@ -43,12 +38,10 @@ pub fn answer<F: Shelf>(
 /// The same by the bytes of the journal.
 fn answer_query(alloc: Global, key: PublicKey, journal: &[u8], query: &str) -> Result<Report, Stop>
     ensures known { Answers (OfQuery query.now (λ q. Replies key journal.now q)) result }
-    ensures inside { IsErrOf result Stop.Outside → ⊥ }
+    ensures inside { StaysInside result }
 {
-    match query_in(alloc, query) {
-        Ok(query) => reply_report(alloc, key, journal, &query),
-        Err(stop) => Err(stop),
-    }
+    let query = query_in(alloc, query)?;
+    reply_report(alloc, key, journal, &query)
 }
 
 fn reply_report(
@@ -58,7 +51,7 @@ fn reply_report(
     query: &QueryText,
 ) -> Result<Report, Stop>
     ensures known { Answers (Replies key journal.now (query_of query.now)) result }
-    ensures inside { IsErrOf result Stop.Outside → ⊥ }
+    ensures inside { StaysInside result }
 {
     match reply_by(alloc, key, journal, query) {
         Ok(bytes) => Ok(Report {

@@ -1,6 +1,6 @@
 //! What `check` prints of a reply that it accepts: the answer.
 ghost use Rattle.std.specs.Prelude.{◌≡◌, [], ◌∷◌, ◌++◌, map, flat_map, codes, IfOk, OnOk};
-ghost use Rattle.vo_commands.specs.Lines.{check_output, outcome_lines, version_line, words_line, columns_line, literal};
+ghost use Rattle.vo_commands.specs.Lines.{check_output, outcome_lines, words_line, columns_line, literal};
 ghost use Rattle.vo_commands.specs.Reports.{output_of};
 ghost use Rattle.vo_spec.specs.Results.{ref_title};
 

@@ -1,12 +1,13 @@
 //! `ask`: the answer that a client takes from the reply of a store, over a network.
-ghost use Rattle.std.specs.Prelude.{◌≡◌, ◌⊎◌, ◌≤◌, [], ◌∷◌, length, Some, IsTrue, IfSome, IsErrOf};
+ghost use Rattle.std.specs.Prelude.{◌≡◌, ◌⊎◌, ◌≤◌, [], ◌∷◌, length, Some, IsTrue, IfSome};
 ghost use Rattle.outside.specs.ConnectionModel.{ConnectionModel, has_next};
 ghost use Rattle.outside.specs.FaultRose.{FaultRose};
 ghost use Rattle.link_frames.specs.declared.frame_kind.FrameKind.TheVariants.{Query};
 ghost use Rattle.link_frames.specs.Frames.{frame_bytes, max_query};
 ghost use Rattle.vo_spec.specs.Conditions.{query_of};
-ghost use Rattle.vo_commands.specs.Expected.{AsksOnly, Checks, HoldsEach, OfQuery, ask_expected, with_reply};
-ghost use Rattle.vo_commands.specs.Reports.{Answers};
+ghost use Rattle.vo_commands.specs.Expected.{AsksOnly, Checks, OfQuery, ask_expected, with_reply};
+ghost use Rattle.vo_commands.specs.Reports.{Answers, FailsOutside};
+ghost use Rattle.vo_commands.specs.Taking.{LeavesFiles, SomeOf};
 
 use crate::check::client_report;
 use crate::files::take_key;
@@ -35,15 +36,13 @@ pub fn ask<F: Shelf, N: Net>(
         Answers (ask_expected key.now query.now least known before.queue) result) }
     ensures asks { (before : ConnectionModel) → N.wire net.old ≡ Some before
         → AsksOnly (frame_bytes Query query.now) before (N.wire net.new) }
-    ensures kept { F.contents files.new ≡ F.contents files.old }
+    ensures files { LeavesFiles F.contents F.faults F.misses (SomeOf (key.now ∷ [])) files.old
+        files.new }
 
-    ensures counts { F.faults files.old ≤ F.faults files.new }
     ensures net_counts { N.faults net.old ≤ N.faults net.new }
-    ensures cause { IsErrOf result Stop.Outside
+    ensures cause { FailsOutside result
         → FaultRose (F.faults files.old) (F.faults files.new)
         ⊎ FaultRose (N.faults net.old) (N.faults net.new) }
-    ensures misses { IfSome (F.contents files.old) (λ known. HoldsEach known (key.now ∷ [])
-        → F.misses files.new ≡ F.misses files.old) }
     ensures net_misses { (before : ConnectionModel) → N.wire net.old ≡ Some before
         → IsTrue (has_next before) → N.misses net.new ≡ N.misses net.old }
 {
@@ -67,15 +66,13 @@ fn ask_by_key<N: Net>(
         → AsksOnly (frame_bytes Query query.now) before (N.wire net.new) }
 
     ensures counts { N.faults net.old ≤ N.faults net.new }
-    ensures cause { IsErrOf result Stop.Outside
+    ensures cause { FailsOutside result
         → FaultRose (N.faults net.old) (N.faults net.new) }
     ensures misses { (before : ConnectionModel) → N.wire net.old ≡ Some before
         → IsTrue (has_next before) → N.misses net.new ≡ N.misses net.old }
 {
-    match query_in(alloc, query) {
-        Ok(text) => ask_store(alloc, net, address, key, query, &text, least),
-        Err(stop) => Err(stop),
-    }
+    let text = query_in(alloc, query)?;
+    ask_store(alloc, net, address, key, query, &text, least)
 }
 
 /// The same of a query, which was read from its text.
@@ -97,15 +94,13 @@ fn ask_store<N: Net>(
         → AsksOnly (frame_bytes Query text.now) before (N.wire net.new) }
 
     ensures counts { N.faults net.old ≤ N.faults net.new }
-    ensures cause { IsErrOf result Stop.Outside
+    ensures cause { FailsOutside result
         → FaultRose (N.faults net.old) (N.faults net.new) }
     ensures misses { (before : ConnectionModel) → N.wire net.old ≡ Some before
         → IsTrue (has_next before) → N.misses net.new ≡ N.misses net.old }
 {
     let mut client = Client::new(key, least);
     let mut checking = client.begin(alloc, query);
-    match feed_reply(alloc, net, address, text, &mut checking) {
-        Ok(()) => client_report(alloc, checking.end(alloc, &mut client)),
-        Err(stop) => Err(stop),
-    }
+    feed_reply(alloc, net, address, text, &mut checking)?;
+    client_report(alloc, checking.end(alloc, &mut client))
 }

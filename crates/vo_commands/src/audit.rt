@@ -1,10 +1,9 @@
 //! `audit`: the verdict of an auditor with the owner's journal on a reply.
-ghost use Rattle.std.specs.Prelude.{◌≡◌, ◌≤◌, [], ◌∷◌, is_some, IfSome, IsErrOf};
-ghost use Rattle.outside.specs.Miss.{CountsMiss};
-ghost use Rattle.outside.specs.FaultRose.{FaultRose};
+ghost use Rattle.std.specs.Prelude.{[], ◌∷◌, IfSome};
 ghost use Rattle.vo_spec.specs.Conditions.{query_of};
-ghost use Rattle.vo_commands.specs.Expected.{HoldsEach, audit_expected, OfQuery, with_file, reply_limit, Audits};
-ghost use Rattle.vo_commands.specs.Reports.{Answers};
+ghost use Rattle.vo_commands.specs.Expected.{audit_expected, OfQuery, with_file, reply_limit, Audits};
+ghost use Rattle.vo_commands.specs.Reports.{Answers, StaysInside};
+ghost use Rattle.vo_commands.specs.Taking.{TakesFiles, One, SomeOf};
 
 use crate::files::{take_file, take_key};
 use crate::limits::{JOURNAL_LIMIT, REPLY_LIMIT};
@@ -30,13 +29,8 @@ pub fn audit<F: Shelf>(
 ) -> Result<Report, Stop>
     ensures known { IfSome (F.contents files.old)
         (λ known. Answers (audit_expected key.now journal.now query.now reply.now known) result) }
-    ensures kept { F.contents files.new ≡ F.contents files.old }
-    ensures counts { F.faults files.old ≤ F.faults files.new }
-    ensures cause { IsErrOf result Stop.Outside
-        → FaultRose (F.faults files.old) (F.faults files.new) }
-    ensures misses { IfSome (F.contents files.old)
-        (λ known. HoldsEach known (key.now ∷ journal.now ∷ reply.now ∷ [])
-        → F.misses files.new ≡ F.misses files.old) }
+    ensures files { TakesFiles F.contents F.faults F.misses
+        (SomeOf (key.now ∷ journal.now ∷ reply.now ∷ [])) files.old files.new result }
 {
     let key = take_key(alloc, files, key)?;
     let journal = take_file(alloc, files, journal, JOURNAL_LIMIT)?;
@@ -56,17 +50,11 @@ fn audit_query<F: Shelf>(
         (λ known. Answers (OfQuery query.now
         (λ q. with_file known reply.now reply_limit
         (λ bytes. Audits key.now journal.now q bytes))) result) }
-    ensures kept { F.contents files.new ≡ F.contents files.old }
-    ensures counts { F.faults files.old ≤ F.faults files.new }
-    ensures cause { IsErrOf result Stop.Outside
-        → FaultRose (F.faults files.old) (F.faults files.new) }
-    ensures misses { IfSome (F.contents files.old)
-        (λ known. HoldsEach known (reply.now ∷ []) → F.misses files.new ≡ F.misses files.old) }
+    ensures files { TakesFiles F.contents F.faults F.misses (SomeOf (reply.now ∷ [])) files.old
+        files.new result }
 {
-    match query_in(alloc, query) {
-        Ok(query) => audit_file(alloc, files, key, journal, &query, reply),
-        Err(stop) => Err(stop),
-    }
+    let query = query_in(alloc, query)?;
+    audit_file(alloc, files, key, journal, &query, reply)
 }
 
 /// The same of the reply in a file.
@@ -81,18 +69,11 @@ fn audit_file<F: Shelf>(
     ensures known { IfSome (F.contents files.old)
         (λ known. Answers (with_file known reply.now reply_limit
         (λ bytes. Audits key.now journal.now (query_of query.now) bytes)) result) }
-    ensures kept { F.contents files.new ≡ F.contents files.old }
-    ensures counts { F.faults files.old ≤ F.faults files.new }
-    ensures cause { IsErrOf result Stop.Outside
-        → FaultRose (F.faults files.old) (F.faults files.new) }
-    ensures misses { IfSome (F.contents files.old)
-        (λ known. CountsMiss (is_some (known reply.now)) (F.misses files.old)
-        (F.misses files.new)) }
+    ensures files { TakesFiles F.contents F.faults F.misses (One reply.now) files.old files.new
+        result }
 {
-    match take_file(alloc, files, reply, REPLY_LIMIT) {
-        Ok(reply) => audit_report(alloc, key, journal, query, &reply),
-        Err(stop) => Err(stop),
-    }
+    let reply = take_file(alloc, files, reply, REPLY_LIMIT)?;
+    audit_report(alloc, key, journal, query, &reply)
 }
 
 fn audit_report(
@@ -103,7 +84,7 @@ fn audit_report(
     reply: &[u8],
 ) -> Result<Report, Stop>
     ensures known { Answers (Audits key.now journal.now (query_of query.now) reply.now) result }
-    ensures inside { IsErrOf result Stop.Outside → ⊥ }
+    ensures inside { StaysInside result }
 {
     match audit_reply(alloc, key, journal, query, reply) {
         Ok(verdict) => Ok(verdict_report(alloc, &verdict)?),

@@ -1,11 +1,10 @@
 //! `check`: the answer that a client takes from a reply, or why it refuses it.
-ghost use Rattle.std.specs.Prelude.{◌≡◌, ◌⊎◌, ◌≤◌, ℕ, List, [], ◌∷◌, Err, is_some, IfSome, IsErrOf};
-ghost use Rattle.outside.specs.Miss.{CountsMiss};
-ghost use Rattle.outside.specs.FaultRose.{FaultRose};
+ghost use Rattle.std.specs.Prelude.{◌≡◌, ◌⊎◌, ℕ, List, [], ◌∷◌, Err, IfSome};
 ghost use Rattle.vo_spec.specs.Checks.{CheckOf};
 ghost use Rattle.vo_spec.specs.Conditions.{Query, query_of};
-ghost use Rattle.vo_commands.specs.Expected.{HoldsEach, check_expected, with_file, reply_limit, Checks};
-ghost use Rattle.vo_commands.specs.Reports.{Answers};
+ghost use Rattle.vo_commands.specs.Expected.{check_expected, with_file, reply_limit, Checks};
+ghost use Rattle.vo_commands.specs.Reports.{Answers, StaysInside};
+ghost use Rattle.vo_commands.specs.Taking.{TakesFiles, One, SomeOf};
 
 use crate::answers::answer_report;
 use crate::files::{take_file, take_key};
@@ -31,13 +30,8 @@ pub fn check<F: Shelf>(
 ) -> Result<Report, Stop>
     ensures known { IfSome (F.contents files.old)
         (λ known. Answers (check_expected key.now query.now reply.now least known) result) }
-    ensures kept { F.contents files.new ≡ F.contents files.old }
-    ensures counts { F.faults files.old ≤ F.faults files.new }
-    ensures cause { IsErrOf result Stop.Outside
-        → FaultRose (F.faults files.old) (F.faults files.new) }
-    ensures misses { IfSome (F.contents files.old)
-        (λ known. HoldsEach known (key.now ∷ reply.now ∷ [])
-        → F.misses files.new ≡ F.misses files.old) }
+    ensures files { TakesFiles F.contents F.faults F.misses (SomeOf (key.now ∷ reply.now ∷ []))
+        files.old files.new result }
 {
     let key = take_key(alloc, files, key)?;
     let query = query_in(alloc, query)?;
@@ -56,22 +50,15 @@ fn check_file<F: Shelf>(
     ensures known { IfSome (F.contents files.old)
         (λ known. Answers (with_file known reply.now reply_limit
         (λ bytes. Checks key least (query_of query.now) bytes)) result) }
-    ensures kept { F.contents files.new ≡ F.contents files.old }
-    ensures counts { F.faults files.old ≤ F.faults files.new }
-    ensures cause { IsErrOf result Stop.Outside
-        → FaultRose (F.faults files.old) (F.faults files.new) }
-    ensures misses { IfSome (F.contents files.old)
-        (λ known. CountsMiss (is_some (known reply.now)) (F.misses files.old)
-        (F.misses files.new)) }
+    ensures files { TakesFiles F.contents F.faults F.misses (One reply.now) files.old files.new
+        result }
 {
-    match take_file(alloc, files, reply, REPLY_LIMIT) {
-        Ok(reply) => check_report(alloc, key, least, query, &reply),
-        Err(stop) => Err(stop),
-    }
+    let reply = take_file(alloc, files, reply, REPLY_LIMIT)?;
+    check_report(alloc, key, least, query, &reply)
 }
 
 /// The answer that a client of the key accepts from these bytes, or why it refuses them.
-pub fn check_report(
+fn check_report(
     alloc: Global,
     key: PublicKey,
     least: u64,
@@ -79,7 +66,7 @@ pub fn check_report(
     reply: &[u8],
 ) -> Result<Report, Stop>
     ensures known { Answers (Checks key least (query_of query.now) reply.now) result }
-    ensures inside { IsErrOf result Stop.Outside → ⊥ }
+    ensures inside { StaysInside result }
 {
     let mut client = Client::new(key, least);
     client_report(alloc, client.check(alloc, query, reply))
@@ -90,7 +77,7 @@ pub fn client_report(alloc: Global, answer: Result<Answer, CheckFault>) -> Resul
     ensures known { (key : List ℕ) (least : ℕ) (q : Query) (reply : List ℕ)
         → (answer ≡ Err CheckFault.Memory) ⊎ CheckOf key least q reply answer
         → Answers (Checks key least q reply) result }
-    ensures inside { IsErrOf result Stop.Outside → ⊥ }
+    ensures inside { StaysInside result }
 {
     match answer {
         Ok(answer) => Ok(answer_report(alloc, &answer)?),

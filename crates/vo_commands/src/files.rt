@@ -1,10 +1,9 @@
 //! Taking the files that a command names, in the order of its words.
-ghost use Rattle.std.specs.Prelude.{◌≡◌, ◌==◌, ℕ, ◌≤◌, length, take, drop, is_some, IfSome, IsErrOf};
-ghost use Rattle.outside.specs.Miss.{CountsMiss};
-ghost use Rattle.outside.specs.FaultRose.{FaultRose};
+ghost use Rattle.std.specs.Prelude.{◌≡◌, ◌==◌, length, take, drop, is_some, IfSome};
 ghost use Rattle.vo_words.specs.Height.{number_of};
-ghost use Rattle.vo_commands.specs.Expected.{with_file, with_seed, with_secret, seed_limit, with_key, with_public, is_public_key};
-ghost use Rattle.vo_commands.specs.Reports.{GoesOn};
+ghost use Rattle.vo_commands.specs.Expected.{with_file, with_seed, with_secret, seed_limit, with_key, with_public};
+ghost use Rattle.vo_commands.specs.Reports.{GoesOn, StaysInside};
+ghost use Rattle.vo_commands.specs.Taking.{TakesFiles, One};
 
 use crate::limits::{KEY_LIMIT, SEED_LIMIT};
 use crate::piece::Word;
@@ -24,12 +23,8 @@ pub fn take_file<F: Shelf>(
 ) -> Result<Vec<u8>, Stop>
     ensures known { IfSome (F.contents files.old)
         (λ known. GoesOn (λ bytes. bytes.items) (with_file known name.now limit) result) }
-    ensures kept { F.contents files.new ≡ F.contents files.old }
-    ensures counts { F.faults files.old ≤ F.faults files.new }
-    ensures cause { IsErrOf result Stop.Outside
-        → FaultRose (F.faults files.old) (F.faults files.new) }
-    ensures misses { IfSome (F.contents files.old)
-        (λ known. CountsMiss (is_some (known name.now)) (F.misses files.old) (F.misses files.new)) }
+    ensures files { TakesFiles F.contents F.faults F.misses (One name.now) files.old files.new
+        result }
 {
     match files.take(alloc, name, limit) {
         Ok(bytes) => Ok(bytes),
@@ -51,12 +46,8 @@ pub fn take_seed<F: Shelf>(
 ) -> Result<SecretKey, Stop>
     ensures known { IfSome (F.contents files.old)
         (λ known. GoesOn (λ key. key) (with_seed known name.now (number_of height)) result) }
-    ensures kept { F.contents files.new ≡ F.contents files.old }
-    ensures counts { F.faults files.old ≤ F.faults files.new }
-    ensures cause { IsErrOf result Stop.Outside
-        → FaultRose (F.faults files.old) (F.faults files.new) }
-    ensures misses { IfSome (F.contents files.old)
-        (λ known. CountsMiss (is_some (known name.now)) (F.misses files.old) (F.misses files.new)) }
+    ensures files { TakesFiles F.contents F.faults F.misses (One name.now) files.old files.new
+        result }
 {
     let bytes = take_file(alloc, files, name, SEED_LIMIT)?;
     secret_key(alloc, &bytes, height)
@@ -65,7 +56,7 @@ pub fn take_seed<F: Shelf>(
 fn secret_key(alloc: Global, bytes: &[u8], height: Height) -> Result<SecretKey, Stop>
     ensures known { GoesOn (λ key. key)
         (λ rest. with_secret (number_of height) rest bytes.now) result }
-    ensures inside { IsErrOf result Stop.Outside → ⊥ }
+    ensures inside { StaysInside result }
 {
     let Some((id, seed)) = parts_of(bytes) else {
         let words = [Word::Phrase("seed file"), Word::Number(bytes.len() as u64)];
@@ -93,12 +84,8 @@ fn parts_of(bytes: &[u8]) -> Option<(&[u8; 16], &[u8; 32])>
 pub fn take_key<F: Shelf>(alloc: Global, files: &mut F, name: &str) -> Result<PublicKey, Stop>
     ensures known { IfSome (F.contents files.old)
         (λ known. GoesOn (λ key. key) (with_key known name.now) result) }
-    ensures kept { F.contents files.new ≡ F.contents files.old }
-    ensures counts { F.faults files.old ≤ F.faults files.new }
-    ensures cause { IsErrOf result Stop.Outside
-        → FaultRose (F.faults files.old) (F.faults files.new) }
-    ensures misses { IfSome (F.contents files.old)
-        (λ known. CountsMiss (is_some (known name.now)) (F.misses files.old) (F.misses files.new)) }
+    ensures files { TakesFiles F.contents F.faults F.misses (One name.now) files.old files.new
+        result }
 {
     let bytes = take_file(alloc, files, name, KEY_LIMIT)?;
     public_key(alloc, &bytes)
@@ -106,7 +93,7 @@ pub fn take_key<F: Shelf>(alloc: Global, files: &mut F, name: &str) -> Result<Pu
 
 fn public_key(alloc: Global, bytes: &[u8]) -> Result<PublicKey, Stop>
     ensures known { GoesOn (λ key. key) (λ rest. with_public rest bytes.now) result }
-    ensures inside { IsErrOf result Stop.Outside → ⊥ }
+    ensures inside { StaysInside result }
 {
     match PublicKey::read(bytes) {
         Ok(key) => Ok(key),

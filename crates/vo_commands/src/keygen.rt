@@ -1,10 +1,9 @@
 //! `keygen`: the public key of a seed file.
-ghost use Rattle.std.specs.Prelude.{◌≡◌, ◌≤◌, is_some, IfSome, IsErrOf};
-ghost use Rattle.outside.specs.Miss.{CountsMiss};
-ghost use Rattle.outside.specs.FaultRose.{FaultRose};
+ghost use Rattle.std.specs.Prelude.{IfSome};
 ghost use Rattle.vo_words.specs.Height.{number_of};
 ghost use Rattle.vo_commands.specs.Expected.{keygen_expected};
 ghost use Rattle.vo_commands.specs.Reports.{Answers};
+ghost use Rattle.vo_commands.specs.Taking.{TakesFiles, One};
 
 use crate::files::take_seed;
 use crate::report::{Report, Status, Stop};
@@ -21,12 +20,8 @@ pub fn keygen<F: Shelf>(
 ) -> Result<Report, Stop>
     ensures known { IfSome (F.contents files.old)
         (λ known. Answers (keygen_expected seed.now (number_of height) known) result) }
-    ensures kept { F.contents files.new ≡ F.contents files.old }
-    ensures counts { F.faults files.old ≤ F.faults files.new }
-    ensures cause { IsErrOf result Stop.Outside
-        → FaultRose (F.faults files.old) (F.faults files.new) }
-    ensures misses { IfSome (F.contents files.old)
-        (λ known. CountsMiss (is_some (known seed.now)) (F.misses files.old) (F.misses files.new)) }
+    ensures files { TakesFiles F.contents F.faults F.misses (One seed.now) files.old files.new
+        result }
 {
     let key = take_seed(alloc, files, seed, height)?;
     let bytes = key.public().bytes(alloc)?;

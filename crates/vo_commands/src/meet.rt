@@ -1,10 +1,9 @@
 //! `meet`: two replies to one query against each other.
-ghost use Rattle.std.specs.Prelude.{◌≡◌, ◌≤◌, [], ◌∷◌, is_some, IfSome, IsErrOf};
-ghost use Rattle.outside.specs.Miss.{CountsMiss};
-ghost use Rattle.outside.specs.FaultRose.{FaultRose};
+ghost use Rattle.std.specs.Prelude.{[], ◌∷◌, IfSome};
 ghost use Rattle.vo_spec.specs.Conditions.{query_of};
-ghost use Rattle.vo_commands.specs.Expected.{HoldsEach, meet_expected, with_file, reply_limit, Meets};
-ghost use Rattle.vo_commands.specs.Reports.{Answers};
+ghost use Rattle.vo_commands.specs.Expected.{meet_expected, with_file, reply_limit, Meets};
+ghost use Rattle.vo_commands.specs.Reports.{Answers, StaysInside};
+ghost use Rattle.vo_commands.specs.Taking.{TakesFiles, SomeOf};
 
 use crate::files::{take_file, take_key};
 use crate::limits::REPLY_LIMIT;
@@ -29,13 +28,8 @@ pub fn meet<F: Shelf>(
 ) -> Result<Report, Stop>
     ensures known { IfSome (F.contents files.old)
         (λ known. Answers (meet_expected key.now query.now first.now second.now known) result) }
-    ensures kept { F.contents files.new ≡ F.contents files.old }
-    ensures counts { F.faults files.old ≤ F.faults files.new }
-    ensures cause { IsErrOf result Stop.Outside
-        → FaultRose (F.faults files.old) (F.faults files.new) }
-    ensures misses { IfSome (F.contents files.old)
-        (λ known. HoldsEach known (key.now ∷ first.now ∷ second.now ∷ [])
-        → F.misses files.new ≡ F.misses files.old) }
+    ensures files { TakesFiles F.contents F.faults F.misses
+        (SomeOf (key.now ∷ first.now ∷ second.now ∷ [])) files.old files.new result }
 {
     let key = take_key(alloc, files, key)?;
     let query = query_in(alloc, query)?;
@@ -55,42 +49,12 @@ fn meet_files<F: Shelf>(
         (λ known. Answers (with_file known first.now reply_limit
         (λ one. with_file known second.now reply_limit
         (λ other. Meets key.now (query_of query.now) one other))) result) }
-    ensures kept { F.contents files.new ≡ F.contents files.old }
-    ensures counts { F.faults files.old ≤ F.faults files.new }
-    ensures cause { IsErrOf result Stop.Outside
-        → FaultRose (F.faults files.old) (F.faults files.new) }
-    ensures misses { IfSome (F.contents files.old)
-        (λ known. HoldsEach known (first.now ∷ second.now ∷ [])
-        → F.misses files.new ≡ F.misses files.old) }
+    ensures files { TakesFiles F.contents F.faults F.misses (SomeOf (first.now ∷ second.now ∷ []))
+        files.old files.new result }
 {
     let first = take_file(alloc, files, first, REPLY_LIMIT)?;
-    meet_file(alloc, files, key, query, &first, second)
-}
-
-/// The same of a reply and one in a file.
-fn meet_file<F: Shelf>(
-    alloc: Global,
-    files: &mut F,
-    key: &PublicKey,
-    query: &QueryText,
-    first: &[u8],
-    second: &str,
-) -> Result<Report, Stop>
-    ensures known { IfSome (F.contents files.old)
-        (λ known. Answers (with_file known second.now reply_limit
-        (λ other. Meets key.now (query_of query.now) first.now other)) result) }
-    ensures kept { F.contents files.new ≡ F.contents files.old }
-    ensures counts { F.faults files.old ≤ F.faults files.new }
-    ensures cause { IsErrOf result Stop.Outside
-        → FaultRose (F.faults files.old) (F.faults files.new) }
-    ensures misses { IfSome (F.contents files.old)
-        (λ known. CountsMiss (is_some (known second.now)) (F.misses files.old)
-        (F.misses files.new)) }
-{
-    match take_file(alloc, files, second, REPLY_LIMIT) {
-        Ok(second) => meet_report(alloc, key, query, first, &second),
-        Err(stop) => Err(stop),
-    }
+    let second = take_file(alloc, files, second, REPLY_LIMIT)?;
+    meet_report(alloc, key, query, &first, &second)
 }
 
 fn meet_report(
@@ -101,7 +65,7 @@ fn meet_report(
     second: &[u8],
 ) -> Result<Report, Stop>
     ensures known { Answers (Meets key.now (query_of query.now) first.now second.now) result }
-    ensures inside { IsErrOf result Stop.Outside → ⊥ }
+    ensures inside { StaysInside result }
 {
     match meet_replies(alloc, key, query, first, second) {
         Ok(met) => Ok(meeting_report(alloc, &met)?),

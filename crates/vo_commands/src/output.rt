@@ -1,8 +1,8 @@
 //! Output, in one piece, and the status that it ends with.
-ghost use Rattle.std.specs.Prelude.{◌≡◌, ◌⊎◌, Ok, Err, IsErrOf};
+ghost use Rattle.std.specs.Prelude.{◌≡◌, ◌⊎◌, Ok, Err};
 ghost use Rattle.outside.specs.FaultRose.{FaultRose};
 ghost use Rattle.exit_output.specs.Outputs.{Writes};
-ghost use Rattle.vo_commands.specs.Reports.{WritesOutcome, output_of};
+ghost use Rattle.vo_commands.specs.Reports.{WritesOutcome, output_of, FailsOutside};
 
 use crate::report::{Report, Stop};
 use exit_output::write_output;
@@ -13,7 +13,7 @@ pub fn print_outcome<S: Sink>(out: &mut S, outcome: Result<Report, Stop>) -> u8
     ensures wrote { WritesOutcome outcome (FaultRose (S.faults out.old) (S.faults out.new))
         result (S.written out.old) (S.written out.new) }
     ensures outside { result ≡ 3
-        → IsErrOf outcome Stop.Outside ⊎ FaultRose (S.faults out.old) (S.faults out.new) }
+        → FailsOutside outcome ⊎ FaultRose (S.faults out.old) (S.faults out.new) }
     ensures memory { result ≡ 4 → S.written out.new ≡ S.written out.old }
 {
     match outcome {

@@ -1,8 +1,7 @@
 //! `own`: the owner of a key commits the batches of a script with a store, over a network.
-ghost use Rattle.std.specs.Prelude.{◌≡◌, ◌⊎◌, ◌≤◌, ◌∷◌, [], length, is_some, All, Some, IfOk, IfSome, IsErrOf};
+ghost use Rattle.std.specs.Prelude.{◌≡◌, ◌⊎◌, ◌≤◌, ◌∷◌, [], length, All, Some, IfOk, IfSome};
 ghost use Rattle.outside.specs.ConnectionModel.{ConnectionModel};
 ghost use Rattle.outside.specs.FaultRose.{FaultRose};
-ghost use Rattle.outside.specs.Miss.{CountsMiss};
 ghost use Rattle.link_frames.specs.Reading.{StaysWhereItStands};
 ghost use Rattle.vo_spec.specs.Batches.{FitsBatch};
 ghost use Rattle.vo_spec.specs.Secret.{Secret};
@@ -10,9 +9,11 @@ ghost use Rattle.owner_state.specs.Stepping.{AreStepsTo};
 ghost use Rattle.owner_journal.specs.Entries.{entries_of};
 ghost use Rattle.owner_journal.specs.Resting.{IsAtRest};
 ghost use Rattle.vo_words.specs.Height.{number_of};
-ghost use Rattle.vo_commands.specs.Expected.{HoldsEach, script_limit, with_file};
+ghost use Rattle.vo_commands.specs.Expected.{script_limit, with_file};
 ghost use Rattle.vo_commands.specs.Committing.{CanGoOn};
 ghost use Rattle.vo_commands.specs.Owning.{CommitsFrom, CommitsOnline, CommitsOver, OwnEnds, Prepares, commitment_expected, commitment_in};
+ghost use Rattle.vo_commands.specs.Reports.{StaysInside};
+ghost use Rattle.vo_commands.specs.Taking.{TakesFiles, LeavesFiles, One, SomeOf};
 
 use crate::files::{take_file, take_seed};
 use crate::journal_owner::{JournalOwner, LentDisk};
@@ -51,16 +52,14 @@ pub fn own<F: Shelf, D: Disk, N: Net, S: Sink>(
         (FaultRose (S.faults out.old) (S.faults out.new)) result
         (D.drive disk.old) (D.drive disk.new) before (N.wire net.new)
         (S.written out.old) (S.written out.new)) }
-    ensures kept { F.contents files.new ≡ F.contents files.old }
+    ensures files { LeavesFiles F.contents F.faults F.misses
+        (SomeOf (commitment.now.seed.now ∷ commitment.now.script.now ∷ [])) files.old files.new }
 
     ensures outside { result ≡ 3
         → FaultRose (F.faults files.old) (F.faults files.new)
         ⊎ FaultRose (N.faults net.old) (N.faults net.new)
         ⊎ FaultRose (D.faults disk.old) (D.faults disk.new)
         ⊎ FaultRose (S.faults out.old) (S.faults out.new) }
-    ensures misses { IfSome (F.contents files.old) (λ known.
-        HoldsEach known (commitment.now.seed.now ∷ commitment.now.script.now ∷ [])
-        → F.misses files.new ≡ F.misses files.old) }
     ensures net_misses { (before : ConnectionModel) → N.wire net.old ≡ Some before
         → 1 ≤ length before.queue → N.misses net.new ≡ N.misses net.old }
 {
@@ -89,16 +88,14 @@ fn own_with_key<F: Shelf, D: Disk, N: Net, S: Sink>(
         (FaultRose (S.faults out.old) (S.faults out.new)) result
         (D.drive disk.old) (D.drive disk.new) before (N.wire net.new)
         (S.written out.old) (S.written out.new)) }
-    ensures kept { F.contents files.new ≡ F.contents files.old }
+    ensures files { LeavesFiles F.contents F.faults F.misses (One commitment.now.script.now)
+        files.old files.new }
 
-    ensures counts { F.faults files.old ≤ F.faults files.new }
     ensures outside { result ≡ 3
         → FaultRose (F.faults files.old) (F.faults files.new)
         ⊎ FaultRose (N.faults net.old) (N.faults net.new)
         ⊎ FaultRose (D.faults disk.old) (D.faults disk.new)
         ⊎ FaultRose (S.faults out.old) (S.faults out.new) }
-    ensures misses { IfSome (F.contents files.old) (λ known. CountsMiss
-        (is_some (known commitment.now.script.now)) (F.misses files.old) (F.misses files.new)) }
     ensures net_misses { (before : ConnectionModel) → N.wire net.old ≡ Some before
         → 1 ≤ length before.queue → N.misses net.new ≡ N.misses net.old }
 {
@@ -113,24 +110,18 @@ fn take_batches<F: Shelf>(alloc: Global, files: &mut F, script: &str) -> Result<
     ensures known { IfSome (F.contents files.old) (λ known. (secret : Secret)
         → Prepares (with_file known script.now script_limit (commitment_in secret)) secret result) }
     ensures fit { IfOk result (λ batches. All (λ batch. FitsBatch batch.commands) batches.items) }
-    ensures kept { F.contents files.new ≡ F.contents files.old }
-    ensures counts { F.faults files.old ≤ F.faults files.new }
-    ensures cause { IsErrOf result Stop.Outside
-        → FaultRose (F.faults files.old) (F.faults files.new) }
-    ensures misses { IfSome (F.contents files.old) (λ known. CountsMiss
-        (is_some (known script.now)) (F.misses files.old) (F.misses files.new)) }
+    ensures files { TakesFiles F.contents F.faults F.misses (One script.now) files.old files.new
+        result }
 {
-    match take_file(alloc, files, script, SCRIPT_LIMIT) {
-        Ok(bytes) => script_batches(alloc, &bytes),
-        Err(stop) => Err(stop),
-    }
+    let bytes = take_file(alloc, files, script, SCRIPT_LIMIT)?;
+    script_batches(alloc, &bytes)
 }
 
 /// The batches of the script that the bytes are.
 fn script_batches(alloc: Global, script: &[u8]) -> Result<Vec<Batch>, Stop>
     ensures known { (secret : Secret) → Prepares (commitment_in secret script.now) secret result }
     ensures fit { IfOk result (λ batches. All (λ batch. FitsBatch batch.commands) batches.items) }
-    ensures inside { IsErrOf result Stop.Outside → ⊥ }
+    ensures inside { StaysInside result }
 {
     match text_in(alloc, script) {
         Ok(text) => batches_in(alloc, text),

@@ -1,5 +1,5 @@
 //! The owner of a key behind the last entry of its journal.
-ghost use Rattle.std.specs.Prelude.{◌≡◌, ◌<◌, ◌≤◌, [], ◌∷◌, false, length, IfErr, IfOk, IfSome, IsErrOf, OnErr};
+ghost use Rattle.std.specs.Prelude.{◌≡◌, ◌<◌, ◌≤◌, [], ◌∷◌, false, length, IfErr, IfOk, IfSome, OnErr};
 ghost use Rattle.std.specs.List.{AllByRecursion};
 ghost use Rattle.outside.specs.FaultRose.{FaultRose};
 ghost use Rattle.outside.specs.Moments.{IfKnown};
@@ -9,6 +9,7 @@ ghost use Rattle.owner_journal.specs.Entries.{entries_of, has_failed};
 ghost use Rattle.owner_journal.specs.Resting.{IsAtRest};
 ghost use Rattle.vo_commands.specs.Committing.{CanGoOn};
 ghost use Rattle.vo_commands.specs.Owning.{LeavesAsBefore, LeavesAsFound, Opens, StopsAtFault, StopsOpening, StopsReplaying, or_first_entry};
+ghost use Rattle.vo_commands.specs.Reports.{StaysInside, FailsOutside};
 
 use crate::refusals::bad_entry;
 use crate::report::Stop;
@@ -39,7 +40,7 @@ pub fn open_owner<D: Disk>(
     ensures kept { OnErr result (IfKnown (D.drive disk.old) (D.drive disk.new)
         (LeavesAsBefore key.now)) }
     ensures counts { D.faults disk.old ≤ D.faults disk.new }
-    ensures cause { IsErrOf result Stop.Outside
+    ensures cause { FailsOutside result
         → FaultRose (D.faults disk.old) (D.faults disk.new) }
 {
     match Journal::open(alloc, disk) {
@@ -81,7 +82,7 @@ fn owner_behind<D: Disk>(
     ensures kept { OnErr result (IfKnown (D.drive disk.old) (D.drive disk.new)
         (λ _. LeavesAsFound key.now (entries_of journal))) }
     ensures counts { D.faults disk.old ≤ D.faults disk.new }
-    ensures cause { IsErrOf result Stop.Outside
+    ensures cause { FailsOutside result
         → FaultRose (D.faults disk.old) (D.faults disk.new) }
 {
     if journal.entries().is_empty() {
@@ -113,7 +114,7 @@ fn begin_journal<D: Disk>(
     ensures kept { OnErr result (IfKnown (D.drive disk.old) (D.drive disk.new)
         (λ _. LeavesAsFound key.now (entries_of journal))) }
     ensures counts { D.faults disk.old ≤ D.faults disk.new }
-    ensures cause { IsErrOf result Stop.Outside
+    ensures cause { FailsOutside result
         → FaultRose (D.faults disk.old) (D.faults disk.new) }
 {
     let (owner, first) = Owner::start(alloc, key)?;
@@ -132,7 +133,7 @@ fn replay_journal(alloc: Global, key: &SecretKey, entries: &[Entry]) -> Result<O
     ensures key { IfOk result (λ owner. owner.key ≡ key.now) }
     ensures steps { IfOk result (λ owner. AreStepsTo key.now entries.now owner.roots) }
     ensures stopped { IfErr result (StopsReplaying key.now entries.now) }
-    ensures inside { IsErrOf result Stop.Outside → ⊥ }
+    ensures inside { StaysInside result }
 {
     match replay(alloc, key, entries) {
         Ok(owner) => Ok(owner),

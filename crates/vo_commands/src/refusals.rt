@@ -1,6 +1,6 @@
 //! Refusals, each in one line that begins with `refused:`.
-ghost use Rattle.std.specs.Prelude.{◌≡◌, [], ◌∷◌, ◌++◌, map, codes, decimal, IfOk, OnOk};
-ghost use Rattle.vo_commands.specs.Lines.{refusal, line_output, command_output, spent_key, fault_name, bad_journal, words_line};
+ghost use Rattle.std.specs.Prelude.{◌≡◌, map, IfOk};
+ghost use Rattle.vo_commands.specs.Lines.{refusal, line_output, command_output, spent_key, fault_name, bad_journal};
 ghost use Rattle.vo_commands.specs.Reports.{output_of, status_code};
 ghost use Rattle.vo_commands.specs.Words.{word_text};
 

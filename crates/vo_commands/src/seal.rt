@@ -1,10 +1,10 @@
 //! `seal`: the journal of a script's batches.
-ghost use Rattle.std.specs.Prelude.{◌≡◌, ◌≤◌, [], ◌∷◌, IfSome, IsErrOf};
-ghost use Rattle.outside.specs.FaultRose.{FaultRose};
-ghost use Rattle.vo_commands.specs.Expected.{HoldsEach, Exactly, script_expected, seal_expected, seal_output};
-ghost use Rattle.vo_commands.specs.Reports.{Answers};
+ghost use Rattle.std.specs.Prelude.{[], ◌∷◌, IfSome};
+ghost use Rattle.vo_commands.specs.Expected.{Exactly, script_expected, seal_expected, seal_output};
+ghost use Rattle.vo_commands.specs.Reports.{Answers, StaysInside};
 ghost use Rattle.vo_words.specs.Height.{number_of};
 ghost use Rattle.owner_state.specs.Sealing.{FitEach};
+ghost use Rattle.vo_commands.specs.Taking.{TakesFiles, SomeOf};
 
 use crate::files::{take_file, take_seed};
 use crate::limits::SCRIPT_LIMIT;
@@ -28,13 +28,8 @@ pub fn seal<F: Shelf>(
 ) -> Result<Report, Stop>
     ensures known { IfSome (F.contents files.old)
         (λ known. Answers (seal_expected seed.now script.now (number_of height) known) result) }
-    ensures kept { F.contents files.new ≡ F.contents files.old }
-    ensures counts { F.faults files.old ≤ F.faults files.new }
-    ensures cause { IsErrOf result Stop.Outside
-        → FaultRose (F.faults files.old) (F.faults files.new) }
-    ensures misses { IfSome (F.contents files.old)
-        (λ known. HoldsEach known (seed.now ∷ script.now ∷ [])
-        → F.misses files.new ≡ F.misses files.old) }
+    ensures files { TakesFiles F.contents F.faults F.misses (SomeOf (seed.now ∷ script.now ∷ []))
+        files.old files.new result }
 {
     let key = take_seed(alloc, files, seed, height)?;
     let script = take_file(alloc, files, script, SCRIPT_LIMIT)?;
@@ -44,7 +39,7 @@ pub fn seal<F: Shelf>(
 /// The journal of the script that the bytes are.
 fn seal_script(alloc: Global, key: &SecretKey, script: &[u8]) -> Result<Report, Stop>
     ensures known { Answers (script_expected key.now script.now) result }
-    ensures inside { IsErrOf result Stop.Outside → ⊥ }
+    ensures inside { StaysInside result }
 {
     let text = match text_in(alloc, script) {
         Ok(text) => text,
@@ -59,7 +54,7 @@ fn seal_script(alloc: Global, key: &SecretKey, script: &[u8]) -> Result<Report, 
 fn journal_report(alloc: Global, key: &SecretKey, batches: List<Batch>) -> Result<Report, Stop>
     requires { FitEach batches }
     ensures known { Answers (Exactly (seal_output key.now batches)) result }
-    ensures inside { IsErrOf result Stop.Outside → ⊥ }
+    ensures inside { StaysInside result }
 {
     match seal_batches(alloc, key, batches) {
         Ok(bytes) => Ok(Report {

@@ -1,10 +1,11 @@
 //! `serve`: the store of a journal, over a network.
-ghost use Rattle.std.specs.Prelude.{◌≡◌, ◌⊎◌, ℕ, ◌≤◌, [], ◌∷◌, length, Some, IfOk, IfSome, IsErrOf};
+ghost use Rattle.std.specs.Prelude.{◌≡◌, ◌⊎◌, ℕ, ◌≤◌, [], ◌∷◌, length, Some, IfOk, IfSome};
 ghost use Rattle.outside.specs.ConnectionModel.{ConnectionModel};
 ghost use Rattle.outside.specs.FaultRose.{FaultRose};
 ghost use Rattle.exit_output.specs.Outputs.{Writes};
-ghost use Rattle.vo_commands.specs.Expected.{HoldsEach};
 ghost use Rattle.vo_commands.specs.Serving.{FailsToListen, IsServedFrom, Loads, LoadsStore, ServeEnds, served_output, service_expected};
+ghost use Rattle.vo_commands.specs.Reports.{StaysInside};
+ghost use Rattle.vo_commands.specs.Taking.{TakesFiles, LeavesFiles, SomeOf};
 
 use crate::files::{take_file, take_key};
 use crate::limits::JOURNAL_LIMIT;
@@ -39,15 +40,13 @@ pub fn serve<F: Shelf, N: Net, S: Sink>(
         (FaultRose (S.faults out.old) (S.faults out.new)) result
         (N.faults net.old) (N.faults net.new) (N.wire net.old) (N.wire net.new)
         (S.written out.old) (S.written out.new)) }
-    ensures kept { F.contents files.new ≡ F.contents files.old }
+    ensures files { LeavesFiles F.contents F.faults F.misses
+        (SomeOf (service.now.key.now ∷ service.now.journal.now ∷ [])) files.old files.new }
 
     ensures outside { result ≡ 3
         → FaultRose (F.faults files.old) (F.faults files.new)
         ⊎ FaultRose (N.faults net.old) (N.faults net.new)
         ⊎ FaultRose (S.faults out.old) (S.faults out.new) }
-    ensures misses { IfSome (F.contents files.old) (λ known.
-        HoldsEach known (service.now.key.now ∷ service.now.journal.now ∷ [])
-        → F.misses files.new ≡ F.misses files.old) }
     ensures net_misses { (before : ConnectionModel) → N.wire net.old ≡ Some before
         → service.now.count ≤ length before.queue → N.misses net.new ≡ N.misses net.old }
 {
@@ -66,13 +65,8 @@ fn load_store<F: Shelf>(
 ) -> Result<Store, Stop>
     ensures known { (count : ℕ) → IfSome (F.contents files.old)
         (λ known. Loads (service_expected key.now journal.now count known) count result) }
-    ensures kept { F.contents files.new ≡ F.contents files.old }
-    ensures counts { F.faults files.old ≤ F.faults files.new }
-    ensures cause { IsErrOf result Stop.Outside
-        → FaultRose (F.faults files.old) (F.faults files.new) }
-    ensures misses { IfSome (F.contents files.old)
-        (λ known. HoldsEach known (key.now ∷ journal.now ∷ [])
-        → F.misses files.new ≡ F.misses files.old) }
+    ensures files { TakesFiles F.contents F.faults F.misses (SomeOf (key.now ∷ journal.now ∷ []))
+        files.old files.new result }
 {
     let key = take_key(alloc, files, key)?;
     let journal = take_file(alloc, files, journal, JOURNAL_LIMIT)?;
@@ -82,7 +76,7 @@ fn load_store<F: Shelf>(
 /// The store of a journal; one without entries has an empty store.
 fn store_of(alloc: Global, key: PublicKey, journal: &[u8]) -> Result<Store, Stop>
     ensures known { LoadsStore key journal.now result }
-    ensures inside { IsErrOf result Stop.Outside → ⊥ }
+    ensures inside { StaysInside result }
 {
     let slots = read_slots(alloc, journal)?;
     match Store::load(alloc, key, slots.entries.as_slice()) {

@@ -1,11 +1,11 @@
 //! Checking the reply of a store as it comes, over a network.
-ghost use Rattle.std.specs.Prelude.{◌≡◌, ◌<◌, ◌≤◌, ◌^◌, [], length, Some, IsTrue, IfOk, OnOk, IsErrOf};
+ghost use Rattle.std.specs.Prelude.{◌≡◌, ◌<◌, ◌≤◌, ◌^◌, [], length, Some, IsTrue, IfOk, OnOk};
 ghost use Rattle.outside.specs.ConnectionModel.{ConnectionModel, has_next};
 ghost use Rattle.outside.specs.FaultRose.{FaultRose};
 ghost use Rattle.link_frames.specs.declared.frame_kind.FrameKind.TheVariants.{Query};
 ghost use Rattle.link_frames.specs.Frames.{frame_bytes, max_query};
 ghost use Rattle.vo_commands.specs.Expected.{AsksOnly, with_reply};
-ghost use Rattle.vo_commands.specs.Reports.{GoesOn, StopsWithout};
+ghost use Rattle.vo_commands.specs.Reports.{GoesOn, StopsWithout, FailsOutside};
 
 use crate::piece::Word;
 use crate::refusals::{line_report, refusal};
@@ -35,7 +35,7 @@ pub fn feed_reply<N: Net>(
     ensures query { checking.new.query ≡ checking.old.query }
 
     ensures counts { N.faults net.old ≤ N.faults net.new }
-    ensures cause { IsErrOf result Stop.Outside
+    ensures cause { FailsOutside result
         → FaultRose (N.faults net.old) (N.faults net.new) }
     ensures misses { (before : ConnectionModel) → N.wire net.old ≡ Some before
         → IsTrue (has_next before) → N.misses net.new ≡ N.misses net.old }

@@ -1,12 +1,12 @@
 //! The text that bytes are, and the query or the script that a text is.
-ghost use Rattle.std.specs.Prelude.{IfOk, IsErrOf, Vec};
+ghost use Rattle.std.specs.Prelude.{IfOk, Vec};
 ghost use Rattle.std.specs.Global.{Global};
 ghost use Rattle.vo_spec.specs.Conditions.{query_of};
 ghost use Rattle.vo_spec.specs.declared.tables.Batch.{Batch};
 ghost use Rattle.owner_state.specs.Sealing.{FitEach};
 ghost use Rattle.sql_text.specs.Scripts.{IsScript};
 ghost use Rattle.vo_commands.specs.Expected.{with_text};
-ghost use Rattle.vo_commands.specs.Reports.{GoesOn, ReadsText};
+ghost use Rattle.vo_commands.specs.Reports.{GoesOn, ReadsText, StaysInside};
 ghost use Rattle.vo_commands.specs.Texts.{IsQueryText, IsRefusedQuery, IsRefusedScript};
 
 use crate::piece::Word;
@@ -20,7 +20,7 @@ use vo_spec::{Batch, QueryText};
 /// The text that the bytes are.
 pub fn text_in(alloc: Global, bytes: &[u8]) -> Result<&str, Stop>
     ensures known { GoesOn (λ text. text.now) (λ rest. with_text rest bytes.now) result }
-    ensures inside { IsErrOf result Stop.Outside → ⊥ }
+    ensures inside { StaysInside result }
 {
     match std::str::from_utf8(bytes) {
         Ok(text) => Ok(text),

@@ -1,13 +1,14 @@
 //! The top call.
-ghost use Rattle.std.specs.Prelude.{◌≡◌, ◌⊎◌, ℕ, ◌≤◌, false, length, map, string_bytes, Some, IfSome, IsErrOf};
+ghost use Rattle.std.specs.Prelude.{◌≡◌, ◌⊎◌, ◌≤◌, false, length, map, string_bytes, Some, IfSome};
 ghost use Rattle.outside.specs.ConnectionModel.{ConnectionModel};
 ghost use Rattle.outside.specs.FaultRose.{FaultRose};
 ghost use Rattle.vo_words.specs.PlainRequest.{request_in};
 ghost use Rattle.vo_words.specs.Request.{plain_command};
 ghost use Rattle.vo_commands.specs.Expected.{Exactly, expected_of, command_expected, words_refusal, queue_of, connections_of, uses_disk, uses_net, writes_as_it_works, UsesNet, Ends, HoldsEach, files_of_request, file_words};
 ghost use Rattle.vo_commands.specs.Owning.{OwnEnds, own_expected};
-ghost use Rattle.vo_commands.specs.Reports.{Answers};
+ghost use Rattle.vo_commands.specs.Reports.{Answers, StaysInside, FailsOutside};
 ghost use Rattle.vo_commands.specs.Serving.{ServeEnds, serve_expected};
+ghost use Rattle.vo_commands.specs.Taking.{LeavesFiles, SomeOf};
 
 use crate::answer::answer;
 use crate::ask::ask;
@@ -104,7 +105,7 @@ pub fn run<F: Shelf, D: Disk, N: Net, S: Sink>(
 /// The refusal of words that ask for nothing.
 fn refuse_words(alloc: Global) -> Result<Report, Stop>
     ensures known { Answers (Exactly words_refusal) result }
-    ensures inside { IsErrOf result Stop.Outside → ⊥ }
+    ensures inside { StaysInside result }
 {
     Ok(refusal(alloc, Status::RefusedInput, &[Word::Phrase("words")])?)
 }
@@ -118,19 +119,16 @@ fn run_command<F: Shelf, N: Net>(
 ) -> Result<Report, Stop>
     ensures known { IfSome (command_expected (plain_command command.entry) (F.contents files.old)
         (queue_of (N.wire net.old))) (λ expected. Answers expected result) }
-    ensures kept { F.contents files.new ≡ F.contents files.old }
+    ensures files { LeavesFiles F.contents F.faults F.misses
+        (SomeOf (files_of_request (plain_command command.entry))) files.old files.new }
     ensures net { uses_net (Some (plain_command command.entry)) ≡ false → net.new ≡ net.old }
     ensures asks { (before : ConnectionModel) → N.wire net.old ≡ Some before
         → UsesNet (Some (plain_command command.entry)) before (N.wire net.new) }
 
-    ensures counts { F.faults files.old ≤ F.faults files.new }
     ensures net_counts { N.faults net.old ≤ N.faults net.new }
-    ensures cause { IsErrOf result Stop.Outside
+    ensures cause { FailsOutside result
         → FaultRose (F.faults files.old) (F.faults files.new)
         ⊎ FaultRose (N.faults net.old) (N.faults net.new) }
-    ensures misses { IfSome (F.contents files.old) (λ known.
-        HoldsEach known (files_of_request (plain_command command.entry))
-        → F.misses files.new ≡ F.misses files.old) }
     ensures net_misses { (before : ConnectionModel) → N.wire net.old ≡ Some before
         → connections_of (Some (plain_command command.entry)) ≤ length before.queue
         → N.misses net.new ≡ N.misses net.old }

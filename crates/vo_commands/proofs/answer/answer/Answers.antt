@@ -1,11 +1,7 @@
-use Rattle.vo_commands.proofs.CommandSteps.{answer_known, two_there}
+use Rattle.vo_commands.proofs.CommandSteps.{answer_known}
 use Rattle.vo_commands.proofs.answer.answer.Goals as goal
 
 pub returns-clause-known : goal.returns-clause-known
 returns-clause-known g c =
     answer_known c.args.key.now c.args.journal.now c.args.query.now _ _ _ _ _
-    c.in_ok-key.ensures.kept c.in_ok-key.ensures.known c.in_ok-journal.ensures.known (rw c.deref.ensures.value at c.answer_query.ensures.known)
-
-pub returns-clause-misses : goal.returns-clause-misses
-returns-clause-misses g c =
-    two_there _ _ c.args.key.now c.args.journal.now _ _ _ c.in_ok-key.ensures.kept c.in_ok-key.ensures.misses c.in_ok-journal.ensures.misses
+    c.in_ok-key.ensures.files.leaves.kept c.in_ok-key.ensures.known c.in_ok-journal.ensures.known (rw c.deref.ensures.value at c.answer_query.ensures.known)

@@ -3,4 +3,4 @@ use Rattle.vo_commands.proofs.QueryTexts.{has_byte}
 use Rattle.vo_commands.proofs.ask.ask_by_key.Goals as goal
 
 pub ask_store-requires-clause-some : goal.ask_store-requires-clause-some
-ask_store-requires-clause-some g c = has_byte c.args.query.now (query_of c.in-Ok.text) c.in-Ok.ensures
+ask_store-requires-clause-some g c = has_byte c.args.query.now (query_of c.in_ok-text.text) c.in_ok-text.ensures

@@ -1,13 +1,8 @@
-use Rattle.vo_commands.proofs.CommandSteps.{audit_known, three_there}
+use Rattle.vo_commands.proofs.CommandSteps.{audit_known}
 use Rattle.vo_commands.proofs.audit.audit.Goals as goal
 
 pub returns-clause-known : goal.returns-clause-known
 returns-clause-known g c =
     audit_known c.args.key.now c.args.journal.now c.args.query.now c.args.reply.now _ _ _ _ _ _
-    c.in_ok-key.ensures.kept c.in_ok-journal.ensures.kept c.in_ok-key.ensures.known c.in_ok-journal.ensures.known
+    c.in_ok-key.ensures.files.leaves.kept c.in_ok-journal.ensures.files.leaves.kept c.in_ok-key.ensures.known c.in_ok-journal.ensures.known
     (rw c.deref.ensures.value at c.audit_query.ensures.known)
-
-pub returns-clause-misses : goal.returns-clause-misses
-returns-clause-misses g c =
-    three_there _ _ _ c.args.key.now c.args.journal.now c.args.reply.now _ _ _ _
-    c.in_ok-key.ensures.kept c.in_ok-journal.ensures.kept c.in_ok-key.ensures.misses c.in_ok-journal.ensures.misses c.audit_query.ensures.misses

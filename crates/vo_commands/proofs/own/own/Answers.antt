@@ -1,4 +1,4 @@
-use Rattle.std.proofs.Common.{Err, ap, refl}
+use Rattle.std.proofs.Common.{refl}
 use Rattle.outside.specs.FaultRose.{FaultRose}
 use Rattle.owner_session.proofs.SessionLaws.{rose_later}
 use Rattle.vo_spec.specs.Secret.{Secret}
@@ -16,8 +16,8 @@ returns-in-Ok-clause-ends g c =
     (g.D.Disk.drive c.own_with_key.new.disk) (g.N.Link.wire c.args.net.now) (g.N.Link.wire c.own_with_key.new.net) (g.S.Sink.written c.args.out.now)
     (g.S.Sink.written c.own_with_key.new.out) (FaultRose files later) (FaultRose (g.F.Shelf.faults c.args.files.now) later)
     c.args.commitment.now.seed.now c.args.commitment.now.script.now (number_of c.args.commitment.now.height) c.in-Ok.key
-    (g.F.Shelf.contents c.args.files.now) (g.F.Shelf.contents c.take_seed.new.files) c.in-Ok.ensures.kept
-    (rose_later (g.F.Shelf.faults c.args.files.now) files later c.in-Ok.ensures.counts) c.in-Ok.ensures.known c.own_with_key.ensures.ends
+    (g.F.Shelf.contents c.args.files.now) (g.F.Shelf.contents c.take_seed.new.files) c.in-Ok.ensures.files.leaves.kept
+    (rose_later (g.F.Shelf.faults c.args.files.now) files later c.in-Ok.ensures.files.leaves.counts) c.in-Ok.ensures.known c.own_with_key.ensures.ends
 
 pub returns-in-Err-clause-ends : goal.returns-in-Err-clause-ends
 returns-in-Err-clause-ends g c =
@@ -27,4 +27,4 @@ returns-in-Err-clause-ends g c =
     (g.D.Disk.drive c.args.disk.now) (g.N.Link.wire c.args.net.now) (g.N.Link.wire c.args.net.now) (g.S.Sink.written c.args.out.now)
     (g.S.Sink.written c.print_outcome.new.out) (λ (key : Secret). key) (FaultRose (g.F.Shelf.faults c.args.files.now) (g.F.Shelf.faults c.take_seed.new.files))
     c.args.commitment.now.seed.now c.args.commitment.now.script.now (number_of c.args.commitment.now.height) c.in-Err.stop
-    (g.F.Shelf.contents c.args.files.now) c.in-Err.ensures.known refl refl (λ e. c.in-Err.ensures.cause (ap Err e)) c.print_outcome.ensures.wrote
+    (g.F.Shelf.contents c.args.files.now) c.in-Err.ensures.known refl refl c.in-Err.ensures.files.cause c.print_outcome.ensures.wrote

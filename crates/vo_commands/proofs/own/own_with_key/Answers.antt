@@ -1,7 +1,5 @@
-use Rattle.std.proofs.Common.{Err, ap, refl}
+use Rattle.std.proofs.Common.{refl}
 use Rattle.outside.specs.FaultRose.{FaultRose}
-use Rattle.vo_commands.specs.Expected.{script_limit, with_file}
-use Rattle.vo_commands.specs.Owning.{commitment_in}
 use Rattle.vo_commands.proofs.OwnSteps.{run_prepared, run_unprepared}
 use Rattle.vo_commands.proofs.own.own_with_key.Goals as goal
 
@@ -21,4 +19,4 @@ returns-in-Err-clause-ends g c =
     (FaultRose (g.S.Sink.faults c.args.out.now) (g.S.Sink.faults c.print_outcome.new.out)) c.print_outcome.result (g.D.Disk.drive c.args.disk.now)
     (g.D.Disk.drive c.args.disk.now) (g.N.Link.wire c.args.net.now) (g.N.Link.wire c.args.net.now) (g.S.Sink.written c.args.out.now) (g.S.Sink.written c.print_outcome.new.out)
     (FaultRose (g.F.Shelf.faults c.args.files.now) (g.F.Shelf.faults c.take_batches.new.files)) c.args.key.now c.args.commitment.now.script.now c.in-Err.stop
-    (g.F.Shelf.contents c.args.files.now) c.in-Err.ensures.known refl refl (λ e. c.in-Err.ensures.cause (ap Err e)) c.print_outcome.ensures.wrote
+    (g.F.Shelf.contents c.args.files.now) c.in-Err.ensures.known refl refl c.in-Err.ensures.files.cause c.print_outcome.ensures.wrote
