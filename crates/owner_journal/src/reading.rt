@@ -9,7 +9,7 @@ ghost use Rattle.owner_journal.specs.Entries.{entries_of, has_failed};
 use crate::fault::JournalFault;
 use crate::journal::Journal;
 use outside::{Disk, Failed};
-use owner_state::{Ending, read_slots};
+use owner_state::{Ending, into_entries, read_slots};
 use std::alloc::Global;
 
 /// The journal that a disk of so many bytes holds.
@@ -62,7 +62,7 @@ fn journal_of(alloc: Global, bytes: &[u8]) -> Result<Journal, JournalFault>
     let slots = read_slots(alloc, bytes)?;
     match slots.ending {
         Ending::Closed { at } => Ok(Journal {
-            entries: slots.entries.into_vec(),
+            entries: into_entries(alloc, slots.entries)?,
             gate: at,
             failed: false,
         }),

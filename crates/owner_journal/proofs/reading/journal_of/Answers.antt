@@ -7,10 +7,10 @@ use Rattle.owner_journal.proofs.reading.journal_of.Goals as goal
 
 pub invariant_of-result-clause-at : goal.invariant_of-result-clause-at
 invariant_of-result-clause-at c =
-    (subst (EndsSo c.args.bytes.now c.in_ok-slots.slots.entries) c.in-Closed.is c.in_ok-slots.ensures.ending).1 ∙ ap end_of (sym c.into_vec.ensures)
+    (subst (EndsSo c.args.bytes.now c.in_ok-slots.slots.entries) c.in-Closed.is c.in_ok-slots.ensures.ending).1 ∙ ap end_of (sym c.in_ok-into_entries-in-Closed.ensures)
 
 pub invariant_of-result-clause-short : goal.invariant_of-result-clause-short
 invariant_of-result-clause-short c =
     let at = (subst (EndsSo c.args.bytes.now c.in_ok-slots.slots.entries) c.in-Closed.is c.in_ok-slots.ensures.ending).1 in
-    subst (λ (es : List Entry). c.in-Closed.at ≤ length es * 2 ^ 28) (sym c.into_vec.ensures)
+    subst (λ (es : List Entry). c.in-Closed.at ≤ length es * 2 ^ 28) (sym c.in_ok-into_entries-in-Closed.ensures)
     (rw at (slots_short c.in_ok-slots.slots.entries c.in_ok-slots.ensures.begins.0))
