@@ -1,9 +1,8 @@
 -- Commands over files and texts, step by step.
-use Rattle.std.proofs.Common.{◌≡◌, ℕ, List, [], ◌∷◌, Option, Some, None, Result, Ok, Err, refl, sym, subst, ◌∙◌}
+use Rattle.std.proofs.Common.{◌≡◌, ℕ, List, Option, Some, None, Result, Ok, Err, refl, sym, subst, ◌∙◌}
 use mathlib.Core.Logic.{inl, inr}
-use Rattle.std.specs.Prelude.{IfSome, IsSome, is_some}
+use Rattle.std.specs.Prelude.{IfSome}
 use Rattle.outside.specs.Shelf.{Files}
-use Rattle.outside.specs.Miss.{CountsMiss}
 use Rattle.vo_spec.specs.Conditions.{Query}
 use Rattle.sql_text.specs.Scripts.{IsScript}
 use Rattle.vo_commands.specs.declared.report.Report.{Report}
@@ -12,8 +11,8 @@ use Rattle.vo_commands.specs.declared.report.Stop.TheVariants.{Refused, Outside,
 use Rattle.vo_commands.specs.Reports.{Answers, GoesOn, ReadsText}
 use Rattle.vo_spec.specs.declared.tables.Batch.{Batch}
 use Rattle.vo_spec.specs.Secret.{Secret}
-use Rattle.vo_commands.specs.Texts.{IsQueryText, IsRefusedQuery, IsRefusedScript}
-use Rattle.vo_commands.specs.Expected.{Expected, Exactly, OfQuery, OfScript, with_text, with_seed, seal_output, script_expected, seal_expected, script_limit, Audits, Replies, HoldsEach, with_key, with_file, audit_expected, answer_expected, reply_limit, journal_limit}
+use Rattle.vo_commands.specs.Texts.{IsQueryText, IsRefusedScript}
+use Rattle.vo_commands.specs.Expected.{Expected, Exactly, OfQuery, OfScript, with_text, with_seed, seal_output, script_expected, seal_expected, script_limit, Audits, Replies, with_key, with_file, audit_expected, answer_expected, reply_limit, journal_limit}
 
 -- what was taken of a file answers for the file
 pub of_file : {B : Type 0} (expected : (B → Expected) → Expected) (b : B) (rest : B → Expected) (r : Result Report Stop) → ((rest : B → Expected) → expected rest ≡ rest b) → Answers (rest b) r → Answers (expected rest) r
@@ -32,42 +31,13 @@ of_query text q rest (Err (Refused report)) is a = inl (q, is, a)
 of_query text q rest (Err Outside) is a = tt
 of_query text q rest (Err Memory) is a = tt
 
--- and a stop at a text
-pub of_no_query : {A : Type 0} (view : A → Query) (text : List ℕ) (stop : Stop) (rest : Query → Expected) → ReadsText view (IsQueryText text) (IsRefusedQuery text) (Err stop) → Answers (OfQuery text rest) (Err stop)
-of_no_query view text (Refused report) rest reads = inr (reads.0, reads.1)
-of_no_query view text Outside rest reads = tt
-of_no_query view text Memory rest reads = tt
-
 abbrev KeyIs : List ℕ → List ℕ → Files → Type 0
 KeyIs name key known = (rest : List ℕ → Expected) → with_key known name rest ≡ rest key
 
 abbrev FileIs : List ℕ → ℕ → List ℕ → Files → Type 0
 FileIs name limit bytes known = (rest : List ℕ → Expected) → with_file known name limit rest ≡ rest bytes
 
-abbrev FileStops : List ℕ → ℕ → Stop → Files → Type 0
-FileStops name limit stop known = GoesOn {A = List ℕ} (λ bytes. bytes) (with_file known name limit) (Err stop)
-
--- what the rest of the work answers to the bytes of a file, or a stop at the file
-pub file_known : (name : List ℕ) (limit : ℕ) (rest : List ℕ → Expected) (bytes : List ℕ) (o : Option Files) (r : Result Report Stop) → IfSome o (FileIs name limit bytes)
-    → Answers (rest bytes) r → IfSome o (λ known. Answers (with_file known name limit rest) r)
-file_known name limit rest bytes None r f a = tt
-file_known name limit rest bytes (Some known) r f a = of_file (with_file known name limit) bytes rest r f a
-
-pub file_stops : (name : List ℕ) (limit : ℕ) (rest : List ℕ → Expected) (o : Option Files) (stop : Stop) → IfSome o (FileStops name limit stop)
-    → IfSome o (λ known. Answers (with_file known name limit rest) (Err stop))
-file_stops name limit rest None stop f = tt
-file_stops name limit rest (Some known) stop f = of_stop (λ bytes. bytes) (with_file known name limit) stop rest f
-
--- what the rest of the work answers to the bytes of a file, after which the files are as they were
-pub file_and_more_known : (name : List ℕ) (limit : ℕ) (rest : Files → List ℕ → Expected) (bytes : List ℕ) (o p : Option Files) (r : Result Report Stop) → p ≡ o → IfSome o (FileIs name limit bytes)
-    → IfSome p (λ known. Answers (rest known bytes) r) → IfSome o (λ known. Answers (with_file known name limit (rest known)) r)
-file_and_more_known name limit rest bytes o p r same f a = step o f (subst (λ z. IfSome z (λ known. Answers (rest known bytes) r)) same a)
-  where
-    step : (o : Option Files) → IfSome o (FileIs name limit bytes) → IfSome o (λ known. Answers (rest known bytes) r) → IfSome o (λ known. Answers (with_file known name limit (rest known)) r)
-    step None f a = tt
-    step (Some known) f a = of_file (with_file known name limit) bytes (rest known) r f a
-
--- and to a key and a text's query
+-- what the rest of the work answers to a key and a text's query
 module _ (name query key : List ℕ) (q : Query) (is : IsQueryText query q) (rest : Files → List ℕ → Query → Expected) (r : Result Report Stop) where
   abbrev AnswersRest : Files → Type 0
   AnswersRest known = Answers (rest known key q) r
@@ -81,16 +51,11 @@ module _ (name query key : List ℕ) (q : Query) (is : IsQueryText query q) (res
           of_file (with_key known name) key (λ x. OfQuery query (rest known x)) r k
           (of_query query q (rest known key) r is a)
 
--- what the rest of the work answers to a text's query, or a stop at the text
+-- what the rest of the work answers to a text's query
 pub query_known : (text : List ℕ) (q : Query) (rest : Files → Query → Expected) (o : Option Files) (r : Result Report Stop) → IsQueryText text q
     → IfSome o (λ known. Answers (rest known q) r) → IfSome o (λ known. Answers (OfQuery text (rest known)) r)
 query_known text q rest None r is a = tt
 query_known text q rest (Some known) r is a = of_query text q (rest known) r is a
-
-pub query_stops : {A : Type 0} (view : A → Query) (text : List ℕ) (rest : Files → Query → Expected) (o : Option Files) (stop : Stop)
-    → ReadsText view (IsQueryText text) (IsRefusedQuery text) (Err stop) → IfSome o (λ known. Answers (OfQuery text (rest known)) (Err stop))
-query_stops view text rest None stop reads = tt
-query_stops view text rest (Some known) stop reads = of_no_query view text stop (rest known) reads
 
 module _ (name journal query reply key held : List ℕ) (r : Result Report Stop) where
   abbrev after_journal : Files → List ℕ → List ℕ → Expected
@@ -164,46 +129,3 @@ seal_known name script height secret bytes o p r same k f a = step o k (subst (�
     step (Some known) k f =
         of_file (with_seed known name height) secret (λ s. with_file known script script_limit (script_expected s)) r k
         (of_file (with_file known script script_limit) bytes (script_expected secret) r f a)
-
--- Misses: files that are there cause none.
-
-no_miss : {A : Type 0} (o : Option A) (before after : ℕ) → IsSome o → CountsMiss (is_some o) before after → after ≡ before
-no_miss (Some a) before after there c = c
-no_miss None before after there c = absurd (cc)
-
-abbrev CountsMissAt : List ℕ → ℕ → ℕ → Files → Type 0
-CountsMissAt name before after known = CountsMiss (is_some (known name)) before after
-
-pub two_there : (o p : Option Files) (a b : List ℕ) (x y z : ℕ) → p ≡ o → IfSome o (CountsMissAt a x y) → IfSome p (CountsMissAt b y z)
-    → IfSome o (λ known. HoldsEach known (a ∷ b ∷ []) → z ≡ x)
-two_there o p a b x y z same first second = step o first (subst (λ o. IfSome o (CountsMissAt b y z)) same second)
-  where
-    step : (o : Option Files) → IfSome o (CountsMissAt a x y) → IfSome o (CountsMissAt b y z) → IfSome o (λ known. HoldsEach known (a ∷ b ∷ []) → z ≡ x)
-    step None first second = tt
-    step (Some known) first second = λ there. no_miss (known b) y z there.1.0 second ∙ no_miss (known a) x y there.0 first
-
-abbrev OneThere : List ℕ → ℕ → ℕ → Files → Type 0
-OneThere name before after known = HoldsEach known (name ∷ []) → after ≡ before
-
-pub one_there : (o : Option Files) (a : List ℕ) (x y : ℕ) → IfSome o (CountsMissAt a x y) → IfSome o (OneThere a x y)
-one_there None a x y miss = tt
-one_there (Some known) a x y miss = λ there. no_miss (known a) x y there.0 miss
-
-pub three_there : (o p s : Option Files) (a b c : List ℕ) (x y z w : ℕ) → p ≡ o → s ≡ p → IfSome o (CountsMissAt a x y) → IfSome p (CountsMissAt b y z) → IfSome s (OneThere c z w)
-    → IfSome o (λ known. HoldsEach known (a ∷ b ∷ c ∷ []) → w ≡ x)
-three_there o p s a b c x y z w same also first second third =
-    step o first (subst (λ o. IfSome o (CountsMissAt b y z)) same second) (subst (λ o. IfSome o (OneThere c z w)) (also ∙ same) third)
-  where
-    step : (o : Option Files) → IfSome o (CountsMissAt a x y) → IfSome o (CountsMissAt b y z) → IfSome o (OneThere c z w)
-        → IfSome o (λ known. HoldsEach known (a ∷ b ∷ c ∷ []) → w ≡ x)
-    step None first second third = tt
-    step (Some known) first second third = λ there. third there.1.1 ∙ no_miss (known b) y z there.1.0 second ∙ no_miss (known a) x y there.0 first
-
--- one file is there, and more of them
-pub more_there : (o p : Option Files) (a : List ℕ) (names : List (List ℕ)) (x y z : ℕ) → p ≡ o → IfSome o (CountsMissAt a x y) → IfSome p (λ known. HoldsEach known names → z ≡ y)
-    → IfSome o (λ known. HoldsEach known (a ∷ names) → z ≡ x)
-more_there o p a names x y z same first rest = step o first (subst (λ o. IfSome o (λ known. HoldsEach known names → z ≡ y)) same rest)
-  where
-    step : (o : Option Files) → IfSome o (CountsMissAt a x y) → IfSome o (λ known. HoldsEach known names → z ≡ y) → IfSome o (λ known. HoldsEach known (a ∷ names) → z ≡ x)
-    step None first rest = tt
-    step (Some known) first rest = λ there. rest there.1 ∙ no_miss (known a) x y there.0 first

@@ -1,12 +1,12 @@
 -- The commitment of a script's batches: what the files say of it, and what a stop leaves of the journal.
-use Rattle.std.proofs.Common.{◌≡◌, ℕ, zero, suc, ◌+◌, ◌≤◌, List, [], ◌∷◌, ◌++◌, length, map, Option, Some, None, Result, Ok, Err, refl, sym, ap, ◌∙◌, subst, arith}
+use Rattle.std.proofs.Common.{◌≡◌, ℕ, zero, suc, ◌+◌, List, [], ◌∷◌, ◌++◌, length, map, Option, Some, None, Result, Ok, Err, refl, sym, ap, ◌∙◌, subst, arith}
 use mathlib.Core.Logic.{inl, inr}
 use Rattle.std.specs.Prelude.{◌⊎◌, All, IfSome, OnErr, option_map, slice_get}
-use Rattle.std.specs.Global.{Vec, Global}
+use Rattle.std.specs.Global.{Vec}
 use Rattle.std.proofs.lemmas.List.{length-append}
 use Rattle.std.proofs.lemmas.List.Elements.{All-cons, All-nil}
 use Rattle.outside.specs.ConnectionModel.{ConnectionModel, open_known, open_next}
-use Rattle.outside.specs.DiskModel.{Call, DiskModel, LeftSince, MayLeave, now}
+use Rattle.outside.specs.DiskModel.{DiskModel, MayLeave, now}
 use Rattle.outside.specs.Moments.{IfKnown, LeavesOnly}
 use Rattle.outside.specs.Shelf.{Files}
 use Rattle.exit_output.specs.Outputs.{Writes, outside_failure}
@@ -26,7 +26,7 @@ use Rattle.sql_text.specs.Scripts.{IsScript}
 use Rattle.vo_commands.specs.declared.report.Report.{Report}
 use Rattle.vo_commands.specs.declared.report.Stop.{Stop}
 use Rattle.vo_commands.specs.declared.report.Stop.TheVariants.{Refused, Outside, Memory}
-use Rattle.vo_commands.specs.Expected.{Expected, Ends, Exactly, OfScript, Owns, Allows, script_limit, with_file, with_seed, with_text}
+use Rattle.vo_commands.specs.Expected.{Expected, Ends, OfScript, Owns, Allows, script_limit, with_file, with_seed, with_text}
 use Rattle.vo_commands.specs.Reports.{GoesOn, ReadsText, WritesOutcome, output_of}
 use Rattle.vo_commands.specs.Texts.{IsRefusedScript}
 use Rattle.vo_commands.specs.Committing.{AreOfVersions, IsJudgement, LeavesWith, entry_forms}
@@ -65,15 +65,6 @@ module _ (script held : List ℕ) (r : Result (Vec Batch) Stop) where
       by expected secret (Err (Refused report)) is p = subst (λ (x : Expected). Allows x (output_of report)) (sym is) p
       by expected secret (Err Outside) is p = tt
       by expected secret (Err Memory) is p = tt
-
-pub file_unprepared : (script : List ℕ) (stop : Stop) (o : Option Files)
-    → IfSome o (λ known. GoesOn (λ (v : Vec ℕ). v.items) (with_file known script script_limit) (Err stop))
-    → IfSome o (λ known. (secret : Secret) → Prepares (with_file known script script_limit (commitment_in secret)) secret (Err stop))
-file_unprepared script stop None goes = tt
-file_unprepared script (Refused report) (Some known) goes =
-    λ secret. subst (λ (x : Expected). Allows x (output_of report)) (sym (goes (commitment_in secret))) refl
-file_unprepared script Outside (Some known) goes = λ secret. tt
-file_unprepared script Memory (Some known) goes = λ secret. tt
 
 -- A stop of the machine.
 

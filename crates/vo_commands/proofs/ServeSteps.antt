@@ -18,12 +18,11 @@ use Rattle.owner_state.proofs.SlotLaws.{AreSlots, fails_behind, fails_inside}
 use Rattle.connections.specs.declared.serve_fault.ServeFault.{ServeFault}
 use Rattle.connections.specs.declared.serve_fault.ServeFault.TheVariants as fault
 use Rattle.vo_store.specs.StoreState.{StoreState}
-use Rattle.vo_commands.specs.declared.report.Report.{Report}
 use Rattle.vo_commands.specs.declared.report.Stop.{Stop}
 use Rattle.vo_commands.specs.declared.report.Stop.TheVariants.{Refused, Outside, Memory}
-use Rattle.vo_commands.specs.Expected.{Expected, Serves, Allows, IsUnservableAt, journal_limit, with_file, with_key}
-use Rattle.vo_commands.specs.Reports.{GoesOn, WritesOutcome, output_of}
-use Rattle.vo_commands.specs.Serving.{EndsServing, FailsToListen, IsServedBy, IsServedFrom, Loads, LoadsStore, ServeEnds, service_expected}
+use Rattle.vo_commands.specs.Expected.{Expected, IsUnservableAt}
+use Rattle.vo_commands.specs.Reports.{WritesOutcome, output_of}
+use Rattle.vo_commands.specs.Serving.{EndsServing, FailsToListen, IsServedBy, IsServedFrom, Loads, ServeEnds}
 
 -- Journals.
 
@@ -59,62 +58,6 @@ unservable_inside key journal es n slots stop =
 pub unservable_behind : (key journal : List ℕ) (es : List Entry) → AreSlots journal es → AreLoadable key es → IsDamaged journal es → IsUnservableAt key journal (length es)
 unfolding IsUnloadableAt
 unservable_behind key journal es slots are damaged = (fails_behind (AreLoadable key) journal es slots are (λ whole. damaged.1 es whole.0), damaged.1 [])
-
--- Files.
-
-pub loads_known : (name journal key held : List ℕ) (count : ℕ) (o p : Option Files) (r : Result StoreState Stop) → p ≡ o
-    → IfSome o (λ known. (rest : List ℕ → Expected) → with_key known name rest ≡ rest key)
-    → IfSome p (λ known. (rest : List ℕ → Expected) → with_file known journal journal_limit rest ≡ rest held)
-    → LoadsStore key held r → IfSome o (λ known. Loads (service_expected name journal count known) count r)
-loads_known name journal key held count o p r same k f loads =
-    step o k (subst (λ z. IfSome z (λ known. (rest : List ℕ → Expected) → with_file known journal journal_limit rest ≡ rest held)) same f)
-  where
-    is : (known : Files) → ((rest : List ℕ → Expected) → with_key known name rest ≡ rest key)
-        → ((rest : List ℕ → Expected) → with_file known journal journal_limit rest ≡ rest held)
-        → service_expected name journal count known ≡ Serves key held count
-    is known k f = k (λ x. with_file known journal journal_limit (λ y. Serves x y count)) ∙ f (λ y. Serves key y count)
-
-    by : (expected : Expected) (r : Result StoreState Stop) → expected ≡ Serves key held count → LoadsStore key held r → Loads expected count r
-    by expected (Ok s) e loads = (key, held, e, loads)
-    by expected (Err (Refused report)) e loads = subst (λ x. Allows x (output_of report)) (sym e) loads
-    by expected (Err Outside) e loads = tt
-    by expected (Err Memory) e loads = tt
-
-    step : (o : Option Files) → IfSome o (λ known. (rest : List ℕ → Expected) → with_key known name rest ≡ rest key)
-        → IfSome o (λ known. (rest : List ℕ → Expected) → with_file known journal journal_limit rest ≡ rest held)
-        → IfSome o (λ known. Loads (service_expected name journal count known) count r)
-    step None k f = tt
-    step (Some known) k f = by (service_expected name journal count known) r (is known k f) loads
-
-stops : (expected : Expected) (count : ℕ) (stop : Stop) (report : Report) → stop ≡ Refused report → expected ≡ Expected.Exactly (output_of report) → Loads expected count (Err stop)
-stops expected count stop report is e = subst (λ s. Loads expected count (Err s)) (sym is) (subst (λ x. Allows x (output_of report)) (sym e) refl)
-
--- no key was taken
-pub key_stops : {A : Type 0} (view : A → List ℕ) (name journal : List ℕ) (count : ℕ) (o : Option Files) (stop : Stop)
-    → IfSome o (λ known. GoesOn view (with_key known name) (Err stop)) → IfSome o (λ known. Loads (service_expected name journal count known) count (Err stop))
-key_stops view name journal count None stop goes = tt
-key_stops view name journal count (Some known) (Refused report) goes =
-    stops (service_expected name journal count known) count (Refused report) report refl (goes (λ k. with_file known journal journal_limit (λ j. Serves k j count)))
-key_stops view name journal count (Some known) Outside goes = tt
-key_stops view name journal count (Some known) Memory goes = tt
-
--- and no journal behind it
-pub journal_stops : {A : Type 0} (view : A → List ℕ) (name journal key : List ℕ) (count : ℕ) (o p : Option Files) (stop : Stop) → p ≡ o
-    → IfSome o (λ known. (rest : List ℕ → Expected) → with_key known name rest ≡ rest key)
-    → IfSome p (λ known. GoesOn view (with_file known journal journal_limit) (Err stop))
-    → IfSome o (λ known. Loads (service_expected name journal count known) count (Err stop))
-journal_stops view name journal key count o p stop same k f =
-    step o stop k (subst (λ z. IfSome z (λ known. GoesOn view (with_file known journal journal_limit) (Err stop))) same f)
-  where
-    step : (o : Option Files) (stop : Stop) → IfSome o (λ known. (rest : List ℕ → Expected) → with_key known name rest ≡ rest key)
-        → IfSome o (λ known. GoesOn view (with_file known journal journal_limit) (Err stop))
-        → IfSome o (λ known. Loads (service_expected name journal count known) count (Err stop))
-    step None stop k f = tt
-    step (Some known) (Refused report) k f =
-        stops (service_expected name journal count known) count (Refused report) report refl
-        (k (λ x. with_file known journal journal_limit (λ y. Serves x y count)) ∙ f (λ y. Serves key y count))
-    step (Some known) Outside k f = tt
-    step (Some known) Memory k f = tt
 
 -- Ends.
 
