@@ -7,7 +7,7 @@ use crate::journals::damage_text;
 use line_pieces::NoAnswer;
 use outside::{Disk, FailAt, Failure, MemDisk, Never};
 use owner_journal::{Journal, JournalFault};
-use owner_state::{Entry, read_entries};
+use owner_state::{Entry, into_entries, read_entries};
 use std::alloc::Global;
 
 // A journal takes no more.
@@ -22,7 +22,10 @@ pub fn images(alloc: Global, strings: &[Vec<u8>]) -> Result<String, NoAnswer> {
     };
     let disk = failing_disk(alloc, first, number_of(call)?, number_of(after)?)?;
     match read_entries(alloc, journal) {
-        Ok(entries) => images_text(alloc, disk, lost, journal, entries.as_slice()),
+        Ok(entries) => {
+            let entries = into_entries(alloc, entries)?;
+            images_text(alloc, disk, lost, journal, &entries)
+        }
         Err(fault) => damage_text(alloc, fault),
     }
 }

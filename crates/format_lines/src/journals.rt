@@ -12,8 +12,8 @@ use batch_format::read_batch;
 use line_pieces::{NoAnswer, form_of};
 use owner_state::{
     Ending, EntriesFault, Entry, JournalFault, LoadableJournal, OwnedJournal, SealFault,
-    entry_bytes, journal_bytes, put_slot, read_entries, read_loadable, read_owned, read_slots,
-    seal as sealed,
+    entry_bytes, into_entries, journal_bytes, put_slot, read_entries, read_loadable, read_owned,
+    read_slots, seal as sealed,
 };
 use std::alloc::Global;
 use vo_spec::{Batch, List};
@@ -25,7 +25,7 @@ pub fn slots(alloc: Global, strings: &[Vec<u8>]) -> Result<String, NoAnswer> {
     };
     let slots = read_slots(alloc, bytes)?;
     let mut line = ending_text(alloc, slots.ending)?;
-    put_slots(alloc, &mut line, slots.entries.as_slice())?;
+    put_slots(alloc, &mut line, &into_entries(alloc, slots.entries)?)?;
     Ok(line)
 }
 
@@ -60,7 +60,7 @@ pub fn entries(alloc: Global, strings: &[Vec<u8>]) -> Result<String, NoAnswer> {
         return Err(NoAnswer::NoSuchLine);
     };
     match read_entries(alloc, bytes) {
-        Ok(entries) => entries_text(alloc, entries.as_slice()),
+        Ok(entries) => entries_text(alloc, &into_entries(alloc, entries)?),
         Err(fault) => damage_text(alloc, fault),
     }
 }
@@ -95,7 +95,10 @@ pub fn journal(alloc: Global, strings: &[Vec<u8>]) -> Result<String, NoAnswer> {
         return Err(NoAnswer::NoSuchLine);
     };
     match read_entries(alloc, bytes) {
-        Ok(entries) => Ok(hex::encode(alloc, journal_bytes(alloc, entries.as_slice())?)?),
+        Ok(entries) => {
+            let bytes = journal_bytes(alloc, &into_entries(alloc, entries)?)?;
+            Ok(hex::encode(alloc, bytes)?)
+        }
         Err(fault) => damage_text(alloc, fault),
     }
 }
@@ -151,7 +154,7 @@ fn bad_entry_text(alloc: Global, fault: JournalFault) -> Result<String, NoAnswer
     }
 }
 
-fn owned_text(alloc: Global, owned: &OwnedJournal) -> Result<String, NoAnswer> {
+fn owned_text(alloc: Global, owned: &OwnedJournal<'_>) -> Result<String, NoAnswer> {
     let count = owned.entries.len();
     match &owned.tables {
         Some(tables) => {
@@ -173,7 +176,7 @@ pub fn taken_journal(alloc: Global, strings: &[Vec<u8>]) -> Result<String, NoAns
     }
 }
 
-fn taken_text(alloc: Global, taken: &LoadableJournal) -> Result<String, NoAnswer> {
+fn taken_text(alloc: Global, taken: &LoadableJournal<'_>) -> Result<String, NoAnswer> {
     let catalog = catalog_text(alloc, &taken.tables.catalog(alloc)?)?;
     Ok(format!(in alloc; "{} {catalog}", taken.entries.len())?)
 }

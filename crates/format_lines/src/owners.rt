@@ -12,7 +12,7 @@ use batch_format::read_batch;
 use line_pieces::{NoAnswer, form_of};
 use lms_sign::SecretKey;
 use owner_state::{
-    Owner, OwnerFault, ReplayFault, Roots, entry_bytes, owned, read_entries, replay,
+    Owner, OwnerFault, ReplayFault, Roots, entry_bytes, into_entries, owned, read_entries, replay,
 };
 use std::alloc::Global;
 use version_record::read_catalog;
@@ -114,10 +114,10 @@ fn owner_behind(
     journal: &[u8],
 ) -> Result<Result<Owner, String>, NoAnswer> {
     let entries = match read_entries(alloc, journal) {
-        Ok(entries) => entries,
+        Ok(entries) => into_entries(alloc, entries)?,
         Err(fault) => return Ok(Err(damage_text(alloc, fault)?)),
     };
-    match replay(alloc, key, entries.as_slice()) {
+    match replay(alloc, key, &entries) {
         Ok(owner) => Ok(Ok(owner)),
         Err(ReplayFault::Entry { index }) => Ok(Err(format!(in alloc; "(Entry {index})")?)),
         Err(ReplayFault::Memory) => Err(NoAnswer::Memory),
