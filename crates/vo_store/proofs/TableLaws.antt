@@ -1,6 +1,7 @@
 -- A store's proposals and installs beside the plain tables, its clients and its owner.
 use Rattle.std.proofs.Common.{◌≡◌, ℕ, ◌+◌, ◌≤◌, Bool, true, false, cond, List, [], ◌∷◌, ◌++◌, Option, Some, None, Result, Ok, Err, length, refl, sym, ap, subst, ◌∙◌, inr}
 use Rattle.std.specs.Prelude.{is_none, is_some, nat_le, IsOk, IsSome}
+use Rattle.std.specs.Global.{Vec}
 use Rattle.std.specs.Option.{option_map_or}
 use Rattle.std.specs.Result.{is_ok, result_map_both}
 use Rattle.std.proofs.lemmas.Bool.{leb-true}
@@ -15,12 +16,14 @@ use Rattle.vo_spec.specs.Checks.{CheckOf, answer_to}
 use Rattle.vo_spec.specs.Conditions.{FitsQuery, Query}
 use Rattle.vo_spec.specs.Results.{result}
 use Rattle.vo_spec.specs.Tables.{apply_batch, tables_after}
+use Rattle.vo_spec.specs.Journals.{max_proofs}
 use Rattle.vo_spec.specs.Owners.{IsSigned}
 use Rattle.vo_spec.specs.Records.{FitsRecord}
 use Rattle.vo_spec.specs.Replies.{FitsReply, IsReply, Reply, max_reply, proofs_bytes, reply_bytes}
 use Rattle.vo_spec.specs.Honest.{RepresentTables, Stored, after_work, honest_proofs, honest_record, honest_reply, work_all}
 use Rattle.vo_laws.proofs.CommandLaws.{FitTables}
 use Rattle.vo_laws.proofs.CompleteReplies.{honest_answer}
+use Rattle.vo_laws.proofs.ProofSizes.{honest_proofs_fit}
 use Rattle.vo_laws.proofs.ReplyFits.{reply_fits}
 use Rattle.vo_laws.proofs.RepresentationLaws.{stands}
 use Rattle.table_list.specs.declared.fault.BatchFault.TheVariants as batch
@@ -40,7 +43,7 @@ use Rattle.vo_store.specs.declared.fault.StoreFault.TheVariants as fault
 use Rattle.vo_store.specs.declared.signed_record.SignedRecord.{SignedRecord}
 use Rattle.vo_store.specs.StoreState.{StoreState, with_installed, with_pending}
 use Rattle.vo_store.specs.HonestStores.{IsHonestAfter, IsInstalled, IsRecordOf}
-use Rattle.vo_store.specs.Calls.{answer_of, install_of, next_version, proposal_of, with_proofs, within_limit}
+use Rattle.vo_store.specs.Calls.{FitProofs, Gives, answer_of, install_of, next_version, proposal_of, with_proofs, within_limit}
 use Rattle.vo_store.proofs.SignatureLaws.{signed_short}
 use Rattle.vo_store.proofs.InstallLaws.{install_good, installs}
 use Rattle.vo_store.proofs.HonestLaws.{record_fits_bytes, at_first, one_more, proposed_honest}
@@ -179,6 +182,23 @@ module _ (batches : List (List Command)) (cs : List Command) (s : StoreState) (h
   owner_refuses version index why proofs e =
       let r = refuses s cs index why proofs e in
       next_to version proofs (Err (index, why)) r.proofs_are r.worked
+
+  -- How long the proofs are.
+
+  proofs_short : (proofs : List ℕ) → proofs ≡ proofs_bytes (honest_proofs cs s.tables) → length proofs ≤ max_proofs
+  proofs_short proofs e =
+      subst (λ (bytes : List ℕ). length bytes ≤ max_proofs) (sym e)
+      (subst (λ (ss : List Stored). length (proofs_bytes (honest_proofs cs ss)) ≤ max_proofs) (sym h.tables) (honest_proofs_fit batches cs h.fit fits).size)
+
+  pub proofs_fit : (next : StoreState) (r : Result (Vec ℕ) StoreFault) → Gives (λ (proofs : Vec ℕ). (next, proofs.items)) r (proposal_of s cs) → FitProofs r
+  proofs_fit next (Ok proofs) e = proofs_short proofs.items (accepts s cs next proofs.items e).proofs_are
+  proofs_fit next (Err (fault.Command index why proofs)) e = proofs_short proofs (refuses s cs index why proofs e).proofs_are
+  proofs_fit next (Err fault.NothingProposed) e = tt
+  proofs_fit next (Err (fault.WrongRecord due got)) e = tt
+  proofs_fit next (Err fault.BadSignature) e = tt
+  proofs_fit next (Err (fault.TooLarge size)) e = tt
+  proofs_fit next (Err fault.Empty) e = tt
+  proofs_fit next (Err fault.Memory) e = tt
 
 pub first_installed : (s next : StoreState) (rec : Record) (signature : List ℕ) → IsHonestAfter [] s → s.installed ≡ None → install_of s rec signature ≡ Ok next → IsHonestAfter [] next
 first_installed s next rec signature h none i =

@@ -1,11 +1,13 @@
 -- What a store says, and how it goes on.
-use Rattle.std.specs.Prelude.{◌≡◌, ℕ, ◌+◌, ◌==◌, Bool, false, not, ◌&&◌, nat_le, if◌then◌else◌, List, [], ◌∷◌, length, Option, is_none, Result, Ok, Err, bytes_eq}
+use Rattle.std.specs.Prelude.{◌≡◌, ℕ, ◌+◌, ◌≤◌, ◌==◌, Bool, false, not, ◌&&◌, nat_le, if◌then◌else◌, List, [], ◌∷◌, length, Option, is_none, Result, Ok, Err, bytes_eq}
+use Rattle.std.specs.Global.{Vec}
 use Rattle.std.specs.Option.{option_map_or}
 use Rattle.vo_spec.specs.declared.tables.Command.{Command}
 use Rattle.vo_spec.specs.declared.tables.CommandFault.{CommandFault}
 use Rattle.vo_spec.specs.declared.records.Record.{Record}
 use Rattle.vo_spec.specs.Firsts.{and_then, first_of, unless}
 use Rattle.vo_spec.specs.Conditions.{Query}
+use Rattle.vo_spec.specs.Journals.{max_proofs}
 use Rattle.vo_spec.specs.Lms.{leaf_of, lms_valid}
 use Rattle.vo_spec.specs.Records.{record_bytes}
 use Rattle.vo_spec.specs.Replies.{reply_bytes, proofs_bytes, max_reply}
@@ -49,6 +51,12 @@ unfoldable pub proposal_of : StoreState → List Command → Result (StoreState 
 proposal_of s batch = if is_none s.installed then Err fault.Empty
     else with_proofs (λ after. with_pending after s)
     (proofs_bytes (honest_proofs batch s.tables)) (work_from 0 batch s.tables)
+
+-- the proofs, also those up to a refused command, are no longer than a journal takes
+abbrev pub FitProofs : Result (Vec ℕ) StoreFault → Type 0
+FitProofs (Ok proofs) = length proofs.items ≤ max_proofs
+FitProofs (Err (fault.Command index refused proofs)) = length proofs ≤ max_proofs
+FitProofs (Err why) = Unit {0}
 
 -- Installs.
 

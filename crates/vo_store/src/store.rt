@@ -48,7 +48,7 @@ impl Store {
     ghost use Rattle.vo_spec.specs.Batches.{FitsBatch};
     ghost use Rattle.vo_spec.specs.Conditions.{query_of};
     ghost use Rattle.vo_store.specs.StoreState.{new_store};
-    ghost use Rattle.vo_store.specs.Calls.{Gives, answer_of, install_of, proposal_of};
+    ghost use Rattle.vo_store.specs.Calls.{FitProofs, Gives, answer_of, install_of, proposal_of};
     ghost use Rattle.vo_store.specs.HonestStores.{IsHonestStore};
 
     /// A store of the key that has installed nothing: version 0, which has no tables, is proposed.
@@ -70,6 +70,7 @@ impl Store {
         ensures answer { Gives (λ proofs. (self.new, proofs.items)) result
             (proposal_of self.old batch.now.commands) }
         ensures left { OnErr result (self.new ≡ self.old) }
+        ensures fits { FitProofs result }
     {
         if self.installed.is_none() {
             return Err(StoreFault::Empty);

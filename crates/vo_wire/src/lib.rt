@@ -10,7 +10,6 @@ mod feeder;
 mod link_serving;
 mod loan;
 mod net_serving;
-mod proof_sizes;
 mod queries;
 mod responder;
 mod statuses;

@@ -7,7 +7,6 @@ ghost use Rattle.store_requests.specs.Bodies.{install_in};
 ghost use Rattle.vo_wire.specs.Answering.{FitsFrame, frame_answer, proposal_answer, after_proposal, install_answer, after_install};
 
 use crate::answers::refusal_by;
-use crate::proof_sizes::proofs_fit;
 use link_frames::{Frame, FrameKind};
 use std::alloc::{AllocError, Global};
 use store_requests::{SignedBody, read_install, read_proposal};
@@ -44,7 +43,6 @@ fn propose(alloc: Global, store: &mut Store, batch: &Batch) -> Result<Option<Fra
     ensures next { OnOk result (store.new ≡ after_proposal store.old batch.now.commands) }
     ensures err { OnErr result (store.new ≡ store.old) }
 {
-    proofs_fit(store);
     match store.propose(alloc, batch) {
         Ok(body) => Ok(Some(Frame {
             kind: FrameKind::Proofs,

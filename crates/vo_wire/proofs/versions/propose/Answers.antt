@@ -10,10 +10,6 @@ use Rattle.vo_wire.proofs.versions.propose.Goals as goal
 pub returns-in-Ok-clause-answer : goal.returns-in-Ok-clause-answer
 returns-in-Ok-clause-answer c = ap (λ (a : KindAndBody). Some a) (sym (ap proofs_answer c.in-Ok.ensures.answer))
 
-pub returns-in-Ok-clause-fits : goal.returns-in-Ok-clause-fits
-returns-in-Ok-clause-fits c =
-    c.proofs_fit.ensures.accepted c.args.batch.now.commands c.propose.new.self c.in-Ok.body.items c.requires c.in-Ok.ensures.answer
-
 pub returns-in-Ok-clause-next : goal.returns-in-Ok-clause-next
 returns-in-Ok-clause-next c = sym (ap (store_after (λ proposal. proposal.0) c.args.store.now) c.in-Ok.ensures.answer)
 
