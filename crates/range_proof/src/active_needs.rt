@@ -120,6 +120,18 @@ impl<'n, 'k> ActiveNeeds<'n, 'k> {
         Ok(self.at_child(active, lower, upper))
     }
 
+    /// The same needs at a node that none of them visits.
+    pub fn none_active(&self, alloc: Global) -> ActiveNeeds<'n, 'k>
+        ensures { result ≡ record { all = self.now.all; active = [] } }
+    {
+        ActiveNeeds {
+            all: self.all,
+            active: Vec::new(alloc),
+            lower: None,
+            upper: None,
+        }
+    }
+
     /// The only one, where there is one alone.
     pub fn single_need(&self) -> Option<&'n Need>
         ensures some { IfSome result (λ need. need.now ∷ [] ≡ self.now.active) }
@@ -139,16 +151,23 @@ impl<'n, 'k> ActiveNeeds<'n, 'k> {
         self.active.is_empty()
     }
 
-    /// The columns that all needs name whose intervals have the key. At a key in the node's place
-    /// of the tree only the active needs are asked, since no other need has it.
-    pub fn named_columns(&self, alloc: Global, key: &[u8]) -> Result<Vec<u8>, AllocError>
-        ensures { IfOk result (λ columns. columns.items ≡ named_by self.now.all key.now) }
+    /// The needs to ask of a key. At a key in the node's place of the tree these are the active ones
+    /// alone, since no other need has it.
+    pub fn asked_of(&self, key: &[u8]) -> &[&'n Need]
+        ensures { named_by (map lent_need result.now) key.now ≡ named_by self.now.all key.now }
     {
         let fewer = !self.active.is_empty() && self.active.len() < self.all.len();
         if fewer && is_between(self.lower, self.upper, key) {
-            named_columns(alloc, &self.active, key)
+            &self.active
         } else {
-            named_columns(alloc, self.all, key)
+            self.all
         }
+    }
+
+    /// The columns that all needs name whose intervals have the key.
+    pub fn named_columns(&self, alloc: Global, key: &[u8]) -> Result<Vec<u8>, AllocError>
+        ensures { IfOk result (λ columns. columns.items ≡ named_by self.now.all key.now) }
+    {
+        named_columns(alloc, self.asked_of(key), key)
     }
 }

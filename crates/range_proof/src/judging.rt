@@ -1,17 +1,25 @@
 //! Whether a part of a tree is the proof for some needs.
 ghost use Rattle.std.specs.Prelude.{◌≡◌, not};
-ghost use Rattle.std.specs.List.{list_any};
-ghost use Rattle.vo_spec.specs.Pruning.{is_missing, has_surplus, is_missing_by, is_missing_in, has_surplus_by, has_surplus_in, walk_for};
+ghost use Rattle.vo_spec.specs.Pruning.{
+  is_missing,
+  has_surplus,
+  is_missing_by,
+  is_missing_in,
+  has_surplus_by,
+  has_surplus_in,
+  walk_for,
+};
 ghost use Rattle.mb_tree.specs.View.{part_of, parts_of};
 ghost use Rattle.range_proof.specs.Judging.{JudgesOrMissing};
 
 use crate::active_needs::ActiveNeeds;
-use crate::naming::{hides_any, row_has_surplus};
+use crate::judge_for_one::judge_children_for_one;
+use crate::leaves::judge_entries;
 use crate::need_lists::lend_needs;
 use crate::scanning::separator_at;
 use mb_tree::PartTree;
 use std::alloc::Global;
-use vo_spec::{KeyPart, Need, PartEntry, ScanFault};
+use vo_spec::{KeyPart, Need, ScanFault};
 
 /// Whether the part is the proof for these needs, as far as it alone can tell: with nothing
 /// missing, true exactly where nothing is there beyond what is needed.
@@ -25,7 +33,7 @@ pub fn is_canonical(alloc: Global, tree: &PartTree<'_>, needs: &[Need]) -> Resul
 }
 
 #[cycle(judge)]
-fn judge_node<'k>(
+pub fn judge_node<'k>(
     alloc: Global,
     tree: &'k PartTree<'_>,
     needs: &ActiveNeeds<'_, 'k>,
@@ -56,8 +64,27 @@ fn judge_node<'k>(
     }
 }
 
+/// The node's children. Most nodes far from the root have one active need alone, which needs no
+/// lists.
 #[cycle(judge)]
 fn judge_children<'k>(
+    alloc: Global,
+    separators: &'k [KeyPart<'_>],
+    children: &'k [PartTree<'_>],
+    needs: &ActiveNeeds<'_, 'k>,
+) -> Result<bool, ScanFault>
+    ensures { let walk = walk_for needs.now.all in let s = needs.now.active in
+        JudgesOrMissing result (is_missing_in walk s None separators.now (parts_of children.now))
+        (has_surplus_in walk s None separators.now (parts_of children.now)) }
+{
+    match needs.single_need() {
+        Some(need) => judge_children_for_one(alloc, separators, children, needs, need),
+        None => judge_each(alloc, separators, children, needs),
+    }
+}
+
+#[cycle(judge)]
+fn judge_each<'k>(
     alloc: Global,
     separators: &'k [KeyPart<'_>],
     children: &'k [PartTree<'_>],
@@ -77,25 +104,6 @@ fn judge_children<'k>(
             Err(fault) => return Err(fault),
         }
         lower = upper;
-    }
-    Ok(surplus)
-}
-
-fn judge_entries(
-    alloc: Global,
-    entries: &[PartEntry<'_>],
-    needs: &ActiveNeeds<'_, '_>,
-) -> Result<bool, ScanFault>
-    ensures { let walk = walk_for needs.now.all in JudgesOrMissing result
-        (list_any walk.lacks entries.now) (list_any walk.exceeds entries.now) }
-{
-    let mut surplus = false;
-    for entry in entries {
-        let columns = needs.named_columns(alloc, entry.key.as_bytes())?;
-        if hides_any(&columns, &entry.row) {
-            return Err(ScanFault::Missing);
-        }
-        surplus = surplus || row_has_surplus(&columns, &entry.row);
     }
     Ok(surplus)
 }

@@ -2,7 +2,9 @@
 #![tactic(auto)]
 
 mod active_needs;
+mod judge_for_one;
 mod judging;
+mod leaves;
 mod naming;
 mod need_lists;
 mod nodes;

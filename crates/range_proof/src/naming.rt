@@ -1,5 +1,5 @@
 //! Which columns of a row the needs name, and whether a part of the row has these and no others.
-ghost use Rattle.std.specs.Prelude.{◌≡◌, map, IfOk};
+ghost use Rattle.std.specs.Prelude.{◌≡◌, [], ◌∷◌, map, IfOk};
 ghost use Rattle.vo_spec.specs.Pruning.{
   needed_columns as named_by,
   has_column as is_among,
@@ -25,6 +25,17 @@ pub fn named_columns(alloc: Global, needs: &[&Need], key: &[u8]) -> Result<Vec<u
         }
     }
     Ok(columns)
+}
+
+/// The columns that the need names, if its interval has the key.
+pub fn columns_at<'n>(need: &'n Need, key: &[u8]) -> &'n [u8]
+    ensures { result.now ≡ named_by (need.now ∷ []) key.now }
+{
+    if in_interval(&need.interval, key) {
+        need.columns.as_slice()
+    } else {
+        &[]
+    }
 }
 
 /// Whether the row hides one of these columns.
