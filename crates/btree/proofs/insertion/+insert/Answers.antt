@@ -1,6 +1,7 @@
 use Rattle.std.proofs.Common.{◌≡◌, ◌+◌, ◌<◌, ◌≤◌, length, map, ap, sym, ◌∙◌, subst, arith}
 use Rattle.std.proofs.lemmas.List.{length-map}
 use Rattle.std.specs.List.{position_or_len}
+use Rattle.std.proofs.lemmas.Grind.{common_steps}
 use Rattle.vo_spec.specs.Values.{key_lt}
 use Rattle.vo_spec.specs.Parts.{Part, levels, levels_in}
 use Rattle.vo_spec.specs.Inserts.{grow}
@@ -73,3 +74,6 @@ insert_in_child-returns-in-Err g t c =
     let at = c.position_above-place.ensures.place ∙ place_keys g.N.Key.KeyedItem.key c.key_bytes.result.now c.args.separators.now ∙ ap (λ k. position_or_len (key_lt k) ss) (c.key_bytes.ensures ∙ g.met.N.TreeNode.entry_key c.args.entry) in
     pass_fault R R c.in-Err.fault _ _ c.in-Err.ensures
     (λ f fails. inner_grow_fails family e ss ks place between at (g.N.TreeNode.kid c.index-children-place.result) f d.at (ap (grow family e) (sym c.tree.ensures) ∙ fails))
+
+pub insert_below-insert_in_leaf-requires : goal.insert_below-insert_in_leaf-requires
+insert_below-insert_in_leaf-requires g t c = grind (arith, common_steps)

@@ -1,5 +1,6 @@
 use Rattle.std.proofs.Common.{◌≡◌, ◌+◌, ◌<◌, ◌≤◌, length, map, ap, sym, ◌∙◌, subst, arith, Result, Ok}
 use Rattle.std.proofs.lemmas.List.{length-map}
+use Rattle.std.proofs.lemmas.Grind.{common_steps}
 use Rattle.vo_spec.specs.declared.trees.UpdateFault.{UpdateFault}
 use Rattle.vo_spec.specs.Parts.{Part, levels, levels_in}
 use Rattle.vo_spec.specs.Removes.{shrink}
@@ -55,3 +56,6 @@ remove_in_child-returns-in-Err-clause-value g t c =
     let at = c.position_above-place.ensures.place ∙ place_keys g.N.Key.KeyedItem.key c.args.key.now c.args.separators.now in
     pass_fault R R c.in-Err.fault _ _ c.in-Err.ensures.value
     (λ f fails. inner_shrink_fails family c.args.key.now ss ks place at (g.N.TreeNode.kid c.index-children-place.result) least d.within d.at f (ap (shrink family c.args.key.now) (sym c.tree.ensures) ∙ fails))
+
+pub remove_below-remove_in_leaf-requires : goal.remove_below-remove_in_leaf-requires
+remove_below-remove_in_leaf-requires g t c = grind (arith, common_steps)

@@ -1,5 +1,6 @@
 use Rattle.std.proofs.Common.{◌≡◌, ◌+◌, ◌∷◌, ◌++◌, ◌<◌, ◌≤◌, length, map, take, drop, Result, Ok, ap, sym, ◌∙◌, arith, length-append, length-drop}
 use Rattle.std.proofs.lemmas.List.{length-take-le}
+use Rattle.std.proofs.lemmas.Grind.{common_steps}
 use Rattle.vo_spec.specs.declared.trees.UpdateFault.{UpdateFault}
 use Rattle.vo_spec.specs.Parts.{levels, levels_in, inner}
 use Rattle.vo_spec.specs.Removes.{edited_by}
@@ -65,3 +66,6 @@ set_in_child-returns-in-Err g t c =
     let at = c.position_above-place.ensures.place ∙ place_keys g.N.Key.KeyedItem.key c.args.key.now c.args.separators.now in
     pass_fault R R c.in-Err.fault _ _ c.in-Err.ensures
     (λ f fails. inner_edit_fails family edit c.args.key.now ss ks place at (g.N.TreeNode.kid c.index-children-place.result) d.within d.at f (ap (edited_by family edit c.args.key.now) (sym c.tree.ensures) ∙ fails))
+
+pub set-set_in_leaf-requires : goal.set-set_in_leaf-requires
+set-set_in_leaf-requires g t c = grind (arith, common_steps)

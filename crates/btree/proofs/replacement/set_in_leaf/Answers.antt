@@ -1,4 +1,5 @@
-use Rattle.std.proofs.Common.{map, Ok}
+use Rattle.std.proofs.Common.{map, Ok, arith}
+use Rattle.std.proofs.lemmas.Grind.{common_steps}
 use Rattle.vo_spec.specs.Parts.{leaf}
 use Rattle.btree.specs.Nodes.{IsNewKid}
 use Rattle.btree.proofs.OkAnswers.{answers}
@@ -14,3 +15,6 @@ returns g c =
     answers (IsNewKid g.N.TreeNode.family g.N.TreeNode.kid) c.in_ok-close.field-0 (leaf (map g.N.TreeNode.entry c.in_ok-entries.entries.items)) _
     (set_in_leaf g.N.TreeNode.family g.N.Entry.KeyedItem.key g.N.TreeNode.entry g.met.N.TreeNode.entry_key c.args.key.now c.args.entries.now c.position_of-place.result c.position_of-place.ensures.place c.args.entry c.in_ok-entries.entries.items c.if-place-entries.false c.in_ok-entries.ensures)
     c.in_ok-close.ensures
+
+pub close-requires : goal.close-requires
+close-requires g c = grind (arith, common_steps)
