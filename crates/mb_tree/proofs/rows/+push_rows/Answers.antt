@@ -1,4 +1,5 @@
 use Rattle.std.proofs.Common.{◌≡◌, ◌≤◌, flat_map, arith}
+use Rattle.std.proofs.lemmas.Grind.{common_steps}
 use Rattle.vo_spec.specs.Parts.{levels, levels_in}
 use Rattle.vo_spec.specs.Trees.{open_parts}
 use Rattle.vo_spec.specs.Representation.{rows_in}
@@ -14,3 +15,9 @@ pub push_rows-returns-in-Inner : goal.push_rows-returns-in-Inner
 push_rows-returns-in-Inner t c =
     let all : rows_in c.args.subtree.now ≡ flat_map rows_in c.in-Inner.children.items = node_rows _ _ _ _ c.node.ensures.value c.in-Inner.is in
     rw (all, ← c.deref-in-Inner.ensures.value) c.push_children.ensures
+
+pub push_children-loop-child-preserved : goal.push_children-loop-child-preserved
+push_children-loop-child-preserved t c = grind (arith, common_steps)
+
+pub push_children-returns : goal.push_children-returns
+push_children-returns t c = grind (arith, common_steps)

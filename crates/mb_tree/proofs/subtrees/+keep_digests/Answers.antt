@@ -1,4 +1,5 @@
 use Rattle.std.proofs.Common.{◌≡◌, ◌≤◌, ap, subst, arith}
+use Rattle.std.proofs.lemmas.Grind.{common_steps}
 use Rattle.vo_spec.specs.Parts.{levels, levels_in}
 use Rattle.vo_spec.specs.Trees.{RowTree, open_parts}
 use Rattle.vo_spec.specs.Fits.{FitsPart}
@@ -16,3 +17,9 @@ pub children_with_digests-with_digests-requires : goal.children_with_digests-wit
 children_with_digests-with_digests-requires t c =
     let falls : levels c.child-item.result ≤ levels_in (open_parts c.args.children.now) = subtree_falls _ _ _ c.loop-child-test.true c.child-item.is in
     (omega arith, tt)
+
+pub children_with_digests-loop-child-preserved : goal.children_with_digests-loop-child-preserved
+children_with_digests-loop-child-preserved t c = grind (arith, common_steps)
+
+pub children_with_digests-returns : goal.children_with_digests-returns
+children_with_digests-returns t c = grind (arith, common_steps)
