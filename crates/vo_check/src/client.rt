@@ -72,6 +72,10 @@ impl Client {
         ensures key { self.new.key ≡ self.old.key }
         ensures kept { OnErr result (self.new ≡ self.old) }
     {
+        // The pieces of a join's reply would be kept, and these are at hand.
+        if query.join.is_some() {
+            return self.check_whole(alloc, query, reply);
+        }
         let mut checking = self.begin(alloc, query);
         match checking.feed(alloc, reply) {
             Ok(()) => checking.end(alloc, self),
