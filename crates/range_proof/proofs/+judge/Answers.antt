@@ -1,4 +1,5 @@
-use Rattle.std.proofs.Common.{◌≡◌, ◌≤◌, true, false, ◌||◌, [], ◌∷◌, refl, slice_get, arith, Ok, Err}
+use Rattle.std.proofs.Common.{◌≡◌, ◌≤◌, true, false, ◌||◌, [], ◌∷◌, refl, sym, ap, ◌∙◌, slice_get, arith, Ok, Err}
+use Rattle.std.proofs.lemmas.Grind.{common_steps}
 use Rattle.std.specs.Option.{option_copied}
 use Rattle.vo_spec.specs.Parts.{levels, levels_in}
 use Rattle.vo_spec.specs.Scans.{visits}
@@ -65,10 +66,10 @@ judge_for_one::judge_children_for_one-returns-in-Err t c =
     let is : c.if-visits_from.judged ≡ Err c.in-Err.fault = c.in-Err.is in
     let judged : JudgesOrMissing c.if-visits_from.judged (is_missing_by walk (descend (need ∷ []) lower upper) child) (has_surplus_by walk (descend (need ∷ []) lower upper) child) = elim c.if-visits_from.branch [
       | judge_for_one::judge_children_for_one-then-visits_from w ↦
-          let visited : visits need.interval lower upper ≡ true = cc in
+          let visited : visits need.interval lower upper ≡ true = sym (ap (visits need.interval lower) c.separator_at-upper.ensures) ∙ sym c.visits_from.ensures ∙ w.if-visits_from.true in
           rw (goes_alone need lower upper visited, w.judged-is) w.judge_for_one-judged.ensures
       | judge_for_one::judge_children_for_one-else-visits_from w ↦
-          let passed : visits need.interval lower upper ≡ false = cc in
+          let passed : visits need.interval lower upper ≡ false = sym (ap (visits need.interval lower) c.separator_at-upper.ensures) ∙ sym c.visits_from.ensures ∙ w.if-visits_from.false in
           rw (passes_by need lower upper passed, w.judged-is) w.judge_unvisited-judged.ensures
     ] in
     let told = rw is at judged in
@@ -86,10 +87,10 @@ judge_for_one::judge_children_for_one-loop-place-preserved t c =
     let is : c.if-visits_from.judged ≡ Ok c.in-Ok.more = c.in-Ok.is in
     let judged : JudgesOrMissing c.if-visits_from.judged (is_missing_by walk (descend (need ∷ []) lower upper) child) (has_surplus_by walk (descend (need ∷ []) lower upper) child) = elim c.if-visits_from.branch [
       | judge_for_one::judge_children_for_one-then-visits_from w ↦
-          let visited : visits need.interval lower upper ≡ true = cc in
+          let visited : visits need.interval lower upper ≡ true = sym (ap (visits need.interval lower) c.separator_at-upper.ensures) ∙ sym c.visits_from.ensures ∙ w.if-visits_from.true in
           rw (goes_alone need lower upper visited, w.judged-is) w.judge_for_one-judged.ensures
       | judge_for_one::judge_children_for_one-else-visits_from w ↦
-          let passed : visits need.interval lower upper ≡ false = cc in
+          let passed : visits need.interval lower upper ≡ false = sym (ap (visits need.interval lower) c.separator_at-upper.ensures) ∙ sym c.visits_from.ensures ∙ w.if-visits_from.false in
           rw (passes_by need lower upper passed, w.judged-is) w.judge_unvisited-judged.ensures
     ] in
     let told = rw is at judged in
@@ -105,3 +106,9 @@ judge_for_one::judge_children_for_one-loop-place-preserved t c =
       missing_step walk (need ∷ []) _ ss c.loop-place.place _ _ _ c.loop-place-test.true c.index-children-place.is told.0 c.loop-place.invariant.0,
       surplus_step walk (need ∷ []) _ ss c.loop-place.place _ _ _ _ _ c.loop-place-test.true c.index-children-place.is told.1 c.loop-place.invariant.1,
     )
+
+pub judge_for_one::judge_children_for_one-returns : goal.judge_for_one::judge_children_for_one-returns
+judge_for_one::judge_children_for_one-returns t c = grind (arith, common_steps)
+
+pub judging::judge_each-returns : goal.judging::judge_each-returns
+judging::judge_each-returns t c = grind (arith, common_steps)

@@ -26,12 +26,12 @@ prune_children_for_one-loop-place-preserved t c =
     let child = c.index-children-place.result in
     elim c.if-visits_from.branch [
       | prune_children_for_one-then-visits_from+in_ok-prune_for_one+in_ok-push w ↦
-          let visited : visits need.interval lower upper ≡ true = cc in
+          let visited : visits need.interval lower upper ≡ true = sym (ap (visits need.interval lower) c.separator_at-upper.ensures) ∙ sym c.visits_from.ensures ∙ w.if-visits_from.true in
           let made = w.in_ok-prune_for_one.ensures ∙ ap (λ active. pruned_by (walk_for all) row_family active child) (sym (goes_alone need lower upper visited)) in
           rw (w.parts-is, w.lower-is, w.in_ok-push.ensures.items, map_push, c.separator_at-upper.ensures)
           (prune_step (walk_for all) (need ∷ []) _ keys c.loop-place.place _ child _ _ _ c.loop-place-test.true c.index-children-place.is made c.loop-place.invariant)
       | prune_children_for_one-else-visits_from+in_ok-push-2 w ↦
-          let passed : visits need.interval lower upper ≡ false = cc in
+          let passed : visits need.interval lower upper ≡ false = sym (ap (visits need.interval lower) c.separator_at-upper.ensures) ∙ sym c.visits_from.ensures ∙ w.if-visits_from.false in
           let made = ap stub w.node_digest.ensures.value ∙ sym (pruned_none all _ child (ap is_any (passes_by need lower upper passed))) in
           rw (w.parts-is, w.lower-is, w.in_ok-push-2.ensures.items, map_push, c.separator_at-upper.ensures)
           (prune_step (walk_for all) (need ∷ []) _ keys c.loop-place.place _ child _ _ _ c.loop-place-test.true c.index-children-place.is made c.loop-place.invariant)
