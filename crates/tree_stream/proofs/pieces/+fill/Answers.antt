@@ -1,6 +1,7 @@
 use Rattle.std.proofs.Common.{List, ℕ, ◌≡◌, ◌≤◌, ◌<◌, ◌+◌, ◌++◌, length, refl, subst, sym, ap, ◌∙◌, arith}
 use Rattle.std.proofs.lemmas.List.{length-append}
 use Rattle.std.specs.Prelude.{IfOk}
+use Rattle.std.proofs.lemmas.Grind.{common_steps}
 use Rattle.vo_spec.specs.Bytes.{IsBytes}
 use Rattle.tree_stream.specs.Machines.{Advances, StopsInRow, summary_of_machine}
 use Rattle.tree_stream.specs.Summaries.{CanEnd}
@@ -112,3 +113,15 @@ returns-in-Err-clause-way t c = λ err.
     let front_fits : IsBytes front = IsBytes-before front c.split_within.result.1.now c.args.piece.now c.split_within.ensures.parts (λ i. omega (arith, c.type_inv.piece i)) in
     let P : List ℕ → Type 0 = λ token. CanEnd (λ rest. summary_of_machine c.args.machine.now (token ++ rest)) in
     longer_way c.args.machine.now partial front all front_fits whole (subst P c.as_slice-3.ensures.value (c.in-Err.ensures.way refl))
+
+pub returns-then-is_empty-clause-all : goal.returns-then-is_empty-clause-all
+returns-then-is_empty-clause-all t c = grind (arith, common_steps)
+
+pub returns-then-len-token_size-clause-some : goal.returns-then-len-token_size-clause-some
+returns-then-len-token_size-clause-some t c = grind (arith, common_steps)
+
+pub returns-in-Ok-clause-ok : goal.returns-in-Ok-clause-ok
+returns-in-Ok-clause-ok t c = grind (arith, common_steps)
+
+pub returns-in-Err-clause-some : goal.returns-in-Err-clause-some
+returns-in-Err-clause-some t c = grind (arith, common_steps)
