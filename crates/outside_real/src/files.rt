@@ -4,6 +4,7 @@ ghost use Rattle.std.specs.Prelude.{None};
 use crate::count::raise;
 use outside::{Shelf, TakeFault};
 use std::alloc::Global;
+use std::fs::OpenFile;
 use std::io::Read;
 use std::rt::Files;
 use std::{fs, io};
@@ -46,7 +47,17 @@ impl<R: Files> Shelf for FolderFiles<'_, R> {
 
 /// The first bytes of a file, at most so many.
 fn read_front<R: Files>(rt: &R, alloc: Global, name: &str, most: u64) -> io::Result<Vec<u8>> {
-    let mut bytes = Vec::new(alloc);
-    fs::open(rt, name)?.take(most).read_to_end(&mut bytes)?;
+    let file = fs::open(rt, name)?;
+    let mut bytes = Vec::with_capacity(alloc, room_for(&file, most))?;
+    file.take(most).read_to_end(&mut bytes)?;
     Ok(bytes)
+}
+
+/// Room for the bytes that the system says a file has, up to so many, and for the read that finds
+/// its end. The file may still have others, or no length of its own.
+fn room_for(file: &impl OpenFile, most: u64) -> usize {
+    match file.metadata() {
+        Ok(metadata) => (metadata.len().min(most) as usize).saturating_add(1),
+        Err(_) => 0,
+    }
 }
