@@ -6,3 +6,4 @@ pub mod Whole
 pub mod WholeSizes
 pub mod RowCounts
 pub mod Writing
+pub mod Gathering

@@ -5,7 +5,7 @@ ghost use Rattle.vo_spec.specs.Fits.{max_fill};
 ghost use Rattle.mb_tree.specs.Writing.{leaf_layout};
 
 use crate::layout::{NodeItem, write_leaf};
-use tagged_hash::Hasher;
+use crate::node_hasher::NodeHasher;
 use vo_spec::Digest;
 
 /// The digest of a leaf of these entries.
@@ -15,7 +15,7 @@ pub fn leaf_digest<E: NodeItem>(entries: &[E]) -> Digest
     ensures value { result ≡ sha256 (leaf_layout E.bytes entries.now) }
     ensures fits { All E.Fits entries.now }
 {
-    let mut hasher = Hasher::new();
+    let mut hasher = NodeHasher::new();
     let Ok(()) = write_leaf(&mut hasher, entries);
     hasher.end()
 }

@@ -6,6 +6,7 @@ mod hashing;
 mod items_fit;
 mod layout;
 mod lending;
+mod node_hasher;
 mod part_digest;
 mod part_items;
 mod part_node;

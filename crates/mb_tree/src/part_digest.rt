@@ -7,12 +7,14 @@ ghost use Rattle.mb_tree.specs.View.{part_of, parts_of};
 
 use crate::hashing::leaf_digest;
 use crate::layout::write_inner_head;
+use crate::node_hasher::NodeHasher;
 use crate::parts::PartTree;
-use tagged_hash::Hasher;
 use vo_spec::{Digest, KeyPart};
 
 impl PartTree<'_> {
     /// The digest of the tree. It takes no memory.
+    // Inlined where children are hashed: most are stubs.
+    #[inline(always)]
     #[tactic(auto, using(crate::proofs::PartLaws::count_parts_of))]
     #[cycle(node_digest)]
     pub fn node_digest(&self) -> Digest
@@ -40,7 +42,7 @@ fn inner_digest(separators: &[KeyPart<'_>], children: &[PartTree<'_>]) -> Digest
     requires fits { FitsEach FitsEntry (parts_of children.now) }
     ensures { result ≡ digest (inner separators.now (parts_of children.now)) }
 {
-    let mut hasher = Hasher::new();
+    let mut hasher = NodeHasher::new();
     let Ok(()) = write_inner_head(&mut hasher, separators, children.len());
     for child in children {
         hasher.add(child.node_digest().as_bytes());

@@ -1,11 +1,11 @@
 //! What the preimages of nodes are written to: a hasher, which takes no memory, or a list of bytes.
 ghost use Rattle.std.specs.Prelude.{◌≡◌, ℕ, List, OnOk};
-ghost use Rattle.tagged_hash.specs.Holding.{HoldsBytes as HasherHolds};
+ghost use Rattle.mb_tree.specs.Gathering.{HoldsNode};
 ghost use Rattle.mb_tree.specs.Writing.{Writes};
 
+use crate::node_hasher::NodeHasher;
 use std::alloc::AllocError;
 use std::convert::Infallible;
-use tagged_hash::Hasher;
 
 pub trait PreimageWriter {
     type Fault: Drop;
@@ -16,11 +16,12 @@ pub trait PreimageWriter {
         ensures { OnOk result (Writes HoldsBytes self.old self.new bytes.now) };
 }
 
-impl PreimageWriter for Hasher {
+impl PreimageWriter for NodeHasher {
     type Fault = Infallible;
 
-    ghost HoldsBytes = { HasherHolds };
+    ghost HoldsBytes = { HoldsNode };
 
+    #[inline(always)]
     fn write(&mut self, bytes: &[u8]) -> Result<(), Infallible> {
         self.add(bytes);
         Ok(())

@@ -10,12 +10,12 @@ use crate::entries::TreeEntry;
 use crate::hashing::leaf_digest;
 use crate::items_fit::{keys_fit, rows_fit, subtrees_fit};
 use crate::layout::write_inner_head;
+use crate::node_hasher::NodeHasher;
 use crate::tree_key::TreeKey;
 use btree::try_clone_all;
 use std::alloc::{AllocError, Global};
 use std::marker::Model;
 use std::rc::Rc;
-use tagged_hash::Hasher;
 use vo_spec::Digest;
 
 /// A node and all below it. Trees share the subtrees that they have in common. Contracts see it as
@@ -185,7 +185,7 @@ fn inner_digest(separators: &[TreeKey], children: &[Subtree]) -> Digest
     requires { length children.now ≤ max_fill }
     ensures { result ≡ digest (inner separators.now (open_parts children.now)) }
 {
-    let mut hasher = Hasher::new();
+    let mut hasher = NodeHasher::new();
     let Ok(()) = write_inner_head(&mut hasher, separators, children.len());
     for child in children {
         hasher.add(child.node_digest().as_bytes());

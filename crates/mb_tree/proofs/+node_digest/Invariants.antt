@@ -1,7 +1,7 @@
 use Rattle.std.proofs.Common.{◌+◌, ◌*◌, ◌++◌, length, map, take, flat_map}
 use Rattle.vo_spec.specs.Parts.{levels, levels_in, inner_head}
 use Rattle.vo_spec.specs.Trees.{digest, row_family}
-use Rattle.tagged_hash.specs.Holding.{HoldsBytes}
+use Rattle.mb_tree.specs.Gathering.{HoldsNode}
 use Rattle.mb_tree.specs.View.{part_of, parts_of}
 use Rattle.mb_tree.proofs.+node_digest.Given as goal
 
@@ -15,4 +15,4 @@ decreases-part_digest::inner_digest l = 2 * levels_in (parts_of l.children.now) 
 abbrev pub invariant-part_digest::inner_digest-loop-child :
     goal.invariant-part_digest::inner_digest-loop-child
 invariant-part_digest::inner_digest-loop-child l =
-    HoldsBytes l.hasher (inner_head row_family l.separators (length l.children) ++ flat_map digest (map part_of (take l.child-index l.children)))
+    HoldsNode l.hasher (inner_head row_family l.separators (length l.children) ++ flat_map digest (map part_of (take l.child-index l.children)))

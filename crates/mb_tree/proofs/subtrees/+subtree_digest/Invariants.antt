@@ -1,7 +1,7 @@
 use Rattle.std.proofs.Common.{◌+◌, ◌*◌, ◌++◌, length, take, flat_map}
 use Rattle.vo_spec.specs.Parts.{levels, levels_in, inner_head}
 use Rattle.vo_spec.specs.Trees.{digest, row_family, open_parts}
-use Rattle.tagged_hash.specs.Holding.{HoldsBytes}
+use Rattle.mb_tree.specs.Gathering.{HoldsNode}
 use Rattle.mb_tree.specs.Whole.{whole_of}
 use Rattle.mb_tree.proofs.subtrees.+subtree_digest.Given as goal
 
@@ -17,4 +17,4 @@ decreases-inner_digest l = 3 * levels_in (open_parts l.children.now) + 3
 -- the separators are hashed, and the digests of the children so far
 abbrev pub invariant-inner_digest-loop-child : goal.invariant-inner_digest-loop-child
 invariant-inner_digest-loop-child l =
-    HoldsBytes l.hasher (inner_head row_family l.separators (length l.children) ++ flat_map digest (take l.child-index l.children))
+    HoldsNode l.hasher (inner_head row_family l.separators (length l.children) ++ flat_map digest (take l.child-index l.children))
