@@ -1,5 +1,5 @@
 //! Reading the entries of leaves: keys, and rows as a digest or as cells.
-ghost use Rattle.std.specs.Prelude.{◌≡◌, [], ◌∷◌, ◌++◌};
+ghost use Rattle.std.specs.Prelude.{◌≡◌, [], ◌∷◌, ◌++◌, Some, IfSome, IsNone};
 ghost use Rattle.vo_spec.specs.declared.cells.Cell.TheVariants.{Hidden, Shown};
 ghost use Rattle.vo_spec.specs.declared.cells.RowPart.TheVariants.{Cells, Digest as Closed};
 ghost use Rattle.row_bytes.specs.Reading.{bytes_at};
@@ -162,4 +162,25 @@ pub fn take_entry<'b>(alloc: Global, cursor: &mut Cursor<'b>) -> Result<PartEntr
     let row = take_row(alloc, &mut ahead)?;
     *cursor = ahead;
     Ok(PartEntry { key, row })
+}
+
+/// The entry that comes next, if its row is closed. It is made where it stays: most entries of a
+/// join's reply are such.
+#[inline(always)]
+#[tactic(auto, unfolding(tree_readers::specs::TreeReading::entry_at, tree_readers::specs::TreeReading::row_at, row_bytes::specs::Reading::byte_at))]
+pub fn take_closed_entry<'b>(cursor: &mut Cursor<'b>) -> Option<PartEntry<'b>>
+    ensures taken { IfSome result (λ entry. entry_at cursor.old ≡ Some (entry, cursor.new)) }
+    ensures kept { IsNone result → cursor.new ≡ cursor.old }
+{
+    let mut ahead = cursor.copy();
+    let key = take_key(&mut ahead)?;
+    if ahead.take_byte()? != 0 {
+        return None;
+    }
+    let digest = take_digest(&mut ahead)?;
+    *cursor = ahead;
+    Some(PartEntry {
+        key,
+        row: RowPart::Digest(digest),
+    })
 }

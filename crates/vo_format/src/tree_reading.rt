@@ -1,5 +1,5 @@
 //! Reading trees, never deeper than a tree may be.
-ghost use Rattle.std.specs.Prelude.{◌≡◌, ℕ, List, ◌-◌, ◌++◌, Some, IfOk};
+ghost use Rattle.std.specs.Prelude.{◌≡◌, ℕ, List, ◌-◌, ◌++◌, Some, IfOk, IfSome, IsNone};
 ghost use Rattle.vo_spec.specs.Bytes.{IsBytes};
 ghost use Rattle.vo_spec.specs.Fits.{FitsTree, max_levels};
 ghost use Rattle.vo_spec.specs.Parts.{stub};
@@ -12,11 +12,11 @@ ghost use Rattle.mb_tree.specs.View.{part_of};
 ghost use Rattle.tree_readers.specs.TreeReading.{entry_at, inner_at, key_at, leaf_at, node_at, tree_at};
 ghost use Rattle.vo_format.specs.View.{trees_of};
 
-use crate::entry_reading::{take_count, take_digest, take_entry, take_key};
+use crate::entry_reading::{take_closed_entry, take_count, take_digest, take_entry, take_key};
 use mb_tree::{Children, PartTree};
 use row_bytes::{Cursor, ReadFault};
 use std::alloc::Global;
-use vo_spec::{KeyPart, List, MAX_FILL, MAX_LEVELS, PartEntry};
+use vo_spec::{Digest, KeyPart, List, MAX_FILL, MAX_LEVELS, PartEntry};
 
 /// The tree that comes next, of at most [`MAX_LEVELS`] levels. It is lent by the bytes.
 pub fn take_tree<'b>(alloc: Global, cursor: &mut Cursor<'b>) -> Result<PartTree<'b>, ReadFault>
@@ -105,9 +105,12 @@ fn each_entry<'b>(
     let mut ahead = cursor.copy();
     let mut entries = Vec::with_capacity(alloc, usize::from(count))?;
     for _ in 0..count {
-        match take_entry(alloc, &mut ahead) {
-            Ok(entry) => entries.push(entry)?,
-            Err(fault) => return Err(fault),
+        match take_closed_entry(&mut ahead) {
+            Some(entry) => entries.push(entry)?,
+            None => match take_entry(alloc, &mut ahead) {
+                Ok(entry) => entries.push(entry)?,
+                Err(fault) => return Err(fault),
+            },
         }
     }
     *cursor = ahead;
@@ -168,13 +171,32 @@ fn each_child<'b>(
     let mut ahead = cursor.copy();
     let mut children = Vec::with_capacity(alloc, usize::from(count))?;
     for _ in 0..count {
-        match take_levels(alloc, &mut ahead, levels) {
-            Ok(child) => children.push(child)?,
-            Err(fault) => return Err(fault),
+        match take_closed_child(&mut ahead, levels) {
+            Some(digest) => children.push(PartTree::Stub(digest))?,
+            None => match take_levels(alloc, &mut ahead, levels) {
+                Ok(child) => children.push(child)?,
+                Err(fault) => return Err(fault),
+            },
         }
     }
     *cursor = ahead;
     Ok(children)
+}
+
+/// The stub that comes next, if it is one. It is made where it stays: most children are stubs.
+#[inline(always)]
+fn take_closed_child(cursor: &mut Cursor<'_>, levels: u8) -> Option<Digest>
+    ensures taken { IfSome result (λ digest. tree_at levels cursor.old
+        ≡ Some (stub digest, cursor.new)) }
+    ensures kept { IsNone result → cursor.new ≡ cursor.old }
+{
+    let mut ahead = cursor.copy();
+    if levels == 0 || ahead.take_byte()? != 0 {
+        return None;
+    }
+    let digest = take_digest(&mut ahead)?;
+    *cursor = ahead;
+    Some(digest)
 }
 
 /// Trees that come next, so many of them.

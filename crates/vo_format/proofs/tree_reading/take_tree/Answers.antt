@@ -1,8 +1,7 @@
-use Rattle.std.proofs.Common.{◌≡◌, ℕ, ◌<◌, sym, subst, arith}
+use Rattle.std.proofs.Common.{◌<◌, sym, subst, arith}
 use Rattle.vo_spec.specs.Fits.{max_levels}
 use Rattle.mb_tree.specs.View.{part_of}
 use Rattle.row_bytes.specs.Fields.{FoundOr}
-use Rattle.tree_readers.specs.TreeReading.{tree_at}
 use Rattle.vo_format.proofs.Forms.{level_at}
 use Rattle.vo_format.proofs.TreeLaws.{is_tree, tree_is_read}
 use Rattle.vo_format.proofs.tree_reading.take_tree.Goals as goal
