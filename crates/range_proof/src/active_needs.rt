@@ -151,8 +151,10 @@ impl<'n, 'k> ActiveNeeds<'n, 'k> {
         self.active.is_empty()
     }
 
-    /// The needs to ask of a key. At a key in the node's place of the tree these are the active ones
-    /// alone, since no other need has it.
+    /// The needs to ask of a key. At a key in the node's place of the tree these are the active
+    /// ones alone, since no other need has it.
+    // Inlined: asked of each entry.
+    #[inline(always)]
     pub fn asked_of(&self, key: &[u8]) -> &[&'n Need]
         ensures { named_by (map lent_need result.now) key.now ≡ named_by self.now.all key.now }
     {

@@ -14,6 +14,8 @@ use vo_spec::{Cell, Column, Kind, PartEntry, RowPart, Schema, ValueRef};
 
 /// Whether the keys of the tree's leaves are keys of the schema, its rows have the schema's cells,
 /// and those that are shown are of their columns' kinds.
+// Inlined where children are asked: most are stubs.
+#[inline(always)]
 #[cycle(shape)]
 pub(crate) fn has_shape(schema: &Schema, tree: &PartTree<'_>) -> bool
     ensures { result ≡ has_shape schema.now (part_of tree.now) }
