@@ -12,6 +12,9 @@ use std::{fs, io};
 #[cfg(test)]
 mod tests;
 
+/// How many bytes of a file are read at once.
+const PAGE: usize = 4096;
+
 /// Files by their paths, from the working folder on.
 #[derive(Drop)]
 pub struct FolderFiles<'r, R> {
@@ -49,8 +52,23 @@ impl<R: Files> Shelf for FolderFiles<'_, R> {
 fn read_front<R: Files>(rt: &R, alloc: Global, name: &str, most: u64) -> io::Result<Vec<u8>> {
     let file = fs::open(rt, name)?;
     let mut bytes = Vec::with_capacity(alloc, room_for(&file, most))?;
-    file.take(most).read_to_end(&mut bytes)?;
+    read_pages(&mut file.take(most), &mut bytes)?;
     Ok(bytes)
+}
+
+/// Puts all that is left to read behind the bytes. It is read page by page: room to read more at
+/// once would be filled with zeros first.
+fn read_pages<R: Read>(reader: &mut R, bytes: &mut Vec<u8>) -> io::Result<()> {
+    let mut page = [0; PAGE];
+    for _ in 0..u64::MAX {
+        match reader.read(&mut page) {
+            Ok(0) => break,
+            Ok(count) => bytes.extend_from_slice(&page[..count])?,
+            Err(error) if error.kind() == io::ErrorKind::Interrupted => {}
+            Err(error) => return Err(error),
+        }
+    }
+    Ok(())
 }
 
 /// Room for the bytes that the system says a file has, up to so many, and for the read that finds
