@@ -2,6 +2,7 @@
 ghost use Rattle.std.specs.Prelude.{◌≡◌, ℕ, List, [], ◌∷◌, ◌++◌, flat_map, OnOk};
 ghost use Rattle.vo_commands.specs.Lines.{quoted_byte};
 
+use itoa::Integer;
 use std::alloc::{AllocError, Global};
 use vo_spec::{Text, Value};
 
@@ -34,7 +35,7 @@ impl Piece for Word<'_> {
         match self {
             Word::Phrase(phrase) => out.extend_from_slice(phrase.as_bytes()),
             Word::Name(name) => out.extend_from_slice(name),
-            Word::Number(number) => out.extend_from_slice(number.to_string(alloc)?.as_bytes()),
+            Word::Number(number) => push_integer(out, *number),
             Word::Hexadecimal(bytes) => {
                 out.extend_from_slice(hex::encode(alloc, *bytes)?.as_bytes())
             }
@@ -56,14 +57,22 @@ impl Piece for Value {
 
     ghost piece_text = { literal };
 
-    fn push_to(&self, alloc: Global, out: &mut Vec<u8>) -> Result<(), AllocError> {
+    fn push_to(&self, _alloc: Global, out: &mut Vec<u8>) -> Result<(), AllocError> {
         match self {
-            Value::Int(number) => out.extend_from_slice(number.to_string(alloc)?.as_bytes()),
+            Value::Int(number) => push_integer(out, *number),
             Value::Text(text) => push_quoted(out, text.as_bytes()),
             Value::Bool(true) => out.extend_from_slice(b"TRUE"),
             Value::Bool(false) => out.extend_from_slice(b"FALSE"),
         }
     }
+}
+
+/// An integer in decimal.
+fn push_integer<I: Integer>(out: &mut Vec<u8>, number: I) -> Result<(), AllocError>
+    ensures { OnOk result (out.new.items ≡ out.old.items ++ I.text number) }
+{
+    let mut buffer = itoa::Buffer::new();
+    out.extend_from_slice(buffer.format(number).as_bytes())
 }
 
 /// A text in quotes, each quote in it doubled.
