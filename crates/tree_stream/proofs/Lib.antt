@@ -12,6 +12,7 @@ pub mod Endings
 pub mod StateLaws
 pub mod ShortLaws
 pub mod PieceLaws
+pub mod CellLaws
 pub mod FindingLaws
 pub mod RowLaws
 pub mod ShapeLaws

@@ -1,10 +1,10 @@
 -- What is taken of pieces, step by step.
-use Rattle.std.proofs.Common.{◌≡◌, ℕ, suc, ◌+◌, ◌<◌, ◌≤◌, eqb, List, [], ◌∷◌, ◌++◌, length, take, Some, None, refl, sym, ap, ◌∙◌, append-nil, append_assoc, arith, Result, Ok, Err, ◌⊎◌, inl, inr}
+use Rattle.std.proofs.Common.{◌≡◌, ℕ, suc, ◌+◌, ◌<◌, ◌≤◌, eqb, List, [], ◌∷◌, ◌++◌, length, take, drop, Some, None, refl, sym, ap, ◌∙◌, append-nil, append_assoc, arith, Result, Ok, Err, ◌⊎◌, inl, inr}
 use Rattle.std.specs.Prelude.{IfOk, OnOk, OnErr, IsOk, IsErr, IsTrue, true, false}
 use Rattle.std.specs.Borrow.{Bor}
 use Rattle.std.specs.declared.alloc.AllocError.{AllocError}
 use Rattle.std.proofs.lemmas.Bool.{false≢true, eqb-true}
-use Rattle.std.proofs.lemmas.List.{length-take-le, length-append, take_at}
+use Rattle.std.proofs.lemmas.List.{length-take-le, length-append, take_at, take-append-drop}
 use Rattle.vo_spec.specs.Bytes.{IsBytes}
 use Rattle.row_bytes.proofs.Readers.{IsBytes-after}
 use Rattle.batch_format.specs.BatchReading.{Reader}
@@ -12,7 +12,7 @@ use Rattle.tree_stream.specs.declared.findings.Summary.{Summary}
 use Rattle.tree_stream.specs.declared.machine.Machine.{Machine}
 use Rattle.tree_stream.specs.declared.state.State.{State}
 use Rattle.tree_stream.specs.declared.state.State.TheVariants.{Invalid}
-use Rattle.tree_stream.specs.Machines.{summary_of_machine, Takes, Advances, EndsWith, StopsInRow}
+use Rattle.tree_stream.specs.Machines.{summary_of_machine, Takes, Passes, Advances, EndsWith, StopsInRow}
 use Rattle.tree_stream.specs.Remaining.{rest_of_node}
 use Rattle.tree_stream.specs.Summaries.{is_settled, summary_with, summary_from, CanEnd, IsInNeededRow}
 use Rattle.tree_stream.specs.Tokens.{token_size}
@@ -32,6 +32,10 @@ token_whole state bytes token size is le front =
     ∙ sym ((token_is state).front bytes (omega (arith, is, le)))
     ∙ ap (token_size state) (sym (front ∙ ap (λ (k : ℕ). take k bytes) is))
 
+pub split_is : (size : ℕ) (left token behind : List ℕ) → token ≡ take size left → behind ≡ drop size left → left ≡ token ++ behind
+split_is size left token behind front back =
+    sym (take-append-drop size left) ∙ ap (λ (t : List ℕ). t ++ drop size left) (sym front) ∙ ap (λ (t : List ℕ). token ++ t) (sym back)
+
 -- so is what was filled up and is no shorter than its size
 pub filled_whole : (state : State) (partial front all : List ℕ) → all ≡ partial ++ front → length partial + length front ≤ token_size state partial → token_size state all ≤ length all → length all ≡ token_size state all
 filled_whole state partial front all is within le =
@@ -44,25 +48,30 @@ pub invalid_none : (machine : Machine) → machine.state ≡ Invalid → (bytes 
 unfolding summary_from summary_with rest_of_node
 invalid_none machine is bytes = ap (λ (state : State). summary_from machine.context state bytes) is
 
-pub goes_on : (first old new : Machine) (bytes left token behind : List ℕ) → Advances first old bytes left → Takes old new token → left ≡ token ++ behind → Advances first new bytes behind
-goes_on first old new bytes left token behind a t is = record {
+pub passes_on : (before old new : Reader Summary) (bytes left token behind : List ℕ) → Passes before old bytes left → ((rest : List ℕ) → new rest ≡ old (token ++ rest)) → left ≡ token ++ behind
+    → Passes before new bytes behind
+passes_on before old new bytes left token behind a same is = record {
   taken = a.taken ++ token;
   parts = a.parts ∙ ap (λ (l : List ℕ). a.taken ++ l) is ∙ sym (append_assoc a.taken token behind);
-  each = λ rest. t.each rest ∙ a.each (token ++ rest) ∙ ap (summary_of_machine first) (sym (append_assoc a.taken token rest));
+  each = λ rest. same rest ∙ a.each (token ++ rest) ∙ ap before (sym (append_assoc a.taken token rest));
 }
 
-pub goes_back : (first old : Machine) (bytes left token behind : List ℕ) → IsBytes bytes → Advances first old bytes left → left ≡ token ++ behind → CanEnd (λ rest. summary_of_machine old (token ++ rest)) → CanEnd (summary_of_machine first)
-goes_back first old bytes left token behind fits a is can =
+pub passes_back : (before old : Reader Summary) (bytes left token behind : List ℕ) → IsBytes bytes → Passes before old bytes left → left ≡ token ++ behind → CanEnd (λ rest. old (token ++ rest)) → CanEnd before
+passes_back before old bytes left token behind fits a is can =
     let token_fits : IsBytes token = IsBytes-before token behind left is (IsBytes-after a.taken left bytes a.parts fits) in
     record {
       bytes = a.taken ++ (token ++ can.bytes);
       are_bytes = IsBytes-append a.taken (token ++ can.bytes) (IsBytes-before a.taken left bytes a.parts fits) (IsBytes-append token can.bytes token_fits can.are_bytes);
       found = can.found;
       each = λ rest.
-          ap (summary_of_machine first) (append_assoc a.taken (token ++ can.bytes) rest ∙ ap (λ (t : List ℕ). a.taken ++ t) (append_assoc token can.bytes rest))
+          ap before (append_assoc a.taken (token ++ can.bytes) rest ∙ ap (λ (t : List ℕ). a.taken ++ t) (append_assoc token can.bytes rest))
           ∙ sym (a.each (token ++ (can.bytes ++ rest)))
           ∙ can.each rest;
     }
+
+pub goes_on : (first old new : Machine) (bytes left token behind : List ℕ) → Advances first old bytes left → Takes old new token → left ≡ token ++ behind → Advances first new bytes behind
+goes_on first old new bytes left token behind a t is =
+    passes_on (summary_of_machine first) (summary_of_machine old) (summary_of_machine new) bytes left token behind a t.each is
 
 -- first some bytes, and then those that they left
 pub and_then : (first old new : Machine) (bytes left behind : List ℕ) → Advances first old bytes left → Advances old new left behind → Advances first new bytes behind

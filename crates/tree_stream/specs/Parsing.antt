@@ -3,6 +3,7 @@
 use Rattle.std.specs.Prelude.{◌≡◌, ◌⊎◌, ℕ, ◌≤◌, List, [], ◌∷◌, ◌++◌, length, Option, Some, None}
 use Rattle.std.specs.Borrow.{Bor}
 use Rattle.vo_spec.specs.declared.cells.Cell.{Cell}
+use Rattle.vo_spec.specs.declared.cells.Cell.TheVariants.{Hidden, Shown}
 use Rattle.vo_spec.specs.declared.cells.ValueRef.{ValueRef}
 use Rattle.vo_spec.specs.Bytes.{string}
 use Rattle.vo_spec.specs.Values.{value_bytes, FitsValue}
@@ -13,6 +14,8 @@ use Rattle.vo_spec.specs.TreeBytes.{cell_form}
 use Rattle.vo_spec.specs.Fits.{FitsCell, max_cells, max_fill}
 use Rattle.batch_format.specs.BatchReading.{Reader, any_value_at}
 use Rattle.tree_readers.specs.TreeReading.{count_within, key_at, cell_at, row_at, node_at}
+use Rattle.tree_stream.specs.declared.parse.CellToken.{CellToken}
+use Rattle.tree_stream.specs.declared.parse.CellToken.TheVariants.{Hidden as HiddenCell, Shown as ShownCell}
 use Rattle.tree_stream.specs.declared.parse.NodeToken.{NodeToken}
 use Rattle.tree_stream.specs.declared.parse.NodeToken.TheVariants.{Stub, Leaf, Inner, Invalid as NoNode}
 use Rattle.tree_stream.specs.declared.parse.RowToken.{RowToken}
@@ -46,8 +49,19 @@ abbrev pub IsValueToken : Option ValueRef → List ℕ → Type 0
 IsValueToken (Some v) bytes = (bytes ≡ value_bytes (value_of v)) × FitsValue (value_of v)
 IsValueToken None bytes = NeverReads any_value_at bytes
 
-abbrev pub IsCellToken : Option Cell → List ℕ → Type 0
-IsCellToken (Some cell) token = (token ≡ cell_form cell) × FitsCell cell
+-- the cell that a token is
+abbrev pub cell_of : CellToken → Cell
+cell_of (HiddenCell digest) = Hidden digest.now
+cell_of (ShownCell value encoding) = Shown (value_of value)
+
+-- the bytes that stand beside a shown value are those of it
+abbrev pub IsEncoded : CellToken → Type 0
+IsEncoded (HiddenCell digest) = Unit {0}
+IsEncoded (ShownCell value encoding) = encoding.now ≡ value_bytes (value_of value)
+
+abbrev pub IsCellToken : Option CellToken → List ℕ → Type 0
+IsCellToken (Some cell) token =
+    (token ≡ cell_form (cell_of cell)) × FitsCell (cell_of cell) × IsEncoded cell
 IsCellToken None token = NeverReads cell_at token
 
 -- a whole cell

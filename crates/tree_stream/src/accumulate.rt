@@ -4,14 +4,16 @@ ghost use Rattle.std.specs.List.{list_any};
 ghost use Rattle.vo_spec.specs.Pruning.{has_column as is_among};
 ghost use Rattle.vo_spec.specs.Scans.{in_interval as has_key};
 ghost use Rattle.tree_stream.specs.Findings.{cell_findings, closed_row_findings, columns_at as columns_of, combine, combine_cells, entry_findings_by, no_findings, open_node_findings, row_head_findings, stub_findings};
+ghost use Rattle.tree_stream.specs.Parsing.{cell_of};
 
 use crate::findings::{CellFindings, Findings};
 use crate::kinds::is_key_of;
+use crate::parse::CellToken;
 use crate::target::Target;
 use key_intervals::in_interval;
 use row_bytes::own_value;
 use std::alloc::{AllocError, Global};
-use vo_spec::{Cell, Key, Kind, List, SeenRow};
+use vo_spec::{Key, Kind, List, SeenRow};
 
 pub(crate) fn empty_findings(alloc: Global) -> Findings
     ensures { result ≡ no_findings }
@@ -47,6 +49,8 @@ pub(crate) fn columns_at<'n>(target: &'n Target, key: &[u8]) -> &'n [u8]
     }
 }
 
+// Inlined, as all that is asked of each cell.
+#[inline(always)]
 pub(crate) fn has_column(columns: &[u8], column: u8) -> bool
     ensures { result ≡ is_among columns.now column }
 {
@@ -85,23 +89,25 @@ pub(crate) fn closed_row(alloc: Global, named: &[u8]) -> CellFindings
 
 /// Adds what is found in one cell, where its column is named or isn't, and its kind is the column's
 /// or isn't.
+// Inlined, as all that is asked of each cell.
+#[inline(always)]
 pub(crate) fn add_cell(
     alloc: Global,
     findings: &mut CellFindings,
     is_named: bool,
     fits: bool,
-    cell: &Cell<'_>,
+    cell: &CellToken<'_>,
 ) -> Result<(), AllocError>
     ensures sum { OnOk result (findings.new ≡ combine_cells findings.old
-        (cell_findings is_named fits cell.now)) }
+        (cell_findings is_named fits (cell_of cell.now))) }
     ensures memory { IsErr result → IsTrue is_named }
 {
     findings.has_shape = findings.has_shape && fits;
     match cell {
-        Cell::Hidden(_) => findings.is_missing = findings.is_missing || is_named,
-        Cell::Shown(value) => {
+        CellToken::Hidden(_) => findings.is_missing = findings.is_missing || is_named,
+        CellToken::Shown { value, .. } => {
             if is_named {
-                findings.values.push(own_value(alloc, value.as_ref())?)?;
+                findings.values.push(own_value(alloc, *value)?)?;
             } else {
                 findings.has_surplus = true;
             }

@@ -6,7 +6,7 @@ ghost use Rattle.tree_stream.specs.Tokens.{cell_size, node_size, row_size, strin
 ghost use Rattle.tree_stream.specs.Parsing.{IsCellToken, IsCount, IsKeyToken, IsNodeToken, IsRowToken, IsValueToken};
 
 use row_bytes::{Cursor, take_value};
-use vo_spec::{Cell, CellValue, Digest, MAX_CELLS, MAX_FILL, MAX_KEY, ValueRef};
+use vo_spec::{Digest, MAX_CELLS, MAX_FILL, MAX_KEY, ValueRef};
 
 /// How a node begins: a stub, or the count of an open one.
 #[derive(Drop)]
@@ -29,10 +29,29 @@ fn digest_in(bytes: &[u8]) -> Digest
     requires { length bytes.now ≡ 32 }
     ensures { result ≡ bytes.now }
 {
+    Digest::new(*chunk_in(bytes))
+}
+
+// Inlined, as all that is asked of each cell.
+#[inline(always)]
+fn chunk_in(bytes: &[u8]) -> &[u8; 32]
+    requires { length bytes.now ≡ 32 }
+    ensures { result.now ≡ bytes.now }
+{
     match bytes.split_first_chunk::<32>() {
-        Some((chunk, _)) => Digest::new(*chunk),
+        Some((chunk, _)) => chunk,
         None => unreachable!(),
     }
+}
+
+/// A cell: its digest, or its value with the bytes of that.
+#[derive(Drop)]
+pub(crate) enum CellToken<'b> {
+    Hidden(&'b [u8; 32]),
+    Shown {
+        value: ValueRef<'b>,
+        encoding: &'b [u8],
+    },
 }
 
 /// The count that one byte is, within these limits.
@@ -160,8 +179,10 @@ fn parse_value(bytes: &[u8]) -> Option<ValueRef<'_>>
     }
 }
 
+// Inlined, as all that is asked of each cell, so that its form is told once.
 #[tactic(auto, unfolding(crate::specs::Tokens::cell_size))]
-pub(crate) fn parse_cell(token: &[u8]) -> Option<Cell<'_>>
+#[inline(always)]
+pub(crate) fn parse_cell(token: &[u8]) -> Option<CellToken<'_>>
     requires { length token.now ≡ cell_size token.now }
     ensures { IsCellToken result token.now }
 {
@@ -171,13 +192,15 @@ pub(crate) fn parse_cell(token: &[u8]) -> Option<Cell<'_>>
     }
 }
 
+// Inlined, as all that is asked of each cell.
 #[tactic(auto, unfolding(crate::specs::Tokens::cell_size))]
-fn parse_cell_kind(first: u8, rest: &[u8]) -> Option<Cell<'_>>
+#[inline(always)]
+fn parse_cell_kind(first: u8, rest: &[u8]) -> Option<CellToken<'_>>
     requires { suc (length rest.now) ≡ cell_size (first ∷ rest.now) }
     ensures { IsCellToken result (first ∷ rest.now) }
 {
     if first == 0 {
-        return Some(Cell::Hidden(digest_in(rest)));
+        return Some(CellToken::Hidden(chunk_in(rest)));
     }
     if first == 1 {
         return parse_shown(rest);
@@ -185,12 +208,12 @@ fn parse_cell_kind(first: u8, rest: &[u8]) -> Option<Cell<'_>>
     None
 }
 
-fn parse_shown(rest: &[u8]) -> Option<Cell<'_>>
-    requires { length rest.now ≡ value_size rest.now }
-    ensures { IsCellToken result (1 ∷ rest.now) }
+fn parse_shown(encoding: &[u8]) -> Option<CellToken<'_>>
+    requires { length encoding.now ≡ value_size encoding.now }
+    ensures { IsCellToken result (1 ∷ encoding.now) }
 {
-    match parse_value(rest) {
-        Some(value) => Some(Cell::Shown(CellValue::lent(value))),
+    match parse_value(encoding) {
+        Some(value) => Some(CellToken::Shown { value, encoding }),
         None => None,
     }
 }

@@ -6,7 +6,7 @@ ghost use Rattle.tree_stream.specs.Tokens.{token_size as size_of_token};
 
 use crate::machine::Machine;
 use crate::state::State;
-use crate::take::take;
+use crate::take::{take, take_cells};
 use crate::tokens::token_size;
 use arrayvec::ArrayVec;
 use std::alloc::{AllocError, Global};
@@ -30,7 +30,7 @@ fn take_all<'b>(
     'tokens: while size <= left.len() {
         let (token, behind) = left.split_at(size);
         take(machine, alloc, token)?;
-        left = behind;
+        left = take_cells(machine, alloc, behind)?;
         size = token_size(&machine.state, left);
     }
     Ok(left)

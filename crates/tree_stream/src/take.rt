@@ -1,16 +1,15 @@
 //! The machine takes one token after another.
-ghost use Rattle.std.specs.Prelude.{◌≡◌, ◌++◌, Ok, true, false, length, IfOk, IsErr, OnOk, OnErr};
-ghost use Rattle.tree_stream.specs.Machines.{Takes, summary_of_machine};
+ghost use Rattle.std.specs.Prelude.{◌≡◌, ◌<◌, ◌++◌, length, IfOk, IsErr, OnOk, OnErr};
+ghost use Rattle.tree_stream.specs.Machines.{Advances, Takes, machine_of, summary_of_machine};
 ghost use Rattle.tree_stream.specs.Summaries.{CanEnd, IsInNeededRow, Yields, summary_from};
 ghost use Rattle.tree_stream.specs.Tokens.{token_size};
 
-use crate::cells::{pass_cell, take_cell};
+use crate::cells::{pass_cells, take_cell};
 use crate::context::Context;
 use crate::inner::take_separator;
 use crate::leaves::{take_key, take_row};
 use crate::machine::Machine;
 use crate::nodes::take_node;
-use crate::parse::parse_cell;
 use crate::state::State;
 use std::alloc::{AllocError, Global};
 use std::mem;
@@ -41,53 +40,23 @@ fn next_state(
     }
 }
 
-/// Takes a cell behind which its row has others, where the row stands, and says whether the token
-/// was one. Most tokens are such cells, and so the state isn't moved for them.
-fn take_in_row(
-    context: &Context,
+/// Takes the whole cells in front of the bytes where a row stands, but for the row's last one, and
+/// gives the bytes behind them. Where memory runs out, the machine takes nothing from then on. Most
+/// tokens are such cells, and so the state isn't moved for them.
+pub(crate) fn take_cells<'b>(
+    machine: &mut Machine,
     alloc: Global,
-    state: &mut State,
-    token: &[u8],
-) -> Result<bool, AllocError>
-    requires { length token.now ≡ token_size state.old token.now }
-    ensures taken { result ≡ Ok true → Yields context.now state.new
-        (λ rest. summary_from context.now state.old (token.now ++ rest)) }
-    ensures other { result ≡ Ok false → state.new ≡ state.old }
-    ensures way { IsErr result → CanEnd (λ rest. summary_from context.now state.old
-        (token.now ++ rest)) }
-    ensures memory { IsErr result → IsInNeededRow context.now state.old }
-{
-    let _room = context.ancestors.len();
-    match state {
-        State::Cell(row) => {
-            if row.left == 0 {
-                return Ok(false);
-            }
-            match parse_cell(token) {
-                Some(cell) => {
-                    pass_cell(context, alloc, row, &cell, token)?;
-                    Ok(true)
-                },
-                None => Ok(false),
-            }
-        },
-        _ => Ok(false),
-    }
-}
-
-/// Takes a whole token. Where memory runs out, the machine takes nothing from then on.
-pub(crate) fn take(machine: &mut Machine, alloc: Global, token: &[u8]) -> Result<(), AllocError>
-    requires { length token.now ≡ token_size machine.old.state token.now }
-    ensures ok { OnOk result (Takes machine.old machine.new token.now) }
+    bytes: &'b [u8],
+) -> Result<&'b [u8], AllocError>
+    ensures ok { IfOk result (λ left. Advances machine.old machine.new bytes.now left.now) }
     ensures err { OnErr result (machine.new.state ≡ State.Invalid) }
-    ensures way { IsErr result → CanEnd (λ rest. summary_of_machine machine.old
-        (token.now ++ rest)) }
+    ensures way { IsErr result → CanEnd (summary_of_machine machine.old) }
     ensures memory { IsErr result → IsInNeededRow machine.old.context machine.old.state }
+    ensures some { IsErr result → 0 < length bytes.now }
     ensures target { machine.new.context.target ≡ machine.old.context.target }
 {
-    match take_in_row(&machine.context, alloc, &mut machine.state, token) {
-        Ok(true) => Ok(()),
-        Ok(false) => replace_state(machine, alloc, token),
+    match pass_in_row(&machine.context, alloc, &mut machine.state, bytes) {
+        Ok(left) => Ok(left),
         Err(error) => {
             let _ = mem::replace(&mut machine.state, State::Invalid);
             Err(error)
@@ -95,8 +64,27 @@ pub(crate) fn take(machine: &mut Machine, alloc: Global, token: &[u8]) -> Result
     }
 }
 
-/// The same with another state in the old one's place.
-fn replace_state(machine: &mut Machine, alloc: Global, token: &[u8]) -> Result<(), AllocError>
+/// The same, but that the state isn't known after an error.
+fn pass_in_row<'b>(
+    context: &Context,
+    alloc: Global,
+    state: &mut State,
+    bytes: &'b [u8],
+) -> Result<&'b [u8], AllocError>
+    ensures ok { IfOk result (λ left. Advances (machine_of context.now state.old)
+        (machine_of context.now state.new) bytes.now left.now) }
+    ensures way { IsErr result → CanEnd (summary_from context.now state.old) }
+    ensures memory { IsErr result → IsInNeededRow context.now state.old }
+    ensures some { IsErr result → 0 < length bytes.now }
+{
+    match state {
+        State::Cell(row) => pass_cells(context, alloc, row, bytes),
+        _ => Ok(bytes),
+    }
+}
+
+/// Takes a whole token. Where memory runs out, the machine takes nothing from then on.
+pub(crate) fn take(machine: &mut Machine, alloc: Global, token: &[u8]) -> Result<(), AllocError>
     requires { length token.now ≡ token_size machine.old.state token.now }
     ensures ok { OnOk result (Takes machine.old machine.new token.now) }
     ensures err { OnErr result (machine.new.state ≡ State.Invalid) }

@@ -44,7 +44,9 @@ fn row_size(bytes: &[u8]) -> usize
     }
 }
 
+// Inlined, as all that is asked of each cell.
 #[tactic(auto, unfolding(crate::specs::Tokens::value_size))]
+#[inline(always)]
 fn value_size(bytes: &[u8]) -> usize
     ensures value { result ≡ size_of_value bytes.now }
     ensures short { result ≤ 1027 }
@@ -58,8 +60,10 @@ fn value_size(bytes: &[u8]) -> usize
     }
 }
 
+// Inlined, as all that is asked of each cell.
 #[tactic(auto, unfolding(crate::specs::Tokens::cell_size))]
-fn cell_size(bytes: &[u8]) -> usize
+#[inline(always)]
+pub(crate) fn cell_size(bytes: &[u8]) -> usize
     ensures { result ≡ size_of_cell bytes.now }
 {
     match bytes.split_first() {

@@ -1,11 +1,8 @@
-use Rattle.std.proofs.Common.{List, ℕ, ◌<◌, ◌≡◌, ◌++◌, length, take, drop, refl, sym, ap, ◌∙◌, arith}
-use Rattle.std.proofs.lemmas.List.{take-append-drop, length-drop}
-use Rattle.tree_stream.proofs.PieceLaws.{size_positive, token_whole, goes_on, goes_back, stops_here}
+use Rattle.std.proofs.Common.{◌<◌, ◌≡◌, List, ℕ, [], ◌++◌, length, ap, refl, ◌∙◌, arith}
+use Rattle.std.proofs.lemmas.List.{length-append, length-drop}
+use Rattle.tree_stream.specs.Machines.{Advances, summary_of_machine}
+use Rattle.tree_stream.proofs.PieceLaws.{and_then, goes_on, passes_back, size_positive, split_is, stops_here, token_whole}
 use Rattle.tree_stream.proofs.pieces.take_all.Goals as goal
-
-split_is : (size : ℕ) (left token behind : List ℕ) → token ≡ take size left → behind ≡ drop size left → left ≡ token ++ behind
-split_is size left token behind front back =
-    sym (take-append-drop size left) ∙ ap (λ (t : List ℕ). t ++ drop size left) (sym front) ∙ ap (λ (t : List ℕ). token ++ t) (sym back)
 
 pub take-requires : goal.take-requires
 take-requires c =
@@ -13,19 +10,34 @@ take-requires c =
 
 pub tokens-smaller : goal.tokens-smaller
 tokens-smaller c =
-    let smaller : length c.split_at.result.1.now < length c.tokens.left.now =
-    omega (arith, size_positive c.tokens.machine.state c.tokens.left.now, c.tokens.invariant.is_size, length-drop c.tokens.size c.tokens.left.now, ap (λ (t : List ℕ). length t) c.split_at.ensures.back, c.tokens-test.true) in
+    let behind : List ℕ = c.split_at.result.1.now in
+    let cells = c.in_ok-left.ensures.ok in
+    let smaller : length c.in_ok-left.left.now < length c.tokens.left.now =
+    omega (
+      arith,
+      size_positive c.tokens.machine.state c.tokens.left.now,
+      c.tokens.invariant.is_size,
+      length-drop c.tokens.size c.tokens.left.now,
+      ap (λ (t : List ℕ). length t) c.split_at.ensures.back,
+      c.tokens-test.true,
+      ap (λ (t : List ℕ). length t) cells.parts,
+      length-append cells.taken c.in_ok-left.left.now,
+    ) in
     smaller
 
 pub tokens-preserved : goal.tokens-preserved
 tokens-preserved c =
-    let left = c.tokens.left.now in
-    let token = c.split_at.result.0.now in
-    let parts : left ≡ token ++ c.split_at.result.1.now = split_is c.tokens.size left token c.split_at.result.1.now c.split_at.ensures.front c.split_at.ensures.back in
+    let first = c.args.machine.now in
+    let bytes : List ℕ = c.args.bytes.now in
+    let left : List ℕ = c.tokens.left.now in
+    let token : List ℕ = c.split_at.result.0.now in
+    let behind : List ℕ = c.split_at.result.1.now in
+    let parts : left ≡ token ++ behind = split_is c.tokens.size left token behind c.split_at.ensures.front c.split_at.ensures.back in
+    let taken : Advances first c.take.new.machine bytes behind = goes_on first c.tokens.machine c.take.new.machine bytes left token behind c.tokens.invariant.advances c.in_ok-take.ensures.ok parts in
     record {
       is_size = c.token_size-size-in-tokens.ensures;
-      advances = goes_on c.args.machine.now c.tokens.machine c.take.new.machine c.args.bytes.now left token c.split_at.result.1.now c.tokens.invariant.advances c.in_ok-take.ensures.ok parts;
-      target = c.take.ensures.target ∙ c.tokens.invariant.target;
+      advances = and_then first c.take.new.machine c.take_cells.new.machine bytes behind c.in_ok-left.left.now taken c.in_ok-left.ensures.ok;
+      target = c.take_cells.ensures.target ∙ c.take.ensures.target ∙ c.tokens.invariant.target;
     }
 
 pub returns-in_err-take-clause-memory : goal.returns-in_err-take-clause-memory
@@ -35,8 +47,30 @@ returns-in_err-take-clause-memory c = λ err.
 
 pub returns-in_err-take-clause-way : goal.returns-in_err-take-clause-way
 returns-in_err-take-clause-way c = λ err.
-    let left = c.tokens.left.now in
-    let token = c.split_at.result.0.now in
-    let behind = c.split_at.result.1.now in
+    let left : List ℕ = c.tokens.left.now in
+    let token : List ℕ = c.split_at.result.0.now in
+    let behind : List ℕ = c.split_at.result.1.now in
     let parts : left ≡ token ++ behind = split_is c.tokens.size left token behind c.split_at.ensures.front c.split_at.ensures.back in
-    goes_back c.args.machine.now c.tokens.machine c.args.bytes.now left token behind (λ i. omega (arith, c.type_inv.bytes i)) c.tokens.invariant.advances parts (c.in_err-take.ensures.way refl)
+    passes_back (summary_of_machine c.args.machine.now) (summary_of_machine c.tokens.machine) c.args.bytes.now left token behind (λ i. omega (arith, c.type_inv.bytes i)) c.tokens.invariant.advances parts (c.in_err-take.ensures.way refl)
+
+pub returns-in_err-left-clause-memory : goal.returns-in_err-left-clause-memory
+returns-in_err-left-clause-memory c = λ err.
+    let first = c.args.machine.now in
+    let bytes : List ℕ = c.args.bytes.now in
+    let left : List ℕ = c.tokens.left.now in
+    let token : List ℕ = c.split_at.result.0.now in
+    let behind : List ℕ = c.split_at.result.1.now in
+    let parts : left ≡ token ++ behind = split_is c.tokens.size left token behind c.split_at.ensures.front c.split_at.ensures.back in
+    let taken : Advances first c.take.new.machine bytes behind = goes_on first c.tokens.machine c.take.new.machine bytes left token behind c.tokens.invariant.advances c.in_ok-take.ensures.ok parts in
+    stops_here first c.take.new.machine bytes behind taken (c.take.ensures.target ∙ c.tokens.invariant.target) (c.in_err-left.ensures.memory refl) (c.in_err-left.ensures.some refl)
+
+pub returns-in_err-left-clause-way : goal.returns-in_err-left-clause-way
+returns-in_err-left-clause-way c = λ err.
+    let first = c.args.machine.now in
+    let bytes : List ℕ = c.args.bytes.now in
+    let left : List ℕ = c.tokens.left.now in
+    let token : List ℕ = c.split_at.result.0.now in
+    let behind : List ℕ = c.split_at.result.1.now in
+    let parts : left ≡ token ++ behind = split_is c.tokens.size left token behind c.split_at.ensures.front c.split_at.ensures.back in
+    let taken : Advances first c.take.new.machine bytes behind = goes_on first c.tokens.machine c.take.new.machine bytes left token behind c.tokens.invariant.advances c.in_ok-take.ensures.ok parts in
+    passes_back (summary_of_machine first) (summary_of_machine c.take.new.machine) bytes behind [] behind (λ i. omega (arith, c.type_inv.bytes i)) taken refl (c.in_err-left.ensures.way refl)

@@ -1,0 +1,36 @@
+-- The cells of a row, of which those before the last are taken where the row stands.
+use Rattle.std.proofs.Common.{◌≡◌, ℕ, suc, ◌≤◌, List, ◌++◌, length, take, refl, sym, ◌∙◌}
+use Rattle.tree_stream.specs.declared.context.Context.{Context}
+use Rattle.tree_stream.specs.declared.state.OpenRow.{OpenRow}
+use Rattle.tree_stream.specs.declared.state.State.{State}
+use Rattle.tree_stream.specs.declared.state.State.TheVariants.{Cell}
+use Rattle.tree_stream.specs.Machines.{Advances, Passes, machine_of, row_summary}
+use Rattle.tree_stream.specs.Summaries.{CanEnd, summary_from}
+use Rattle.tree_stream.specs.Tokens.{cell_size}
+use Rattle.tree_stream.proofs.Endings.{can_same}
+use Rattle.tree_stream.proofs.PieceLaws.{token_whole}
+use Rattle.tree_stream.proofs.StateLaws.{cell_token}
+use Rattle.tree_stream.proofs.Steps.{yields_cell}
+
+-- so many bytes in front are a whole cell
+pub cell_whole : (row : OpenRow) (bytes token : List ℕ) (size : ℕ) → size ≡ cell_size bytes → size ≤ length bytes → token ≡ take size bytes → length token ≡ cell_size token
+cell_whole row bytes token size is le front =
+    let state : State = Cell row in
+    token_whole state bytes token size (is ∙ sym (cell_token state row bytes refl)) le front ∙ cell_token state row token refl
+
+pub row_can : (context : Context) (row : OpenRow) → CanEnd (row_summary context row row.hasher) → CanEnd (summary_from context (Cell row))
+row_can context row can = can_same (summary_from context (Cell row)) (row_summary context row row.hasher) (λ rest. (yields_cell context row (suc row.left) refl).each rest) can
+
+-- what was gathered of the row is hashed
+pub row_advances : (context : Context) (old mid new : OpenRow) (hashed bytes left : List ℕ) → Passes (row_summary context old old.hasher) (row_summary context mid hashed) bytes left
+    → ((rest : List ℕ) → row_summary context new new.hasher rest ≡ row_summary context mid hashed rest)
+    → Advances (machine_of context (Cell old)) (machine_of context (Cell new)) bytes left
+row_advances context old mid new hashed bytes left p same = record {
+  taken = p.taken;
+  parts = p.parts;
+  each = λ rest.
+      (yields_cell context new (suc new.left) refl).each rest
+      ∙ same rest
+      ∙ p.each rest
+      ∙ sym ((yields_cell context old (suc old.left) refl).each (p.taken ++ rest));
+}
