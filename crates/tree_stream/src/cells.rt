@@ -130,7 +130,6 @@ fn gather_cells<'b>(
     ensures memory { IsErr result → IsTrue (is_needed_row context.now) }
     ensures some { IsErr result → 0 < length bytes.now }
 {
-    let _room = context.ancestors.len();
     let named = columns_at(&context.target, context.last_key.as_slice());
     let mut left = bytes;
     'cells: while row.left > 0 {

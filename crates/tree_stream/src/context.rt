@@ -1,4 +1,6 @@
 //! What stays while one node after another is read.
+ghost use Rattle.std.specs.Prelude.{◌≤◌, length};
+
 use crate::findings::Findings;
 use crate::state::InnerNode;
 use crate::target::Target;
@@ -13,4 +15,5 @@ pub(crate) struct Context {
     pub findings: Findings,
     /// The last separator or key.
     pub last_key: ArrayVec<u8, 255>,
+    ghost few: { length ancestors.items ≤ 10 },
 }

@@ -142,13 +142,13 @@ fn take_closed_row(
     leaf: OpenLeaf,
     digest: Digest,
 ) -> Result<State, AllocError>
+    requires { length digest ≡ 32 }
     ensures ok { IfOk result (λ state. Yields context.new state (λ rest. summary_by context.old
         (rest_of_row context.old.target leaf.hasher context.old.last_key.items leaf.left)
         (0 ∷ digest ++ rest))) }
     ensures memory { IsErr result → IsTrue (is_needed_row context.old) }
     ensures target { context.new.target ≡ context.old.target }
 {
-    let _length = digest.as_bytes();
     let named = columns_at(&context.target, context.last_key.as_slice());
     let found = closed_row(alloc, named);
     end_row(context, alloc, leaf, digest, found)

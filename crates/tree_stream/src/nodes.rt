@@ -23,7 +23,6 @@ pub(crate) fn take_node(context: &mut Context, visited: bool, token: &[u8]) -> S
         (token.now ++ rest)) }
     ensures target { context.new.target ≡ context.old.target }
 {
-    let _room = context.ancestors.len();
     match parse_node(token) {
         NodeToken::Stub(digest) => take_stub(context, visited, digest),
         NodeToken::Leaf(count) => take_leaf(context, visited, count),
@@ -33,13 +32,12 @@ pub(crate) fn take_node(context: &mut Context, visited: bool, token: &[u8]) -> S
 }
 
 fn take_stub(context: &mut Context, visited: bool, digest: Digest) -> State
+    requires { length digest ≡ 32 }
     ensures yields { Yields context.new result (λ rest. summary_by context.old
         (summary_at context.old.target (levels_below context.old.ancestors.items) visited)
         (0 ∷ digest ++ rest)) }
     ensures target { context.new.target ≡ context.old.target }
 {
-    let _room = context.ancestors.len();
-    let _length = digest.as_bytes();
     add_stub(&mut context.findings, visited);
     end_node(context, digest)
 }
@@ -51,7 +49,6 @@ fn take_leaf(context: &mut Context, visited: bool, count: u8) -> State
         (1 ∷ count ∷ rest)) }
     ensures target { context.new.target ≡ context.old.target }
 {
-    let _room = context.ancestors.len();
     add_open_node(&mut context.findings, visited);
     let mut hasher = RunningHash::new();
     hasher.add(&[3, count]);
@@ -66,7 +63,6 @@ fn take_inner(context: &mut Context, visited: bool, count: u8) -> State
         (2 ∷ count ∷ rest)) }
     ensures target { context.new.target ≡ context.old.target }
 {
-    let _room = context.ancestors.len();
     add_open_node(&mut context.findings, visited);
     let mut hasher = RunningHash::new();
     hasher.add(&[4, count]);

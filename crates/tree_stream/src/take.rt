@@ -28,7 +28,6 @@ fn next_state(
     ensures memory { IsErr result → IsInNeededRow context.old state }
     ensures target { context.new.target ≡ context.old.target }
 {
-    let _room = context.ancestors.len();
     match state {
         State::Node(visited) => Ok(take_node(context, visited, token)),
         State::Separator(head) => Ok(take_separator(context, head, token)),

@@ -20,7 +20,7 @@ returns-in_err-pass_cell-in-Some-clause-way c = λ err.
     let parts : left ≡ token ++ behind = split_is c.cell_size-size.result left token behind c.split_at.ensures.front c.split_at.ensures.back in
     let begun : BeginsCell token = (cell_of c.in-Some.cell, c.in-Some.ensures.0, c.in-Some.ensures.1) in
     passes_back (row_summary context c.args.row.now c.args.row.now.hasher) (row_summary context row (row.hasher ++ c.cells.digests.items)) c.args.bytes.now left token behind (λ i. omega (arith, c.type_inv.bytes i)) c.cells.invariant.passes parts
-    (cell_can context.target context.ancestors.items context.findings (omega (arith, c.len-room.ensures.value, c.len-room.ensures.fits)) row.leaf.hasher context.last_key.items row.leaf.left (row.hasher ++ c.cells.digests.items) row.column row.findings row.left token begun)
+    (cell_can context.target context.ancestors.items context.findings c.args.context.now.few row.leaf.hasher context.last_key.items row.leaf.left (row.hasher ++ c.cells.digests.items) row.column row.findings row.left token begun)
 
 pub cells-preserved : goal.cells-preserved
 cells-preserved c =

@@ -9,5 +9,5 @@ returns-clause-ok c =
     let target = c.args.context.now.target in
     ok_then _ c.end_row.result _ _ c.end_row.ensures.ok (λ rest.
     same_with target c.args.context.now.ancestors.items c.args.context.now.findings _ _ rest _
-    (closed_step target c.args.leaf.hasher c.args.context.now.last_key.items c.args.leaf.left c.args.digest c.closed_row-found.result rest c.as_bytes-length.ensures.len
+    (closed_step target c.args.leaf.hasher c.args.context.now.last_key.items c.args.leaf.left c.args.digest c.closed_row-found.result rest c.requires
     (c.closed_row-found.ensures ∙ ap closed_row_findings (c.columns_at-named.ensures ∙ ap (columns_at target) c.as_slice.ensures.value))))

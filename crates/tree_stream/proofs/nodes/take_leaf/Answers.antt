@@ -1,4 +1,4 @@
-use Rattle.std.proofs.Common.{List, ℕ, ◌∷◌, [], ◌++◌, ap, ◌∙◌, arith}
+use Rattle.std.proofs.Common.{List, ℕ, ◌∷◌, [], ◌++◌, ap, ◌∙◌}
 use Rattle.tree_stream.proofs.Steps.{yields_then, leaf_step}
 use Rattle.tree_stream.proofs.nodes.take_leaf.Goals as goal
 
@@ -6,5 +6,5 @@ pub returns-clause-yields : goal.returns-clause-yields
 returns-clause-yields c =
     yields_then _ _ _ _ c.next_entry.ensures.yields (λ rest.
     leaf_step c.args.context.now.target c.args.context.now.ancestors.items c.args.context.now.findings c.add_open_node.new.findings c.args.visited c.args.count c.add.new.self rest
-    (omega (arith, c.len-room.ensures.value, c.len-room.ensures.fits)) c.requires c.add_open_node.ensures
+    c.args.context.now.few c.requires c.add_open_node.ensures
     (c.add.ensures ∙ ap (λ (h : List ℕ). h ++ 3 ∷ c.args.count ∷ []) c.new-hasher.ensures))

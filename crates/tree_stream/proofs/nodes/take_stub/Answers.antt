@@ -1,4 +1,3 @@
-use Rattle.std.proofs.Common.{arith}
 use Rattle.tree_stream.proofs.Steps.{yields_then, stub_step}
 use Rattle.tree_stream.proofs.nodes.take_stub.Goals as goal
 
@@ -6,4 +5,4 @@ pub returns-clause-yields : goal.returns-clause-yields
 returns-clause-yields c =
     yields_then _ _ _ _ c.end_node.ensures.yields (λ rest.
     stub_step c.args.context.now.target c.args.context.now.ancestors.items c.args.context.now.findings c.add_stub.new.findings c.args.visited c.args.digest rest
-    (omega (arith, c.len-room.ensures.value, c.len-room.ensures.fits)) c.as_bytes-length.ensures.len c.add_stub.ensures)
+    c.args.context.now.few c.requires c.add_stub.ensures)

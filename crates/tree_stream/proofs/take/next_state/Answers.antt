@@ -1,4 +1,4 @@
-use Rattle.std.proofs.Common.{suc, refl, ◌∙◌, arith}
+use Rattle.std.proofs.Common.{suc, refl, ◌∙◌}
 use Rattle.tree_stream.proofs.Steps.{yields_node, yields_separator, yields_key, yields_row, yields_cell}
 use Rattle.tree_stream.proofs.StateLaws.{node_token, separator_token, key_state_token, row_token, cell_token, step_from, ok_step_from, complete_step, invalid_step, row_way, cell_way}
 use Rattle.tree_stream.proofs.take.next_state.Goals as goal
@@ -33,7 +33,7 @@ returns-in-Row-clause-ok c = ok_step_from c.args.context.now _ c.take_row.result
 
 pub returns-in-Row-clause-way : goal.returns-in-Row-clause-way
 returns-in-Row-clause-way c = λ err.
-    row_way c.args.context.now c.args.state c.in-Row.leaf c.args.token.now c.in-Row.is (omega (arith, c.len-room.ensures.value, c.len-room.ensures.fits)) (c.take_row.ensures.good err)
+    row_way c.args.context.now c.args.state c.in-Row.leaf c.args.token.now c.in-Row.is c.args.context.now.few (c.take_row.ensures.good err)
 
 pub returns-in-Cell-clause-ok : goal.returns-in-Cell-clause-ok
 returns-in-Cell-clause-ok c =
@@ -41,7 +41,7 @@ returns-in-Cell-clause-ok c =
 
 pub returns-in-Cell-clause-way : goal.returns-in-Cell-clause-way
 returns-in-Cell-clause-way c = λ err.
-    cell_way c.args.context.now c.args.state c.in-Cell.row c.args.token.now c.in-Cell.is (omega (arith, c.len-room.ensures.value, c.len-room.ensures.fits)) (c.take_cell.ensures.good err)
+    cell_way c.args.context.now c.args.state c.in-Cell.row c.args.token.now c.in-Cell.is c.args.context.now.few (c.take_cell.ensures.good err)
 
 pub returns-in-Complete-clause-ok : goal.returns-in-Complete-clause-ok
 returns-in-Complete-clause-ok c = complete_step c.args.context.now _ c.args.state c.in-Complete.field-0 c.args.token.now c.in-Complete.is c.requires
