@@ -4,11 +4,10 @@ use Rattle.std.specs.Prelude.{OnOk}
 use Rattle.std.specs.List.{AllByRecursion}
 use mathlib.Core.List.{map-append}
 use Rattle.vo_spec.specs.Bytes.{string}
-use Rattle.vo_spec.specs.Parts.{stub, inner}
+use Rattle.vo_spec.specs.Parts.{inner}
 use Rattle.vo_spec.specs.Trees.{RowTree}
 use Rattle.vo_spec.specs.Fits.{FitsPart, FitsTree}
 use Rattle.vo_spec.specs.TreeBytes.{tree_bytes, trees_bytes_by, row_encoding}
-use Rattle.row_bytes.specs.Reading.{byte_at, bytes_at}
 use Rattle.row_bytes.specs.Fields.{times, with_front}
 use Rattle.row_bytes.proofs.Rounds.{times_step}
 use Rattle.mb_tree.specs.declared.parts.PartTree.{PartTree}
@@ -61,13 +60,3 @@ level_at (suc levels) bytes lt =
 pub no_level : (bytes : List ℕ) → tree_at 0 bytes ≡ None
 unfolding tree_at
 no_level bytes = refl
-
--- a stub of a tree of some levels
-pub stub_at : (levels : ℕ) (bytes behind rest digest : List ℕ) (byte : ℕ) → 0 < levels → byte_at bytes ≡ Some (byte, behind) → byte ≡ 0 → bytes_at 32 behind ≡ Some (digest, rest) → tree_at levels bytes ≡ Some (stub digest, rest)
-unfolding node_at byte_at
-stub_at levels [] behind rest digest byte lt first is found = absurd (cc)
-stub_at levels (b ∷ bytes) behind rest digest byte lt first is found =
-    let split : ◌≡◌ {A = ℕ × List ℕ} (b, bytes) (byte, behind) = cc in
-    let zero_byte : b ≡ 0 = ap (λ p. p.0) split ∙ is in
-    let same : bytes ≡ behind = ap (λ p. p.1) split in
-    level_at levels (b ∷ bytes) lt ∙ (rw (zero_byte, same, found) refl)

@@ -1,11 +1,11 @@
 //! Reading the entries of leaves: keys, and rows as a digest or as cells.
-ghost use Rattle.std.specs.Prelude.{◌≡◌, [], ◌∷◌, ◌++◌, Some, IfSome, IsNone};
+ghost use Rattle.std.specs.Prelude.{[], ◌∷◌, ◌++◌};
 ghost use Rattle.vo_spec.specs.declared.cells.Cell.TheVariants.{Hidden, Shown};
 ghost use Rattle.vo_spec.specs.declared.cells.RowPart.TheVariants.{Cells, Digest as Closed};
 ghost use Rattle.row_bytes.specs.Reading.{bytes_at};
 ghost use Rattle.row_bytes.specs.Fields.{Found, FoundOr, times};
 ghost use Rattle.batch_format.specs.BatchReading.{any_value_at, one};
-ghost use Rattle.tree_readers.specs.TreeReading.{cell_at, cells_at, count_within, entry_at, key_at, row_at};
+ghost use Rattle.tree_readers.specs.TreeReading.{cell_at, cells_at, count_within, entry_at, key_at, part_entry, row_at};
 
 use row_bytes::{Cursor, ReadFault, take_value};
 use std::alloc::Global;
@@ -25,20 +25,10 @@ pub fn take_count(cursor: &mut Cursor<'_>, least: u8, most: u8) -> Option<u8>
     Some(count)
 }
 
-/// The digest that comes next.
-// Inlined, as the calls below that hand a digest or an entry on: it is then written where it stays.
-#[inline(always)]
-pub fn take_digest(cursor: &mut Cursor<'_>) -> Option<Digest>
-    ensures { Found (λ digest. digest) result cursor.old cursor.new (bytes_at 32 cursor.old) }
-{
-    let bytes = cursor.take_chunk::<32>()?;
-    Some(Digest::new(*bytes))
-}
-
-/// The key or separator that comes next, lent.
+/// The bytes of the key or separator that comes next.
 #[tactic(auto, unfolding(tree_readers::specs::TreeReading::key_at))]
-pub fn take_key<'b>(cursor: &mut Cursor<'b>) -> Option<KeyPart<'b>>
-    ensures { Found (λ key. key) result cursor.old cursor.new (key_at cursor.old) }
+pub fn take_key<'b>(cursor: &mut Cursor<'b>) -> Option<&'b [u8]>
+    ensures { Found (λ key. key.now) result cursor.old cursor.new (key_at cursor.old) }
 {
     let mut ahead = cursor.copy();
     let key = ahead.take_string()?;
@@ -46,7 +36,7 @@ pub fn take_key<'b>(cursor: &mut Cursor<'b>) -> Option<KeyPart<'b>>
         return None;
     }
     *cursor = ahead;
-    Some(KeyPart::lent(key))
+    Some(key)
 }
 
 /// Puts the cell behind others whose digest comes next.
@@ -114,73 +104,88 @@ fn each_cell<'b>(
     Ok(cells)
 }
 
+/// Puts the entry of this key behind others, whose row's digest comes next.
+// Inlined, as what calls it is: most entries of a join's reply are such.
+#[inline(always)]
+fn push_closed<'b>(
+    cursor: &mut Cursor<'b>,
+    key: &'b [u8],
+    entries: &mut Vec<PartEntry<'b>>,
+) -> Result<(), ReadFault>
+    ensures { FoundOr (λ done. entries.new.items) result cursor.old cursor.new
+        (one (λ digest. entries.old.items ++ part_entry key.now (Closed digest) ∷ [])
+        (bytes_at 32) cursor.old) }
+{
+    let mut ahead = cursor.copy();
+    let digest = ahead.take_chunk::<32>().ok_or(ReadFault::BadForm)?;
+    entries.push(PartEntry {
+        key: KeyPart::lent(key),
+        row: RowPart::Digest(Digest::new(*digest)),
+    })?;
+    *cursor = ahead;
+    Ok(())
+}
+
+/// Puts the entry of this key behind others, whose row's cells come next.
 #[tactic(auto, unfolding(tree_readers::specs::TreeReading::cells_at))]
-fn take_cells<'b>(alloc: Global, cursor: &mut Cursor<'b>) -> Result<RowPart<'b>, ReadFault>
-    ensures { FoundOr (λ row. row) result cursor.old cursor.new (one Cells cells_at cursor.old) }
+fn push_open<'b>(
+    alloc: Global,
+    cursor: &mut Cursor<'b>,
+    key: &'b [u8],
+    entries: &mut Vec<PartEntry<'b>>,
+) -> Result<(), ReadFault>
+    ensures { FoundOr (λ done. entries.new.items) result cursor.old cursor.new
+        (one (λ cells. entries.old.items ++ part_entry key.now (Cells cells) ∷ [])
+        cells_at cursor.old) }
 {
     let mut ahead = cursor.copy();
     let count = take_count(&mut ahead, 0, MAX_CELLS as u8).ok_or(ReadFault::BadForm)?;
     let cells = each_cell(alloc, &mut ahead, count)?;
+    entries.push(PartEntry {
+        key: KeyPart::lent(key),
+        row: RowPart::Cells(List::from_vec(cells)),
+    })?;
     *cursor = ahead;
-    Ok(RowPart::Cells(List::from_vec(cells)))
+    Ok(())
 }
 
-#[inline(always)]
-fn take_closed<'b>(cursor: &mut Cursor<'b>) -> Result<RowPart<'b>, ReadFault>
-    ensures { FoundOr (λ row. row) result cursor.old cursor.new
-        (one Closed (bytes_at 32) cursor.old) }
-{
-    match take_digest(cursor) {
-        Some(digest) => Ok(RowPart::Digest(digest)),
-        None => Err(ReadFault::BadForm),
-    }
-}
-
+/// Puts the entry of this key behind others, whose row comes next.
 #[inline(always)]
 #[tactic(auto, unfolding(tree_readers::specs::TreeReading::row_at, row_bytes::specs::Reading::byte_at))]
-fn take_row<'b>(alloc: Global, cursor: &mut Cursor<'b>) -> Result<RowPart<'b>, ReadFault>
-    ensures { FoundOr (λ row. row) result cursor.old cursor.new (row_at cursor.old) }
+fn push_row<'b>(
+    alloc: Global,
+    cursor: &mut Cursor<'b>,
+    key: &'b [u8],
+    entries: &mut Vec<PartEntry<'b>>,
+) -> Result<(), ReadFault>
+    ensures { FoundOr (λ done. entries.new.items) result cursor.old cursor.new
+        (one (λ row. entries.old.items ++ part_entry key.now row ∷ []) row_at cursor.old) }
 {
     let mut ahead = cursor.copy();
-    let row = match ahead.take_byte() {
-        Some(0) => take_closed(&mut ahead)?,
-        Some(1) => take_cells(alloc, &mut ahead)?,
+    match ahead.take_byte() {
+        Some(0) => push_closed(&mut ahead, key, entries)?,
+        Some(1) => push_open(alloc, &mut ahead, key, entries)?,
         _ => return Err(ReadFault::BadForm),
-    };
+    }
     *cursor = ahead;
-    Ok(row)
+    Ok(())
 }
 
-/// The entry that comes next.
+/// Puts the entry that comes next behind others. One with a digest for its row is made where it
+/// stays: most entries of a join's reply are such.
 #[inline(always)]
 #[tactic(auto, unfolding(tree_readers::specs::TreeReading::entry_at))]
-pub fn take_entry<'b>(alloc: Global, cursor: &mut Cursor<'b>) -> Result<PartEntry<'b>, ReadFault>
-    ensures { FoundOr (λ entry. entry) result cursor.old cursor.new (entry_at cursor.old) }
+pub fn push_entry<'b>(
+    alloc: Global,
+    cursor: &mut Cursor<'b>,
+    entries: &mut Vec<PartEntry<'b>>,
+) -> Result<(), ReadFault>
+    ensures { FoundOr (λ done. entries.new.items) result cursor.old cursor.new
+        (one (λ entry. entries.old.items ++ entry ∷ []) entry_at cursor.old) }
 {
     let mut ahead = cursor.copy();
     let key = take_key(&mut ahead).ok_or(ReadFault::BadForm)?;
-    let row = take_row(alloc, &mut ahead)?;
+    push_row(alloc, &mut ahead, key, entries)?;
     *cursor = ahead;
-    Ok(PartEntry { key, row })
-}
-
-/// The entry that comes next, if its row is closed. It is made where it stays: most entries of a
-/// join's reply are such.
-#[inline(always)]
-#[tactic(auto, unfolding(tree_readers::specs::TreeReading::entry_at, tree_readers::specs::TreeReading::row_at, row_bytes::specs::Reading::byte_at))]
-pub fn take_closed_entry<'b>(cursor: &mut Cursor<'b>) -> Option<PartEntry<'b>>
-    ensures taken { IfSome result (λ entry. entry_at cursor.old ≡ Some (entry, cursor.new)) }
-    ensures kept { IsNone result → cursor.new ≡ cursor.old }
-{
-    let mut ahead = cursor.copy();
-    let key = take_key(&mut ahead)?;
-    if ahead.take_byte()? != 0 {
-        return None;
-    }
-    let digest = take_digest(&mut ahead)?;
-    *cursor = ahead;
-    Some(PartEntry {
-        key,
-        row: RowPart::Digest(digest),
-    })
+    Ok(())
 }

@@ -1,5 +1,5 @@
 //! Reading trees, never deeper than a tree may be.
-ghost use Rattle.std.specs.Prelude.{◌≡◌, ℕ, List, ◌-◌, ◌++◌, Some, IfOk, IfSome, IsNone};
+ghost use Rattle.std.specs.Prelude.{◌≡◌, ℕ, List, [], ◌∷◌, ◌-◌, ◌++◌, Some, IfOk};
 ghost use Rattle.vo_spec.specs.Bytes.{IsBytes};
 ghost use Rattle.vo_spec.specs.Fits.{FitsTree, max_levels};
 ghost use Rattle.vo_spec.specs.Parts.{stub};
@@ -12,7 +12,7 @@ ghost use Rattle.mb_tree.specs.View.{part_of};
 ghost use Rattle.tree_readers.specs.TreeReading.{entry_at, inner_at, key_at, leaf_at, node_at, tree_at};
 ghost use Rattle.vo_format.specs.View.{trees_of};
 
-use crate::entry_reading::{take_closed_entry, take_count, take_digest, take_entry, take_key};
+use crate::entry_reading::{push_entry, take_count, take_key};
 use mb_tree::{Children, PartTree};
 use row_bytes::{Cursor, ReadFault};
 use std::alloc::Global;
@@ -35,24 +35,8 @@ pub fn take_tree<'b>(alloc: Global, cursor: &mut Cursor<'b>) -> Result<PartTree<
     take_node(alloc, cursor, MAX_LEVELS as u8 - 1)
 }
 
-/// The tree that comes next, of at most so many levels.
-#[cycle(take_levels)]
-fn take_levels<'b>(
-    alloc: Global,
-    cursor: &mut Cursor<'b>,
-    levels: u8,
-) -> Result<PartTree<'b>, ReadFault>
-    ensures { FoundOr part_of result cursor.old cursor.new (tree_at levels cursor.old) }
-{
-    if levels == 0 {
-        return Err(ReadFault::BadForm);
-    }
-    take_node(alloc, cursor, levels - 1)
-}
-
 /// The node that comes next, whose children have at most so many levels.
 #[tactic(auto, unfolding(tree_readers::specs::TreeReading::node_at, row_bytes::specs::Reading::byte_at))]
-#[cycle(take_levels)]
 fn take_node<'b>(
     alloc: Global,
     cursor: &mut Cursor<'b>,
@@ -73,14 +57,11 @@ fn take_node<'b>(
     Ok(node)
 }
 
-#[inline(always)]
 fn take_stub<'b>(cursor: &mut Cursor<'b>) -> Result<PartTree<'b>, ReadFault>
     ensures { FoundOr part_of result cursor.old cursor.new (one stub (bytes_at 32) cursor.old) }
 {
-    match take_digest(cursor) {
-        Some(digest) => Ok(PartTree::Stub(digest)),
-        None => Err(ReadFault::BadForm),
-    }
+    let digest = cursor.take_chunk::<32>().ok_or(ReadFault::BadForm)?;
+    Ok(PartTree::Stub(Digest::new(*digest)))
 }
 
 #[tactic(auto, unfolding(tree_readers::specs::TreeReading::leaf_at))]
@@ -105,12 +86,9 @@ fn each_entry<'b>(
     let mut ahead = cursor.copy();
     let mut entries = Vec::with_capacity(alloc, usize::from(count))?;
     for _ in 0..count {
-        match take_closed_entry(&mut ahead) {
-            Some(entry) => entries.push(entry)?,
-            None => match take_entry(alloc, &mut ahead) {
-                Ok(entry) => entries.push(entry)?,
-                Err(fault) => return Err(fault),
-            },
+        match push_entry(alloc, &mut ahead, &mut entries) {
+            Ok(()) => {}
+            Err(fault) => return Err(fault),
         }
     }
     *cursor = ahead;
@@ -119,7 +97,7 @@ fn each_entry<'b>(
 
 /// An inner node whose children have at most so many levels.
 #[tactic(auto, unfolding(tree_readers::specs::TreeReading::inner_at))]
-#[cycle(take_levels)]
+#[cycle(take_inner)]
 fn take_inner<'b>(
     alloc: Global,
     cursor: &mut Cursor<'b>,
@@ -150,7 +128,7 @@ fn each_key<'b>(
     let mut keys = Vec::with_capacity(alloc, usize::from(count))?;
     for _ in 0..count {
         match take_key(&mut ahead) {
-            Some(key) => keys.push(key)?,
+            Some(key) => keys.push(KeyPart::lent(key))?,
             None => return Err(ReadFault::BadForm),
         }
     }
@@ -158,7 +136,7 @@ fn each_key<'b>(
     Ok(keys)
 }
 
-#[cycle(take_levels)]
+#[cycle(take_inner)]
 fn each_child<'b>(
     alloc: Global,
     cursor: &mut Cursor<'b>,
@@ -171,32 +149,70 @@ fn each_child<'b>(
     let mut ahead = cursor.copy();
     let mut children = Vec::with_capacity(alloc, usize::from(count))?;
     for _ in 0..count {
-        match take_closed_child(&mut ahead, levels) {
-            Some(digest) => children.push(PartTree::Stub(digest))?,
-            None => match take_levels(alloc, &mut ahead, levels) {
-                Ok(child) => children.push(child)?,
-                Err(fault) => return Err(fault),
-            },
+        match push_child(alloc, &mut ahead, levels, &mut children) {
+            Ok(()) => {}
+            Err(fault) => return Err(fault),
         }
     }
     *cursor = ahead;
     Ok(children)
 }
 
-/// The stub that comes next, if it is one. It is made where it stays: most children are stubs.
+/// Puts the child that comes next behind others, of at most so many levels.
+// Inlined, as what it calls for a stub is: most children are stubs.
 #[inline(always)]
-fn take_closed_child(cursor: &mut Cursor<'_>, levels: u8) -> Option<Digest>
-    ensures taken { IfSome result (λ digest. tree_at levels cursor.old
-        ≡ Some (stub digest, cursor.new)) }
-    ensures kept { IsNone result → cursor.new ≡ cursor.old }
+#[cycle(take_inner)]
+fn push_child<'b>(
+    alloc: Global,
+    cursor: &mut Cursor<'b>,
+    levels: u8,
+    children: &mut Vec<PartTree<'b>>,
+) -> Result<(), ReadFault>
+    ensures { FoundOr (λ done. trees_of children.new) result cursor.old cursor.new
+        (one (λ child. trees_of children.old ++ child ∷ []) (tree_at levels) cursor.old) }
+{
+    if levels == 0 {
+        return Err(ReadFault::BadForm);
+    }
+    push_node(alloc, cursor, levels - 1, children)
+}
+
+/// Puts the node that comes next behind others, whose children have at most so many levels. A stub
+/// is made where it stays.
+#[inline(always)]
+#[tactic(auto, unfolding(tree_readers::specs::TreeReading::node_at, row_bytes::specs::Reading::byte_at))]
+#[cycle(take_inner)]
+fn push_node<'b>(
+    alloc: Global,
+    cursor: &mut Cursor<'b>,
+    levels: u8,
+    nodes: &mut Vec<PartTree<'b>>,
+) -> Result<(), ReadFault>
+    ensures { FoundOr (λ done. trees_of nodes.new) result cursor.old cursor.new
+        (one (λ node. trees_of nodes.old ++ node ∷ []) (node_at (tree_at levels)) cursor.old) }
 {
     let mut ahead = cursor.copy();
-    if levels == 0 || ahead.take_byte()? != 0 {
-        return None;
+    match ahead.take_byte() {
+        Some(0) => push_stub(&mut ahead, nodes)?,
+        Some(1) => nodes.push(take_leaf(alloc, &mut ahead)?)?,
+        Some(2) => nodes.push(take_inner(alloc, &mut ahead, levels)?)?,
+        _ => return Err(ReadFault::BadForm),
     }
-    let digest = take_digest(&mut ahead)?;
     *cursor = ahead;
-    Some(digest)
+    Ok(())
+}
+
+/// Puts the stub behind others whose digest comes next.
+#[inline(always)]
+fn push_stub<'b>(cursor: &mut Cursor<'b>, nodes: &mut Vec<PartTree<'b>>) -> Result<(), ReadFault>
+    ensures { FoundOr (λ done. trees_of nodes.new) result cursor.old cursor.new
+        (one (λ digest. trees_of nodes.old ++ stub digest ∷ []) (bytes_at 32) cursor.old) }
+{
+    let mut ahead = cursor.copy();
+    let digest = ahead.take_chunk::<32>().ok_or(ReadFault::BadForm)?;
+    nodes.push(PartTree::Stub(Digest::new(*digest)))?;
+    *cursor = ahead;
+    Ok(())
 }
 
 /// Trees that come next, so many of them.

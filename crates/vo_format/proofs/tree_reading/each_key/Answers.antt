@@ -13,5 +13,5 @@ returns-in-None c =
 pub loop-preserved : goal.loop-preserved
 loop-preserved c =
     let more : c.loop.counter < c.args.count = omega arith in
-    rw c.in_ok-push-in-Some.ensures.items
-    (times_step key_at c.loop.keys.items c.args.count c.loop.counter c.loop.ahead c.in-Some.key c.take_key.new.cursor more c.in-Some.ensures ∙ c.loop.invariant)
+    rw (c.in_ok-push-in-Some.ensures.items, c.lent.ensures)
+    (times_step key_at c.loop.keys.items c.args.count c.loop.counter c.loop.ahead c.in-Some.key.now c.take_key.new.cursor more c.in-Some.ensures ∙ c.loop.invariant)

@@ -2,19 +2,19 @@ use Rattle.std.proofs.Common.{◌≡◌, ◌+◌, ◌-◌, ◌*◌}
 use Rattle.row_bytes.specs.Fields.{times, with_front}
 use Rattle.tree_readers.specs.TreeReading.{tree_at}
 use Rattle.vo_format.specs.View.{trees_of}
-use Rattle.vo_format.proofs.tree_reading.+take_levels.Given as goal
-
-abbrev pub decreases-take_levels : goal.decreases-take_levels
-decreases-take_levels l = 4 * l.levels
-
-abbrev pub decreases-take_node : goal.decreases-take_node
-decreases-take_node l = 4 * l.levels + 3
+use Rattle.vo_format.proofs.tree_reading.+take_inner.Given as goal
 
 abbrev pub decreases-take_inner : goal.decreases-take_inner
 decreases-take_inner l = 4 * l.levels + 2
 
 abbrev pub decreases-each_child : goal.decreases-each_child
 decreases-each_child l = 4 * l.levels + 1
+
+abbrev pub decreases-push_child : goal.decreases-push_child
+decreases-push_child l = 4 * l.levels
+
+abbrev pub decreases-push_node : goal.decreases-push_node
+decreases-push_node l = 4 * l.levels + 3
 
 -- those so far and those that are left are all of them
 abbrev pub invariant-each_child-loop : goal.invariant-each_child-loop
