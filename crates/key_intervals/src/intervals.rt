@@ -26,6 +26,7 @@ pub fn key_lt(a: &[u8], b: &[u8]) -> bool
 }
 
 /// Whether the key is in the interval.
+// Inlined: asked of each entry.
 #[inline(always)]
 pub fn in_interval(interval: &Interval, key: &[u8]) -> bool
     ensures { result ≡ is_in interval.now key.now }
@@ -109,6 +110,7 @@ fn ends_above(low: &Bound, upper: Option<&[u8]>) -> bool
     }
 }
 
+// Inlined as what calls it is: asked of each need at each child.
 #[inline(always)]
 fn begins_below(high: &Bound, lower: Option<&[u8]>) -> bool
     ensures { result ≡ begins_below high.now (option_copied lower.entry) }

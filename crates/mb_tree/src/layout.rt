@@ -94,6 +94,7 @@ fn write_items<W: PreimageWriter, I: NodeItem>(writer: &mut W, items: &[I]) -> R
 }
 
 /// A key or separator stands behind its length.
+// Inlined: asked of each entry and each separator.
 #[inline(always)]
 pub fn write_key<W: PreimageWriter>(writer: &mut W, key: &[u8]) -> Result<(), W::Fault>
     requires { FitsKey key.now }

@@ -21,6 +21,7 @@ pub struct NodeHasher {
 
 impl NodeHasher {
     /// A hasher of no bytes.
+    // Inlined: each node that is hashed has one.
     #[inline(always)]
     pub fn new() -> NodeHasher
         ensures { HoldsNode result [] }
@@ -52,6 +53,7 @@ impl NodeHasher {
     }
 
     /// The digest of all pieces.
+    // Inlined: asked of each node that is hashed.
     #[inline(always)]
     pub fn end(self) -> Digest
         ensures { (bytes : List ℕ) → HoldsNode self bytes → result ≡ sha256 bytes }
