@@ -46,7 +46,8 @@ impl HashedCells {
     }
 
     pub fn digest(&self) -> Digest
-        ensures { result ≡ row_digest_of (whole_row self.now) }
+        ensures value { result ≡ row_digest_of (whole_row self.now) }
+        ensures fits { FitsCells self.now }
     {
         self.digest
     }

@@ -16,10 +16,9 @@ impl NodeItem for TreeEntry {
     ghost Fits = { FitsRow };
 
     fn write_to<W: PreimageWriter>(&self, writer: &mut W) -> Result<(), W::Fault> {
-        let cells = self.cells();
-        let _values = cells.values();
+        let digest = self.cells().digest();
         write_key(writer, self.key().as_bytes())?;
-        writer.write(cells.digest().as_bytes())
+        writer.write(digest.as_bytes())
     }
 }
 
