@@ -3,4 +3,5 @@ pub mod BoundLaws
 pub mod MeaningLaws
 pub mod Naming
 pub mod Narrow
+pub mod NumberLaws
 pub mod SourceLaws

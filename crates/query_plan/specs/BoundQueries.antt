@@ -1,12 +1,14 @@
 -- Queries whose references are columns by their numbers, and what binding makes of a query by
 -- names.
 use Rattle.std.specs.Prelude.{List, [], ◌∷◌, ◌++◌, Option, option_map}
+use Rattle.std.specs.List.{AllByRecursion}
 use Rattle.std.specs.Option.{option_map_or}
+use Rattle.vo_spec.specs.declared.queries.Ref.{Ref}
 use Rattle.vo_spec.specs.declared.queries.Operand.{Operand}
 use Rattle.vo_spec.specs.declared.queries.Operand.TheVariants.{Ref as Column, Literal}
 use Rattle.vo_spec.specs.declared.queries.Items.{Items}
 use Rattle.vo_spec.specs.declared.queries.Join.{Join}
-use Rattle.vo_spec.specs.Conditions.{Condition, Conditions, every, some, negated, test, none, more, Query}
+use Rattle.vo_spec.specs.Conditions.{Condition, Conditions, every, some, negated, test, none, more, Query, FitsOperand}
 use Rattle.vo_spec.specs.Results.{BoundSource, ColumnPlace, place_of, shown_places}
 use Rattle.query_plan.specs.BoundConditions.{BoundTerm, column, literal, BoundCondition, BoundConditions, conjunction, disjunction, negation, comparison, no_parts, part_and, condition_places}
 
@@ -45,6 +47,10 @@ bound_query ss q = record {
   join = option_map (bound_join ss) q.join;
   condition = option_map (bound_condition ss) q.condition;
 }
+
+-- the numbers that comparisons compare with are of 64 bits
+abbrev pub FitComparisons : List (Ref × Operand) → Type 0
+FitComparisons = AllByRecursion (λ (c : Ref × Operand). FitsOperand c.1)
 
 -- the columns that a query speaks of, but for those of `*`
 abbrev pub join_columns : ColumnPlace × ColumnPlace → List ColumnPlace

@@ -1,5 +1,6 @@
 -- Bound conditions and queries as the program holds them.
 use Rattle.std.specs.Prelude.{List, [], ◌∷◌, map, option_map}
+use Rattle.vo_spec.specs.Lent.{value_of}
 use Rattle.vo_spec.specs.Results.{ColumnPlace}
 use Rattle.query_binding.specs.HeldSources.{bound_sources_seen, place_seen}
 use Rattle.query_plan.specs.declared.bound_cond.BoundOperand.{BoundOperand}
@@ -14,7 +15,7 @@ use Rattle.query_plan.specs.BoundQueries.{BoundQuery}
 
 abbrev pub term_seen : BoundOperand → BoundTerm
 term_seen (Column p) = column (place_seen p)
-term_seen (Literal v) = literal v.now
+term_seen (Literal v) = literal (value_of v)
 
 abbrev pub parts_seen : List BoundCondition → BoundConditions
 parts_seen [] = no_parts

@@ -1,10 +1,11 @@
 //! Queries bound to the tables that they are asked of.
-ghost use Rattle.std.specs.Prelude.{◌≡◌, map, option_map, IfOk};
-ghost use Rattle.vo_spec.specs.Conditions.{conditions, condition_of, query_of};
+ghost use Rattle.std.specs.Prelude.{◌≡◌, [], map, option_map, IfOk};
+ghost use Rattle.std.specs.Option.{option_map_or};
+ghost use Rattle.vo_spec.specs.Conditions.{FitsOperand, FitsQuery, comparisons, comparisons_in, conditions, condition_of, query_of};
 ghost use Rattle.vo_spec.specs.Results.{bound_sources as bound_sources_of, binding_fault};
 ghost use Rattle.query_binding.specs.HeldSources.{bound_sources_seen};
 ghost use Rattle.query_binding.specs.Binding.{PassesBinding};
-ghost use Rattle.query_plan.specs.BoundQueries.{bound_term, bound_condition, bound_conditions, bound_join, bound_query};
+ghost use Rattle.query_plan.specs.BoundQueries.{FitComparisons, bound_term, bound_condition, bound_conditions, bound_join, bound_query};
 ghost use Rattle.query_plan.specs.BoundViews.{term_seen, parts_seen, condition_seen, join_seen, query_seen};
 
 use crate::bound_cond::{BoundCond, BoundOperand};
@@ -14,11 +15,13 @@ use std::alloc::{AllocError, Global};
 use vo_spec::{Cond, Join, List, Operand, QueryText};
 
 fn bind_operand<'q>(bound_sources: &BoundSources<'_>, operand: &'q Operand) -> BoundOperand<'q>
-    ensures { term_seen result ≡ bound_term (bound_sources_seen bound_sources.now) operand.now }
+    ensures value { term_seen result
+        ≡ bound_term (bound_sources_seen bound_sources.now) operand.now }
+    ensures fits { FitsOperand operand.now }
 {
     match operand {
         Operand::Ref(reference) => BoundOperand::Column(bound_sources.place_of(reference)),
-        Operand::Literal(value) => BoundOperand::Literal(value),
+        Operand::Literal(value) => BoundOperand::Literal(value.as_ref()),
     }
 }
 
@@ -28,8 +31,9 @@ fn bind_condition<'q>(
     bound_sources: &BoundSources<'_>,
     cond: &'q Cond,
 ) -> Result<BoundCond<'q>, AllocError>
-    ensures { IfOk result (λ bound. condition_seen bound
+    ensures value { IfOk result (λ bound. condition_seen bound
         ≡ bound_condition (bound_sources_seen bound_sources.now) (condition_of cond.now)) }
+    ensures fits { IfOk result (λ bound. FitComparisons (comparisons (condition_of cond.now))) }
 {
     match cond {
         Cond::All(parts) => {
@@ -58,9 +62,11 @@ fn bind_parts<'q>(
     bound_sources: &BoundSources<'_>,
     parts: &'q [Cond],
 ) -> Result<List<BoundCond<'q>>, AllocError>
-    ensures { IfOk result (λ bound. parts_seen (map condition_seen bound)
+    ensures value { IfOk result (λ bound. parts_seen (map condition_seen bound)
         ≡ bound_conditions (bound_sources_seen bound_sources.now)
         (conditions (map condition_of parts.now))) }
+    ensures fits { IfOk result (λ bound.
+        FitComparisons (comparisons_in (conditions (map condition_of parts.now)))) }
 {
     let mut bound = Vec::with_capacity(alloc, parts.len())?;
     for part in parts {
@@ -74,9 +80,11 @@ fn bind_where<'q>(
     bound_sources: &BoundSources<'_>,
     cond: &'q Option<Cond>,
 ) -> Result<Option<BoundCond<'q>>, AllocError>
-    ensures { IfOk result (λ bound. option_map condition_seen bound
+    ensures value { IfOk result (λ bound. option_map condition_seen bound
         ≡ option_map (bound_condition (bound_sources_seen bound_sources.now))
         (option_map condition_of cond.now)) }
+    ensures fits { IfOk result (λ bound.
+        FitComparisons (option_map_or comparisons (option_map condition_of cond.now) [])) }
 {
     match cond {
         Some(cond) => Ok(Some(bind_condition(alloc, bound_sources, cond)?)),
@@ -107,8 +115,9 @@ fn bind_query<'q, S: Schemas>(
 ) -> Result<Query<'q>, AllocError>
     requires { bound_sources_seen bound_sources
         ≡ bound_sources_of (S.table_headers schemas.now) (query_of text.now) }
-    ensures { IfOk result (λ query. query_seen query
+    ensures value { IfOk result (λ query. query_seen query
         ≡ bound_query (bound_sources_seen bound_sources.entry) (query_of text.now)) }
+    ensures fits { IfOk result (λ query. FitsQuery (query_of text.now)) }
 {
     let output = shown_places(alloc, &bound_sources, &text.items)?;
     let join = bind_join(&bound_sources, &text.join);
@@ -133,6 +142,9 @@ pub fn bind<'q, S: Schemas>(
     ensures value { IfOk result (λ query. query_seen query
         ≡ bound_query (bound_sources_of (S.table_headers schemas.now) (query_of text.now))
         (query_of text.now)) }
+
+    // The numbers that it compares with are of 64 bits.
+    ensures fits { IfOk result (λ query. FitsQuery (query_of text.now)) }
 
     // No test finds a fault, or the fault is the first that they find.
     ensures fault { PassesBinding result

@@ -1,12 +1,12 @@
 //! Conditions whose references are columns by their numbers.
 use query_binding::ColumnPlace;
-use vo_spec::{Cmp, List, Value};
+use vo_spec::{Cmp, List, ValueRef};
 
 /// The right side of a comparison.
 #[derive(Clone, Copy)]
 pub enum BoundOperand<'q> {
     Column(ColumnPlace),
-    Literal(&'q Value),
+    Literal(ValueRef<'q>),
 }
 
 /// A condition that is bound to the sources of its query.

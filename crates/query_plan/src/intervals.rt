@@ -1,11 +1,12 @@
 //! Intervals of keys: those that a comparison lets through, and what two of them share.
 ghost use Rattle.std.specs.Prelude.{◌≡◌, IfOk};
+ghost use Rattle.vo_spec.specs.Lent.{value_of};
 ghost use Rattle.vo_spec.specs.Values.{key_lt as is_less, key_of as key_bytes};
 ghost use Rattle.vo_spec.specs.Needs.{all_keys, keys_that, higher, lower, intersection};
 
-use row_bytes::key_of;
+use row_bytes::{key_of, own_value};
 use std::alloc::{AllocError, Global};
-use vo_spec::{Bound, Cmp, Interval, Key, Value};
+use vo_spec::{Bound, Cmp, Interval, Key, ValueRef};
 
 fn key_lt(a: &Key, b: &Key) -> bool
     ensures { result ≡ is_less a.now b.now }
@@ -24,10 +25,11 @@ pub(crate) fn all_keys() -> Interval
 }
 
 /// The keys of the values that compare so with this one.
-pub(crate) fn keys_that(alloc: Global, op: Cmp, value: &Value) -> Result<Interval, AllocError>
-    ensures { IfOk result (λ interval. interval ≡ keys_that op (key_bytes value.now)) }
+pub(crate) fn keys_that(alloc: Global, op: Cmp, value: ValueRef<'_>) -> Result<Interval, AllocError>
+    ensures { IfOk result (λ interval. interval
+        ≡ keys_that op (key_bytes (value_of value.entry))) }
 {
-    let key = key_of(alloc, value)?;
+    let key = key_of(alloc, &own_value(alloc, value)?)?;
     let (low, high) = match op {
         Cmp::Eq => (Bound::Inclusive(key.copy(alloc)?), Bound::Inclusive(key)),
         Cmp::Ne => (Bound::Absent, Bound::Absent),

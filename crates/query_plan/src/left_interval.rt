@@ -27,7 +27,7 @@ fn comparison_interval(
         ≡ comparison_interval key (place_seen left) op (term_seen right.now)) }
 {
     match right {
-        BoundOperand::Literal(value) if is_left_key(key, left) => keys_that(alloc, op, value),
+        BoundOperand::Literal(value) if is_left_key(key, left) => keys_that(alloc, op, *value),
         BoundOperand::Literal(_) | BoundOperand::Column(_) => Ok(all_keys()),
     }
 }

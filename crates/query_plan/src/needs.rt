@@ -1,7 +1,7 @@
 //! What a left row needs of the right tree, and whether it needs anything.
 ghost use Rattle.std.specs.Prelude.{◌≡◌, ◌≤◌, ◌↔◌, [], ◌∷◌, length, IfOk, IsTrue};
 ghost use Rattle.vo_spec.specs.Batches.{max_columns};
-ghost use Rattle.vo_spec.specs.Results.{schema_at, place_value};
+ghost use Rattle.vo_spec.specs.Results.{schema_at};
 ghost use Rattle.query_binding.specs.HeldSources.{bound_sources_seen, place_seen};
 ghost use Rattle.query_plan.specs.BoundConditions.{all_hold};
 ghost use Rattle.query_plan.specs.BoundViews.{join_seen};
@@ -15,9 +15,8 @@ use crate::row_views::RowView;
 use crate::rows::{LeftRow, PlaceValues};
 use crate::truths::all_hold;
 use query_binding::{BoundSources, ColumnPlace};
-use row_bytes::own_value;
 use std::alloc::{AllocError, Global};
-use vo_spec::{Cmp, MAX_COLUMNS, Need, Value};
+use vo_spec::{Cmp, MAX_COLUMNS, Need};
 
 /// Whether the source of this number has no more columns than a table may have.
 pub fn is_narrow(bound_sources: &BoundSources<'_>, bound_source: usize) -> bool
@@ -49,15 +48,6 @@ fn left_column(join: BoundJoin) -> ColumnPlace
     }
 }
 
-/// The value by which a left row finds its right row.
-fn join_value<L: RowView>(alloc: Global, join: BoundJoin, left: &L) -> Result<Value, AllocError>
-    ensures { IfOk result (λ value. value
-        ≡ place_value (L.row_view left.now ∷ []) (left_column (join_seen join))) }
-{
-    let rows = LeftRow { left };
-    own_value(alloc, rows.value(left_column(join)))
-}
-
 /// What the query needs of the right tree for this left row: the row whose key is ON's value.
 pub fn right_need<L: RowView>(
     alloc: Global,
@@ -68,8 +58,8 @@ pub fn right_need<L: RowView>(
     ensures { IfOk result (λ need. need
         ≡ right_need_of (plan_seen plan.now) (join_seen join) (L.row_view left.now)) }
 {
-    let value = join_value(alloc, join, left)?;
-    let interval = keys_that(alloc, Cmp::Eq, &value)?;
+    let rows = LeftRow { left };
+    let interval = keys_that(alloc, Cmp::Eq, rows.value(left_column(join)))?;
     let columns = plan.right_cells.share()?;
     Ok(Need { interval, columns })
 }

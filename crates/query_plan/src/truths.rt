@@ -30,7 +30,7 @@ fn operand_value<'r, V: PlaceValues>(operand: &'r BoundOperand<'r>, rows: &'r V)
 {
     match operand {
         BoundOperand::Column(place) => rows.value(*place),
-        BoundOperand::Literal(value) => value.as_ref(),
+        BoundOperand::Literal(value) => *value,
     }
 }
 
