@@ -1,12 +1,13 @@
 -- The tests of a reply in groups, and what is shown to a query that binds.
-use Rattle.std.specs.Prelude.{ℕ, List, [], ◌∷◌, map, zip, Option}
+use Rattle.std.specs.Prelude.{◌≡◌, ℕ, List, [], ◌∷◌, map, zip, Option, None}
 use Rattle.vo_spec.specs.declared.checks.CheckFault.{CheckFault}
 use Rattle.vo_spec.specs.declared.needs.Need.{Need}
 use Rattle.vo_spec.specs.declared.queries.Outcome.{Outcome}
 use Rattle.vo_spec.specs.declared.queries.Outcome.TheVariants.{Rows}
 use Rattle.vo_spec.specs.Firsts.{first_some}
-use Rattle.vo_spec.specs.Conditions.{Query}
-use Rattle.vo_spec.specs.Results.{header}
+use Rattle.vo_spec.specs.Conditions.{Query, FitsQuery}
+use Rattle.vo_spec.specs.Results.{binding_fault, header}
+use Rattle.vo_spec.specs.Records.{table_headers}
 use Rattle.vo_spec.specs.Needs.{tables_used}
 use Rattle.vo_spec.specs.Replies.{Reply}
 use Rattle.vo_spec.specs.Trees.{RowTree}
@@ -47,3 +48,7 @@ proof_fault q r = first_some
     ∷ missing_fault q r
     ∷ surplus_fault q r
     ∷ [])
+
+-- where the query binds, the numbers that it compares with are of 64 bits
+abbrev pub FitsWhereBound : Query → Reply → Type 0
+FitsWhereBound q r = binding_fault (table_headers r.catalog) q ≡ None → FitsQuery q

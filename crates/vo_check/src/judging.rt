@@ -1,5 +1,5 @@
 //! What a reply, once read, answers a query.
-ghost use Rattle.std.specs.Prelude.{◌≡◌, ◌≤◌, ◌⊎◌, length};
+ghost use Rattle.std.specs.Prelude.{◌≡◌, ◌≤◌, ◌⊎◌, length, IfOk};
 ghost use Rattle.vo_spec.specs.Conditions.{query_of};
 ghost use Rattle.vo_spec.specs.Records.{table_headers};
 ghost use Rattle.vo_spec.specs.Replies.{FitsReply};
@@ -13,7 +13,7 @@ ghost use Rattle.query_plan.specs.Plans.{plan_of};
 ghost use Rattle.query_plan.specs.PlanViews.{plan_seen};
 ghost use Rattle.vo_format.specs.View.{reply_of};
 ghost use Rattle.vo_check.specs.Testing.{GivesIfPassed, needs_fault};
-ghost use Rattle.vo_check.specs.Judging.{needed_for, shown_for, bound_fault, proof_fault};
+ghost use Rattle.vo_check.specs.Judging.{FitsWhereBound, needed_for, shown_for, bound_fault, proof_fault};
 
 use crate::head_faults::test_head;
 use crate::need_faults::test_needs;
@@ -100,8 +100,10 @@ fn judge_trees<'q>(
     reply: &'q Reply<'_>,
 ) -> Result<Outcome, CheckFault>
     requires { FitsReply (reply_of reply.now) }
-    ensures { let q = query_of query.now in let r = reply_of reply.now in
+    ensures outcome { let q = query_of query.now in let r = reply_of reply.now in
         GivesIfPassed result (proof_fault q r) (seen_outcome q r.catalog r.trees) }
+    ensures numbers { IfOk result (λ outcome.
+        FitsWhereBound (query_of query.now) (reply_of reply.now)) }
 {
     match bind(alloc, &reply.catalog, query) {
         Ok(query) => judge_bound(alloc, &query, reply),
@@ -119,9 +121,11 @@ fn answer_of(
     reply: &Reply<'_>,
 ) -> Result<Answer, CheckFault>
     requires { FitsReply (reply_of reply.now) }
-    ensures { let q = query_of query.now in let r = reply_of reply.now in
+    ensures answer { let q = query_of query.now in let r = reply_of reply.now in
         GivesIfPassed result (check_fault key.now least q r)
         (record { version = r.rec.version; outcome = seen_outcome q r.catalog r.trees }) }
+    ensures numbers { IfOk result (λ answer.
+        FitsWhereBound (query_of query.now) (reply_of reply.now)) }
 {
     match test_head(key, least, &reply.rec, reply.signature, &reply.catalog) {
         Ok(()) => {},
@@ -147,8 +151,12 @@ pub fn judge(
     reply: &Reply<'_>,
 ) -> Result<Answer, CheckFault>
     requires { FitsReply (reply_of reply.now) }
-    ensures { (result ≡ Err CheckFault.Memory)
+    ensures answers { (result ≡ Err CheckFault.Memory)
         ⊎ (result ≡ answer_to key.now least (query_of query.now) (reply_of reply.now)) }
+
+    // A query that binds was seen to compare with numbers of 64 bits.
+    ensures numbers { IfOk result (λ answer.
+        FitsWhereBound (query_of query.now) (reply_of reply.now)) }
 {
     answer_of(alloc, key, least, query, reply)
 }

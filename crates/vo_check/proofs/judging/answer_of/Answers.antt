@@ -8,19 +8,19 @@ use Rattle.vo_check.specs.Judging.{proof_fault}
 use Rattle.vo_check.proofs.ReplyTests.{refused_head, left_to_trees}
 use Rattle.vo_check.proofs.judging.answer_of.Goals as goal
 
-pub returns-in-Err : goal.returns-in-Err
-returns-in-Err c = refused_head c.args.key.now c.args.least (query_of c.args.query.now) (reply_of c.args.reply.now) c.in-Err.fault c.in-Err.ensures
+pub returns-in-Err-clause-answer : goal.returns-in-Err-clause-answer
+returns-in-Err-clause-answer c = refused_head c.args.key.now c.args.least (query_of c.args.query.now) (reply_of c.args.reply.now) c.in-Err.fault c.in-Err.ensures
 
-pub returns-in-Ok-judge_trees : goal.returns-in-Ok-judge_trees
-returns-in-Ok-judge_trees c =
+pub returns-in-Ok-judge_trees-clause-answer : goal.returns-in-Ok-judge_trees-clause-answer
+returns-in-Ok-judge_trees-clause-answer c =
     let q = query_of c.args.query.now in
     let r = reply_of c.args.reply.now in
     let left : check_fault c.args.key.now c.args.least q r ≡ proof_fault q r = left_to_trees c.args.key.now c.args.least q r c.in-Ok.ensures in
-    (left ∙ c.in-Ok-judge_trees.ensures.0, ap (λ (o : Outcome). let a : Answer = record { version = r.rec.version; outcome = o } in a) c.in-Ok-judge_trees.ensures.1)
+    (left ∙ c.in-Ok-judge_trees.ensures.outcome.0, ap (λ (o : Outcome). let a : Answer = record { version = r.rec.version; outcome = o } in a) c.in-Ok-judge_trees.ensures.outcome.1)
 
-pub returns-in-Err-judge_trees : goal.returns-in-Err-judge_trees
-returns-in-Err-judge_trees c =
+pub returns-in-Err-judge_trees-clause-answer : goal.returns-in-Err-judge_trees-clause-answer
+returns-in-Err-judge_trees-clause-answer c =
     let q = query_of c.args.query.now in
     let r = reply_of c.args.reply.now in
     let left : check_fault c.args.key.now c.args.least q r ≡ proof_fault q r = left_to_trees c.args.key.now c.args.least q r c.in-Ok.ensures in
-    rw left c.in-Err-judge_trees.ensures
+    rw left c.in-Err-judge_trees.ensures.outcome

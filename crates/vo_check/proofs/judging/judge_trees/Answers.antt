@@ -25,8 +25,8 @@ pub judge_bound-requires-clause-right : goal.judge_bound-requires-clause-right
 judge_bound-requires-clause-right c =
     subst few_right (sym c.in-Ok.ensures.value) (bound_sources_narrow c.args.reply.now.catalog c.requires.catalog (query_of c.args.query.now) 1)
 
-pub returns-in-Ok : goal.returns-in-Ok
-returns-in-Ok c =
+pub returns-in-Ok-clause-outcome : goal.returns-in-Ok-clause-outcome
+returns-in-Ok-clause-outcome c =
     let q = query_of c.args.query.now in
     let r = reply_of c.args.reply.now in
     bound_same q r c.in-Ok.ensures.fault c.judge_bound.result
