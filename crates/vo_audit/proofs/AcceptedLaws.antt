@@ -16,6 +16,7 @@ use Rattle.vo_spec.specs.Checks.{key_fault, leaf_fault, signature_fault, age_fau
 use Rattle.vo_spec.specs.Audits.{AuditOf}
 use Rattle.owner_roots.specs.Owners.{IsOwned, IsBadAt, OwnedAuditOf}
 use Rattle.vo_laws.proofs.JoinLaws.{is_bytes}
+use Rattle.vo_check.specs.Judging.{FitsWhereBound}
 use Rattle.vo_audit.specs.Auditing.{HasPassed, AuditsReply, audit_fault, seen_answer}
 use Rattle.vo_audit.specs.Showing.{AreShown, Shows, ShowsOf}
 use Rattle.std.specs.Prelude.{◌≤◌, IfOk}
@@ -46,9 +47,9 @@ pub record IsAccepted (q : Query) (r : Reply) (answer : Answer) : Type 0 where
   pub passed : HasPassed q r
   pub answer_is : answer ≡ seen_answer q r
 
-pub accepted : (key : List ℕ) (q : Query) (r : Reply) (answer : Answer) → answer_to key 0 q r ≡ Ok answer → IsAccepted q r answer
+pub accepted : (key : List ℕ) (q : Query) (r : Reply) (answer : Answer) → FitsWhereBound q r → answer_to key 0 q r ≡ Ok answer → IsAccepted q r answer
 unfolding answer_to check_fault
-accepted key q r answer e =
+accepted key q r answer numbers e =
     let all = unless_ok (check_fault key 0 q r) (seen_answer q r) answer e in
     let none = ten_pass (key_fault key r) (leaf_fault key r) (signature_fault key r) (age_fault 0 r) (catalog_fault r) (count_fault q r) (shape_fault q r)
     (first_some (map root_fault (trees_of q r))) (missing_fault q r) (surplus_fault q r) all.0 in
@@ -58,6 +59,7 @@ accepted key q r answer e =
         count = eqb-true (length r.trees) (length (tables_wanted q r.catalog)) (passes (length r.trees == length (tables_wanted q r.catalog)) _ none.1);
         roots = none.2;
         complete = none.3;
+        numbers = numbers;
       };
       answer_is = all.1;
     }
@@ -101,6 +103,6 @@ unfolding AuditOf IsBadAt
 told_bad key journal bytes q index answer bad is = inr (subst (OwnedAuditOf key journal q bytes) (sym is) bad)
 
 -- an answer that a client gives
-pub judged : (key : List ℕ) (q : Query) (r : Reply) (answer : Answer) → (Ok answer ≡ Err check.Memory) ⊎ (Ok answer ≡ answer_to key 0 q r) → IsAccepted q r answer
-judged key q r answer (inl e) = absurd (cc)
-judged key q r answer (inr e) = accepted key q r answer (sym e)
+pub judged : (key : List ℕ) (q : Query) (r : Reply) (answer : Answer) → FitsWhereBound q r → (Ok answer ≡ Err check.Memory) ⊎ (Ok answer ≡ answer_to key 0 q r) → IsAccepted q r answer
+judged key q r answer numbers (inl e) = absurd (cc)
+judged key q r answer numbers (inr e) = accepted key q r answer numbers (sym e)

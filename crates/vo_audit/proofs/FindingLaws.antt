@@ -1,17 +1,20 @@
 -- What is found where a fact fails.
-use Rattle.std.proofs.Common.{◌≡◌, ◌≢◌, ℕ, ◌∷◌, List, true, false, Option, Some, None, Result, Ok, Err, is_some, ap, ◌∙◌}
+use Rattle.std.proofs.Common.{◌≡◌, ◌≢◌, ℕ, ◌∷◌, List, true, false, map, Option, Some, None, Result, Ok, Err, is_some, refl, sym, ap, ◌∙◌}
 use Rattle.std.specs.Prelude.{IfOk}
 use Rattle.vo_spec.specs.declared.records.Catalog.{Catalog}
 use Rattle.vo_spec.specs.declared.checks.Answer.{Answer}
+use Rattle.vo_spec.specs.declared.queries.QueryFault.{QueryFault}
 use Rattle.vo_spec.specs.declared.tables.Table.{Table}
 use Rattle.vo_spec.specs.Collides.{Collides}
-use Rattle.vo_spec.specs.Conditions.{Query, FitsQuery}
-use Rattle.vo_spec.specs.Results.{result}
-use Rattle.vo_spec.specs.Records.{FitsCatalog, catalog_bytes, catalog_digest}
+use Rattle.vo_spec.specs.Conditions.{Query}
+use Rattle.vo_spec.specs.Results.{binding_fault, result}
+use Rattle.vo_spec.specs.Tables.{table_header_of}
+use Rattle.vo_spec.specs.Records.{FitsCatalog, catalog_bytes, catalog_digest, table_headers}
+use Rattle.vo_spec.specs.Checks.{seen_outcome}
 use Rattle.vo_spec.specs.Replies.{Reply}
-use Rattle.vo_spec.specs.Honest.{Stored, RepresentTables}
+use Rattle.vo_spec.specs.Honest.{Stored, RepresentTables, catalog_of}
 use Rattle.vo_laws.proofs.CatalogEncoding.{catalog_told}
-use Rattle.vo_laws.proofs.ExactOutcomes.{exact}
+use Rattle.vo_laws.proofs.ExactOutcomes.{exact, same_table_headers}
 use Rattle.tree_collide.specs.Agreements.{HoldsOrCollides}
 use Rattle.tree_collide.specs.Preimages.{OfStrings}
 use Rattle.vo_audit.specs.Auditing.{CollidesOr, HasPassed, IsPartOf, seen_answer}
@@ -52,8 +55,20 @@ pub same_catalog : (a b kept : Catalog) (first second : List ℕ) → FitsCatalo
 same_catalog a b kept first second a_fits kept_fits kept_is first_is second_is same =
     let bytes : catalog_bytes a ≡ catalog_bytes kept = cc in catalog_told a kept a_fits kept_fits bytes ∙ kept_is
 
+-- a query that does not bind shows its fault, whatever trees there are
+same_fault : (q : Query) (r : Reply) (stored : List Stored) (tables : List Table) (fault : QueryFault) → RepresentTables stored tables → r.catalog ≡ catalog_of stored
+    → binding_fault (table_headers r.catalog) q ≡ Some fault → seen_outcome q r.catalog r.trees ≡ result q tables
+unfolding seen_outcome result
+same_fault q r stored tables fault stand catalog is =
+    let same : table_headers r.catalog ≡ map table_header_of tables = ap table_headers catalog ∙ same_table_headers stored tables stand in
+    let there : binding_fault (map table_header_of tables) q ≡ Some fault = ap (λ hs. binding_fault hs q) (sym same) ∙ is in
+    rw (is, there) refl
+
 -- a reply that shows parts of these tables answers with the query's result
-pub shown_is_result : (q : Query) (r : Reply) (answer : Answer) (stored : List Stored) (tables : List Table) → RepresentTables stored tables → FitsQuery q
+pub shown_is_result : (q : Query) (r : Reply) (answer : Answer) (stored : List Stored) (tables : List Table) → RepresentTables stored tables
     → HasPassed q r → answer ≡ seen_answer q r → IsPartOf q r stored → answer.outcome ≡ result q tables
-shown_is_result q r answer stored tables stand fits passed answer_is part =
-    ap (λ (a : Answer). a.outcome) answer_is ∙ exact q r stored tables stand fits part.catalog part.trees passed.complete
+shown_is_result q r answer stored tables stand passed answer_is part = ap (λ (a : Answer). a.outcome) answer_is ∙ step (binding_fault (table_headers r.catalog) q) refl
+  where
+    step : (o : Option QueryFault) → binding_fault (table_headers r.catalog) q ≡ o → seen_outcome q r.catalog r.trees ≡ result q tables
+    step None binds = exact q r stored tables stand (passed.numbers binds) part.catalog part.trees passed.complete
+    step (Some fault) is = same_fault q r stored tables fault stand part.catalog is

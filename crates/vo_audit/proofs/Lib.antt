@@ -1,4 +1,3 @@
-pub mod NumberLaws
 pub mod AcceptedLaws
 pub mod JournalLaws
 pub mod WantedLaws

@@ -1,8 +1,6 @@
 -- What the steps of an audit find.
 use Rattle.std.specs.Prelude.{◌≡◌, ◌≢◌, ◌<◌, ◌-◌, ℕ, List, length, map, slice_get, Option, Some, None, Result, Ok, Err, IfSome, IsSome}
-use Rattle.std.specs.List.{AllByRecursion, AllZip}
-use Rattle.vo_spec.specs.declared.queries.Ref.{Ref}
-use Rattle.vo_spec.specs.declared.queries.Operand.{Operand}
+use Rattle.std.specs.List.{AllZip}
 use Rattle.vo_spec.specs.declared.tables.Table.{Table}
 use Rattle.vo_spec.specs.declared.records.Record.{Record}
 use Rattle.vo_spec.specs.declared.records.Entry.{Entry}
@@ -15,7 +13,7 @@ use Rattle.vo_spec.specs.declared.checks.Verdict.{Verdict}
 use Rattle.vo_spec.specs.declared.checks.Verdict.TheVariants.{Unsigned, Exact, Collides as Collide}
 use Rattle.vo_spec.specs.Collides.{Collides}
 use Rattle.vo_spec.specs.Firsts.{first_some}
-use Rattle.vo_spec.specs.Conditions.{Query, FitsOperand}
+use Rattle.vo_spec.specs.Conditions.{Query}
 use Rattle.vo_spec.specs.Results.{result}
 use Rattle.vo_spec.specs.Records.{catalog_digest}
 use Rattle.vo_spec.specs.Batches.{FitsBatch}
@@ -32,15 +30,12 @@ use Rattle.owner_state.specs.declared.departures.Departure.{Departure}
 use Rattle.owner_state.specs.declared.journals.OwnedJournal.{OwnedJournal}
 use Rattle.owner_state.specs.Departing.{trees_at}
 use Rattle.departures.specs.Departures.{IsDeparture}
+use Rattle.vo_check.specs.Judging.{FitsWhereBound}
 
 -- two different byte strings of one digest are found, which are as said, or the fact holds
 abbrev pub CollidesOr : Option (List ℕ × List ℕ) → Type 0 → OfStrings → Type 0
 CollidesOr None fact Are = fact
 CollidesOr (Some found) fact Are = Collides found.0 found.1 × Are found.0 found.1
-
--- the numbers that comparisons compare with are of 64 bits
-abbrev pub FitComparisons : List (Ref × Operand) → Type 0
-FitComparisons = AllByRecursion (λ (c : Ref × Operand). FitsOperand c.1)
 
 -- Replies.
 
@@ -52,12 +47,14 @@ abbrev pub audit_fault : CheckFault → AuditFault
 audit_fault check.Memory = Memory
 audit_fault fault = Refused fault
 
--- tests of an accepted reply, and its answer
+-- what is known of an accepted reply: tests that it passed, and that the query that it answers
+-- compares with numbers of 64 bits
 pub record HasPassed (q : Query) (r : Reply) : Type 0 where
   pub catalog : r.rec.catalog ≡ catalog_digest r.catalog
   pub count : length r.trees ≡ length (tables_wanted q r.catalog)
   pub roots : first_some (map root_fault (trees_of q r)) ≡ None
   pub complete : missing_fault q r ≡ None
+  pub numbers : FitsWhereBound q r
 
 abbrev pub seen_answer : Query → Reply → Answer
 seen_answer q r = record { version = r.rec.version; outcome = seen_outcome q r.catalog r.trees }

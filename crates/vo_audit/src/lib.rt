@@ -4,7 +4,6 @@
 mod auditing;
 mod evidence;
 mod holding;
-mod numbers;
 mod outcome_test;
 mod tree_evidence;
 mod verdicts;

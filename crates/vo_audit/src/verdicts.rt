@@ -14,7 +14,6 @@ ghost use Rattle.vo_audit.specs.Showing.{AreOfProofs, AreOfReply, AreShown, Show
 
 use crate::evidence::evidence;
 use crate::holding::holds;
-use crate::numbers::see_numbers;
 use crate::outcome_test::is_result;
 use departures::collision_of_batch;
 use owner_state::{Departure, LentEntry, OwnedJournal};
@@ -54,7 +53,6 @@ fn verdict_by(
     ensures shown { IfOk result (λ verdict.
         Shows verdict (AreOfReply (query_of query.now) (reply_of reply.now) tables.now)) }
 {
-    see_numbers(query);
     let exact = Verdict::Exact {
         version: answer.version,
     };

@@ -12,4 +12,4 @@ returns-in-None-clause-held c = λ plain stand.
     let r = reply_of c.args.reply.now in
     let part : IsPartOf q r c.args.tables.now =
     subst (λ (found : Option (List ℕ × List ℕ)). CollidesOr found (IsPartOf q r c.args.tables.now) (AreOfReply q r c.args.tables.now)) c.in-None.is c.in_ok-evidence.ensures in
-    (shown_is_result q r c.args.answer.now c.args.tables.now plain stand c.see_numbers.ensures c.requires.passed c.requires.answer part, refl)
+    (shown_is_result q r c.args.answer.now c.args.tables.now plain stand c.requires.passed c.requires.answer part, refl)
