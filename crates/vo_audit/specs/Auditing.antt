@@ -47,7 +47,7 @@ abbrev pub audit_fault : CheckFault → AuditFault
 audit_fault check.Memory = Memory
 audit_fault fault = Refused fault
 
--- what is known of an accepted reply: tests that it passed, and that the query that it answers
+-- what is known of an accepted reply: tests that it passed, and that its query, where it binds,
 -- compares with numbers of 64 bits
 pub record HasPassed (q : Query) (r : Reply) : Type 0 where
   pub catalog : r.rec.catalog ≡ catalog_digest r.catalog
