@@ -2,9 +2,8 @@
 ghost use Rattle.std.specs.Prelude.{◌≡◌, ◌+◌, ◌<◌, ◌≤◌, ◌^◌, ◌++◌, length, Some, IfOk, OnOk, IsErrOf};
 ghost use Rattle.std.specs.Result.{result_map_both};
 ghost use Rattle.outside.specs.ConnectionModel.{ConnectionModel};
-ghost use Rattle.outside.specs.FaultRose.{FaultRose};
 ghost use Rattle.link_frames.specs.Frames.{Whole, frame_bytes, first_frame};
-ghost use Rattle.link_frames.specs.Reading.{StaysWhereItStands};
+ghost use Rattle.link_frames.specs.Reading.{KeepsLinkCounts};
 ghost use Rattle.connections.specs.Requesting.{Requests, RequestsInto, answer_in, body_of, received_answer};
 
 use crate::wire_fault::WireFault;
@@ -28,10 +27,8 @@ pub fn answer_body<L: Link>(
         before (L.wire link.new) }
     ensures short { IfOk result (λ bytes. length bytes.items + 1 < 2 ^ 32) }
 
-    ensures counts { L.faults link.old ≤ L.faults link.new }
-    ensures cause { IsErrOf result WireFault.LinkFault
-        → FaultRose (L.faults link.old) (L.faults link.new) }
-    ensures misses { StaysWhereItStands (L.wire link.old) (L.misses link.old) (L.misses link.new) }
+    ensures counts { KeepsLinkCounts L.wire L.faults L.misses link.old link.new
+        (IsErrOf result WireFault.LinkFault) }
 {
     match ask(alloc, link, kind, body, awaits) {
         Ok(answer) => body_of(answer),
@@ -57,10 +54,8 @@ pub fn answer_into<L: Link, G: Gathers>(
         (length (G.gathered into.new) + 1 < length (G.gathered into.old) + 2 ^ 32) }
     ensures kept { G.kept into.new ≡ G.kept into.old }
 
-    ensures counts { L.faults link.old ≤ L.faults link.new }
-    ensures cause { IsErrOf result WireFault.LinkFault
-        → FaultRose (L.faults link.old) (L.faults link.new) }
-    ensures misses { StaysWhereItStands (L.wire link.old) (L.misses link.old) (L.misses link.new) }
+    ensures counts { KeepsLinkCounts L.wire L.faults L.misses link.old link.new
+        (IsErrOf result WireFault.LinkFault) }
 {
     match ask_into(link, kind, body, awaits, into) {
         Ok(received) => received_answer(received),

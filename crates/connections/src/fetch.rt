@@ -1,7 +1,7 @@
 //! A reply that is asked for over a connection of its own.
 ghost use Rattle.std.specs.Prelude.{◌≡◌, ◌+◌, ◌<◌, ◌≤◌, ◌^◌, ◌++◌, length, Some, true, IsTrue, OnOk, IsErrOf};
 ghost use Rattle.outside.specs.ConnectionModel.{ConnectionModel, has_next};
-ghost use Rattle.outside.specs.FaultRose.{FaultRose};
+ghost use Rattle.link_frames.specs.Reading.{KeepsNetCounts};
 ghost use Rattle.link_frames.specs.declared.frame_kind.FrameKind.TheVariants.{Query};
 ghost use Rattle.link_frames.specs.Frames.{frame_bytes, max_query};
 ghost use Rattle.connections.specs.Fetching.{Fetches};
@@ -28,11 +28,8 @@ pub fn fetch_into<N: Net, G: Gathers>(
         (length (G.gathered into.new) + 1 < length (G.gathered into.old) + 2 ^ 32) }
     ensures kept { G.kept into.new ≡ G.kept into.old }
 
-    ensures counts { N.faults net.old ≤ N.faults net.new }
-    ensures cause { IsErrOf result WireFault.LinkFault
-        → FaultRose (N.faults net.old) (N.faults net.new) }
-    ensures misses { (before : ConnectionModel) → N.wire net.old ≡ Some before
-        → IsTrue (has_next before) → N.misses net.new ≡ N.misses net.old }
+    ensures counts { KeepsNetCounts N.wire N.faults N.misses net.old net.new
+        (IsErrOf result WireFault.LinkFault) }
 {
     match net.connect(address) {
         Ok(()) => answer_into(net, FrameKind::Query, text, Awaits::Reply, into),

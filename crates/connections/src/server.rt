@@ -2,6 +2,7 @@
 ghost use Rattle.std.specs.Prelude.{◌≡◌, ◌≢◌, ◌≤◌, ◌<◌, ◌^◌, ℕ, length, Some, Err, IsTrue, IsErrOf};
 ghost use Rattle.outside.specs.ConnectionModel.{ConnectionModel, has_next};
 ghost use Rattle.outside.specs.FaultRose.{FaultRose};
+ghost use Rattle.link_frames.specs.Reading.{KeepsNetCounts};
 ghost use Rattle.connections.specs.Serving.{ServesAll, ServesNext, WritesLine};
 
 use crate::end_line::end_line;
@@ -54,11 +55,8 @@ fn serve_next<R: Responder, N: Net, S: Sink>(
         (R.state store.new) (N.wire net.old) (N.wire net.new) (S.written out.old)
         (S.written out.new) (N.faults net.old) (N.faults net.new) }
 
-    ensures counts { N.faults net.old ≤ N.faults net.new }
-    ensures cause { IsErrOf result ServeFault.Network
-        → FaultRose (N.faults net.old) (N.faults net.new) }
-    ensures misses { (before : ConnectionModel) → N.wire net.old ≡ Some before
-        → IsTrue (has_next before) → N.misses net.new ≡ N.misses net.old }
+    ensures counts { KeepsNetCounts N.wire N.faults N.misses net.old net.new
+        (IsErrOf result ServeFault.Network) }
 
     ensures out_counts { S.faults out.old ≤ S.faults out.new }
     ensures out_cause { IsErrOf result ServeFault.Output

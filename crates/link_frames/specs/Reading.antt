@@ -1,6 +1,7 @@
 -- What calls do that read from a connection or put on it.
-use Rattle.std.specs.Prelude.{◌≡◌, ◌≢◌, ℕ, ◌+◌, ◌⊎◌, ◌<◌, ◌≤◌, ◌↔◌, min, List, [], ◌∷◌, ◌++◌, length, take, drop, Option, Some, Result, Ok, Err, true}
-use Rattle.outside.specs.ConnectionModel.{ConnectionModel, take_from, send_on}
+use Rattle.std.specs.Prelude.{◌≡◌, ◌≢◌, ℕ, ◌+◌, ◌⊎◌, ◌<◌, ◌≤◌, ◌↔◌, min, List, [], ◌∷◌, ◌++◌, length, take, drop, Option, Some, Result, Ok, Err, Bool, IsTrue}
+use Rattle.outside.specs.ConnectionModel.{ConnectionModel, has_next, take_from, send_on}
+use Rattle.outside.specs.FaultRose.{FaultRose}
 use Rattle.link_frames.specs.declared.frame.Frame.{Frame}
 use Rattle.link_frames.specs.declared.frame.NoFrame.{NoFrame}
 use Rattle.link_frames.specs.declared.frame.NoFrame.TheVariants as no_frame
@@ -20,10 +21,34 @@ Took n before after = after ≡ Some (take_from n before)
 abbrev pub TookSome : ConnectionModel → Option ConnectionModel → Type 0
 TookSome before after = (n : ℕ) × Took n before after
 
--- a count that stays where the connection stands
+-- a count that stays where the connection has what is asked for
+abbrev pub StaysWhere : (ConnectionModel → Bool) → Option ConnectionModel → ℕ → ℕ → Type 0
+StaysWhere has wire before after =
+    (w : ConnectionModel) → wire ≡ Some w → IsTrue (has w) → after ≡ before
+
+-- the same where the connection stands
 abbrev pub StaysWhereItStands : Option ConnectionModel → ℕ → ℕ → Type 0
-StaysWhereItStands wire before after =
-    (w : ConnectionModel) → wire ≡ Some w → w.stands ≡ true → after ≡ before
+StaysWhereItStands wire before after = StaysWhere (λ w. w.stands) wire before after
+
+-- What a call leaves of the counts of what it works on: faults don't fall, one rose where the call
+-- failed by it, and misses stay where it has what is asked for.
+pub record KeepsCounts {T : Type 0} (has : ConnectionModel → Bool) (wire : T → Option ConnectionModel)
+    (faults misses : T → ℕ) (old new : T) (failed : Type 0) : Type 0 where
+  pub rise : faults old ≤ faults new
+  pub cause : failed → FaultRose (faults old) (faults new)
+  pub stays : StaysWhere has (wire old) (misses old) (misses new)
+
+-- of a link, which is asked for nothing but to stand
+abbrev pub KeepsLinkCounts : {T : Type 0} → (T → Option ConnectionModel) → (T → ℕ) → (T → ℕ) → T → T
+    → Type 0 → Type 0
+KeepsLinkCounts wire faults misses old new failed =
+    KeepsCounts (λ w. w.stands) wire faults misses old new failed
+
+-- of a network, which is asked for its next connection
+abbrev pub KeepsNetCounts : {T : Type 0} → (T → Option ConnectionModel) → (T → ℕ) → (T → ℕ) → T → T
+    → Type 0 → Type 0
+KeepsNetCounts wire faults misses old new failed =
+    KeepsCounts has_next wire faults misses old new failed
 
 -- a buffer is filled with what comes, as far as both reach
 abbrev pub Fills : {E : Type 0} → List ℕ → List ℕ → Result ℕ E → ConnectionModel

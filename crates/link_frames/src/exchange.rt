@@ -1,9 +1,8 @@
 //! Asking: one frame is put, and its answer read.
 ghost use Rattle.std.specs.Prelude.{◌≡◌, ◌+◌, ◌<◌, ◌≤◌, ◌^◌, ◌&&◌, length, Some, IsTrue, IfOk, IsErrOf};
 ghost use Rattle.outside.specs.ConnectionModel.{ConnectionModel};
-ghost use Rattle.outside.specs.FaultRose.{FaultRose};
 ghost use Rattle.link_frames.specs.Frames.{frame_bytes, first_frame, may_come, is_length};
-ghost use Rattle.link_frames.specs.Reading.{Asks, StaysWhereItStands};
+ghost use Rattle.link_frames.specs.Reading.{Asks, KeepsLinkCounts};
 
 use crate::awaits::Awaits;
 use crate::frame::{Frame, NoFrame};
@@ -29,10 +28,8 @@ pub fn ask<L: Link>(
     ensures allowed { IfOk result (λ frame. IsTrue (may_come awaits frame.kind
         && is_length frame.kind (length frame.body.items))) }
 
-    ensures counts { L.faults link.old ≤ L.faults link.new }
-    ensures cause { IsErrOf result NoFrame.LinkFault
-        → FaultRose (L.faults link.old) (L.faults link.new) }
-    ensures misses { StaysWhereItStands (L.wire link.old) (L.misses link.old) (L.misses link.new) }
+    ensures counts { KeepsLinkCounts L.wire L.faults L.misses link.old link.new
+        (IsErrOf result NoFrame.LinkFault) }
 {
     match put_frame(link, kind, body) {
         Ok(()) => read_frame(alloc, link, awaits),

@@ -1,8 +1,7 @@
 //! A buffer that is filled from a link.
 ghost use Rattle.std.specs.Prelude.{◌≡◌, ℕ, ◌≤◌, length, Some, OnOk, OnErr, IfOk, IsErr};
 ghost use Rattle.outside.specs.ConnectionModel.{ConnectionModel};
-ghost use Rattle.outside.specs.FaultRose.{FaultRose};
-ghost use Rattle.link_frames.specs.Reading.{Fills, StaysWhereItStands};
+ghost use Rattle.link_frames.specs.Reading.{Fills, KeepsLinkCounts};
 
 use outside::{Failed, Link};
 
@@ -13,9 +12,8 @@ pub fn fill<L: Link>(link: &mut L, into: &mut [u8]) -> Result<usize, Failed>
         → Fills into.old into.new result before (L.wire link.new) }
     ensures fits { IfOk result (λ n. n ≤ length into.old) }
 
-    ensures counts { L.faults link.old ≤ L.faults link.new }
-    ensures cause { IsErr result → FaultRose (L.faults link.old) (L.faults link.new) }
-    ensures misses { StaysWhereItStands (L.wire link.old) (L.misses link.old) (L.misses link.new) }
+    ensures counts { KeepsLinkCounts L.wire L.faults L.misses link.old link.new
+        (IsErr result) }
 {
     let mut filled = 0;
     while filled < into.len() {

@@ -1,9 +1,8 @@
 //! Asking, with the body of the answer gathered as it comes.
 ghost use Rattle.std.specs.Prelude.{◌≡◌, ◌+◌, ◌<◌, ◌≤◌, ◌^◌, length, Some, OnOk, IsErrOf};
 ghost use Rattle.outside.specs.ConnectionModel.{ConnectionModel};
-ghost use Rattle.outside.specs.FaultRose.{FaultRose};
 ghost use Rattle.link_frames.specs.Frames.{frame_bytes, first_frame};
-ghost use Rattle.link_frames.specs.Reading.{AsksAs, Receives, StaysWhereItStands};
+ghost use Rattle.link_frames.specs.Reading.{AsksAs, KeepsLinkCounts, Receives};
 
 use crate::awaits::Awaits;
 use crate::frame::NoFrame;
@@ -32,10 +31,8 @@ pub fn ask_into<L: Link, G: Gathers>(
         (length (G.gathered into.new) + 1 < length (G.gathered into.old) + 2 ^ 32) }
     ensures kept { G.kept into.new ≡ G.kept into.old }
 
-    ensures counts { L.faults link.old ≤ L.faults link.new }
-    ensures cause { IsErrOf result NoFrame.LinkFault
-        → FaultRose (L.faults link.old) (L.faults link.new) }
-    ensures misses { StaysWhereItStands (L.wire link.old) (L.misses link.old) (L.misses link.new) }
+    ensures counts { KeepsLinkCounts L.wire L.faults L.misses link.old link.new
+        (IsErrOf result NoFrame.LinkFault) }
 {
     match put_frame(link, kind, body) {
         Ok(()) => receive_frame(link, awaits, into),

@@ -1,8 +1,7 @@
 //! Bytes of a link, handed on in pieces as they come.
 ghost use Rattle.std.specs.Prelude.{◌≡◌, ℕ, ◌+◌, ◌≤◌, ◌++◌, List, length, Some, OnOk, IfOk, IsErrOf};
 ghost use Rattle.outside.specs.ConnectionModel.{ConnectionModel};
-ghost use Rattle.outside.specs.FaultRose.{FaultRose};
-ghost use Rattle.link_frames.specs.Reading.{Gathered, HandsOn, StaysWhereItStands};
+ghost use Rattle.link_frames.specs.Reading.{Gathered, HandsOn, KeepsLinkCounts};
 
 use crate::interrupted::Interrupted;
 use outside::Link;
@@ -54,10 +53,8 @@ pub fn hand_on<L: Link, G: Gathers>(
         (λ n. length (G.gathered into.new) ≡ length (G.gathered into.old) + n) }
     ensures kept { G.kept into.new ≡ G.kept into.old }
 
-    ensures counts { L.faults link.old ≤ L.faults link.new }
-    ensures cause { IsErrOf result Interrupted.LinkFault
-        → FaultRose (L.faults link.old) (L.faults link.new) }
-    ensures misses { StaysWhereItStands (L.wire link.old) (L.misses link.old) (L.misses link.new) }
+    ensures counts { KeepsLinkCounts L.wire L.faults L.misses link.old link.new
+        (IsErrOf result Interrupted.LinkFault) }
 {
     let mut piece = [0; PIECE];
     let mut handed = 0;
@@ -85,10 +82,8 @@ fn hand_piece<L: Link, G: Gathers>(
         (λ n. length (G.gathered into.new) ≡ length (G.gathered into.old) + n) }
     ensures kept { G.kept into.new ≡ G.kept into.old }
 
-    ensures counts { L.faults link.old ≤ L.faults link.new }
-    ensures cause { IsErrOf result Interrupted.LinkFault
-        → FaultRose (L.faults link.old) (L.faults link.new) }
-    ensures misses { StaysWhereItStands (L.wire link.old) (L.misses link.old) (L.misses link.new) }
+    ensures counts { KeepsLinkCounts L.wire L.faults L.misses link.old link.new
+        (IsErrOf result Interrupted.LinkFault) }
 {
     let came = match link.get(piece) {
         Ok(came) => came,

@@ -1,9 +1,8 @@
 //! The length and the kind of a frame, which come before its body.
 ghost use Rattle.std.specs.Prelude.{◌≡◌, ℕ, ◌-◌, ◌<◌, ◌≤◌, ◌&&◌, List, Some, IsTrue, IfOk, IsErrOf};
 ghost use Rattle.outside.specs.ConnectionModel.{ConnectionModel};
-ghost use Rattle.outside.specs.FaultRose.{FaultRose};
 ghost use Rattle.link_frames.specs.Frames.{kind_of, may_come, is_length, with_kind, behind_length, first_frame};
-ghost use Rattle.link_frames.specs.Reading.{IsHeadOf, ReadsHead, StaysWhereItStands};
+ghost use Rattle.link_frames.specs.Reading.{IsHeadOf, KeepsLinkCounts, ReadsHead};
 
 use crate::awaits::Awaits;
 use crate::fill::fill;
@@ -28,10 +27,8 @@ pub fn read_head<L: Link>(link: &mut L, awaits: Awaits) -> Result<FrameHead, NoF
     ensures allowed { IfOk result
         (λ head. IsTrue (may_come awaits head.kind && is_length head.kind head.length)) }
 
-    ensures counts { L.faults link.old ≤ L.faults link.new }
-    ensures cause { IsErrOf result NoFrame.LinkFault
-        → FaultRose (L.faults link.old) (L.faults link.new) }
-    ensures misses { StaysWhereItStands (L.wire link.old) (L.misses link.old) (L.misses link.new) }
+    ensures counts { KeepsLinkCounts L.wire L.faults L.misses link.old link.new
+        (IsErrOf result NoFrame.LinkFault) }
 {
     let mut length = [0; 4];
     match fill(link, &mut length) {
@@ -49,10 +46,8 @@ fn read_kind<L: Link>(link: &mut L, awaits: Awaits, length: u32) -> Result<Frame
     ensures allowed { IfOk result
         (λ head. IsTrue (may_come awaits head.kind && is_length head.kind head.length)) }
 
-    ensures counts { L.faults link.old ≤ L.faults link.new }
-    ensures cause { IsErrOf result NoFrame.LinkFault
-        → FaultRose (L.faults link.old) (L.faults link.new) }
-    ensures misses { StaysWhereItStands (L.wire link.old) (L.misses link.old) (L.misses link.new) }
+    ensures counts { KeepsLinkCounts L.wire L.faults L.misses link.old link.new
+        (IsErrOf result NoFrame.LinkFault) }
 {
     if length == 0 {
         return Err(NoFrame::BadFrame { length });

@@ -1,10 +1,9 @@
 //! Putting one frame.
 ghost use Rattle.std.specs.Prelude.{◌≡◌, ℕ, ◌≤◌, ◌<◌, ◌+◌, ◌^◌, [], ◌∷◌, ◌++◌, length, take, OnOk, IsErr, IsErrOf};
 ghost use Rattle.outside.specs.ConnectionModel.{send_known};
-ghost use Rattle.outside.specs.FaultRose.{FaultRose};
 ghost use Rattle.vo_spec.specs.Bytes.{u32_bytes};
 ghost use Rattle.link_frames.specs.Frames.{code_of, frame_bytes};
-ghost use Rattle.link_frames.specs.Reading.{StaysWhereItStands};
+ghost use Rattle.link_frames.specs.Reading.{KeepsLinkCounts};
 
 use crate::frame_kind::FrameKind;
 use crate::head::HEAD;
@@ -20,10 +19,8 @@ pub fn put_frame<L: Link>(link: &mut L, kind: FrameKind, body: &[u8]) -> Result<
     ensures err { IsErr result → ((n : ℕ)
         × (L.wire link.new ≡ send_known (take n (frame_bytes kind body.now)) (L.wire link.old))) }
 
-    ensures counts { L.faults link.old ≤ L.faults link.new }
-    ensures cause { IsErrOf result PutFault.Failed
-        → FaultRose (L.faults link.old) (L.faults link.new) }
-    ensures misses { StaysWhereItStands (L.wire link.old) (L.misses link.old) (L.misses link.new) }
+    ensures counts { KeepsLinkCounts L.wire L.faults L.misses link.old link.new
+        (IsErrOf result PutFault.Failed) }
 {
     link.put(&head_bytes(kind, body.len() as u32 + 1))?;
     link.put(body)

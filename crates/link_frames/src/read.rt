@@ -1,9 +1,8 @@
 //! Reading one frame.
 ghost use Rattle.std.specs.Prelude.{◌≡◌, ◌≤◌, ◌&&◌, length, Some, IsTrue, IfOk, IsErrOf};
 ghost use Rattle.outside.specs.ConnectionModel.{ConnectionModel};
-ghost use Rattle.outside.specs.FaultRose.{FaultRose};
 ghost use Rattle.link_frames.specs.Frames.{first_frame, with_body, may_come, is_length};
-ghost use Rattle.link_frames.specs.Reading.{Reads, StaysWhereItStands};
+ghost use Rattle.link_frames.specs.Reading.{KeepsLinkCounts, Reads};
 
 use crate::awaits::Awaits;
 use crate::frame::{Frame, NoFrame};
@@ -20,10 +19,8 @@ pub fn read_frame<L: Link>(alloc: Global, link: &mut L, awaits: Awaits) -> Resul
     ensures allowed { IfOk result (λ frame. IsTrue (may_come awaits frame.kind
         && is_length frame.kind (length frame.body.items))) }
 
-    ensures counts { L.faults link.old ≤ L.faults link.new }
-    ensures cause { IsErrOf result NoFrame.LinkFault
-        → FaultRose (L.faults link.old) (L.faults link.new) }
-    ensures misses { StaysWhereItStands (L.wire link.old) (L.misses link.old) (L.misses link.new) }
+    ensures counts { KeepsLinkCounts L.wire L.faults L.misses link.old link.new
+        (IsErrOf result NoFrame.LinkFault) }
 {
     let head = read_head(link, awaits)?;
     read_body(alloc, link, head)
@@ -37,10 +34,8 @@ pub fn read_body<L: Link>(alloc: Global, link: &mut L, head: FrameHead) -> Resul
     ensures kind { IfOk result (λ frame. frame.kind ≡ head.kind) }
     ensures whole { IfOk result (λ frame. length frame.body.items ≡ head.length) }
 
-    ensures counts { L.faults link.old ≤ L.faults link.new }
-    ensures cause { IsErrOf result NoFrame.LinkFault
-        → FaultRose (L.faults link.old) (L.faults link.new) }
-    ensures misses { StaysWhereItStands (L.wire link.old) (L.misses link.old) (L.misses link.new) }
+    ensures counts { KeepsLinkCounts L.wire L.faults L.misses link.old link.new
+        (IsErrOf result NoFrame.LinkFault) }
 {
     let mut body = Vec::new(alloc);
     match gather_body(link, head, &mut body) {

@@ -1,10 +1,9 @@
 //! Reading one frame, whose body is gathered as it comes.
 ghost use Rattle.std.specs.Prelude.{◌≡◌, ◌+◌, ◌<◌, ◌≤◌, ◌^◌, [], ◌∷◌, length, Some, IsTrue, OnOk, IsErrOf};
 ghost use Rattle.outside.specs.ConnectionModel.{ConnectionModel};
-ghost use Rattle.outside.specs.FaultRose.{FaultRose};
 ghost use Rattle.link_frames.specs.declared.frame_kind.FrameKind.TheVariants.{Refusal};
 ghost use Rattle.link_frames.specs.Frames.{Whole, first_frame, with_body, is_length};
-ghost use Rattle.link_frames.specs.Reading.{Adds, Receives, ReadsAs, StaysWhereItStands};
+ghost use Rattle.link_frames.specs.Reading.{Adds, KeepsLinkCounts, ReadsAs, Receives};
 
 use crate::awaits::Awaits;
 use crate::fill::fill;
@@ -30,10 +29,8 @@ pub(crate) fn receive_frame<L: Link, G: Gathers>(
         (length (G.gathered into.new) + 1 < length (G.gathered into.old) + 2 ^ 32) }
     ensures kept { G.kept into.new ≡ G.kept into.old }
 
-    ensures counts { L.faults link.old ≤ L.faults link.new }
-    ensures cause { IsErrOf result NoFrame.LinkFault
-        → FaultRose (L.faults link.old) (L.faults link.new) }
-    ensures misses { StaysWhereItStands (L.wire link.old) (L.misses link.old) (L.misses link.new) }
+    ensures counts { KeepsLinkCounts L.wire L.faults L.misses link.old link.new
+        (IsErrOf result NoFrame.LinkFault) }
 {
     match read_head(link, awaits) {
         Ok(head) => receive_behind(link, head, into),
@@ -55,10 +52,8 @@ fn receive_behind<L: Link, G: Gathers>(
         (length (G.gathered into.new) + 1 < length (G.gathered into.old) + 2 ^ 32) }
     ensures kept { G.kept into.new ≡ G.kept into.old }
 
-    ensures counts { L.faults link.old ≤ L.faults link.new }
-    ensures cause { IsErrOf result NoFrame.LinkFault
-        → FaultRose (L.faults link.old) (L.faults link.new) }
-    ensures misses { StaysWhereItStands (L.wire link.old) (L.misses link.old) (L.misses link.new) }
+    ensures counts { KeepsLinkCounts L.wire L.faults L.misses link.old link.new
+        (IsErrOf result NoFrame.LinkFault) }
 {
     match head.kind {
         FrameKind::Refusal => match read_code(link) {
@@ -78,10 +73,8 @@ fn read_code<L: Link>(link: &mut L) -> Result<u8, NoFrame>
         → ReadsAs (λ first code. first ≡ Whole Refusal (code ∷ [])) 5
         (with_body Refusal 1 before.coming) result before (L.wire link.new) }
 
-    ensures counts { L.faults link.old ≤ L.faults link.new }
-    ensures cause { IsErrOf result NoFrame.LinkFault
-        → FaultRose (L.faults link.old) (L.faults link.new) }
-    ensures misses { StaysWhereItStands (L.wire link.old) (L.misses link.old) (L.misses link.new) }
+    ensures counts { KeepsLinkCounts L.wire L.faults L.misses link.old link.new
+        (IsErrOf result NoFrame.LinkFault) }
 {
     let mut code = [0; 1];
     match fill(link, &mut code) {
@@ -105,10 +98,8 @@ pub(crate) fn gather_body<L: Link, G: Gathers>(
         (length (G.gathered into.new) ≡ length (G.gathered into.old) + head.length) }
     ensures kept { G.kept into.new ≡ G.kept into.old }
 
-    ensures counts { L.faults link.old ≤ L.faults link.new }
-    ensures cause { IsErrOf result NoFrame.LinkFault
-        → FaultRose (L.faults link.old) (L.faults link.new) }
-    ensures misses { StaysWhereItStands (L.wire link.old) (L.misses link.old) (L.misses link.new) }
+    ensures counts { KeepsLinkCounts L.wire L.faults L.misses link.old link.new
+        (IsErrOf result NoFrame.LinkFault) }
 {
     match hand_on(link, into, head.length) {
         Ok(came) if came < head.length => Err(NoFrame::Cut { got: HEAD + came }),

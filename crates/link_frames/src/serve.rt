@@ -1,10 +1,9 @@
 //! Serving one connection.
 ghost use Rattle.std.specs.Prelude.{◌≡◌, ◌+◌, ◌<◌, ◌≤◌, ◌^◌, length, Some, IsErrOf};
 ghost use Rattle.outside.specs.ConnectionModel.{ConnectionModel};
-ghost use Rattle.outside.specs.FaultRose.{FaultRose};
 ghost use Rattle.link_frames.specs.declared.awaits.Awaits.TheVariants.{Request};
 ghost use Rattle.link_frames.specs.Frames.{frame_bytes, first_frame};
-ghost use Rattle.link_frames.specs.Reading.{StaysWhereItStands};
+ghost use Rattle.link_frames.specs.Reading.{KeepsLinkCounts};
 ghost use Rattle.link_frames.specs.Serving.{serving_script, max_turns, ServesKnown, ServesOne, AnswersOne, PutsAnswer};
 
 use crate::awaits::Awaits;
@@ -27,9 +26,8 @@ pub fn serve_link<A: Responder, L: Link>(alloc: Global, store: &mut A, link: &mu
         (serving_script A.reply A.next max_turns (A.state store.old) before.coming) result
         (A.state store.old) (A.state store.new) before (L.wire link.new) }
 
-    ensures counts { L.faults link.old ≤ L.faults link.new }
-    ensures cause { result ≡ End.LinkFault → FaultRose (L.faults link.old) (L.faults link.new) }
-    ensures misses { StaysWhereItStands (L.wire link.old) (L.misses link.old) (L.misses link.new) }
+    ensures counts { KeepsLinkCounts L.wire L.faults L.misses link.old link.new
+        (result ≡ End.LinkFault) }
 {
     for _turn in 0..MAX_TURNS {
         match serve_request(alloc, store, link) {
@@ -50,10 +48,8 @@ fn serve_request<A: Responder, L: Link>(
         → ServesOne A.reply A.next (first_frame Request before.coming) result (A.state store.old)
         (A.state store.new) before (L.wire link.new) }
 
-    ensures counts { L.faults link.old ≤ L.faults link.new }
-    ensures cause { IsErrOf result End.LinkFault
-        → FaultRose (L.faults link.old) (L.faults link.new) }
-    ensures misses { StaysWhereItStands (L.wire link.old) (L.misses link.old) (L.misses link.new) }
+    ensures counts { KeepsLinkCounts L.wire L.faults L.misses link.old link.new
+        (IsErrOf result End.LinkFault) }
 {
     match read_frame(alloc, link, Awaits::Request) {
         Ok(request) => answer_request(alloc, store, link, &request),
@@ -73,10 +69,8 @@ fn answer_request<A: Responder, L: Link>(
         → AnswersOne A.reply A.next request.now.kind request.now.body.items result
         (A.state store.old) (A.state store.new) before (L.wire link.new) }
 
-    ensures counts { L.faults link.old ≤ L.faults link.new }
-    ensures cause { IsErrOf result End.LinkFault
-        → FaultRose (L.faults link.old) (L.faults link.new) }
-    ensures misses { StaysWhereItStands (L.wire link.old) (L.misses link.old) (L.misses link.new) }
+    ensures counts { KeepsLinkCounts L.wire L.faults L.misses link.old link.new
+        (IsErrOf result End.LinkFault) }
 {
     match store.answer(alloc, request.kind, &request.body) {
         Ok(Some(answer)) => put_answer(link, &answer),
@@ -94,10 +88,8 @@ fn put_answer<L: Link>(link: &mut L, answer: &Frame) -> Result<(), End>
         → PutsAnswer (frame_bytes answer.now.kind answer.now.body.items) result before
         (L.wire link.new) }
 
-    ensures counts { L.faults link.old ≤ L.faults link.new }
-    ensures cause { IsErrOf result End.LinkFault
-        → FaultRose (L.faults link.old) (L.faults link.new) }
-    ensures misses { StaysWhereItStands (L.wire link.old) (L.misses link.old) (L.misses link.new) }
+    ensures counts { KeepsLinkCounts L.wire L.faults L.misses link.old link.new
+        (IsErrOf result End.LinkFault) }
 {
     match put_frame(link, answer.kind, &answer.body) {
         Ok(()) => Ok(()),

@@ -1,9 +1,8 @@
 //! Giving a store what it lacks of the journal.
 ghost use Rattle.std.specs.Prelude.{◌≡◌, ◌<◌, ◌≤◌, [], ◌+◌, length, drop, slice_get, Some, IfErr, IsErrOf};
-ghost use Rattle.outside.specs.FaultRose.{FaultRose};
 ghost use Rattle.link_frames.specs.declared.awaits.Awaits.TheVariants.{Standing};
 ghost use Rattle.link_frames.specs.declared.frame_kind.FrameKind.TheVariants.{Status};
-ghost use Rattle.link_frames.specs.Reading.{StaysWhereItStands};
+ghost use Rattle.link_frames.specs.Reading.{KeepsLinkCounts};
 ghost use Rattle.owner_session.specs.Endings.{IsOfLink};
 ghost use Rattle.owner_session.specs.Work.{standing, delivery, deliveries, catch_up};
 ghost use Rattle.owner_session.specs.Runs.{Snapshot, RunsOnWire, HoldsSome, continuation, continuation_with};
@@ -30,10 +29,8 @@ pub fn catch_up<O: SessionOwner, L: Link>(
         → RunsOnWire O.IsJudgement (catch_up O.forms (O.entries owner.now))
         (λ _. continuation) result before (L.wire link.new) }
 
-    ensures counts { L.faults link.old ≤ L.faults link.new }
-    ensures cause { IsErrOf result SessionStop.LinkFault
-        → FaultRose (L.faults link.old) (L.faults link.new) }
-    ensures misses { StaysWhereItStands (L.wire link.old) (L.misses link.old) (L.misses link.new) }
+    ensures counts { KeepsLinkCounts L.wire L.faults L.misses link.old link.new
+        (IsErrOf result SessionStop.LinkFault) }
     ensures inside { IfErr result IsOfLink }
 {
     match ask_standing(alloc, owner, link) {
@@ -52,10 +49,8 @@ fn ask_standing<O: SessionOwner, L: Link>(
         → RunsOnWire O.IsJudgement (standing O.forms (O.entries owner.now))
         continuation_with result before (L.wire link.new) }
 
-    ensures counts { L.faults link.old ≤ L.faults link.new }
-    ensures cause { IsErrOf result SessionStop.LinkFault
-        → FaultRose (L.faults link.old) (L.faults link.new) }
-    ensures misses { StaysWhereItStands (L.wire link.old) (L.misses link.old) (L.misses link.new) }
+    ensures counts { KeepsLinkCounts L.wire L.faults L.misses link.old link.new
+        (IsErrOf result SessionStop.LinkFault) }
     ensures inside { IfErr result IsOfLink }
 {
     match trade(alloc, link, FrameKind::Status, &[], Awaits::Standing) {
@@ -88,10 +83,8 @@ fn deliver<O: SessionOwner, L: Link>(
         → RunsOnWire O.IsJudgement (deliveries O.forms held (drop held (O.entries owner.now)))
         (λ _. continuation) result before (L.wire link.new) }
 
-    ensures counts { L.faults link.old ≤ L.faults link.new }
-    ensures cause { IsErrOf result SessionStop.LinkFault
-        → FaultRose (L.faults link.old) (L.faults link.new) }
-    ensures misses { StaysWhereItStands (L.wire link.old) (L.misses link.old) (L.misses link.new) }
+    ensures counts { KeepsLinkCounts L.wire L.faults L.misses link.old link.new
+        (IsErrOf result SessionStop.LinkFault) }
     ensures inside { IfErr result IsOfLink }
 {
     for index in held..owner.entry_count() {
@@ -117,10 +110,8 @@ fn deliver_entry<O: SessionOwner, L: Link>(
         → RunsOnWire O.IsJudgement (delivery O.forms index entry) (λ _. continuation) result before
         (L.wire link.new) }
 
-    ensures counts { L.faults link.old ≤ L.faults link.new }
-    ensures cause { IsErrOf result SessionStop.LinkFault
-        → FaultRose (L.faults link.old) (L.faults link.new) }
-    ensures misses { StaysWhereItStands (L.wire link.old) (L.misses link.old) (L.misses link.new) }
+    ensures counts { KeepsLinkCounts L.wire L.faults L.misses link.old link.new
+        (IsErrOf result SessionStop.LinkFault) }
     ensures inside { IfErr result IsOfLink }
 {
     if index == 0 {

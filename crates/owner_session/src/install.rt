@@ -1,7 +1,6 @@
 //! Installing an entry.
 ghost use Rattle.std.specs.Prelude.{◌≡◌, ◌<◌, ◌≤◌, length, slice_get, bytes_eq, Some, IfErr, IsErrOf};
-ghost use Rattle.outside.specs.FaultRose.{FaultRose};
-ghost use Rattle.link_frames.specs.Reading.{StaysWhereItStands};
+ghost use Rattle.link_frames.specs.Reading.{KeepsLinkCounts};
 ghost use Rattle.link_frames.specs.declared.awaits.Awaits.TheVariants.{Installed};
 ghost use Rattle.link_frames.specs.declared.frame_kind.FrameKind.TheVariants.{Install};
 ghost use Rattle.vo_spec.specs.Bytes.{u64_bytes};
@@ -32,10 +31,8 @@ pub fn install_entry<O: SessionOwner, L: Link>(
         → RunsOnWire O.IsJudgement (installation O.forms entry) (λ _. continuation) result before
         (L.wire link.new) }
 
-    ensures counts { L.faults link.old ≤ L.faults link.new }
-    ensures cause { IsErrOf result SessionStop.LinkFault
-        → FaultRose (L.faults link.old) (L.faults link.new) }
-    ensures misses { StaysWhereItStands (L.wire link.old) (L.misses link.old) (L.misses link.new) }
+    ensures counts { KeepsLinkCounts L.wire L.faults L.misses link.old link.new
+        (IsErrOf result SessionStop.LinkFault) }
     ensures inside { IfErr result IsOfLink }
 {
     match put_install(alloc, owner, index, link) {
@@ -58,10 +55,8 @@ fn put_install<O: SessionOwner, L: Link>(
         → RunsOnWire O.IsJudgement (exchange Install (O.forms.install entry) Installed)
         (λ body. continuation_with body.items) result before (L.wire link.new) }
 
-    ensures counts { L.faults link.old ≤ L.faults link.new }
-    ensures cause { IsErrOf result SessionStop.LinkFault
-        → FaultRose (L.faults link.old) (L.faults link.new) }
-    ensures misses { StaysWhereItStands (L.wire link.old) (L.misses link.old) (L.misses link.new) }
+    ensures counts { KeepsLinkCounts L.wire L.faults L.misses link.old link.new
+        (IsErrOf result SessionStop.LinkFault) }
     ensures inside { IfErr result IsOfLink }
 {
     match owner.install_body(alloc, index) {

@@ -1,7 +1,6 @@
 //! Proposing a batch: the store answers with its proofs.
 ghost use Rattle.std.specs.Prelude.{◌≡◌, ◌<◌, ◌≤◌, length, slice_get, Some, IfErr, IsErrOf};
-ghost use Rattle.outside.specs.FaultRose.{FaultRose};
-ghost use Rattle.link_frames.specs.Reading.{StaysWhereItStands};
+ghost use Rattle.link_frames.specs.Reading.{KeepsLinkCounts};
 ghost use Rattle.owner_session.specs.Endings.{IsOfLink};
 ghost use Rattle.owner_session.specs.Work.{proposal};
 ghost use Rattle.owner_session.specs.Runs.{Snapshot, RunsOnWire, continuation_with};
@@ -25,10 +24,8 @@ pub fn propose_batch<O: SessionOwner, L: Link>(
         → RunsOnWire O.IsJudgement (proposal O.forms batch.now)
         (λ proofs. continuation_with proofs.items) result before (L.wire link.new) }
 
-    ensures counts { L.faults link.old ≤ L.faults link.new }
-    ensures cause { IsErrOf result SessionStop.LinkFault
-        → FaultRose (L.faults link.old) (L.faults link.new) }
-    ensures misses { StaysWhereItStands (L.wire link.old) (L.misses link.old) (L.misses link.new) }
+    ensures counts { KeepsLinkCounts L.wire L.faults L.misses link.old link.new
+        (IsErrOf result SessionStop.LinkFault) }
     ensures inside { IfErr result IsOfLink }
 {
     match owner.batch_proposal(alloc, batch) {
@@ -51,10 +48,8 @@ pub fn propose_entry<O: SessionOwner, L: Link>(
         → RunsOnWire O.IsJudgement (proposal O.forms (O.forms.batch entry))
         (λ proofs. continuation_with proofs.items) result before (L.wire link.new) }
 
-    ensures counts { L.faults link.old ≤ L.faults link.new }
-    ensures cause { IsErrOf result SessionStop.LinkFault
-        → FaultRose (L.faults link.old) (L.faults link.new) }
-    ensures misses { StaysWhereItStands (L.wire link.old) (L.misses link.old) (L.misses link.new) }
+    ensures counts { KeepsLinkCounts L.wire L.faults L.misses link.old link.new
+        (IsErrOf result SessionStop.LinkFault) }
     ensures inside { IfErr result IsOfLink }
 {
     match owner.entry_proposal(alloc, index) {

@@ -1,9 +1,8 @@
 //! One exchange: a frame, and its answer.
 ghost use Rattle.std.specs.Prelude.{◌≡◌, ◌+◌, ◌<◌, ◌≤◌, ◌^◌, length, slice_index, Some, IfErr, IsErrOf};
 ghost use Rattle.outside.specs.ConnectionModel.{ConnectionModel};
-ghost use Rattle.outside.specs.FaultRose.{FaultRose};
 ghost use Rattle.link_frames.specs.Frames.{frame_bytes, first_frame};
-ghost use Rattle.link_frames.specs.Reading.{StaysWhereItStands};
+ghost use Rattle.link_frames.specs.Reading.{KeepsLinkCounts};
 ghost use Rattle.owner_session.specs.Endings.{IsOfLink};
 ghost use Rattle.owner_session.specs.Work.{is_refusal};
 ghost use Rattle.owner_session.specs.Runs.{Trades, AnswersBody};
@@ -27,10 +26,8 @@ pub fn trade<L: Link>(
         → Trades (frame_bytes kind body.now) (first_frame awaits before.coming) result before
         (L.wire link.new) }
 
-    ensures counts { L.faults link.old ≤ L.faults link.new }
-    ensures cause { IsErrOf result SessionStop.LinkFault
-        → FaultRose (L.faults link.old) (L.faults link.new) }
-    ensures misses { StaysWhereItStands (L.wire link.old) (L.misses link.old) (L.misses link.new) }
+    ensures counts { KeepsLinkCounts L.wire L.faults L.misses link.old link.new
+        (IsErrOf result SessionStop.LinkFault) }
     ensures inside { IfErr result IsOfLink }
 {
     match ask(alloc, link, kind, body, awaits) {

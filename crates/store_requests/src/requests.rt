@@ -1,13 +1,12 @@
 //! Requests of clients and owners, each one frame and its answer.
 ghost use Rattle.std.specs.Prelude.{◌≡◌, ◌+◌, ◌<◌, ◌≤◌, ◌^◌, [], length, Some, IsErrOf};
 ghost use Rattle.outside.specs.ConnectionModel.{ConnectionModel};
-ghost use Rattle.outside.specs.FaultRose.{FaultRose};
 ghost use Rattle.vo_spec.specs.Batches.{FitsBatch, batch_bytes};
 ghost use Rattle.vo_spec.specs.Journals.{max_signature};
 ghost use Rattle.link_frames.specs.declared.frame_kind.FrameKind.TheVariants.{Query, Status, Propose, Install};
 ghost use Rattle.link_frames.specs.declared.awaits.Awaits.TheVariants as awaits;
 ghost use Rattle.link_frames.specs.Frames.{frame_bytes, first_frame, max_query};
-ghost use Rattle.link_frames.specs.Reading.{StaysWhereItStands};
+ghost use Rattle.link_frames.specs.Reading.{KeepsLinkCounts};
 ghost use Rattle.connections.specs.Requesting.{Requests, answer_in};
 ghost use Rattle.store_requests.specs.Bodies.{install_bytes, standing_in, version_in};
 ghost use Rattle.store_requests.specs.Answers.{or_bad_frame, standing_answer, version_answer};
@@ -29,10 +28,8 @@ pub fn ask_link<L: Link>(alloc: Global, link: &mut L, text: &[u8]) -> Result<Vec
         (first_frame awaits.Reply before.coming)
         (answer_in (first_frame awaits.Reply before.coming)) result before (L.wire link.new) }
 
-    ensures counts { L.faults link.old ≤ L.faults link.new }
-    ensures cause { IsErrOf result WireFault.LinkFault
-        → FaultRose (L.faults link.old) (L.faults link.new) }
-    ensures misses { StaysWhereItStands (L.wire link.old) (L.misses link.old) (L.misses link.new) }
+    ensures counts { KeepsLinkCounts L.wire L.faults L.misses link.old link.new
+        (IsErrOf result WireFault.LinkFault) }
 {
     answer_body(alloc, link, FrameKind::Query, text, Awaits::Reply)
 }
@@ -45,10 +42,8 @@ pub fn status_link<L: Link>(alloc: Global, link: &mut L) -> Result<Option<Record
         (standing_answer (first_frame awaits.Standing before.coming)) result before
         (L.wire link.new) }
 
-    ensures counts { L.faults link.old ≤ L.faults link.new }
-    ensures cause { IsErrOf result WireFault.LinkFault
-        → FaultRose (L.faults link.old) (L.faults link.new) }
-    ensures misses { StaysWhereItStands (L.wire link.old) (L.misses link.old) (L.misses link.new) }
+    ensures counts { KeepsLinkCounts L.wire L.faults L.misses link.old link.new
+        (IsErrOf result WireFault.LinkFault) }
 {
     match answer_body(alloc, link, FrameKind::Status, &[], Awaits::Standing) {
         Ok(body) => standing_answer(&body),
@@ -68,10 +63,8 @@ pub fn propose_link<L: Link>(
         (first_frame awaits.Proofs before.coming)
         (answer_in (first_frame awaits.Proofs before.coming)) result before (L.wire link.new) }
 
-    ensures counts { L.faults link.old ≤ L.faults link.new }
-    ensures cause { IsErrOf result WireFault.LinkFault
-        → FaultRose (L.faults link.old) (L.faults link.new) }
-    ensures misses { StaysWhereItStands (L.wire link.old) (L.misses link.old) (L.misses link.new) }
+    ensures counts { KeepsLinkCounts L.wire L.faults L.misses link.old link.new
+        (IsErrOf result WireFault.LinkFault) }
 {
     match batch_bytes(alloc, batch) {
         Ok(body) => answer_body(alloc, link, FrameKind::Propose, &body, Awaits::Proofs),
@@ -94,10 +87,8 @@ pub fn install_link<L: Link>(
         (version_answer (first_frame awaits.Installed before.coming)) result before
         (L.wire link.new) }
 
-    ensures counts { L.faults link.old ≤ L.faults link.new }
-    ensures cause { IsErrOf result WireFault.LinkFault
-        → FaultRose (L.faults link.old) (L.faults link.new) }
-    ensures misses { StaysWhereItStands (L.wire link.old) (L.misses link.old) (L.misses link.new) }
+    ensures counts { KeepsLinkCounts L.wire L.faults L.misses link.old link.new
+        (IsErrOf result WireFault.LinkFault) }
 {
     match install_body(alloc, rec, signature) {
         Ok(body) => request_install(alloc, link, &body),
@@ -114,10 +105,8 @@ fn request_install<L: Link>(alloc: Global, link: &mut L, body: &[u8]) -> Result<
         (version_answer (first_frame awaits.Installed before.coming)) result before
         (L.wire link.new) }
 
-    ensures counts { L.faults link.old ≤ L.faults link.new }
-    ensures cause { IsErrOf result WireFault.LinkFault
-        → FaultRose (L.faults link.old) (L.faults link.new) }
-    ensures misses { StaysWhereItStands (L.wire link.old) (L.misses link.old) (L.misses link.new) }
+    ensures counts { KeepsLinkCounts L.wire L.faults L.misses link.old link.new
+        (IsErrOf result WireFault.LinkFault) }
 {
     match answer_body(alloc, link, FrameKind::Install, body, Awaits::Installed) {
         Ok(answer) => version_answer(&answer),

@@ -1,5 +1,5 @@
 -- The owner of a key behind its journal.
-use Rattle.std.proofs.Common.{◌≡◌, ℕ, zero, suc, ◌+◌, ◌<◌, ◌≤◌, false, List, [], ◌∷◌, ◌++◌, Option, Some, None, Result, Ok, Err, length, slice_get, refl, sym, ap, ◌∙◌, subst, arith}
+use Rattle.std.proofs.Common.{◌≡◌, ℕ, zero, suc, ◌+◌, List, [], ◌∷◌, ◌++◌, Option, Some, None, Ok, Err, length, slice_get, sym, ap, ◌∙◌, subst, arith}
 use mathlib.Core.Logic.{inl, inr}
 use Rattle.std.proofs.lemmas.List.{length-append}
 use Rattle.std.specs.Prelude.{◌⊎◌, IfSome}
@@ -10,7 +10,6 @@ use Rattle.vo_spec.specs.declared.records.Record.{Record}
 use Rattle.vo_spec.specs.Journals.{FitsEntry}
 use Rattle.vo_spec.specs.Records.{FitsCatalog}
 use Rattle.vo_spec.specs.Secret.{Secret, public_of_secret}
-use Rattle.owner_roots.specs.declared.owner_fault.OwnerFault.{OwnerFault}
 use Rattle.owner_roots.specs.declared.owner_fault.OwnerFault.TheVariants as owner
 use Rattle.owner_roots.specs.declared.roots.Roots.{Roots}
 use Rattle.owner_roots.specs.Owners.{IsNextEntry, first_roots, record_of_roots}
@@ -24,9 +23,8 @@ use Rattle.owner_journal.specs.declared.fault.JournalFault.{JournalFault}
 use Rattle.owner_journal.specs.declared.fault.JournalFault.TheVariants as fault
 use Rattle.owner_journal.specs.Resting.{IsFaultOf}
 use Rattle.vo_commands.specs.declared.report.Stop.{Stop}
-use Rattle.vo_commands.specs.declared.report.Stop.TheVariants.{Refused, Outside, Memory}
 use Rattle.vo_commands.specs.Committing.{AreOfVersions, Follows}
-use Rattle.vo_commands.specs.Owning.{IsBadJournal, StopsAtFault, StopsOpening, StopsReplaying}
+use Rattle.vo_commands.specs.Owning.{IsBadJournal, StopsAtFault, StopsOpening}
 
 module _ (secret : Secret) where
   step_versions : (before : Roots) (e : Entry) (after : Roots) → IsStepTo secret before e after

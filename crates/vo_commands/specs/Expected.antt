@@ -3,14 +3,13 @@ use Rattle.std.specs.Prelude.{◌≡◌, ◌⊎◌, ℕ, Bool, true, false, ◌&
 use Rattle.std.specs.Option.{option_map_or}
 use Rattle.std.specs.Str.{is_utf8}
 use Rattle.outside.specs.Shelf.{Files}
-use Rattle.outside.specs.Sink.{append_known}
 use Rattle.outside.specs.ConnectionModel.{ConnectionModel, open_next}
 use Rattle.link_frames.specs.declared.awaits.Awaits.TheVariants.{Reply as ReplyAwaited}
 use Rattle.link_frames.specs.declared.frame_kind.FrameKind.{FrameKind}
 use Rattle.link_frames.specs.declared.frame_kind.FrameKind.TheVariants.{Query as QueryFrame, Refusal}
 use Rattle.link_frames.specs.Frames.{Coming, Whole, Ended, Cut, Bad, first_frame, frame_bytes}
 use Rattle.link_frames.specs.Reading.{IsHalfAsked}
-use Rattle.exit_output.specs.Outputs.{Output, Writes, line, outside_failure}
+use Rattle.exit_output.specs.Outputs.{Output, Writes, outside_failure}
 use Rattle.vo_spec.specs.declared.signatures.OtsType.TheVariants.{W8}
 use Rattle.vo_spec.specs.declared.tables.Batch.{Batch}
 use Rattle.vo_spec.specs.declared.records.Entry.{Entry}

@@ -2,6 +2,7 @@
 ghost use Rattle.std.specs.Prelude.{◌≡◌, ◌⊎◌, ◌≤◌, [], ◌∷◌, length, Some, IsTrue, IfSome};
 ghost use Rattle.outside.specs.ConnectionModel.{ConnectionModel, has_next};
 ghost use Rattle.outside.specs.FaultRose.{FaultRose};
+ghost use Rattle.link_frames.specs.Reading.{KeepsNetCounts};
 ghost use Rattle.link_frames.specs.declared.frame_kind.FrameKind.TheVariants.{Query};
 ghost use Rattle.link_frames.specs.Frames.{frame_bytes, max_query};
 ghost use Rattle.vo_spec.specs.Conditions.{query_of};
@@ -65,11 +66,8 @@ fn ask_by_key<N: Net>(
     ensures asks { (before : ConnectionModel) → N.wire net.old ≡ Some before
         → AsksOnly (frame_bytes Query query.now) before (N.wire net.new) }
 
-    ensures counts { N.faults net.old ≤ N.faults net.new }
-    ensures cause { FailsOutside result
-        → FaultRose (N.faults net.old) (N.faults net.new) }
-    ensures misses { (before : ConnectionModel) → N.wire net.old ≡ Some before
-        → IsTrue (has_next before) → N.misses net.new ≡ N.misses net.old }
+    ensures counts { KeepsNetCounts N.wire N.faults N.misses net.old net.new
+        (FailsOutside result) }
 {
     let text = query_in(alloc, query)?;
     ask_store(alloc, net, address, key, query, &text, least)
@@ -93,11 +91,8 @@ fn ask_store<N: Net>(
     ensures asks { (before : ConnectionModel) → N.wire net.old ≡ Some before
         → AsksOnly (frame_bytes Query text.now) before (N.wire net.new) }
 
-    ensures counts { N.faults net.old ≤ N.faults net.new }
-    ensures cause { FailsOutside result
-        → FaultRose (N.faults net.old) (N.faults net.new) }
-    ensures misses { (before : ConnectionModel) → N.wire net.old ≡ Some before
-        → IsTrue (has_next before) → N.misses net.new ≡ N.misses net.old }
+    ensures counts { KeepsNetCounts N.wire N.faults N.misses net.old net.new
+        (FailsOutside result) }
 {
     let mut client = Client::new(key, least);
     let mut checking = client.begin(alloc, query);

@@ -1,7 +1,7 @@
 //! Checking the reply of a store as it comes, over a network.
 ghost use Rattle.std.specs.Prelude.{◌≡◌, ◌<◌, ◌≤◌, ◌^◌, [], length, Some, IsTrue, IfOk, OnOk};
 ghost use Rattle.outside.specs.ConnectionModel.{ConnectionModel, has_next};
-ghost use Rattle.outside.specs.FaultRose.{FaultRose};
+ghost use Rattle.link_frames.specs.Reading.{KeepsNetCounts};
 ghost use Rattle.link_frames.specs.declared.frame_kind.FrameKind.TheVariants.{Query};
 ghost use Rattle.link_frames.specs.Frames.{frame_bytes, max_query};
 ghost use Rattle.vo_commands.specs.Expected.{AsksOnly, with_reply};
@@ -34,11 +34,8 @@ pub fn feed_reply<N: Net>(
     ensures short { OnOk result (length checking.new.bytes < 2 ^ 32) }
     ensures query { checking.new.query ≡ checking.old.query }
 
-    ensures counts { N.faults net.old ≤ N.faults net.new }
-    ensures cause { FailsOutside result
-        → FaultRose (N.faults net.old) (N.faults net.new) }
-    ensures misses { (before : ConnectionModel) → N.wire net.old ≡ Some before
-        → IsTrue (has_next before) → N.misses net.new ≡ N.misses net.old }
+    ensures counts { KeepsNetCounts N.wire N.faults N.misses net.old net.new
+        (FailsOutside result) }
 {
     match fetch_into(alloc, net, address, query.as_bytes(), checking) {
         Ok(()) => Ok(()),

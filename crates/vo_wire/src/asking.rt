@@ -1,11 +1,10 @@
 //! Asking a store, with the reply checked as it comes.
 ghost use Rattle.std.specs.Prelude.{◌≡◌, ◌+◌, ◌<◌, ◌≤◌, ◌^◌, length, Some, IsTrue, OnOk, IsErrOf};
 ghost use Rattle.outside.specs.ConnectionModel.{ConnectionModel, has_next};
-ghost use Rattle.outside.specs.FaultRose.{FaultRose};
 ghost use Rattle.link_frames.specs.declared.awaits.Awaits.TheVariants.{Reply};
 ghost use Rattle.link_frames.specs.declared.frame_kind.FrameKind.TheVariants.{Query};
 ghost use Rattle.link_frames.specs.Frames.{frame_bytes, first_frame, max_query};
-ghost use Rattle.link_frames.specs.Reading.{StaysWhereItStands};
+ghost use Rattle.link_frames.specs.Reading.{KeepsLinkCounts, KeepsNetCounts};
 ghost use Rattle.connections.specs.Requesting.{RequestsInto};
 ghost use Rattle.connections.specs.Fetching.{Fetches};
 ghost use Rattle.vo_check.specs.Checkings.{with_piece};
@@ -35,10 +34,8 @@ pub fn ask_into<L: Link>(
         (length checking.new.bytes + 1 < length checking.old.bytes + 2 ^ 32) }
     ensures query { checking.new.query ≡ checking.old.query }
 
-    ensures counts { L.faults link.old ≤ L.faults link.new }
-    ensures cause { IsErrOf result WireFault.LinkFault
-        → FaultRose (L.faults link.old) (L.faults link.new) }
-    ensures misses { StaysWhereItStands (L.wire link.old) (L.misses link.old) (L.misses link.new) }
+    ensures counts { KeepsLinkCounts L.wire L.faults L.misses link.old link.new
+        (IsErrOf result WireFault.LinkFault) }
 {
     let mut feeder = Feeder { alloc, checking };
     answer_into(link, FrameKind::Query, text, Awaits::Reply, &mut feeder)
@@ -61,11 +58,8 @@ pub fn fetch_into<N: Net>(
         (length checking.new.bytes + 1 < length checking.old.bytes + 2 ^ 32) }
     ensures query { checking.new.query ≡ checking.old.query }
 
-    ensures counts { N.faults net.old ≤ N.faults net.new }
-    ensures cause { IsErrOf result WireFault.LinkFault
-        → FaultRose (N.faults net.old) (N.faults net.new) }
-    ensures misses { (before : ConnectionModel) → N.wire net.old ≡ Some before
-        → IsTrue (has_next before) → N.misses net.new ≡ N.misses net.old }
+    ensures counts { KeepsNetCounts N.wire N.faults N.misses net.old net.new
+        (IsErrOf result WireFault.LinkFault) }
 {
     let mut feeder = Feeder { alloc, checking };
     connections::fetch_into(net, address, text, &mut feeder)

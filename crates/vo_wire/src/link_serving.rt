@@ -1,8 +1,7 @@
 //! Serving one connection by a store.
 ghost use Rattle.std.specs.Prelude.{◌≡◌, ◌≤◌, Some};
 ghost use Rattle.outside.specs.ConnectionModel.{ConnectionModel};
-ghost use Rattle.outside.specs.FaultRose.{FaultRose};
-ghost use Rattle.link_frames.specs.Reading.{StaysWhereItStands};
+ghost use Rattle.link_frames.specs.Reading.{KeepsLinkCounts};
 ghost use Rattle.link_frames.specs.Serving.{serving_script, max_turns, ServesKnown};
 ghost use Rattle.vo_wire.specs.Answering.{reply_to, next_after};
 
@@ -20,9 +19,8 @@ pub fn serve_link<L: Link>(alloc: Global, store: &mut Store, link: &mut L) -> En
         → ServesKnown (serving_script reply_to next_after max_turns store.old before.coming)
         result store.old store.new before (L.wire link.new) }
 
-    ensures counts { L.faults link.old ≤ L.faults link.new }
-    ensures cause { result ≡ End.LinkFault → FaultRose (L.faults link.old) (L.faults link.new) }
-    ensures misses { StaysWhereItStands (L.wire link.old) (L.misses link.old) (L.misses link.new) }
+    ensures counts { KeepsLinkCounts L.wire L.faults L.misses link.old link.new
+        (result ≡ End.LinkFault) }
 {
     let (_, end) = serve_lent::<Brand, L>(alloc, LentStore { store }, link);
     end
@@ -40,9 +38,8 @@ fn serve_lent<'a, K: Loan, L: Link>(
         (serving_script reply_to next_after max_turns lent.entry.store.now before.coming)
         result.1 lent.entry.store.now result.0.store.now before (L.wire link.new) }
 
-    ensures counts { L.faults link.old ≤ L.faults link.new }
-    ensures cause { result.1 ≡ End.LinkFault → FaultRose (L.faults link.old) (L.faults link.new) }
-    ensures misses { StaysWhereItStands (L.wire link.old) (L.misses link.old) (L.misses link.new) }
+    ensures counts { KeepsLinkCounts L.wire L.faults L.misses link.old link.new
+        (result.1 ≡ End.LinkFault) }
 {
     let mut server: StoreServer<'a, K> = StoreServer {
         lent,

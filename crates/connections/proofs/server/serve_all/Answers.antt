@@ -10,16 +10,16 @@ loop-served-init g c =
 pub loop-served-preserved : goal.loop-served-preserved
 loop-served-preserved g c =
     serves_more _ _ _ c.in-Ok.field-0 _ _ _ _ _ _ _ _ _ _ _ _ _ _ _ _ _ _ c.loop-served.invariant c.in-Ok.ensures.served
-    c.serve_next.ensures.counts c.serve_next.ensures.misses c.serve_next.ensures.out_counts
+    c.serve_next.ensures.counts.rise c.serve_next.ensures.counts.stays c.serve_next.ensures.out_counts
 
 pub returns-in-Err-clause-served : goal.returns-in-Err-clause-served
 returns-in-Err-clause-served g c =
     serves_to_fault _ _ _ _ c.in-Err.fault _ _ _ _ _ _ _ _ _ _ _ _ _ _ _ _ (omega arith) c.loop-served.invariant c.in-Err.ensures.served
-    c.serve_next.ensures.counts
-
-pub returns-in-Err-clause-misses : goal.returns-in-Err-clause-misses
-returns-in-Err-clause-misses g c =
-    misses_stay _ _ _ _ _ _ _ _ _ _ _ _ _ _ _ _ _ (omega arith) c.loop-served.invariant c.serve_next.ensures.misses
+    c.serve_next.ensures.counts.rise
 
 pub returns-clause-served : goal.returns-clause-served
 returns-clause-served g c = serves_all _ _ _ _ _ _ _ _ _ _ _ _ _ _ _ _ _ (omega arith) c.loop-served.invariant
+
+pub returns-in-Err-clause-misses : goal.returns-in-Err-clause-misses
+returns-in-Err-clause-misses g c =
+    misses_stay _ _ _ _ _ _ _ _ _ _ _ _ _ _ _ _ _ (omega arith) c.loop-served.invariant c.serve_next.ensures.counts.stays

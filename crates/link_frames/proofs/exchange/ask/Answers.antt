@@ -3,8 +3,6 @@ use Rattle.outside.specs.ConnectionModel.{send_known, send_on}
 use Rattle.link_frames.specs.Frames.{frame_bytes, first_frame}
 use Rattle.link_frames.specs.Reading.{IsWhole}
 use Rattle.link_frames.proofs.ReadLaws.{read_asks}
-use Rattle.link_frames.proofs.Putting.{stands_sent}
-use Rattle.link_frames.proofs.Filling.{stays_on}
 use Rattle.link_frames.proofs.exchange.ask.Goals as goal
 
 pub returns-in-Ok-clause-known : goal.returns-in-Ok-clause-known
@@ -14,25 +12,14 @@ returns-in-Ok-clause-known g c =
     read_asks IsWhole frame (first_frame c.args.awaits before.coming) c.read_frame.result before (g.L.Link.wire c.read_frame.new.link)
     (c.read_frame.ensures.known (send_on frame before) (c.in-Ok.ensures.ok ∙ ap (send_known frame) is))
 
-pub returns-in-Ok-clause-misses : goal.returns-in-Ok-clause-misses
-returns-in-Ok-clause-misses g c =
-    stays_on _ _ _ _ _ (stands_sent (frame_bytes c.args.kind c.args.body.now) _ _ c.in-Ok.ensures.ok)
-    c.put_frame.ensures.misses c.read_frame.ensures.misses
-
 pub returns-in-Err-Failed-clause-known : goal.returns-in-Err-Failed-clause-known
 returns-in-Err-Failed-clause-known g c =
     λ before is.
     let put = c.in-Err-Failed.ensures.err refl in
     inl (put.0, put.1 ∙ ap (send_known (take put.0 (frame_bytes c.args.kind c.args.body.now))) is)
 
-pub returns-in-Err-Failed-clause-misses : goal.returns-in-Err-Failed-clause-misses
-returns-in-Err-Failed-clause-misses g c = c.put_frame.ensures.misses
-
 pub returns-in-Err-Memory-clause-known : goal.returns-in-Err-Memory-clause-known
 returns-in-Err-Memory-clause-known g c =
     λ before is.
     let put = c.in-Err-Memory.ensures.err refl in
     inl (put.0, put.1 ∙ ap (send_known (take put.0 (frame_bytes c.args.kind c.args.body.now))) is)
-
-pub returns-in-Err-Memory-clause-misses : goal.returns-in-Err-Memory-clause-misses
-returns-in-Err-Memory-clause-misses g c = c.put_frame.ensures.misses

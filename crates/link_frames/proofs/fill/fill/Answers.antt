@@ -1,3 +1,4 @@
+use Rattle.std.proofs.lemmas.Bool.{false≢true}
 use Rattle.std.proofs.Common.{ℕ, ◌+◌, ◌≤◌, length, refl, ◌∙◌, arith}
 use Rattle.std.proofs.lemmas.List.{take_rest}
 use Rattle.link_frames.proofs.Filling.{misses_stay, filled_none, filled_more, filled_within, filled_end, filled_full, fills_err}
@@ -17,19 +18,11 @@ returns-in_err-count-clause-known g c =
     λ before is. fills_err _ _ _ c.from_residual.result before _ c.from_residual.ensures.0
     (c.loop-filled.filled, c.in_err-count.ensures.err ∙ (c.loop-filled.invariant.known before is).2)
 
-pub returns-in_err-count-clause-misses : goal.returns-in_err-count-clause-misses
-returns-in_err-count-clause-misses g c =
-    misses_stay c.loop-filled.filled _ _ _ _ _ (λ before is. (c.loop-filled.invariant.known before is).2) c.loop-filled.invariant.stays c.get.ensures.misses
-
 pub returns-in-0-clause-known : goal.returns-in-0-clause-known
 returns-in-0-clause-known g c =
     λ before is. filled_end ℕ c.loop-filled.filled c.in_ok-count.count c.args.into.now c.loop-filled.into _ c.get.new.into
     before _ _ c.in-0.is (omega arith) (omega arith) (take_rest c.loop-filled.into c.loop-filled.filled)
     (c.loop-filled.invariant.known before is) c.in_ok-count.ensures.taken c.in_ok-count.ensures.ok
-
-pub returns-in-0-clause-misses : goal.returns-in-0-clause-misses
-returns-in-0-clause-misses g c =
-    misses_stay c.loop-filled.filled _ _ _ _ _ (λ before is. (c.loop-filled.invariant.known before is).2) c.loop-filled.invariant.stays c.get.ensures.misses
 
 pub loop-filled-preserved : goal.loop-filled-preserved
 loop-filled-preserved g c =
@@ -49,5 +42,18 @@ returns-clause-known g c =
     λ before is. filled_full ℕ c.loop-filled.filled c.args.into.now c.loop-filled.into before _ (omega arith) c.loop-filled.invariant.within
     (c.loop-filled.invariant.known before is)
 
-pub returns-clause-misses : goal.returns-clause-misses
-returns-clause-misses g c = c.loop-filled.invariant.stays
+pub returns-in_err-count-clause-counts : goal.returns-in_err-count-clause-counts
+returns-in_err-count-clause-counts g c =
+    record {
+      rise = omega (arith, c.loop-filled.invariant.counts, c.get.ensures.counts);
+      cause = λ err. omega (arith, c.loop-filled.invariant.counts, c.in_err-count.ensures.cause refl);
+      stays = misses_stay c.loop-filled.filled _ _ _ _ _ (λ before is. (c.loop-filled.invariant.known before is).2) c.loop-filled.invariant.stays c.get.ensures.misses;
+    }
+
+pub returns-in-0-clause-counts : goal.returns-in-0-clause-counts
+returns-in-0-clause-counts g c =
+    record {
+      rise = omega (arith, c.loop-filled.invariant.counts, c.get.ensures.counts);
+      cause = λ err. absurd (false≢true err);
+      stays = misses_stay c.loop-filled.filled _ _ _ _ _ (λ before is. (c.loop-filled.invariant.known before is).2) c.loop-filled.invariant.stays c.get.ensures.misses;
+    }

@@ -23,10 +23,6 @@ returns-in_err-came-clause-known g c =
     λ before is. hands_err _ _ _ c.from_residual.result before _ c.from_residual.ensures.0
     (some_later c.loop-handed.handed before _ (c.in_err-came.ensures.known (take_from c.loop-handed.handed before) (c.loop-handed.invariant.handing.known before is).2))
 
-pub returns-in_err-came-clause-misses : goal.returns-in_err-came-clause-misses
-returns-in_err-came-clause-misses g c =
-    stays_on _ _ _ _ _ (λ before is. (take_from c.loop-handed.handed before, (c.loop-handed.invariant.handing.known before is).2, refl)) c.loop-handed.invariant.handing.stays c.hand_piece.ensures.misses
-
 pub returns-in-0-clause-known : goal.returns-in-0-clause-known
 returns-in-0-clause-known g c =
     λ before is. handed_end c.loop-handed.handed c.in_ok-came.came c.args.count (length (take c.min-room.result c.loop-handed.piece))
@@ -38,10 +34,6 @@ pub returns-in-0-clause-grows : goal.returns-in-0-clause-grows
 returns-in-0-clause-grows g c =
     omega (arith, c.in_ok-came.ensures.grows, c.loop-handed.invariant.handing.grows, c.in-0.is)
 
-pub returns-in-0-clause-misses : goal.returns-in-0-clause-misses
-returns-in-0-clause-misses g c =
-    stays_on _ _ _ _ _ (λ before is. (take_from c.loop-handed.handed before, (c.loop-handed.invariant.handing.known before is).2, refl)) c.loop-handed.invariant.handing.stays c.hand_piece.ensures.misses
-
 pub loop-handed-preserved : goal.loop-handed-preserved
 loop-handed-preserved g c =
     record {
@@ -52,8 +44,8 @@ loop-handed-preserved g c =
             (g.G.Gathers.gathered c.args.into.now) (g.G.Gathers.gathered c.loop-handed.into) (g.G.Gathers.gathered c.hand_piece.new.into)
             before (g.L.Link.wire c.loop-handed.link) (g.L.Link.wire c.hand_piece.new.link)
             (c.loop-handed.invariant.handing.known before is) c.in_ok-came.ensures.known;
-        counts = omega (arith, c.hand_piece.ensures.counts);
-        stays = stays_on _ _ _ _ _ (λ before is. (take_from c.loop-handed.handed before, (c.loop-handed.invariant.handing.known before is).2, refl)) c.loop-handed.invariant.handing.stays c.hand_piece.ensures.misses;
+        counts = omega (arith, c.hand_piece.ensures.counts.rise);
+        stays = stays_on _ _ _ _ _ (λ before is. (take_from c.loop-handed.handed before, (c.loop-handed.invariant.handing.known before is).2, refl)) c.loop-handed.invariant.handing.stays c.hand_piece.ensures.counts.stays;
       };
       kept = c.hand_piece.ensures.kept ∙ c.loop-handed.invariant.kept;
     }
@@ -66,5 +58,18 @@ returns-clause-known g c =
 pub returns-clause-grows : goal.returns-clause-grows
 returns-clause-grows g c = c.loop-handed.invariant.handing.grows
 
-pub returns-clause-misses : goal.returns-clause-misses
-returns-clause-misses g c = c.loop-handed.invariant.handing.stays
+pub returns-in_err-came-clause-counts : goal.returns-in_err-came-clause-counts
+returns-in_err-came-clause-counts g c =
+    record {
+      rise = omega (arith, c.loop-handed.invariant.handing.counts, c.hand_piece.ensures.counts.rise);
+      cause = grind arith;
+      stays = stays_on _ _ _ _ _ (λ before is. (take_from c.loop-handed.handed before, (c.loop-handed.invariant.handing.known before is).2, refl)) c.loop-handed.invariant.handing.stays c.hand_piece.ensures.counts.stays;
+    }
+
+pub returns-in-0-clause-counts : goal.returns-in-0-clause-counts
+returns-in-0-clause-counts g c =
+    record {
+      rise = omega (arith, c.loop-handed.invariant.handing.counts, c.hand_piece.ensures.counts.rise);
+      cause = grind arith;
+      stays = stays_on _ _ _ _ _ (λ before is. (take_from c.loop-handed.handed before, (c.loop-handed.invariant.handing.known before is).2, refl)) c.loop-handed.invariant.handing.stays c.hand_piece.ensures.counts.stays;
+    }

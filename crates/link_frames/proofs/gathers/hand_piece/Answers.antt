@@ -1,12 +1,9 @@
 use Rattle.std.proofs.Common.{◌∙◌, arith}
-use Rattle.link_frames.proofs.Filling.{counted, one_piece, piece_grows}
+use Rattle.link_frames.proofs.Filling.{one_piece, piece_grows}
 use Rattle.link_frames.proofs.gathers.hand_piece.Goals as goal
 
 pub returns-in-Err-clause-known : goal.returns-in-Err-clause-known
 returns-in-Err-clause-known g c = λ before is. (0, c.in-Err.ensures.err ∙ is)
-
-pub returns-in-Err-clause-misses : goal.returns-in-Err-clause-misses
-returns-in-Err-clause-misses g c = counted _ _ _ c.get.ensures.misses
 
 pub returns-in-Ok-add-clause-known : goal.returns-in-Ok-add-clause-known
 returns-in-Ok-add-clause-known g c =
@@ -16,6 +13,3 @@ returns-in-Ok-add-clause-known g c =
 pub returns-in-Ok-add-clause-grows : goal.returns-in-Ok-add-clause-grows
 returns-in-Ok-add-clause-grows g c =
     piece_grows c.in-Ok.came _ _ c.get.new.into (omega (arith, c.in-Ok.ensures.some)) c.in-Ok-add.ensures.added
-
-pub returns-in-Ok-add-clause-misses : goal.returns-in-Ok-add-clause-misses
-returns-in-Ok-add-clause-misses g c = counted _ _ _ c.get.ensures.misses

@@ -1,6 +1,5 @@
 use Rattle.std.proofs.Common.{◌+◌, length, refl}
-use Rattle.link_frames.proofs.Putting.{put_whole, put_body_front, put_head_front, on_ok_err, stands_sent}
-use Rattle.link_frames.proofs.Filling.{counted, stays_on}
+use Rattle.link_frames.proofs.Putting.{put_whole, put_body_front, put_head_front, on_ok_err}
 use Rattle.link_frames.proofs.put.put_frame.Goals as goal
 
 pub returns-in_err-put-clause-ok : goal.returns-in_err-put-clause-ok
@@ -11,9 +10,6 @@ returns-in_err-put-clause-err g c =
     λ err. put_head_front c.args.kind (length c.args.body.now + 1) _ c.args.body.now c.in_err-put.field-0.0 _ _ c.head_bytes.ensures refl
     c.in_err-put.ensures.failed c.in_err-put.ensures.memory
 
-pub returns-in_err-put-clause-misses : goal.returns-in_err-put-clause-misses
-returns-in_err-put-clause-misses g c = counted _ _ _ c.put.ensures.misses
-
 pub returns-clause-ok : goal.returns-clause-ok
 returns-clause-ok g c =
     put_whole c.args.kind (length c.args.body.now + 1) _ c.args.body.now c.put-2.result _ _ _ c.head_bytes.ensures refl
@@ -23,8 +19,3 @@ pub returns-clause-err : goal.returns-clause-err
 returns-clause-err g c =
     put_body_front c.args.kind (length c.args.body.now + 1) _ c.args.body.now c.put-2.result _ _ _ c.head_bytes.ensures refl
     c.in_ok-put.ensures.ok c.put-2.ensures.failed c.put-2.ensures.memory
-
-pub returns-clause-misses : goal.returns-clause-misses
-returns-clause-misses g c =
-    stays_on _ _ _ _ _ (stands_sent _ _ _ c.in_ok-put.ensures.ok) (counted _ _ _ c.put.ensures.misses)
-    (counted _ _ _ c.put-2.ensures.misses)

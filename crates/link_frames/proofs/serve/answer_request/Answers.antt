@@ -1,4 +1,4 @@
-use Rattle.std.proofs.Common.{◌+◌, ◌<◌, ◌^◌, length, IfSome, refl, subst, rules}
+use Rattle.std.proofs.Common.{◌+◌, ◌<◌, ◌^◌, length, IfSome, subst, rules}
 use Rattle.link_frames.specs.declared.frame.Frame.{Frame}
 use Rattle.std.proofs.Common.{Option}
 use Rattle.link_frames.proofs.ServeLaws.{replied, replied_none, goes_next, puts_answer, no_answer, no_memory}
@@ -18,9 +18,6 @@ returns-in-Ok-Some-clause-known g c =
     c.in-Ok-Some.field-0-is c.deref.ensures.value c.in-Ok-Some.ensures.next)
     (c.put_answer.ensures.known before is)
 
-pub returns-in-Ok-Some-clause-misses : goal.returns-in-Ok-Some-clause-misses
-returns-in-Ok-Some-clause-misses g c = c.put_answer.ensures.misses
-
 pub returns-in-Ok-None-clause-known : goal.returns-in-Ok-None-clause-known
 returns-in-Ok-None-clause-known g c =
     λ before is. no_answer g.A.Responder.reply g.A.Responder.next c.args.request.now.kind c.args.request.now.body.items c.len.result (g.A.Responder.state c.args.store.now) (g.A.Responder.state c.answer.new.self) before (g.L.Link.wire c.args.link.now) (search rules)
@@ -28,12 +25,6 @@ returns-in-Ok-None-clause-known g c =
     c.in-Ok-None.field-0-is c.deref.ensures.value c.in-Ok-None.ensures.reply)
     (c.in-Ok-None.ensures.none c.in-Ok-None.field-0-is) is
 
-pub returns-in-Ok-None-clause-misses : goal.returns-in-Ok-None-clause-misses
-returns-in-Ok-None-clause-misses g c = λ w is stands. refl
-
 pub returns-in-Err-clause-known : goal.returns-in-Err-clause-known
 returns-in-Err-clause-known g c =
     λ before is. no_memory g.A.Responder.reply g.A.Responder.next c.args.request.now.kind c.args.request.now.body.items (g.A.Responder.state c.args.store.now) (g.A.Responder.state c.answer.new.self) before (g.L.Link.wire c.args.link.now) c.in-Err.ensures.err is
-
-pub returns-in-Err-clause-misses : goal.returns-in-Err-clause-misses
-returns-in-Err-clause-misses g c = λ w is stands. refl

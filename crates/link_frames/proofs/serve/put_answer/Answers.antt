@@ -10,21 +10,12 @@ returns-in-Ok-clause-known g c =
     λ before is. put_ok c.args.answer.now.kind c.deref.result.now c.args.answer.now.body.items before (g.L.Link.wire c.args.link.now) (g.L.Link.wire c.put_frame.new.link)
     c.deref.ensures.value is c.in-Ok.ensures.ok
 
-pub returns-in-Ok-clause-misses : goal.returns-in-Ok-clause-misses
-returns-in-Ok-clause-misses g c = c.put_frame.ensures.misses
-
 pub returns-in-Err-Failed-clause-known : goal.returns-in-Err-Failed-clause-known
 returns-in-Err-Failed-clause-known g c =
     λ before is. put_err c.args.answer.now.kind c.deref.result.now c.args.answer.now.body.items before (g.L.Link.wire c.args.link.now) (g.L.Link.wire c.put_frame.new.link)
     c.deref.ensures.value is (c.in-Err-Failed.ensures.err refl)
 
-pub returns-in-Err-Failed-clause-misses : goal.returns-in-Err-Failed-clause-misses
-returns-in-Err-Failed-clause-misses g c = c.put_frame.ensures.misses
-
 pub returns-in-Err-Memory-clause-known : goal.returns-in-Err-Memory-clause-known
 returns-in-Err-Memory-clause-known g c =
     λ before is. put_err c.args.answer.now.kind c.deref.result.now c.args.answer.now.body.items before (g.L.Link.wire c.args.link.now) (g.L.Link.wire c.put_frame.new.link)
     c.deref.ensures.value is (c.in-Err-Memory.ensures.err refl)
-
-pub returns-in-Err-Memory-clause-misses : goal.returns-in-Err-Memory-clause-misses
-returns-in-Err-Memory-clause-misses g c = c.put_frame.ensures.misses

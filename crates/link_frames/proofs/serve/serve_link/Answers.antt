@@ -10,18 +10,19 @@ loop-turn-init g c =
 pub loop-turn-preserved : goal.loop-turn-preserved
 loop-turn-preserved g c =
     serving_more _ _ _ _ _ _ _ _ _ _ _ _ _ _ _ c.in-Ok.field-0 (omega arith) c.loop-turn.invariant c.in-Ok.ensures.known
-    c.serve_request.ensures.counts c.serve_request.ensures.misses
+    c.serve_request.ensures.counts.rise c.serve_request.ensures.counts.stays
 
 pub returns-in-Err-clause-known : goal.returns-in-Err-clause-known
 returns-in-Err-clause-known g c =
     serving_ends _ _ _ c.in-Err.end _ _ _ _ _ _ _ _ _ _ (omega arith) c.loop-turn.invariant c.in-Err.ensures.known
 
-pub returns-in-Err-clause-misses : goal.returns-in-Err-clause-misses
-returns-in-Err-clause-misses g c =
-    serving_stays _ _ _ _ _ _ _ _ _ _ _ _ c.loop-turn.invariant c.serve_request.ensures.misses
-
 pub returns-clause-known : goal.returns-clause-known
 returns-clause-known g c = serving_all _ _ _ _ _ _ _ _ _ _ _ (omega arith) c.loop-turn.invariant
 
-pub returns-clause-misses : goal.returns-clause-misses
-returns-clause-misses g c = c.loop-turn.invariant.stays
+pub returns-in-Err-clause-counts : goal.returns-in-Err-clause-counts
+returns-in-Err-clause-counts g c =
+    record {
+      rise = omega (arith, c.loop-turn.invariant.counts, c.serve_request.ensures.counts.rise);
+      cause = grind arith;
+      stays = serving_stays _ _ _ _ _ _ _ _ _ _ _ _ c.loop-turn.invariant c.serve_request.ensures.counts.stays;
+    }

@@ -1,4 +1,4 @@
-use Rattle.std.proofs.Common.{length, refl, sym, subst}
+use Rattle.std.proofs.Common.{arith, length, refl, sym, subst}
 use Rattle.outside.specs.ConnectionModel.{take_from}
 use Rattle.link_frames.specs.declared.awaits.Awaits.TheVariants.{Request}
 use Rattle.link_frames.specs.declared.end.End.{End}
@@ -22,11 +22,6 @@ returns-in-Ok-clause-known g c =
     (g.A.Responder.state c.answer_request.new.store) before (g.L.Link.wire c.read_frame.new.link) (g.L.Link.wire c.answer_request.new.link)
     read.0 read.1 c.answer_request.ensures.known
 
-pub returns-in-Ok-clause-misses : goal.returns-in-Ok-clause-misses
-returns-in-Ok-clause-misses g c =
-    stays_on _ _ _ _ _ (λ before is. (take_from (c.in-Ok.ensures.known before is).1.0 before, (c.in-Ok.ensures.known before is).1.2, refl))
-    c.read_frame.ensures.misses c.answer_request.ensures.misses
-
 pub returns-in-Err-clause-known : goal.returns-in-Err-clause-known
 returns-in-Err-clause-known g c =
     λ before is. subst
@@ -35,5 +30,11 @@ returns-in-Err-clause-known g c =
     (no_request g.A.Responder.reply g.A.Responder.next (first_frame Request before.coming) c.in-Err.fault (g.A.Responder.state c.args.store.now) before (g.L.Link.wire c.read_frame.new.link)
     (c.in-Err.ensures.known before is))
 
-pub returns-in-Err-clause-misses : goal.returns-in-Err-clause-misses
-returns-in-Err-clause-misses g c = c.read_frame.ensures.misses
+pub returns-in-Ok-clause-counts : goal.returns-in-Ok-clause-counts
+returns-in-Ok-clause-counts g c =
+    record {
+      rise = omega (arith, c.read_frame.ensures.counts.rise, c.answer_request.ensures.counts.rise);
+      cause = λ e. omega (arith, c.read_frame.ensures.counts.rise, c.answer_request.ensures.counts.cause e);
+      stays = stays_on _ _ _ _ _ (λ before is. (take_from (c.in-Ok.ensures.known before is).1.0 before, (c.in-Ok.ensures.known before is).1.2, refl))
+          c.read_frame.ensures.counts.stays c.answer_request.ensures.counts.stays;
+    }

@@ -16,10 +16,10 @@ loop-index-preserved g c =
       known = delivered_more g.O.SessionOwner.IsJudgement g.O.SessionOwner.forms (g.O.SessionOwner.entries c.args.owner.now) c.args.held c.loop-index.index (c.loop-index.index + 1) c.in-Ok.field-0
           (g.L.Link.wire c.args.link.now) (g.L.Link.wire c.loop-index.link) (g.L.Link.wire c.deliver_entry.new.link) within (omega arith)
           c.loop-index.invariant.known c.in-Ok.ensures.known;
-      counts = omega (arith, c.loop-index.invariant.counts, c.in-Ok.ensures.counts);
+      counts = omega (arith, c.loop-index.invariant.counts, c.in-Ok.ensures.counts.rise);
       stays = delivered_stays g.O.SessionOwner.IsJudgement g.O.SessionOwner.forms (g.O.SessionOwner.entries c.args.owner.now) c.args.held c.loop-index.index
           (g.O.SessionOwner.state c.args.owner.now) (g.L.Link.wire c.args.link.now) (g.L.Link.wire c.loop-index.link) (g.L.Link.misses c.args.link.now) (g.L.Link.misses c.loop-index.link)
-          (g.L.Link.misses c.deliver_entry.new.link) c.loop-index.invariant.known c.loop-index.invariant.stays c.in-Ok.ensures.misses;
+          (g.L.Link.misses c.deliver_entry.new.link) c.loop-index.invariant.known c.loop-index.invariant.stays c.in-Ok.ensures.counts.stays;
     }
 
 pub returns-in-Err-clause-known : goal.returns-in-Err-clause-known
@@ -28,13 +28,17 @@ returns-in-Err-clause-known g c =
     (g.L.Link.wire c.args.link.now) (g.L.Link.wire c.loop-index.link) (g.L.Link.wire c.deliver_entry.new.link) (omega arith)
     c.loop-index.invariant.known c.in-Err.ensures.known
 
-pub returns-in-Err-clause-misses : goal.returns-in-Err-clause-misses
-returns-in-Err-clause-misses g c =
-    delivered_stays g.O.SessionOwner.IsJudgement g.O.SessionOwner.forms (g.O.SessionOwner.entries c.args.owner.now) c.args.held c.loop-index.index
-    (g.O.SessionOwner.state c.args.owner.now) (g.L.Link.wire c.args.link.now) (g.L.Link.wire c.loop-index.link) (g.L.Link.misses c.args.link.now) (g.L.Link.misses c.loop-index.link)
-    (g.L.Link.misses c.deliver_entry.new.link) c.loop-index.invariant.known c.loop-index.invariant.stays c.in-Err.ensures.misses
-
 pub returns-clause-known : goal.returns-clause-known
 returns-clause-known g c =
     delivered_all g.O.SessionOwner.IsJudgement g.O.SessionOwner.forms (g.O.SessionOwner.entries c.args.owner.now) c.args.held c.loop-index.index tt
     (g.L.Link.wire c.args.link.now) (g.L.Link.wire c.loop-index.link) (omega arith) c.loop-index.invariant.known
+
+pub returns-in-Err-clause-counts : goal.returns-in-Err-clause-counts
+returns-in-Err-clause-counts g c =
+    record {
+      rise = omega (arith, c.loop-index.invariant.counts, c.in-Err.ensures.counts.rise);
+      cause = λ e. omega (arith, c.loop-index.invariant.counts, c.in-Err.ensures.counts.cause e);
+      stays = delivered_stays g.O.SessionOwner.IsJudgement g.O.SessionOwner.forms (g.O.SessionOwner.entries c.args.owner.now) c.args.held c.loop-index.index
+          (g.O.SessionOwner.state c.args.owner.now) (g.L.Link.wire c.args.link.now) (g.L.Link.wire c.loop-index.link) (g.L.Link.misses c.args.link.now) (g.L.Link.misses c.loop-index.link)
+          (g.L.Link.misses c.deliver_entry.new.link) c.loop-index.invariant.known c.loop-index.invariant.stays c.in-Err.ensures.counts.stays;
+    }

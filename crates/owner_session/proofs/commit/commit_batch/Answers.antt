@@ -17,13 +17,6 @@ returns-in-Ok-clause-known g c =
     (g.S.Sink.written c.commit_by_proofs.new.out) (g.O.SessionOwner.state c.commit_by_proofs.new.owner) (g.O.SessionOwner.entries c.commit_by_proofs.new.owner)
     c.deref.ensures.value (c.in-Ok.ensures.known a is) c.commit_by_proofs.ensures.known
 
-pub returns-in-Ok-clause-misses : goal.returns-in-Ok-clause-misses
-returns-in-Ok-clause-misses g c =
-    stays_then g.O.SessionOwner.IsJudgement (proposal g.O.SessionOwner.forms c.args.batch.now) (λ (given : Vec ℕ). continuation_with given.items) c.in-Ok.proofs
-    (g.O.SessionOwner.state c.args.owner.now) (g.O.SessionOwner.entries c.args.owner.now) (g.L.Link.wire c.args.link.now) (g.L.Link.wire c.propose_batch.new.link)
-    (g.L.Link.misses c.args.link.now) (g.L.Link.misses c.propose_batch.new.link) (g.L.Link.misses c.commit_by_proofs.new.link)
-    c.in-Ok.ensures.known c.in-Ok.ensures.misses c.commit_by_proofs.ensures.misses
-
 pub returns-in-Err-clause-known : goal.returns-in-Err-clause-known
 returns-in-Err-clause-known g c =
     λ before is.
@@ -36,5 +29,12 @@ pub returns-in-Err-clause-faults : goal.returns-in-Err-clause-faults
 returns-in-Err-clause-faults g c =
     link_faults c.in-Err.stop (g.L.Link.faults c.args.link.now)
     (g.L.Link.faults c.propose_batch.new.link) (g.O.SessionOwner.faults c.args.owner.now)
-    (g.S.Sink.faults c.args.out.now) c.in-Err.ensures.counts c.in-Err.ensures.cause
+    (g.S.Sink.faults c.args.out.now) c.in-Err.ensures.counts.rise c.in-Err.ensures.counts.cause
     c.in-Err.ensures.inside
+
+pub returns-in-Ok-clause-misses : goal.returns-in-Ok-clause-misses
+returns-in-Ok-clause-misses g c =
+    stays_then g.O.SessionOwner.IsJudgement (proposal g.O.SessionOwner.forms c.args.batch.now) (λ (given : Vec ℕ). continuation_with given.items) c.in-Ok.proofs
+    (g.O.SessionOwner.state c.args.owner.now) (g.O.SessionOwner.entries c.args.owner.now) (g.L.Link.wire c.args.link.now) (g.L.Link.wire c.propose_batch.new.link)
+    (g.L.Link.misses c.args.link.now) (g.L.Link.misses c.propose_batch.new.link) (g.L.Link.misses c.commit_by_proofs.new.link)
+    c.in-Ok.ensures.known c.in-Ok.ensures.counts.stays c.commit_by_proofs.ensures.misses

@@ -47,6 +47,13 @@ returns-in-Err-clause-known g c =
     (g.O.SessionOwner.entries c.args.owner.now) (g.O.SessionOwner.entries c.loop-batch.owner) (g.O.SessionOwner.entries c.commit_batch.new.owner)
     c.loop-batch-test.true c.batch-item.is c.loop-batch.invariant.known c.in-Err.ensures.known
 
+pub returns-clause-known : goal.returns-clause-known
+returns-clause-known g c =
+    committed_all g.O.SessionOwner.IsJudgement (λ (e : g.O.SessionOwner.Entry). g.O.SessionOwner.Keeps c.args.owner.now → g.O.SessionOwner.KeepsWith c.loop-batch.owner e)
+    g.O.SessionOwner.forms c.args.batches.now c.loop-batch.batch-index tt (g.L.Link.wire c.args.link.now) (g.L.Link.wire c.loop-batch.link)
+    (g.S.Sink.written c.args.out.now) (g.S.Sink.written c.loop-batch.out) (g.O.SessionOwner.state c.args.owner.now) (g.O.SessionOwner.state c.loop-batch.owner)
+    (g.O.SessionOwner.entries c.args.owner.now) (g.O.SessionOwner.entries c.loop-batch.owner) (omega arith) c.loop-batch.invariant.known
+
 pub returns-in-Err-clause-misses : goal.returns-in-Err-clause-misses
 returns-in-Err-clause-misses g c =
     committed_stays g.O.SessionOwner.IsJudgement g.O.SessionOwner.forms c.args.batches.now c.loop-batch.batch-index (g.L.Link.wire c.args.link.now)
@@ -54,10 +61,3 @@ returns-in-Err-clause-misses g c =
     (g.O.SessionOwner.state c.loop-batch.owner) (g.O.SessionOwner.entries c.args.owner.now) (g.O.SessionOwner.entries c.loop-batch.owner)
     (g.L.Link.misses c.args.link.now) (g.L.Link.misses c.loop-batch.link) (g.L.Link.misses c.commit_batch.new.link)
     c.loop-batch.invariant.known c.loop-batch.invariant.stays c.in-Err.ensures.misses
-
-pub returns-clause-known : goal.returns-clause-known
-returns-clause-known g c =
-    committed_all g.O.SessionOwner.IsJudgement (λ (e : g.O.SessionOwner.Entry). g.O.SessionOwner.Keeps c.args.owner.now → g.O.SessionOwner.KeepsWith c.loop-batch.owner e)
-    g.O.SessionOwner.forms c.args.batches.now c.loop-batch.batch-index tt (g.L.Link.wire c.args.link.now) (g.L.Link.wire c.loop-batch.link)
-    (g.S.Sink.written c.args.out.now) (g.S.Sink.written c.loop-batch.out) (g.O.SessionOwner.state c.args.owner.now) (g.O.SessionOwner.state c.loop-batch.owner)
-    (g.O.SessionOwner.entries c.args.owner.now) (g.O.SessionOwner.entries c.loop-batch.owner) (omega arith) c.loop-batch.invariant.known

@@ -14,13 +14,6 @@ returns-in-Ok-clause-known g c =
     (g.S.Sink.written c.commit_batches.new.out) (g.O.SessionOwner.state c.commit_batches.new.owner) (g.O.SessionOwner.entries c.commit_batches.new.owner)
     (c.in-Ok.ensures.known a is) c.commit_batches.ensures.known
 
-pub returns-in-Ok-clause-misses : goal.returns-in-Ok-clause-misses
-returns-in-Ok-clause-misses g c =
-    stays_then g.O.SessionOwner.IsJudgement (catch_up g.O.SessionOwner.forms (g.O.SessionOwner.entries c.args.owner.now)) (λ done. continuation) c.in-Ok.field-0
-    (g.O.SessionOwner.state c.args.owner.now) (g.O.SessionOwner.entries c.args.owner.now) (g.L.Link.wire c.args.link.now) (g.L.Link.wire c.catch_up.new.link)
-    (g.L.Link.misses c.args.link.now) (g.L.Link.misses c.catch_up.new.link) (g.L.Link.misses c.commit_batches.new.link)
-    c.in-Ok.ensures.known c.in-Ok.ensures.misses c.commit_batches.ensures.misses
-
 pub returns-in-Err-clause-known : goal.returns-in-Err-clause-known
 returns-in-Err-clause-known g c =
     λ before is.
@@ -32,5 +25,12 @@ pub returns-in-Err-clause-faults : goal.returns-in-Err-clause-faults
 returns-in-Err-clause-faults g c =
     link_faults c.in-Err.stop (g.L.Link.faults c.args.link.now)
     (g.L.Link.faults c.catch_up.new.link) (g.O.SessionOwner.faults c.args.owner.now)
-    (g.S.Sink.faults c.args.out.now) c.in-Err.ensures.counts c.in-Err.ensures.cause
+    (g.S.Sink.faults c.args.out.now) c.in-Err.ensures.counts.rise c.in-Err.ensures.counts.cause
     c.in-Err.ensures.inside
+
+pub returns-in-Ok-clause-misses : goal.returns-in-Ok-clause-misses
+returns-in-Ok-clause-misses g c =
+    stays_then g.O.SessionOwner.IsJudgement (catch_up g.O.SessionOwner.forms (g.O.SessionOwner.entries c.args.owner.now)) (λ done. continuation) c.in-Ok.field-0
+    (g.O.SessionOwner.state c.args.owner.now) (g.O.SessionOwner.entries c.args.owner.now) (g.L.Link.wire c.args.link.now) (g.L.Link.wire c.catch_up.new.link)
+    (g.L.Link.misses c.args.link.now) (g.L.Link.misses c.catch_up.new.link) (g.L.Link.misses c.commit_batches.new.link)
+    c.in-Ok.ensures.known c.in-Ok.ensures.counts.stays c.commit_batches.ensures.misses

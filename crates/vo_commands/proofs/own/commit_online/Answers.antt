@@ -1,4 +1,4 @@
-use Rattle.std.proofs.Common.{Err, ap, refl}
+use Rattle.std.proofs.Common.{refl}
 use Rattle.outside.specs.FaultRose.{FaultRose}
 use Rattle.owner_journal.specs.Entries.{entries_of}
 use Rattle.owner_session.proofs.SessionLaws.{rose_later}

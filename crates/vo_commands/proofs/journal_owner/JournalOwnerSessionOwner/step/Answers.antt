@@ -1,4 +1,3 @@
-use Rattle.std.proofs.Common.{Ok, subst}
 use Rattle.vo_commands.proofs.OwnerLaws.{follows_given}
 use Rattle.vo_commands.proofs.journal_owner.JournalOwnerSessionOwner.step.Goals as goal
 
