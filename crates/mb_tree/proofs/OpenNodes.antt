@@ -1,18 +1,14 @@
 -- Nodes as the work on trees sees them.
-use Rattle.std.proofs.Common.{◌≡◌, ◌+◌, ◌≤◌, ℕ, List, [], ◌∷◌, length, map, refl, sym, ap, ◌∙◌, arith}
-use Rattle.std.proofs.lemmas.List.{length-map}
+use Rattle.std.proofs.Common.{◌≡◌, ℕ, List, [], ◌∷◌, map, refl, sym, ap, ◌∙◌}
 use Rattle.std.specs.declared.vec.Vec.{Vec}
 use Rattle.std.specs.declared.alloc.Global.{Global}
 use Rattle.vo_spec.specs.declared.values.Row.{Row}
 use Rattle.vo_spec.specs.declared.cells.PartEntry.{PartEntry}
 use Rattle.vo_spec.specs.Parts.{inner, more}
 use Rattle.vo_spec.specs.Trees.{RowTree, RowTrees, row_family, open_parts}
-use Rattle.vo_spec.specs.Fits.{max_fill}
 use Rattle.btree.specs.declared.node.Contents.{Contents}
 use Rattle.btree.specs.declared.node.Contents.TheVariants.{Inner as InnerContents}
 use Rattle.btree.specs.Nodes.{Kid, parts_from, new_kid}
-use Rattle.btree.specs.Shapes.{IsWithin}
-use Rattle.btree.proofs.ChildLists.{count_parts}
 use Rattle.mb_tree.specs.declared.subtrees.Node.{Node}
 use Rattle.mb_tree.specs.declared.subtrees.Node.TheVariants.{Inner}
 use Rattle.mb_tree.specs.declared.parts.PartTree.{PartTree}

@@ -47,4 +47,4 @@ pub nothing_stands : Represents (leaf []) []
 nothing_stands = record { tree = record { height = 0; shape = (refl, omega arith, omega arith, tt); rising = tt }; rows_are = refl }
 
 pub nothing_whole : IsWhole (leaf []) 0
-nothing_whole = record { tree = nothing_stands.tree; shown = refl; counted = refl }
+nothing_whole = record { tree = nothing_stands.tree; fits = (omega arith, λ k d h. absurd (omega arith)); shown = refl; counted = refl }

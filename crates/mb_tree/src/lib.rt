@@ -3,7 +3,6 @@
 
 mod entries;
 mod hashing;
-mod items_fit;
 mod layout;
 mod lending;
 mod node_hasher;

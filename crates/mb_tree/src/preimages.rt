@@ -32,7 +32,8 @@ impl Subtree {
     /// The bytes whose digest is that of the subtree.
     #[tactic(auto, using(crate::proofs::Layouts::whole_leaf, crate::proofs::Layouts::whole_inner))]
     pub fn preimage(&self, alloc: Global) -> Result<Vec<u8>, AllocError>
-        ensures { IfOk result (λ bytes. bytes.items ≡ preimage self.now) }
+        ensures value { IfOk result (λ bytes. bytes.items ≡ preimage self.now) }
+        ensures fits { IfOk result (λ _. FitsPart self.now) }
     {
         match self.node() {
             Node::Leaf(entries) => leaf_preimage(alloc, entries),
@@ -47,7 +48,8 @@ impl Subtree {
 fn leaf_preimage<E: NodeItem>(alloc: Global, entries: &[E]) -> Result<Vec<u8>, AllocError>
     requires count { length entries.now ≤ max_fill }
     requires can { All E.CanWrite entries.now }
-    ensures { IfOk result (λ bytes. bytes.items ≡ leaf_layout E.bytes entries.now) }
+    ensures value { IfOk result (λ bytes. bytes.items ≡ leaf_layout E.bytes entries.now) }
+    ensures fits { IfOk result (λ _. All E.Fits entries.now) }
 {
     let mut bytes = Vec::new(alloc);
     write_leaf(&mut bytes, entries)?;
@@ -62,8 +64,9 @@ fn inner_preimage<K: NodeItem, C: NodeItem>(
     requires count { length children.now ≤ max_fill }
     requires can_keys { All K.CanWrite separators.now }
     requires can { All C.CanWrite children.now }
-    ensures { IfOk result (λ bytes. bytes.items
+    ensures value { IfOk result (λ bytes. bytes.items
         ≡ inner_layout K.bytes C.bytes separators.now children.now) }
+    ensures fits { IfOk result (λ _. All K.Fits separators.now × All C.Fits children.now) }
 {
     let mut bytes = Vec::new(alloc);
     write_inner(&mut bytes, separators, children)?;

@@ -1,14 +1,14 @@
 //! The nodes of whole trees, each with all below it.
-ghost use Rattle.std.specs.Prelude.{◌≡◌, ◌+◌, ◌≤◌, length, map, IfOk};
+ghost use Rattle.std.specs.Prelude.{◌≡◌, ◌+◌, ◌≤◌, length, map, All, IfOk};
 ghost use Rattle.vo_spec.specs.Cells.{whole_entry};
 ghost use Rattle.vo_spec.specs.Parts.{leaf, inner};
 ghost use Rattle.vo_spec.specs.Trees.{digest, open_parts};
-ghost use Rattle.vo_spec.specs.Fits.{FitsPart, max_fill};
+ghost use Rattle.vo_spec.specs.Fits.{FitsPart, FitsKey, max_fill};
+ghost use Rattle.btree.specs.Shapes.{IsWithin};
 ghost use Rattle.mb_tree.specs.Whole.{whole_of};
 
 use crate::entries::TreeEntry;
 use crate::hashing::leaf_digest;
-use crate::items_fit::{keys_fit, rows_fit, subtrees_fit};
 use crate::layout::write_inner_head;
 use crate::node_hasher::NodeHasher;
 use crate::tree_key::TreeKey;
@@ -64,12 +64,10 @@ impl Model for Subtree {
 
 impl Subtree {
     /// A leaf of these entries.
-    #[tactic(auto, using(crate::proofs::SubtreeLaws::rows_fit))]
     pub fn leaf(alloc: Global, entries: Vec<TreeEntry>) -> Result<Subtree, AllocError>
         requires { length entries.items ≤ max_fill }
         ensures { IfOk result (λ subtree. subtree ≡ leaf (map whole_entry entries.items)) }
     {
-        rows_fit(&entries);
         Ok(Subtree {
             digest: None,
             node: Rc::new(alloc, Node::Leaf(entries))?,
@@ -77,7 +75,7 @@ impl Subtree {
     }
 
     /// An inner node of these children, with the separators between them.
-    #[tactic(auto, using(crate::proofs::SubtreeLaws::subtrees_fit, crate::proofs::SubtreeLaws::count_open_parts))]
+    #[tactic(auto, using(crate::proofs::SubtreeLaws::count_open_parts))]
     pub fn inner(
         alloc: Global,
         separators: Vec<TreeKey>,
@@ -89,8 +87,6 @@ impl Subtree {
         ensures { IfOk result (λ subtree. subtree
             ≡ inner separators.items (open_parts children.items)) }
     {
-        keys_fit(&separators);
-        subtrees_fit(&children);
         Ok(Subtree {
             digest: None,
             node: Rc::new(
@@ -156,7 +152,7 @@ impl Subtree {
     /// The node without what is below it.
     pub fn node(&self) -> &Node
         ensures value { whole_of result.now ≡ self.now }
-        ensures fits { FitsPart self.now }
+        ensures within { IsWithin 2 self.now }
     {
         self.node.as_ref()
     }
@@ -165,8 +161,9 @@ impl Subtree {
 #[tactic(auto, using(crate::proofs::Layouts::whole_leaf))]
 #[cycle(subtree_digest)]
 fn digest_of_node(node: &Node) -> Digest
-    requires { FitsPart (whole_of node.now) }
-    ensures { result ≡ digest (whole_of node.now) }
+    requires { IsWithin 2 (whole_of node.now) }
+    ensures value { result ≡ digest (whole_of node.now) }
+    ensures fits { FitsPart (whole_of node.now) }
 {
     match node {
         Node::Leaf(entries) => leaf_digest(entries),
@@ -183,7 +180,9 @@ fn digest_of_node(node: &Node) -> Digest
 #[cycle(subtree_digest)]
 fn inner_digest(separators: &[TreeKey], children: &[Subtree]) -> Digest
     requires { length children.now ≤ max_fill }
-    ensures { result ≡ digest (inner separators.now (open_parts children.now)) }
+    ensures value { result ≡ digest (inner separators.now (open_parts children.now)) }
+    ensures keys { All FitsKey separators.now }
+    ensures fits { All FitsPart children.now }
 {
     let mut hasher = NodeHasher::new();
     let Ok(()) = write_inner_head(&mut hasher, separators, children.len());
@@ -200,7 +199,7 @@ fn inner_with_digests(
     separators: &[TreeKey],
     children: &[Subtree],
 ) -> Result<Subtree, AllocError>
-    requires { FitsPart (inner separators.now (open_parts children.now)) }
+    requires { IsWithin 2 (inner separators.now (open_parts children.now)) }
     ensures { IfOk result (λ subtree. subtree ≡ inner separators.now (open_parts children.now)) }
 {
     let children = children_with_digests(alloc, children)?;

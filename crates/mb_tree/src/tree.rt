@@ -57,7 +57,6 @@ impl Tree {
         ensures value { result.now ≡ self.now }
         ensures fits { FitsPart self.now }
     {
-        let _node = self.root.node();
         &self.root
     }
 

@@ -10,6 +10,7 @@ use Rattle.vo_spec.specs.Tables.{CellChange, changed_cells, changed_row, without
 use Rattle.vo_spec.specs.Cells.{whole_cells, whole_entry}
 use Rattle.vo_spec.specs.Parts.{entries}
 use Rattle.vo_spec.specs.Trees.{RowTree, row_family, key_in}
+use Rattle.vo_spec.specs.Fits.{FitsPart, FitsRow}
 use Rattle.vo_spec.specs.Inserts.{tree_with_entry}
 use Rattle.vo_spec.specs.Removes.{set_cells, set_row, tree_without_key, tree_with_cells}
 use Rattle.vo_spec.specs.Representation.{row_in, rows_in, shown_values, IsTree, Represents}
@@ -18,6 +19,7 @@ use Rattle.vo_laws.proofs.RepresentingTrees.{inserted_stands, removed_stands, re
 use Rattle.mb_tree.specs.RowCounts.{IsWhole}
 use Rattle.mb_update.specs.ChangeResults.{set_entry, GivesTree}
 use Rattle.mb_update.specs.Sets.{changed_by}
+use Rattle.mb_update.proofs.RowLimits.{inserted_fits, removed_fits}
 use Rattle.btree.proofs.OkResults.{ok_same}
 use Rattle.btree.proofs.InsertedEntries.{puts_count, puts_fixed, inserted_puts}
 use Rattle.btree.proofs.RemovedEntries.{takes_count, takes_fixed, removed_takes}
@@ -41,8 +43,9 @@ whole_again row = ap (λ vs. whole_entry (record { key = row.key; cells = vs }))
 all_shown : (t : RowTree) (n : ℕ) → IsWhole t n → map shown_again (entries t) ≡ entries t
 all_shown t n w = sym (map_map (entries t)) ∙ sym w.shown
 
-whole_of_shown : (t : RowTree) (n : ℕ) → IsTree row_family t → map shown_again (entries t) ≡ entries t → n ≡ length (entries t) → IsWhole t n
-whole_of_shown t n tree shown counted = record { tree = tree; shown = sym shown ∙ sym (map_map (entries t)); counted = counted }
+whole_of_shown : (t : RowTree) (n : ℕ) → IsTree row_family t → FitsPart t → map shown_again (entries t) ≡ entries t → n ≡ length (entries t) → IsWhole t n
+whole_of_shown t n tree fits shown counted =
+    record { tree = tree; fits = fits; shown = sym shown ∙ sym (map_map (entries t)); counted = counted }
 
 -- The rows that a whole tree stands for, and the trees that changes of it give.
 
@@ -64,10 +67,10 @@ replaced_tree key changes t u n w h =
     let P : Result RowTree UpdateFault → Type 0 = λ r. Changes key (rows_in t) (map (changed_row key changes) (rows_in t)) r in
     (subst P h (replaced_stands key changes t (rows_in t) (stands t n w))).1.tree
 
-pub inserted_whole : (row : Row) (t u : RowTree) (n : ℕ) → IsWhole t n → tree_with_entry (whole_entry row) t ≡ Ok u → IsWhole u (n + 1)
-inserted_whole row t u n w h =
+pub inserted_whole : (row : Row) (t u : RowTree) (n : ℕ) → IsWhole t n → FitsRow row → tree_with_entry (whole_entry row) t ≡ Ok u → IsWhole u (n + 1)
+inserted_whole row t u n w new h =
     let puts = inserted_puts row_family (whole_entry row) t u h in
-    whole_of_shown u (n + 1) (inserted_tree row t u n w h)
+    whole_of_shown u (n + 1) (inserted_tree row t u n w h) (inserted_fits row t u new w.fits h)
     (puts_fixed shown_again (whole_entry row) (entries t) (entries u) puts (whole_again row) (all_shown t n w))
     (omega (arith, w.counted, puts_count (whole_entry row) (entries t) (entries u) puts))
 
@@ -81,7 +84,7 @@ removed_whole key t u n w h =
     let count = takes_count key_in key (entries t) (entries u) takes in
     record {
       some = omega (arith, w.counted);
-      whole = whole_of_shown u (n - 1) (removed_tree key t u n w h)
+      whole = whole_of_shown u (n - 1) (removed_tree key t u n w h) (removed_fits key t u w.fits h)
           (takes_fixed key_in key shown_again (entries t) (entries u) takes (all_shown t n w))
           (omega (arith, w.counted));
     }
@@ -96,26 +99,13 @@ cells_set (c ∷ changes) values =
 pub row_set : (changes : List CellChange) (row : Row) → set_row changes (whole_entry row) ≡ Ok (whole_entry (changed_by changes row))
 row_set changes row = rw (cells_set changes row.cells) refl
 
-set_shown : (changes : List CellChange) (e f : PartEntry) → shown_again e ≡ e → set_row changes e ≡ Ok f → shown_again f ≡ f
-set_shown changes e f shown sets =
-    let new = changed_by changes (row_in e) in
-    let is : whole_entry new ≡ f = ok_same (whole_entry new) f (sym (row_set changes (row_in e)) ∙ ap (set_row changes) shown ∙ sets) in
-    ap shown_again (sym is) ∙ whole_again new ∙ is
-
-pub replaced_whole : (key : List ℕ) (changes : List CellChange) (t u : RowTree) (n : ℕ) → IsWhole t n → tree_with_cells key changes t ≡ Ok u → IsWhole u n
-replaced_whole key changes t u n w h =
-    let edits = edited_edits row_family (set_row changes) key t u h in
-    let count = edits_count key_in (set_row changes) key (entries t) (entries u) edits in
-    whole_of_shown u n (replaced_tree key changes t u n w h)
-    (edits_fixed key_in (set_row changes) key shown_again (entries t) (entries u) edits (set_shown changes) (all_shown t n w))
-    (omega (arith, w.counted))
-
 -- another row in the place of one
 pub exchanged_whole : (key : List ℕ) (row : Row) (t u : RowTree) (n : ℕ) → IsWhole t n → GivesTree key (whole_entry row) t → set_entry key (whole_entry row) t ≡ Ok u → IsWhole u n
 exchanged_whole key row t u n w gives h =
     let edit : PartEntry → Result PartEntry UpdateFault = λ _. Ok (whole_entry row) in
     let edits = edited_edits row_family edit key t u h in
     let count = edits_count key_in edit key (entries t) (entries u) edits in
-    whole_of_shown u n (gives u h)
+    let given = gives u h in
+    whole_of_shown u n given.0 given.1
     (edits_fixed key_in edit key shown_again (entries t) (entries u) edits (λ e f shown is. ap shown_again (sym (ok_same (whole_entry row) f is)) ∙ whole_again row ∙ ok_same (whole_entry row) f is) (all_shown t n w))
     (omega (arith, w.counted))

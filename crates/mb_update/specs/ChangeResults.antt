@@ -4,6 +4,7 @@ use Rattle.vo_spec.specs.declared.cells.PartEntry.{PartEntry}
 use Rattle.vo_spec.specs.declared.trees.UpdateFault.{UpdateFault}
 use Rattle.vo_spec.specs.declared.trees.UpdateFault.TheVariants.{DuplicateKey, NoRow, Missing, Memory}
 use Rattle.vo_spec.specs.Trees.{RowTree, row_family, Prunes}
+use Rattle.vo_spec.specs.Fits.{FitsPart}
 use Rattle.vo_spec.specs.Removes.{edited_by}
 use Rattle.vo_spec.specs.Representation.{IsTree}
 use Rattle.btree.specs.Agreement.{AgreesWithTree}
@@ -25,6 +26,7 @@ GoesOnPruning = AgreesWithTree Prunes
 abbrev pub set_entry : List ℕ → PartEntry → RowTree → Result RowTree UpdateFault
 set_entry key entry = edited_by row_family (λ _. Ok entry) key
 
--- what comes of that is of the shape of Merkle B-trees
+-- what comes of that is of the shape of Merkle B-trees, and within the limits
 abbrev pub GivesTree : List ℕ → PartEntry → RowTree → Type 0
-GivesTree key entry t = (u : RowTree) → set_entry key entry t ≡ Ok u → IsTree row_family u
+GivesTree key entry t =
+    (u : RowTree) → set_entry key entry t ≡ Ok u → IsTree row_family u × FitsPart u

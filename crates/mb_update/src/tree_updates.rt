@@ -30,7 +30,8 @@ pub fn insert_row(alloc: Global, tree: &Tree, row: Row) -> Result<Tree, UpdateFa
 }
 
 fn insert_entry(alloc: Global, tree: &Tree, entry: TreeEntry) -> Result<Tree, UpdateFault>
-    requires { length (entries tree.now) < max_rows }
+    requires fits { FitsRow entry }
+    requires room { length (entries tree.now) < max_rows }
     ensures { ChangesTo (λ t. t) result (tree_with_entry (whole_entry entry) tree.now) }
 {
     let rows = tree.row_count();

@@ -4,7 +4,7 @@ use Rattle.std.specs.declared.vec.Vec.{Vec}
 use Rattle.std.specs.declared.alloc.Global.{Global}
 use Rattle.vo_spec.specs.Parts.{inner, count, levels, levels_in}
 use Rattle.vo_spec.specs.Trees.{RowTree, open_parts}
-use Rattle.vo_spec.specs.Fits.{FitsPart}
+use Rattle.btree.specs.Shapes.{IsWithin}
 use Rattle.vo_spec.specs.Removes.{opened_sibling}
 use Rattle.mb_tree.specs.declared.subtrees.Node.{Node}
 use Rattle.mb_tree.specs.declared.subtrees.Node.TheVariants.{Inner}
@@ -19,11 +19,11 @@ pub record Limits (t : RowTree) (ss : List (List ℕ)) (ts : List RowTree) : Typ
   pub falls : levels t ≡ levels_in (open_parts ts) + 1
   pub same : t ≡ inner ss (open_parts ts)
 
-limits : (ss : List (List ℕ)) (ts : List RowTree) → FitsPart (inner ss (open_parts ts)) → Limits (inner ss (open_parts ts)) ss ts
-limits ss ts f =
+limits : (ss : List (List ℕ)) (ts : List RowTree) → IsWithin 2 (inner ss (open_parts ts)) → Limits (inner ss (open_parts ts)) ss ts
+limits ss ts within =
     let counted = count_open_parts ts in
-    let a : 2 ≤ count (open_parts ts) = f.0 in
-    let c : length ss + 1 ≡ count (open_parts ts) = f.2 in
+    let a : 2 ≤ count (open_parts ts) = within.linked.0 in
+    let c : length ss + 1 ≡ count (open_parts ts) = within.linked.1 in
     record { least = omega arith; between = omega arith; falls = refl; same = refl }
 
 node_is : (n : Node) (t : RowTree) (ss : Vec (List ℕ) Global) (ts : Vec RowTree Global) (ks : List (List ℕ)) (xs : List RowTree)
@@ -32,12 +32,12 @@ node_is n t ss ts ks xs whole is keys children =
     sym whole ∙ ap whole_of is ∙ ap (λ l. inner l (open_parts ts.items)) (sym keys) ∙ ap (λ l. inner ks (open_parts l)) (sym children)
 
 pub node_limits : (n : Node) (t : RowTree) (ss : Vec (List ℕ) Global) (ts : Vec RowTree Global) (ks : List (List ℕ)) (xs : List RowTree)
-    → whole_of n ≡ t → n ≡ Inner ss ts → ks ≡ ss.items → xs ≡ ts.items → FitsPart t → Limits t ks xs
-node_limits n t ss ts ks xs whole is keys children fits =
+    → whole_of n ≡ t → n ≡ Inner ss ts → ks ≡ ss.items → xs ≡ ts.items → IsWithin 2 t → Limits t ks xs
+node_limits n t ss ts ks xs whole is keys children within =
     let e = node_is n t ss ts ks xs whole is keys children in
-    let P : RowTree → Type 0 = λ u. FitsPart u in
+    let P : RowTree → Type 0 = λ u. IsWithin 2 u in
     let Q : RowTree → Type 0 = λ u. Limits u ks xs in
-    subst Q (sym e) (limits ks xs (subst P e fits))
+    subst Q (sym e) (limits ks xs (subst P e within))
 
 -- a node alone
 pub node_alone : (n : Node) (t : RowTree) (ss : Vec (List ℕ) Global) (ts : Vec RowTree Global) (ks : List (List ℕ)) (xs : List RowTree)

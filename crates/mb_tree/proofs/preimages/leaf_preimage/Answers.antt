@@ -1,4 +1,4 @@
 use Rattle.mb_tree.proofs.preimages.leaf_preimage.Goals as goal
 
-pub returns : goal.returns
-returns g c = c.in_ok-write_leaf.ensures.value.writes _ c.new-bytes.ensures.items
+pub returns-clause-value : goal.returns-clause-value
+returns-clause-value g c = c.in_ok-write_leaf.ensures.value.writes _ c.new-bytes.ensures.items

@@ -1,8 +1,8 @@
-use Rattle.std.proofs.Common.{◌≡◌, ◌≤◌, ap, subst, arith}
+use Rattle.std.proofs.Common.{◌≤◌, ap, subst, arith}
 use Rattle.std.proofs.lemmas.Grind.{common_steps}
 use Rattle.vo_spec.specs.Parts.{levels, levels_in}
 use Rattle.vo_spec.specs.Trees.{RowTree, open_parts}
-use Rattle.vo_spec.specs.Fits.{FitsPart}
+use Rattle.btree.specs.Shapes.{IsWithin}
 use Rattle.mb_tree.proofs.NodeLaws.{node_inner}
 use Rattle.mb_tree.proofs.RowLaws.{subtree_falls}
 use Rattle.mb_tree.proofs.subtrees.+keep_digests.Goals as goal
@@ -11,7 +11,7 @@ pub Subtree::with_digests-inner_with_digests-requires : goal.Subtree::with_diges
 Subtree::with_digests-inner_with_digests-requires t c =
     let is = node_inner _ _ _ _ _ _ c.node.ensures.value c.in-Inner.is c.deref.ensures.value c.deref-in-Inner.ensures.value in
     let fewer = ap (λ t. levels t) is in
-    (omega arith, subst (λ (t : RowTree). FitsPart t) is c.node.ensures.fits)
+    (omega arith, subst (λ (t : RowTree). IsWithin 2 t) is c.node.ensures.within)
 
 pub children_with_digests-with_digests-requires : goal.children_with_digests-with_digests-requires
 children_with_digests-with_digests-requires t c =

@@ -12,5 +12,5 @@ insert-requires c = let P : RowTree → Type 0 = λ t. IsShaped t in subst P (sy
 
 pub of_root-requires : goal.of_root-requires
 of_root-requires c =
-    inserted_whole c.args.entry c.args.tree.now c.in-Ok.root c.row_count-rows.result c.row_count-rows.ensures.whole
+    inserted_whole c.args.entry c.args.tree.now c.in-Ok.root c.row_count-rows.result c.row_count-rows.ensures.whole c.requires.fits
     (ap (tree_with_entry (whole_entry c.args.entry)) (sym c.root.ensures.value) ∙ whole_change c.in-Ok.root _ c.in-Ok.ensures)

@@ -38,12 +38,12 @@ collision_of_children-loop-place-preserved t c =
 pub collision_of_node-compare-requires : goal.collision_of_node-compare-requires
 collision_of_node-compare-requires t c =
     let whole : is_open c.args.subtree.now ≡ true = ap is_open (sym c.node-node.ensures.value) ∙ node_open c.node-node.result.now in
-    ap sha256 c.in_ok-first.ensures ∙ sym (open_hash (part_of c.args.part.now) c.requires.open) ∙ c.requires.same ∙ open_hash c.args.subtree.now whole ∙ ap sha256 (sym c.in_ok-second.ensures)
+    ap sha256 c.in_ok-first.ensures ∙ sym (open_hash (part_of c.args.part.now) c.requires.open) ∙ c.requires.same ∙ open_hash c.args.subtree.now whole ∙ ap sha256 (sym c.in_ok-second.ensures.value)
 
 pub collision_of_node-collision_below-requires : goal.collision_of_node-collision_below-requires
 collision_of_node-collision_below-requires t c =
-    let same = sym c.in_ok-first.ensures ∙ c.in-None.ensures ∙ c.in_ok-second.ensures in
-    let alike = like (part_of c.args.part.now) c.args.subtree.now c.requires.fits c.node-node.ensures.fits same c.requires.open in
+    let same = sym c.in_ok-first.ensures ∙ c.in-None.ensures ∙ c.in_ok-second.ensures.value in
+    let alike = like (part_of c.args.part.now) c.args.subtree.now c.requires.fits c.in_ok-second.ensures.fits same c.requires.open in
     (omega arith, (c.requires.fits, subst (IsLike (part_of c.args.part.now)) (sym c.node-node.ensures.value) alike))
 
 pub collision_below-collision_of_children-requires : goal.collision_below-collision_of_children-requires

@@ -11,7 +11,7 @@ use Rattle.update_proof.proofs.opening.+open_along.Goals as goal
 
 pub open_along-open_children-requires : goal.open_along-open_children-requires
 open_along-open_children-requires t c =
-    let l = node_limits _ c.args.subtree.now _ _ c.deref-in-Inner.result.now c.deref-in-Inner-2.result.now c.node.ensures.value c.in-Inner.is c.deref-in-Inner.ensures.value c.deref-in-Inner-2.ensures.value c.node.ensures.fits in
+    let l = node_limits _ c.args.subtree.now _ _ c.deref-in-Inner.result.now c.deref-in-Inner-2.result.now c.node.ensures.value c.in-Inner.is c.deref-in-Inner.ensures.value c.deref-in-Inner-2.ensures.value c.node.ensures.within in
     let falls : levels c.args.subtree.now ≡ levels_in (open_parts c.deref-in-Inner-2.result.now) + 1 = l.falls in
     (omega arith, (l.least, l.between))
 
