@@ -5,7 +5,7 @@ use Rattle.std.specs.declared.vec.Vec.{Vec}
 use Rattle.std.specs.declared.alloc.Global.{Global}
 use Rattle.vo_spec.specs.Parts.{Part, leaf, inner, count, Family}
 use Rattle.vo_spec.specs.Fits.{max_fill}
-use Rattle.vo_spec.specs.Inserts.{Insertion, one, first_key, take_parts, drop_parts}
+use Rattle.vo_spec.specs.Inserts.{Insertion, one, two, first_key, take_parts, drop_parts}
 use Rattle.btree.specs.declared.node.Contents.{Contents}
 use Rattle.btree.specs.declared.node.Contents.TheVariants.{Inner}
 use Rattle.btree.specs.declared.siblings.Siblings.{Siblings}
@@ -54,16 +54,16 @@ module _ {K F N E M : Type 0} (key : K → List ℕ) (entry : F → E) (kid : N 
     first_is [] f h is = absurd (omega arith)
     first_is (g ∷ gs) f h is = ap (λ x. family.key (entry x)) (sym is)
 
-    pub leaf_divided : (at : ℕ) (es left right : List F) (first : F) (separator : K) (l r : N) (s : Siblings K N)
+    pub leaf_divided : (at : ℕ) (es left right : List F) (first : F) (separator : K)
         → 0 < length right → left ≡ take at es → right ≡ drop at es → first ≡ get_or right 0 first → key separator ≡ family.key (entry first)
-        → kid l ≡ new_kid family (leaf (map entry left)) → kid r ≡ new_kid family (leaf (map entry right)) → HasNodes s (separator ∷ []) (l ∷ r ∷ [])
-        → AreSiblings family key kid s (divide_at family at (leaf (map entry es)))
-    leaf_divided at es left right first separator l r s some is_left is_right is_first is_key is_l is_r has = record {
-      keys = ap (map key) has.keys ∙ ap (λ x. x ∷ []) (is_key ∙ sym (ap (first_key family) (drop-map entry at es ∙ ap (map entry) (sym is_right)) ∙ first_is right first some is_first));
-      nodes = ap (map kid) has.are
-          ∙ ap (λ x. x ∷ kid r ∷ []) (is_l ∙ ap (λ xs. new_kid family (leaf xs)) (ap (map entry) is_left ∙ sym (take-map entry at es)))
-          ∙ ap (λ x. new_kid family (leaf (take at (map entry es))) ∷ x ∷ []) (is_r ∙ ap (λ xs. new_kid family (leaf xs)) (ap (map entry) is_right ∙ sym (drop-map entry at es)));
-    }
+        → two (leaf (map entry left)) (key separator) (leaf (map entry right)) ≡ divide_at family at (leaf (map entry es))
+    leaf_divided at es left right first separator some is_left is_right is_first is_key =
+        let before : map entry left ≡ take at (map entry es) = ap (map entry) is_left ∙ sym (take-map entry at es) in
+        let after : map entry right ≡ drop at (map entry es) = ap (map entry) is_right ∙ sym (drop-map entry at es) in
+        let between : key separator ≡ first_key family (drop at (map entry es)) = is_key ∙ sym (ap (first_key family) (sym after) ∙ first_is right first some is_first) in
+        ap (λ x. two (leaf x) (key separator) (leaf (map entry right))) before
+        ∙ ap (λ k. two (leaf (take at (map entry es))) k (leaf (map entry right))) between
+        ∙ ap (λ x. two (leaf (take at (map entry es))) (first_key family (drop at (map entry es))) (leaf x)) after
 
     -- the separators of a node, cut before this one
     keys_cut : (at : ℕ) (ss front : List (List ℕ)) (k : List ℕ) → 0 < at → at ≤ length ss → take at ss ≡ front ++ k ∷ [] → (take (at - 1) ss ≡ front) × (get_or ss (at - 1) [] ≡ k)
@@ -76,22 +76,16 @@ module _ {K F N E M : Type 0} (key : K → List ℕ) (entry : F → E) (kid : N 
         let ends : get_or ss (at - 1) [] ∷ [] ≡ k ∷ [] = sym (drop_at (take (at - 1) ss) (get_or ss (at - 1) [] ∷ []) (at - 1) first) ∙ ap (drop (at - 1)) (sym last ∙ e) ∙ drop_at front (k ∷ []) (at - 1) front_is in
         (sym (take_at (take (at - 1) ss) (get_or ss (at - 1) [] ∷ []) (at - 1) first) ∙ ap (take (at - 1)) (sym last ∙ e) ∙ take_at front (k ∷ []) (at - 1) front_is, cc)
 
-    pub inner_divided : (at : ℕ) (ss : List K) (ns : List N) (h : Division K N) (l r : N) (s : Siblings K N)
-        → 0 < at → at ≤ length ss → AreDivided at h ss ns
-        → kid l ≡ new_kid family (inner (map key h.before.items) (parts_from (map kid h.left.items)))
-        → kid r ≡ new_kid family (inner (map key h.after.items) (parts_from (map kid h.right.items)))
-        → HasNodes s (h.separator ∷ []) (l ∷ r ∷ [])
-        → AreSiblings family key kid s (divide_at family at (inner (map key ss) (parts_from (map kid ns))))
-    inner_divided at ss ns h l r s some many cut is_l is_r has =
+    pub inner_divided : (at : ℕ) (ss : List K) (ns : List N) (h : Division K N) → 0 < at → at ≤ length ss → AreDivided at h ss ns
+        → two (inner (map key h.before.items) (parts_from (map kid h.left.items))) (key h.separator) (inner (map key h.after.items) (parts_from (map kid h.right.items)))
+        ≡ divide_at family at (inner (map key ss) (parts_from (map kid ns)))
+    inner_divided at ss ns h some many cut =
         let keys = length-map ss key in
         let k = keys_cut at (map key ss) (map key h.before.items) (key h.separator) some (omega arith) (take-map key at ss ∙ ap (map key) cut.first_keys ∙ map-append key h.before.items (h.separator ∷ [])) in
         let left : take_parts at (parts_from (map kid ns)) ≡ parts_from (map kid h.left.items) = take_parts_from at (map kid ns) ∙ ap parts_from (take-map kid at ns ∙ ap (map kid) (sym cut.first)) in
         let right : drop_parts at (parts_from (map kid ns)) ≡ parts_from (map kid h.right.items) = drop_parts_from at (map kid ns) ∙ ap parts_from (drop-map kid at ns ∙ ap (map kid) (sym cut.last)) in
         let after : drop at (map key ss) ≡ map key h.after.items = drop-map key at ss ∙ ap (map key) (sym cut.last_keys) in
-        record {
-          keys = ap (map key) has.keys ∙ ap (λ x. x ∷ []) (sym k.1);
-          nodes = rw (k.0, left, right, after) (ap (map kid) has.are ∙ ap (λ x. x ∷ kid r ∷ []) is_l ∙ ap (λ x. new_kid family (inner (map key h.before.items) (parts_from (map kid h.left.items))) ∷ x ∷ []) is_r);
-        }
+        rw (k.0, k.1, left, right, after) refl
 
     -- what has come in the place of some children
     pub put_parts_from : (from to : ℕ) (ss keys : List K) (ns nodes : List N) (s : Siblings K N) (g : Insertion E M)
@@ -102,3 +96,6 @@ module _ {K F N E M : Type 0} (key : K → List ℕ) (entry : F → E) (kid : N 
 
     pub one_insertion : (c : Part E M) (n : N) (s : Siblings K N) → kid n ≡ new_kid family c → HasNodes s [] (n ∷ []) → AreSiblings family key kid s (one c)
     one_insertion c n s is has = record { keys = ap (map key) has.keys; nodes = ap (map kid) has.are ∙ ap (λ x. x ∷ []) is }
+
+    pub two_insertion : (t u : Part E M) (separator : K) (l r : N) (s : Siblings K N) → kid l ≡ new_kid family t → kid r ≡ new_kid family u → HasNodes s (separator ∷ []) (l ∷ r ∷ []) → AreSiblings family key kid s (two t (key separator) u)
+    two_insertion t u separator l r s is_l is_r has = record { keys = ap (map key) has.keys; nodes = ap (map kid) has.are ∙ ap (λ x. x ∷ kid r ∷ []) is_l ∙ ap (λ x. new_kid family t ∷ x ∷ []) is_r }

@@ -3,11 +3,10 @@ use Rattle.std.proofs.Common.{◌≡◌, ℕ, zero, suc, ◌+◌, ◌-◌, ◌<�
 use Rattle.std.proofs.lemmas.List.{take-append-le, drop-append-le, drop_at, get_or_append_left, get_or-append-add, length-drop}
 use Rattle.std.proofs.lemmas.Bool.Decides.{nat_tests}
 use Rattle.vo_spec.specs.Parts.{Part, Parts, stub, leaf, inner, none, more, Family, count}
-use Rattle.vo_spec.specs.Fits.{max_fill}
-use Rattle.vo_spec.specs.Inserts.{min_fill, result_map, Insertion, one, two, first_key, take_parts, drop_parts}
+use Rattle.vo_spec.specs.Inserts.{min_fill, result_map, one, two, first_key, take_parts, drop_parts}
 use Rattle.vo_spec.specs.Removes.{joined_parts, with_left, with_right}
 use Rattle.btree.specs.Nodes.{Kid, parts_from}
-use Rattle.btree.specs.Splices.{merge_nodes, divide_at, CanDivide, divide_merged}
+use Rattle.btree.specs.Splices.{merge_nodes, divide_at, CanDivide, divide_merged, EvenLimits}
 use Rattle.btree.specs.Shapes.{size_of, IsLinked, IsWithin, IsShaped}
 
 -- Lists of entries, separators and children.
@@ -193,35 +192,25 @@ module _ {E M : Type 0} (family : Family E M) where
   linked_less (leaf es) l = tt
   linked_less (inner ss ps) l = let least : 2 ≤ count ps = l.0 in (omega arith, l.1)
 
-  pub left_redivided : (t : Part E M) (s : List ℕ) (u v : Part E M) (n at : ℕ) (g : Insertion E M) → IsLinked 2 t → merge_nodes t s u ≡ Ok v → n ≡ size_of t → at ≡ size_of t - 1
-      → divide_merged family n at v ≡ g → with_left family t s u ≡ Ok g
-  left_redivided t s u v n at g linked is_merged is_n is_at is =
-      with_left_joined t s u linked
-      ∙ ap (result_map (divide_merged family (size_of t) (size_of t - 1))) is_merged
-      ∙ ap (λ m. Ok (divide_merged family m (size_of t - 1) v)) (sym is_n)
-      ∙ ap (λ m. Ok (divide_merged family n m v)) (sym is_at)
-      ∙ ap Ok is
+  pub left_redivided : (l t : Part E M) (s : List ℕ) (u : Part E M) (n at : ℕ) → l ≡ t → IsLinked 2 t → n ≡ size_of t → at ≡ size_of t - 1
+      → with_left family l s u ≡ result_map (divide_merged family n at) (merge_nodes t s u)
+  left_redivided l t s u n at is linked is_n is_at =
+      ap (λ x. with_left family x s u) is
+      ∙ with_left_joined t s u linked
+      ∙ ap (λ m. result_map (divide_merged family m (size_of t - 1)) (merge_nodes t s u)) (sym is_n)
+      ∙ ap (λ m. result_map (divide_merged family n m) (merge_nodes t s u)) (sym is_at)
 
-  pub right_redivided : (t : Part E M) (s : List ℕ) (u v : Part E M) (n at : ℕ) (g : Insertion E M) → IsLinked 1 t → merge_nodes t s u ≡ Ok v → n ≡ size_of u → at ≡ size_of t + 1
-      → divide_merged family n at v ≡ g → with_right family t s u ≡ Ok g
-  right_redivided t s u v n at g linked is_merged is_n is_at is =
-      with_right_joined t s u linked
-      ∙ ap (result_map (divide_merged family (size_of u) (size_of t + 1))) is_merged
-      ∙ ap (λ m. Ok (divide_merged family m (size_of t + 1) v)) (sym is_n)
-      ∙ ap (λ m. Ok (divide_merged family n m v)) (sym is_at)
-      ∙ ap Ok is
+  pub right_redivided : (t : Part E M) (s : List ℕ) (r u : Part E M) (n at : ℕ) → r ≡ u → IsLinked 1 t → n ≡ size_of u → at ≡ size_of t + 1
+      → with_right family t s r ≡ result_map (divide_merged family n at) (merge_nodes t s u)
+  right_redivided t s r u n at is linked is_n is_at =
+      ap (with_right family t s) is
+      ∙ with_right_joined t s u linked
+      ∙ ap (λ m. result_map (divide_merged family m (size_of t + 1)) (merge_nodes t s u)) (sym is_n)
+      ∙ ap (λ m. result_map (divide_merged family n m) (merge_nodes t s u)) (sym is_at)
 
   pub merge_parts_from : (ks js : List (Kid E M)) → joined_parts (parts_from ks) (parts_from js) ≡ parts_from (ks ++ js)
   merge_parts_from [] js = refl
   merge_parts_from (k ∷ ks) js = ap (λ ps. more k.0 k.1 ps) (merge_parts_from ks js)
-
-  -- what the code that evens the two asks
-  pub record EvenLimits (n at : ℕ) (v : Part E M) : Type 0 where
-    pub linked : IsLinked 2 v
-    pub whole : n ≤ min_fill → size_of v ≤ max_fill
-    pub two : min_fill < n → CanDivide at v
-    pub first : at ≤ max_fill
-    pub last : size_of v ≤ at + max_fill
 
   pub left_limits : (t : Part E M) (s : List ℕ) (u v : Part E M) (n at : ℕ) → IsShaped t → IsWithin 1 u → size_of u < min_fill → merge_nodes t s u ≡ Ok v → n ≡ size_of t → at ≡ n - 1
       → EvenLimits n at v

@@ -5,7 +5,9 @@ use Rattle.vo_spec.specs.declared.trees.UpdateFault.TheVariants.{Missing}
 use Rattle.vo_spec.specs.Parts.{Part, stub, leaf, inner, Family, count}
 use Rattle.vo_spec.specs.Inserts.{min_fill, result_map, Insertion, one, two, Children, first_key, take_parts, drop_parts, split_leaf, split_inner}
 use Rattle.vo_spec.specs.Removes.{joined_parts, is_underfull, with_left, with_right}
+use Rattle.vo_spec.specs.Fits.{max_fill}
 use Rattle.btree.specs.Nodes.{Kid, parts_from, new_kid, kids_of, keys_of}
+use Rattle.btree.specs.Shapes.{size_of, IsLinked}
 use Rattle.btree.specs.declared.split.Division.{Division}
 
 -- the node that has these
@@ -71,6 +73,15 @@ module _ {E M : Type 0} where
   CanDivide i (stub d) = ⊥
   CanDivide i (leaf es) = i < length es
   CanDivide i (inner ss ps) = (2 ≤ i) × (i + 2 ≤ count ps)
+
+-- what is asked of two that were merged, whose sibling had so many, and which are divided at this
+-- place where it had more than it needs
+pub record EvenLimits {E M : Type 0} (sibling at : ℕ) (all : Part E M) : Type 0 where
+  pub linked : IsLinked 2 all
+  pub whole : sibling ≤ min_fill → size_of all ≤ max_fill
+  pub two : min_fill < sibling → CanDivide at all
+  pub first : at ≤ max_fill
+  pub last : size_of all ≤ at + max_fill
 
 -- those of these separators and children, cut after so many; the last of the first separators goes
 -- between

@@ -36,11 +36,7 @@ pub fn with_item<T: TryClone + Drop>(
     requires end { to ≤ length items.now }
     ensures { IfOk result (λ new. new.items ≡ take from items.now ++ item ∷ drop to items.now) }
 {
-    let mut new = Vec::with_capacity(alloc, items.len().saturating_add(1))?;
-    extend_cloned(alloc, &items[..from], &mut new)?;
-    new.push(item)?;
-    extend_cloned(alloc, &items[to..], &mut new)?;
-    Ok(new)
+    replace_range(alloc, items, from, to, list_of_one(alloc, item)?)
 }
 
 /// A list of one item.

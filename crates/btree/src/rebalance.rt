@@ -1,11 +1,12 @@
 //! A child that may be underfull borrows from its sibling, or is merged with it.
 ghost use Rattle.std.specs.Prelude.{◌≡◌, ◌≤◌, ◌<◌, ◌+◌, zero, suc, length, map, IfOk, Ok};
+ghost use Rattle.vo_spec.specs.Parts.{Part};
 ghost use Rattle.vo_spec.specs.Fits.{max_fill};
 ghost use Rattle.vo_spec.specs.Inserts.{min_fill, result_map};
 ghost use Rattle.vo_spec.specs.Removes.{with_left as even_with_left, with_right as even_with_right};
 ghost use Rattle.btree.specs.Answers.{Answers};
 ghost use Rattle.btree.specs.Nodes.{parts_from, contents_of, IsContents, AreSiblings};
-ghost use Rattle.btree.specs.Splices.{node_of, rebalance_at, rebalance_with_sibling, divide_merged, CanDivide};
+ghost use Rattle.btree.specs.Splices.{node_of, rebalance_at, rebalance_with_sibling, merge_nodes, divide_merged, CanDivide, EvenLimits};
 ghost use Rattle.btree.specs.Shapes.{size_of, IsShaped, AreShaped, IsLinked, IsWithin};
 
 use crate::contents::{fill_of, put_siblings};
@@ -39,7 +40,7 @@ pub fn rebalance<N: TreeNode>(
         IsWithin 1 (contents_of N.Key.key N.entry N.kid contents)) }
 {
     if fill_of::<N>(&child) >= MIN_FILL {
-        return Ok(put_child(alloc, separators, children, place, child)?);
+        return put_child(alloc, separators, children, place, child);
     }
     let sibling = sibling_of(place);
     if sibling > place {
@@ -55,21 +56,21 @@ fn put_child<N: TreeNode>(
     children: &[N],
     place: usize,
     child: Contents<N::Key, N::Entry, N>,
-) -> Result<Contents<N::Key, N::Entry, N>, AllocError>
+) -> Result<Contents<N::Key, N::Entry, N>, UpdateFault>
     requires at { place < length children.now }
     requires least { 2 ≤ length children.now }
     requires most { length children.now ≤ max_fill }
     requires between { length separators.now + 1 ≡ length children.now }
     requires loose { IsWithin 1 (contents_of N.Key.key N.entry N.kid child) }
     requires enough { min_fill ≤ size_of (contents_of N.Key.key N.entry N.kid child) }
-    ensures value { IfOk result (λ contents. Ok (contents_of N.Key.key N.entry N.kid contents)
-        ≡ result_map node_of (rebalance_at N.family place (map N.Key.key separators.now)
+    ensures value { Answers (IsContents N.Key.key N.entry N.kid) result
+        (result_map node_of (rebalance_at N.family place (map N.Key.key separators.now)
         (map N.kid children.now) (contents_of N.Key.key N.entry N.kid child))) }
     ensures loose { IfOk result (λ contents.
         IsWithin 1 (contents_of N.Key.key N.entry N.kid contents)) }
 {
     let siblings = Siblings::one(alloc, N::close(alloc, child)?)?;
-    put_siblings(alloc, separators, children, place, place, siblings)
+    Ok(put_siblings(alloc, separators, children, place, place, siblings)?)
 }
 
 /// With an underfull first child, and the one after it.
@@ -140,8 +141,7 @@ fn rebalance_with_left<N: TreeNode>(
 {
     let first = clone_contents::<N>(alloc, left)?;
     let fill = fill_of::<N>(&first);
-    let all = merge::<N>(alloc, first, separator, node)?;
-    Ok(divide_where_more::<N>(alloc, all, fill, fill.saturating_sub(1))?)
+    even_out::<N>(alloc, first, separator, node, fill, fill.saturating_sub(1))
 }
 
 /// What comes of an underfull node and its right sibling, with the separator between them.
@@ -161,8 +161,30 @@ fn rebalance_with_right<N: TreeNode>(
     let at = fill_of::<N>(&node) + 1;
     let second = clone_contents::<N>(alloc, right)?;
     let fill = fill_of::<N>(&second);
-    let all = merge::<N>(alloc, node, separator, second)?;
-    Ok(divide_where_more::<N>(alloc, all, fill, at)?)
+    even_out::<N>(alloc, node, separator, second, fill, at)
+}
+
+/// The two made one, and divided again before this place where the sibling, which had so many, had
+/// more than it needs.
+fn even_out<N: TreeNode>(
+    alloc: Global,
+    first: Contents<N::Key, N::Entry, N>,
+    separator: &N::Key,
+    second: Contents<N::Key, N::Entry, N>,
+    sibling: usize,
+    at: usize,
+) -> Result<Siblings<N::Key, N>, UpdateFault>
+    requires { (all : Part N.Plain N.Annotation)
+        → merge_nodes (contents_of N.Key.key N.entry N.kid first) (N.Key.key separator.now)
+        (contents_of N.Key.key N.entry N.kid second) ≡ Ok all
+        → EvenLimits sibling at all }
+    ensures { Answers (AreSiblings N.family N.Key.key N.kid) result
+        (result_map (divide_merged N.family sibling at)
+        (merge_nodes (contents_of N.Key.key N.entry N.kid first) (N.Key.key separator.now)
+        (contents_of N.Key.key N.entry N.kid second))) }
+{
+    let all = merge::<N>(alloc, first, separator, second)?;
+    Ok(divide_where_more::<N>(alloc, all, sibling, at)?)
 }
 
 /// The two that were merged, divided again before this place where the sibling had more than it

@@ -2,9 +2,10 @@
 ghost use Rattle.std.specs.Prelude.{◌≡◌, ◌≤◌, ◌<◌, ◌+◌, length, map, IfOk};
 ghost use Rattle.vo_spec.specs.Parts.{leaf, inner};
 ghost use Rattle.vo_spec.specs.Fits.{max_fill};
-ghost use Rattle.btree.specs.Nodes.{contents_of, parts_from, new_kid, AreSiblings};
+ghost use Rattle.vo_spec.specs.Inserts.{two};
+ghost use Rattle.btree.specs.Nodes.{contents_of, parts_from, AreSiblings};
 ghost use Rattle.btree.specs.Splices.{split as split_of, divide_at, CanDivide, AreDivided};
-ghost use Rattle.btree.specs.Shapes.{size_of, IsLinked};
+ghost use Rattle.btree.specs.Shapes.{size_of, IsLinked, IsWithin};
 
 use crate::contents::fill_of;
 use crate::limits::{MAX_FILL, MIN_FILL};
@@ -67,9 +68,12 @@ fn divide_leaf<N: TreeNode>(
     let mut left = entries;
     let right = left.split_off(at)?;
     let separator = N::separator(alloc, &right[0])?;
-    let left = N::close(alloc, Contents::Leaf(left))?;
-    let right = N::close(alloc, Contents::Leaf(right))?;
-    Siblings::two(alloc, left, separator, right)
+    close_both(
+        alloc,
+        Contents::Leaf(left),
+        separator,
+        Contents::Leaf(right),
+    )
 }
 
 fn divide_inner<N: TreeNode>(
@@ -88,30 +92,33 @@ fn divide_inner<N: TreeNode>(
         (parts_from (map N.kid children.items))))) }
 {
     let division = divide_lists(separators, children, at)?;
-    let left = close_inner(alloc, division.before, division.left)?;
-    let right = close_inner(alloc, division.after, division.right)?;
-    Siblings::two(alloc, left, division.separator, right)
+    let left = Contents::Inner {
+        separators: division.before,
+        children: division.left,
+    };
+    let right = Contents::Inner {
+        separators: division.after,
+        children: division.right,
+    };
+    close_both(alloc, left, division.separator, right)
 }
 
-fn close_inner<N: TreeNode>(
+/// Two nodes of these contents, with this separator between them.
+fn close_both<N: TreeNode>(
     alloc: Global,
-    separators: Vec<N::Key>,
-    children: Vec<N>,
-) -> Result<N, AllocError>
-    requires least { 2 ≤ length children.items }
-    requires most { length children.items ≤ max_fill }
-    requires between { length separators.items + 1 ≡ length children.items }
-    ensures { IfOk result (λ node. N.kid node
-        ≡ new_kid N.family (inner (map N.Key.key separators.items)
-        (parts_from (map N.kid children.items)))) }
+    left: Contents<N::Key, N::Entry, N>,
+    separator: N::Key,
+    right: Contents<N::Key, N::Entry, N>,
+) -> Result<Siblings<N::Key, N>, AllocError>
+    requires left { IsWithin 2 (contents_of N.Key.key N.entry N.kid left) }
+    requires right { IsWithin 2 (contents_of N.Key.key N.entry N.kid right) }
+    ensures { IfOk result (λ siblings. AreSiblings N.family N.Key.key N.kid siblings
+        (two (contents_of N.Key.key N.entry N.kid left) (N.Key.key separator)
+        (contents_of N.Key.key N.entry N.kid right))) }
 {
-    N::close(
-        alloc,
-        Contents::Inner {
-            separators,
-            children,
-        },
-    )
+    let left = N::close(alloc, left)?;
+    let right = N::close(alloc, right)?;
+    Siblings::two(alloc, left, separator, right)
 }
 
 /// What goes left, the separator between, and what goes right.

@@ -1,4 +1,4 @@
-use Rattle.std.proofs.Common.{◌≡◌, length, map, ap, arith}
+use Rattle.std.proofs.Common.{◌≡◌, map, ap, arith}
 use Rattle.std.proofs.lemmas.List.{length-map}
 use Rattle.vo_spec.specs.Parts.{count}
 use Rattle.btree.specs.Nodes.{parts_from}

@@ -1,4 +1,4 @@
-use Rattle.std.proofs.Common.{◌≡◌, ◌<◌, ap, sym, ◌∙◌, arith}
+use Rattle.std.proofs.Common.{◌<◌, sym, arith}
 use Rattle.vo_spec.specs.Inserts.{min_fill}
 use Rattle.btree.specs.Shapes.{size_of}
 use Rattle.btree.proofs.RemainingSizes.{enough_remains}
