@@ -1,11 +1,10 @@
 -- What comes of an underfull child and its sibling, and of a root that has lost a child.
-use Rattle.std.proofs.Common.{◌≡◌, ℕ, zero, suc, ◌+◌, ◌-◌, ◌<◌, ◌≤◌, true, false, cond, List, [], ◌∷◌, ◌++◌, length, map, get_or, Result, Ok, Err, refl, sym, ap, ◌∙◌, subst, arith}
+use Rattle.std.proofs.Common.{◌≡◌, ℕ, zero, suc, ◌+◌, ◌<◌, ◌≤◌, true, false, cond, List, [], ◌∷◌, ◌++◌, length, map, get_or, Result, Ok, refl, sym, ap, ◌∙◌, subst, arith}
 use Rattle.std.proofs.lemmas.List.{length-map, map-append, get_or-map}
 use Rattle.std.proofs.lemmas.Bool.Decides.{nat_tests}
 use Rattle.std.specs.declared.vec.Vec.{Vec}
 use Rattle.std.specs.declared.alloc.Global.{Global}
 use Rattle.vo_spec.specs.declared.trees.UpdateFault.{UpdateFault}
-use Rattle.vo_spec.specs.declared.trees.UpdateFault.TheVariants.{Missing}
 use Rattle.vo_spec.specs.Parts.{Part, stub, leaf, inner, count, Family}
 use Rattle.vo_spec.specs.Fits.{max_fill}
 use Rattle.vo_spec.specs.Inserts.{result_map, Insertion, one}
@@ -13,9 +12,9 @@ use Rattle.vo_spec.specs.Removes.{is_underfull, with_left, with_right, settled_r
 use Rattle.btree.specs.declared.node.Contents.{Contents}
 use Rattle.btree.specs.declared.node.Contents.TheVariants.{Leaf, Inner}
 use Rattle.btree.specs.Nodes.{Kid, parts_from, new_kid, contents_of}
-use Rattle.btree.specs.Splices.{merge_nodes, open_node, divide_merged, splice, rebalance_with_sibling, rebalance_at, node_of}
-use Rattle.btree.specs.Shapes.{size_of, IsLinked, IsWithin}
-use Rattle.btree.proofs.Merges.{merge_parts_from, with_left_joined, with_right_joined}
+use Rattle.btree.specs.Splices.{merge_nodes, open_node, splice, rebalance_with_sibling, rebalance_at, node_of}
+use Rattle.btree.specs.Shapes.{size_of, IsWithin}
+use Rattle.btree.proofs.Merges.{merge_parts_from}
 use Rattle.btree.proofs.Splits.{placed}
 use Rattle.btree.proofs.Divisions.{counted}
 
@@ -66,30 +65,12 @@ module _ {K F N E M : Type 0} (family : Family E M) (key : K → List ℕ) (entr
       stays (m ∷ o ∷ ms) h = refl
 
 module _ {E M : Type 0} (family : Family E M) where
-  -- A sibling that is opened, and one that can't be.
+  -- A sibling that is opened.
 
   pub opened_is : (t u : Part E M) → open_node t ≡ Ok u → t ≡ u
   opened_is (stub d) u h = absurd (cc)
   opened_is (leaf es) u h = cc
   opened_is (inner ss ps) u h = cc
-
-  pub left_closed : (t : Part E M) (s : List ℕ) (u : Part E M) (fault : UpdateFault) → open_node t ≡ Err fault → with_left family t s u ≡ Err fault
-  left_closed (stub d) s u fault h = let same : Missing ≡ fault = cc in ap Err same
-  left_closed (leaf es) s u fault h = absurd (cc)
-  left_closed (inner ss ps) s u fault h = absurd (cc)
-
-  pub right_closed : (t : Part E M) (s : List ℕ) (u : Part E M) (fault : UpdateFault) → open_node u ≡ Err fault → with_right family t s u ≡ Err fault
-  right_closed (stub d) s (stub e) fault h = let same : Missing ≡ fault = cc in ap Err same
-  right_closed (leaf es) s (stub e) fault h = let same : Missing ≡ fault = cc in ap Err same
-  right_closed (inner ss ps) s (stub e) fault h = let same : Missing ≡ fault = cc in ap Err same
-  right_closed t s (leaf es) fault h = absurd (cc)
-  right_closed t s (inner ss ps) fault h = absurd (cc)
-
-  pub left_apart : (t : Part E M) (s : List ℕ) (u : Part E M) (fault : UpdateFault) → IsLinked 2 t → merge_nodes t s u ≡ Err fault → with_left family t s u ≡ Err fault
-  left_apart t s u fault linked h = with_left_joined family t s u linked ∙ ap (result_map (divide_merged family (size_of t) (size_of t - 1))) h
-
-  pub right_apart : (t : Part E M) (s : List ℕ) (u : Part E M) (fault : UpdateFault) → IsLinked 1 t → merge_nodes t s u ≡ Err fault → with_right family t s u ≡ Err fault
-  right_apart t s u fault linked h = with_right_joined family t s u linked ∙ ap (result_map (divide_merged family (size_of u) (size_of t + 1))) h
 
   -- A child that isn't underfull.
 
