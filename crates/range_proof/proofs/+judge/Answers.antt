@@ -112,3 +112,6 @@ judge_for_one::judge_children_for_one-returns t c = grind (arith, common_steps)
 
 pub judging::judge_each-returns : goal.judging::judge_each-returns
 judging::judge_each-returns t c = grind (arith, common_steps)
+
+pub judge_for_one::judge_unvisited-returns-in-Leaf : goal.judge_for_one::judge_unvisited-returns-in-Leaf
+judge_for_one::judge_unvisited-returns-in-Leaf t c = grind (arith, common_steps)

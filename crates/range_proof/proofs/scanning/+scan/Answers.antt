@@ -2,12 +2,15 @@ use Rattle.std.proofs.Common.{◌≡◌, ◌≤◌, true, false, sym, ap, ◌∙
 use Rattle.std.proofs.lemmas.Grind.{common_steps}
 use Rattle.std.specs.Option.{option_copied}
 use Rattle.vo_spec.specs.Parts.{levels, levels_in}
-use Rattle.vo_spec.specs.Scans.{visits}
+use Rattle.vo_spec.specs.Scans.{visits, seen_in}
 use Rattle.mb_tree.specs.View.{part_of, parts_of}
 use Rattle.mb_tree.proofs.PartLaws.{child_falls}
 use Rattle.range_proof.proofs.Steps.{step_visited, step_passed, step_missing, fault_on}
 use Rattle.range_proof.proofs.scanning.+scan.Goals as goal
 use Rattle.range_proof.proofs.scanning.+scan.Goals.{scan_children-then-visits_from+in-Ok, scan_children-else-visits_from}
+
+pub scan_node-returns-in-Stub : goal.scan_node-returns-in-Stub
+scan_node-returns-in-Stub t c = ap (λ tree. seen_in c.args.need.now (part_of tree)) c.in-Stub.is
 
 pub scan_children-scan_node-requires : goal.scan_children-scan_node-requires
 scan_children-scan_node-requires t c =
