@@ -133,35 +133,34 @@ cells_can target hashed key left row_hashed column found n =
 
 -- Trees.
 
+-- what goes on behind another reader
+behind_can : {A : Type 0} (read : Reader A) (behind : A × List ℕ → Option (Summary × List ℕ)) (whole : Reader Summary) → ((bytes : List ℕ) → whole bytes ≡ (read bytes >>= behind)) → (can : CanRead read)
+    → CanEnd (λ rest. behind (can.found, rest)) → CanEnd whole
+behind_can {A} read behind whole same can above = record {
+  bytes = can.bytes ++ above.bytes;
+  are_bytes = IsBytes-append can.bytes above.bytes can.are_bytes above.are_bytes;
+  found = above.found;
+  each = λ rest.
+      ap whole (append_assoc can.bytes above.bytes rest)
+      ∙ same (can.bytes ++ (above.bytes ++ rest))
+      ∙ ap (λ (o : Option (A × List ℕ)). o >>= behind) (can.each (above.bytes ++ rest))
+      ∙ above.each rest;
+}
+
 after_can : (target : Target) (ancestors : List InnerNode) (d : List ℕ) (found : Findings) → length ancestors ≤ 10 → CanEnd (summary_after target ancestors d found)
 unfolding summary_after
 after_can target [] d found few = record { bytes = []; are_bytes = IsBytes-nil; found = summary d found; each = λ rest. refl }
 after_can target (node ∷ ancestors) d found few =
-    let can = children_can target (levels_below (node ∷ ancestors)) (node.hasher ++ d) node.child_visits.items (omega (arith, few)) in
-    let above = after_can target ancestors can.found.digest (combine found can.found.findings) (omega (arith, few)) in
-    record {
-      bytes = can.bytes ++ above.bytes;
-      are_bytes = IsBytes-append can.bytes above.bytes can.are_bytes above.are_bytes;
-      found = above.found;
-      each = λ rest.
-          ap (summary_after target (node ∷ ancestors) d found) (append_assoc can.bytes above.bytes rest)
-          ∙ ap (λ (o : Option (Summary × List ℕ)). o >>= λ end. summary_after target ancestors end.0.digest (combine found end.0.findings) end.1) (can.each (above.bytes ++ rest))
-          ∙ above.each rest;
-    }
+    let read : Reader Summary = rest_of_children target (levels_below (node ∷ ancestors)) (node.hasher ++ d) node.child_visits.items in
+    let can : CanRead read = children_can target (levels_below (node ∷ ancestors)) (node.hasher ++ d) node.child_visits.items (omega (arith, few)) in
+    behind_can read (λ end. summary_after target ancestors end.0.digest (combine found end.0.findings) end.1) (summary_after target (node ∷ ancestors) d found) (λ bytes. refl) can
+    (after_can target ancestors can.found.digest (combine found can.found.findings) (omega (arith, few)))
 
 with_can : (target : Target) (ancestors : List InnerNode) (found : Findings) (read : Reader Summary) → length ancestors ≤ 10 → CanRead read → CanEnd (summary_with target ancestors found read)
 unfolding summary_with
 with_can target ancestors found read few can =
-    let above = after_can target (reverse ancestors) can.found.digest (combine found can.found.findings) (omega (arith, few, length-reverse ancestors)) in
-    record {
-      bytes = can.bytes ++ above.bytes;
-      are_bytes = IsBytes-append can.bytes above.bytes can.are_bytes above.are_bytes;
-      found = above.found;
-      each = λ rest.
-          ap (summary_with target ancestors found read) (append_assoc can.bytes above.bytes rest)
-          ∙ ap (λ (o : Option (Summary × List ℕ)). o >>= summary_behind target ancestors found) (can.each (above.bytes ++ rest))
-          ∙ above.each rest;
-    }
+    behind_can read (summary_behind target ancestors found) (summary_with target ancestors found read) (λ bytes. refl) can
+    (after_can target (reverse ancestors) can.found.digest (combine found can.found.findings) (omega (arith, few, length-reverse ancestors)))
 
 pub can_same : (f g : Reader Summary) → ((rest : List ℕ) → f rest ≡ g rest) → CanEnd g → CanEnd f
 can_same f g same can = record { bytes = can.bytes; are_bytes = can.are_bytes; found = can.found; each = λ rest. same (can.bytes ++ rest) ∙ can.each rest }

@@ -1,5 +1,5 @@
 -- What is taken of pieces, step by step.
-use Rattle.std.proofs.Common.{◌≡◌, ℕ, suc, ◌+◌, ◌<◌, ◌≤◌, eqb, List, [], ◌∷◌, ◌++◌, length, take, drop, Some, None, refl, sym, ap, ◌∙◌, append-nil, append_assoc, arith, Result, Ok, Err, ◌⊎◌, inl, inr}
+use Rattle.std.proofs.Common.{◌≡◌, ℕ, ◌+◌, ◌<◌, ◌≤◌, eqb, List, [], ◌∷◌, ◌++◌, length, take, drop, Some, None, refl, sym, ap, ◌∙◌, append-nil, append_assoc, arith, Result, Ok, Err, ◌⊎◌, inl, inr}
 use Rattle.std.specs.Prelude.{IfOk, OnOk, OnErr, IsOk, IsErr, IsTrue, true, false}
 use Rattle.std.specs.Borrow.{Bor}
 use Rattle.std.specs.declared.alloc.AllocError.{AllocError}
@@ -12,7 +12,7 @@ use Rattle.tree_stream.specs.declared.findings.Summary.{Summary}
 use Rattle.tree_stream.specs.declared.machine.Machine.{Machine}
 use Rattle.tree_stream.specs.declared.state.State.{State}
 use Rattle.tree_stream.specs.declared.state.State.TheVariants.{Invalid}
-use Rattle.tree_stream.specs.Machines.{summary_of_machine, Takes, Passes, Advances, EndsWith, StopsInRow}
+use Rattle.tree_stream.specs.Machines.{summary_of_machine, Takes, Passes, Advances, EndsWith, Grows, StopsInRow}
 use Rattle.tree_stream.specs.Remaining.{rest_of_node}
 use Rattle.tree_stream.specs.Summaries.{is_settled, summary_with, summary_from, CanEnd, IsInNeededRow}
 use Rattle.tree_stream.specs.Tokens.{token_size}
@@ -43,6 +43,30 @@ filled_whole state partial front all is within le =
     let size : token_size state all ≡ token_size state (partial ++ front) = ap (token_size state) is in
     let len : length all ≡ length partial + length front = ap (λ (t : List ℕ). length t) is ∙ length-append partial front in
     omega (arith, grown, size, len, within, le)
+
+-- it grew to its size, or by all bytes that there were
+pub is_filled : (count size : ℕ) (left : List ℕ) → (count ≡ size) ⊎ ((count < size) × (left ≡ [])) → size ≤ count → count ≡ size
+is_filled count size left (inl is) le = is
+is_filled count size left (inr less) le = absurd (omega (arith, less.0, le))
+
+pub none_behind : (count size : ℕ) (left : List ℕ) → (count ≡ size) ⊎ ((count < size) × (left ≡ [])) → count < size → left ≡ []
+none_behind count size left (inl is) less = absurd (omega (arith, is, less))
+none_behind count size left (inr none) less = none.1
+
+pub grows_on : (old front all new piece left end : List ℕ) → all ≡ old ++ front → piece ≡ front ++ left → Grows all new left end → Grows old new piece end
+grows_on old front all new piece left end is parts more = record {
+  front = front ++ more.front;
+  parts = parts ∙ ap (λ (t : List ℕ). front ++ t) more.parts ∙ sym (append_assoc front more.front end);
+  grown = more.grown ∙ ap (λ (t : List ℕ). t ++ more.front) is ∙ append_assoc old front more.front;
+}
+
+-- a piece by whose bytes a token became whole
+pub grew_some : (state : State) (partial front left piece all : List ℕ) → all ≡ partial ++ front → piece ≡ front ++ left → length partial < token_size state partial → length all ≡ token_size state all → 0 < length piece
+grew_some state partial front left piece all is parts short whole =
+    let grown : token_size state partial ≤ token_size state (partial ++ front) = (token_is state).grows partial front in
+    let size : token_size state all ≡ token_size state (partial ++ front) = ap (token_size state) is in
+    let len : length all ≡ length partial + length front = ap (λ (t : List ℕ). length t) is ∙ length-append partial front in
+    omega (arith, grown, size, len, short, whole, ap (λ (t : List ℕ). length t) parts, length-append front left)
 
 pub invalid_none : (machine : Machine) → machine.state ≡ Invalid → (bytes : List ℕ) → summary_of_machine machine bytes ≡ None
 unfolding summary_from summary_with rest_of_node
@@ -86,19 +110,11 @@ and_then first old new bytes left behind a b = record {
 pub empty_short : (state : State) (bytes : List ℕ) → bytes ≡ [] → length bytes < token_size state bytes
 empty_short state bytes is = let size : token_size state bytes ≡ token_size state [] = ap (token_size state) is in omega (arith, size, ap (λ (t : List ℕ). length t) is, token_positive state)
 
-pub invalid_short : (state : State) (bytes : List ℕ) → state ≡ Invalid → length bytes < token_size state bytes
-unfolding token_size
-invalid_short state bytes is = let size : token_size state bytes ≡ suc (length bytes) = ap (λ (s : State). token_size s bytes) is in omega (arith, size)
-
 -- Calls.
 
 pub ok_of : {T E : Type 0} (r : Result T E) (P : Type 0) → IsOk r → OnOk r P → P
 ok_of (Ok x) P is p = p
 ok_of (Err e) P is p = absurd (false≢true is)
-
-pub ends_then : (r : Result (Bor (List ℕ)) AllocError) (front left piece : List ℕ) → piece ≡ front ++ left → IfOk r (λ end. EndsWith left end.now) → IfOk r (λ end. EndsWith piece end.now)
-ends_then (Ok end) front left piece is ends = (front ++ ends.0, is ∙ ap (λ (t : List ℕ). front ++ t) ends.1 ∙ sym (append_assoc front ends.0 end.now))
-ends_then (Err e) front left piece is ends = tt
 
 pub longer_way : (machine : Machine) (partial front all : List ℕ) → IsBytes front → all ≡ partial ++ front → CanEnd (λ rest. summary_of_machine machine (all ++ rest)) → CanEnd (λ rest. summary_of_machine machine (partial ++ rest))
 longer_way machine partial front all fits is can =
@@ -117,6 +133,13 @@ same_bytes machine bytes left is = record { taken = []; parts = sym is; each = �
 -- the bytes of a token that was filled up, and those behind them
 pub filled_is : (partial front left piece all : List ℕ) → all ≡ partial ++ front → piece ≡ front ++ left → all ++ left ≡ partial ++ piece
 filled_is partial front left piece all is parts = ap (λ (t : List ℕ). t ++ left) is ∙ append_assoc partial front left ∙ ap (λ (t : List ℕ). partial ++ t) (sym parts)
+
+pub filled_taken : (old new : Machine) (partial front left piece all kept : List ℕ) → all ≡ partial ++ front → piece ≡ front ++ left → Takes old new all → kept ≡ [] → Advances old new (partial ++ piece) (kept ++ left)
+filled_taken old new partial front left piece all kept is parts taken none = record {
+  taken = all;
+  parts = sym (filled_is partial front left piece all is parts) ∙ ap (λ (k : List ℕ). all ++ (k ++ left)) (sym none);
+  each = taken.each;
+}
 
 pub ok_advances : (r : Result (Bor (List ℕ)) AllocError) (first old new : Machine) (bytes partial left kept : List ℕ) → partial ≡ [] → Advances first old bytes (partial ++ left)
     → IfOk r (λ end. Advances old new left (kept ++ end.now)) → IfOk r (λ end. Advances first new bytes (kept ++ end.now))
@@ -216,13 +239,3 @@ stops_later first old bytes partial left none a same stops =
       inside = stops.inside;
       some = stops.some;
     }
-
-pub stops_some : (old : Machine) (bytes : List ℕ) → StopsInRow old bytes → 0 < length bytes
-stops_some old bytes stops = omega (arith, stops.some, ap (λ (t : List ℕ). length t) stops.advances.parts, length-append stops.advances.taken stops.left)
-
-pub ends_some : (piece left : List ℕ) → EndsWith piece left → 0 < length left → 0 < length piece
-ends_some piece left ends some = omega (arith, some, ap (λ (t : List ℕ). length t) ends.1, length-append ends.0 left)
-
--- bytes that grew by a front of a piece
-pub grew_some : (front left piece : List ℕ) → piece ≡ front ++ left → 0 < length front → 0 < length piece
-grew_some front left piece is some = omega (arith, some, ap (λ (t : List ℕ). length t) is, length-append front left)

@@ -39,6 +39,12 @@ Advances old new bytes left =
 abbrev pub EndsWith : List ℕ → List ℕ → Type 0
 EndsWith bytes end = (front : List ℕ) × (bytes ≡ front ++ end)
 
+-- bytes that stood in front of a piece were put behind those of a token
+pub record Grows (old new piece left : List ℕ) : Type 0 where
+  pub front : List ℕ
+  pub parts : piece ≡ front ++ left
+  pub grown : new ≡ old ++ front
+
 -- of these bytes the machine takes some, up to a needed row of its target, whose next byte is among
 -- those that are left
 pub record StopsInRow (old : Machine) (bytes : List ℕ) : Type 0 where

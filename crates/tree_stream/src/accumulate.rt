@@ -1,5 +1,5 @@
 //! Adding up what is found, part by part.
-ghost use Rattle.std.specs.Prelude.{◌≡◌, nat_le, IsTrue, IsErr, OnOk};
+ghost use Rattle.std.specs.Prelude.{◌≡◌, if◌then◌else◌, [], ◌∷◌, ◌++◌, nat_le, IsTrue, IsErr, OnOk};
 ghost use Rattle.std.specs.List.{list_any};
 ghost use Rattle.vo_spec.specs.Pruning.{has_column as is_among};
 ghost use Rattle.vo_spec.specs.Scans.{in_interval as has_key};
@@ -13,7 +13,7 @@ use crate::target::Target;
 use key_intervals::in_interval;
 use row_bytes::own_value;
 use std::alloc::{AllocError, Global};
-use vo_spec::{Key, Kind, List, SeenRow};
+use vo_spec::{Key, Kind, List, SeenRow, Value};
 
 pub(crate) fn empty_findings(alloc: Global) -> Findings
     ensures { result ≡ no_findings }
@@ -29,13 +29,13 @@ pub(crate) fn empty_findings(alloc: Global) -> Findings
 pub(crate) fn add_stub(findings: &mut Findings, visited: bool)
     ensures { findings.new ≡ combine findings.old (stub_findings visited) }
 {
-    findings.is_missing = findings.is_missing || visited;
+    findings.is_missing |= visited;
 }
 
 pub(crate) fn add_open_node(findings: &mut Findings, visited: bool)
     ensures { findings.new ≡ combine findings.old (open_node_findings visited) }
 {
-    findings.has_surplus = findings.has_surplus || !visited;
+    findings.has_surplus |= !visited;
 }
 
 /// The columns that are named of the row with this key.
@@ -102,9 +102,9 @@ pub(crate) fn add_cell(
         (cell_findings is_named fits (cell_of cell.now))) }
     ensures memory { IsErr result → IsTrue is_named }
 {
-    findings.has_shape = findings.has_shape && fits;
+    findings.has_shape &= fits;
     match cell {
-        CellToken::Hidden(_) => findings.is_missing = findings.is_missing || is_named,
+        CellToken::Hidden(_) => findings.is_missing |= is_named,
         CellToken::Shown { value, .. } => {
             if is_named {
                 findings.values.push(own_value(alloc, *value)?)?;
@@ -134,13 +134,28 @@ pub(crate) fn add_entry(
         has_shape,
         values,
     } = found;
-    findings.is_missing = findings.is_missing || is_missing;
-    findings.has_surplus = findings.has_surplus || has_surplus;
-    findings.has_shape = findings.has_shape && is_key_of(target.key_kind, key) && has_shape;
+    findings.is_missing |= is_missing;
+    findings.has_surplus |= has_surplus;
+    findings.has_shape &= is_key_of(target.key_kind, key) & has_shape;
     let is_seen = in_interval(&target.interval, key);
+    keep_row(alloc, &mut findings.rows, is_seen, key, values)
+}
+
+/// Keeps the row of this key, where it is one of those that are seen.
+fn keep_row(
+    alloc: Global,
+    rows: &mut List<SeenRow>,
+    is_seen: bool,
+    key: &[u8],
+    values: List<Value>,
+) -> Result<(), AllocError>
+    ensures sum { OnOk result (rows.new ≡ rows.old
+        ++ (if is_seen then record { key = key.now; values = values } ∷ [] else [])) }
+    ensures memory { IsErr result → IsTrue is_seen }
+{
     if is_seen {
         let key = Key::from_vec(Vec::from_slice(alloc, key)?);
-        findings.rows.push(SeenRow { key, values })?;
+        rows.push(SeenRow { key, values })?;
     }
     Ok(())
 }

@@ -1,6 +1,6 @@
 //! Pieces of any sizes, of which whole tokens are taken; a token that isn't whole is kept.
 ghost use Rattle.std.specs.Prelude.{◌≡◌, ◌⊎◌, ◌↔◌, ◌<◌, ◌≤◌, [], ◌++◌, length, false, IsTrue, IfOk, IsErr, OnOk, OnErr};
-ghost use Rattle.tree_stream.specs.Machines.{Advances, EndsWith, StopsInRow, summary_of_machine};
+ghost use Rattle.tree_stream.specs.Machines.{Advances, EndsWith, Grows, StopsInRow, summary_of_machine};
 ghost use Rattle.tree_stream.specs.Summaries.{CanEnd, is_settled as has_settled};
 ghost use Rattle.tree_stream.specs.Tokens.{token_size as size_of_token};
 
@@ -36,8 +36,30 @@ fn take_all<'b>(
     Ok(left)
 }
 
-/// Puts what the token in front lacks behind the bytes of it, and takes it once it is whole. Gives
+/// Puts what the token in front lacks behind the bytes of it, as far as the piece has that. Gives
 /// the bytes behind it.
+fn grow<'b>(state: &State, partial: &mut ArrayVec<u8, 1028>, piece: &'b [u8]) -> &'b [u8]
+    requires short { length partial.old.items < size_of_token state.now partial.old.items }
+    requires reading { has_settled state.now ≡ false }
+    ensures grown { Grows partial.old.items partial.new.items piece.now result.now }
+    ensures filled { (length partial.new.items ≡ size_of_token state.now partial.new.items)
+        ⊎ ((length partial.new.items < size_of_token state.now partial.new.items)
+        × (result.now ≡ [])) }
+{
+    let lacking = token_size(state, partial.as_slice()) - partial.len();
+    let (front, left) = split_within(piece, lacking);
+    let _ = partial.try_extend_from_slice(front);
+    if partial.len() < token_size(state, partial.as_slice()) {
+        if left.is_empty() {
+            return left;
+        }
+        return grow(state, partial, left);
+    }
+    left
+}
+
+/// Fills up the token in front with bytes of the piece, and takes it once it is whole. Gives the
+/// bytes behind it.
 fn fill<'b>(
     machine: &mut Machine,
     partial: &mut ArrayVec<u8, 1028>,
@@ -59,25 +81,14 @@ fn fill<'b>(
     ensures some { IsErr result → 0 < length piece.now }
     ensures target { machine.new.context.target ≡ machine.old.context.target }
 {
-    let lacking = token_size(&machine.state, partial.as_slice()) - partial.len();
-    let (front, left) = split_within(piece, lacking);
-    let _ = partial.try_extend_from_slice(front);
+    let left = grow(&machine.state, partial, piece);
     if partial.len() < token_size(&machine.state, partial.as_slice()) {
-        if left.is_empty() {
-            return Ok(left);
-        }
-        return fill(machine, partial, alloc, left);
+        return Ok(left);
     }
-    match take(machine, alloc, partial.as_slice()) {
-        Ok(()) => {
-            partial.clear();
-            Ok(left)
-        },
-        Err(error) => {
-            partial.clear();
-            Err(error)
-        },
-    }
+    let taken = take(machine, alloc, partial.as_slice());
+    partial.clear();
+    taken?;
+    Ok(left)
 }
 
 /// At most so many bytes, and those behind them.
@@ -127,11 +138,11 @@ fn feed_whole<'b>(
     ensures memory { IsErr result → StopsInRow machine.old bytes.now }
     ensures target { machine.new.context.target ≡ machine.old.context.target }
 {
-    let left = take_all(machine, alloc, bytes)?;
+    let behind = take_all(machine, alloc, bytes)?;
     if is_settled(&machine.state) {
-        return Ok(left);
+        return Ok(behind);
     }
-    let _ = partial.try_extend_from_slice(left);
+    let _ = partial.try_extend_from_slice(behind);
     Ok(&[])
 }
 
@@ -158,9 +169,6 @@ pub(crate) fn feed_piece<'b>(
     ensures some { IsErr result → 0 < length piece.now }
     ensures target { machine.new.context.target ≡ machine.old.context.target }
 {
-    if is_settled(&machine.state) {
-        return Ok(piece);
-    }
     if partial.is_empty() {
         return feed_whole(machine, partial, alloc, piece);
     }

@@ -6,7 +6,7 @@ ghost use Rattle.tree_stream.specs.Tokens.{token_size};
 
 use crate::accumulate::empty_findings;
 use crate::context::Context;
-use crate::findings::Summary;
+use crate::findings::{Findings, Summary};
 use crate::machine::Machine;
 use crate::pieces::feed_piece;
 use crate::state::State;
@@ -81,12 +81,20 @@ impl TreeStream {
     {
         let TreeStream { machine, .. } = self;
         let Machine { context, state } = machine;
-        let Context { findings, .. } = context;
+        let findings = findings_of(context);
         match complete_digest(state) {
             Some(digest) => Some(Summary { digest, findings }),
             None => None,
         }
     }
+}
+
+/// What was found.
+fn findings_of(context: Context) -> Findings
+    ensures { result ≡ context.findings }
+{
+    let Context { findings, .. } = context;
+    findings
 }
 
 /// The digest of a tree that is whole.

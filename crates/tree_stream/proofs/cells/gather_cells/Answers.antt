@@ -1,4 +1,5 @@
 use Rattle.std.proofs.Common.{◌≡◌, ℕ, List, ◌++◌, sym, ap, arith, ◌∙◌}
+use Rattle.std.proofs.lemmas.Grind.{common_steps}
 use Rattle.tree_stream.specs.Machines.{row_summary}
 use Rattle.tree_stream.specs.Parsing.{BeginsCell, cell_of}
 use Rattle.tree_stream.proofs.CellLaws.{cell_whole}
@@ -36,3 +37,6 @@ cells-preserved c =
           (λ rest. c.in_ok-pass_cell-in-Some.ensures.ok rest ∙ ap (λ (t : List ℕ). row_summary context row hashed (t ++ rest)) (sym c.in-Some.ensures.0)) parts;
       room = c.in_ok-pass_cell-in-Some.ensures.room;
     }
+
+pub returns-in_err-pass_cell-in-Some-clause-some : goal.returns-in_err-pass_cell-in-Some-clause-some
+returns-in_err-pass_cell-in-Some-clause-some c = grind (arith, common_steps)

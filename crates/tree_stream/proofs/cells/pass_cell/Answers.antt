@@ -1,4 +1,5 @@
 use Rattle.std.proofs.Common.{◌≡◌, ℕ, ◌+◌, List, ◌++◌, refl, sym, ap, append_assoc, arith, ◌∙◌}
+use Rattle.std.proofs.lemmas.Grind.{common_steps}
 use Rattle.vo_spec.specs.Cells.{cell_digest}
 use Rattle.vo_spec.specs.Pruning.{has_column}
 use Rattle.vo_spec.specs.TreeBytes.{cell_form}
@@ -29,3 +30,6 @@ returns-clause-ok c =
     (c.has_column-is_named.ensures ∙ ap (λ (named : List ℕ). has_column named row.column) c.requires.named)
     (c.fits_kind-fits.ensures ∙ ap (λ (kinds : List Kind). fits_kind kinds row.column cell) c.as_slice.ensures)
     c.in_ok-add_cell.ensures.sum)
+
+pub returns-clause-room : goal.returns-clause-room
+returns-clause-room c = grind (arith, common_steps)

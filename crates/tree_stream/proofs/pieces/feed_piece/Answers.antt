@@ -1,13 +1,10 @@
-use Rattle.std.proofs.Common.{List, ℕ, ◌++◌, refl, subst, sym, ◌∙◌, arith}
+use Rattle.std.proofs.Common.{List, ℕ, ◌++◌, subst, sym, ◌∙◌, arith}
 use Rattle.std.proofs.lemmas.Grind.{common_steps}
 use Rattle.std.specs.Prelude.{IfOk}
 use Rattle.tree_stream.specs.Machines.{Advances, StopsInRow, summary_of_machine}
 use Rattle.tree_stream.specs.Summaries.{CanEnd}
-use Rattle.tree_stream.proofs.PieceLaws.{same_bytes, ok_advances, left_is_taken, way_behind, stops_later, no_length}
+use Rattle.tree_stream.proofs.PieceLaws.{ok_advances, left_is_taken, way_behind, stops_later, no_length}
 use Rattle.tree_stream.proofs.pieces.feed_piece.Goals as goal
-
-pub returns-then-is_settled-clause-ok : goal.returns-then-is_settled-clause-ok
-returns-then-is_settled-clause-ok c = same_bytes c.args.machine.now (c.args.partial.now.items ++ c.args.piece.now) (c.args.partial.now.items ++ c.args.piece.now) refl
 
 pub returns-clause-all : goal.returns-clause-all
 returns-clause-all c = left_is_taken _ c.fill.new.partial.items c.in_ok-left.left.now (sym c.is_empty-2.ensures ∙ c.if-is_empty-2.false) c.in_ok-left.ensures.all
