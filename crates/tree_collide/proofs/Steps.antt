@@ -1,5 +1,5 @@
 -- One cell, entry or child further.
-use Rattle.std.proofs.Common.{◌≡◌, ℕ, zero, suc, ◌+◌, ◌<◌, Option, Some, None, List, [], ◌∷◌, length, map, get_or, drop, refl, sym, ap, ◌∙◌, subst, inl, inr, arith, All}
+use Rattle.std.proofs.Common.{◌≡◌, ℕ, zero, suc, ◌+◌, ◌<◌, true, false, Option, Some, None, is_some, List, [], ◌∷◌, length, map, get_or, drop, refl, sym, ap, ◌∙◌, subst, inl, inr, arith, All}
 use Rattle.std.proofs.lemmas.List.{drop_more, length-map}
 use Rattle.std.specs.List.{AllZip}
 use Rattle.vo_spec.specs.declared.values.Value.{Value}
@@ -105,3 +105,14 @@ module _ (i : ℕ) (es : List PartEntry) (rows : List Row) (e : PartEntry) (row 
   pub entry_strings : i < length es → e ≡ get_or es i e → i < length rows → row ≡ get_or rows i row → EntriesLeft (drop i es) (map whole_entry (drop i rows)) all Are → (x y : List ℕ)
       → RowsOf e.row (whole_row row.cells) x y → Are x y
   entry_strings le e_is lr row_is l x y h = (entry_opened le e_is lr row_is l).strings x y (inl h)
+
+  -- what is found of an entry is found of all
+  pub entry_found : i < length es → e ≡ get_or es i e → i < length rows → row ≡ get_or rows i row → EntriesLeft (drop i es) (map whole_entry (drop i rows)) all Are → (found : Option (List ℕ × List ℕ))
+      → is_some found ≡ true → HoldsOrCollides found (RowPrunes e.row (whole_row row.cells)) (RowsOf e.row (whole_row row.cells)) → HoldsOrCollides found all Are
+  entry_found le e_is lr row_is l None some h = absurd (cc)
+  entry_found le e_is lr row_is l (Some x) some h = (entry_differs le e_is lr row_is l h.0, h.1, entry_strings le e_is lr row_is l x.0 x.1 h.2)
+
+  pub entry_passed : i < length es → e ≡ get_or es i e → i < length rows → row ≡ get_or rows i row → EntriesLeft (drop i es) (map whole_entry (drop i rows)) all Are → (found : Option (List ℕ × List ℕ))
+      → is_some found ≡ false → HoldsOrCollides found (RowPrunes e.row (whole_row row.cells)) (RowsOf e.row (whole_row row.cells)) → EntriesLeft (drop (i + 1) es) (map whole_entry (drop (i + 1) rows)) all Are
+  entry_passed le e_is lr row_is l None none h = entry_agrees le e_is lr row_is l h
+  entry_passed le e_is lr row_is l (Some x) none h = absurd (cc)
