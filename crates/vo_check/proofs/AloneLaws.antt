@@ -43,7 +43,6 @@ use Rattle.tree_stream.specs.declared.findings.Summary.{Summary}
 use Rattle.tree_stream.specs.declared.findings.Findings.{Findings}
 use Rattle.tree_stream.specs.declared.target.Target.{Target}
 use Rattle.tree_stream.specs.Findings.{findings_in, no_target, target_of}
-use Rattle.tree_stream.specs.Remaining.{summary}
 use Rattle.tree_stream.proofs.ShapeLaws.{shape_is}
 use Rattle.tree_stream.proofs.FindingLaws.{missing_is, surplus_is}
 use Rattle.tree_stream.proofs.RowLaws.{seen_is}

@@ -6,3 +6,4 @@ pub mod AcceptedRecords
 pub mod RisingColumns
 pub mod AloneLaws
 pub mod CheckingLaws
+pub mod PairLaws

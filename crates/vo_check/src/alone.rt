@@ -48,7 +48,8 @@ fn test_table(
 fn test_findings(findings: &Findings) -> Result<(), CheckFault>
     ensures { PassesTests result (findings_fault findings.now) }
 {
-    if findings.is_missing {
+    let is_missing = findings.is_missing;
+    if is_missing {
         return Err(CheckFault::Missing);
     }
     if findings.has_surplus {

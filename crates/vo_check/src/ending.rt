@@ -33,7 +33,11 @@ pub(crate) fn end_progress(
     ensures out { is_out_of_memory progress ≡ true → result ≡ Err CheckFault.Memory }
 {
     match count.excess() {
-        Some(length) => Err(excess_fault(&progress, length)),
+        Some(length) => {
+            let fault = excess_fault(&progress, length);
+            drop(progress);
+            Err(fault)
+        },
         None => end_within(alloc, client, query, progress),
     }
 }

@@ -6,7 +6,7 @@ ghost use Rattle.vo_spec.specs.Replies.{IsNoReply, max_reply};
 ghost use Rattle.reply_stream.specs.Heads.{head_at};
 ghost use Rattle.vo_check.specs.Checkings.{HasHead, StandsBehind, WantsRow, is_of_head, is_out_of_memory};
 
-use crate::progress::{OpenReply, Progress};
+use crate::progress::{OpenReply, Progress, put};
 use crate::targets::target_for;
 use reply_stream::{Head, HeadStream, TreesStream};
 use std::alloc::{AllocError, Global};
@@ -30,10 +30,9 @@ pub(crate) fn let_go(progress: &mut Progress)
         → StandsBehind q progress.new bytes }
     ensures out { is_out_of_memory progress.new ≡ is_out_of_memory progress.old }
 {
-    *progress = match progress {
-        Progress::OutOfMemory => Progress::OutOfMemory,
-        _ => Progress::TooLong,
-    };
+    if !matches!(progress, Progress::OutOfMemory) {
+        put(progress, Progress::TooLong);
+    }
 }
 
 /// Takes the piece that comes next.
@@ -60,7 +59,7 @@ pub(crate) fn feed_progress(
         Ok(true) => Ok(()),
         Ok(false) => feed_head(progress, alloc, query, piece),
         Err(error) => {
-            let _ = mem::replace(progress, Progress::OutOfMemory);
+            put(progress, Progress::OutOfMemory);
             Err(error)
         },
     }
@@ -114,7 +113,7 @@ fn feed_head(
 {
     match mem::replace(progress, Progress::OutOfMemory) {
         Progress::Head(stream) => {
-            *progress = progress_behind(stream, alloc, query, piece)?;
+            put(progress, progress_behind(stream, alloc, query, piece)?);
             Ok(())
         },
         _ => unreachable!(),

@@ -12,7 +12,7 @@ ghost use Rattle.query_plan.specs.BoundViews.{query_seen};
 ghost use Rattle.query_plan.specs.Plans.{plan_of};
 ghost use Rattle.query_plan.specs.PlanViews.{plan_seen};
 ghost use Rattle.vo_format.specs.View.{reply_of};
-ghost use Rattle.vo_check.specs.Testing.{GivesIfPassed, needs_fault};
+ghost use Rattle.vo_check.specs.Testing.{GivesIfPassed, PassesTests, needs_fault, trees_fault};
 ghost use Rattle.vo_check.specs.Judging.{FitsWhereBound, needed_for, shown_for, bound_fault, proof_fault};
 
 use crate::head_faults::test_head;
@@ -50,6 +50,18 @@ fn judge_needs(alloc: Global, plan: &Plan<'_, '_>, reply: &Reply<'_>) -> Result<
     }
 }
 
+/// Refuses a reply that has not the trees of the query's tables.
+fn test_bound(alloc: Global, query: &Query<'_>, reply: &Reply<'_>) -> Result<(), CheckFault>
+    requires { FitsReply (reply_of reply.now) }
+    ensures { PassesTests result (trees_fault
+        (tables_used (bound_sources_seen query.now.bound_sources)) (reply_of reply.now)) }
+{
+    match tables_used(alloc, &query.bound_sources) {
+        Ok(names) => test_trees(alloc, &names, reply),
+        Err(_) => Err(CheckFault::Memory),
+    }
+}
+
 /// The outcome of a bound query whose tables have no more columns than a table may have.
 #[tactic(auto, using(crate::proofs::ReplyTests::has_trees, crate::proofs::ReplyTests::trees_passed))]
 fn judge_bound(alloc: Global, query: &Query<'_>, reply: &Reply<'_>) -> Result<Outcome, CheckFault>
@@ -61,10 +73,7 @@ fn judge_bound(alloc: Global, query: &Query<'_>, reply: &Reply<'_>) -> Result<Ou
     ensures { let b = query_seen query.now in let r = reply_of reply.now in
         GivesIfPassed result (bound_fault b r) (shown_for (plan_of b) r) }
 {
-    let Ok(names) = tables_used(alloc, &query.bound_sources) else {
-        return Err(CheckFault::Memory);
-    };
-    match test_trees(alloc, &names, reply) {
+    match test_bound(alloc, query, reply) {
         Ok(()) => {},
         Err(fault) => return Err(fault),
     }

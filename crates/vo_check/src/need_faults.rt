@@ -1,12 +1,26 @@
 //! The tests of a reply's trees by what the query needs of them.
-ghost use Rattle.std.specs.Prelude.{◌≡◌, map, length, zip};
+ghost use Rattle.std.specs.Prelude.{◌≡◌, if◌then◌else◌, None, Some, map, not, length, zip};
+ghost use Rattle.vo_spec.specs.Pruning.{has_surplus, is_missing};
 ghost use Rattle.mb_tree.specs.View.{part_of};
-ghost use Rattle.vo_check.specs.Testing.{PassesTests, needs_fault};
+ghost use Rattle.vo_check.specs.Testing.{GivesIfPassed, PassesTests, needs_fault};
 
 use mb_tree::PartTree;
 use range_proof::is_canonical;
 use std::alloc::Global;
 use vo_spec::{CheckFault, List, Need, ScanFault};
+
+/// Whether a tree that misses nothing of its needs has no more than these.
+fn is_bare(alloc: Global, tree: &PartTree<'_>, needs: &[Need]) -> Result<bool, CheckFault>
+    ensures { GivesIfPassed result
+        (if is_missing needs.now (part_of tree.now) then Some CheckFault.Missing else None)
+        (not (has_surplus needs.now (part_of tree.now))) }
+{
+    match is_canonical(alloc, tree, needs) {
+        Ok(is_bare) => Ok(is_bare),
+        Err(ScanFault::Missing) => Err(CheckFault::Missing),
+        Err(ScanFault::Memory) => Err(CheckFault::Memory),
+    }
+}
 
 /// Refuses trees that miss something of their needs, and then those that have more. There is a list
 /// of needs for each tree.
@@ -20,10 +34,9 @@ pub(crate) fn test_needs(
 {
     let mut are_bare = true;
     for (place, tree) in trees.iter().enumerate() {
-        match is_canonical(alloc, tree, needs[place].as_slice()) {
+        match is_bare(alloc, tree, needs[place].as_slice()) {
             Ok(is_bare) => are_bare = are_bare && is_bare,
-            Err(ScanFault::Missing) => return Err(CheckFault::Missing),
-            Err(ScanFault::Memory) => return Err(CheckFault::Memory),
+            Err(fault) => return Err(fault),
         }
     }
     if are_bare {

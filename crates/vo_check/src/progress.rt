@@ -1,4 +1,6 @@
 //! How far the check of a reply is whose bytes come in pieces.
+ghost use Rattle.std.specs.Prelude.{◌≡◌};
+
 use reply_stream::{Head, HeadStream, TreesStream};
 
 #[derive(Drop)]
@@ -20,4 +22,11 @@ pub(crate) enum Progress {
 pub(crate) struct OpenReply {
     pub head: Head,
     pub trees: TreesStream,
+}
+
+/// Puts a value in a place, and lets go of what stood there.
+pub(crate) fn put<T: Drop>(place: &mut T, value: T)
+    ensures { place.new ≡ value }
+{
+    *place = value;
 }
