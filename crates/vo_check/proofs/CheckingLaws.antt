@@ -1,12 +1,14 @@
 -- What a check stands for, step by step, and what comes of it at the end.
 use Rattle.std.proofs.Common.{◌≡◌, ℕ, ◌<◌, ◌≤◌, ◌^◌, ◌-◌, IfOk, Bool, true, false, if◌then◌else◌, arith, List, [], ◌++◌, length, Option, Some, None, Result, Ok, Err, refl, sym, ap, subst, ◌∙◌, ◌⊎◌, inl, inr, append_assoc, append-nil}
-use Rattle.std.specs.Prelude.{nat_lt}
+use Rattle.std.specs.Prelude.{OnErr, OnOk, nat_lt}
+use Rattle.std.specs.declared.alloc.AllocError.{AllocError}
 use Rattle.std.proofs.lemmas.Bool.{ltb-true, ltb-false}
 use Rattle.row_bytes.specs.Fields.{◌>>=◌, whole, word_at}
 use Rattle.row_bytes.specs.Reading.{bytes_at}
 use Rattle.vo_spec.specs.declared.checks.Answer.{Answer}
 use Rattle.vo_spec.specs.declared.checks.CheckFault.{CheckFault}
 use Rattle.vo_spec.specs.declared.checks.CheckFault.TheVariants.{BadForm, Memory, TooLong}
+use Rattle.vo_spec.specs.declared.queries.QueryText.{QueryText}
 use Rattle.vo_spec.specs.Bytes.{IsBytes}
 use Rattle.vo_spec.specs.Checks.{CheckOf, answer_to}
 use Rattle.vo_spec.specs.Conditions.{Query}
@@ -24,7 +26,7 @@ use Rattle.reply_stream.proofs.PartLaws.{parts_again, parts_found}
 use Rattle.tree_stream.proofs.AllBytes.{IsBytes-append}
 use Rattle.vo_check.specs.Alone.{plan_for}
 use Rattle.vo_check.specs.Accepting.{IsSignedReply}
-use Rattle.vo_check.specs.Checkings.{ReadsTrees}
+use Rattle.vo_check.specs.Checkings.{CheckingModel, ReadsTrees, no_bytes_of, with_piece, without_memory}
 use Rattle.vo_check.proofs.AcceptedRecords.{accepted}
 
 not_none : {A : Type 0} {x : A} → Some x ≡ None → ⊥
@@ -107,6 +109,16 @@ module _ (key : List ℕ) (least : ℕ) (q : Query) (bytes : List ℕ) (short : 
   unfolding CheckOf
   answered_reply r reply result (inl memory) = inl memory
   answered_reply r reply result (inr e) = inr (inr (inr (short, r, reply, e)))
+
+-- All bytes that came in one piece, whether or not memory was found for it.
+pub fed_whole : (o : Result (Unit {0}) AllocError) (old new : CheckingModel) (query : QueryText) (piece : List ℕ) → old ≡ no_bytes_of query → OnOk o (new ≡ with_piece old piece)
+    → OnErr o (new ≡ without_memory old piece) → (new.query ≡ query) × (new.bytes ≡ piece)
+fed_whole (Ok done) old new query piece begun ok err =
+    let is : new ≡ with_piece (no_bytes_of query) piece = ok ∙ ap (λ (m : CheckingModel). with_piece m piece) begun in
+    (ap (λ (m : CheckingModel). m.query) is, ap (λ (m : CheckingModel). m.bytes) is)
+fed_whole (Err error) old new query piece begun ok err =
+    let is : new ≡ without_memory (no_bytes_of query) piece = err ∙ ap (λ (m : CheckingModel). without_memory m piece) begun in
+    (ap (λ (m : CheckingModel). m.query) is, ap (λ (m : CheckingModel). m.bytes) is)
 
 -- A count over the limit.
 

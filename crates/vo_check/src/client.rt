@@ -77,10 +77,9 @@ impl Client {
             return self.check_whole(alloc, query, reply);
         }
         let mut checking = self.begin(alloc, query);
-        match checking.feed(alloc, reply) {
-            Ok(()) => checking.end(alloc, self),
-            Err(_) => Err(CheckFault::Memory),
-        }
+        // Where this finds no memory, the end says so.
+        let _ = checking.feed(alloc, reply);
+        checking.end(alloc, self)
     }
 
     /// The same by the part trees of the reply, all of which are held. It is what replies to

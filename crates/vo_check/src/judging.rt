@@ -1,12 +1,13 @@
 //! What a reply, once read, answers a query.
-ghost use Rattle.std.specs.Prelude.{◌≡◌, ◌≤◌, ◌⊎◌, length, IfOk};
+ghost use Rattle.std.specs.Prelude.{◌≡◌, ◌≤◌, ◌⊎◌, length, map, zip, IfOk};
 ghost use Rattle.vo_spec.specs.Conditions.{query_of};
 ghost use Rattle.vo_spec.specs.Records.{table_headers};
 ghost use Rattle.vo_spec.specs.Replies.{FitsReply};
-ghost use Rattle.vo_spec.specs.Results.{schema_at, binding_fault};
+ghost use Rattle.vo_spec.specs.Results.{schema_at, binding_fault, header as header_of};
 ghost use Rattle.vo_spec.specs.Needs.{tables_used};
 ghost use Rattle.vo_spec.specs.Checks.{check_fault, seen_outcome, answer_to};
 ghost use Rattle.vo_spec.specs.Batches.{max_columns};
+ghost use Rattle.mb_tree.specs.View.{part_of};
 ghost use Rattle.query_binding.specs.HeldSources.{bound_sources_seen};
 ghost use Rattle.query_plan.specs.BoundViews.{query_seen};
 ghost use Rattle.query_plan.specs.Plans.{plan_of};
@@ -19,11 +20,34 @@ use crate::head_faults::test_head;
 use crate::need_faults::test_needs;
 use crate::tree_faults::test_trees;
 use lms_sign::PublicKey;
+use mb_tree::PartTree;
 use plan_run::run_plan;
 use query_plan::{BindFault, Plan, Query, bind, header, plan, tables_used};
 use std::alloc::Global;
 use vo_format::Reply;
-use vo_spec::{Answer, CheckFault, Outcome, QueryFault, QueryText, ScanFault};
+use vo_spec::{Answer, CheckFault, List, Need, Outcome, QueryFault, QueryText, ScanFault, Text};
+
+/// The titles of what is shown of trees that have these needs and nothing else.
+fn tested_header(
+    alloc: Global,
+    plan: &Plan<'_, '_>,
+    trees: &[PartTree<'_>],
+    needs: &[List<Need>],
+) -> Result<List<Text>, CheckFault>
+    requires { length needs.now ≡ length trees.now }
+    ensures { let p = plan_seen plan.now in
+        GivesIfPassed result (needs_fault (zip needs.now (map part_of trees.now)))
+        (header_of p.query.bound_sources p.query.items) }
+{
+    match test_needs(alloc, trees, needs) {
+        Ok(()) => {},
+        Err(fault) => return Err(fault),
+    }
+    match header(alloc, &plan.query.bound_sources, plan.query.items) {
+        Ok(header) => Ok(header),
+        Err(_) => Err(CheckFault::Memory),
+    }
+}
 
 /// The rows that the trees show, which have all that the query needs and nothing else.
 fn judge_needs(alloc: Global, plan: &Plan<'_, '_>, reply: &Reply<'_>) -> Result<Outcome, CheckFault>
@@ -37,16 +61,12 @@ fn judge_needs(alloc: Global, plan: &Plan<'_, '_>, reply: &Reply<'_>) -> Result<
         Err(ScanFault::Missing) => return Err(CheckFault::Missing),
         Err(ScanFault::Memory) => return Err(CheckFault::Memory),
     };
-    match test_needs(alloc, &reply.trees, ran.needs.as_slice()) {
-        Ok(()) => {},
-        Err(fault) => return Err(fault),
-    }
-    match header(alloc, &plan.query.bound_sources, plan.query.items) {
+    match tested_header(alloc, plan, &reply.trees, ran.needs.as_slice()) {
         Ok(header) => Ok(Outcome::Rows {
             header,
             rows: ran.rows,
         }),
-        Err(_) => Err(CheckFault::Memory),
+        Err(fault) => Err(fault),
     }
 }
 

@@ -21,7 +21,7 @@ loop-place-preserved c =
     let tree_is : c.tree-item.result ≡ get_or trees i c.tree-item.result = subst (λ (ts : List PartTree). c.tree-item.result ≡ get_or ts i c.tree-item.result) c.deref-tree-items.ensures.value c.tree-item.is in
     let table_is = c.table_named-table.ensures ∙ ap (λ (ts : List CatalogTable). table_named c.index-names-place.result.now (record { tables = ts })) c.as_slice-tables.ensures in
     let P : List TableTree → Type 0 = λ pairs.
-        (map tree_seen pairs ++ zip (map (λ name. table_named name catalog) (map lent_name (drop (i + 1) names))) (map part_of (drop (i + 1) trees)) ≡ tables_with_trees (map lent_name names) (reply_of c.args.reply.now))
-        × (map tree_in pairs ++ map part_of (drop (i + 1) trees) ≡ trees_of c.args.reply.now.trees) in
+    (map tree_seen pairs ++ zip (map (λ name. table_named name catalog) (map lent_name (drop (i + 1) names))) (map part_of (drop (i + 1) trees)) ≡ tables_with_trees (map lent_name names) (reply_of c.args.reply.now))
+    × (map tree_in pairs ++ map part_of (drop (i + 1) trees) ≡ trees_of c.args.reply.now.trees) in
     subst P (sym c.in_ok-push.ensures.items)
     (pair_more trees i _ c.loop-place.pairs.items in_trees tree_is catalog names c.index-names-place.result in_names c.index-names-place.is table_is _ c.loop-place.invariant.0, tree_more trees i _ c.loop-place.pairs.items in_trees tree_is _ c.loop-place.invariant.1)
