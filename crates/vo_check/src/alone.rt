@@ -48,8 +48,7 @@ fn test_table(
 fn test_findings(findings: &Findings) -> Result<(), CheckFault>
     ensures { PassesTests result (findings_fault findings.now) }
 {
-    let is_missing = findings.is_missing;
-    if is_missing {
+    if findings.is_missing {
         return Err(CheckFault::Missing);
     }
     if findings.has_surplus {
