@@ -1,6 +1,6 @@
 -- What a check stands for, step by step, and what comes of it at the end.
 use Rattle.std.proofs.Common.{◌≡◌, ℕ, ◌<◌, ◌≤◌, ◌^◌, ◌-◌, IfOk, Bool, true, false, if◌then◌else◌, arith, List, [], ◌++◌, length, Option, Some, None, Result, Ok, Err, refl, sym, ap, subst, ◌∙◌, ◌⊎◌, inl, inr, append_assoc, append-nil}
-use Rattle.std.specs.Prelude.{OnErr, OnOk, nat_lt}
+use Rattle.std.specs.Prelude.{IsErr, OnErr, OnOk, nat_lt}
 use Rattle.std.specs.declared.alloc.AllocError.{AllocError}
 use Rattle.std.proofs.lemmas.Bool.{ltb-true, ltb-false}
 use Rattle.row_bytes.specs.Fields.{◌>>=◌, whole, word_at}
@@ -109,6 +109,13 @@ module _ (key : List ℕ) (least : ℕ) (q : Query) (bytes : List ℕ) (short : 
   unfolding CheckOf
   answered_reply r reply result (inl memory) = inl memory
   answered_reply r reply result (inr e) = inr (inr (inr (short, r, reply, e)))
+
+-- what holds of a state that was fed
+pub if_fed : {A : Type 0} (fed : Result (Unit {0}) AllocError) (result : Result A AllocError) (state : A) (P : A → Type 0) → OnOk fed (result ≡ Ok state) → OnErr fed (IsErr result)
+    → (H : Type 0) → OnOk fed H → (H → P state) → IfOk result P
+if_fed {A = A} (Ok done) result state P ok err H h holds = subst (λ (r : Result A AllocError). IfOk r P) (sym ok) (holds h)
+if_fed (Err error) (Ok value) state P ok err H h holds = absurd cc
+if_fed (Err error) (Err other) state P ok err H h holds = tt
 
 -- All bytes that came in one piece, whether or not memory was found for it.
 pub fed_whole : (o : Result (Unit {0}) AllocError) (old new : CheckingModel) (query : QueryText) (piece : List ℕ) → old ≡ no_bytes_of query → OnOk o (new ≡ with_piece old piece)

@@ -155,6 +155,15 @@ fn begin_trees(
     ensures out { IfOk result (λ next. is_out_of_memory next ≡ false) }
 {
     let mut trees = TreesStream::new(target_for(alloc, query, head.catalog())?);
-    trees.feed(alloc, left)?;
-    Ok(Progress::Trees(OpenReply { head, trees }))
+    let fed = trees.feed(alloc, left);
+    if_fed(Progress::Trees(OpenReply { head, trees }), fed)
+}
+
+/// What was fed, unless that found no memory.
+fn if_fed<T: Drop>(state: T, fed: Result<(), AllocError>) -> Result<T, AllocError>
+    ensures ok { OnOk fed (result ≡ Ok state) }
+    ensures err { OnErr fed (IsErr result) }
+{
+    fed?;
+    Ok(state)
 }

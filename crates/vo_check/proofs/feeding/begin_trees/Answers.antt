@@ -1,15 +1,30 @@
-use Rattle.std.proofs.Common.{◌++◌, ◌∙◌, ap}
+use Rattle.std.proofs.Common.{◌++◌, ◌∙◌, ◌≡◌, List, ℕ, Some, None, false, ap, refl}
 use Rattle.row_bytes.specs.Fields.{whole}
 use Rattle.vo_spec.specs.Conditions.{query_of}
 use Rattle.tree_stream.specs.declared.target.Target.{Target}
+use Rattle.reply_stream.specs.Heads.{head_at}
 use Rattle.reply_stream.specs.ReplyTrees.{trees_at}
+use Rattle.reply_stream.specs.TreesStreams.{trees_of}
 use Rattle.vo_check.specs.Alone.{target_for}
-use Rattle.vo_check.proofs.CheckingLaws.{begun}
+use Rattle.vo_check.specs.Checkings.{StandsBehind, is_out_of_memory}
+use Rattle.vo_check.specs.declared.progress.Progress.{Progress}
+use Rattle.vo_check.proofs.CheckingLaws.{begun, if_fed}
 use Rattle.vo_check.proofs.feeding.begin_trees.Goals as goal
 
 pub returns-clause-stands : goal.returns-clause-stands
-returns-clause-stands c = λ bytes none head_is. (
-  none,
-  begun (query_of c.args.query.now) c.args.head c.feed.new.self bytes c.args.left.now head_is
-      (λ more. c.in_ok-feed.ensures.ok more ∙ c.new-trees.ensures (c.args.left.now ++ more) ∙ ap (λ (target : Target). whole (trees_at target (c.args.left.now ++ more))) (c.in_ok-target_for.ensures ∙ ap (target_for (query_of c.args.query.now)) c.catalog.ensures.catalog)),
-)
+returns-clause-stands c =
+    let q = query_of c.args.query.now in
+    let head = c.args.head in
+    let left = c.args.left.now in
+    let Stands : Progress → Type 0 = λ next. (bytes : List ℕ) → c.args.query.now.join ≡ None → ((more : List ℕ) → head_at (bytes ++ more) ≡ Some (head, left ++ more)) → StandsBehind q next bytes in
+    if_fed c.feed-fed.result c.if_fed.result _ Stands c.if_fed.ensures.ok c.if_fed.ensures.err
+    ((more : List ℕ) → trees_of c.feed-fed.new.self more ≡ trees_of c.new-trees.result (left ++ more)) c.feed-fed.ensures.ok
+    (λ fed bytes none head_is. (
+      none,
+      begun q head c.feed-fed.new.self bytes left head_is
+          (λ more. fed more ∙ c.new-trees.ensures (left ++ more) ∙ ap (λ (target : Target). whole (trees_at target (left ++ more))) (c.in_ok-target_for.ensures ∙ ap (target_for q) c.catalog.ensures.catalog)),
+    ))
+
+pub returns-clause-out : goal.returns-clause-out
+returns-clause-out c =
+    if_fed c.feed-fed.result c.if_fed.result _ (λ next. is_out_of_memory next ≡ false) c.if_fed.ensures.ok c.if_fed.ensures.err _ c.feed-fed.ensures.ok (λ fed. refl)
