@@ -1,12 +1,12 @@
 //! The tests of a reply's trees: how many there are, their shape and their roots.
-ghost use Rattle.std.specs.Prelude.{◌≡◌, map};
+ghost use Rattle.std.specs.Prelude.{◌≡◌, [], ◌∷◌, map};
 ghost use Rattle.std.specs.List.{AllByRecursion, list_all};
 ghost use Rattle.vo_spec.specs.Firsts.{first_some};
 ghost use Rattle.vo_spec.specs.Fits.{FitsTree};
 ghost use Rattle.vo_spec.specs.Checks.{has_table_shape, root_fault};
 ghost use Rattle.vo_format.specs.View.{reply_of, trees_of};
 ghost use Rattle.query_plan.specs.UsedTables.{lent_name};
-ghost use Rattle.vo_check.specs.Testing.{PassesTests, tree_in, tree_seen, count_fault_of, digest_fault, trees_fault};
+ghost use Rattle.vo_check.specs.Testing.{PassesTests, tree_in, tree_seen, count_fault_of, digest_fault, shapes_fault, trees_fault};
 
 use crate::pairing::pair_trees;
 use crate::shape::has_shape;
@@ -90,6 +90,19 @@ fn test_roots(alloc: Global, trees: &[TableTree<'_, '_>]) -> Result<(), CheckFau
     Ok(())
 }
 
+/// Refuses trees of which one is of another schema than its table's, or has another root.
+fn test_pairs(alloc: Global, trees: &[TableTree<'_, '_>]) -> Result<(), CheckFault>
+    requires { AllByRecursion FitsTree (map tree_in trees.now) }
+    ensures { let pairs = map tree_seen trees.now in
+        PassesTests result (first_some
+        (shapes_fault pairs ∷ first_some (map root_fault pairs) ∷ [])) }
+{
+    if !have_table_shapes(trees) {
+        return Err(CheckFault::WrongShape);
+    }
+    test_roots(alloc, trees)
+}
+
 /// Refuses a reply that has not a tree for each of these tables, each of its schema and its root.
 pub(crate) fn test_trees(
     alloc: Global,
@@ -102,11 +115,8 @@ pub(crate) fn test_trees(
     if let Some(fault) = count_fault(names.len(), reply.trees.len()) {
         return Err(fault);
     }
-    let Ok(trees) = pair_trees(alloc, names, reply) else {
-        return Err(CheckFault::Memory);
-    };
-    if !have_table_shapes(&trees) {
-        return Err(CheckFault::WrongShape);
+    match pair_trees(alloc, names, reply) {
+        Ok(trees) => test_pairs(alloc, &trees),
+        Err(_) => Err(CheckFault::Memory),
     }
-    test_roots(alloc, &trees)
 }
