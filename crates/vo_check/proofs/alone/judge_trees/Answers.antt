@@ -2,7 +2,7 @@ use Rattle.std.proofs.Common.{sym, subst}
 use Rattle.vo_spec.specs.Conditions.{query_of}
 use Rattle.query_plan.specs.BoundViews.{query_seen}
 use Rattle.query_plan.proofs.Narrow.{bound_sources_narrow}
-use Rattle.vo_check.proofs.AloneLaws.{few_left, has_schema, judged_bound}
+use Rattle.vo_check.proofs.AloneLaws.{few_left, few_right, has_schema, judged_bound}
 use Rattle.vo_check.proofs.alone.judge_trees.Goals as goal
 
 pub judge_bound-requires-clause-schema : goal.judge_bound-requires-clause-schema
@@ -11,6 +11,10 @@ judge_bound-requires-clause-schema c = has_schema c.args.catalog.now (query_of c
 pub judge_bound-requires-clause-left : goal.judge_bound-requires-clause-left
 judge_bound-requires-clause-left c =
     subst few_left (sym c.in-Ok.ensures.value) (bound_sources_narrow c.args.catalog.now c.requires.fits (query_of c.args.query.now) 0)
+
+pub judge_bound-requires-clause-right : goal.judge_bound-requires-clause-right
+judge_bound-requires-clause-right c =
+    subst few_right (sym c.in-Ok.ensures.value) (bound_sources_narrow c.args.catalog.now c.requires.fits (query_of c.args.query.now) 1)
 
 pub returns-in-Ok : goal.returns-in-Ok
 returns-in-Ok c = λ r found.
