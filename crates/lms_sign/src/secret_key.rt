@@ -112,7 +112,11 @@ impl SecretKey {
 
     /// An equal key.
     pub fn copy(&self, alloc: Global) -> Result<SecretKey, AllocError>
-        ensures { IfOk result (λ key. key ≡ self.now) }
+        ensures value { IfOk result (λ key. key ≡ self.now) }
+        ensures valid { IfOk result (λ key. (q : ℕ) (message : List ℕ) → q < leaves_of key.lms
+            → IsTrue (lms_valid (public_of_secret key) message (lms_signature key q message))) }
+        ensures by { IfOk result (λ key. (q : ℕ) (message : List ℕ) → q < leaves_of key.lms
+            → leaf_of (public_of_secret key) (lms_signature key q message) ≡ Some q) }
     {
         let nodes = Vec::from_slice(alloc, &self.nodes)?;
         Ok(SecretKey {

@@ -1,6 +1,6 @@
 -- What is sealed: a journal of the key's owner, and one that a store takes.
 use Rattle.std.proofs.Common.{◌≡◌, ℕ, ◌+◌, ◌<◌, Bool, true, false, cond, leb, List, [], ◌∷◌, ◌++◌, length, Option, Some, None, Result, Ok, Err, refl, sym, subst, inl, inr, arith}
-use Rattle.std.specs.Prelude.{IsOk, IsTrue}
+use Rattle.std.specs.Prelude.{IsOk}
 use Rattle.std.specs.List.{AllByRecursion}
 use Rattle.std.proofs.lemmas.Bool.Decides.{leb_tells}
 use Rattle.std.proofs.lemmas.List.{length-append}
@@ -11,8 +11,7 @@ use Rattle.vo_spec.specs.declared.tables.Batch.{Batch}
 use Rattle.vo_spec.specs.Batches.{FitsBatch}
 use Rattle.vo_spec.specs.Tables.{apply_batch, tables_after}
 use Rattle.vo_spec.specs.LmsSets.{leaves_of}
-use Rattle.vo_spec.specs.Lms.{leaf_of, lms_valid}
-use Rattle.vo_spec.specs.Secret.{Secret, public_of_secret, lms_signature}
+use Rattle.vo_spec.specs.Secret.{Secret, public_of_secret}
 use Rattle.vo_spec.specs.Honest.{seal_batches}
 use Rattle.vo_spec.specs.Journals.{journal_bytes}
 use Rattle.vo_spec.specs.Owners.{IsLoadable}
@@ -53,17 +52,6 @@ no_fault leaves earlier (batch ∷ batches) there e =
       (subst (λ (ts : List Table). IsOk (apply_batch batch ts)) (no_tables_before earlier) p.1, rest.0),
       omega (arith, rest.1, long),
     )
-
--- A key that signs validly.
-
--- it does by what its public key tells
-pub signs_validly : (secret : Secret) (key : List ℕ) → key ≡ public_of_secret secret
-    → ((q : ℕ) (message : List ℕ) → q < leaves_of secret.lms → IsTrue (lms_valid key message (lms_signature secret q message)))
-    → ((q : ℕ) (message : List ℕ) → q < leaves_of secret.lms → leaf_of key (lms_signature secret q message) ≡ Some q)
-    → SignsValidly secret
-signs_validly secret key e valid by = λ q message leaf.
-    subst (λ (k : List ℕ). IsTrue (lms_valid k message (lms_signature secret q message)) × (leaf_of k (lms_signature secret q message) ≡ Some q)) e
-    (valid q message leaf, by q message leaf)
 
 -- what `seal` has sealed may be sealed
 pub sealable : (secret : Secret) (batches : List (List Command)) → SignsValidly secret → AllByRecursion FitsBatch batches

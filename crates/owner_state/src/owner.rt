@@ -33,6 +33,7 @@ impl Owner {
     ghost use Rattle.vo_spec.specs.LmsSets.{leaves_of};
     ghost use Rattle.vo_spec.specs.Records.{FitsCatalog};
     ghost use Rattle.vo_spec.specs.Secret.{public_of_secret};
+    ghost use Rattle.vo_laws.specs.Sealing.{SignsValidly};
     ghost use Rattle.owner_roots.specs.Owners.{IsFirstEntry, IsNextEntry, first_roots};
     ghost use Rattle.owner_state.specs.Stepping.{first_entry};
 
@@ -44,6 +45,7 @@ impl Owner {
         ensures first { IfOk result (λ started.
             IsFirstEntry (public_of_secret key.now) started.1) }
         ensures fits { IfOk result (λ started. FitsEntry started.1) }
+        ensures signs { IfOk result (λ _. SignsValidly key.now) }
     {
         let roots = first_roots(alloc);
         let batch = Batch {

@@ -5,6 +5,7 @@ ghost use Rattle.vo_spec.specs.Secret.{public_of_secret};
 ghost use Rattle.vo_spec.specs.Journals.{journal_bytes, slot};
 ghost use Rattle.vo_spec.specs.Honest.{seal_batches};
 ghost use Rattle.vo_spec.specs.Owners.{IsLoadable};
+ghost use Rattle.vo_laws.specs.Sealing.{SignsValidly};
 ghost use Rattle.owner_roots.specs.Owners.{IsOwned};
 ghost use Rattle.owner_state.specs.EntriesOnTrees.{entry_on};
 ghost use Rattle.owner_state.specs.SealResults.{IsAt};
@@ -60,18 +61,14 @@ pub fn seal(alloc: Global, key: &SecretKey, batches: List<Batch>) -> Result<Vec<
     ensures fault { IfErr result (λ fault. fault ≢ SealFault.Memory
         → seal_fault (leaves_of key.now.lms) ([] ∷ []) (commands_of batches) ≡ Some fault) }
 {
-    let public = key.public();
-    match seal_each(alloc, key, batches.as_slice()) {
-        Ok(mut journal) => {
-            journal.extend_from_slice(&[0])?;
-            Ok(journal)
-        }
-        Err(fault) => Err(fault),
-    }
+    let mut journal = seal_each(alloc, key, batches.as_slice())?;
+    journal.extend_from_slice(&[0])?;
+    Ok(journal)
 }
 
 fn seal_each(alloc: Global, key: &SecretKey, batches: &[Batch]) -> Result<Vec<u8>, SealFault>
     requires { FitEach batches.now }
+    ensures signs { IfOk result (λ _. SignsValidly key.now) }
     ensures slots { IfOk result (λ slots. slots.items
         ≡ flat_map slot (seal_batches key.now (commands_of batches.now))) }
     ensures sealed { IfOk result (λ _.
@@ -91,6 +88,7 @@ fn seal_each(alloc: Global, key: &SecretKey, batches: &[Batch]) -> Result<Vec<u8
 
 /// Version 0, as the owner starts.
 fn seal_first(alloc: Global, key: &SecretKey) -> Result<Sealed, SealFault>
+    ensures signs { IfOk result (λ _. SignsValidly key.now) }
     ensures at { IfOk result (λ first. IsAt key.now 0 first) }
     ensures tables { IfOk result (λ first. first.tables ≡ []) }
     ensures slots { IfOk result (λ first. first.slots.items ≡ slot (entry_on key.now 0 [] [])) }

@@ -5,25 +5,23 @@ use Rattle.vo_spec.specs.Journals.{journal_bytes, slot}
 use Rattle.vo_spec.specs.Honest.{seal_batches}
 use Rattle.std.specs.Prelude.{flat_map}
 use Rattle.owner_state.specs.Sealing.{commands_of, seal_fault}
-use Rattle.owner_state.proofs.SealedJournals.{sealed_journal, signs_validly}
+use Rattle.owner_state.proofs.SealedJournals.{sealed_journal}
 use Rattle.owner_state.proofs.sealing.seal.Goals as goal
 
-pub returns-in-Ok-clause-journal : goal.returns-in-Ok-clause-journal
+pub returns-clause-journal : goal.returns-clause-journal
 unfolding journal_bytes
-returns-in-Ok-clause-journal c =
-    c.in_ok-extend_from_slice-in-Ok.ensures.items ∙ ap (λ (t : List ℕ). t ++ 0 ∷ []) c.in-Ok.ensures.slots
+returns-clause-journal c =
+    c.in_ok-extend_from_slice.ensures.items ∙ ap (λ (t : List ℕ). t ++ 0 ∷ []) c.in_ok-journal.ensures.slots
     ∙ ap (λ (bs : List Batch). flat_map slot (seal_batches c.args.key.now (commands_of bs)) ++ 0 ∷ []) c.as_slice.ensures
 
-pub returns-in-Ok-clause-owned : goal.returns-in-Ok-clause-owned
-returns-in-Ok-clause-owned c =
-    let told = c.public-public.ensures in
-    (sealed_journal c.args.key.now c.args.batches _ (signs_validly c.args.key.now c.public-public.result told.value told.valid told.by) c.requires
-    (subst (λ (bs : List Batch). seal_fault (leaves_of c.args.key.now.lms) ([] ∷ []) (commands_of bs) ≡ None) c.as_slice.ensures c.in-Ok.ensures.sealed)
-    (returns-in-Ok-clause-journal c)).0
+pub returns-clause-owned : goal.returns-clause-owned
+returns-clause-owned c =
+    (sealed_journal c.args.key.now c.args.batches _ c.in_ok-journal.ensures.signs c.requires
+    (subst (λ (bs : List Batch). seal_fault (leaves_of c.args.key.now.lms) ([] ∷ []) (commands_of bs) ≡ None) c.as_slice.ensures c.in_ok-journal.ensures.sealed)
+    (returns-clause-journal c)).0
 
-pub returns-in-Ok-clause-loaded : goal.returns-in-Ok-clause-loaded
-returns-in-Ok-clause-loaded c =
-    let told = c.public-public.ensures in
-    (sealed_journal c.args.key.now c.args.batches _ (signs_validly c.args.key.now c.public-public.result told.value told.valid told.by) c.requires
-    (subst (λ (bs : List Batch). seal_fault (leaves_of c.args.key.now.lms) ([] ∷ []) (commands_of bs) ≡ None) c.as_slice.ensures c.in-Ok.ensures.sealed)
-    (returns-in-Ok-clause-journal c)).1
+pub returns-clause-loaded : goal.returns-clause-loaded
+returns-clause-loaded c =
+    (sealed_journal c.args.key.now c.args.batches _ c.in_ok-journal.ensures.signs c.requires
+    (subst (λ (bs : List Batch). seal_fault (leaves_of c.args.key.now.lms) ([] ∷ []) (commands_of bs) ≡ None) c.as_slice.ensures c.in_ok-journal.ensures.sealed)
+    (returns-clause-journal c)).1

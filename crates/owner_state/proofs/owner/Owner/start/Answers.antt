@@ -3,6 +3,7 @@ use Rattle.vo_spec.specs.declared.tables.Command.{Command}
 use Rattle.vo_spec.specs.Batches.{FitsBatch}
 use Rattle.vo_spec.specs.Journals.{max_proofs}
 use Rattle.vo_spec.specs.Secret.{public_of_secret}
+use Rattle.vo_laws.specs.Sealing.{SignsValidly}
 use Rattle.vo_laws.proofs.StepLaws.{no_commands_fit}
 use Rattle.owner_roots.specs.declared.roots.Roots.{Roots}
 use Rattle.owner_roots.specs.Owners.{IsSignedFor, first_roots}
@@ -25,3 +26,8 @@ returns-clause-first c =
     ∙ ap (λ (batch : List Command). signed_entry c.args.key.now first_roots batch c.in_ok-proofs.proofs.items) c.new.ensures
     ∙ ap (signed_entry c.args.key.now first_roots []) c.in_ok-proofs.ensures)
     (subst (λ (r : Roots). IsSignedFor (public_of_secret c.args.key.now) r c.in_ok-entry.entry) c.first_roots-roots.ensures.value c.in_ok-entry.ensures.signed)
+
+pub returns-clause-signs : goal.returns-clause-signs
+returns-clause-signs c =
+    let told = c.in_ok-key.ensures in
+    subst SignsValidly told.value (λ q message leaf. (told.valid q message leaf, told.by q message leaf))
