@@ -24,10 +24,10 @@ impl Target {
     pub fn new(alloc: Global, need: Need, schema: &Schema) -> Result<Target, AllocError>
         ensures { IfOk result (λ target. target ≡ target_of need schema.now) }
     {
-        let (columns, cell_kinds) = columns_and_kinds(alloc, need.columns.as_slice(), schema)?;
-        let Need { interval, .. } = need;
+        let columns = Vec::from_slice(alloc, need.columns.as_slice())?;
+        let cell_kinds = cell_kinds(alloc, schema)?;
         Ok(Target {
-            interval,
+            interval: need.interval,
             columns: List::from_vec(columns),
             key_kind: kind_at(schema.columns.as_slice(), schema.key as usize),
             cell_kinds: List::from_vec(cell_kinds),
@@ -48,20 +48,6 @@ impl Target {
             cell_kinds: List::new(alloc),
         }
     }
-}
-
-/// These columns, and the kinds of the table's columns but the key.
-fn columns_and_kinds(
-    alloc: Global,
-    columns: &[u8],
-    schema: &Schema,
-) -> Result<(Vec<u8>, Vec<Kind>), AllocError>
-    ensures { IfOk result (λ lists. (lists.0.items ≡ columns.now) × (lists.1.items
-        ≡ map (λ (c : PlainColumn). c.kind) (remove schema.now.columns schema.now.key))) }
-{
-    let columns = Vec::from_slice(alloc, columns)?;
-    let kinds = cell_kinds(alloc, schema)?;
-    Ok((columns, kinds))
 }
 
 /// The kinds of the columns but the key.

@@ -10,8 +10,8 @@ use Rattle.tree_stream.specs.declared.target.Target.{Target}
 use Rattle.tree_stream.specs.Findings.{combine, entry_findings_by}
 use Rattle.tree_stream.proofs.accumulate.add_entry.Goals as goal
 
-abbrev added : Findings → CellFindings → Bool → List SeenRow → Findings
-added f found fits rows = record {
+abbrev with_cells : Findings → CellFindings → Bool → List SeenRow → Findings
+with_cells f found fits rows = record {
   is_missing = f.is_missing || found.is_missing;
   has_surplus = f.has_surplus || found.has_surplus;
   has_shape = f.has_shape && (fits && found.has_shape);
@@ -23,9 +23,9 @@ seen is_seen key found = if is_seen then record { key = key; values = found.valu
 
 is_sum : (r : Result (Unit {0}) AllocError) (f : Findings) (target : Target) (key : List ℕ) (found : CellFindings) (fits is_seen : Bool) (rows : List SeenRow)
     → fits ≡ is_key_of target.key_kind key → is_seen ≡ in_interval target.interval key → OnOk r (rows ≡ f.rows ++ seen is_seen key found)
-    → OnOk r (added f found fits rows ≡ combine f (entry_findings_by target key found))
+    → OnOk r (with_cells f found fits rows ≡ combine f (entry_findings_by target key found))
 is_sum (Ok done) f target key found fits is_seen rows fit inside sum =
-    ap (added f found fits) (sum ∙ ap (λ (b : Bool). f.rows ++ seen b key found) inside) ∙ ap (λ (b : Bool). added f found b (f.rows ++ seen (in_interval target.interval key) key found)) fit
+    ap (with_cells f found fits) (sum ∙ ap (λ (b : Bool). f.rows ++ seen b key found) inside) ∙ ap (λ (b : Bool). with_cells f found b (f.rows ++ seen (in_interval target.interval key) key found)) fit
 is_sum (Err e) f target key found fits is_seen rows fit inside sum = tt
 
 pub returns-clause-sum : goal.returns-clause-sum
