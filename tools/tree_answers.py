@@ -12,6 +12,9 @@ from vo_ref.tree import digest_of, do_op, empty_tree, entries_of, found_entry, i
 from vo_ref.values import Cursor, value_bytes
 from vo_ref.work import main_op
 
+# What is done with counted trees, each at the place of its byte; to hide is to put a stub before the tree.
+COUNTED = ["find", "tput", "tset", "remove", "hide"]
+
 
 # -- byte strings
 
@@ -156,6 +159,33 @@ def twins(needs, first, second):
         are_proofs = trees.is_canonical(one, needs) and trees.is_canonical(other, needs)
         return "one proof" if are_proofs else "no proof"
     return line("twins", b"".join(map(need_bytes, needs)), data), value_or_fault(told)
+
+
+# -- trees that count their entries
+
+class CountedChanges:
+    """Changes in turn of a tree of numbers that counts its entries."""
+
+    def __init__(self):
+        self.tree, self.strings, self.answers = trees.empty_totals(), [], []
+
+    def do(self, kind, number, value=0):
+        """A change, or a search, by its word."""
+        self.strings.append(bytes([COUNTED.index(kind)]) + number.to_bytes(4, "big") + bytes([value]))
+        self.answers.append(str(value_or_fault(lambda: self.done(kind, number.to_bytes(4, "big"), value))))
+
+    def done(self, kind, key, value):
+        if kind == "find":
+            trees.change_entry(self.tree, key, lambda entry: entry)
+            return trees.found_entry(self.tree, key).value
+        if kind == "hide":
+            self.tree = trees.TInner([key], [trees.TChild(value, 0, trees.Stub(bytes(32))), trees.TInner.slot(self.tree)])
+        else:
+            self.tree = do_op(self.tree, trees.Op(kind, key, value=value))
+        return trees.totals_held(self.tree)[0]
+
+    def line(self):
+        return line("counted", b"".join(self.strings)), forms.list_of(self.answers)
 
 
 # -- the tree of a table

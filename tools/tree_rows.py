@@ -1,8 +1,8 @@
 """The rows of the stored run of crates/tree_lines: chosen cases, each line with the answer due."""
 from itertools import product
 
-from tree_answers import (Twin, after, agree, canonical, change, digest, judge, preimage, prove, prune, read, root, same, scan,
-                          part_bytes, twins, update_proof, walks, work)
+from tree_answers import (CountedChanges, Twin, after, agree, canonical, change, digest, judge, preimage, prove, prune, read,
+                          root, same, scan, part_bytes, twins, update_proof, walks, work)
 from vo_ref.sql import parse_batch
 from vo_ref.tree import Entry, Inner, Leaf, Need, Op, Stub, attr_digest, digest_of, do_op, empty_tree
 from vo_ref.tree import prune as pruned
@@ -23,6 +23,15 @@ def rows():
                   needs_of_the_empty_tree, needs_of_two_leaves, agreeing_rows, agreeing_trees, twin_rows, twin_trees,
                   twins_of_three_levels, twin_proofs):
         yield from cases()
+
+
+def counted_rows():
+    """The rows of trees that count their entries, a further kind."""
+    for cases in (counted_up_and_down, counted_other_way, one_counted_of_many, hidden_entries):
+        changes = CountedChanges()
+        for change in cases():
+            changes.do(*change)
+        yield changes.line()
 
 
 # -- what the cases are of
@@ -551,3 +560,36 @@ def twin_proofs():
     for some in needs:
         yield from (twins(needs[0], proof, pruned(tree, some)), twins(some, pruned(tree, some), pruned(tree, some)))
     yield from (twins(needs[0], proof, EMPTY), twins(needs[0], proof, b""), twins(needs[0], proof, part_bytes(proof) + b"\0"))
+
+
+# -- trees that count their entries
+
+def counted_up_and_down():
+    # more than two levels hold, which is 16 times 16 entries at most; each comes once more, and goes
+    yield from (("tput", number, 0) for number in range(300))
+    yield from (("tput", number, 1) for number in (0, 150, 299))
+    yield from (("remove", number) for number in range(300))
+    yield from (("remove", 0), ("find", 0), ("tset", 0, 1))
+
+
+def counted_other_way():
+    # from the greatest to the least, and out of the middle first
+    yield from (("tput", number, number % 256) for number in reversed(range(300)))
+    yield from (("remove", (number * 7 + 150) % 300) for number in range(300))
+
+
+def one_counted_of_many():
+    yield from (("tput", number, 0) for number in range(200))
+    yield from (("find", 77), ("tset", 77, 5), ("find", 77), ("find", 76), ("tset", 200, 5), ("find", 200))
+
+
+def hidden_entries():
+    # nine entries, and eight before them that are a stub: nothing is found there, and nothing comes from there
+    yield from (("tput", number, 0) for number in range(100, 109))
+    yield ("hide", 100, 8)
+    for kind in "remove", "find", "tset", "tput":
+        yield (kind, 99, 1)
+    yield from (("remove", 104), ("remove", 103), ("remove", 104), ("find", 104), ("find", 103), ("tput", 103, 1), ("tput", 104, 2))
+    yield from (("find", 104), ("remove", 103), ("remove", 105))
+    yield from (("tput", number, 3) for number in range(110, 120))
+    yield from (("remove", number) for number in range(110, 120))

@@ -1,4 +1,5 @@
 //! The calls by their words.
+use crate::counted_calls::count_changes;
 use crate::line::{Call, read_line};
 use crate::need_calls::{judge_needs, scan_part};
 use crate::part_calls::{
@@ -54,5 +55,6 @@ fn answer_call(
         Call::Same => compare_two(alloc, first, second),
         Call::Walks => walk_two(alloc, first, second),
         Call::Twins => compare_proofs(alloc, first, second),
+        Call::Counted => count_changes(alloc, first),
     }
 }

@@ -29,10 +29,11 @@ pub enum Call {
     Same,
     Walks,
     Twins,
+    Counted,
 }
 
 /// The calls by their words.
-const CALLS: [(&str, Call); 23] = [
+const CALLS: [(&str, Call); 24] = [
     ("clear", Call::Clear),
     ("apply", Call::Apply),
     ("step", Call::Step),
@@ -56,6 +57,7 @@ const CALLS: [(&str, Call); 23] = [
     ("same", Call::Same),
     ("walks", Call::Walks),
     ("twins", Call::Twins),
+    ("counted", Call::Counted),
 ];
 
 /// A call with its byte strings, which are empty where the line has none.

@@ -18,11 +18,14 @@
 //! Of two part trees: `same` says whether they are the same, `walks` whether two of one digest give
 //! one walk for all rows, and `twins`, which has them one behind the other, whether two of one
 //! digest are one proof of some needs.
+//!
+//! Of a tree of numbers that counts its entries: `counted` does changes in turn.
 #![tactic(auto)]
 
 mod answers;
 mod calls;
 mod change_reading;
+mod counted_calls;
 mod line;
 mod need_calls;
 mod need_reading;
