@@ -1,5 +1,6 @@
 pub mod ClosedParts
 pub mod InsertionPaths
+pub mod MissingPaths
 pub mod OnlyInsertProofs
 pub mod OnlyRemoveProofs
 pub mod OnlyReplaceProofs
@@ -7,5 +8,6 @@ pub mod OpenedChildren
 pub mod OpenedNodes
 pub mod OpenedRows
 pub mod RemovalPaths
+pub mod Replaced
 pub mod ReplacementPaths
 pub mod SurplusChildren

@@ -46,14 +46,16 @@ change_proof Insertion = insert_proof
 change_proof Replacement = replace_proof
 change_proof Removal = remove_proof
 
+-- these in the places of the children, but for the node of the sibling of the child of this number,
+-- if that is opened
+abbrev pub with_sibling : ℕ → Bool → List RowTree → List RowTree → List RowTree
+with_sibling i opens ts ps =
+    if opens then slice_set ps (sibling_of i) (opened_sibling (child_at (sibling_of i) ts)) else ps
+
 -- the children closed, but for the one of this number, in whose place this stands, and for the node
 -- of its sibling if that is opened
 abbrev pub opened_along : ℕ → Bool → RowTree → List RowTree → List RowTree
-opened_along i opens p ts =
-    if opens
-    then slice_set (slice_set (map closed_tree ts) i p) (sibling_of i)
-    (opened_sibling (child_at (sibling_of i) ts))
-    else slice_set (map closed_tree ts) i p
+opened_along i opens p ts = with_sibling i opens ts (slice_set (map closed_tree ts) i p)
 
 -- What a part lacks.
 

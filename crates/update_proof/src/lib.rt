@@ -5,6 +5,7 @@ mod change;
 mod missing;
 mod opening;
 mod opening_rows;
+mod replacing;
 mod stubs;
 mod surplus;
 mod surplus_rows;

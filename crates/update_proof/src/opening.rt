@@ -5,14 +5,15 @@ ghost use Rattle.vo_spec.specs.Trees.{open_parts};
 ghost use Rattle.vo_spec.specs.Inserts.{insert_proof as proof_of_insertion};
 ghost use Rattle.vo_spec.specs.Removes.{remove_proof as proof_of_removal, replace_proof as proof_of_replacement};
 ghost use Rattle.mb_tree.specs.View.{part_of};
-ghost use Rattle.update_proof.specs.Changes.{change_proof, opened_along};
+ghost use Rattle.update_proof.specs.Changes.{change_proof, with_sibling};
 ghost use Rattle.update_proof.specs.Proving.{update_proof};
 
 use crate::change::{Change, change_of, key_of, step_of};
 use crate::opening_rows::open_rows;
-use crate::stubs::{hash_subtrees, open_node};
+use crate::replacing::with_item;
+use crate::stubs::{hash_subtrees, inner_part, open_node};
 use btree::{Step, sibling_of};
-use mb_tree::{Children, Node, PartTree, Subtree, Tree, TreeKey, lend_keys};
+use mb_tree::{Children, Node, PartTree, Subtree, Tree, TreeKey};
 use mb_update::Op;
 use std::alloc::{AllocError, Global};
 
@@ -75,11 +76,7 @@ fn open_along<'b>(
             children,
         } => {
             let children = open_children(alloc, separators, children, key, change)?;
-            let separators = lend_keys(alloc, separators)?;
-            Ok(PartTree::Inner {
-                separators,
-                children,
-            })
+            inner_part(alloc, separators, children)
         },
     }
 }
@@ -98,40 +95,29 @@ fn open_children<'b>(
         ≡ change_proof change key.now (inner separators.now (open_parts children.now))) }
 {
     let step = step_of(change, separators, children, key);
-    let part = open_along(alloc, &children[step.child], key, change)?;
-    open_sibling(alloc, children, step, part)
+    let closed = hash_subtrees(alloc, children)?;
+    let child = open_along(alloc, &children[step.child], key, change);
+    let parts = with_item(closed, step.child, child)?;
+    open_sibling(alloc, children, step, parts)
 }
 
-/// The part in the place of the step's child, the node of its sibling if it is opened, and the
-/// other children closed.
+/// The parts with the node of the sibling of the step's child in its place, if it is opened.
 fn open_sibling<'b>(
     alloc: Global,
     children: &'b [Subtree],
     step: Step,
-    part: PartTree<'b>,
+    parts: Vec<PartTree<'b>>,
 ) -> Result<Children<'b>, AllocError>
     requires at { step.child < length children.now }
     requires least { 2 ≤ length children.now }
-    ensures { IfOk result (λ parts. parts
-        ≡ open_parts (opened_along step.child step.opens_sibling
-        (part_of part.entry) children.now)) }
+    requires same { length parts.items ≡ length children.now }
+    ensures { IfOk result (λ all. all ≡ open_parts (with_sibling step.child step.opens_sibling
+        children.now (map part_of parts.entry.items))) }
 {
-    let parts = with_part(hash_subtrees(alloc, children)?, step.child, part);
     if !step.opens_sibling {
         return Ok(Children::from_vec(parts));
     }
     let sibling = sibling_of(step.child);
-    let node = open_node(alloc, &children[sibling])?;
-    Ok(Children::from_vec(with_part(parts, sibling, node)))
-}
-
-/// The parts with this in the place of the one of this number.
-fn with_part<'b>(parts: Vec<PartTree<'b>>, place: usize, part: PartTree<'b>) -> Vec<PartTree<'b>>
-    requires { place < length parts.items }
-    ensures { map part_of result.items
-        ≡ slice_set (map part_of parts.entry.items) place (part_of part.entry) }
-{
-    let mut parts = parts;
-    parts[place] = part;
-    parts
+    let node = open_node(alloc, &children[sibling]);
+    Ok(Children::from_vec(with_item(parts, sibling, node)?))
 }

@@ -6,6 +6,7 @@ ghost use Rattle.update_proof.specs.Changes.{rows_in_proof};
 ghost use Rattle.update_proof.specs.OpenParts.{opened_entry};
 
 use crate::change::Change;
+use crate::replacing::with_item;
 use crate::stubs::hash_entries;
 use attr_digest::hide_cells;
 use btree::position_of;
@@ -42,8 +43,8 @@ fn open_row<'b>(
     if place >= entries.len() {
         return Ok(closed);
     }
-    let mut rows = closed.into_vec();
-    rows[place] = open_entry(alloc, &entries[place])?;
+    let opened = open_entry(alloc, &entries[place]);
+    let rows = with_item(closed.into_vec(), place, opened)?;
     Ok(List::from_vec(rows))
 }
 

@@ -4,8 +4,13 @@ use Rattle.mb_tree.specs.View.{part_of, parts_of}
 use Rattle.mb_tree.proofs.PartLaws.{child_falls}
 use Rattle.update_proof.specs.Changes.{path_is_missing}
 use Rattle.update_proof.proofs.InsertionPaths.{none_lacks}
+use Rattle.update_proof.proofs.MissingPaths.{stub_lacks}
 use Rattle.update_proof.proofs.SurplusChildren.{past_missing, path_missing}
 use Rattle.update_proof.proofs.missing.+lacks_path.Goals as goal
+
+pub lacks_path-returns-in-Stub : goal.lacks_path-returns-in-Stub
+lacks_path-returns-in-Stub t c =
+    stub_lacks c.args.with_row c.args.key.now _ ∙ ap (λ p. path_is_missing c.args.with_row c.args.key.now (part_of p)) (sym c.in-Stub.is)
 
 pub lacks_path-returns-else-with_row : goal.lacks_path-returns-else-with_row
 lacks_path-returns-else-with_row t c =
