@@ -3,8 +3,8 @@ ghost use Rattle.vo_spec.specs.Conditions.{query_of};
 ghost use Rattle.reply_meeting.specs.Accepting.{ReadsAccepted};
 
 use lms_sign::PublicKey;
+use reply_tests::{judge, read_within};
 use std::alloc::Global;
-use vo_check::{judge, read_within};
 use vo_format::Reply;
 use vo_spec::{CheckFault, QueryText};
 

@@ -24,10 +24,10 @@ use Rattle.reply_stream.specs.ReplyTrees.{trees_at}
 use Rattle.reply_stream.specs.TreesStreams.{trees_of}
 use Rattle.reply_stream.proofs.PartLaws.{parts_again, parts_found}
 use Rattle.tree_stream.proofs.AllBytes.{IsBytes-append}
+use Rattle.reply_tests.specs.Accepting.{IsSignedReply}
+use Rattle.reply_tests.proofs.AcceptedRecords.{accepted}
 use Rattle.vo_check.specs.Alone.{plan_for}
-use Rattle.vo_check.specs.Accepting.{IsSignedReply}
 use Rattle.vo_check.specs.Checkings.{CheckingModel, ReadsTrees, no_bytes_of, with_piece, without_memory}
-use Rattle.vo_check.proofs.AcceptedRecords.{accepted}
 
 not_none : {A : Type 0} {x : A} → Some x ≡ None → ⊥
 not_none e = absurd cc

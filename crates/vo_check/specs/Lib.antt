@@ -1,6 +1,2 @@
-pub mod Accepting
 pub mod Alone
 pub mod Checkings
-pub mod Judging
-pub mod Reading
-pub mod Testing

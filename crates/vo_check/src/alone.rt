@@ -15,17 +15,15 @@ ghost use Rattle.query_plan.specs.Plans.{plan_of};
 ghost use Rattle.query_plan.specs.PlanViews.{plan_seen};
 ghost use Rattle.plan_run.specs.Running.{run_rows};
 ghost use Rattle.reply_stream.specs.ReplyParts.{parts_of};
+ghost use Rattle.reply_tests.specs.Judging.{bound_fault, proof_fault, shown_for};
+ghost use Rattle.reply_tests.specs.Testing.{GivesIfPassed, PassesTests};
 ghost use Rattle.vo_check.specs.Alone.{HasFound, HasSchema, IsSummedUp, bound_target, findings_fault, plan_for, summary_fault, table_fault, target_for};
-ghost use Rattle.vo_check.specs.Judging.{bound_fault, proof_fault, shown_for};
-ghost use Rattle.vo_check.specs.Testing.{GivesIfPassed, PassesTests};
 
-use crate::head_faults::test_head;
-use crate::pairing::table_named;
-use crate::tree_faults::{count_fault, test_digest};
 use lms_sign::PublicKey;
 use plan_run::run_alone;
 use query_plan::{BindFault, Plan, Query, bind, header, plan};
 use reply_stream::{Findings, Head, Summary, TreesSummary};
+use reply_tests::{count_fault, table_named, test_digest, test_head};
 use std::alloc::Global;
 use vo_spec::{Answer, Catalog, CatalogTable, CheckFault, Outcome, QueryFault, QueryText, SeenRow};
 

@@ -2,12 +2,12 @@
 ghost use Rattle.std.specs.Prelude.{◌≡◌, ◌⊎◌, IfOk, OnErr, Err};
 ghost use Rattle.vo_spec.specs.Conditions.{query_of};
 ghost use Rattle.vo_spec.specs.Checks.{CheckOf};
-ghost use Rattle.vo_check.specs.Accepting.{IsSignedReply};
+ghost use Rattle.reply_tests.specs.Accepting.{IsSignedReply};
 ghost use Rattle.vo_check.specs.Checkings.{no_bytes_of};
 
 use crate::checking::Checking;
 use crate::feeding::first_progress;
-use crate::reading::answer_whole;
+use crate::whole::answer_whole;
 use byte_log::ByteLog;
 use lms_sign::PublicKey;
 use reply_stream::ReplyLength;

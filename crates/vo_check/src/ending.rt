@@ -10,7 +10,7 @@ ghost use Rattle.vo_check.specs.Checkings.{StandsBehind, SuitsQuery, is_out_of_m
 use crate::alone::judge_alone;
 use crate::client::Client;
 use crate::progress::{OpenReply, Progress};
-use crate::reading::answer_whole;
+use crate::whole::answer_whole;
 use reply_stream::ReplyLength;
 use std::alloc::Global;
 use vo_spec::{Answer, CheckFault, QueryText};

@@ -1,0 +1,5 @@
+pub mod CellLaws
+pub mod LeafLaws
+pub mod ReplyTests
+pub mod AcceptedRecords
+pub mod PairLaws

@@ -1,0 +1,4 @@
+pub mod Accepting
+pub mod Judging
+pub mod Reading
+pub mod Testing
