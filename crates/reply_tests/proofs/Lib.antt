@@ -2,4 +2,5 @@ pub mod CellLaws
 pub mod LeafLaws
 pub mod ReplyTests
 pub mod AcceptedRecords
+pub mod Unread
 pub mod PairLaws

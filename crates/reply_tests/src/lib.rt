@@ -14,5 +14,5 @@ mod tree_faults;
 pub use head_faults::test_head;
 pub use judging::judge;
 pub use pairing::table_named;
-pub use reading::read_within;
+pub use reading::{judge_bytes, read_within};
 pub use tree_faults::{count_fault, test_digest};

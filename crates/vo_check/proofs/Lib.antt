@@ -1,4 +1,3 @@
-pub mod Unread
 pub mod RisingColumns
 pub mod AloneLaws
 pub mod CheckingLaws

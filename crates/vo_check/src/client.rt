@@ -7,10 +7,10 @@ ghost use Rattle.vo_check.specs.Checkings.{no_bytes_of};
 
 use crate::checking::Checking;
 use crate::feeding::first_progress;
-use crate::whole::answer_whole;
 use byte_log::ByteLog;
 use lms_sign::PublicKey;
 use reply_stream::ReplyLength;
+use reply_tests::judge_bytes;
 use std::alloc::Global;
 use vo_spec::{Answer, CheckFault, QueryText};
 
@@ -98,9 +98,22 @@ impl Client {
         ensures key { self.new.key ≡ self.old.key }
         ensures kept { OnErr result (self.new ≡ self.old) }
     {
-        let answer = answer_whole(alloc, self, query, reply);
+        let answer = self.answer_whole(alloc, query, reply);
         self.keep_version(&answer);
         answer
+    }
+
+    /// What the client says of the reply by all of its part trees.
+    pub(crate) fn answer_whole(
+        &self,
+        alloc: Global,
+        query: &QueryText,
+        reply: &[u8],
+    ) -> Result<Answer, CheckFault>
+        ensures { (result ≡ Err CheckFault.Memory)
+            ⊎ CheckOf self.now.key self.now.least (query_of query.now) reply.now result }
+    {
+        judge_bytes(alloc, &self.key, self.least, query, reply)
     }
 
     /// Takes no version below that of the answer from now on.

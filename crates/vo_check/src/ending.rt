@@ -10,7 +10,6 @@ ghost use Rattle.vo_check.specs.Checkings.{StandsBehind, SuitsQuery, is_out_of_m
 use crate::alone::judge_alone;
 use crate::client::Client;
 use crate::progress::{OpenReply, Progress};
-use crate::whole::answer_whole;
 use reply_stream::ReplyLength;
 use std::alloc::Global;
 use vo_spec::{Answer, CheckFault, QueryText};
@@ -68,7 +67,7 @@ fn end_within(
 {
     match progress {
         Progress::Trees(reply) => end_reply(alloc, client, query, reply),
-        Progress::Kept(held) => answer_whole(alloc, client, query, &held),
+        Progress::Kept(held) => client.answer_whole(alloc, query, &held),
         Progress::Head(_) => Err(CheckFault::BadForm),
         // Whatever stands so was counted over the limit.
         Progress::TooLong => Err(CheckFault::BadForm),

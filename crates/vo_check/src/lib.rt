@@ -8,7 +8,6 @@ mod ending;
 mod feeding;
 mod progress;
 mod targets;
-mod whole;
 
 pub use checking::Checking;
 pub use client::Client;
