@@ -1,5 +1,5 @@
 //! What of a tree must be open for a change.
-ghost use Rattle.std.specs.Prelude.{◌≡◌, ◌≤◌, ◌<◌, ◌+◌, length, map, slice_set, IfOk};
+ghost use Rattle.std.specs.Prelude.{◌≡◌, ◌≤◌, ◌<◌, ◌+◌, length, map, IfOk};
 ghost use Rattle.vo_spec.specs.Parts.{inner};
 ghost use Rattle.vo_spec.specs.Trees.{open_parts};
 ghost use Rattle.vo_spec.specs.Inserts.{insert_proof as proof_of_insertion};
