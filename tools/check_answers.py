@@ -1,4 +1,4 @@
-"""Lines of the program of crates/check_lines, each with the answer due by the independent implementation.
+"""Lines of crates/check_lines, each with the answer due by the independent implementation.
 
 A reply that is near the one before is spelled as that one with other bytes in it; of bytes that stand many times, one.
 """

@@ -1,4 +1,4 @@
-"""The rows of the stored run of crates/check_lines: chosen replies, each line with the answer due."""
+"""The rows of the stored lines of crates/check_lines: chosen replies, each line with the answer due."""
 from check_answers import NO_LINE, Reader
 from histories import SECRET, history
 from vo_ref.binding import bind

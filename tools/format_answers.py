@@ -1,4 +1,4 @@
-"""Lines of the program of crates/format_lines, each with the answer due by the independent implementation.
+"""Lines of crates/format_lines, each with the answer due by the independent implementation.
 
 A row is the word of a call and its byte strings; those that a line shares with the bytes kept last are spelled by their
 places there.

@@ -1,4 +1,4 @@
-"""The rows of the stored run of crates/format_lines: chosen cases, each the word of a call and its byte strings."""
+"""The rows of the stored lines of crates/format_lines: chosen cases, each the word of a call and its byte strings."""
 import random
 from dataclasses import replace
 

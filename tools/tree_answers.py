@@ -1,4 +1,4 @@
-"""Lines of the program of crates/tree_lines, each with the answer due by the independent implementation.
+"""Lines of crates/tree_lines, each with the answer due by the independent implementation.
 
 A line is a word and byte strings in hexadecimal; a part tree is given as a node or as bytes, which may be none.
 """

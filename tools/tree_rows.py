@@ -1,4 +1,4 @@
-"""The rows of the stored run of crates/tree_lines: chosen cases, each line with the answer due."""
+"""The rows of the stored lines of crates/tree_lines: chosen cases, each line with the answer due."""
 from itertools import product
 
 from tree_answers import (CountedChanges, Twin, after, agree, canonical, change, digest, judge, preimage, prove, prune, read,

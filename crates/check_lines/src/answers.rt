@@ -4,18 +4,29 @@ use crate::line::{Line, read_line};
 use crate::reply_checks::{check_both_ways, check_fronts};
 use crate::state::State;
 use line_pieces::NoAnswer;
+use std::alloc::Global;
 use std::io;
+use std::rt::Files;
 
-/// The answer to a line.
-pub fn answer(rt: &HostRuntime, state: &mut State, line: &str) -> io::Result<String> {
-    match answer_line(rt, state, line) {
+/// The answer to a line, which may name a file that `rt` reads.
+pub fn answer<R: Files>(
+    rt: &R,
+    alloc: Global,
+    state: &mut State,
+    line: &str,
+) -> io::Result<String> {
+    match answer_line(rt, alloc, state, line) {
         Ok(answer) => Ok(answer),
-        Err(fault) => Ok(format!(in rt.alloc(); "{fault}")?),
+        Err(fault) => Ok(format!(in alloc; "{fault}")?),
     }
 }
 
-fn answer_line(rt: &HostRuntime, state: &mut State, line: &str) -> Result<String, NoAnswer> {
-    let alloc = rt.alloc();
+fn answer_line<R: Files>(
+    rt: &R,
+    alloc: Global,
+    state: &mut State,
+    line: &str,
+) -> Result<String, NoAnswer> {
     match read_line(alloc, line)? {
         Line::Key(bytes) => state.keep_key(alloc, &bytes),
         Line::Query(text) => state.keep_query(alloc, &text),
@@ -23,6 +34,6 @@ fn answer_line(rt: &HostRuntime, state: &mut State, line: &str) -> Result<String
         Line::Splice(splice) => state.splice_reply(alloc, &splice),
         Line::Check(pieces) => check_both_ways(alloc, state, &pieces, &state.reply),
         Line::Fronts(pieces) => check_fronts(alloc, state, &pieces),
-        Line::File(pieces) => check_file(rt, state, &pieces),
+        Line::File(pieces) => check_file(rt, alloc, state, &pieces),
     }
 }

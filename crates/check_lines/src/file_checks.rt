@@ -4,18 +4,19 @@ use crate::reply_checks::answer_text;
 use crate::state::State;
 use line_pieces::NoAnswer;
 use std::alloc::Global;
-use std::fs::File;
+use std::fs;
 use std::io::Read;
+use std::rt::Files;
 use vo_check::{Checking, Client};
 
 /// The answer to the bytes of a file, of which no more than a piece is held here.
-pub fn check_file(
-    rt: &HostRuntime,
+pub fn check_file<R: Files>(
+    rt: &R,
+    alloc: Global,
     state: &State,
     pieces: &FilePieces,
 ) -> Result<String, NoAnswer> {
-    let alloc = rt.alloc();
-    let Ok(mut file) = File::open(rt, &pieces.path) else {
+    let Ok(mut file) = fs::open(rt, &pieces.path) else {
         return Err(NoAnswer::NoSuchLine);
     };
     let mut piece = vec![in alloc; 0; pieces.size]?;
@@ -26,10 +27,10 @@ pub fn check_file(
     answer_text(alloc, &client, &answer)
 }
 
-fn feed_file(
+fn feed_file<F: Read>(
     alloc: Global,
     checking: &mut Checking<'_>,
-    file: &mut File,
+    file: &mut F,
     piece: &mut [u8],
 ) -> Result<(), NoAnswer> {
     for _ in 0..u64::MAX {

@@ -13,7 +13,7 @@ pub struct State {
     query: Option<QueryText>,
     /// The bytes that a splice changes.
     kept: Vec<u8>,
-    pub reply: Vec<u8>,
+    pub(crate) reply: Vec<u8>,
 }
 
 impl State {

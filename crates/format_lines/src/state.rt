@@ -6,8 +6,8 @@ use std::alloc::Global;
 /// The bytes that were kept or made last, and the key that was.
 #[derive(Drop)]
 pub struct State {
-    pub bytes: Vec<u8>,
-    pub key: Option<SecretKey>,
+    pub(crate) bytes: Vec<u8>,
+    pub(crate) key: Option<SecretKey>,
 }
 
 impl State {

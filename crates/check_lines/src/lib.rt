@@ -1,4 +1,4 @@
-//! Checks a reply whole and in pieces for each line of standard input, for comparisons.
+//! Checks a reply whole and in pieces for each line, for comparisons.
 //!
 //! A line is a word and what it is asked of. `key BYTES` has the public key that clients trust from
 //! then on, and says its identifier; `query BYTES` has the text of the query, and says what it is.
@@ -25,19 +25,5 @@ mod line;
 mod reply_checks;
 mod state;
 
-use answers::answer;
-use state::State;
-use std::io::{self, BufRead, BufReader};
-
-fn main(rt: HostRuntime) -> io::Result<()> {
-    answer_lines(&rt, &mut State::new(rt.alloc()))
-}
-
-fn answer_lines(rt: &HostRuntime, state: &mut State) -> io::Result<()> {
-    let alloc = rt.alloc();
-    for line in BufReader::new(alloc, rt.reader())?.lines(alloc) {
-        let answer = answer(rt, state, &line?)?;
-        println!(rt; "{answer}")?;
-    }
-    Ok(())
-}
+pub use answers::answer;
+pub use state::State;

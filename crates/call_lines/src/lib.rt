@@ -1,4 +1,4 @@
-//! Answers a call of the SQL crates for each line of standard input, for comparisons.
+//! Answers a call of the SQL crates for each line, for comparisons.
 //!
 //! A line is a word and a text in hexadecimal: `query`, `batch` and `script` read the text,
 //! `print_query` and `print_batch` print what they read, and `bytes` has the bytes of a batch;
@@ -27,18 +27,4 @@ mod runs;
 mod text_faults;
 mod texts;
 
-use calls::State;
-use std::io::{self, BufRead, BufReader};
-
-fn main(rt: HostRuntime) -> io::Result<()> {
-    answer_lines(&rt, &mut State::new(rt.alloc()))
-}
-
-fn answer_lines(rt: &HostRuntime, state: &mut State) -> io::Result<()> {
-    let alloc = rt.alloc();
-    for line in BufReader::new(alloc, rt.reader())?.lines(alloc) {
-        let answer = state.answer(alloc, &line?)?;
-        println!(rt; "{answer}")?;
-    }
-    Ok(())
-}
+pub use calls::State;

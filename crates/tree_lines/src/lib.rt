@@ -1,4 +1,4 @@
-//! Answers a call of the crates of trees for each line of standard input, for comparisons.
+//! Answers a call of the crates of trees for each line, for comparisons.
 //!
 //! A line is a word and byte strings in hexadecimal. Of tables, which `clear` empties: `apply`
 //! applies a batch, and gives the digest of the table `t`; `step` applies each of its commands by
@@ -35,19 +35,4 @@ mod table_calls;
 mod tree_calls;
 mod twin_calls;
 
-use calls::answer;
-use std::io::{self, BufRead, BufReader};
-use stored_tables::StoredTables;
-
-fn main(rt: HostRuntime) -> io::Result<()> {
-    answer_lines(&rt, &mut StoredTables::new(rt.alloc()))
-}
-
-fn answer_lines(rt: &HostRuntime, tables: &mut StoredTables) -> io::Result<()> {
-    let alloc = rt.alloc();
-    for line in BufReader::new(alloc, rt.reader())?.lines(alloc) {
-        let answer = answer(alloc, tables, &line?)?;
-        println!(rt; "{answer}")?;
-    }
-    Ok(())
-}
+pub use calls::answer;

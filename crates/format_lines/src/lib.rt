@@ -1,4 +1,4 @@
-//! Answers a call of the crates of digests, signatures and formats for each line of standard input.
+//! Answers a call of the crates of digests, signatures and formats for each line, for comparisons.
 //!
 //! A line is a word and byte strings with a blank between each two; numbers are byte strings too,
 //! the highest byte first. A byte string is pieces joined by `+`: hexadecimal digits,
@@ -44,19 +44,5 @@ mod replies;
 mod rows;
 mod state;
 
-use answers::answer;
-use state::State;
-use std::io::{self, BufRead, BufReader};
-
-fn main(rt: HostRuntime) -> io::Result<()> {
-    answer_lines(&rt, &mut State::new(rt.alloc()))
-}
-
-fn answer_lines(rt: &HostRuntime, state: &mut State) -> io::Result<()> {
-    let alloc = rt.alloc();
-    for line in BufReader::new(alloc, rt.reader())?.lines(alloc) {
-        let answer = answer(alloc, state, &line?)?;
-        println!(rt; "{answer}")?;
-    }
-    Ok(())
-}
+pub use answers::answer;
+pub use state::State;
