@@ -1,6 +1,6 @@
 //! The check of a reply whose pieces are read from a file.
 use crate::line::FilePieces;
-use crate::reply_checks::answer_text;
+use crate::reply_checks::end_check;
 use crate::state::State;
 use line_pieces::NoAnswer;
 use std::alloc::Global;
@@ -16,25 +16,33 @@ pub fn check_file<R: Files>(
     state: &State,
     pieces: &FilePieces,
 ) -> Result<String, NoAnswer> {
-    let Ok(mut file) = fs::open(rt, &pieces.path) else {
-        return Err(NoAnswer::NoSuchLine);
-    };
-    let mut piece = vec![in alloc; 0; pieces.size]?;
-    let mut client = Client::new(state.key()?, pieces.least);
-    let mut checking = client.begin(alloc, state.query()?);
-    feed_file(alloc, &mut checking, &mut file, &mut piece)?;
-    let answer = checking.end(alloc, &mut client);
-    answer_text(alloc, &client, &answer)
+    match fs::open(rt, &pieces.path) {
+        Ok(file) => check_opened(alloc, state, pieces, file),
+        Err(_) => Err(NoAnswer::NoSuchLine),
+    }
 }
 
-fn feed_file<F: Read>(
+fn check_opened<F: Read + Drop>(
+    alloc: Global,
+    state: &State,
+    pieces: &FilePieces,
+    file: F,
+) -> Result<String, NoAnswer> {
+    let client = Client::new(state.key()?, pieces.least);
+    let mut checking = client.begin(alloc, state.query()?);
+    let fed = feed_file(alloc, &mut checking, file, pieces.size);
+    end_check(alloc, client, checking, fed)
+}
+
+fn feed_file<F: Read + Drop>(
     alloc: Global,
     checking: &mut Checking<'_>,
-    file: &mut F,
-    piece: &mut [u8],
+    mut file: F,
+    size: usize,
 ) -> Result<(), NoAnswer> {
+    let mut piece = vec![in alloc; 0; size]?;
     for _ in 0..u64::MAX {
-        let Ok(count) = file.read(piece) else {
+        let Ok(count) = file.read(&mut piece) else {
             return Err(NoAnswer::NoSuchLine);
         };
         if count == 0 {

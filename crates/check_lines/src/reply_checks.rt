@@ -38,7 +38,7 @@ pub fn check_both_ways(
 fn check_whole(alloc: Global, state: &State, least: u64, reply: &[u8]) -> Result<String, NoAnswer> {
     let mut client = Client::new(state.key()?, least);
     let answer = client.check_whole(alloc, state.query()?, reply);
-    answer_text(alloc, &client, &answer)
+    answer_text(alloc, &client, answer)
 }
 
 fn check_in_pieces(
@@ -47,11 +47,21 @@ fn check_in_pieces(
     pieces: &Pieces,
     reply: &[u8],
 ) -> Result<String, NoAnswer> {
-    let mut client = Client::new(state.key()?, pieces.least);
+    let client = Client::new(state.key()?, pieces.least);
     let mut checking = client.begin(alloc, state.query()?);
-    feed_pieces(alloc, &mut checking, &pieces.sizes, reply)?;
+    let fed = feed_pieces(alloc, &mut checking, &pieces.sizes, reply);
+    end_check(alloc, client, checking, fed)
+}
+
+/// The answer of a check that was fed, or why it wasn't.
+pub fn end_check(
+    alloc: Global,
+    mut client: Client,
+    checking: Checking<'_>,
+    fed: Result<(), NoAnswer>,
+) -> Result<String, NoAnswer> {
     let answer = checking.end(alloc, &mut client);
-    answer_text(alloc, &client, &answer)
+    fed.and(answer_text(alloc, &client, answer))
 }
 
 fn feed_pieces(
@@ -59,7 +69,7 @@ fn feed_pieces(
     checking: &mut Checking<'_>,
     sizes: &[usize],
     reply: &[u8],
-) -> Result<(), AllocError> {
+) -> Result<(), NoAnswer> {
     let mut left = reply;
     // A round takes a byte at least.
     for _ in 0..reply.len() {
@@ -88,16 +98,18 @@ fn feed_round<'b>(
 }
 
 /// What the client answered, and the least version that it takes now.
-pub fn answer_text(
+fn answer_text(
     alloc: Global,
     client: &Client,
-    answer: &Result<Answer, CheckFault>,
+    answer: Result<Answer, CheckFault>,
 ) -> Result<String, NoAnswer> {
-    let form = match answer {
-        Ok(answer) => form_of_answer(alloc, answer)?,
-        Err(fault) => form_of_fault(alloc, fault)?,
+    let form = match &answer {
+        Ok(answer) => form_of_answer(alloc, answer),
+        Err(fault) => form_of_fault(alloc, fault),
     };
-    Ok(format!(in alloc; "{form} least {}", client.least())?)
+    // By a call, how an answer is let go of is spelled out nowhere here.
+    drop(answer);
+    Ok(format!(in alloc; "{} least {}", form?, client.least())?)
 }
 
 fn form_of_answer(alloc: Global, answer: &Answer) -> Result<String, AllocError> {

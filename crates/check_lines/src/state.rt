@@ -26,11 +26,11 @@ impl State {
         }
     }
 
-    pub fn key(&self) -> Result<PublicKey, NoAnswer> {
+    pub(crate) fn key(&self) -> Result<PublicKey, NoAnswer> {
         self.key.ok_or(NoAnswer::NoSuchLine)
     }
 
-    pub fn query(&self) -> Result<&QueryText, NoAnswer> {
+    pub(crate) fn query(&self) -> Result<&QueryText, NoAnswer> {
         self.query.as_ref().ok_or(NoAnswer::NoSuchLine)
     }
 
@@ -47,15 +47,11 @@ impl State {
 
     /// Has the query of a text, and its written form.
     pub fn keep_query(&mut self, alloc: Global, text: &[u8]) -> Result<String, NoAnswer> {
-        let Ok(text) = str::from_utf8(text) else {
-            return Err(NoAnswer::NoSuchLine);
-        };
-        let Ok(query) = parse_query(alloc, text) else {
-            return Err(NoAnswer::NoSuchLine);
-        };
-        let form = form_of(alloc, &query)?;
-        self.query = Some(query);
-        Ok(form)
+        match query_in(alloc, text) {
+            Ok(query) => drop(self.query.replace(query)),
+            Err(fault) => return Err(fault),
+        }
+        Ok(form_of(alloc, self.query()?)?)
     }
 
     /// Has a reply, and its length.
@@ -78,5 +74,12 @@ impl State {
 
     fn length_text(&self, alloc: Global) -> Result<String, NoAnswer> {
         Ok(format!(in alloc; "{} bytes", self.reply.len())?)
+    }
+}
+
+fn query_in(alloc: Global, text: &[u8]) -> Result<QueryText, NoAnswer> {
+    match str::from_utf8(text) {
+        Ok(text) => parse_query(alloc, text).or(Err(NoAnswer::NoSuchLine)),
+        Err(_) => Err(NoAnswer::NoSuchLine),
     }
 }
