@@ -27,7 +27,11 @@ pub fn answer(
         return word(alloc, "no text");
     };
     match parse_query(alloc, text) {
-        Ok(query) => bind_and_answer(alloc, catalog, call, &query, more),
+        Ok(query) => {
+            let answer = bind_and_answer(alloc, catalog, call, &query, more);
+            drop(query);
+            answer
+        }
         Err(fault) => describe_fault(alloc, fault),
     }
 }
@@ -68,11 +72,22 @@ fn answer_plan(
         return word(alloc, "too wide");
     }
     let plan = plan(alloc, query)?;
+    let answer = answer_by(alloc, call, &plan, more);
+    drop(plan);
+    answer
+}
+
+fn answer_by(
+    alloc: Global,
+    call: PlanCall,
+    plan: &Plan<'_, '_>,
+    more: &[u8],
+) -> io::Result<String> {
     match call {
         PlanCall::Trees | PlanCall::LeftNeed => describe(alloc, &plan.left_need),
-        PlanCall::RightNeed => right_need_text(alloc, &plan, more),
-        PlanCall::RightNeeds => runs::right_needs_of(alloc, &plan, more),
-        PlanCall::Run => runs::run(alloc, &plan, more),
+        PlanCall::RightNeed => right_need_text(alloc, plan, more),
+        PlanCall::RightNeeds => runs::right_needs_of(alloc, plan, more),
+        PlanCall::Run => runs::run(alloc, plan, more),
     }
 }
 

@@ -4,14 +4,15 @@ use sql_text::SqlFault;
 use std::alloc::Global;
 use std::io;
 
-/// The value that a text has, or why it has none.
-pub fn describe_read<T: WriteForm>(
+/// The value that a text has, or why it has none. It is let go of here, so that how is spelled out
+/// for no type of value.
+pub fn describe_read<T: WriteForm + Drop>(
     alloc: Global,
-    read: &Result<T, SqlFault>,
+    read: Result<T, SqlFault>,
 ) -> io::Result<String> {
     match read {
-        Ok(value) => describe(alloc, value),
-        Err(fault) => describe_fault(alloc, *fault),
+        Ok(value) => describe(alloc, &value),
+        Err(fault) => describe_fault(alloc, fault),
     }
 }
 

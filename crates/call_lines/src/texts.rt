@@ -33,37 +33,41 @@ fn answer_call(
         TextCall::Query => read_query(alloc, text),
         TextCall::Batch => read_batch(alloc, text),
         TextCall::Script => read_script(alloc, text),
-        TextCall::Apply => describe_read(alloc, &apply_script(alloc, tables, text)),
-        TextCall::Step => describe_read(alloc, &apply_each(alloc, tables, text)),
+        TextCall::Apply => describe_read(alloc, apply_script(alloc, tables, text)),
+        TextCall::Step => describe_read(alloc, apply_each(alloc, tables, text)),
         TextCall::Result => result_of(alloc, tables, text),
         TextCall::PrintQuery => reprint_query(alloc, text),
         TextCall::PrintBatch => reprint_batch(alloc, text),
         TextCall::Bytes => batch_digits(alloc, text),
-        TextCall::Count => describe_read(alloc, &batch_count(alloc, text)),
+        TextCall::Count => describe_read(alloc, batch_count(alloc, text)),
         TextCall::Length => describe(alloc, &text.len()),
     }
 }
 
 fn read_query(alloc: Global, text: &str) -> io::Result<String> {
-    describe_read(alloc, &parse_query(alloc, text))
+    describe_read(alloc, parse_query(alloc, text))
 }
 
 fn read_batch(alloc: Global, text: &str) -> io::Result<String> {
-    describe_read(alloc, &parse_batch(alloc, text))
+    describe_read(alloc, parse_batch(alloc, text))
 }
 
 fn read_script(alloc: Global, text: &str) -> io::Result<String> {
-    describe_read(alloc, &parse_script(alloc, text))
+    describe_read(alloc, parse_script(alloc, text))
 }
 
 fn result_of(alloc: Global, tables: &Tables, text: &str) -> io::Result<String> {
-    describe_read(alloc, &query_result(alloc, tables, text))
+    describe_read(alloc, query_result(alloc, tables, text))
 }
 
 /// The text that the query of a text is printed as.
 fn reprint_query(alloc: Global, text: &str) -> io::Result<String> {
     match parse_query(alloc, text) {
-        Ok(query) => Ok(print_query(alloc, &query)?),
+        Ok(query) => {
+            let printed = print_query(alloc, &query);
+            drop(query);
+            Ok(printed?)
+        }
         Err(_) => word(alloc, "none"),
     }
 }
@@ -71,7 +75,11 @@ fn reprint_query(alloc: Global, text: &str) -> io::Result<String> {
 /// The text that the batch of a text is printed as.
 fn reprint_batch(alloc: Global, text: &str) -> io::Result<String> {
     match parse_batch(alloc, text) {
-        Ok(batch) => Ok(print_batch(alloc, &batch)?),
+        Ok(batch) => {
+            let printed = print_batch(alloc, &batch);
+            drop(batch);
+            Ok(printed?)
+        }
         Err(_) => word(alloc, "none"),
     }
 }
@@ -130,7 +138,11 @@ fn apply_each(
 /// What the query of a text gives on the tables.
 fn query_result(alloc: Global, tables: &Tables, text: &str) -> Result<Outcome, SqlFault> {
     match parse_query(alloc, text) {
-        Ok(query) => result(alloc, tables, &query).or(Err(SqlFault::Memory)),
+        Ok(query) => {
+            let outcome = result(alloc, tables, &query);
+            drop(query);
+            outcome.or(Err(SqlFault::Memory))
+        }
         Err(fault) => Err(fault),
     }
 }
