@@ -1,2 +1,3 @@
 pub mod BatchReading
 pub mod Writing
+pub mod TreeReading

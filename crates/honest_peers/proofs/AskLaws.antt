@@ -6,7 +6,7 @@ use Rattle.std.specs.Str.{IsUtf8}
 use Rattle.std.proofs.lemmas.Bool.{and_from}
 use Rattle.std.proofs.lemmas.Bool.Decides.{nat_tests}
 use Rattle.outside.specs.Shelf.{Files}
-use Rattle.exit_output.specs.Outputs.{Output}
+use Rattle.outside.specs.Outputs.{Output}
 use Rattle.link_frames.specs.declared.awaits.Awaits.TheVariants.{Reply as ReplyAwaited}
 use Rattle.link_frames.specs.declared.frame_kind.FrameKind.{FrameKind}
 use Rattle.link_frames.specs.declared.frame_kind.FrameKind.TheVariants as kind
@@ -35,7 +35,7 @@ use Rattle.round_trips.specs.Trips.{plain_answer}
 use Rattle.vo_spec.specs.Honest.{honest_record, honest_reply}
 use Rattle.vo_spec.specs.Lms.{key_lms, key_ots}
 use Rattle.vo_spec.specs.Replies.{max_reply, reply_bytes}
-use Rattle.one_reading.proofs.Readings.{one_reply}
+use Rattle.honest_peers.proofs.Readings.{one_reply}
 use Rattle.store_requests.proofs.TextReadings.{text_read}
 use Rattle.vo_store.specs.declared.fault.StoreFault.{StoreFault}
 use Rattle.vo_store.specs.declared.fault.StoreFault.TheVariants as fault

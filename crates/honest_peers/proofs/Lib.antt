@@ -11,3 +11,5 @@ pub mod Commits
 pub mod Sessions
 pub mod Beginnings
 pub mod OwnRuns
+pub mod Readings
+pub mod AnswerLaws

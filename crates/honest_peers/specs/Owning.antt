@@ -1,7 +1,7 @@
 -- A session in which nothing is wrong, and what it comes to by the plain tables.
 use Rattle.std.specs.Prelude.{◌≡◌, ◌⊎◌, ℕ, ◌+◌, ◌<◌, ◌≤◌, List, [], ◌∷◌, ◌++◌, length, Err, IsOk, IsSome}
 use Rattle.std.specs.List.{AllByRecursion}
-use Rattle.exit_output.specs.Outputs.{Output}
+use Rattle.outside.specs.Outputs.{Output}
 use Rattle.vo_spec.specs.declared.records.Entry.{Entry}
 use Rattle.vo_spec.specs.declared.tables.Batch.{Batch}
 use Rattle.vo_spec.specs.declared.tables.Command.{Command}

@@ -2,7 +2,7 @@
 
 ghost use Rattle.std.specs.Prelude.{◌≡◌, ◌↔◌, ℕ, ◌≤◌, List, ◌∷◌, drop, length, None, Result, Ok, Err};
 ghost use Rattle.outside.specs.Shelf.{Files};
-ghost use Rattle.exit_output.specs.Outputs.{Output};
+ghost use Rattle.outside.specs.Outputs.{Output};
 ghost use Rattle.vo_spec.specs.declared.checks.Answer.{Answer};
 ghost use Rattle.vo_spec.specs.declared.checks.CheckFault.{CheckFault};
 ghost use Rattle.vo_spec.specs.declared.records.Entry.{Entry};

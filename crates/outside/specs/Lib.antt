@@ -15,3 +15,4 @@ pub mod Shelf
 pub mod Sink
 pub mod ConnectionModel
 pub mod Replay
+pub mod Outputs

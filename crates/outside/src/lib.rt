@@ -1,11 +1,12 @@
 //! What lies outside the program, as traits: files, output, connections and a disk, with forms of
-//! each in memory.
+//! each in memory; and what a program writes as it ends.
 //!
 //! Each object counts its faults, and a call fails only where that count rose in it. What an object
 //! holds is known of the forms in memory; of a real one nothing is known.
 #![tactic(auto)]
 
 mod disk;
+mod exit_output;
 mod failures;
 mod faults;
 mod link;
@@ -19,6 +20,7 @@ mod shelf;
 mod sink;
 
 pub use disk::Disk;
+pub use exit_output::write_output;
 pub use failures::{FailAt, Failure, Failures, Never};
 pub use faults::{Failed, PutFault, TakeFault};
 pub use link::Link;

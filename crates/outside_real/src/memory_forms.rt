@@ -4,7 +4,7 @@
 //! twice.
 use outside::{
     Disk, FailAt, Failed, Failure, Link, MemDisk, MemNet, MemShelf, MemSink, NamedFile, Net, Never,
-    PutFault, Shelf, Sink, TakeFault,
+    PutFault, Shelf, Sink, TakeFault, write_output,
 };
 use std::alloc::{AllocError, Global};
 use std::test::Fail;
@@ -32,6 +32,14 @@ fn sink_fails_at_its_call(rt: HostRuntime) -> Result<(), Fail> {
 fn sink_never_fails(rt: HostRuntime) {
     let put = MemSink::new(rt.alloc(), Never).put(b"x");
     assert_eq!(rt; put, Ok(()));
+}
+
+#[test]
+fn last_bytes_are_written_with_their_status(rt: HostRuntime) -> Result<(), Fail> {
+    let mut out = MemSink::new(rt.alloc(), Never);
+    assert_eq!(rt; write_output(&mut out, 7, b"bad journal 0\n"), 7);
+    assert_eq!(rt; out.contents(), b"bad journal 0\n".as_slice());
+    Ok(())
 }
 
 fn shelf_of_a_seed(alloc: Global) -> Result<MemShelf<FailAt>, AllocError> {

@@ -3,7 +3,7 @@ use Rattle.std.proofs.Common.{◌≡◌, ℕ, ◌<◌, ◌≤◌, List, [], ◌+
 use Rattle.outside.specs.FaultRose.{FaultRose}
 use Rattle.outside.specs.Sink.{append_known}
 use Rattle.link_frames.specs.Scripts.{Event, IsDone}
-use Rattle.exit_output.specs.Outputs.{Output, Writes, outside_failure}
+use Rattle.outside.specs.Outputs.{Output, Writes, outside_failure}
 use Rattle.owner_session.specs.declared.refusals.RefusalCause.TheVariants as causes
 use Rattle.owner_session.specs.declared.stop.SessionStatus.{SessionStatus}
 use Rattle.owner_session.specs.declared.stop.SessionStatus.TheVariants as statuses

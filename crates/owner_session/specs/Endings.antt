@@ -2,7 +2,7 @@
 use Rattle.std.specs.Prelude.{◌≡◌, ℕ, List, [], ◌++◌, codes, decimal, Result, Ok, Err}
 use Rattle.std.specs.Global.{Vec}
 use Rattle.std.specs.declared.alloc.AllocError.{AllocError}
-use Rattle.exit_output.specs.Outputs.{Output, line}
+use Rattle.outside.specs.Outputs.{Output, line}
 use Rattle.owner_session.specs.declared.refusals.RefusalCause.{RefusalCause}
 use Rattle.owner_session.specs.declared.refusals.RefusalCause.TheVariants.{Proofs, Command}
 use Rattle.owner_session.specs.declared.stop.SessionStatus.{SessionStatus}

@@ -2,7 +2,7 @@
 use Rattle.std.specs.Prelude.{◌≡◌, ◌⊎◌, ℕ, List, [], take, Some}
 use Rattle.outside.specs.Sink.{append_known}
 use Rattle.link_frames.specs.Scripts.{IsDone, Stops}
-use Rattle.exit_output.specs.Outputs.{Output, Writes, outside_failure}
+use Rattle.outside.specs.Outputs.{Output, Writes, outside_failure}
 use Rattle.owner_session.specs.Endings.{Ending, Done, output_of}
 use Rattle.owner_session.specs.Work.{Judgement, Deed, Appends, Says, Work, Forms, session}
 use Rattle.owner_session.specs.Runs.{Snapshot, LeadsTo, AreJudgements, IsNext, HasWritten, input_of, lines_of}

@@ -1,6 +1,6 @@
 //! The lines of a session.
 ghost use Rattle.std.specs.Prelude.{◌≡◌, ◌++◌, IfOk};
-ghost use Rattle.exit_output.specs.Outputs.{line};
+ghost use Rattle.outside.specs.Outputs.{line};
 ghost use Rattle.owner_session.specs.Endings.{number_line, version_line, IsOfLink, StopsAs, StopsWith, StoreRefuses, StandsElsewhere, BadAnswer, CutAnswer, OwnerRefuses};
 
 use crate::refusals::Refusal;

@@ -13,8 +13,7 @@ use crate::catch_up::catch_up;
 use crate::commit::commit_batches;
 use crate::session_owner::SessionOwner;
 use crate::stop::SessionStop;
-use exit_output::write_output;
-use outside::{Link, Sink};
+use outside::{Link, Sink, write_output};
 use std::alloc::Global;
 
 /// Gives the store at the other end what it lacks of the owner's journal, and commits the batches;

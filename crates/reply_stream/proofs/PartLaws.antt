@@ -14,7 +14,7 @@ use Rattle.version_record.specs.Reading.{record_at}
 use Rattle.version_record.proofs.RecordLaws.{whole_is}
 use Rattle.vo_format.specs.Reading.{signature_at, catalog_block_at, counted_trees_at, plain_reply, reply_at}
 use Rattle.vo_format.proofs.ReplyLaws.{reply_found, reply_again}
-use Rattle.tree_readers.specs.TreeReading.{tree_at}
+use Rattle.batch_format.specs.TreeReading.{tree_at}
 use Rattle.tree_stream.specs.declared.target.Target.{Target}
 use Rattle.tree_stream.proofs.Binds.{bind_assoc, bind_same}
 use Rattle.reply_stream.specs.ReplyHeads.{ReplyHead}

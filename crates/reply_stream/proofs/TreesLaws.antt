@@ -8,7 +8,7 @@ use Rattle.vo_spec.specs.Trees.{RowTree}
 use Rattle.row_bytes.specs.Reading.{byte_at}
 use Rattle.row_bytes.specs.Fields.{◌>>=◌, times, whole}
 use Rattle.batch_format.specs.BatchReading.{one}
-use Rattle.tree_readers.specs.TreeReading.{node_at, tree_at}
+use Rattle.batch_format.specs.TreeReading.{node_at, tree_at}
 use Rattle.tree_stream.specs.declared.target.Target.{Target}
 use Rattle.tree_stream.specs.declared.findings.Summary.{Summary}
 use Rattle.tree_stream.specs.declared.stream.TreeStream.{TreeStream}

@@ -2,7 +2,7 @@
 ghost use Rattle.std.specs.Prelude.{◌≡◌, [], ◌++◌};
 ghost use Rattle.vo_spec.specs.Sha256.{sha256};
 
-use byte_log::{ByteLog, Piece};
+use crate::{ByteLog, Piece};
 use sha2::{Digest as _, Sha256};
 use std::marker::Model;
 use vo_spec::Digest;

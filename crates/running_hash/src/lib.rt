@@ -1,8 +1,11 @@
-//! A SHA-256 hasher (FIPS 180-4) that contracts see as the bytes hashed so far.
+//! A SHA-256 hasher (FIPS 180-4) that contracts see as the bytes hashed so far, and the log of
+//! bytes, for proofs alone, by which they do.
 #![tactic(auto)]
 
+mod byte_log;
 mod hasher;
 
+pub use byte_log::{ByteLog, Piece};
 pub use hasher::RunningHash;
 pub use vo_spec::Digest;
 

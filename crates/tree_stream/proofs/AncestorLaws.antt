@@ -6,7 +6,7 @@ use Rattle.sha2.specs.Sha256.{sha256}
 use Rattle.tree_stream.specs.declared.target.Target.{Target}
 use Rattle.vo_spec.specs.Trees.{RowTree, digest, open_parts}
 use Rattle.row_bytes.specs.Fields.{◌>>=◌, times}
-use Rattle.tree_readers.specs.TreeReading.{tree_at}
+use Rattle.batch_format.specs.TreeReading.{tree_at}
 use Rattle.tree_stream.specs.declared.findings.Findings.{Findings}
 use Rattle.tree_stream.specs.declared.findings.Summary.{Summary}
 use Rattle.tree_stream.specs.declared.state.InnerNode.{InnerNode}

@@ -15,9 +15,9 @@ use Rattle.vo_spec.specs.Parts.{stub}
 use Rattle.vo_spec.specs.TreeBytes.{cell_form, entry_form}
 use Rattle.row_bytes.specs.Fields.{◌>>=◌, times}
 use Rattle.batch_format.specs.BatchReading.{Reader, one}
-use Rattle.tree_readers.specs.TreeReading.{cell_at, entry_at, tree_at}
-use Rattle.tree_readers.proofs.EntryLaws.{cell_again, entries_read}
-use Rattle.tree_readers.proofs.TreeLaws.{levels_read}
+use Rattle.batch_format.specs.TreeReading.{cell_at, entry_at, tree_at}
+use Rattle.batch_format.proofs.EntryLaws.{cell_again, entries_read}
+use Rattle.batch_format.proofs.TreeLaws.{levels_read}
 use Rattle.tree_stream.specs.declared.findings.Findings.{Findings}
 use Rattle.tree_stream.specs.declared.findings.CellFindings.{CellFindings}
 use Rattle.tree_stream.specs.declared.findings.Summary.{Summary}

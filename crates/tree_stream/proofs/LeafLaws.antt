@@ -14,9 +14,9 @@ use Rattle.vo_spec.specs.TreeBytes.{cell_form}
 use Rattle.vo_spec.specs.Pruning.{has_column}
 use Rattle.row_bytes.specs.Fields.{◌>>=◌, times}
 use Rattle.batch_format.specs.BatchReading.{one}
-use Rattle.tree_readers.specs.TreeReading.{cell_at, cells_at, row_at, key_at, part_entry, entry_at}
-use Rattle.tree_readers.proofs.Fields.{bytes_read, counts_read, keys_read}
-use Rattle.tree_readers.proofs.EntryLaws.{cell_again}
+use Rattle.batch_format.specs.TreeReading.{cell_at, cells_at, row_at, key_at, part_entry, entry_at}
+use Rattle.batch_format.proofs.KeyLaws.{bytes_read, counts_read, keys_read}
+use Rattle.batch_format.proofs.EntryLaws.{cell_again}
 use Rattle.tree_stream.specs.declared.findings.Findings.{Findings}
 use Rattle.tree_stream.specs.declared.findings.CellFindings.{CellFindings}
 use Rattle.tree_stream.specs.declared.findings.Summary.{Summary}

@@ -11,9 +11,9 @@ use Rattle.vo_spec.specs.Parts.{stub, leaf, count, child_bytes}
 use Rattle.vo_spec.specs.Trees.{RowTree, digest, open_parts, row_family}
 use Rattle.row_bytes.specs.Fields.{◌>>=◌, times}
 use Rattle.batch_format.specs.BatchReading.{Reader, one, two}
-use Rattle.tree_readers.specs.TreeReading.{key_at, entry_at, leaf_at, inner_at, inner_node, node_at, tree_at}
-use Rattle.tree_readers.proofs.Fields.{bytes_read, counts_read, keys_read}
-use Rattle.tree_readers.proofs.TreeLaws.{count_open_parts}
+use Rattle.batch_format.specs.TreeReading.{key_at, entry_at, leaf_at, inner_at, inner_node, node_at, tree_at}
+use Rattle.batch_format.proofs.KeyLaws.{bytes_read, counts_read, keys_read}
+use Rattle.batch_format.proofs.TreeLaws.{count_open_parts}
 use Rattle.tree_stream.specs.declared.findings.Findings.{Findings}
 use Rattle.tree_stream.specs.declared.findings.Summary.{Summary}
 use Rattle.tree_stream.specs.Findings.{combine, entries_findings, stub_findings, open_node_findings, visits_child, child_visits, children_findings}

@@ -13,7 +13,7 @@ use Rattle.vo_spec.specs.Scans.{is_empty_interval}
 use Rattle.row_bytes.specs.Reading.{byte_at, bytes_at, u16_at, value_at, int_at, text_at, bool_at}
 use Rattle.row_bytes.specs.Fields.{◌>>=◌, string_at}
 use Rattle.batch_format.specs.BatchReading.{Reader, any_value_at}
-use Rattle.tree_readers.specs.TreeReading.{key_at, cell_at, cells_at, row_at, leaf_at, inner_at, node_at, tree_at}
+use Rattle.batch_format.specs.TreeReading.{key_at, cell_at, cells_at, row_at, leaf_at, inner_at, node_at, tree_at}
 use Rattle.tree_stream.specs.declared.findings.Findings.{Findings}
 use Rattle.tree_stream.specs.declared.findings.Summary.{Summary}
 use Rattle.tree_stream.specs.declared.state.State.{State}

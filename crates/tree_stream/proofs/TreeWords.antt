@@ -9,8 +9,8 @@ use Rattle.vo_spec.specs.Trees.{RowTree}
 use Rattle.vo_spec.specs.TreeBytes.{tree_bytes}
 use Rattle.row_bytes.specs.Fields.{◌>>=◌}
 use Rattle.batch_format.proofs.ReaderLaws.{bound, some_is}
-use Rattle.tree_readers.specs.TreeReading.{tree_at}
-use Rattle.tree_readers.proofs.TreeLaws.{trees_read}
+use Rattle.batch_format.specs.TreeReading.{tree_at}
+use Rattle.batch_format.proofs.TreeLaws.{trees_read}
 use Rattle.tree_stream.specs.declared.findings.Summary.{Summary}
 use Rattle.tree_stream.specs.Remaining.{tree_summary, summary_at}
 use Rattle.tree_stream.specs.Summaries.{summary_of_tree}

@@ -25,7 +25,7 @@ use Rattle.row_bytes.proofs.Readers.{IsBytes-take}
 use Rattle.row_bytes.proofs.ValueLaws.{u16_same, u16_again, u16_length, u64_length}
 use Rattle.batch_format.specs.BatchReading.{Reader, one, two, any_value_at}
 use Rattle.batch_format.proofs.ReaderLaws.{all_true}
-use Rattle.tree_readers.specs.TreeReading.{count_within, key_at, cell_at, cells_at, row_at, entry_at, leaf_at, inner_at, inner_node, node_at}
+use Rattle.batch_format.specs.TreeReading.{count_within, key_at, cell_at, cells_at, row_at, entry_at, leaf_at, inner_at, inner_node, node_at}
 use Rattle.tree_stream.specs.Tokens.{string_size, value_size}
 use Rattle.tree_stream.proofs.Binds.{bind_none}
 

@@ -13,7 +13,7 @@ use Rattle.vo_spec.specs.Trees.{RowTree}
 use Rattle.vo_spec.specs.TreeBytes.{cell_form}
 use Rattle.vo_spec.specs.Fits.{FitsCell, max_cells, max_fill}
 use Rattle.batch_format.specs.BatchReading.{Reader, any_value_at}
-use Rattle.tree_readers.specs.TreeReading.{count_within, key_at, cell_at, row_at, node_at}
+use Rattle.batch_format.specs.TreeReading.{count_within, key_at, cell_at, row_at, node_at}
 use Rattle.tree_stream.specs.declared.parse.CellToken.{CellToken}
 use Rattle.tree_stream.specs.declared.parse.CellToken.TheVariants.{Hidden as HiddenCell, Shown as ShownCell}
 use Rattle.tree_stream.specs.declared.parse.NodeToken.{NodeToken}

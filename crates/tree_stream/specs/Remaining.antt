@@ -9,7 +9,7 @@ use Rattle.vo_spec.specs.Cells.{cell_digests, row_digest, entry_bytes}
 use Rattle.vo_spec.specs.Trees.{RowTree, digest, open_parts}
 use Rattle.row_bytes.specs.Fields.{◌>>=◌, times}
 use Rattle.batch_format.specs.BatchReading.{Reader, one}
-use Rattle.tree_readers.specs.TreeReading.{cell_at, row_at, key_at, entry_at, tree_at}
+use Rattle.batch_format.specs.TreeReading.{cell_at, row_at, key_at, entry_at, tree_at}
 use Rattle.tree_stream.specs.declared.findings.Findings.{Findings}
 use Rattle.tree_stream.specs.declared.findings.CellFindings.{CellFindings}
 use Rattle.tree_stream.specs.declared.findings.Summary.{Summary}

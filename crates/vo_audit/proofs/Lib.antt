@@ -4,3 +4,6 @@ pub mod WantedLaws
 pub mod ResultLaws
 pub mod FindingLaws
 pub mod VerdictLaws
+mod DepartureLaws
+mod EvidenceLaws
+mod LeftCommands

@@ -30,7 +30,7 @@ use Rattle.mb_tree.specs.View.{part_of}
 use Rattle.stored_tables.specs.Plain.{catalog_table}
 use Rattle.vo_audit.specs.Auditing.{HasPassed}
 use Rattle.tree_collide.specs.Preimages.{OfStrings}
-use Rattle.departures.specs.Evidence.{HasRoot, AreHashedIn}
+use Rattle.vo_audit.specs.Evidence.{HasRoot, AreHashedIn}
 use Rattle.root_laws.specs.Following.{PrunesTable}
 use Rattle.vo_audit.specs.Showing.{AreHashedInOne}
 use Rattle.vo_audit.specs.WantedTables.{table_at}

@@ -29,7 +29,7 @@ use Rattle.stored_tables.specs.Representation.{IsStanding}
 use Rattle.owner_state.specs.declared.departures.Departure.{Departure}
 use Rattle.owner_state.specs.declared.journals.OwnedJournal.{OwnedJournal}
 use Rattle.owner_state.specs.Departing.{trees_at}
-use Rattle.departures.specs.Departures.{IsDeparture}
+use Rattle.vo_audit.specs.Departures.{IsDeparture}
 use Rattle.reply_tests.specs.Judging.{FitsWhereBound}
 
 -- two different byte strings of one digest are found, which are as said, or the fact holds

@@ -1,3 +1,5 @@
 pub mod Auditing
 pub mod Showing
 pub mod WantedTables
+pub mod Departures
+pub mod Evidence

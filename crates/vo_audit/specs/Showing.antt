@@ -13,7 +13,7 @@ use Rattle.vo_spec.specs.Honest.{Stored, catalog_of}
 use Rattle.tree_collide.specs.Preimages.{OfStrings}
 use Rattle.owner_roots.specs.Owners.{IsOwned}
 use Rattle.owner_state.specs.Departing.{trees_at}
-use Rattle.departures.specs.Evidence.{AreHashedIn, AreHashedInBatch}
+use Rattle.vo_audit.specs.Evidence.{AreHashedIn, AreHashedInBatch}
 
 -- what the digests of these catalogs are of
 abbrev pub AreCatalogs : Catalog → Catalog → OfStrings

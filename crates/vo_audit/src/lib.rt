@@ -2,6 +2,7 @@
 #![tactic(auto)]
 
 mod auditing;
+mod departures;
 mod evidence;
 mod holding;
 mod outcome_test;

@@ -6,12 +6,12 @@ ghost use Rattle.vo_spec.specs.Trees.{Prunes};
 ghost use Rattle.vo_spec.specs.Checks.{tables_wanted};
 ghost use Rattle.vo_spec.specs.Honest.{catalog_of, trees_for};
 ghost use Rattle.mb_tree.specs.View.{part_of};
-ghost use Rattle.departures.specs.Evidence.{HasRoot};
+ghost use Rattle.vo_audit.specs.Evidence.{HasRoot};
 ghost use Rattle.vo_audit.specs.Auditing.{CollidesOr};
 ghost use Rattle.vo_audit.specs.Showing.{AreHashedInOne};
 ghost use Rattle.vo_audit.specs.WantedTables.{table_at};
 
-use departures::compare_with_table;
+use crate::departures::compare_with_table;
 use mb_tree::PartTree;
 use std::alloc::{AllocError, Global};
 use stored_tables::StoredTables;

@@ -12,10 +12,10 @@ ghost use Rattle.vo_format.specs.View.{reply_of};
 ghost use Rattle.vo_audit.specs.Auditing.{HasPassed, IsBefore, IsDepartureIn, IsHeldVerdict, IsReadAt, seen_answer};
 ghost use Rattle.vo_audit.specs.Showing.{AreOfProofs, AreOfReply, AreShown, Shows};
 
+use crate::departures::collision_of_batch;
 use crate::evidence::evidence;
 use crate::holding::holds;
 use crate::outcome_test::is_result;
-use departures::collision_of_batch;
 use owner_state::{Departure, LentEntry, OwnedJournal};
 use std::alloc::{AllocError, Global};
 use stored_tables::StoredTables;

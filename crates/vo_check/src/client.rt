@@ -7,10 +7,10 @@ ghost use Rattle.vo_check.specs.Checkings.{no_bytes_of};
 
 use crate::checking::Checking;
 use crate::feeding::first_progress;
-use byte_log::ByteLog;
 use lms_sign::PublicKey;
 use reply_stream::ReplyLength;
 use reply_tests::judge_bytes;
+use running_hash::ByteLog;
 use std::alloc::Global;
 use vo_spec::{Answer, CheckFault, QueryText};
 

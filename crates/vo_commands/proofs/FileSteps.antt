@@ -9,7 +9,7 @@ use Rattle.vo_spec.specs.Lms.{key_lms, key_ots, IsUnknownSet}
 use Rattle.lms_sign.specs.declared.public_key.KeyFault.{KeyFault}
 use Rattle.lms_sign.specs.declared.public_key.KeyFault.TheVariants.{Length, UnknownSet}
 use Rattle.std.specs.Prelude.{[], ◌∷◌, codes}
-use Rattle.exit_output.specs.Outputs.{Output}
+use Rattle.outside.specs.Outputs.{Output}
 use Rattle.vo_commands.specs.Lines.{input_refusal}
 use Rattle.vo_commands.specs.Expected.{Expected, Exactly, with_public, with_text, is_public_key}
 

@@ -8,7 +8,7 @@ use Rattle.link_frames.specs.declared.awaits.Awaits.TheVariants.{Reply}
 use Rattle.link_frames.specs.declared.frame_kind.FrameKind.{FrameKind}
 use Rattle.link_frames.specs.declared.frame_kind.FrameKind.TheVariants as kind
 use Rattle.link_frames.specs.Frames.{Coming, Whole, Ended, Cut, Bad, span, first_frame}
-use Rattle.exit_output.specs.Outputs.{Output}
+use Rattle.outside.specs.Outputs.{Output}
 use Rattle.connections.specs.declared.wire_fault.WireFault.{WireFault}
 use Rattle.connections.specs.declared.wire_fault.WireFault.TheVariants as fault
 use Rattle.connections.specs.Requesting.{body_of, answer_in}

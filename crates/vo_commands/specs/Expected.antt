@@ -9,7 +9,7 @@ use Rattle.link_frames.specs.declared.frame_kind.FrameKind.{FrameKind}
 use Rattle.link_frames.specs.declared.frame_kind.FrameKind.TheVariants.{Query as QueryFrame, Refusal}
 use Rattle.link_frames.specs.Frames.{Coming, Whole, Ended, Cut, Bad, first_frame, frame_bytes}
 use Rattle.link_frames.specs.Reading.{IsHalfAsked}
-use Rattle.exit_output.specs.Outputs.{Output, Writes, outside_failure}
+use Rattle.outside.specs.Outputs.{Output, Writes, outside_failure}
 use Rattle.vo_spec.specs.declared.signatures.OtsType.TheVariants.{W8}
 use Rattle.vo_spec.specs.declared.tables.Batch.{Batch}
 use Rattle.vo_spec.specs.declared.records.Entry.{Entry}

@@ -2,7 +2,7 @@
 use Rattle.std.specs.Prelude.{ℕ, List, [], ◌∷◌, ◌++◌, map, flat_map, length, codes, decimal, ◌==◌, if◌then◌else◌, true, false, Result, Ok, Err}
 use Rattle.std.specs.Fmt.{signed_decimal}
 use Rattle.hex.specs.Hex.{encode_lower}
-use Rattle.exit_output.specs.Outputs.{Output, line}
+use Rattle.outside.specs.Outputs.{Output, line}
 use Rattle.vo_spec.specs.declared.values.Value.{Value}
 use Rattle.vo_spec.specs.declared.values.Value.TheVariants.{Int, Text, Bool as Truth}
 use Rattle.vo_spec.specs.declared.queries.QueryFault.{QueryFault}

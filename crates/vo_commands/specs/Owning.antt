@@ -6,7 +6,7 @@ use Rattle.outside.specs.ConnectionModel.{ConnectionModel, open_next}
 use Rattle.outside.specs.DiskModel.{DiskModel, MayLeave}
 use Rattle.outside.specs.Moments.{IfKnown}
 use Rattle.outside.specs.Shelf.{Files}
-use Rattle.exit_output.specs.Outputs.{Writes, outside_failure}
+use Rattle.outside.specs.Outputs.{Writes, outside_failure}
 use Rattle.vo_spec.specs.declared.tables.Batch.{Batch}
 use Rattle.vo_spec.specs.declared.records.Entry.{Entry}
 use Rattle.vo_spec.specs.Journals.{Holds, IsDamaged, IsJournal}

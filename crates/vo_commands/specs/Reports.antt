@@ -1,6 +1,6 @@
 -- Reports as the output of the program.
 use Rattle.std.specs.Prelude.{◌≡◌, ℕ, Bool, true, false, List, Option, Result, Ok, Err}
-use Rattle.exit_output.specs.Outputs.{Output, Writes, outside_failure}
+use Rattle.outside.specs.Outputs.{Output, Writes, outside_failure}
 use Rattle.vo_commands.specs.declared.report.Status.{Status}
 use Rattle.vo_commands.specs.declared.report.Status.TheVariants.{Done, RefusedReply, RefusedInput, Collision, Unsigned, BadJournal, RefusedCommand, BadAnswer}
 use Rattle.vo_commands.specs.declared.report.Report.{Report}

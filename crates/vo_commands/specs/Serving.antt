@@ -2,7 +2,7 @@
 use Rattle.std.specs.Prelude.{◌≡◌, ◌⊎◌, ℕ, List, [], ◌∷◌, codes, decimal, Option, Some, None, option_map, Result, Ok, Err}
 use Rattle.outside.specs.ConnectionModel.{ConnectionModel}
 use Rattle.outside.specs.Shelf.{Files}
-use Rattle.exit_output.specs.Outputs.{Output, Writes, outside_failure}
+use Rattle.outside.specs.Outputs.{Output, Writes, outside_failure}
 use Rattle.vo_spec.specs.declared.records.Entry.{Entry}
 use Rattle.vo_spec.specs.Journals.{IsJournal}
 use Rattle.vo_spec.specs.Owners.{AreLoadable}

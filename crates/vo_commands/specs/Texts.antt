@@ -1,6 +1,6 @@
 -- The texts that the program takes, and what it prints of others.
 use Rattle.std.specs.Prelude.{◌≡◌, ℕ, Bool, true, false, List}
-use Rattle.exit_output.specs.Outputs.{Output}
+use Rattle.outside.specs.Outputs.{Output}
 use Rattle.vo_spec.specs.Conditions.{Query}
 use Rattle.sql_text.specs.declared.faults.SqlFault.{SqlFault}
 use Rattle.sql_text.specs.declared.faults.SqlFault.TheVariants as fault

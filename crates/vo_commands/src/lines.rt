@@ -1,6 +1,6 @@
 //! Lines of text: words or columns, written at the end of what there is.
 ghost use Rattle.std.specs.Prelude.{◌≡◌, ◌∷◌, ◌++◌, map, flat_map, OnOk};
-ghost use Rattle.exit_output.specs.Outputs.{line};
+ghost use Rattle.outside.specs.Outputs.{line};
 ghost use Rattle.vo_commands.specs.Lines.{with_separator, words_line, columns_line};
 ghost use Rattle.vo_commands.specs.Words.{word_text};
 

@@ -1,12 +1,11 @@
 //! Output, in one piece, and the status that it ends with.
 ghost use Rattle.std.specs.Prelude.{◌≡◌, ◌⊎◌, Ok, Err};
 ghost use Rattle.outside.specs.FaultRose.{FaultRose};
-ghost use Rattle.exit_output.specs.Outputs.{Writes};
+ghost use Rattle.outside.specs.Outputs.{Writes};
 ghost use Rattle.vo_commands.specs.Reports.{WritesOutcome, output_of, FailsOutside};
 
 use crate::report::{Report, Stop};
-use exit_output::write_output;
-use outside::Sink;
+use outside::{Sink, write_output};
 
 /// Writes what a command came to.
 pub fn print_outcome<S: Sink>(out: &mut S, outcome: Result<Report, Stop>) -> u8

@@ -22,9 +22,9 @@ use Rattle.batch_format.proofs.BatchLaws.{u16_found, u16_read}
 use Rattle.version_record.proofs.RecordLaws.{words_read, whole_is}
 use Rattle.mb_tree.specs.declared.parts.PartTree.{PartTree}
 use Rattle.vo_format.specs.View.{trees_of}
-use Rattle.tree_readers.specs.TreeReading.{tree_at}
+use Rattle.batch_format.specs.TreeReading.{tree_at}
 use Rattle.vo_format.specs.Reading.{proofs_at, proofs_of}
-use Rattle.tree_readers.proofs.TreeLaws.{trees_read}
+use Rattle.batch_format.proofs.TreeLaws.{trees_read}
 
 abbrev so_many : ℕ × List ℕ → Option (List RowTree × List ℕ)
 so_many count = times (tree_at max_levels) count.0 count.1

@@ -13,7 +13,7 @@ use Rattle.row_bytes.proofs.Rounds.{times_step}
 use Rattle.mb_tree.specs.declared.parts.PartTree.{PartTree}
 use Rattle.mb_tree.specs.View.{part_of, parts_of}
 use Rattle.mb_tree.proofs.PartLaws.{count_parts_of}
-use Rattle.tree_readers.specs.TreeReading.{tree_at, node_at}
+use Rattle.batch_format.specs.TreeReading.{tree_at, node_at}
 
 pub bytes_parts_of : (ps : List PartTree) → trees_bytes_by row_encoding (parts_of ps) ≡ flat_map tree_bytes (map part_of ps)
 bytes_parts_of [] = refl

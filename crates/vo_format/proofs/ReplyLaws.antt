@@ -25,11 +25,11 @@ use Rattle.version_record.proofs.RecordLaws.{words_read, records_read, whole_is}
 use Rattle.version_record.proofs.CatalogLaws.{is_catalog, is_read}
 use Rattle.vo_format.specs.declared.reply.Reply.{Reply}
 use Rattle.vo_format.specs.View.{reply_of}
-use Rattle.tree_readers.specs.TreeReading.{tree_at}
+use Rattle.batch_format.specs.TreeReading.{tree_at}
 use Rattle.vo_format.specs.Reading.{signature_at, catalog_block_at, counted_trees_at, plain_reply, reply_at}
 use Rattle.vo_format.proofs.CatalogSizes.{catalog_is_short}
 use Rattle.vo_format.proofs.BlockLaws.{block_found, block_again}
-use Rattle.tree_readers.proofs.TreeLaws.{trees_read}
+use Rattle.batch_format.proofs.TreeLaws.{trees_read}
 
 -- Signatures.
 

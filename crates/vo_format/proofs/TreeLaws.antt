@@ -10,8 +10,8 @@ use Rattle.row_bytes.specs.declared.read_fault.ReadFault.{ReadFault}
 use Rattle.row_bytes.specs.Fields.{FoundOr}
 use Rattle.mb_tree.specs.declared.parts.PartTree.{PartTree}
 use Rattle.mb_tree.specs.View.{part_of}
-use Rattle.tree_readers.specs.TreeReading.{tree_at}
-use Rattle.tree_readers.proofs.TreeLaws.{trees_read}
+use Rattle.batch_format.specs.TreeReading.{tree_at}
+use Rattle.batch_format.proofs.TreeLaws.{trees_read}
 
 pub is_tree : (bytes rest : List ℕ) (r : Result PartTree ReadFault) → IsBytes bytes → FoundOr part_of r bytes rest (tree_at max_levels bytes)
     → IfOk r (λ tree. FitsTree (part_of tree) × (bytes ≡ tree_bytes (part_of tree) ++ rest))

@@ -11,7 +11,7 @@ use Rattle.row_bytes.specs.Reading.{byte_at, u16_at}
 use Rattle.row_bytes.specs.Fields.{◌>>=◌, where_true, block_at, word_at, times, whole}
 use Rattle.batch_format.specs.BatchReading.{Reader, two}
 use Rattle.version_record.specs.Reading.{record_at, catalog_at}
-use Rattle.tree_readers.specs.TreeReading.{tree_at}
+use Rattle.batch_format.specs.TreeReading.{tree_at}
 
 -- Replies.
 

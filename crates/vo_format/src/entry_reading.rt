@@ -5,7 +5,7 @@ ghost use Rattle.vo_spec.specs.declared.cells.RowPart.TheVariants.{Cells, Digest
 ghost use Rattle.row_bytes.specs.Reading.{bytes_at};
 ghost use Rattle.row_bytes.specs.Fields.{Found, FoundOr, times};
 ghost use Rattle.batch_format.specs.BatchReading.{any_value_at, one};
-ghost use Rattle.tree_readers.specs.TreeReading.{cell_at, cells_at, count_within, entry_at, key_at, part_entry, row_at};
+ghost use Rattle.batch_format.specs.TreeReading.{cell_at, cells_at, count_within, entry_at, key_at, part_entry, row_at};
 
 use row_bytes::{Cursor, ReadFault, take_value};
 use std::alloc::Global;
@@ -26,7 +26,7 @@ pub fn take_count(cursor: &mut Cursor<'_>, least: u8, most: u8) -> Option<u8>
 }
 
 /// The bytes of the key or separator that comes next.
-#[tactic(auto, unfolding(tree_readers::specs::TreeReading::key_at))]
+#[tactic(auto, unfolding(batch_format::specs::TreeReading::key_at))]
 pub fn take_key<'b>(cursor: &mut Cursor<'b>) -> Option<&'b [u8]>
     ensures { Found (λ key. key.now) result cursor.old cursor.new (key_at cursor.old) }
 {
@@ -69,7 +69,7 @@ fn push_shown<'b>(cursor: &mut Cursor<'b>, cells: &mut Vec<Cell<'b>>) -> Result<
 
 /// Puts the cell that comes next behind others. It is made where it stays: most of a reply is this.
 #[inline(always)]
-#[tactic(auto, unfolding(tree_readers::specs::TreeReading::cell_at, row_bytes::specs::Reading::byte_at))]
+#[tactic(auto, unfolding(batch_format::specs::TreeReading::cell_at, row_bytes::specs::Reading::byte_at))]
 fn push_cell<'b>(cursor: &mut Cursor<'b>, cells: &mut Vec<Cell<'b>>) -> Result<(), ReadFault>
     ensures { FoundOr (λ done. cells.new.items) result cursor.old cursor.new
         (one (λ cell. cells.old.items ++ cell ∷ []) cell_at cursor.old) }
@@ -127,7 +127,7 @@ fn push_closed<'b>(
 }
 
 /// Puts the entry of this key behind others, whose row's cells come next.
-#[tactic(auto, unfolding(tree_readers::specs::TreeReading::cells_at))]
+#[tactic(auto, unfolding(batch_format::specs::TreeReading::cells_at))]
 fn push_open<'b>(
     alloc: Global,
     cursor: &mut Cursor<'b>,
@@ -151,7 +151,7 @@ fn push_open<'b>(
 
 /// Puts the entry of this key behind others, whose row comes next.
 #[inline(always)]
-#[tactic(auto, unfolding(tree_readers::specs::TreeReading::row_at, row_bytes::specs::Reading::byte_at))]
+#[tactic(auto, unfolding(batch_format::specs::TreeReading::row_at, row_bytes::specs::Reading::byte_at))]
 fn push_row<'b>(
     alloc: Global,
     cursor: &mut Cursor<'b>,
@@ -174,7 +174,7 @@ fn push_row<'b>(
 /// Puts the entry that comes next behind others. One with a digest for its row is made where it
 /// stays: most entries of a join's reply are such.
 #[inline(always)]
-#[tactic(auto, unfolding(tree_readers::specs::TreeReading::entry_at))]
+#[tactic(auto, unfolding(batch_format::specs::TreeReading::entry_at))]
 pub fn push_entry<'b>(
     alloc: Global,
     cursor: &mut Cursor<'b>,

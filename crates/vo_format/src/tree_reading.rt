@@ -9,7 +9,7 @@ ghost use Rattle.row_bytes.specs.Reading.{bytes_at};
 ghost use Rattle.row_bytes.specs.Fields.{FoundOr, times};
 ghost use Rattle.batch_format.specs.BatchReading.{one};
 ghost use Rattle.mb_tree.specs.View.{part_of};
-ghost use Rattle.tree_readers.specs.TreeReading.{entry_at, inner_at, key_at, leaf_at, node_at, tree_at};
+ghost use Rattle.batch_format.specs.TreeReading.{entry_at, inner_at, key_at, leaf_at, node_at, tree_at};
 ghost use Rattle.vo_format.specs.View.{trees_of};
 
 use crate::entry_reading::{push_entry, take_count, take_key};
@@ -36,7 +36,7 @@ pub fn take_tree<'b>(alloc: Global, cursor: &mut Cursor<'b>) -> Result<PartTree<
 }
 
 /// The node that comes next, whose children have at most so many levels.
-#[tactic(auto, unfolding(tree_readers::specs::TreeReading::node_at, row_bytes::specs::Reading::byte_at))]
+#[tactic(auto, unfolding(batch_format::specs::TreeReading::node_at, row_bytes::specs::Reading::byte_at))]
 fn take_node<'b>(
     alloc: Global,
     cursor: &mut Cursor<'b>,
@@ -64,7 +64,7 @@ fn take_stub<'b>(cursor: &mut Cursor<'b>) -> Result<PartTree<'b>, ReadFault>
     Ok(PartTree::Stub(Digest::new(*digest)))
 }
 
-#[tactic(auto, unfolding(tree_readers::specs::TreeReading::leaf_at))]
+#[tactic(auto, unfolding(batch_format::specs::TreeReading::leaf_at))]
 fn take_leaf<'b>(alloc: Global, cursor: &mut Cursor<'b>) -> Result<PartTree<'b>, ReadFault>
     ensures { FoundOr part_of result cursor.old cursor.new (leaf_at cursor.old) }
 {
@@ -96,7 +96,7 @@ fn each_entry<'b>(
 }
 
 /// An inner node whose children have at most so many levels.
-#[tactic(auto, unfolding(tree_readers::specs::TreeReading::inner_at))]
+#[tactic(auto, unfolding(batch_format::specs::TreeReading::inner_at))]
 #[cycle(take_inner)]
 fn take_inner<'b>(
     alloc: Global,
@@ -180,7 +180,7 @@ fn push_child<'b>(
 /// Puts the node that comes next behind others, whose children have at most so many levels. A stub
 /// is made where it stays.
 #[inline(always)]
-#[tactic(auto, unfolding(tree_readers::specs::TreeReading::node_at, row_bytes::specs::Reading::byte_at))]
+#[tactic(auto, unfolding(batch_format::specs::TreeReading::node_at, row_bytes::specs::Reading::byte_at))]
 #[cycle(take_inner)]
 fn push_node<'b>(
     alloc: Global,

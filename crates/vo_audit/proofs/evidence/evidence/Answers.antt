@@ -8,7 +8,7 @@ use Rattle.vo_spec.specs.Honest.{catalog_of, trees_for}
 use Rattle.mb_tree.specs.declared.parts.PartTree.{PartTree}
 use Rattle.mb_tree.specs.View.{part_of}
 use Rattle.vo_format.specs.View.{reply_of}
-use Rattle.departures.specs.Evidence.{HasRoot}
+use Rattle.vo_audit.specs.Evidence.{HasRoot}
 use Rattle.vo_audit.specs.Auditing.{CollidesOr}
 use Rattle.vo_audit.specs.Showing.{AreHashedInOne}
 use Rattle.vo_audit.proofs.FindingLaws.{found_of_more, not_found, or_result}

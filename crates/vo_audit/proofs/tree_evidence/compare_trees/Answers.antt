@@ -6,7 +6,7 @@ use Rattle.vo_spec.specs.Checks.{tables_wanted}
 use Rattle.vo_spec.specs.Honest.{catalog_of, stored_tree, trees_for}
 use Rattle.mb_tree.specs.View.{part_of}
 use Rattle.root_laws.specs.Following.{PrunesTable}
-use Rattle.departures.specs.Evidence.{AreHashedIn, HasRoot}
+use Rattle.vo_audit.specs.Evidence.{AreHashedIn, HasRoot}
 use Rattle.vo_audit.specs.Showing.{AreHashedInOne}
 use Rattle.vo_audit.proofs.FindingLaws.{found_of_all, none_found}
 use Rattle.vo_audit.proofs.WantedLaws.{tree_here, tree_agrees, tree_shows, trees_done, table_pruned}

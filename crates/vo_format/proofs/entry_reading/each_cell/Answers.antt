@@ -1,7 +1,7 @@
 use Rattle.std.proofs.Common.{◌<◌, ◌∙◌, arith}
 use Rattle.std.specs.Global.{Vec}
 use Rattle.vo_spec.specs.declared.cells.Cell.{Cell}
-use Rattle.tree_readers.specs.TreeReading.{cell_at}
+use Rattle.batch_format.specs.TreeReading.{cell_at}
 use Rattle.vo_format.proofs.Pushing.{push_step, push_fails}
 use Rattle.vo_format.proofs.entry_reading.each_cell.Goals as goal
 

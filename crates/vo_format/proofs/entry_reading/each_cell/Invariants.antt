@@ -1,6 +1,6 @@
 use Rattle.std.proofs.Common.{◌≡◌, ◌-◌}
 use Rattle.row_bytes.specs.Fields.{times, with_front}
-use Rattle.tree_readers.specs.TreeReading.{cell_at}
+use Rattle.batch_format.specs.TreeReading.{cell_at}
 use Rattle.vo_format.proofs.entry_reading.each_cell.Given as goal
 
 -- those so far and those that are left are all of them

@@ -1,5 +1,5 @@
 use Rattle.std.proofs.Common.{◌≡◌, ◌<◌, refl, ◌∙◌, arith}
-use Rattle.tree_readers.specs.TreeReading.{tree_at}
+use Rattle.batch_format.specs.TreeReading.{tree_at}
 use Rattle.vo_format.specs.View.{trees_of}
 use Rattle.vo_format.proofs.Forms.{level_at, no_level}
 use Rattle.vo_format.proofs.Pushing.{push_step, push_fails}

@@ -1,6 +1,6 @@
 use Rattle.std.proofs.Common.{◌≡◌, ◌+◌, ◌-◌, ◌*◌}
 use Rattle.row_bytes.specs.Fields.{times, with_front}
-use Rattle.tree_readers.specs.TreeReading.{tree_at}
+use Rattle.batch_format.specs.TreeReading.{tree_at}
 use Rattle.vo_format.specs.View.{trees_of}
 use Rattle.vo_format.proofs.tree_reading.+take_inner.Given as goal
 

@@ -1,6 +1,6 @@
 use Rattle.std.proofs.Common.{◌≡◌, ◌-◌}
 use Rattle.row_bytes.specs.Fields.{times, with_front}
-use Rattle.tree_readers.specs.TreeReading.{entry_at}
+use Rattle.batch_format.specs.TreeReading.{entry_at}
 use Rattle.vo_format.proofs.tree_reading.each_entry.Given as goal
 
 -- those so far and those that are left are all of them

@@ -2,7 +2,7 @@ use Rattle.std.proofs.Common.{ℕ, ◌<◌, List, ◌∙◌, arith}
 use Rattle.std.specs.Global.{Vec}
 use Rattle.row_bytes.specs.declared.read_fault.ReadFault.TheVariants.{BadForm}
 use Rattle.row_bytes.proofs.Rounds.{times_step, times_fails}
-use Rattle.tree_readers.specs.TreeReading.{key_at}
+use Rattle.batch_format.specs.TreeReading.{key_at}
 use Rattle.vo_format.proofs.tree_reading.each_key.Goals as goal
 
 pub returns-in-None : goal.returns-in-None

@@ -2,7 +2,7 @@ use Rattle.std.proofs.Common.{◌<◌, arith}
 use Rattle.vo_spec.specs.Fits.{max_levels}
 use Rattle.mb_tree.specs.View.{part_of}
 use Rattle.row_bytes.proofs.Rounds.{times_fails}
-use Rattle.tree_readers.specs.TreeReading.{tree_at}
+use Rattle.batch_format.specs.TreeReading.{tree_at}
 use Rattle.vo_format.specs.View.{trees_of}
 use Rattle.vo_format.proofs.Forms.{one_more_tree}
 use Rattle.vo_format.proofs.tree_reading.take_trees.Goals as goal

@@ -1,7 +1,7 @@
 use Rattle.std.proofs.Common.{◌≡◌, ◌-◌}
 use Rattle.vo_spec.specs.Fits.{max_levels}
 use Rattle.row_bytes.specs.Fields.{times, with_front}
-use Rattle.tree_readers.specs.TreeReading.{tree_at}
+use Rattle.batch_format.specs.TreeReading.{tree_at}
 use Rattle.vo_format.specs.View.{trees_of}
 use Rattle.vo_format.proofs.tree_reading.take_trees.Given as goal
 

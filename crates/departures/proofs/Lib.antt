@@ -1,3 +1,0 @@
-mod DepartureLaws
-mod EvidenceLaws
-mod LeftCommands

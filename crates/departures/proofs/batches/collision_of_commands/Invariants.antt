@@ -1,9 +1,0 @@
-use Rattle.std.proofs.Common.{map, drop}
-use Rattle.mb_tree.specs.View.{part_of}
-use Rattle.departures.proofs.LeftCommands.{AreLeft}
-use Rattle.departures.proofs.batches.collision_of_commands.Given as goal
-
--- what shows of the commands that are left shows of all
-abbrev pub invariant-loop-command : goal.invariant-loop-command
-invariant-loop-command l =
-    AreLeft (drop l.command-index l.commands) (map part_of l.left) l.current l.commands (map part_of l.trees) l.tables

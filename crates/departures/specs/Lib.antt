@@ -1,2 +1,0 @@
-pub mod Departures
-pub mod Evidence
