@@ -16,8 +16,18 @@ STAGE = "8+12+13"
 # be signed by it.
 SEED = os.path.join(TOP, "tools/throwaway.seed")
 
+# The wrong bodies that the gate leaves out, in a folder for each crate that has some.
+SECOND_TIER = os.path.join(TOP, "wrong-bodies")
+
 # The independent implementation is the module `vo_ref` in this folder.
 REFERENCE = os.environ.get("VO_REFERENCE", os.path.join(TOP, "../shared/oracle"))
+
+
+def crates():
+    """The names of the crates, in the order of crates.txt."""
+    with open(os.path.join(TOP, "crates.txt"), encoding="utf-8") as file:
+        lines = [line for line in file.read().splitlines() if line and not line.startswith("#")]
+    return [line.split(":")[0].split()[0] for line in lines]
 
 
 def crate(name):
