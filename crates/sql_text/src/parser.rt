@@ -69,7 +69,6 @@ impl<'a> Parser<'a> {
     }
 
     /// The value that was read, with a token of this kind behind it.
-    #[tactic(auto, using(crate::proofs::Closing::taken_first))]
     pub fn then_expect<T: Drop>(&mut self, found: T, kind: TokenKind) -> Result<T, ParseError>
         ensures value { Reads {B = T} (λ x. first_of (left_of self.old))
             (token kind) self.old result self.new }
