@@ -5,6 +5,7 @@ use Rattle.row_bytes.specs.declared.read_fault.ReadFault.TheVariants.{BadForm, M
 use Rattle.row_bytes.specs.Fields.{◌>>=◌, times, with_front, FoundOr}
 use Rattle.row_bytes.proofs.Rounds.{times_step, times_fails}
 use Rattle.batch_format.specs.BatchReading.{one}
+use Rattle.vo_format.specs.Taking.{TakesOr}
 
 -- what was read, behind others
 abbrev put : {A : Type 0} → List A → A × List ℕ → List A × List ℕ
@@ -34,11 +35,22 @@ module _ {A : Type 0} (read : List ℕ → Option (A × List ℕ)) where
   none_read front None e = refl
   none_read front (Some x) e = cc
 
-  -- one of them that isn't read stops them all, and nothing was taken
+  -- one of them that isn't read stops them all
+  pub stops : (front : List A) (count counter : ℕ) (bytes : List ℕ) (all : Option (List A × List ℕ)) → counter < count
+      → read bytes ≡ None → with_front front (times read (count - counter) bytes) ≡ all → all ≡ None
+  stops front count counter bytes all lt none is =
+      (times_fails read {X = A} (λ x. x) (λ (xs : List A). xs) BadForm front count counter bytes bytes bytes all lt (none, refl) is).0
+
   pub push_fails : {X Y : Type 0} (view : X → List A) (views : Y → List A) (fault : ReadFault) (front : List A)
-      (count counter : ℕ) (bytes left start : List ℕ) (all : Option (List A × List ℕ)) → counter < count
-      → FoundOr view (Err fault) bytes left (one (λ x. front ++ x ∷ []) read bytes)
-      → with_front front (times read (count - counter) bytes) ≡ all → FoundOr views (Err fault) start start all
-  push_fails view views BadForm front count counter bytes left start all lt e is =
-      times_fails read {X = A} (λ x. x) views BadForm front count counter bytes left start all lt (none_read front (read bytes) e.0, e.1) is
-  push_fails view views Memory front count counter bytes left start all lt e is = refl
+      (count counter : ℕ) (bytes left end : List ℕ) (all : Option (List A × List ℕ)) → counter < count
+      → TakesOr view (Err fault) left (one (λ x. front ++ x ∷ []) read bytes)
+      → with_front front (times read (count - counter) bytes) ≡ all → TakesOr views (Err fault) end all
+  push_fails view views BadForm front count counter bytes left end all lt e is =
+      stops front count counter bytes all lt (none_read front (read bytes) e) is
+  push_fails view views Memory front count counter bytes left end all lt e is = tt
+
+-- where nothing was taken, no matter what is left
+pub no_matter_left : {X A : Type 0} (view : X → A) (fault : ReadFault) (old left : List ℕ) (all : Option (A × List ℕ))
+    → FoundOr view (Err fault) old old all → TakesOr view (Err fault) left all
+no_matter_left view BadForm old left all is = is.0
+no_matter_left view Memory old left all is = tt

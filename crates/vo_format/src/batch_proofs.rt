@@ -3,10 +3,11 @@ ghost use Rattle.std.specs.Prelude.{◌≡◌, ◌++◌, List, Some, IfOk, OnOk,
 ghost use Rattle.vo_spec.specs.Bytes.{u16_bytes};
 ghost use Rattle.vo_spec.specs.Trees.{RowTree};
 ghost use Rattle.vo_spec.specs.Replies.{AreProofs, FitsProofs, proofs_bytes};
-ghost use Rattle.row_bytes.specs.Fields.{FoundOr, ReadsAs};
+ghost use Rattle.row_bytes.specs.Fields.{ReadsAs};
 ghost use Rattle.row_bytes.specs.declared.read_fault.ReadFault.TheVariants.{BadForm};
 ghost use Rattle.mb_tree.specs.View.{part_of};
 ghost use Rattle.vo_format.specs.Reading.{proofs_at, proofs_of};
+ghost use Rattle.vo_format.specs.Taking.{TakesOr};
 ghost use Rattle.vo_format.specs.View.{trees_of};
 ghost use Rattle.batch_format.specs.Writing.{StaysInFront};
 
@@ -19,17 +20,18 @@ use vo_spec::{MAX_COMMANDS, MAX_PROOFS, u16_bytes};
 
 #[tactic(auto, unfolding(crate::specs::Reading::proofs_at))]
 fn take_proofs<'b>(alloc: Global, cursor: &mut Cursor<'b>) -> Result<Vec<PartTree<'b>>, ReadFault>
-    ensures { FoundOr trees_of result cursor.old cursor.new (proofs_at cursor.old) }
+    ensures { TakesOr trees_of result cursor.new (proofs_at cursor.old) }
 {
-    let mut ahead = cursor.copy();
-    ahead.take_word(b"VOU1").ok_or(ReadFault::BadForm)?;
-    let count = ahead.take_u16().ok_or(ReadFault::BadForm)?;
+    let Some(_) = cursor.take_word(b"VOU1") else {
+        return Err(ReadFault::BadForm);
+    };
+    let Some(count) = cursor.take_u16() else {
+        return Err(ReadFault::BadForm);
+    };
     if usize::from(count) > MAX_COMMANDS {
         return Err(ReadFault::BadForm);
     }
-    let trees = take_trees(alloc, &mut ahead, count)?;
-    *cursor = ahead;
-    Ok(trees)
+    take_trees(alloc, cursor, count)
 }
 
 #[tactic(auto, unfolding(crate::specs::Reading::proofs_of))]
@@ -41,11 +43,7 @@ fn proofs_in<'b>(alloc: Global, bytes: &'b [u8]) -> Result<Vec<PartTree<'b>>, Re
     }
     let mut cursor = Cursor::new(bytes);
     let trees = take_proofs(alloc, &mut cursor)?;
-    if cursor.is_empty() {
-        Ok(trees)
-    } else {
-        Err(ReadFault::BadForm)
-    }
+    cursor.is_empty().then_some(trees).ok_or(ReadFault::BadForm)
 }
 
 /// The proofs that all the bytes are.

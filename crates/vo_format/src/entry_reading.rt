@@ -1,11 +1,13 @@
-//! Reading the entries of leaves: keys, and rows as a digest or as cells.
+//! Reading the entries of leaves: keys, and rows as a digest or as cells. A call that fails may have
+//! taken anything: what is read of a tree goes ahead on a copy as a whole.
 ghost use Rattle.std.specs.Prelude.{[], ◌∷◌, ◌++◌};
 ghost use Rattle.vo_spec.specs.declared.cells.Cell.TheVariants.{Hidden, Shown};
 ghost use Rattle.vo_spec.specs.declared.cells.RowPart.TheVariants.{Cells, Digest as Closed};
 ghost use Rattle.row_bytes.specs.Reading.{bytes_at};
-ghost use Rattle.row_bytes.specs.Fields.{Found, FoundOr, times};
+ghost use Rattle.row_bytes.specs.Fields.{times};
 ghost use Rattle.batch_format.specs.BatchReading.{any_value_at, one};
 ghost use Rattle.batch_format.specs.TreeReading.{cell_at, cells_at, count_within, entry_at, key_at, part_entry, row_at};
+ghost use Rattle.vo_format.specs.Taking.{Takes, TakesOr};
 
 use row_bytes::{Cursor, ReadFault, take_value};
 use std::alloc::Global;
@@ -13,57 +15,50 @@ use vo_spec::{Cell, CellValue, Digest, KeyPart, List, MAX_CELLS, MAX_KEY, PartEn
 
 /// How many things come next, within these limits.
 pub fn take_count(cursor: &mut Cursor<'_>, least: u8, most: u8) -> Option<u8>
-    ensures { Found (λ count. count) result cursor.old cursor.new
-        (count_within least most cursor.old) }
+    ensures { Takes (λ count. count) result cursor.new (count_within least most cursor.old) }
 {
-    let mut ahead = cursor.copy();
-    let count = ahead.take_byte()?;
+    let count = cursor.take_byte()?;
     if count < least || most < count {
         return None;
     }
-    *cursor = ahead;
     Some(count)
 }
 
 /// The bytes of the key or separator that comes next.
 #[tactic(auto, unfolding(batch_format::specs::TreeReading::key_at))]
 pub fn take_key<'b>(cursor: &mut Cursor<'b>) -> Option<&'b [u8]>
-    ensures { Found (λ key. key.now) result cursor.old cursor.new (key_at cursor.old) }
+    ensures { Takes (λ key. key.now) result cursor.new (key_at cursor.old) }
 {
-    let mut ahead = cursor.copy();
-    let key = ahead.take_string()?;
+    let key = cursor.take_string()?;
     if key.len() > MAX_KEY {
         return None;
     }
-    *cursor = ahead;
     Some(key)
 }
 
 /// Puts the cell behind others whose digest comes next.
 #[inline(always)]
 fn push_hidden<'b>(cursor: &mut Cursor<'b>, cells: &mut Vec<Cell<'b>>) -> Result<(), ReadFault>
-    ensures { FoundOr (λ done. cells.new.items) result cursor.old cursor.new
+    ensures { TakesOr (λ done. cells.new.items) result cursor.new
         (one (λ digest. cells.old.items ++ Hidden digest ∷ []) (bytes_at 32) cursor.old) }
 {
-    let mut ahead = cursor.copy();
-    let digest = ahead.take_chunk::<32>().ok_or(ReadFault::BadForm)?;
+    let Some(digest) = cursor.take_chunk::<32>() else {
+        return Err(ReadFault::BadForm);
+    };
     cells.push(Cell::Hidden(Digest::new(*digest)))?;
-    *cursor = ahead;
     Ok(())
 }
 
 /// Puts the cell behind others whose value comes next.
 #[tactic(auto, unfolding(batch_format::specs::BatchReading::any_value_at))]
 fn push_shown<'b>(cursor: &mut Cursor<'b>, cells: &mut Vec<Cell<'b>>) -> Result<(), ReadFault>
-    ensures { FoundOr (λ done. cells.new.items) result cursor.old cursor.new
+    ensures { TakesOr (λ done. cells.new.items) result cursor.new
         (one (λ value. cells.old.items ++ Shown value ∷ []) any_value_at cursor.old) }
 {
-    let mut ahead = cursor.copy();
-    match take_value(&mut ahead) {
-        Ok(value) => cells.push(Cell::Shown(CellValue::lent(value)))?,
-        Err(_) => return Err(ReadFault::BadForm),
-    }
-    *cursor = ahead;
+    let Ok(value) = take_value(cursor) else {
+        return Err(ReadFault::BadForm);
+    };
+    cells.push(Cell::Shown(CellValue::lent(value)))?;
     Ok(())
 }
 
@@ -71,17 +66,14 @@ fn push_shown<'b>(cursor: &mut Cursor<'b>, cells: &mut Vec<Cell<'b>>) -> Result<
 #[inline(always)]
 #[tactic(auto, unfolding(batch_format::specs::TreeReading::cell_at, row_bytes::specs::Reading::byte_at))]
 fn push_cell<'b>(cursor: &mut Cursor<'b>, cells: &mut Vec<Cell<'b>>) -> Result<(), ReadFault>
-    ensures { FoundOr (λ done. cells.new.items) result cursor.old cursor.new
+    ensures { TakesOr (λ done. cells.new.items) result cursor.new
         (one (λ cell. cells.old.items ++ cell ∷ []) cell_at cursor.old) }
 {
-    let mut ahead = cursor.copy();
-    match ahead.take_byte() {
-        Some(0) => push_hidden(&mut ahead, cells)?,
-        Some(1) => push_shown(&mut ahead, cells)?,
-        _ => return Err(ReadFault::BadForm),
+    match cursor.take_byte() {
+        Some(0) => push_hidden(cursor, cells),
+        Some(1) => push_shown(cursor, cells),
+        _ => Err(ReadFault::BadForm),
     }
-    *cursor = ahead;
-    Ok(())
 }
 
 fn each_cell<'b>(
@@ -89,18 +81,16 @@ fn each_cell<'b>(
     cursor: &mut Cursor<'b>,
     count: u8,
 ) -> Result<Vec<Cell<'b>>, ReadFault>
-    ensures { FoundOr (λ cells. cells.items) result cursor.old cursor.new
+    ensures { TakesOr (λ cells. cells.items) result cursor.new
         (times cell_at count cursor.old) }
 {
-    let mut ahead = cursor.copy();
     let mut cells = Vec::with_capacity(alloc, usize::from(count))?;
     for _ in 0..count {
-        match push_cell(&mut ahead, &mut cells) {
+        match push_cell(cursor, &mut cells) {
             Ok(()) => {}
             Err(fault) => return Err(fault),
         }
     }
-    *cursor = ahead;
     Ok(cells)
 }
 
@@ -112,17 +102,17 @@ fn push_closed<'b>(
     key: &'b [u8],
     entries: &mut Vec<PartEntry<'b>>,
 ) -> Result<(), ReadFault>
-    ensures { FoundOr (λ done. entries.new.items) result cursor.old cursor.new
+    ensures { TakesOr (λ done. entries.new.items) result cursor.new
         (one (λ digest. entries.old.items ++ part_entry key.now (Closed digest) ∷ [])
         (bytes_at 32) cursor.old) }
 {
-    let mut ahead = cursor.copy();
-    let digest = ahead.take_chunk::<32>().ok_or(ReadFault::BadForm)?;
+    let Some(digest) = cursor.take_chunk::<32>() else {
+        return Err(ReadFault::BadForm);
+    };
     entries.push(PartEntry {
         key: KeyPart::lent(key),
         row: RowPart::Digest(Digest::new(*digest)),
     })?;
-    *cursor = ahead;
     Ok(())
 }
 
@@ -134,19 +124,20 @@ fn push_open<'b>(
     key: &'b [u8],
     entries: &mut Vec<PartEntry<'b>>,
 ) -> Result<(), ReadFault>
-    ensures { FoundOr (λ done. entries.new.items) result cursor.old cursor.new
+    ensures { TakesOr (λ done. entries.new.items) result cursor.new
         (one (λ cells. entries.old.items ++ part_entry key.now (Cells cells) ∷ [])
         cells_at cursor.old) }
 {
-    let mut ahead = cursor.copy();
-    let count = take_count(&mut ahead, 0, MAX_CELLS as u8).ok_or(ReadFault::BadForm)?;
-    let cells = each_cell(alloc, &mut ahead, count)?;
-    entries.push(PartEntry {
-        key: KeyPart::lent(key),
-        row: RowPart::Cells(List::from_vec(cells)),
-    })?;
-    *cursor = ahead;
-    Ok(())
+    let Some(count) = take_count(cursor, 0, MAX_CELLS as u8) else {
+        return Err(ReadFault::BadForm);
+    };
+    match each_cell(alloc, cursor, count) {
+        Ok(cells) => Ok(entries.push(PartEntry {
+            key: KeyPart::lent(key),
+            row: RowPart::Cells(List::from_vec(cells)),
+        })?),
+        Err(fault) => Err(fault),
+    }
 }
 
 /// Puts the entry of this key behind others, whose row comes next.
@@ -158,17 +149,14 @@ fn push_row<'b>(
     key: &'b [u8],
     entries: &mut Vec<PartEntry<'b>>,
 ) -> Result<(), ReadFault>
-    ensures { FoundOr (λ done. entries.new.items) result cursor.old cursor.new
+    ensures { TakesOr (λ done. entries.new.items) result cursor.new
         (one (λ row. entries.old.items ++ part_entry key.now row ∷ []) row_at cursor.old) }
 {
-    let mut ahead = cursor.copy();
-    match ahead.take_byte() {
-        Some(0) => push_closed(&mut ahead, key, entries)?,
-        Some(1) => push_open(alloc, &mut ahead, key, entries)?,
-        _ => return Err(ReadFault::BadForm),
+    match cursor.take_byte() {
+        Some(0) => push_closed(cursor, key, entries),
+        Some(1) => push_open(alloc, cursor, key, entries),
+        _ => Err(ReadFault::BadForm),
     }
-    *cursor = ahead;
-    Ok(())
 }
 
 /// Puts the entry that comes next behind others. One with a digest for its row is made where it
@@ -180,12 +168,11 @@ pub fn push_entry<'b>(
     cursor: &mut Cursor<'b>,
     entries: &mut Vec<PartEntry<'b>>,
 ) -> Result<(), ReadFault>
-    ensures { FoundOr (λ done. entries.new.items) result cursor.old cursor.new
+    ensures { TakesOr (λ done. entries.new.items) result cursor.new
         (one (λ entry. entries.old.items ++ entry ∷ []) entry_at cursor.old) }
 {
-    let mut ahead = cursor.copy();
-    let key = take_key(&mut ahead).ok_or(ReadFault::BadForm)?;
-    push_row(alloc, &mut ahead, key, entries)?;
-    *cursor = ahead;
-    Ok(())
+    match take_key(cursor) {
+        Some(key) => push_row(alloc, cursor, key, entries),
+        None => Err(ReadFault::BadForm),
+    }
 }

@@ -1,9 +1,10 @@
 //! Reading replies.
 ghost use Rattle.std.specs.Prelude.{◌≡◌, Some, IfOk, Err};
 ghost use Rattle.vo_spec.specs.Replies.{IsReply, IsNoReply, Reply as Plain};
-ghost use Rattle.row_bytes.specs.Fields.{Found, FoundOr, ReadsAs, whole};
+ghost use Rattle.row_bytes.specs.Fields.{ReadsAs, whole};
 ghost use Rattle.row_bytes.specs.declared.read_fault.ReadFault.TheVariants.{BadForm};
 ghost use Rattle.vo_format.specs.Reading.{signature_at, catalog_block_at, counted_trees_at, reply_at};
+ghost use Rattle.vo_format.specs.Taking.{Takes, TakesOr};
 ghost use Rattle.vo_format.specs.View.{reply_of, trees_of};
 
 use crate::reply::Reply;
@@ -16,29 +17,24 @@ use vo_spec::{Catalog, MAX_SIGNATURE};
 
 #[tactic(auto, unfolding(crate::specs::Reading::signature_at))]
 fn take_signature<'b>(cursor: &mut Cursor<'b>) -> Option<&'b [u8]>
-    ensures { Found (λ signature. signature.now) result cursor.old cursor.new
-        (signature_at cursor.old) }
+    ensures { Takes (λ signature. signature.now) result cursor.new (signature_at cursor.old) }
 {
-    let mut ahead = cursor.copy();
-    let signature = ahead.take_block()?;
+    let signature = cursor.take_block()?;
     if signature.len() > MAX_SIGNATURE {
         return None;
     }
-    *cursor = ahead;
     Some(signature)
 }
 
 /// The catalog behind its length. Nothing is left over inside.
 #[tactic(auto, unfolding(crate::specs::Reading::catalog_block_at))]
 fn take_catalog_block(alloc: Global, cursor: &mut Cursor<'_>) -> Result<Catalog, ReadFault>
-    ensures { FoundOr (λ catalog. catalog) result cursor.old cursor.new
-        (catalog_block_at cursor.old) }
+    ensures { TakesOr (λ catalog. catalog) result cursor.new (catalog_block_at cursor.old) }
 {
-    let mut ahead = cursor.copy();
-    let block = ahead.take_block().ok_or(ReadFault::BadForm)?;
-    let catalog = catalog_in(alloc, block)?;
-    *cursor = ahead;
-    Ok(catalog)
+    match cursor.take_block() {
+        Some(block) => catalog_in(alloc, block),
+        None => Err(ReadFault::BadForm),
+    }
 }
 
 #[tactic(auto, unfolding(crate::specs::Reading::counted_trees_at))]
@@ -46,26 +42,29 @@ fn take_counted_trees<'b>(
     alloc: Global,
     cursor: &mut Cursor<'b>,
 ) -> Result<Vec<PartTree<'b>>, ReadFault>
-    ensures { FoundOr trees_of result cursor.old cursor.new (counted_trees_at cursor.old) }
+    ensures { TakesOr trees_of result cursor.new (counted_trees_at cursor.old) }
 {
-    let mut ahead = cursor.copy();
-    let count = ahead.take_byte().ok_or(ReadFault::BadForm)?;
-    let trees = take_trees(alloc, &mut ahead, u16::from(count))?;
-    *cursor = ahead;
-    Ok(trees)
+    match cursor.take_byte() {
+        Some(count) => take_trees(alloc, cursor, u16::from(count)),
+        None => Err(ReadFault::BadForm),
+    }
 }
 
 #[tactic(auto, unfolding(crate::specs::Reading::reply_at))]
 fn take_reply<'b>(alloc: Global, cursor: &mut Cursor<'b>) -> Result<Reply<'b>, ReadFault>
-    ensures { FoundOr reply_of result cursor.old cursor.new (reply_at cursor.old) }
+    ensures { TakesOr reply_of result cursor.new (reply_at cursor.old) }
 {
-    let mut ahead = cursor.copy();
-    ahead.take_word(b"VOR1").ok_or(ReadFault::BadForm)?;
-    let rec = take_record(&mut ahead).ok_or(ReadFault::BadForm)?;
-    let signature = take_signature(&mut ahead).ok_or(ReadFault::BadForm)?;
-    let catalog = take_catalog_block(alloc, &mut ahead)?;
-    let trees = take_counted_trees(alloc, &mut ahead)?;
-    *cursor = ahead;
+    let Some(_) = cursor.take_word(b"VOR1") else {
+        return Err(ReadFault::BadForm);
+    };
+    let Some(rec) = take_record(cursor) else {
+        return Err(ReadFault::BadForm);
+    };
+    let Some(signature) = take_signature(cursor) else {
+        return Err(ReadFault::BadForm);
+    };
+    let catalog = take_catalog_block(alloc, cursor)?;
+    let trees = take_counted_trees(alloc, cursor)?;
     Ok(Reply {
         rec,
         signature,
@@ -79,11 +78,7 @@ fn reply_in<'b>(alloc: Global, bytes: &'b [u8]) -> Result<Reply<'b>, ReadFault>
 {
     let mut cursor = Cursor::new(bytes);
     let reply = take_reply(alloc, &mut cursor)?;
-    if cursor.is_empty() {
-        Ok(reply)
-    } else {
-        Err(ReadFault::BadForm)
-    }
+    cursor.is_empty().then_some(reply).ok_or(ReadFault::BadForm)
 }
 
 /// The reply that all the bytes are.

@@ -29,17 +29,26 @@ fn put_catalog_block(alloc: Global, out: &mut Vec<u8>, catalog: &Catalog) -> Res
     put_block(out, &bytes)
 }
 
-/// The one spelling of a reply.
+/// Puts a reply at the end.
 #[tactic(auto, unfolding(vo_spec::specs::Replies::reply_bytes))]
+fn put_reply(alloc: Global, out: &mut Vec<u8>, reply: &Reply<'_>) -> Result<(), AllocError>
+    requires { FitsReply (reply_of reply.now) }
+    ensures { OnOk result (out.new.items ≡ out.old.items ++ reply_bytes (reply_of reply.now)) }
+{
+    out.extend_from_slice(b"VOR1")?;
+    out.extend_from_slice(&record_bytes(&reply.rec))?;
+    put_block(out, reply.signature)?;
+    put_catalog_block(alloc, out, &reply.catalog)?;
+    out.push(reply.trees.len() as u8)?;
+    put_trees(out, &reply.trees)
+}
+
+/// The one spelling of a reply.
 pub fn write_reply(alloc: Global, reply: &Reply<'_>) -> Result<Vec<u8>, AllocError>
     requires { FitsReply (reply_of reply.now) }
     ensures { IfOk result (λ bytes. bytes.items ≡ reply_bytes (reply_of reply.now)) }
 {
-    let mut out = Vec::from_slice(alloc, b"VOR1")?;
-    out.extend_from_slice(&record_bytes(&reply.rec))?;
-    put_block(&mut out, reply.signature)?;
-    put_catalog_block(alloc, &mut out, &reply.catalog)?;
-    out.push(reply.trees.len() as u8)?;
-    put_trees(&mut out, &reply.trees)?;
+    let mut out = Vec::new(alloc);
+    put_reply(alloc, &mut out, reply)?;
     Ok(out)
 }

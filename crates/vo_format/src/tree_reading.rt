@@ -10,6 +10,7 @@ ghost use Rattle.row_bytes.specs.Fields.{FoundOr, times};
 ghost use Rattle.batch_format.specs.BatchReading.{one};
 ghost use Rattle.mb_tree.specs.View.{part_of};
 ghost use Rattle.batch_format.specs.TreeReading.{entry_at, inner_at, key_at, leaf_at, node_at, tree_at};
+ghost use Rattle.vo_format.specs.Taking.{TakesOr};
 ghost use Rattle.vo_format.specs.View.{trees_of};
 
 use crate::entry_reading::{push_entry, take_count, take_key};
@@ -32,12 +33,12 @@ pub fn take_tree<'b>(alloc: Global, cursor: &mut Cursor<'b>) -> Result<PartTree<
     // What reading gives, unless memory runs out.
     ensures exact { FoundOr part_of result cursor.old cursor.new (tree_at max_levels cursor.old) }
 {
-    take_node(alloc, cursor, MAX_LEVELS as u8 - 1)
+    take_root(alloc, cursor, MAX_LEVELS as u8 - 1)
 }
 
-/// The node that comes next, whose children have at most so many levels.
-#[tactic(auto, unfolding(batch_format::specs::TreeReading::node_at, row_bytes::specs::Reading::byte_at))]
-fn take_node<'b>(
+/// The node that comes next, whose children have at most so many levels. It is taken whole, or
+/// nothing is; what is called from here on may have taken anything where it fails.
+fn take_root<'b>(
     alloc: Global,
     cursor: &mut Cursor<'b>,
     levels: u8,
@@ -47,32 +48,51 @@ fn take_node<'b>(
     ensures bytes { IsBytes cursor.old }
 {
     let mut ahead = cursor.copy();
-    let node = match ahead.take_byte() {
-        Some(0) => take_stub(&mut ahead)?,
-        Some(1) => take_leaf(alloc, &mut ahead)?,
-        Some(2) => take_inner(alloc, &mut ahead, levels)?,
-        _ => return Err(ReadFault::BadForm),
+    let node = match take_node(alloc, &mut ahead, levels) {
+        Ok(node) => node,
+        Err(fault) => return Err(fault),
     };
     *cursor = ahead;
     Ok(node)
 }
 
-fn take_stub<'b>(cursor: &mut Cursor<'b>) -> Result<PartTree<'b>, ReadFault>
-    ensures { FoundOr part_of result cursor.old cursor.new (one stub (bytes_at 32) cursor.old) }
+/// The node that comes next, whose children have at most so many levels.
+#[tactic(auto, unfolding(batch_format::specs::TreeReading::node_at, row_bytes::specs::Reading::byte_at))]
+fn take_node<'b>(
+    alloc: Global,
+    cursor: &mut Cursor<'b>,
+    levels: u8,
+) -> Result<PartTree<'b>, ReadFault>
+    ensures { TakesOr part_of result cursor.new (node_at (tree_at levels) cursor.old) }
 {
-    let digest = cursor.take_chunk::<32>().ok_or(ReadFault::BadForm)?;
-    Ok(PartTree::Stub(Digest::new(*digest)))
+    match cursor.take_byte() {
+        Some(0) => take_stub(cursor),
+        Some(1) => take_leaf(alloc, cursor),
+        Some(2) => take_inner(alloc, cursor, levels),
+        _ => Err(ReadFault::BadForm),
+    }
+}
+
+fn take_stub<'b>(cursor: &mut Cursor<'b>) -> Result<PartTree<'b>, ReadFault>
+    ensures { TakesOr part_of result cursor.new (one stub (bytes_at 32) cursor.old) }
+{
+    match cursor.take_chunk::<32>() {
+        Some(digest) => Ok(PartTree::Stub(Digest::new(*digest))),
+        None => Err(ReadFault::BadForm),
+    }
 }
 
 #[tactic(auto, unfolding(batch_format::specs::TreeReading::leaf_at))]
 fn take_leaf<'b>(alloc: Global, cursor: &mut Cursor<'b>) -> Result<PartTree<'b>, ReadFault>
-    ensures { FoundOr part_of result cursor.old cursor.new (leaf_at cursor.old) }
+    ensures { TakesOr part_of result cursor.new (leaf_at cursor.old) }
 {
-    let mut ahead = cursor.copy();
-    let count = take_count(&mut ahead, 0, MAX_FILL as u8).ok_or(ReadFault::BadForm)?;
-    let entries = each_entry(alloc, &mut ahead, count)?;
-    *cursor = ahead;
-    Ok(PartTree::Leaf(List::from_vec(entries)))
+    let Some(count) = take_count(cursor, 0, MAX_FILL as u8) else {
+        return Err(ReadFault::BadForm);
+    };
+    match each_entry(alloc, cursor, count) {
+        Ok(entries) => Ok(PartTree::Leaf(List::from_vec(entries))),
+        Err(fault) => Err(fault),
+    }
 }
 
 fn each_entry<'b>(
@@ -80,18 +100,16 @@ fn each_entry<'b>(
     cursor: &mut Cursor<'b>,
     count: u8,
 ) -> Result<Vec<PartEntry<'b>>, ReadFault>
-    ensures { FoundOr (λ entries. entries.items) result cursor.old cursor.new
+    ensures { TakesOr (λ entries. entries.items) result cursor.new
         (times entry_at count cursor.old) }
 {
-    let mut ahead = cursor.copy();
     let mut entries = Vec::with_capacity(alloc, usize::from(count))?;
     for _ in 0..count {
-        match push_entry(alloc, &mut ahead, &mut entries) {
+        match push_entry(alloc, cursor, &mut entries) {
             Ok(()) => {}
             Err(fault) => return Err(fault),
         }
     }
-    *cursor = ahead;
     Ok(entries)
 }
 
@@ -103,16 +121,16 @@ fn take_inner<'b>(
     cursor: &mut Cursor<'b>,
     levels: u8,
 ) -> Result<PartTree<'b>, ReadFault>
-    ensures { FoundOr part_of result cursor.old cursor.new (inner_at (tree_at levels) cursor.old) }
+    ensures { TakesOr part_of result cursor.new (inner_at (tree_at levels) cursor.old) }
 {
-    let mut ahead = cursor.copy();
-    let count = take_count(&mut ahead, 2, MAX_FILL as u8).ok_or(ReadFault::BadForm)?;
-    let separators = List::from_vec(each_key(alloc, &mut ahead, count - 1)?);
-    let children = Children::from_vec(each_child(alloc, &mut ahead, levels, count)?);
-    *cursor = ahead;
+    let Some(count) = take_count(cursor, 2, MAX_FILL as u8) else {
+        return Err(ReadFault::BadForm);
+    };
+    let separators = each_key(alloc, cursor, count - 1)?;
+    let children = each_child(alloc, cursor, levels, count)?;
     Ok(PartTree::Inner {
-        separators,
-        children,
+        separators: List::from_vec(separators),
+        children: Children::from_vec(children),
     })
 }
 
@@ -121,18 +139,15 @@ fn each_key<'b>(
     cursor: &mut Cursor<'b>,
     count: u8,
 ) -> Result<Vec<KeyPart<'b>>, ReadFault>
-    ensures { FoundOr (λ keys. keys.items) result cursor.old cursor.new
-        (times key_at count cursor.old) }
+    ensures { TakesOr (λ keys. keys.items) result cursor.new (times key_at count cursor.old) }
 {
-    let mut ahead = cursor.copy();
     let mut keys = Vec::with_capacity(alloc, usize::from(count))?;
     for _ in 0..count {
-        match take_key(&mut ahead) {
+        match take_key(cursor) {
             Some(key) => keys.push(KeyPart::lent(key))?,
             None => return Err(ReadFault::BadForm),
         }
     }
-    *cursor = ahead;
     Ok(keys)
 }
 
@@ -143,18 +158,15 @@ fn each_child<'b>(
     levels: u8,
     count: u8,
 ) -> Result<Vec<PartTree<'b>>, ReadFault>
-    ensures { FoundOr trees_of result cursor.old cursor.new
-        (times (tree_at levels) count cursor.old) }
+    ensures { TakesOr trees_of result cursor.new (times (tree_at levels) count cursor.old) }
 {
-    let mut ahead = cursor.copy();
     let mut children = Vec::with_capacity(alloc, usize::from(count))?;
     for _ in 0..count {
-        match push_child(alloc, &mut ahead, levels, &mut children) {
+        match push_child(alloc, cursor, levels, &mut children) {
             Ok(()) => {}
             Err(fault) => return Err(fault),
         }
     }
-    *cursor = ahead;
     Ok(children)
 }
 
@@ -168,7 +180,7 @@ fn push_child<'b>(
     levels: u8,
     children: &mut Vec<PartTree<'b>>,
 ) -> Result<(), ReadFault>
-    ensures { FoundOr (λ done. trees_of children.new) result cursor.old cursor.new
+    ensures { TakesOr (λ done. trees_of children.new) result cursor.new
         (one (λ child. trees_of children.old ++ child ∷ []) (tree_at levels) cursor.old) }
 {
     if levels == 0 {
@@ -188,50 +200,44 @@ fn push_node<'b>(
     levels: u8,
     nodes: &mut Vec<PartTree<'b>>,
 ) -> Result<(), ReadFault>
-    ensures { FoundOr (λ done. trees_of nodes.new) result cursor.old cursor.new
+    ensures { TakesOr (λ done. trees_of nodes.new) result cursor.new
         (one (λ node. trees_of nodes.old ++ node ∷ []) (node_at (tree_at levels)) cursor.old) }
 {
-    let mut ahead = cursor.copy();
-    match ahead.take_byte() {
-        Some(0) => push_stub(&mut ahead, nodes)?,
-        Some(1) => nodes.push(take_leaf(alloc, &mut ahead)?)?,
-        Some(2) => nodes.push(take_inner(alloc, &mut ahead, levels)?)?,
-        _ => return Err(ReadFault::BadForm),
+    match cursor.take_byte() {
+        Some(0) => push_stub(cursor, nodes),
+        Some(1) => Ok(nodes.push(take_leaf(alloc, cursor)?)?),
+        Some(2) => Ok(nodes.push(take_inner(alloc, cursor, levels)?)?),
+        _ => Err(ReadFault::BadForm),
     }
-    *cursor = ahead;
-    Ok(())
 }
 
 /// Puts the stub behind others whose digest comes next.
 #[inline(always)]
 fn push_stub<'b>(cursor: &mut Cursor<'b>, nodes: &mut Vec<PartTree<'b>>) -> Result<(), ReadFault>
-    ensures { FoundOr (λ done. trees_of nodes.new) result cursor.old cursor.new
+    ensures { TakesOr (λ done. trees_of nodes.new) result cursor.new
         (one (λ digest. trees_of nodes.old ++ stub digest ∷ []) (bytes_at 32) cursor.old) }
 {
-    let mut ahead = cursor.copy();
-    let digest = ahead.take_chunk::<32>().ok_or(ReadFault::BadForm)?;
+    let Some(digest) = cursor.take_chunk::<32>() else {
+        return Err(ReadFault::BadForm);
+    };
     nodes.push(PartTree::Stub(Digest::new(*digest)))?;
-    *cursor = ahead;
     Ok(())
 }
 
-/// Trees that come next, so many of them.
+/// Trees that come next, so many of them. Where it fails, some of them may have been taken.
 pub fn take_trees<'b>(
     alloc: Global,
     cursor: &mut Cursor<'b>,
     count: u16,
 ) -> Result<Vec<PartTree<'b>>, ReadFault>
-    ensures { FoundOr trees_of result cursor.old cursor.new
-        (times (tree_at max_levels) count cursor.old) }
+    ensures { TakesOr trees_of result cursor.new (times (tree_at max_levels) count cursor.old) }
 {
-    let mut ahead = cursor.copy();
     let mut trees = Vec::new(alloc);
     for _ in 0..count {
-        match take_tree(alloc, &mut ahead) {
+        match take_tree(alloc, cursor) {
             Ok(tree) => trees.push(tree)?,
             Err(fault) => return Err(fault),
         }
     }
-    *cursor = ahead;
     Ok(trees)
 }

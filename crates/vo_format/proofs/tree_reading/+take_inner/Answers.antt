@@ -8,17 +8,17 @@ use Rattle.vo_format.proofs.tree_reading.+take_inner.Goals as goal
 pub each_child-returns-in-Err : goal.each_child-returns-in-Err
 each_child-returns-in-Err t c =
     let more : c.loop.counter < c.args.count = omega arith in
-    push_fails (tree_at c.args.levels) (λ (done : Unit {0}). trees_of c.push_child.new.children) trees_of c.in-Err.fault (trees_of c.loop.children) c.args.count c.loop.counter c.loop.ahead c.push_child.new.cursor _ _ more c.in-Err.ensures c.loop.invariant
+    push_fails (tree_at c.args.levels) (λ (done : Unit {0}). trees_of c.push_child.new.children) trees_of c.in-Err.fault (trees_of c.loop.children) c.args.count c.loop.counter c.loop.cursor c.push_child.new.cursor _ _ more c.in-Err.ensures c.loop.invariant
 
 pub each_child-loop-preserved : goal.each_child-loop-preserved
 each_child-loop-preserved t c =
     let more : c.loop.counter < c.args.count = omega arith in
-    push_step (tree_at c.args.levels) (trees_of c.loop.children) (trees_of c.push_child.new.children) c.args.count c.loop.counter c.loop.ahead c.push_child.new.cursor more c.in-Ok.ensures ∙ c.loop.invariant
+    push_step (tree_at c.args.levels) (trees_of c.loop.children) (trees_of c.push_child.new.children) c.args.count c.loop.counter c.loop.cursor c.push_child.new.cursor more c.in-Ok.ensures ∙ c.loop.invariant
 
 pub push_child-returns-then-levels-eq0 : goal.push_child-returns-then-levels-eq0
 push_child-returns-then-levels-eq0 t c =
     let none_left : c.args.levels ≡ 0 = omega arith in
-    (rw (none_left, no_level c.args.cursor.now) refl, refl)
+    rw (none_left, no_level c.args.cursor.now) refl
 
 pub push_child-returns : goal.push_child-returns
 push_child-returns t c =

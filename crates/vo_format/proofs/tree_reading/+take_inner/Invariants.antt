@@ -19,4 +19,4 @@ decreases-push_node l = 4 * l.levels + 3
 -- those so far and those that are left are all of them
 abbrev pub invariant-each_child-loop : goal.invariant-each_child-loop
 invariant-each_child-loop l =
-    with_front (trees_of l.children) (times (tree_at l.levels) (l.count - l.counter) l.ahead) ≡ times (tree_at l.fn.levels) l.fn.count l.fn.cursor
+    with_front (trees_of l.children) (times (tree_at l.levels) (l.count - l.counter) l.cursor) ≡ times (tree_at l.fn.levels) l.fn.count l.fn.cursor

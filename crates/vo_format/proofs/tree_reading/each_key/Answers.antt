@@ -1,17 +1,16 @@
-use Rattle.std.proofs.Common.{ℕ, ◌<◌, List, ◌∙◌, arith}
-use Rattle.std.specs.Global.{Vec}
-use Rattle.row_bytes.specs.declared.read_fault.ReadFault.TheVariants.{BadForm}
-use Rattle.row_bytes.proofs.Rounds.{times_step, times_fails}
+use Rattle.std.proofs.Common.{◌<◌, ◌∙◌, arith}
+use Rattle.row_bytes.proofs.Rounds.{times_step}
 use Rattle.batch_format.specs.TreeReading.{key_at}
+use Rattle.vo_format.proofs.Pushing.{stops}
 use Rattle.vo_format.proofs.tree_reading.each_key.Goals as goal
 
 pub returns-in-None : goal.returns-in-None
 returns-in-None c =
     let more : c.loop.counter < c.args.count = omega arith in
-    times_fails key_at (λ x. x) (λ (xs : Vec (List ℕ)). xs.items) BadForm c.loop.keys.items c.args.count c.loop.counter c.loop.ahead c.take_key.new.cursor _ _ more c.in-None.ensures c.loop.invariant
+    stops key_at c.loop.keys.items c.args.count c.loop.counter c.loop.cursor _ more c.in-None.ensures c.loop.invariant
 
 pub loop-preserved : goal.loop-preserved
 loop-preserved c =
     let more : c.loop.counter < c.args.count = omega arith in
     rw (c.in_ok-push-in-Some.ensures.items, c.lent.ensures)
-    (times_step key_at c.loop.keys.items c.args.count c.loop.counter c.loop.ahead c.in-Some.key.now c.take_key.new.cursor more c.in-Some.ensures ∙ c.loop.invariant)
+    (times_step key_at c.loop.keys.items c.args.count c.loop.counter c.loop.cursor c.in-Some.key.now c.take_key.new.cursor more c.in-Some.ensures ∙ c.loop.invariant)

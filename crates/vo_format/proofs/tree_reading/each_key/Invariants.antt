@@ -5,4 +5,4 @@ use Rattle.vo_format.proofs.tree_reading.each_key.Given as goal
 
 -- those so far and those that are left are all of them
 abbrev pub invariant-loop : goal.invariant-loop
-invariant-loop l = with_front l.keys.items (times key_at (l.count - l.counter) l.ahead) ≡ times key_at l.fn.count l.fn.cursor
+invariant-loop l = with_front l.keys.items (times key_at (l.count - l.counter) l.cursor) ≡ times key_at l.fn.count l.fn.cursor

@@ -8,4 +8,4 @@ use Rattle.vo_format.proofs.tree_reading.take_trees.Given as goal
 -- those so far and those that are left are all of them
 abbrev pub invariant-loop : goal.invariant-loop
 invariant-loop l =
-    with_front (trees_of l.trees) (times (tree_at max_levels) (l.count - l.counter) l.ahead) ≡ times (tree_at max_levels) l.fn.count l.fn.cursor
+    with_front (trees_of l.trees) (times (tree_at max_levels) (l.count - l.counter) l.cursor) ≡ times (tree_at max_levels) l.fn.count l.fn.cursor
