@@ -1,4 +1,4 @@
-use Rattle.std.proofs.Common.{sym, ap, ◌∙◌, rules, None, refl, Ok}
+use Rattle.std.proofs.Common.{sym, ap, ◌∙◌, rules, None, refl, Ok, arith}
 use Rattle.grammar.specs.Reading.{and_then}
 use Rattle.sql_tokens.specs.declared.kinds.TokenKind.TheVariants as k
 use Rattle.sql_tokens.specs.Lex.{token_of}
@@ -6,7 +6,7 @@ use Rattle.vo_spec.specs.Conditions.{condition_of, negated}
 use Rattle.sql_text.specs.Parsing.{left_of}
 use Rattle.sql_text.specs.Queries.{prim, conj, all_of, any_of}
 use Rattle.sql_text.proofs.Rounds.{kept, some_in, turn_in, turn_stops, begun_in, begun_stops, stopped, fewer_in}
-use Rattle.sql_text.proofs.Conds.{not_done, not_fails, paren_closed, paren_fails, conj_is, disj_is, not_is}
+use Rattle.sql_text.proofs.Conds.{prims, not_done, not_fails, paren_closed, paren_fails, conj_is, disj_is, not_is}
 use Rattle.sql_text.proofs.parser.Parser.+cond.Goals as goal
 
 pub negation-returns-in_err-part-clause-value : goal.negation-returns-in_err-part-clause-value
@@ -122,3 +122,18 @@ disj-returns-clause-value t c =
     ∙ sym c.loop-alloc.invariant.3
     ∙ stopped condition_of None k.Or conj c.loop-alloc.self.levels c.loop-alloc.parts.items (left_of c.loop-alloc.self) (sym c.sees.ensures ∙ c.loop-alloc-test.false))
     ∙ ap (λ z. (Ok z, left_of c.loop-alloc.self)) (sym c.any_of.ensures)
+
+pub negation-returns-in_err-open-clause-value : goal.negation-returns-in_err-open-clause-value
+negation-returns-in_err-open-clause-value t c = grind (arith, prims)
+
+pub condition_in_parens-returns-in_err-open-clause-value : goal.condition_in_parens-returns-in_err-open-clause-value
+condition_in_parens-returns-in_err-open-clause-value t c = grind (arith, prims)
+
+pub prim-returns-then-sees-clause-value : goal.prim-returns-then-sees-clause-value
+prim-returns-then-sees-clause-value t c = grind (arith, prims)
+
+pub prim-returns-then-sees-2-clause-value : goal.prim-returns-then-sees-2-clause-value
+prim-returns-then-sees-2-clause-value t c = grind (arith, prims)
+
+pub prim-returns-else-sees-2-clause-value : goal.prim-returns-else-sees-2-clause-value
+prim-returns-else-sees-2-clause-value t c = grind (arith, prims)

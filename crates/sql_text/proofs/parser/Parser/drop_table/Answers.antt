@@ -1,0 +1,9 @@
+use Rattle.std.proofs.Common.{arith}
+use Rattle.std.proofs.lemmas.Grind.{common_steps}
+use Rattle.sql_text.specs.Rules.{before}
+use Rattle.sql_text.specs.Commands.{drop_table}
+use Rattle.sql_text.proofs.parser.Parser.drop_table.Goals as goal
+
+pub returns-clause-value : goal.returns-clause-value
+unfolding drop_table before
+returns-clause-value c = grind (arith, common_steps)
