@@ -1,11 +1,12 @@
 //! The honest trees beside an owner's roots, and where the roots depart from them.
-ghost use Rattle.std.specs.Prelude.{◌≡◌, ◌↔◌, IfOk, IsTrue};
+ghost use Rattle.std.specs.Prelude.{◌≡◌, ◌↔◌, IfOk, IsTrue, OnOk};
 ghost use Rattle.vo_spec.specs.Batches.{FitsBatch};
 ghost use Rattle.vo_spec.specs.Records.{FitsCatalog};
 ghost use Rattle.vo_spec.specs.Honest.{after_work, catalog_of};
 ghost use Rattle.owner_state.specs.NextDeparture.{DepartsNext};
 
 use std::alloc::{AllocError, Global};
+use std::mem;
 use stored_tables::{BatchFault, StoredTables};
 use version_record::catalog_bytes;
 use vo_spec::{Batch, Catalog};
@@ -52,32 +53,28 @@ fn has_catalog(alloc: Global, tables: &StoredTables, catalog: &Catalog) -> Resul
     Ok(bytes.as_slice() == honest.as_slice())
 }
 
-/// The honest trees behind one entry more, of this number and with this batch, whose roots have
-/// this catalog.
-pub(crate) fn honest_trees_behind(
+/// Goes on to the honest trees behind one entry more, of this number and with this batch, whose
+/// roots have this catalog.
+pub(crate) fn follow_batch(
     alloc: Global,
-    before: HonestTrees,
+    honest: &mut HonestTrees,
     index: u64,
     batch: &Batch,
     catalog: &Catalog,
-) -> Result<HonestTrees, AllocError>
+) -> Result<(), AllocError>
     requires batch { FitsBatch batch.now.commands }
     requires catalog { FitsCatalog catalog.now }
-    ensures tables { IfOk result (λ after. after.tables
-        ≡ after_work before.tables batch.now.commands) }
-    ensures departure { IfOk result (λ after. DepartsNext before.departure index before.tables
-        catalog.now after.tables after.departure) }
+    ensures tables { OnOk result (honest.new.tables
+        ≡ after_work honest.old.tables batch.now.commands) }
+    ensures departure { OnOk result (DepartsNext honest.old.departure index honest.old.tables
+        catalog.now honest.new.tables honest.new.departure) }
 {
-    let HonestTrees { tables, departure } = before;
-    let after = tables_after(alloc, &tables, batch)?;
-    if departure.is_some() || has_catalog(alloc, &after, catalog)? {
-        return Ok(HonestTrees {
-            tables: after,
-            departure,
-        });
+    let after = tables_after(alloc, &honest.tables, batch)?;
+    if honest.departure.is_some() || has_catalog(alloc, &after, catalog)? {
+        honest.tables = after;
+        return Ok(());
     }
-    Ok(HonestTrees {
-        tables: after,
-        departure: Some(Departure { index, tables }),
-    })
+    let tables = mem::replace(&mut honest.tables, after);
+    honest.departure = Some(Departure { index, tables });
+    Ok(())
 }

@@ -19,7 +19,9 @@ pub fn take_slot<'b>(alloc: Global, cursor: &mut Cursor<'b>) -> Result<LentEntry
     let mut ahead = cursor.copy();
     match ahead.take_byte() {
         Some(1) => {
-            let block = ahead.take_block().ok_or(ReadFault::BadForm)?;
+            let Some(block) = ahead.take_block() else {
+                return Err(ReadFault::BadForm);
+            };
             let entry = read_entry(alloc, block)?;
             *cursor = ahead;
             Ok(entry)
@@ -35,10 +37,7 @@ fn read_entry(alloc: Global, bytes: &[u8]) -> Result<LentEntry<'_>, ReadFault>
 {
     let mut cursor = Cursor::new(bytes);
     let entry = take_entry(alloc, &mut cursor)?;
-    if !cursor.is_empty() {
-        return Err(ReadFault::BadForm);
-    }
-    Ok(entry)
+    cursor.is_empty().then_some(entry).ok_or(ReadFault::BadForm)
 }
 
 #[tactic(auto, unfolding(crate::specs::Reading::entry_at))]
@@ -46,11 +45,19 @@ fn take_entry<'b>(alloc: Global, cursor: &mut Cursor<'b>) -> Result<LentEntry<'b
     ensures { FoundOr (λ entry. entry) result cursor.old cursor.new (entry_at cursor.old) }
 {
     let mut ahead = cursor.copy();
-    ahead.take_word(b"VOE1").ok_or(ReadFault::BadForm)?;
+    let Some(_) = ahead.take_word(b"VOE1") else {
+        return Err(ReadFault::BadForm);
+    };
     let batch = take_batch(alloc, &mut ahead)?;
-    let proofs = take_limited(&mut ahead, MAX_PROOFS).ok_or(ReadFault::BadForm)?;
-    let rec = take_record(&mut ahead).ok_or(ReadFault::BadForm)?;
-    let signature = take_limited(&mut ahead, MAX_SIGNATURE).ok_or(ReadFault::BadForm)?;
+    let Some(proofs) = take_limited(&mut ahead, MAX_PROOFS) else {
+        return Err(ReadFault::BadForm);
+    };
+    let Some(rec) = take_record(&mut ahead) else {
+        return Err(ReadFault::BadForm);
+    };
+    let Some(signature) = take_limited(&mut ahead, MAX_SIGNATURE) else {
+        return Err(ReadFault::BadForm);
+    };
     *cursor = ahead;
     Ok(LentEntry::new(batch, proofs, rec, signature))
 }
@@ -60,7 +67,9 @@ fn take_batch(alloc: Global, cursor: &mut Cursor<'_>) -> Result<Batch, ReadFault
     ensures { FoundOr (λ batch. batch.commands) result cursor.old cursor.new (batch_at cursor.old) }
 {
     let mut ahead = cursor.copy();
-    let block = ahead.take_block().ok_or(ReadFault::BadForm)?;
+    let Some(block) = ahead.take_block() else {
+        return Err(ReadFault::BadForm);
+    };
     let batch = batch_of(alloc, block)?;
     *cursor = ahead;
     Ok(batch)

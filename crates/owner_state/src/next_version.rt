@@ -1,5 +1,6 @@
 //! Sealing one version.
 ghost use Rattle.std.specs.Prelude.{ℕ, ◌+◌};
+ghost use Rattle.std.specs.Result.{result_map_both};
 ghost use Rattle.vo_spec.specs.declared.tables.Command.{Command as Plain};
 ghost use Rattle.vo_spec.specs.Batches.{FitsBatch};
 ghost use Rattle.vo_spec.specs.Secret.{Secret};
@@ -14,6 +15,7 @@ use crate::owner::Owner;
 use crate::owner_faults::is_want_of_memory;
 use crate::sealing::SealFault;
 use std::alloc::Global;
+use std::mem;
 use stored_tables::{BatchFault, StoredTables};
 use vo_spec::Batch;
 
@@ -34,31 +36,40 @@ pub(crate) fn seal_next(alloc: Global, before: Sealed, batch: &Batch) -> Result<
     ensures { Seals before.owner.key (before.owner.roots.version + 1) before batch.now.commands
         result }
 {
-    let Sealed {
-        mut owner,
-        tables,
-        mut slots,
-    } = before;
-    if owner.is_spent() {
+    let mut sealed = before;
+    match seal_version(alloc, &mut sealed, batch) {
+        Ok(()) => Ok(sealed),
+        Err(fault) => Err(fault),
+    }
+}
+
+/// Puts another version behind the others, of the batch. They are lent, so that a fault lets go of
+/// none of them here; after one they are good for nothing more.
+fn seal_version(alloc: Global, sealed: &mut Sealed, batch: &Batch) -> Result<(), SealFault>
+    requires owner { IsAt sealed.old.owner.key sealed.old.owner.roots.version sealed.old }
+    requires standing { IsStanding sealed.old.tables }
+    requires fits { FitsBatch batch.now.commands }
+    requires proofs { FitsProofs (honest_proofs batch.now.commands sealed.old.tables) }
+    ensures { Seals sealed.old.owner.key (sealed.old.owner.roots.version + 1) sealed.old
+        batch.now.commands (result_map_both (λ done. sealed.new) (λ why. why) result) }
+{
+    if sealed.owner.is_spent() {
         return Err(SealFault::KeySpent);
     }
     let mut proofs = Vec::new(alloc);
-    let tables = match work_batch(alloc, tables, batch.commands.as_slice(), &mut proofs) {
+    let tables = mem::replace(&mut sealed.tables, StoredTables::new(alloc));
+    sealed.tables = match work_batch(alloc, tables, batch.commands.as_slice(), &mut proofs) {
         Ok(after) => after,
         Err(BatchFault::Command { index, fault }) => {
             return Err(SealFault::Command { index, fault });
         }
         Err(BatchFault::Memory) => return Err(SealFault::Memory),
     };
-    match owner.step(alloc, batch, &proofs) {
+    match sealed.owner.step(alloc, batch, &proofs) {
         Ok(step) => {
-            put_slot(alloc, &mut slots, &step.entry)?;
-            owner.advance(step);
-            Ok(Sealed {
-                owner,
-                tables,
-                slots,
-            })
+            put_slot(alloc, &mut sealed.slots, &step.entry)?;
+            sealed.owner.advance(step);
+            Ok(())
         }
         Err(fault) => {
             if is_want_of_memory(&fault) {

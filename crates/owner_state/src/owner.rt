@@ -47,14 +47,14 @@ impl Owner {
         ensures fits { IfOk result (λ started. FitsEntry started.1) }
         ensures signs { IfOk result (λ _. SignsValidly key.now) }
     {
+        let proofs = no_proofs(alloc)?;
+        let own = key.copy(alloc)?;
         let roots = first_roots(alloc);
         let batch = Batch {
             commands: List::new(alloc),
         };
-        let proofs = no_proofs(alloc)?;
         let entry = sign_entry(alloc, key, &roots, batch, proofs)?;
-        let key = key.copy(alloc)?;
-        Ok((Owner { key, roots }, entry))
+        Ok((Owner { key: own, roots }, entry))
     }
 
     /// The roots behind the last entry.

@@ -1,5 +1,5 @@
 //! An owner that comes back to its journal.
-ghost use Rattle.std.specs.Prelude.{◌≡◌, ◌↔◌, ◌∷◌, ℕ, [], Err, IfOk, IsTrue, take};
+ghost use Rattle.std.specs.Prelude.{◌≡◌, ◌↔◌, ◌∷◌, ℕ, [], Err, IfOk, IsTrue, OnOk, take};
 ghost use Rattle.std.specs.List.{AllByRecursion};
 ghost use Rattle.vo_spec.specs.Batches.{FitsBatch};
 ghost use Rattle.vo_spec.specs.Journals.{FitsEntry};
@@ -44,12 +44,38 @@ pub fn replay(alloc: Global, key: &SecretKey, entries: &[Entry]) -> Result<Owner
     ensures bad { (index : ℕ) → result ≡ Err (ReplayFault.Entry index)
         → IsNoStepAt key.now entries.now index }
 {
-    let (mut owner, first) = Owner::start(alloc, key)?;
+    let mut owner = replay_first(alloc, key, entries)?;
+    match replay_behind(alloc, &mut owner, entries) {
+        Ok(()) => Ok(owner),
+        Err(fault) => Err(fault),
+    }
+}
+
+/// The owner behind the first of these entries, if that is what this owner wrote.
+fn replay_first(alloc: Global, key: &SecretKey, entries: &[Entry]) -> Result<Owner, ReplayFault>
+    ensures key { IfOk result (λ owner. owner.key ≡ key.now) }
+    ensures roots { IfOk result (λ owner. AreStepsTo key.now (take 1 entries.now) owner.roots) }
+    ensures bad { (index : ℕ) → result ≡ Err (ReplayFault.Entry index)
+        → IsNoStepAt key.now entries.now index }
+{
+    let (owner, first) = Owner::start(alloc, key)?;
     if !begin_with(entries, &first) {
         return Err(ReplayFault::Entry { index: 0 });
     }
+    Ok(owner)
+}
+
+/// Takes the steps to the entries behind the first, if each is what the owner writes there.
+fn replay_behind(alloc: Global, owner: &mut Owner, entries: &[Entry]) -> Result<(), ReplayFault>
+    requires fits { AllByRecursion FitsEntry entries.now }
+    requires first { AreStepsTo owner.old.key (take 1 entries.now) owner.old.roots }
+    ensures key { OnOk result (owner.new.key ≡ owner.old.key) }
+    ensures roots { OnOk result (AreStepsTo owner.old.key entries.now owner.new.roots) }
+    ensures bad { (index : ℕ) → result ≡ Err (ReplayFault.Entry index)
+        → IsNoStepAt owner.old.key entries.now index }
+{
     for index in 1..entries.len() {
-        match step_as(alloc, &owner, &entries[index])? {
+        match step_as(alloc, owner, &entries[index])? {
             Some(step) => owner.advance(step),
             None => {
                 let index = index as u64;
@@ -57,7 +83,7 @@ pub fn replay(alloc: Global, key: &SecretKey, entries: &[Entry]) -> Result<Owner
             }
         }
     }
-    Ok(owner)
+    Ok(())
 }
 
 /// Whether the entries begin with this one, which has no commands.

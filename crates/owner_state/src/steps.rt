@@ -1,17 +1,19 @@
 //! What an owner makes of a batch.
-ghost use Rattle.std.specs.Prelude.{◌≡◌, ◌⊎◌, Err, IfOk};
+ghost use Rattle.std.specs.Prelude.{◌≡◌, ◌⊎◌, ◌<◌, ◌≤◌, Err, IfOk, length};
 ghost use Rattle.vo_spec.specs.Batches.{FitsBatch};
-ghost use Rattle.vo_spec.specs.Journals.{FitsEntry};
+ghost use Rattle.vo_spec.specs.Journals.{FitsEntry, max_proofs};
+ghost use Rattle.vo_spec.specs.LmsSets.{leaves_of};
 ghost use Rattle.vo_spec.specs.Records.{FitsCatalog};
 ghost use Rattle.vo_spec.specs.Secret.{public_of_secret};
-ghost use Rattle.owner_roots.specs.Owners.{IsNextEntry};
-ghost use Rattle.owner_state.specs.Stepping.{StepOf};
+ghost use Rattle.owner_roots.specs.Owners.{IsNextEntry, IsSignedFor};
+ghost use Rattle.owner_state.specs.Stepping.{StepOf, signed_entry};
 
 use crate::copies::copy_batch;
 use crate::entry_signing::sign_entry;
 use crate::owner::Owner;
+use lms_sign::SecretKey;
 use owner_roots::{OwnerFault, Roots};
-use std::alloc::Global;
+use std::alloc::{AllocError, Global};
 use vo_spec::{Batch, Entry};
 
 /// An entry that leads an owner on, and the roots behind it. The owner stays where it is until it
@@ -20,6 +22,29 @@ use vo_spec::{Batch, Entry};
 pub struct Step {
     pub entry: Entry,
     pub roots: Roots,
+}
+
+/// The entry of copies of a batch and its proofs, the roots being those behind it.
+fn sign_copy(
+    alloc: Global,
+    key: &SecretKey,
+    roots: &Roots,
+    batch: &Batch,
+    proofs: &[u8],
+) -> Result<Entry, AllocError>
+    requires leaf { roots.now.version < leaves_of key.now.lms }
+    requires catalog { FitsCatalog roots.now.catalog }
+    requires batch { FitsBatch batch.now.commands }
+    requires proofs { length proofs.now ≤ max_proofs }
+    ensures value { IfOk result (λ entry. entry
+        ≡ signed_entry key.now roots.now batch.now.commands proofs.now) }
+    ensures signed { IfOk result (λ entry.
+        IsSignedFor (public_of_secret key.now) roots.now entry) }
+    ensures fits { IfOk result (λ entry. FitsEntry entry) }
+{
+    let batch = copy_batch(alloc, batch)?;
+    let proofs = Vec::from_slice(alloc, proofs)?;
+    sign_entry(alloc, key, roots, batch, proofs)
 }
 
 impl Owner {
@@ -41,9 +66,7 @@ impl Owner {
             Ok(roots) => roots,
             Err(fault) => return Err(fault),
         };
-        let batch = copy_batch(alloc, batch)?;
-        let proofs = Vec::from_slice(alloc, proofs)?;
-        let entry = sign_entry(alloc, &self.key, &roots, batch, proofs)?;
+        let entry = sign_copy(alloc, &self.key, &roots, batch, proofs)?;
         Ok(Step { entry, roots })
     }
 }

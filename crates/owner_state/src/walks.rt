@@ -1,5 +1,5 @@
 //! Walks over entries, one after the other: whose they are, and the tables that they lead to.
-ghost use Rattle.std.specs.Prelude.{◌≡◌, ◌++◌, ◌∷◌, ◌<◌, ℕ, [], Err, IfOk, IfSome, IsSome, drop, length};
+ghost use Rattle.std.specs.Prelude.{◌≡◌, ◌++◌, ◌∷◌, ◌<◌, ℕ, [], Err, IfOk, IfSome, IsSome, OnOk, None, Some, drop, length};
 ghost use Rattle.std.specs.List.{AllByRecursion};
 ghost use Rattle.vo_spec.specs.Journals.{FitsEntry, batches_of};
 ghost use Rattle.vo_spec.specs.Honest.{honest_trees};
@@ -8,12 +8,13 @@ ghost use Rattle.owner_roots.specs.Owners.{AreOwned};
 ghost use Rattle.owner_state.specs.Departing.{Departs, trees_at};
 ghost use Rattle.owner_state.specs.Walking.{GivesTreesIf, StopsAt};
 
-use crate::departures::{Departure, HonestTrees, honest_trees_behind};
+use crate::departures::{Departure, HonestTrees, follow_batch};
 use crate::entry_checks::{check_record, check_store_entry};
 use crate::journals::JournalFault;
 use crate::leading::lead;
 use crate::lent_entry::LentEntry;
 use lms_sign::PublicKey;
+use owner_roots::Roots;
 use std::alloc::{AllocError, Global};
 use stored_tables::StoredTables;
 
@@ -74,6 +75,75 @@ pub(crate) struct Walked {
     pub departure: Option<Departure>,
 }
 
+/// Where a walk over an owner's entries has come to: the roots, the honest trees beside them, and
+/// those of the version that was asked for, once it has come there.
+#[derive(Drop)]
+struct Walk {
+    roots: Option<Roots>,
+    honest: HonestTrees,
+    kept: Option<StoredTables>,
+}
+
+/// Keeps the tables if they are those of the version that was asked for.
+fn keep_tables(
+    alloc: Global,
+    kept: &mut Option<StoredTables>,
+    tables: &StoredTables,
+    index: u64,
+    version: u64,
+) -> Result<(), AllocError>
+    ensures there { index ≡ version → OnOk result (kept.new ≡ Some tables.now) }
+    ensures other { (index ≡ version → ⊥) → kept.new ≡ kept.old }
+{
+    if index == version {
+        *kept = Some(tables.share(alloc)?);
+    }
+    Ok(())
+}
+
+/// Walks over all entries, from their begin on. The walk is lent, so that a fault lets go of none
+/// of it here.
+fn walk_each(
+    alloc: Global,
+    key: &PublicKey,
+    entries: &[LentEntry<'_>],
+    version: u64,
+    walk: &mut Walk,
+) -> Result<(), JournalFault>
+    requires fits { AllByRecursion FitsEntry entries.now }
+    requires roots { walk.old.roots ≡ None }
+    requires tables { walk.old.honest.tables ≡ [] }
+    requires departure { walk.old.honest.departure ≡ None }
+    requires kept { walk.old.kept ≡ None }
+    ensures owned { OnOk result (AreOwned key.now entries.now) }
+    ensures tables { OnOk result (IfSome walk.new.kept (λ tables.
+        tables ≡ trees_at version entries.now)) }
+    ensures there { OnOk result (version < length entries.now → IsSome walk.new.kept) }
+    ensures only { OnOk result (IsSome walk.new.kept → version < length entries.now) }
+    ensures departure { OnOk result (Departs key.now entries.now walk.new.honest.departure) }
+    ensures bad { (index : ℕ) → result ≡ Err (JournalFault.BadAt index)
+        → StopsAt (AreOwned key.now) entries.now index }
+{
+    for (index, entry) in entries.iter().enumerate() {
+        let index = index as u64;
+        match lead(alloc, key, &walk.roots, entry)? {
+            Some(after) => {
+                follow_batch(
+                    alloc,
+                    &mut walk.honest,
+                    index,
+                    entry.batch(),
+                    &after.catalog,
+                )?;
+                walk.roots = Some(after);
+            }
+            None => return Err(JournalFault::BadAt { index }),
+        }
+        keep_tables(alloc, &mut walk.kept, &walk.honest.tables, index, version)?;
+    }
+    Ok(())
+}
+
 /// Walks over an owner's entries by roots, with the honest tables beside.
 pub(crate) fn walk_owned(
     alloc: Global,
@@ -92,35 +162,22 @@ pub(crate) fn walk_owned(
     ensures bad { (index : ℕ) → result ≡ Err (JournalFault.BadAt index)
         → StopsAt (AreOwned key.now) entries.now index }
 {
-    let mut roots = None;
-    let mut honest = HonestTrees {
-        tables: StoredTables::new(alloc),
-        departure: None,
+    let mut walk = Walk {
+        roots: None,
+        honest: HonestTrees {
+            tables: StoredTables::new(alloc),
+            departure: None,
+        },
+        kept: None,
     };
-    let mut kept = None;
-    for (index, entry) in entries.iter().enumerate() {
-        match lead(alloc, key, &roots, entry)? {
-            Some(after) => {
-                honest = honest_trees_behind(
-                    alloc,
-                    honest,
-                    index as u64,
-                    entry.batch(),
-                    &after.catalog,
-                )?;
-                roots = Some(after);
-            }
-            None => {
-                let index = index as u64;
-                return Err(JournalFault::BadAt { index });
-            }
+    match walk_each(alloc, key, entries, version, &mut walk) {
+        Ok(()) => {
+            let honest = walk.honest;
+            Ok(Walked {
+                tables: walk.kept,
+                departure: honest.departure,
+            })
         }
-        if index as u64 == version {
-            kept = Some(honest.tables.share(alloc)?);
-        }
+        Err(fault) => Err(fault),
     }
-    Ok(Walked {
-        tables: kept,
-        departure: honest.departure,
-    })
 }

@@ -1,75 +1,21 @@
-use Rattle.std.proofs.Common.{◌≡◌, ◌<◌, ◌++◌, ◌∷◌, [], true, List, Some, None, length, take, sym, ◌∙◌, subst, arith}
-use Rattle.std.proofs.lemmas.List.{length-take-le}
-use Rattle.vo_spec.specs.declared.records.Entry.{Entry}
+use Rattle.std.proofs.Common.{◌≡◌, Err, take, sym, ap, ◌∙◌, subst}
 use Rattle.vo_spec.specs.Secret.{Secret}
-use Rattle.owner_roots.specs.declared.roots.Roots.{Roots}
-use Rattle.owner_state.specs.Replaying.{GivesStepAs}
-use Rattle.owner_state.specs.Stepping.{AreStepsTo, IsNoStepAt, IsStepTo}
-use Rattle.owner_state.proofs.LeadLaws.{take_next}
-use Rattle.owner_state.proofs.ReplayLaws.{first_step, no_first_step, no_step_more, step_more}
+use Rattle.owner_state.specs.declared.replaying.ReplayFault.TheVariants.{Entry}
+use Rattle.owner_state.specs.Stepping.{AreStepsTo, IsNoStepAt}
 use Rattle.owner_state.proofs.replaying.replay.Goals as goal
 
-pub returns-then-not-begin_with-clause-bad : goal.returns-then-not-begin_with-clause-bad
-returns-then-not-begin_with-clause-bad c = λ index same.
-    let number : 0 ≡ index = cc in
-    subst (IsNoStepAt c.args.key.now c.args.entries.now) number
-    (no_first_step c.args.key.now c.args.entries.now c.in_ok-owner.first c.in_ok-owner.ensures.entry
-    (λ begins. let yes : c.begin_with.result ≡ true = c.begin_with.ensures.1 begins in let other = c.if-not-begin_with.true in absurd (cc)))
+pub replay_behind-requires-clause-first : goal.replay_behind-requires-clause-first
+replay_behind-requires-clause-first c =
+    subst (λ (k : Secret). AreStepsTo k (take 1 c.args.entries.now) c.in_ok-owner.owner.roots) (sym c.in_ok-owner.ensures.key) c.in_ok-owner.ensures.roots
 
-pub loop-index-init : goal.loop-index-init
-loop-index-init c =
-    let key : Secret = c.args.key.now in
-    let test = c.if-not-begin_with.false in
-    let yes : c.begin_with.result ≡ true = cc in
-    record {
-      some = omega arith;
-      key = c.in_ok-owner.ensures.key;
-      steps = subst (λ (fs : List Entry). AreStepsTo key fs c.in_ok-owner.owner.roots) (sym (c.begin_with.ensures.0 yes))
-          (first_step key c.in_ok-owner.first c.in_ok-owner.owner.roots c.in_ok-owner.ensures.entry c.in_ok-owner.ensures.roots);
-    }
+pub returns-in-Ok-clause-key : goal.returns-in-Ok-clause-key
+returns-in-Ok-clause-key c = c.in-Ok.ensures.key ∙ c.in_ok-owner.ensures.key
 
-pub returns-in-None-clause-bad : goal.returns-in-None-clause-bad
-returns-in-None-clause-bad c =
-    let key : Secret = c.args.key.now in
-    let es : List Entry = c.args.entries.now in
-    let n = c.loop-index.index in
-    let roots : Roots = c.loop-index.owner.roots in
-    let e : Entry = c.index-entries-index.result in
-    let gives : GivesStepAs c.loop-index.owner.key roots e None = subst (GivesStepAs c.loop-index.owner.key roots e) c.in-None.is c.in_ok-step.ensures in
-    let never : (after : Roots) → IsStepTo key roots e after → ⊥ =
-    subst (λ (k : Secret). (after : Roots) → IsStepTo k roots e after → ⊥) c.loop-index.invariant.key gives in
-    let within : n < length es = c.loop-index-test.true in
-    let some : 0 < n = c.loop-index.invariant.some in
-    let long : length (take n es) ≡ n = length-take-le n es (omega arith) in
-    let there : 0 < length (take n es) = omega arith in
-    let stops : IsNoStepAt key es n = record {
-      so_far = λ later. (roots, c.loop-index.invariant.steps);
-      not_on = λ behind more.
-          no_step_more key (take n es) roots e there c.loop-index.invariant.steps never behind
-          (subst (λ (fs : List Entry). AreStepsTo key fs behind) (take_next es n e within c.index-entries-index.is) more);
-    } in
-    λ index same.
-    let number : n ≡ index = cc in
-    subst (IsNoStepAt key es) number stops
+pub returns-in-Ok-clause-roots : goal.returns-in-Ok-clause-roots
+returns-in-Ok-clause-roots c =
+    subst (λ (k : Secret). AreStepsTo k c.args.entries.now c.replay_behind.new.owner.roots) c.in_ok-owner.ensures.key c.in-Ok.ensures.roots
 
-pub loop-index-preserved : goal.loop-index-preserved
-loop-index-preserved c =
-    let key : Secret = c.args.key.now in
-    let es : List Entry = c.args.entries.now in
-    let n = c.loop-index.index in
-    let roots : Roots = c.loop-index.owner.roots in
-    let e : Entry = c.index-entries-index.result in
-    let gives : GivesStepAs c.loop-index.owner.key roots e (Some c.in-Some.step) =
-    subst (GivesStepAs c.loop-index.owner.key roots e) c.in-Some.is c.in_ok-step.ensures in
-    let is : IsStepTo key roots e c.in-Some.step.roots = subst (λ (k : Secret). IsStepTo k roots e c.in-Some.step.roots) c.loop-index.invariant.key gives.1 in
-    let within : n < length es = c.loop-index-test.true in
-    let some : 0 < n = c.loop-index.invariant.some in
-    let long : length (take n es) ≡ n = length-take-le n es (omega arith) in
-    let there : 0 < length (take n es) = omega arith in
-    record {
-      some = omega arith;
-      key = c.advance.ensures.key ∙ c.loop-index.invariant.key;
-      steps = subst (λ (fs : List Entry). AreStepsTo key fs c.advance.new.self.roots) (sym (take_next es n e within c.index-entries-index.is))
-          (subst (AreStepsTo key (take n es ++ e ∷ [])) (sym c.advance.ensures.roots)
-          (step_more key (take n es) roots e c.in-Some.step.roots there c.loop-index.invariant.steps is));
-    }
+pub returns-in-Err-clause-bad : goal.returns-in-Err-clause-bad
+returns-in-Err-clause-bad c = λ index is.
+    let same : c.in-Err.fault ≡ Entry index = cc in
+    subst (λ (k : Secret). IsNoStepAt k c.args.entries.now index) c.in_ok-owner.ensures.key (c.in-Err.ensures.bad index (ap Err same))

@@ -29,5 +29,5 @@ returns-clause-first c =
 
 pub returns-clause-signs : goal.returns-clause-signs
 returns-clause-signs c =
-    let told = c.in_ok-key.ensures in
+    let told = c.in_ok-own.ensures in
     subst SignsValidly told.value (λ q message leaf. (told.valid q message leaf, told.by q message leaf))

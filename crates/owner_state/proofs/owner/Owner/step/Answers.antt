@@ -1,8 +1,7 @@
-use Rattle.std.proofs.Common.{◌≡◌, ℕ, ◌+◌, ◌<◌, ◌≤◌, List, length, Ok, Err, inr, sym, ap, ◌∙◌, subst, arith}
+use Rattle.std.proofs.Common.{◌≡◌, ℕ, ◌+◌, ◌<◌, List, Ok, Err, inr, sym, ap, subst, arith}
 use Rattle.vo_spec.specs.declared.tables.Command.{Command}
 use Rattle.vo_spec.specs.declared.records.Entry.{Entry}
 use Rattle.vo_spec.specs.LmsSets.{leaves_of}
-use Rattle.vo_spec.specs.Journals.{max_proofs}
 use Rattle.vo_spec.specs.Secret.{public_of_secret}
 use Rattle.owner_roots.specs.declared.roots.Roots.{Roots}
 use Rattle.owner_roots.specs.Owners.{IsNextEntry}
@@ -25,18 +24,17 @@ returns-in-Err-clause-answer c =
     (step_refused c.self.inside.key c.self.inside.roots c.args.batch.now.commands c.args.proofs.now c.in-Err.fault own
     (refused c.self.inside.roots c.args.batch.now.commands c.args.proofs.now c.next.result c.in-Err.fault c.in-Err.is c.next.ensures.answer))
 
-pub sign_entry-requires-clause-leaf : goal.sign_entry-requires-clause-leaf
-sign_entry-requires-clause-leaf c =
+pub sign_copy-requires-clause-leaf : goal.sign_copy-requires-clause-leaf
+sign_copy-requires-clause-leaf c =
     let left = left_over c.is_spent.result (leaves_of c.args.self.now.key.lms) c.args.self.now.roots.version c.is_spent.ensures.1 c.if-is_spent.false in
     let own : c.self.inside.roots.version + 1 < leaves_of c.self.inside.key.lms = subst (λ (h : Held). h.roots.version + 1 < leaves_of h.key.lms) (sym c.self.view_is) left in
     let next = given c.self.inside.roots c.args.batch.now.commands c.args.proofs.now c.next.result c.in-Ok.roots c.in-Ok.is c.next.ensures.answer in
     omega (arith, own, next_version c.self.inside.roots c.args.batch.now.commands c.args.proofs.now c.in-Ok.roots next)
 
-pub sign_entry-requires-clause-proofs : goal.sign_entry-requires-clause-proofs
-sign_entry-requires-clause-proofs c =
+pub sign_copy-requires-clause-proofs : goal.sign_copy-requires-clause-proofs
+sign_copy-requires-clause-proofs c =
     let next = given c.self.inside.roots c.args.batch.now.commands c.args.proofs.now c.next.result c.in-Ok.roots c.in-Ok.is c.next.ensures.answer in
-    subst (λ (bytes : List ℕ). length bytes ≤ max_proofs) (sym c.in_ok-proofs.ensures.items)
-    (proofs_fit c.self.inside.roots c.args.batch.now.commands c.args.proofs.now c.in-Ok.roots next)
+    proofs_fit c.self.inside.roots c.args.batch.now.commands c.args.proofs.now c.in-Ok.roots next
 
 pub returns-clause-answer : goal.returns-clause-answer
 returns-clause-answer c =
@@ -46,9 +44,7 @@ returns-clause-answer c =
     let left = left_over c.is_spent.result (leaves_of c.args.self.now.key.lms) c.args.self.now.roots.version c.is_spent.ensures.1 c.if-is_spent.false in
     let own : c.self.inside.roots.version + 1 < leaves_of c.self.inside.key.lms = subst (λ (h : Held). h.roots.version + 1 < leaves_of h.key.lms) (sym c.self.view_is) left in
     let next = given c.self.inside.roots batch proofs c.next.result roots c.in-Ok.is c.next.ensures.answer in
-    let entry : c.in_ok-entry.entry ≡ signed_entry c.self.inside.key roots batch proofs =
-    c.in_ok-entry.ensures.value ∙ ap (λ (b : List Command). signed_entry c.self.inside.key roots b c.in_ok-proofs.proofs.items) c.in_ok-batch.ensures
-    ∙ ap (signed_entry c.self.inside.key roots batch) c.in_ok-proofs.ensures.items in
+    let entry : c.in_ok-entry.entry ≡ signed_entry c.self.inside.key roots batch proofs = c.in_ok-entry.ensures.value in
     let step : Step = record { entry = c.in_ok-entry.entry; roots = roots } in
     inr (subst (λ (h : Held). StepOf h.key h.roots batch proofs (Ok step)) c.self.view_is
     (step_made c.self.inside.key c.self.inside.roots batch proofs roots step own next (ap (λ (e : Entry). made e roots) entry)))
@@ -62,8 +58,6 @@ returns-clause-next c =
     let proofs : List ℕ = c.args.proofs.now in
     let roots : Roots = c.in-Ok.roots in
     let next = given c.self.inside.roots batch proofs c.next.result roots c.in-Ok.is c.next.ensures.answer in
-    let entry : c.in_ok-entry.entry ≡ signed_entry c.self.inside.key roots batch proofs =
-    c.in_ok-entry.ensures.value ∙ ap (λ (b : List Command). signed_entry c.self.inside.key roots b c.in_ok-proofs.proofs.items) c.in_ok-batch.ensures
-    ∙ ap (signed_entry c.self.inside.key roots batch) c.in_ok-proofs.ensures.items in
+    let entry : c.in_ok-entry.entry ≡ signed_entry c.self.inside.key roots batch proofs = c.in_ok-entry.ensures.value in
     subst (λ (h : Held). IsNextEntry (public_of_secret h.key) h.roots c.in_ok-entry.entry roots) c.self.view_is
     (next_of_step c.self.inside.key c.self.inside.roots batch proofs roots c.in_ok-entry.entry entry next c.in_ok-entry.ensures.signed)
