@@ -11,6 +11,8 @@ mod journal_file;
 mod memory_forms;
 mod output;
 mod tcp;
+#[cfg(test)]
+mod temp_names;
 
 pub use files::FolderFiles;
 pub use journal_file::JournalFile;

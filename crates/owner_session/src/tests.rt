@@ -110,37 +110,68 @@ impl SessionOwner for Numbers {
     }
 }
 
-/// What is known once a session ended: its status, the output, what was put, and the entries.
-#[derive(Debug, Drop)]
-struct Outcome {
-    status: u8,
-    written: Vec<u8>,
-    sent: Vec<u8>,
-    entries: Vec<u64>,
+/// A network of one connection, which stands, and on which this comes byte by byte.
+fn network(alloc: Global, coming: &[u8]) -> Result<MemNet<Never>, AllocError> {
+    let coming = Vec::from_slice(alloc, coming)?;
+    let connections = vec![in alloc; coming]?;
+    Ok(MemNet::new(alloc, connections, Never)?.in_pieces(1))
 }
 
-/// A session of an owner with these entries, who commits these batches while this comes.
-fn session(
-    rt: &HostRuntime,
+/// What is known once a session ended: its status, the output, what was put, and the entries.
+/// What isn't compared is none.
+type Outcome<'a> = (u8, &'a [u8], Option<&'a [u8]>, Option<&'a [u64]>);
+
+fn ends_on(
+    alloc: Global,
+    owner: &mut Numbers,
+    net: &mut MemNet<Never>,
+    batches: &[u64],
+    due: Outcome<'_>,
+) -> bool {
+    let mut out = MemSink::new(alloc, Never);
+    let is_connected = net.connect("").is_ok();
+    let status = run_session(alloc, owner, batches, net, &mut out);
+    let (due_status, written, sent, entries) = due;
+    let is_due = (status, out.contents()) == (due_status, written);
+    drop(out);
+    let is_sent = match sent {
+        Some(sent) => net.sent() == sent,
+        None => true,
+    };
+    let are_kept = match entries {
+        Some(entries) => owner.entries.as_slice() == entries,
+        None => true,
+    };
+    is_connected && is_due && is_sent && are_kept
+}
+
+fn ends_with_owner(
+    alloc: Global,
+    owner: &mut Numbers,
+    batches: &[u64],
+    coming: &[u8],
+    due: Outcome<'_>,
+) -> Result<bool, AllocError> {
+    let mut net = network(alloc, coming)?;
+    let is_due = ends_on(alloc, owner, &mut net, batches, due);
+    drop(net);
+    Ok(is_due)
+}
+
+/// Whether a session of an owner with these entries, who commits these batches while this comes,
+/// ends as it should.
+fn ends(
+    alloc: Global,
     entries: &[u64],
     batches: &[u64],
     coming: &[u8],
-) -> Result<Outcome, Fail> {
-    let alloc = rt.alloc();
-    let mut owner = Numbers {
-        entries: Vec::from_slice(alloc, entries)?,
-    };
-    let connections = vec![in alloc; Vec::from_slice(alloc, coming)?]?;
-    let mut net = MemNet::new(alloc, connections, Never)?.in_pieces(1);
-    net.connect("")?;
-    let mut out = MemSink::new(alloc, Never);
-    let status = run_session(alloc, &mut owner, batches, &mut net, &mut out);
-    Ok(Outcome {
-        status,
-        written: Vec::from_slice(alloc, out.contents())?,
-        sent: Vec::from_slice(alloc, net.sent())?,
-        entries: Vec::from_slice(alloc, &owner.entries)?,
-    })
+    due: Outcome<'_>,
+) -> Result<bool, AllocError> {
+    let entries = Vec::from_slice(alloc, entries)?;
+    let mut owner = Numbers { entries };
+    let is_due = ends_with_owner(alloc, &mut owner, batches, coming, due);
+    drop(owner);
+    is_due
 }
 
 #[test]
@@ -153,59 +184,56 @@ fn commits_two_batches_with_a_new_store(rt: HostRuntime) -> Result<(), Fail> {
         \0\0\0\x09\x04\0\0\0\0\0\0\0\0\
         \0\0\0\x09\x03\0\0\0\0\0\0\0\x01\0\0\0\x09\x04\0\0\0\0\0\0\0\x01\
         \0\0\0\x09\x03\0\0\0\0\0\0\0\x02\0\0\0\x09\x04\0\0\0\0\0\0\0\x02";
-    let outcome = session(&rt, &[0], &[1, 2], coming)?;
-    assert_eq!(rt; outcome.status, 0);
-    assert_eq!(rt;
-        outcome.written.as_slice(),
-        b"version 1\nversion 2\n".as_slice()
+    let due = (
+        0,
+        b"version 1\nversion 2\n".as_slice(),
+        Some(sent.as_slice()),
+        Some([0, 1, 2].as_slice()),
     );
-    assert_eq!(rt; outcome.sent.as_slice(), sent.as_slice());
-    assert_eq!(rt; outcome.entries.as_slice(), [0, 1, 2].as_slice());
+    assert!(rt; ends(rt.alloc(), &[0], &[1, 2], coming, due)?);
     Ok(())
 }
 
-/// The frame of a store's record that ends with this byte.
-fn standing_frame(rt: &HostRuntime, last: u8) -> Result<Vec<u8>, Fail> {
-    let mut bytes = Vec::from_slice(rt.alloc(), b"\0\0\0\x3e\x82\x01")?;
-    for _ in 0..59 {
-        bytes.push(0)?;
-    }
-    bytes.push(last)?;
-    Ok(bytes)
+/// The record of a store's that ends with this byte, in its frame, and what comes behind it.
+fn standing_and(alloc: Global, last: u8, more: &[u8]) -> Result<Vec<u8>, AllocError> {
+    let zeros = [0u8; 59];
+    let frame = b"\0\0\0\x3e\x82\x01".as_slice();
+    [frame, zeros.as_slice(), [last].as_slice(), more].concat(alloc)
 }
 
 #[test]
 fn gives_a_store_what_it_lacks(rt: HostRuntime) -> Result<(), Fail> {
-    let mut coming = standing_frame(&rt, 0)?;
-    coming.extend_from_slice(
-        b"\0\0\0\x01\x83\0\0\0\x09\x84\0\0\0\0\0\0\0\x01\
-        \0\0\0\x01\x83\0\0\0\x09\x84\0\0\0\0\0\0\0\x02",
-    )?;
+    let more = b"\0\0\0\x01\x83\0\0\0\x09\x84\0\0\0\0\0\0\0\x01\
+        \0\0\0\x01\x83\0\0\0\x09\x84\0\0\0\0\0\0\0\x02";
     let sent = b"\0\0\0\x01\x02\
         \0\0\0\x09\x03\0\0\0\0\0\0\0\x01\0\0\0\x09\x04\0\0\0\0\0\0\0\x01\
         \0\0\0\x09\x03\0\0\0\0\0\0\0\x02\0\0\0\x09\x04\0\0\0\0\0\0\0\x02";
-    let outcome = session(&rt, &[0, 1, 2], &[], &coming)?;
-    assert_eq!(rt; outcome.status, 0);
-    assert!(rt; outcome.written.is_empty());
-    assert_eq!(rt; outcome.sent.as_slice(), sent.as_slice());
+    let coming = standing_and(rt.alloc(), 0, more)?;
+    let due = (0, b"".as_slice(), Some(sent.as_slice()), None);
+    let is_due = ends(rt.alloc(), &[0, 1, 2], &[], &coming, due);
+    drop(coming);
+    assert!(rt; is_due?);
     Ok(())
 }
 
 #[test]
 fn refuses_a_store_that_stands_elsewhere(rt: HostRuntime) -> Result<(), Fail> {
-    let outcome = session(&rt, &[0, 1], &[2], &standing_frame(&rt, 2)?)?;
-    assert_eq!(rt; outcome.status, 1);
-    assert_eq!(rt;
-        outcome.written.as_slice(),
-        b"refused: store stands elsewhere\n".as_slice()
+    let coming = standing_and(rt.alloc(), 2, b"")?;
+    let due = (
+        1,
+        b"refused: store stands elsewhere\n".as_slice(),
+        Some(b"\0\0\0\x01\x02".as_slice()),
+        None,
     );
-    assert_eq!(rt; outcome.sent.as_slice(), b"\0\0\0\x01\x02".as_slice());
+    let is_due = ends(rt.alloc(), &[0, 1], &[2], &coming, due);
+    drop(coming);
+    assert!(rt; is_due?);
     Ok(())
 }
 
 #[test]
 fn ends_at_each_answer_that_it_does_not_want(rt: HostRuntime) -> Result<(), Fail> {
-    let cases = [
+    for (coming, status, written) in [
         (
             b"\0\0\0\x02\x8f\x02".as_slice(),
             9,
@@ -228,11 +256,12 @@ fn ends_at_each_answer_that_it_does_not_want(rt: HostRuntime) -> Result<(), Fail
             1,
             b"refused: proof missing 0\n",
         ),
-    ];
-    for (coming, status, written) in cases {
-        let outcome = session(&rt, &[0], &[1], coming)?;
-        assert_eq!(rt; outcome.status, status);
-        assert_eq!(rt; outcome.written.as_slice(), written);
+    ] {
+        let due = (status, written, None, None);
+        assert!(rt;
+            ends(rt.alloc(), &[0], &[1], coming, due)?,
+            "status {status}"
+        );
     }
     Ok(())
 }

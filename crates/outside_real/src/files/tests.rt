@@ -1,46 +1,88 @@
 //! Files that are written, and taken.
 use super::FolderFiles;
+use crate::temp_names::name_in_temp;
 use outside::{Shelf, TakeFault};
+use std::alloc::{AllocError, Global};
+use std::fs;
 use std::test::Fail;
-use std::{env, fs};
 
-#[test]
-fn takes_files(rt: HostRuntime) -> Result<(), Fail> {
-    let folder = env::temp_dir(&rt)?;
-    let name = format!(in rt.alloc(); "{}/taken_by_a_test_of_files", folder.display())?;
-    let mut long = Vec::new(rt.alloc());
+/// More bytes than are read at once.
+fn long_contents(alloc: Global) -> Result<Vec<u8>, AllocError> {
+    let mut long = Vec::new(alloc);
     for number in 0..100_000u32 {
         long.push((number % 251) as u8)?;
     }
-    let mut files = FolderFiles::new(&rt);
-    for bytes in [b"".as_slice(), b"abc".as_slice(), long.as_slice()] {
-        assert!(rt; is_taken_within_limits(&rt, &mut files, &name, bytes)?);
-    }
-    fs::remove_file(&rt, name.as_str())?;
-    let removed = files.take(rt.alloc(), &name, 3).err();
-    assert_eq!(rt; (removed, files.faults), (Some(TakeFault::Failed), 1));
+    Ok(long)
+}
+
+#[test]
+fn takes_files(rt: HostRuntime) -> Result<(), Fail> {
+    let long = long_contents(rt.alloc())?;
+    let are_taken = named_files_are_taken(&rt, &long);
+    drop(long);
+    assert!(rt; are_taken?);
     Ok(())
 }
 
+fn named_files_are_taken(rt: &HostRuntime, long: &[u8]) -> Result<bool, Fail> {
+    let name = name_in_temp(rt, "taken_by_a_test_of_files")?;
+    let are_taken = are_taken(rt, &name, long);
+    drop(name);
+    Ok(are_taken)
+}
+
+/// Whether files of no bytes, of some, and of these are taken, and none once it is removed.
+fn are_taken(rt: &HostRuntime, name: &str, long: &[u8]) -> bool {
+    let mut files = FolderFiles::new(rt);
+    let mut are_taken = true;
+    for bytes in [b"".as_slice(), b"abc".as_slice(), long] {
+        are_taken &= is_written_and_taken(rt, &mut files, name, bytes);
+    }
+    are_taken && fails_once_removed(rt, &mut files, name)
+}
+
+fn fails_once_removed(
+    rt: &HostRuntime,
+    files: &mut FolderFiles<'_, HostRuntime>,
+    name: &str,
+) -> bool {
+    let is_removed = fs::remove_file(rt, name).is_ok();
+    let fault = files.take(rt.alloc(), name, 3).err();
+    (is_removed, fault, files.faults) == (true, Some(TakeFault::Failed), 1)
+}
+
 /// Whether a file is taken whole by the limits that it keeps, and by no lower one.
-fn is_taken_within_limits(
+fn is_written_and_taken(
     rt: &HostRuntime,
     files: &mut FolderFiles<'_, HostRuntime>,
     name: &str,
     bytes: &[u8],
-) -> Result<bool, Fail> {
-    fs::write(rt, name, bytes)?;
+) -> bool {
     let length = bytes.len() as u64;
-    for limit in [length, length.saturating_add(1), u64::MAX] {
-        if files.take(rt.alloc(), name, limit)?.as_slice() != bytes {
-            return Ok(false);
-        }
+    let mut is_taken = fs::write(rt, name, bytes).is_ok();
+    for limit in [
+        length,
+        length.saturating_add(1),
+        u64::MAX,
+        0,
+        length / 2,
+        length.saturating_sub(1),
+    ] {
+        let taken = files.take(rt.alloc(), name, limit);
+        is_taken &= is_due(taken, bytes, limit);
     }
-    for limit in [0, length / 2, length.saturating_sub(1)] {
-        let fault = files.take(rt.alloc(), name, limit).err();
-        if limit < length && fault != Some(TakeFault::TooLong) {
-            return Ok(false);
+    is_taken && files.faults == 0
+}
+
+/// Whether this is what a file of these bytes gives by a limit.
+fn is_due(taken: Result<Vec<u8>, TakeFault>, bytes: &[u8], limit: u64) -> bool {
+    let fits = bytes.len() as u64 <= limit;
+    match taken {
+        Ok(taken) => {
+            let is_same = taken.as_slice() == bytes;
+            drop(taken);
+            is_same && fits
         }
+        Err(fault) => fault == TakeFault::TooLong && !fits,
     }
-    Ok(files.faults == 0)
 }

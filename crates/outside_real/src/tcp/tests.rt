@@ -7,23 +7,29 @@ use std::test::Fail;
 #[test]
 fn passes_bytes_each_way(rt: HostRuntime) -> Result<(), Fail> {
     let mut server = Tcp::new(&rt);
-    let mut client = Tcp::new(&rt);
-    assert!(rt; can_connect(&rt, &mut server, &mut client)?);
-    assert!(rt; can_exchange_bytes(&mut server, &mut client));
-    assert_eq!(rt; (server.faults, client.faults), (0, 0));
+    let do_pass = server_passes_bytes(&rt, &mut server);
+    drop(server);
+    assert!(rt; do_pass?);
     Ok(())
 }
 
-fn can_connect(
-    rt: &HostRuntime,
-    server: &mut Tcp<'_, HostRuntime>,
-    client: &mut Tcp<'_, HostRuntime>,
-) -> Result<bool, Fail> {
+fn server_passes_bytes(rt: &HostRuntime, server: &mut Tcp<'_, HostRuntime>) -> Result<bool, Fail> {
     let listening = server.listen("127.0.0.1:0");
-    let listener = server.listener.as_ref().ok_or("listening")?;
-    let addr = format!(in rt.alloc(); "{}", listener.local_addr()?)?;
+    let addr = address(rt, server)?;
+    let mut client = Tcp::new(rt);
     let connected = (client.connect(&addr), server.next());
-    Ok((listening, connected) == (Ok(()), (Ok(()), Ok(()))))
+    drop(addr);
+    let do_pass = (listening, connected) == (Ok(()), (Ok(()), Ok(())))
+        && can_exchange_bytes(server, &mut client)
+        && (server.faults, client.faults) == (0, 0);
+    drop(client);
+    Ok(do_pass)
+}
+
+fn address(rt: &HostRuntime, server: &Tcp<'_, HostRuntime>) -> Result<String, Fail> {
+    let listener = server.listener.as_ref().ok_or("listening")?;
+    let addr = listener.local_addr()?;
+    Ok(format!(in rt.alloc(); "{addr}")?)
 }
 
 /// Whether the bytes that are put at one end come at the other, in their order and once, and then
@@ -62,8 +68,8 @@ fn receive<const N: usize>(tcp: &mut Tcp<'_, HostRuntime>) -> Result<[u8; N], Fa
 fn fails_without_a_connection(rt: HostRuntime) {
     let mut tcp = Tcp::new(&rt);
     let failed = (tcp.put(b"x"), tcp.next(), tcp.connect("no address"));
-    assert_eq!(rt;
-        (failed, tcp.faults),
-        ((Err(PutFault::Failed), Err(Failed), Err(Failed)), 3)
-    );
+    let found = (failed, tcp.faults);
+    drop(tcp);
+    let due = (Err(PutFault::Failed), Err(Failed), Err(Failed));
+    assert_eq!(rt; found, (due, 3));
 }
