@@ -519,8 +519,8 @@ def hostile_proof_rows(secret):
     proofs = owned.proofs(CHANGES[0])
     [tree] = read_proofs(proofs)
     shown = proofs[:-33] + b"\1\2\0\3bob"
-    # whole, the last byte cut, a bit of a digest turned, the tree as its digest, and the cell shown as it is
-    for data in proofs, proofs[:-1], turned(proofs, 20), write_proofs([Stub(digest_of(tree))]), shown:
+    # the last byte cut, a bit of a digest turned, the tree as its digest, and the cell shown as it is
+    for data in proofs[:-1], turned(proofs, 20), write_proofs([Stub(digest_of(tree))]), shown:
         yield owned.next_row(CHANGES[0], data)
     # a cell too many, a key that is no BIGINT, the other row open, and the tree of an INSERT
     extra = proofs[:-34] + b"\2\0" + proofs[-32:] + b"\0" + proofs[-32:]

@@ -420,11 +420,10 @@ def judged_parts():
 
 
 def judged_proofs():
-    # the proof of one key and change, judged as that of others
+    # the proof of one key and change, judged as that of others whose proofs it isn't
     tree = grown(TO_17)
     for op, others in (
-            (put(20), [put(9), put(1), turn(20), turn(17), drop(17)]), (turn(17), [turn(16), turn(1), put(20), drop(17)]),
-            (drop(1), [drop(8), drop(0), turn(1)])):
+            (put(20), [put(1), turn(17)]), (turn(17), [turn(16), turn(1), put(20), drop(17)]), (drop(1), [drop(0), turn(1)])):
         for other in others:
             yield judge(other, update_proof(tree, op))
 
@@ -557,7 +556,8 @@ def twin_proofs():
     tree = grown(TO_17)
     needs = [between(9, 9, 0)], [between(8, 9, 0)], [between(9, 9)], [between(3, 3, 0)], [between(9, 9, 0), between(3, 3)], []
     proof = pruned(tree, needs[0])
-    for some in needs:
+    yield twins(needs[0], proof, proof)
+    for some in needs[1:]:
         yield from (twins(needs[0], proof, pruned(tree, some)), twins(some, pruned(tree, some), pruned(tree, some)))
     yield from (twins(needs[0], proof, EMPTY), twins(needs[0], proof, b""), twins(needs[0], proof, part_bytes(proof) + b"\0"))
 

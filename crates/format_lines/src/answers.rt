@@ -25,8 +25,17 @@ pub fn answer(alloc: Global, state: &mut State, line: &str) -> io::Result<String
 
 fn answer_line(alloc: Global, state: &mut State, line: &str) -> Result<String, NoAnswer> {
     let line = read_line(alloc, &state.bytes, line)?;
-    let call = line.call;
-    let strings = line.strings.as_slice();
+    let answer = answer_call(alloc, state, line.call, line.strings.as_slice());
+    drop(line);
+    answer
+}
+
+fn answer_call(
+    alloc: Global,
+    state: &mut State,
+    call: Call,
+    strings: &[Vec<u8>],
+) -> Result<String, NoAnswer> {
     match call {
         Call::Keep => keep(alloc, state, strings),
         Call::OtsSign => ots_sign(alloc, state, strings),

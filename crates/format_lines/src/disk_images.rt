@@ -3,11 +3,11 @@ ghost use Rattle.std.specs.List.{AllByRecursion};
 ghost use Rattle.vo_spec.specs.Journals.{FitsEntry};
 
 use crate::arguments::number_of;
-use crate::journals::damage_text;
+use crate::journals::{damage_text, entries_in};
 use line_pieces::NoAnswer;
 use outside::{Disk, FailAt, Failure, MemDisk, Never};
 use owner_journal::{Journal, JournalFault};
-use owner_state::{Entry, into_entries, read_entries};
+use owner_state::Entry;
 use std::alloc::Global;
 
 // A journal takes no more.
@@ -20,14 +20,10 @@ pub fn images(alloc: Global, strings: &[Vec<u8>]) -> Result<String, NoAnswer> {
     let [call, after, lost, first, journal] = strings else {
         return Err(NoAnswer::NoSuchLine);
     };
-    let disk = failing_disk(alloc, first, number_of(call)?, number_of(after)?)?;
-    match read_entries(alloc, journal) {
-        Ok(entries) => {
-            let entries = into_entries(alloc, entries)?;
-            images_text(alloc, disk, lost, journal, &entries)
-        }
-        Err(fault) => damage_text(alloc, fault),
-    }
+    let mut disk = failing_disk(alloc, first, number_of(call)?, number_of(after)?)?;
+    let text = images_on(alloc, &mut disk, lost, journal);
+    drop(disk);
+    text
 }
 
 fn failing_disk(
@@ -41,20 +37,36 @@ fn failing_disk(
     Ok(MemDisk::new(alloc, Vec::from_slice(alloc, first)?, failing)?)
 }
 
+fn images_on(
+    alloc: Global,
+    disk: &mut MemDisk<FailAt>,
+    lost: &[u8],
+    journal: &[u8],
+) -> Result<String, NoAnswer> {
+    match entries_in(alloc, journal) {
+        Ok(entries) => {
+            let text = images_text(alloc, disk, lost, journal, &entries);
+            drop(entries);
+            text
+        }
+        Err(fault) => damage_text(alloc, fault),
+    }
+}
+
 fn images_text(
     alloc: Global,
-    mut disk: MemDisk<FailAt>,
+    disk: &mut MemDisk<FailAt>,
     lost: &[u8],
     bytes: &[u8],
     entries: &[Entry],
 ) -> Result<String, NoAnswer>
     requires { AllByRecursion FitsEntry entries.now }
 {
-    let count = end_count(alloc, &mut disk, entries)?;
+    let count = end_count(alloc, disk, entries)?;
     let mut line = format!(in alloc; "{count}")?;
     for moment in 0..=disk.moment() {
-        let image = disk.image(alloc, moment, lost)?;
         line.push(' ')?;
+        let image = disk.image(alloc, moment, lost)?;
         line.push_str(&found_text(alloc, image, bytes, entries)?)?;
     }
     Ok(line)
@@ -65,12 +77,24 @@ fn end_count<D: Disk>(alloc: Global, disk: &mut D, entries: &[Entry]) -> Result<
     requires { AllByRecursion FitsEntry entries.now }
 {
     match Journal::open(alloc, disk) {
-        Ok(mut journal) => match append_rest(alloc, disk, &mut journal, entries) {
-            Err(JournalFault::Memory) => Err(NoAnswer::Memory),
-            _ => Ok(journal.entries().len()),
-        },
+        Ok(mut journal) => {
+            let appended = append_rest(alloc, disk, &mut journal, entries);
+            let count = journal.entries().len();
+            drop(journal);
+            count_unless_memory(appended, count)
+        }
         Err(JournalFault::Memory) => Err(NoAnswer::Memory),
         Err(_) => Ok(0),
+    }
+}
+
+fn count_unless_memory(
+    appended: Result<(), JournalFault>,
+    count: usize,
+) -> Result<usize, NoAnswer> {
+    match appended {
+        Err(JournalFault::Memory) => Err(NoAnswer::Memory),
+        _ => Ok(count),
     }
 }
 
@@ -102,16 +126,32 @@ fn found_text(
     requires { AllByRecursion FitsEntry entries.now }
 {
     let mut disk = MemDisk::new(alloc, image, Never)?;
-    match Journal::open(alloc, &mut disk) {
+    let found = found_count(alloc, &mut disk, entries);
+    let has_all = disk.contents().starts_with(bytes);
+    drop(disk);
+    match found {
+        Ok(count) if has_all => Ok(format!(in alloc; "{count}")?),
+        Ok(_) => Ok("others".to_string(alloc)?),
+        Err(fault) => fault_text(alloc, fault),
+    }
+}
+
+/// How many entries a disk has, which then takes the rest of these.
+fn found_count<D: Disk>(
+    alloc: Global,
+    disk: &mut D,
+    entries: &[Entry],
+) -> Result<usize, JournalFault>
+    requires { AllByRecursion FitsEntry entries.now }
+{
+    match Journal::open(alloc, disk) {
         Ok(mut journal) => {
             let count = journal.entries().len();
-            match append_rest(alloc, &mut disk, &mut journal, entries) {
-                Ok(()) if disk.contents().starts_with(bytes) => Ok(format!(in alloc; "{count}")?),
-                Ok(()) => Ok("others".to_string(alloc)?),
-                Err(fault) => fault_text(alloc, fault),
-            }
+            let appended = append_rest(alloc, disk, &mut journal, entries);
+            drop(journal);
+            appended.and(Ok(count))
         }
-        Err(fault) => fault_text(alloc, fault),
+        Err(fault) => Err(fault),
     }
 }
 

@@ -33,8 +33,12 @@ pub fn collision(alloc: Global, strings: &[Vec<u8>]) -> Result<String, NoAnswer>
     };
     let first = Vec::from_slice(alloc, first)?;
     let second = Vec::from_slice(alloc, second)?;
-    match collision_of(first, second) {
-        Some(_) => Ok("a collision".to_string(alloc)?),
-        None => Ok("none".to_string(alloc)?),
-    }
+    let found = collision_of(first, second);
+    let text = if found.is_some() {
+        "a collision"
+    } else {
+        "none"
+    };
+    drop(found);
+    Ok(text.to_string(alloc)?)
 }

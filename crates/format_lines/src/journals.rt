@@ -1,12 +1,13 @@
 //! Calls of journals.
 ghost use Rattle.std.specs.Prelude.{IfOk};
 ghost use Rattle.std.specs.List.{AllByRecursion};
+ghost use Rattle.vo_spec.specs.Batches.{FitsBatch};
 ghost use Rattle.vo_spec.specs.Journals.{FitsEntry};
 ghost use Rattle.owner_state.specs.Sealing.{FitEach};
 
 use crate::arguments::number_of;
 use crate::keys::read_key;
-use crate::records::catalog_text;
+use crate::records::last_catalog_text;
 use crate::state::State;
 use batch_format::read_batch;
 use line_pieces::{NoAnswer, form_of};
@@ -24,8 +25,21 @@ pub fn slots(alloc: Global, strings: &[Vec<u8>]) -> Result<String, NoAnswer> {
         return Err(NoAnswer::NoSuchLine);
     };
     let slots = read_slots(alloc, bytes)?;
-    let mut line = ending_text(alloc, slots.ending)?;
-    put_slots(alloc, &mut line, &into_entries(alloc, slots.entries)?)?;
+    let ending = slots.ending;
+    let entries = into_entries(alloc, slots.entries)?;
+    let text = slots_text(alloc, ending, &entries);
+    drop(entries);
+    text
+}
+
+fn slots_text(alloc: Global, ending: Ending, entries: &[Entry]) -> Result<String, NoAnswer>
+    requires { AllByRecursion FitsEntry entries.now }
+{
+    let mut line = ending_text(alloc, ending)?;
+    for entry in entries {
+        line.push(' ')?;
+        line.push_str(&slot_text(alloc, entry)?)?;
+    }
     Ok(line)
 }
 
@@ -34,16 +48,6 @@ fn ending_text(alloc: Global, ending: Ending) -> Result<String, NoAnswer> {
         Ending::Closed { .. } => Ok("Closed".to_string(alloc)?),
         Ending::Damaged { at } => Ok(format!(in alloc; "(Damaged {at})")?),
     }
-}
-
-fn put_slots(alloc: Global, line: &mut String, entries: &[Entry]) -> Result<(), NoAnswer>
-    requires { AllByRecursion FitsEntry entries.now }
-{
-    for entry in entries {
-        line.push(' ')?;
-        line.push_str(&slot_text(alloc, entry)?)?;
-    }
-    Ok(())
 }
 
 fn slot_text(alloc: Global, entry: &Entry) -> Result<String, NoAnswer>
@@ -59,10 +63,21 @@ pub fn entries(alloc: Global, strings: &[Vec<u8>]) -> Result<String, NoAnswer> {
     let [bytes] = strings else {
         return Err(NoAnswer::NoSuchLine);
     };
-    match read_entries(alloc, bytes) {
-        Ok(entries) => entries_text(alloc, &into_entries(alloc, entries)?),
+    match entries_in(alloc, bytes) {
+        Ok(entries) => {
+            let text = entries_text(alloc, &entries);
+            drop(entries);
+            text
+        }
         Err(fault) => damage_text(alloc, fault),
     }
+}
+
+/// The entries of a journal, out of its bytes.
+pub(crate) fn entries_in(alloc: Global, journal: &[u8]) -> Result<Vec<Entry>, EntriesFault>
+    ensures { IfOk result (λ entries. AllByRecursion FitsEntry entries.items) }
+{
+    Ok(into_entries(alloc, read_entries(alloc, journal)?)?)
 }
 
 pub(crate) fn damage_text(alloc: Global, fault: EntriesFault) -> Result<String, NoAnswer> {
@@ -83,7 +98,7 @@ fn entries_text(alloc: Global, entries: &[Entry]) -> Result<String, NoAnswer>
     Ok(line)
 }
 
-fn entry_text(alloc: Global, entry: &Entry) -> Result<String, NoAnswer>
+pub(crate) fn entry_text(alloc: Global, entry: &Entry) -> Result<String, NoAnswer>
     requires { FitsEntry entry.now }
 {
     Ok(hex::encode(alloc, entry_bytes(alloc, entry)?)?)
@@ -94,10 +109,11 @@ pub fn journal(alloc: Global, strings: &[Vec<u8>]) -> Result<String, NoAnswer> {
     let [bytes] = strings else {
         return Err(NoAnswer::NoSuchLine);
     };
-    match read_entries(alloc, bytes) {
+    match entries_in(alloc, bytes) {
         Ok(entries) => {
-            let bytes = journal_bytes(alloc, &into_entries(alloc, entries)?)?;
-            Ok(hex::encode(alloc, bytes)?)
+            let journal = journal_bytes(alloc, &entries);
+            drop(entries);
+            Ok(hex::encode(alloc, journal?)?)
         }
         Err(fault) => damage_text(alloc, fault),
     }
@@ -105,8 +121,7 @@ pub fn journal(alloc: Global, strings: &[Vec<u8>]) -> Result<String, NoAnswer> {
 
 /// The journal of batches, sealed by the key that was made last, which is kept.
 pub fn seal(alloc: Global, state: &mut State, strings: &[Vec<u8>]) -> Result<String, NoAnswer> {
-    let batches = read_batches(alloc, strings)?;
-    match sealed(alloc, state.secret()?, batches) {
+    match sealed(alloc, state.secret()?, read_batches(alloc, strings)?) {
         Ok(journal) => state.keep(alloc, journal),
         Err(fault) => seal_fault_text(alloc, fault),
     }
@@ -128,12 +143,18 @@ fn read_batches(alloc: Global, strings: &[Vec<u8>]) -> Result<List<Batch>, NoAns
 {
     let mut batches = List::new(alloc);
     for string in strings {
-        match read_batch(alloc, string) {
-            Ok(batch) => batches.push(batch)?,
-            Err(_) => return Err(NoAnswer::NoSuchLine),
-        }
+        batches.push(batch_in(alloc, string)?)?;
     }
     Ok(batches)
+}
+
+pub(crate) fn batch_in(alloc: Global, bytes: &[u8]) -> Result<Batch, NoAnswer>
+    ensures { IfOk result (λ batch. FitsBatch batch.commands) }
+{
+    match read_batch(alloc, bytes) {
+        Ok(batch) => Ok(batch),
+        Err(_) => Err(NoAnswer::NoSuchLine),
+    }
 }
 
 /// How many entries an owner's journal has, and the catalog of its tables at a version.
@@ -142,7 +163,11 @@ pub fn owned_journal(alloc: Global, strings: &[Vec<u8>]) -> Result<String, NoAns
         return Err(NoAnswer::NoSuchLine);
     };
     match read_owned(alloc, &read_key(key)?, journal, number_of(version)?) {
-        Ok(owned) => owned_text(alloc, &owned),
+        Ok(owned) => {
+            let text = owned_text(alloc, &owned);
+            drop(owned);
+            text
+        }
         Err(fault) => bad_entry_text(alloc, fault),
     }
 }
@@ -158,7 +183,7 @@ fn owned_text(alloc: Global, owned: &OwnedJournal<'_>) -> Result<String, NoAnswe
     let count = owned.entries.len();
     match &owned.tables {
         Some(tables) => {
-            let catalog = catalog_text(alloc, &tables.catalog(alloc)?)?;
+            let catalog = last_catalog_text(alloc, tables.catalog(alloc)?)?;
             Ok(format!(in alloc; "{count} {catalog}")?)
         }
         None => Ok(format!(in alloc; "{count} no such version")?),
@@ -171,12 +196,16 @@ pub fn taken_journal(alloc: Global, strings: &[Vec<u8>]) -> Result<String, NoAns
         return Err(NoAnswer::NoSuchLine);
     };
     match read_loadable(alloc, &read_key(key)?, journal) {
-        Ok(taken) => taken_text(alloc, &taken),
+        Ok(taken) => {
+            let text = taken_text(alloc, &taken);
+            drop(taken);
+            text
+        }
         Err(fault) => bad_entry_text(alloc, fault),
     }
 }
 
 fn taken_text(alloc: Global, taken: &LoadableJournal<'_>) -> Result<String, NoAnswer> {
-    let catalog = catalog_text(alloc, &taken.tables.catalog(alloc)?)?;
+    let catalog = last_catalog_text(alloc, taken.tables.catalog(alloc)?)?;
     Ok(format!(in alloc; "{} {catalog}", taken.entries.len())?)
 }

@@ -13,7 +13,8 @@ pub fn make(alloc: Global, state: &mut State, strings: &[Vec<u8>]) -> Result<Str
     };
     let id = array_of::<16>(id)?;
     let seed = array_of::<32>(seed)?;
-    state.key = Some(key_of(alloc, id, seed, set_of(set)?, number_of(height)?)?);
+    let key = key_of(alloc, id, seed, set_of(set)?, number_of(height)?)?;
+    state.keep_key(key);
     public_key_text(alloc, state.secret()?)
 }
 
@@ -38,7 +39,8 @@ fn public_key_text(alloc: Global, key: &SecretKey) -> Result<String, NoAnswer> {
 
 /// Keeps a copy of the key in its place, and has its public key.
 pub fn copy(alloc: Global, state: &mut State) -> Result<String, NoAnswer> {
-    state.key = Some(state.secret()?.copy(alloc)?);
+    let key = state.secret()?.copy(alloc)?;
+    state.keep_key(key);
     public_key_text(alloc, state.secret()?)
 }
 

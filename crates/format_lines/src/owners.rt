@@ -1,18 +1,17 @@
 //! Calls of an owner that holds roots alone.
-ghost use Rattle.std.specs.Prelude.{IfOk};
+ghost use Rattle.std.specs.Prelude.{◌<◌, ◌^◌, ◌-◌, IfOk};
 ghost use Rattle.vo_spec.specs.Batches.{FitsBatch};
 ghost use Rattle.vo_spec.specs.Records.{FitsCatalog};
 
 use crate::arguments::number_of;
-use crate::journals::damage_text;
+use crate::journals::{batch_in, damage_text, entries_in, entry_text};
 use crate::keys::read_key;
 use crate::records::catalog_text;
 use crate::state::State;
-use batch_format::read_batch;
 use line_pieces::{NoAnswer, form_of};
 use lms_sign::SecretKey;
 use owner_state::{
-    Owner, OwnerFault, ReplayFault, Roots, entry_bytes, into_entries, owned, read_entries, replay,
+    EntriesFault, Owner, OwnerFault, ReplayFault, Roots, owned, read_entries, replay,
 };
 use std::alloc::Global;
 use version_record::read_catalog;
@@ -21,8 +20,23 @@ use vo_spec::{Batch, Catalog, Digest};
 /// The entry of version 0 by the key that was made last.
 pub fn start(alloc: Global, state: &State) -> Result<String, NoAnswer> {
     let (owner, entry) = Owner::start(alloc, state.secret()?)?;
-    let roots = roots_text(alloc, owner.roots())?;
-    let entry = hex::encode(alloc, entry_bytes(alloc, &entry)?)?;
+    let digits = entry_text(alloc, &entry);
+    drop(entry);
+    let text = with_roots(alloc, digits, owner.roots());
+    drop(owner);
+    text
+}
+
+/// An entry's digits and the roots behind it.
+fn with_roots(
+    alloc: Global,
+    entry: Result<String, NoAnswer>,
+    roots: &Roots,
+) -> Result<String, NoAnswer>
+    requires { FitsCatalog roots.now.catalog }
+{
+    let entry = entry?;
+    let roots = roots_text(alloc, roots)?;
     Ok(format!(in alloc; "{entry} {roots}")?)
 }
 
@@ -44,8 +58,24 @@ pub fn next(alloc: Global, strings: &[Vec<u8>]) -> Result<String, NoAnswer> {
     }
     let catalog = catalog_in(alloc, catalog)?;
     let roots = Roots { version, catalog };
-    match roots.next(alloc, &batch_in(alloc, batch)?, proofs) {
-        Ok(next) => roots_text(alloc, &next),
+    let text = next_text(alloc, &roots, batch, proofs);
+    drop(roots);
+    text
+}
+
+fn next_text(alloc: Global, roots: &Roots, batch: &[u8], proofs: &[u8]) -> Result<String, NoAnswer>
+    requires version { roots.now.version < 2 ^ 64 - 1 }
+    requires catalog { FitsCatalog roots.now.catalog }
+{
+    let batch = batch_in(alloc, batch)?;
+    let next = roots.next(alloc, &batch, proofs);
+    drop(batch);
+    match next {
+        Ok(next) => {
+            let text = roots_text(alloc, &next);
+            drop(next);
+            text
+        }
         Err(fault) => owner_fault_text(alloc, fault),
     }
 }
@@ -55,15 +85,6 @@ fn catalog_in(alloc: Global, bytes: &[u8]) -> Result<Catalog, NoAnswer>
 {
     match read_catalog(alloc, bytes) {
         Ok(catalog) => Ok(catalog),
-        Err(_) => Err(NoAnswer::NoSuchLine),
-    }
-}
-
-fn batch_in(alloc: Global, bytes: &[u8]) -> Result<Batch, NoAnswer>
-    ensures { IfOk result (λ batch. FitsBatch batch.commands) }
-{
-    match read_batch(alloc, bytes) {
-        Ok(batch) => Ok(batch),
         Err(_) => Err(NoAnswer::NoSuchLine),
     }
 }
@@ -100,33 +121,62 @@ pub fn step(alloc: Global, state: &State, strings: &[Vec<u8>]) -> Result<String,
     let [journal, batch, proofs] = strings else {
         return Err(NoAnswer::NoSuchLine);
     };
+    let key = state.secret()?;
     let batch = batch_in(alloc, batch)?;
-    match owner_behind(alloc, state.secret()?, journal)? {
-        Ok(owner) => step_text(alloc, owner, &batch, proofs),
-        Err(text) => Ok(text),
-    }
+    let text = step_behind(alloc, key, journal, &batch, proofs);
+    drop(batch);
+    text
 }
 
-/// The owner of the key behind a journal, or what is said of the journal.
-fn owner_behind(
+fn step_behind(
     alloc: Global,
     key: &SecretKey,
     journal: &[u8],
-) -> Result<Result<Owner, String>, NoAnswer> {
-    let entries = match read_entries(alloc, journal) {
-        Ok(entries) => into_entries(alloc, entries)?,
-        Err(fault) => return Ok(Err(damage_text(alloc, fault)?)),
-    };
-    match replay(alloc, key, &entries) {
-        Ok(owner) => Ok(Ok(owner)),
-        Err(ReplayFault::Entry { index }) => Ok(Err(format!(in alloc; "(Entry {index})")?)),
-        Err(ReplayFault::Memory) => Err(NoAnswer::Memory),
+    batch: &Batch,
+    proofs: &[u8],
+) -> Result<String, NoAnswer>
+    requires { FitsBatch batch.now.commands }
+{
+    match owner_behind(alloc, key, journal) {
+        Ok(mut owner) => {
+            let text = step_text(alloc, &mut owner, batch, proofs);
+            drop(owner);
+            text
+        }
+        Err(fault) => no_owner_text(alloc, fault),
+    }
+}
+
+/// Why there is no owner behind a journal.
+#[derive(Clone, Copy)]
+enum NoOwner {
+    Journal(EntriesFault),
+    Replay(ReplayFault),
+}
+
+/// The owner of the key behind a journal.
+fn owner_behind(alloc: Global, key: &SecretKey, journal: &[u8]) -> Result<Owner, NoOwner> {
+    match entries_in(alloc, journal) {
+        Ok(entries) => {
+            let owner = replay(alloc, key, &entries);
+            drop(entries);
+            owner.map_err(NoOwner::Replay)
+        }
+        Err(fault) => Err(NoOwner::Journal(fault)),
+    }
+}
+
+fn no_owner_text(alloc: Global, fault: NoOwner) -> Result<String, NoAnswer> {
+    match fault {
+        NoOwner::Journal(fault) => damage_text(alloc, fault),
+        NoOwner::Replay(ReplayFault::Entry { index }) => Ok(format!(in alloc; "(Entry {index})")?),
+        NoOwner::Replay(ReplayFault::Memory) => Err(NoAnswer::Memory),
     }
 }
 
 fn step_text(
     alloc: Global,
-    mut owner: Owner,
+    owner: &mut Owner,
     batch: &Batch,
     proofs: &[u8],
 ) -> Result<String, NoAnswer>
@@ -134,10 +184,9 @@ fn step_text(
 {
     match owner.step(alloc, batch, proofs) {
         Ok(step) => {
-            let entry = hex::encode(alloc, entry_bytes(alloc, &step.entry)?)?;
+            let entry = entry_text(alloc, &step.entry);
             owner.advance(step);
-            let roots = roots_text(alloc, owner.roots())?;
-            Ok(format!(in alloc; "{entry} {roots}")?)
+            with_roots(alloc, entry, owner.roots())
         }
         Err(fault) => owner_fault_text(alloc, fault),
     }
@@ -152,9 +201,13 @@ pub fn replay_entries(
     let [journal] = strings else {
         return Err(NoAnswer::NoSuchLine);
     };
-    match owner_behind(alloc, state.secret()?, journal)? {
-        Ok(owner) => roots_text(alloc, owner.roots()),
-        Err(text) => Ok(text),
+    match owner_behind(alloc, state.secret()?, journal) {
+        Ok(owner) => {
+            let text = roots_text(alloc, owner.roots());
+            drop(owner);
+            text
+        }
+        Err(fault) => no_owner_text(alloc, fault),
     }
 }
 
@@ -163,10 +216,12 @@ pub fn owned_entries(alloc: Global, strings: &[Vec<u8>]) -> Result<String, NoAns
     let [key, journal] = strings else {
         return Err(NoAnswer::NoSuchLine);
     };
+    let key = read_key(key)?;
     match read_entries(alloc, journal) {
         Ok(entries) => {
-            let count = owned(alloc, &read_key(key)?, entries.as_slice())?;
-            Ok(format!(in alloc; "{count}")?)
+            let count = owned(alloc, &key, entries.as_slice());
+            drop(entries);
+            Ok(format!(in alloc; "{}", count?)?)
         }
         Err(fault) => damage_text(alloc, fault),
     }

@@ -21,7 +21,7 @@ pub fn catalog(alloc: Global, strings: &[Vec<u8>]) -> Result<String, NoAnswer> {
         return Err(NoAnswer::NoSuchLine);
     };
     match read_catalog(alloc, bytes) {
-        Ok(catalog) => catalog_text(alloc, &catalog),
+        Ok(catalog) => last_catalog_text(alloc, catalog),
         Err(fault) => read_fault(alloc, fault),
     }
 }
@@ -34,6 +34,15 @@ pub fn catalog_text(alloc: Global, catalog: &Catalog) -> Result<String, NoAnswer
     let digest = hex::encode(alloc, digest.as_bytes())?;
     let bytes = hex::encode(alloc, catalog_bytes(alloc, catalog)?)?;
     Ok(format!(in alloc; "{digest} {bytes}")?)
+}
+
+/// The same of one that is let go of.
+pub fn last_catalog_text(alloc: Global, catalog: Catalog) -> Result<String, NoAnswer>
+    requires { FitsCatalog catalog }
+{
+    let text = catalog_text(alloc, &catalog);
+    drop(catalog);
+    text
 }
 
 /// A record's version and catalog, and its bytes again.

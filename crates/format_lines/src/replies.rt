@@ -23,7 +23,11 @@ pub fn reply(alloc: Global, strings: &[Vec<u8>]) -> Result<String, NoAnswer> {
         return Err(NoAnswer::NoSuchLine);
     };
     match read_reply(alloc, bytes) {
-        Ok(reply) => reply_text(alloc, &reply),
+        Ok(reply) => {
+            let text = reply_text(alloc, &reply);
+            drop(reply);
+            text
+        }
         Err(fault) => read_fault(alloc, fault),
     }
 }
@@ -44,7 +48,11 @@ pub fn proofs(alloc: Global, strings: &[Vec<u8>]) -> Result<String, NoAnswer> {
         return Err(NoAnswer::NoSuchLine);
     };
     match read_proofs(alloc, bytes) {
-        Ok(trees) => proofs_text(alloc, &trees),
+        Ok(trees) => {
+            let text = proofs_text(alloc, &trees);
+            drop(trees);
+            text
+        }
         Err(fault) => read_fault(alloc, fault),
     }
 }
@@ -76,7 +84,11 @@ pub fn answer_by(alloc: Global, strings: &[Vec<u8>]) -> Result<String, NoAnswer>
         return Err(NoAnswer::NoSuchLine);
     };
     match parse_query(alloc, query) {
-        Ok(query) => answer_to(alloc, key, &query, journal),
+        Ok(query) => {
+            let answer = answer_to(alloc, key, &query, journal);
+            drop(query);
+            answer
+        }
         Err(_) => Err(NoAnswer::NoSuchLine),
     }
 }

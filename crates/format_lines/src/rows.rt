@@ -1,5 +1,5 @@
 //! Calls of values and rows.
-ghost use Rattle.vo_spec.specs.Fits.{FitsRow};
+ghost use Rattle.vo_spec.specs.Fits.{FitsCells, FitsRow, FitsRowPart};
 
 use crate::arguments::{column_of, digest_in};
 use crate::hashing::hex_digest;
@@ -11,7 +11,7 @@ use attr_digest::{
 use line_pieces::{NoAnswer, form_of};
 use std::alloc::Global;
 use tagged_hash::Hasher;
-use vo_spec::{Cell, Key, Row, RowPart};
+use vo_spec::{Cell, Key, Row, RowPart, Value};
 
 /// The digest of a value's bytes.
 pub fn value(alloc: Global, strings: &[Vec<u8>]) -> Result<String, NoAnswer> {
@@ -41,7 +41,16 @@ pub fn cell(alloc: Global, strings: &[Vec<u8>]) -> Result<String, NoAnswer> {
 
 /// The digest of a row of these cells.
 pub fn row(alloc: Global, strings: &[Vec<u8>]) -> Result<String, NoAnswer> {
-    hex_digest(alloc, row_digest(&read_row(alloc, strings)?))
+    digest_text(alloc, read_row(alloc, strings)?)
+}
+
+/// The digest of a row, which is let go of.
+fn digest_text(alloc: Global, row: RowPart<'_>) -> Result<String, NoAnswer>
+    requires { FitsRowPart row }
+{
+    let digest = row_digest(&row);
+    drop(row);
+    hex_digest(alloc, digest)
 }
 
 /// The digest of a row that is closed to this one.
@@ -49,13 +58,15 @@ pub fn closed_row(alloc: Global, strings: &[Vec<u8>]) -> Result<String, NoAnswer
     let [digest] = strings else {
         return Err(NoAnswer::NoSuchLine);
     };
-    hex_digest(alloc, row_digest(&RowPart::Digest(digest_in(digest)?)))
+    digest_text(alloc, RowPart::Digest(digest_in(digest)?))
 }
 
 /// The digest of a row of these values.
 pub fn whole_row(alloc: Global, strings: &[Vec<u8>]) -> Result<String, NoAnswer> {
     let values = read_values(alloc, strings)?;
-    hex_digest(alloc, whole_row_digest(values.as_slice()))
+    let digest = whole_row_digest(values.as_slice());
+    drop(values);
+    hex_digest(alloc, digest)
 }
 
 /// The cells of a row of these values, behind the columns that are shown.
@@ -63,18 +74,26 @@ pub fn hide(alloc: Global, strings: &[Vec<u8>]) -> Result<String, NoAnswer> {
     let [columns, values @ ..] = strings else {
         return Err(NoAnswer::NoSuchLine);
     };
-    let row = Row {
-        key: Key::from_vec(Vec::new(alloc)),
-        cells: read_values(alloc, values)?,
-    };
-    hide_row(alloc, &row, columns)
+    let cells = read_values(alloc, values)?;
+    let key = Key::from_vec(Vec::new(alloc));
+    let row = Row { key, cells };
+    let text = hide_row(alloc, &row, columns);
+    drop(row);
+    text
 }
 
 fn hide_row(alloc: Global, row: &Row, columns: &[u8]) -> Result<String, NoAnswer>
     requires { FitsRow row.now }
 {
-    match hide_columns(alloc, row, columns)? {
-        RowPart::Digest(digest) => hex_digest(alloc, digest),
+    let part = hide_columns(alloc, row, columns)?;
+    let text = part_text(alloc, &part);
+    drop(part);
+    text
+}
+
+fn part_text(alloc: Global, part: &RowPart<'_>) -> Result<String, NoAnswer> {
+    match part {
+        RowPart::Digest(digest) => hex_digest(alloc, *digest),
         RowPart::Cells(cells) => cells_text(alloc, cells.as_slice()),
     }
 }
@@ -85,8 +104,18 @@ pub fn hide_cells(alloc: Global, strings: &[Vec<u8>]) -> Result<String, NoAnswer
         return Err(NoAnswer::NoSuchLine);
     };
     let values = read_values(alloc, values)?;
-    let cells = hide_columns_of(alloc, values.as_slice(), columns)?;
-    cells_text(alloc, cells.as_slice())
+    let text = hide_values(alloc, values.as_slice(), columns);
+    drop(values);
+    text
+}
+
+fn hide_values(alloc: Global, values: &[Value], columns: &[u8]) -> Result<String, NoAnswer>
+    requires { FitsCells values.now }
+{
+    let cells = hide_columns_of(alloc, values, columns)?;
+    let text = cells_text(alloc, cells.as_slice());
+    drop(cells);
+    text
 }
 
 /// How many cells there are, and each as its value or its digest.

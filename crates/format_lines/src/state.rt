@@ -23,6 +23,11 @@ impl State {
         self.key.as_ref().ok_or(NoAnswer::NoSuchLine)
     }
 
+    /// Has this key from now on.
+    pub fn keep_key(&mut self, key: SecretKey) {
+        drop(self.key.replace(key));
+    }
+
     /// Keeps bytes that were made, and has them in hexadecimal.
     pub fn keep(&mut self, alloc: Global, bytes: Vec<u8>) -> Result<String, NoAnswer> {
         let answer = hex::encode(alloc, bytes.as_slice())?;
