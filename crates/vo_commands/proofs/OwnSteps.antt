@@ -161,10 +161,6 @@ opened_in_part secret (Some before) (Some after) known = λ image left. inl (lef
 opened_in_part secret None (Some after) known = absurd known
 opened_in_part secret (Some before) None known = absurd known
 
-pub on_any : {T : Type 0} (P : Type 0) (r : Result T Stop) → P → OnErr r P
-on_any P (Ok x) p = tt
-on_any P (Err stop) p = p
-
 module _ (secret : Secret) (es : List Entry) where
   as_before : (old mid new : Option DiskModel) → IfKnown old mid (λ before after. LeavesOnly before after (HoldsAsBefore before))
       → IfSome old (λ known. IsJournal known.seen es) → IfSome old (λ known. MayLeave known known.seen)

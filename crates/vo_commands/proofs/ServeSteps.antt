@@ -22,7 +22,7 @@ use Rattle.vo_commands.specs.declared.report.Stop.{Stop}
 use Rattle.vo_commands.specs.declared.report.Stop.TheVariants.{Refused, Outside, Memory}
 use Rattle.vo_commands.specs.Expected.{Expected, IsUnservableAt}
 use Rattle.vo_commands.specs.Reports.{WritesOutcome, output_of}
-use Rattle.vo_commands.specs.Serving.{EndsServing, FailsToListen, IsServedBy, IsServedFrom, Loads, ServeEnds}
+use Rattle.vo_commands.specs.Serving.{EndsServing, FailsToListen, IsServedBy, IsServedFrom, Loads, LoadsStore, ServeEnds, StopsLoading}
 
 -- Journals.
 
@@ -58,6 +58,11 @@ unservable_inside key journal es n slots stop =
 pub unservable_behind : (key journal : List ℕ) (es : List Entry) → AreSlots journal es → AreLoadable key es → IsDamaged journal es → IsUnservableAt key journal (length es)
 unfolding IsUnloadableAt
 unservable_behind key journal es slots are damaged = (fails_behind (AreLoadable key) journal es slots are (λ whole. damaged.1 es whole.0), damaged.1 [])
+
+pub stops_loading : (key journal : List ℕ) (es : List Entry) (stop : Stop) → AreSlots journal es → StopsLoading key es stop → LoadsStore key journal (Err stop)
+stops_loading key journal es (Refused report) slots stops = (stops.0, unservable_inside key journal es stops.0 slots stops.1, stops.2)
+stops_loading key journal es Outside slots stops = stops
+stops_loading key journal es Memory slots stops = tt
 
 -- Ends.
 

@@ -6,6 +6,7 @@ use Rattle.outside.specs.Outputs.{Output, Writes, outside_failure}
 use Rattle.vo_spec.specs.declared.records.Entry.{Entry}
 use Rattle.vo_spec.specs.Journals.{IsJournal}
 use Rattle.vo_spec.specs.Owners.{AreLoadable}
+use Rattle.owner_state.specs.Walking.{StopsAt}
 use Rattle.vo_store.specs.StoreState.{StoreState}
 use Rattle.vo_store.specs.Loading.{store_behind}
 use Rattle.connections.specs.declared.serve_fault.ServeFault.{ServeFault}
@@ -33,6 +34,13 @@ serve_expected _ files = None
 abbrev pub IsStoreOf : List ℕ → List ℕ → StoreState → Type 0
 IsStoreOf key journal s = (es : List Entry) × IsJournal journal es × AreLoadable key es
     × (s ≡ store_behind key es)
+
+-- why no store takes these entries
+abbrev pub StopsLoading : List ℕ → List Entry → Stop → Type 0
+StopsLoading key es (Refused report) = (index : ℕ) × StopsAt (AreLoadable key) es index
+    × (output_of report ≡ bad_journal index)
+StopsLoading key es Outside = ⊥
+StopsLoading key es Memory = Unit {0}
 
 -- The store of a journal, or the entry at which it fails.
 abbrev pub LoadsStore : List ℕ → List ℕ → Result StoreState Stop → Type 0

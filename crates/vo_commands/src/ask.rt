@@ -70,7 +70,10 @@ fn ask_by_key<N: Net>(
         (FailsOutside result) }
 {
     let text = query_in(alloc, query)?;
-    ask_store(alloc, net, address, key, query, &text, least)
+    let report = ask_store(alloc, net, address, key, query, &text, least);
+    // By a call: how a query is let go of is then spelled out nowhere here.
+    drop(text);
+    report
 }
 
 /// The same of a query, which was read from its text.
@@ -96,6 +99,11 @@ fn ask_store<N: Net>(
 {
     let mut client = Client::new(key, least);
     let mut checking = client.begin(alloc, query);
-    feed_reply(alloc, net, address, text, &mut checking)?;
-    client_report(alloc, checking.end(alloc, &mut client))
+    match feed_reply(alloc, net, address, text, &mut checking) {
+        Ok(()) => client_report(alloc, checking.end(alloc, &mut client)),
+        Err(stop) => {
+            drop(checking);
+            Err(stop)
+        }
+    }
 }

@@ -1,6 +1,7 @@
 //! `audit`: the verdict of an auditor with the owner's journal on a reply.
-ghost use Rattle.std.specs.Prelude.{[], ◌∷◌, IfSome};
-ghost use Rattle.vo_spec.specs.Conditions.{query_of};
+ghost use Rattle.std.specs.Prelude.{◌≡◌, ◌⊎◌, ℕ, List, [], ◌∷◌, Err, IfSome};
+ghost use Rattle.vo_spec.specs.Conditions.{Query, query_of};
+ghost use Rattle.owner_roots.specs.Owners.{OwnedAuditOf};
 ghost use Rattle.vo_commands.specs.Expected.{audit_expected, OfQuery, with_file, reply_limit, Audits};
 ghost use Rattle.vo_commands.specs.Reports.{Answers, StaysInside};
 ghost use Rattle.vo_commands.specs.Taking.{TakesFiles, One, SomeOf};
@@ -16,7 +17,7 @@ use lms_sign::PublicKey;
 use outside::Shelf;
 use std::alloc::Global;
 use vo_audit::audit as audit_reply;
-use vo_spec::{AuditFault, CheckFault, QueryText};
+use vo_spec::{AuditFault, CheckFault, QueryText, Verdict};
 
 /// The verdict on the reply, or why there is none.
 pub fn audit<F: Shelf>(
@@ -54,7 +55,10 @@ fn audit_query<F: Shelf>(
         files.new result }
 {
     let query = query_in(alloc, query)?;
-    audit_file(alloc, files, key, journal, &query, reply)
+    let report = audit_file(alloc, files, key, journal, &query, reply);
+    // By a call: how a query is let go of is then spelled out nowhere here.
+    drop(query);
+    report
 }
 
 /// The same of the reply in a file.
@@ -86,13 +90,26 @@ fn audit_report(
     ensures known { Answers (Audits key.now journal.now (query_of query.now) reply.now) result }
     ensures inside { StaysInside result }
 {
-    match audit_reply(alloc, key, journal, query, reply) {
-        Ok(verdict) => Ok(verdict_report(alloc, &verdict)?),
-        Err(AuditFault::BadJournal { index }) => Err(Stop::Refused(bad_entry(alloc, index)?)),
+    let verdict = audit_reply(alloc, key, journal, query, reply);
+    let report = report_of(alloc, &verdict);
+    drop(verdict);
+    report
+}
+
+/// What is printed of what an auditor says of a reply.
+fn report_of(alloc: Global, verdict: &Result<Verdict, AuditFault>) -> Result<Report, Stop>
+    ensures known { (key journal : List ℕ) (q : Query) (reply : List ℕ)
+        → (verdict.now ≡ Err AuditFault.Memory) ⊎ OwnedAuditOf key journal q reply verdict.now
+        → Answers (Audits key journal q reply) result }
+    ensures inside { StaysInside result }
+{
+    match verdict {
+        Ok(verdict) => Ok(verdict_report(alloc, verdict)?),
+        Err(AuditFault::BadJournal { index }) => Err(Stop::Refused(bad_entry(alloc, *index)?)),
         Err(AuditFault::Refused(CheckFault::Memory)) => Err(Stop::Memory),
-        Err(AuditFault::Refused(fault)) => Err(Stop::Refused(reply_refusal(
-            alloc, "refused:", &fault,
-        )?)),
+        Err(AuditFault::Refused(fault)) => {
+            Err(Stop::Refused(reply_refusal(alloc, "refused:", fault)?))
+        }
         Err(AuditFault::Memory) => Err(Stop::Memory),
     }
 }

@@ -35,7 +35,10 @@ pub fn check<F: Shelf>(
 {
     let key = take_key(alloc, files, key)?;
     let query = query_in(alloc, query)?;
-    check_file(alloc, files, key, least, &query, reply)
+    let report = check_file(alloc, files, key, least, &query, reply);
+    // By a call: how a query is let go of is then spelled out nowhere here.
+    drop(query);
+    report
 }
 
 /// The same of the reply in a file.
@@ -79,9 +82,20 @@ pub fn client_report(alloc: Global, answer: Result<Answer, CheckFault>) -> Resul
         → Answers (Checks key least q reply) result }
     ensures inside { StaysInside result }
 {
+    let report = report_of(alloc, &answer);
+    drop(answer);
+    report
+}
+
+fn report_of(alloc: Global, answer: &Result<Answer, CheckFault>) -> Result<Report, Stop>
+    ensures known { (key : List ℕ) (least : ℕ) (q : Query) (reply : List ℕ)
+        → (answer.now ≡ Err CheckFault.Memory) ⊎ CheckOf key least q reply answer.now
+        → Answers (Checks key least q reply) result }
+    ensures inside { StaysInside result }
+{
     match answer {
-        Ok(answer) => Ok(answer_report(alloc, &answer)?),
+        Ok(answer) => Ok(answer_report(alloc, answer)?),
         Err(CheckFault::Memory) => Err(Stop::Memory),
-        Err(fault) => Err(Stop::Refused(reply_refusal(alloc, "refused:", &fault)?)),
+        Err(fault) => Err(Stop::Refused(reply_refusal(alloc, "refused:", fault)?)),
     }
 }

@@ -1,10 +1,11 @@
 //! The owner of a key with its journal on a disk, as a session sees it.
 ghost use Rattle.std.specs.Prelude.{◌≡◌, ◌+◌, ◌<◌, ◌≤◌, ◌^◌, ◌++◌, ◌∷◌, [], length, slice_get, IfOk, IfSome, IsErrOf, OnOk, OnErr};
 ghost use Rattle.outside.specs.FaultRose.{FaultRose};
+ghost use Rattle.outside.specs.Moments.{IfKnown, LeavesOnly};
 ghost use Rattle.vo_spec.specs.Batches.{FitsBatch};
 ghost use Rattle.vo_spec.specs.Journals.{FitsEntry};
 ghost use Rattle.owner_journal.specs.Entries.{entries_of};
-ghost use Rattle.owner_journal.specs.Resting.{IsAtRest};
+ghost use Rattle.owner_journal.specs.Resting.{HoldsWith, IsAtRest};
 ghost use Rattle.owner_session.specs.Runs.{KeepsBy};
 ghost use Rattle.vo_commands.specs.Committing.{AreOfVersions, CanGoOn, Follows, IsJudgement, LeavesWith, RefusesBy, entry_forms, held_behind, place_beside, place_by};
 
@@ -114,7 +115,10 @@ impl<D: Disk, K: Loan> SessionOwner for JournalOwner<'_, D, K> {
                 self.owner.advance(step);
                 Ok(())
             }
-            Err(fault) => Err(fault),
+            Err(fault) => {
+                drop(step);
+                Err(fault)
+            }
         }
     }
 }
@@ -148,7 +152,7 @@ impl<D: Disk> LentDisk<'_, D> {
 }
 
 /// The same on a disk that is at hand.
-fn append_entry<D: Disk>(
+pub fn append_entry<D: Disk>(
     alloc: Global,
     journal: &mut Journal,
     disk: &mut D,
@@ -164,6 +168,9 @@ fn append_entry<D: Disk>(
     ensures keeps { IfSome (D.drive disk.old) (IsAtRest (entries_of journal.old))
         → KeepsBy result (IfSome (D.drive disk.new) (IsAtRest (entries_of journal.new)))
         (LeavesWith (D.drive disk.new) (entries_of journal.new) entry.now) }
+    ensures any_moment { IfKnown (D.drive disk.old) (D.drive disk.new)
+        (λ before after. IsAtRest (entries_of journal.old) before
+        → LeavesOnly before after (HoldsWith (entries_of journal.old) entry.now)) }
     ensures counts { D.faults disk.old ≤ D.faults disk.new }
     ensures cause { IsErrOf result NoAppend.Disk
         → FaultRose (D.faults disk.old) (D.faults disk.new) }

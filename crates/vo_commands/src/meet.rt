@@ -1,6 +1,8 @@
 //! `meet`: two replies to one query against each other.
-ghost use Rattle.std.specs.Prelude.{[], ◌∷◌, IfSome};
-ghost use Rattle.vo_spec.specs.Conditions.{query_of};
+ghost use Rattle.std.specs.Prelude.{◌≡◌, ◌⊎◌, ℕ, List, [], ◌∷◌, Err, IfSome};
+ghost use Rattle.vo_spec.specs.Conditions.{Query, query_of};
+ghost use Rattle.reply_meeting.specs.Meetings.{RepliesMeet};
+ghost use Rattle.reply_meeting.specs.Views.{met_of};
 ghost use Rattle.vo_commands.specs.Expected.{meet_expected, with_file, reply_limit, Meets};
 ghost use Rattle.vo_commands.specs.Reports.{Answers, StaysInside};
 ghost use Rattle.vo_commands.specs.Taking.{TakesFiles, SomeOf};
@@ -13,7 +15,7 @@ use crate::report::{Report, Stop};
 use crate::texts::query_in;
 use lms_sign::PublicKey;
 use outside::Shelf;
-use reply_meeting::{MeetFault, meet_replies};
+use reply_meeting::{MeetFault, MetReplies, meet_replies};
 use std::alloc::Global;
 use vo_spec::QueryText;
 
@@ -33,7 +35,10 @@ pub fn meet<F: Shelf>(
 {
     let key = take_key(alloc, files, key)?;
     let query = query_in(alloc, query)?;
-    meet_files(alloc, files, &key, &query, first, second)
+    let report = meet_files(alloc, files, &key, &query, first, second);
+    // By a call: how a query is let go of is then spelled out nowhere here.
+    drop(query);
+    report
 }
 
 /// The same of the replies in two files.
@@ -67,13 +72,26 @@ fn meet_report(
     ensures known { Answers (Meets key.now (query_of query.now) first.now second.now) result }
     ensures inside { StaysInside result }
 {
-    match meet_replies(alloc, key, query, first, second) {
-        Ok(met) => Ok(meeting_report(alloc, &met)?),
+    let met = meet_replies(alloc, key, query, first, second);
+    let report = report_of(alloc, &met);
+    drop(met);
+    report
+}
+
+/// What is printed of what two replies come to.
+fn report_of(alloc: Global, met: &Result<MetReplies<'_>, MeetFault>) -> Result<Report, Stop>
+    ensures known { (key : List ℕ) (q : Query) (first second : List ℕ)
+        → (met.now ≡ Err MeetFault.Memory) ⊎ RepliesMeet key q first second (met_of met.now)
+        → Answers (Meets key q first second) result }
+    ensures inside { StaysInside result }
+{
+    match met {
+        Ok(met) => Ok(meeting_report(alloc, met)?),
         Err(MeetFault::First(fault)) => {
-            Err(Stop::Refused(reply_refusal(alloc, "refused first:", &fault)?))
+            Err(Stop::Refused(reply_refusal(alloc, "refused first:", fault)?))
         }
         Err(MeetFault::Second(fault)) => {
-            Err(Stop::Refused(reply_refusal(alloc, "refused second:", &fault)?))
+            Err(Stop::Refused(reply_refusal(alloc, "refused second:", fault)?))
         }
         Err(MeetFault::Memory) => Err(Stop::Memory),
     }

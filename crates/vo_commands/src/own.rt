@@ -99,7 +99,11 @@ fn own_with_key<F: Shelf, D: Disk, N: Net, S: Sink>(
         → 1 ≤ length before.queue → N.misses net.new ≡ N.misses net.old }
 {
     match take_batches(alloc, files, commitment.script) {
-        Ok(batches) => commit(alloc, key, &batches, disk, net, out, commitment.address),
+        Ok(batches) => {
+            let status = commit(alloc, key, &batches, disk, net, out, commitment.address);
+            drop(batches);
+            status
+        }
         Err(stop) => print_outcome(out, Err(stop)),
     }
 }
@@ -264,10 +268,12 @@ fn hold_session_on<'a, K: Loan, D: Disk, N: Net, S: Sink>(
     };
     let status = run_session(alloc, &mut owner, batches, net, out);
     let JournalOwner {
-        owner: _,
-        journal: _,
+        owner,
+        journal,
         lent,
         loan: _,
     } = owner;
+    drop(owner);
+    drop(journal);
     (lent, status)
 }

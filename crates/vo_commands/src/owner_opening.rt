@@ -1,5 +1,5 @@
 //! The owner of a key behind the last entry of its journal.
-ghost use Rattle.std.specs.Prelude.{◌≡◌, ◌<◌, ◌≤◌, [], ◌∷◌, false, length, IfErr, IfOk, IfSome, OnErr};
+ghost use Rattle.std.specs.Prelude.{◌≡◌, ◌<◌, ◌≤◌, [], ◌∷◌, false, length, IfErr, IfOk, IfSome, OnErr, OnOk};
 ghost use Rattle.std.specs.List.{AllByRecursion};
 ghost use Rattle.outside.specs.FaultRose.{FaultRose};
 ghost use Rattle.outside.specs.Moments.{IfKnown};
@@ -11,11 +11,13 @@ ghost use Rattle.vo_commands.specs.Committing.{CanGoOn};
 ghost use Rattle.vo_commands.specs.Owning.{LeavesAsBefore, LeavesAsFound, Opens, StopsAtFault, StopsOpening, StopsReplaying, or_first_entry};
 ghost use Rattle.vo_commands.specs.Reports.{StaysInside, FailsOutside};
 
+use crate::journal_owner::append_entry;
 use crate::refusals::bad_entry;
 use crate::report::Stop;
 use lms_sign::SecretKey;
 use outside::Disk;
 use owner_journal::{Journal, JournalFault};
+use owner_session::NoAppend;
 use owner_state::{Owner, ReplayFault, replay};
 use std::alloc::{AllocError, Global};
 use vo_spec::Entry;
@@ -88,8 +90,13 @@ fn owner_behind<D: Disk>(
     if journal.entries().is_empty() {
         begin_journal(alloc, key, journal, disk)
     } else {
-        let owner = replay_journal(alloc, key, journal.entries())?;
-        Ok(OpenedJournal { owner, journal })
+        match replay_journal(alloc, key, journal.entries()) {
+            Ok(owner) => Ok(OpenedJournal { owner, journal }),
+            Err(stop) => {
+                drop(journal);
+                Err(stop)
+            }
+        }
     }
 }
 
@@ -102,6 +109,7 @@ fn begin_journal<D: Disk>(
 ) -> Result<OpenedJournal, Stop>
     requires empty { entries_of journal ≡ [] }
     requires works { has_failed journal ≡ false }
+    requires fits { AllByRecursion FitsEntry (entries_of journal) }
     requires at_rest { IfSome (D.drive disk.old) (IsAtRest (entries_of journal)) }
     ensures key { IfOk result (λ opened. opened.owner.key ≡ key.now) }
     ensures entries { IfOk result (λ opened. entries_of opened.journal ≡ first_entry key.now ∷ []) }
@@ -117,12 +125,52 @@ fn begin_journal<D: Disk>(
     ensures cause { FailsOutside result
         → FaultRose (D.faults disk.old) (D.faults disk.new) }
 {
+    match start_owner(alloc, key, &mut journal, disk) {
+        Ok(owner) => Ok(OpenedJournal { owner, journal }),
+        Err(stop) => {
+            drop(journal);
+            Err(stop)
+        }
+    }
+}
+
+/// The same in a journal that is lent.
+fn start_owner<D: Disk>(
+    alloc: Global,
+    key: &SecretKey,
+    journal: &mut Journal,
+    disk: &mut D,
+) -> Result<Owner, Stop>
+    requires empty { entries_of journal.old ≡ [] }
+    requires works { has_failed journal.old ≡ false }
+    requires fits { AllByRecursion FitsEntry (entries_of journal.old) }
+    requires at_rest { IfSome (D.drive disk.old) (IsAtRest (entries_of journal.old)) }
+    ensures key { IfOk result (λ owner. owner.key ≡ key.now) }
+    ensures entries { OnOk result (entries_of journal.new ≡ first_entry key.now ∷ []) }
+    ensures steps { IfOk result (λ owner. AreStepsTo key.now (entries_of journal.new)
+        owner.roots) }
+    ensures at_rest { OnOk result (IfSome (D.drive disk.new) (IsAtRest (entries_of journal.new))) }
+    ensures can_go_on { OnOk result (CanGoOn journal.new) }
+    ensures stopped { IfErr result (StopsReplaying key.now []) }
+    ensures kept { OnErr result (IfKnown (D.drive disk.old) (D.drive disk.new)
+        (λ _. LeavesAsFound key.now (entries_of journal.old))) }
+    ensures counts { D.faults disk.old ≤ D.faults disk.new }
+    ensures cause { FailsOutside result
+        → FaultRose (D.faults disk.old) (D.faults disk.new) }
+{
     let (owner, first) = Owner::start(alloc, key)?;
-    match journal.append(alloc, disk, &first) {
-        Ok(()) => Ok(OpenedJournal { owner, journal }),
-        Err(JournalFault::Disk) => Err(Stop::Outside),
-        Err(JournalFault::Memory) => Err(Stop::Memory),
-        Err(JournalFault::Damaged { .. }) => unreachable!(),
+    let appended = append_entry(alloc, journal, disk, &first);
+    drop(first);
+    match appended {
+        Ok(()) => Ok(owner),
+        Err(NoAppend::Disk) => {
+            drop(owner);
+            Err(Stop::Outside)
+        }
+        Err(NoAppend::Memory) => {
+            drop(owner);
+            Err(Stop::Memory)
+        }
     }
 }
 

@@ -1,9 +1,13 @@
 //! `serve`: the store of a journal, over a network.
-ghost use Rattle.std.specs.Prelude.{◌≡◌, ◌⊎◌, ℕ, ◌≤◌, [], ◌∷◌, length, Some, IfOk, IfSome};
+ghost use Rattle.std.specs.Prelude.{◌≡◌, ◌⊎◌, ℕ, ◌≤◌, [], ◌∷◌, length, Some, IfErr, IfOk, IfSome};
+ghost use Rattle.std.specs.List.{AllByRecursion};
 ghost use Rattle.outside.specs.ConnectionModel.{ConnectionModel};
 ghost use Rattle.outside.specs.FaultRose.{FaultRose};
 ghost use Rattle.outside.specs.Outputs.{Writes};
-ghost use Rattle.vo_commands.specs.Serving.{FailsToListen, IsServedFrom, Loads, LoadsStore, ServeEnds, served_output, service_expected};
+ghost use Rattle.vo_spec.specs.Journals.{FitsEntry};
+ghost use Rattle.vo_spec.specs.Owners.{AreLoadable};
+ghost use Rattle.vo_store.specs.Loading.{store_behind};
+ghost use Rattle.vo_commands.specs.Serving.{FailsToListen, IsServedFrom, Loads, LoadsStore, ServeEnds, StopsLoading, served_output, service_expected};
 ghost use Rattle.vo_commands.specs.Reports.{StaysInside};
 ghost use Rattle.vo_commands.specs.Taking.{TakesFiles, LeavesFiles, SomeOf};
 
@@ -16,7 +20,7 @@ use crate::refusals::bad_entry;
 use crate::report::Stop;
 use lms_sign::PublicKey;
 use outside::{Net, Shelf, Sink, write_output};
-use owner_state::{Ending, read_slots};
+use owner_state::{Ending, LentEntry, read_slots};
 use std::alloc::{AllocError, Global};
 use vo_store::{LoadFault, Store};
 use vo_wire::{ServeFault, serve_all};
@@ -50,7 +54,11 @@ pub fn serve<F: Shelf, N: Net, S: Sink>(
         → service.now.count ≤ length before.queue → N.misses net.new ≡ N.misses net.old }
 {
     match load_store(alloc, files, service.key, service.journal) {
-        Ok(store) => serve_store(alloc, store, net, out, service.address, service.count),
+        Ok(mut store) => {
+            let status = serve_store(alloc, &mut store, net, out, service.address, service.count);
+            drop(store);
+            status
+        }
         Err(stop) => print_outcome(out, Err(stop)),
     }
 }
@@ -78,14 +86,31 @@ fn store_of(alloc: Global, key: PublicKey, journal: &[u8]) -> Result<Store, Stop
     ensures inside { StaysInside result }
 {
     let slots = read_slots(alloc, journal)?;
-    match Store::load(alloc, key, slots.entries.as_slice()) {
-        Ok(store) => match slots.ending {
+    let loaded = load_entries(alloc, key, slots.entries.as_slice());
+    let count = slots.entries.len() as u64;
+    let ending = slots.ending;
+    drop(slots);
+    match loaded {
+        Ok(store) => match ending {
             Ending::Closed { .. } => Ok(store),
             Ending::Damaged { .. } => {
-                let index = slots.entries.len() as u64;
-                Err(Stop::Refused(bad_entry(alloc, index)?))
+                drop(store);
+                Err(Stop::Refused(bad_entry(alloc, count)?))
             }
         },
+        Err(stop) => Err(stop),
+    }
+}
+
+/// A store that has taken these entries.
+fn load_entries(alloc: Global, key: PublicKey, entries: &[LentEntry<'_>]) -> Result<Store, Stop>
+    requires { AllByRecursion FitsEntry entries.now }
+    ensures taken { IfOk result (λ _. AreLoadable key entries.now) }
+    ensures state { IfOk result (λ store. store ≡ store_behind key entries.now) }
+    ensures stopped { IfErr result (StopsLoading key entries.now) }
+{
+    match Store::load(alloc, key, entries) {
+        Ok(store) => Ok(store),
         Err(LoadFault::Entry { index }) => Err(Stop::Refused(bad_entry(alloc, index)?)),
         Err(LoadFault::Memory) => Err(Stop::Memory),
     }
@@ -94,7 +119,7 @@ fn store_of(alloc: Global, key: PublicKey, journal: &[u8]) -> Result<Store, Stop
 /// Serves so many connections at this address.
 fn serve_store<N: Net, S: Sink>(
     alloc: Global,
-    store: Store,
+    store: &mut Store,
     net: &mut N,
     out: &mut S,
     address: &str,
@@ -103,7 +128,7 @@ fn serve_store<N: Net, S: Sink>(
     ensures ends { FailsToListen (FaultRose (N.faults net.old) (N.faults net.new))
         (FaultRose (S.faults out.old) (S.faults out.new)) result
         (S.written out.old) (S.written out.new)
-        ⊎ IsServedFrom store count (FaultRose (N.faults net.old) (N.faults net.new))
+        ⊎ IsServedFrom store.old count (FaultRose (N.faults net.old) (N.faults net.new))
         (FaultRose (S.faults out.old) (S.faults out.new)) result
         (N.faults net.old) (N.faults net.new) (N.wire net.old) (N.wire net.new)
         (S.written out.old) (S.written out.new) }
@@ -121,12 +146,12 @@ fn serve_store<N: Net, S: Sink>(
 
 fn serve_connections<N: Net, S: Sink>(
     alloc: Global,
-    mut store: Store,
+    store: &mut Store,
     net: &mut N,
     out: &mut S,
     count: u32,
 ) -> u8
-    ensures ends { IsServedFrom store count (FaultRose (N.faults net.old) (N.faults net.new))
+    ensures ends { IsServedFrom store.old count (FaultRose (N.faults net.old) (N.faults net.new))
         (FaultRose (S.faults out.old) (S.faults out.new)) result
         (N.faults net.old) (N.faults net.new) (N.wire net.old) (N.wire net.new)
         (S.written out.old) (S.written out.new) }
@@ -137,7 +162,7 @@ fn serve_connections<N: Net, S: Sink>(
     ensures misses { (before : ConnectionModel) → N.wire net.old ≡ Some before
         → count ≤ length before.queue → N.misses net.new ≡ N.misses net.old }
 {
-    match serve_all(alloc, &mut store, net, out, count) {
+    match serve_all(alloc, store, net, out, count) {
         Ok(()) => write_served(alloc, out, count),
         Err(ServeFault::Network) => write_output(out, 3, b"fault: outside\n"),
         Err(ServeFault::Output) => 3,

@@ -6,7 +6,7 @@ use Rattle.vo_commands.proofs.audit.audit_query.Goals as goal
 pub returns-clause-known : goal.returns-clause-known
 returns-clause-known g c =
     query_known c.args.query.now _ (λ known q. with_file known c.args.reply.now reply_limit (λ bytes. Audits c.args.key.now c.args.journal.now q bytes)) _ _
-    c.in_ok-query.ensures c.audit_file.ensures.known
+    c.in_ok-query.ensures c.audit_file-report.ensures.known
 
 pub returns-clause-files : goal.returns-clause-files
-returns-clause-files g c = takes_some c.args.reply.now _ _ _ c.audit_file.ensures.files
+returns-clause-files g c = takes_some c.args.reply.now _ _ _ c.audit_file-report.ensures.files

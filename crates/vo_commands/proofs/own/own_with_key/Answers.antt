@@ -5,12 +5,12 @@ use Rattle.vo_commands.proofs.own.own_with_key.Goals as goal
 
 pub returns-in-Ok-clause-ends : goal.returns-in-Ok-clause-ends
 returns-in-Ok-clause-ends g c =
-    run_prepared (FaultRose (g.N.Link.faults c.args.net.now) (g.N.Link.faults c.commit.new.net))
-    (FaultRose (g.D.Disk.faults c.args.disk.now) (g.D.Disk.faults c.commit.new.disk))
-    (FaultRose (g.S.Sink.faults c.args.out.now) (g.S.Sink.faults c.commit.new.out)) c.commit.result (g.D.Disk.drive c.args.disk.now)
-    (g.D.Disk.drive c.commit.new.disk) (g.N.Link.wire c.args.net.now) (g.N.Link.wire c.commit.new.net) (g.S.Sink.written c.args.out.now) (g.S.Sink.written c.commit.new.out)
+    run_prepared (FaultRose (g.N.Link.faults c.args.net.now) (g.N.Link.faults c.commit-status.new.net))
+    (FaultRose (g.D.Disk.faults c.args.disk.now) (g.D.Disk.faults c.commit-status.new.disk))
+    (FaultRose (g.S.Sink.faults c.args.out.now) (g.S.Sink.faults c.commit-status.new.out)) c.commit-status.result (g.D.Disk.drive c.args.disk.now)
+    (g.D.Disk.drive c.commit-status.new.disk) (g.N.Link.wire c.args.net.now) (g.N.Link.wire c.commit-status.new.net) (g.S.Sink.written c.args.out.now) (g.S.Sink.written c.commit-status.new.out)
     (FaultRose (g.F.Shelf.faults c.args.files.now) (g.F.Shelf.faults c.take_batches.new.files)) c.args.key.now c.in-Ok.batches c.args.commitment.now.script.now
-    (g.F.Shelf.contents c.args.files.now) c.in-Ok.ensures.known (rw c.deref.ensures.value at c.commit.ensures.ends)
+    (g.F.Shelf.contents c.args.files.now) c.in-Ok.ensures.known (rw c.deref.ensures.value at c.commit-status.ensures.ends)
 
 pub returns-in-Err-clause-ends : goal.returns-in-Err-clause-ends
 returns-in-Err-clause-ends g c =
