@@ -10,15 +10,22 @@ use std::alloc::{AllocError, Global};
 use std::test::Fail;
 use store_requests::read_query;
 use vo_check::Client;
-use vo_spec::{Batch, Digest, List, Outcome, QueryFault, Record};
+use vo_spec::{Answer, Batch, CheckFault, Digest, List, Outcome, QueryFault, QueryText, Record};
 use vo_store::Store;
 
-/// A network of one connection, which stands.
-fn connection(alloc: Global, coming: &[u8]) -> Result<MemNet<Never>, Fail> {
-    let coming = vec![in alloc; Vec::from_slice(alloc, coming)?]?;
-    let mut net = MemNet::new(alloc, coming, Never)?.in_pieces(3);
-    net.next()?;
-    Ok(net)
+/// A network of one connection to come.
+fn network(alloc: Global, coming: &[u8]) -> Result<MemNet<Never>, AllocError> {
+    let coming = Vec::from_slice(alloc, coming)?;
+    let connections = vec![in alloc; coming]?;
+    Ok(MemNet::new(alloc, connections, Never)?.in_pieces(3))
+}
+
+/// How serving the next connection ended.
+fn served_end(alloc: Global, store: &mut Store, net: &mut MemNet<Never>) -> Option<End> {
+    match net.next() {
+        Ok(()) => Some(serve_link(alloc, store, net)),
+        Err(_) => None,
+    }
 }
 
 /// A new store, whose key signs nothing.
@@ -29,116 +36,241 @@ fn empty_store(alloc: Global) -> Result<Store, Fail> {
     Ok(Store::new(alloc, PublicKey::read(&key)?)?)
 }
 
+fn empty_store_ends_on(
+    alloc: Global,
+    net: &mut MemNet<Never>,
+    end: End,
+    sent: &[u8],
+) -> Result<bool, Fail> {
+    let mut store = empty_store(alloc)?;
+    let found = served_end(alloc, &mut store, net);
+    drop(store);
+    Ok(found == Some(end) && net.sent() == sent)
+}
+
+/// Whether a connection to an empty store, on which this comes, ends so, and with this sent.
+fn empty_store_ends(alloc: Global, coming: &[u8], end: End, sent: &[u8]) -> Result<bool, Fail> {
+    let mut net = network(alloc, coming)?;
+    let is_so = empty_store_ends_on(alloc, &mut net, end, sent);
+    drop(net);
+    is_so
+}
+
 #[test]
 fn an_empty_store_refuses(rt: HostRuntime) -> Result<(), Fail> {
     // A status, a text that is no query, a query, and a batch of no commands.
     let coming = b"\x00\x00\x00\x01\x02\x00\x00\x00\x02\x01x\
         \x00\x00\x00\x10\x01SELECT * FROM t\x00\x00\x00\x03\x03\x00\x00";
-    let mut net = connection(rt.alloc(), coming)?;
-    let end = serve_link(rt.alloc(), &mut empty_store(rt.alloc())?, &mut net);
     let due = b"\x00\x00\x00\x02\x82\x00\x00\x00\x00\x02\x8f\x01\
         \x00\x00\x00\x02\x8f\x02\x00\x00\x00\x02\x8f\x02";
-    assert_eq!(rt; (end, net.sent()), (End::Closed, due.as_slice()));
-    Ok(())
-}
-
-#[test]
-fn a_body_that_is_no_batch_ends_the_connection(rt: HostRuntime) -> Result<(), Fail> {
-    let mut net = connection(rt.alloc(), b"\x00\x00\x00\x03\x03\x00\x01\x00")?;
-    let end = serve_link(rt.alloc(), &mut empty_store(rt.alloc())?, &mut net);
-    assert_eq!(rt; (end, net.sent().len()), (End::BadFrame { length: 3 }, 0));
+    assert!(rt; empty_store_ends(rt.alloc(), coming, End::Closed, due)?);
+    let no_batch = b"\x00\x00\x00\x03\x03\x00\x01\x00";
+    assert!(rt; empty_store_ends(rt.alloc(), no_batch, End::BadFrame { length: 3 }, b"")?);
     Ok(())
 }
 
 /// What an owner of this key puts: version 0 to install, a batch of no commands, and a status.
-fn owner_requests(alloc: Global, key: &SecretKey) -> Result<Vec<u8>, Fail> {
-    let (owner, entry) = Owner::start(alloc, key)?;
-    let _ = owner;
+fn owner_requests_on(
+    alloc: Global,
+    net: &mut MemNet<Never>,
+    key: &SecretKey,
+) -> Result<Vec<u8>, AllocError> {
+    let started = Owner::start(alloc, key)?;
+    let _ = net.next();
+    let _ = install_link(alloc, net, &started.1.rec, started.1.signature.as_slice());
+    drop(started);
     let batch = Batch {
         commands: List::new(alloc),
     };
-    let mut net = connection(alloc, b"")?;
-    let _ = install_link(alloc, &mut net, &entry.rec, entry.signature.as_slice());
-    let _ = propose_link(alloc, &mut net, &batch);
-    let _ = status_link(alloc, &mut net);
-    Ok(Vec::from_slice(alloc, net.sent())?)
+    let _ = propose_link(alloc, net, &batch);
+    drop(batch);
+    let _ = status_link(alloc, net);
+    Vec::from_slice(alloc, net.sent())
+}
+
+fn owner_requests(alloc: Global, key: &SecretKey) -> Result<Vec<u8>, AllocError> {
+    let mut net = network(alloc, b"")?;
+    let requests = owner_requests_on(alloc, &mut net, key);
+    drop(net);
+    requests
+}
+
+/// A network on which these come.
+fn owner_network(alloc: Global, key: &SecretKey) -> Result<MemNet<Never>, AllocError> {
+    let requests = owner_requests(alloc, key)?;
+    let net = network(alloc, &requests);
+    drop(requests);
+    net
+}
+
+fn are_answered(alloc: Global, key: PublicKey, net: &mut MemNet<Never>) -> Result<bool, Fail> {
+    let mut store = Store::new(alloc, key)?;
+    let end = served_end(alloc, &mut store, net);
+    drop(store);
+    // What was installed, the proofs, and the front of the standing.
+    let front = b"\x00\x00\x00\x09\x84\x00\x00\x00\x00\x00\x00\x00\x00\
+        \x00\x00\x00\x07\x83VOU1\x00\x00\
+        \x00\x00\x00\x3e\x82\x01VREC";
+    let answers = net.sent();
+    let has_length = answers.len() == 13 + 11 + 66;
+    Ok(end == Some(End::Closed) && has_length && answers.starts_with(front.as_slice()))
+}
+
+fn owner_is_answered(alloc: Global, key: &SecretKey) -> Result<bool, Fail> {
+    let mut net = owner_network(alloc, key)?;
+    let is_answered = are_answered(alloc, key.public(), &mut net);
+    drop(net);
+    is_answered
 }
 
 #[test]
 fn an_owner_installs_and_proposes(rt: HostRuntime) -> Result<(), Fail> {
     let key = SecretKey::make(rt.alloc(), [7; 16], [8; 32], OtsType::W1, 5)?;
-    let requests = owner_requests(rt.alloc(), &key)?;
-    let mut net = connection(rt.alloc(), &requests)?;
-    let mut store = Store::new(rt.alloc(), key.public())?;
-    let end = serve_link(rt.alloc(), &mut store, &mut net);
-    let answers = net.sent();
-    let installed = b"\x00\x00\x00\x09\x84\x00\x00\x00\x00\x00\x00\x00\x00";
-    let proofs = b"\x00\x00\x00\x07\x83VOU1\x00\x00";
-    let standing = b"\x00\x00\x00\x3e\x82\x01VREC";
-    let installed_and_proofs = [installed.as_slice(), proofs.as_slice()].concat(rt.alloc())?;
-    assert_eq!(rt; (end, answers.len()), (End::Closed, 13 + 11 + 66));
-    assert!(rt; answers.starts_with(installed_and_proofs.as_slice()));
-    assert_eq!(rt; &answers[24..34], standing.as_slice());
+    let is_answered = owner_is_answered(rt.alloc(), &key);
+    drop(key);
+    assert!(rt; is_answered?);
     Ok(())
 }
 
-#[test]
-fn answers_are_read(rt: HostRuntime) -> Result<(), Fail> {
-    let mut net = connection(
-        rt.alloc(),
-        b"\x00\x00\x00\x02\x82\x00\x00\x00\x00\x02\x82\x05\x00\x00\x00\x02\x8f\x04\x00",
-    )?;
+fn are_read(alloc: Global, net: &mut MemNet<Never>) -> bool {
     let rec = Record {
         id: [0; 16],
         version: 0,
         catalog: Digest::new([0; 32]),
     };
-    let empty = status_link(rt.alloc(), &mut net)?;
-    let bad = status_link(rt.alloc(), &mut net).err();
-    let refused = install_link(rt.alloc(), &mut net, &rec, b"").err();
-    let cut = install_link(rt.alloc(), &mut net, &rec, b"").err();
-    assert_eq!(rt; empty.is_none(), true);
-    assert_eq!(rt;
-        (bad, refused, cut),
-        (
-            Some(WireFault::BadFrame { length: 2 }),
-            Some(WireFault::Refused { code: 4 }),
-            Some(WireFault::Cut { got: 1 })
-        )
+    let is_connected = net.next().is_ok();
+    let is_empty = matches!(status_link(alloc, net), Ok(None));
+    let faults = (
+        status_link(alloc, net).err(),
+        install_link(alloc, net, &rec, b"").err(),
+        install_link(alloc, net, &rec, b"").err(),
     );
+    let due = (
+        Some(WireFault::BadFrame { length: 2 }),
+        Some(WireFault::Refused { code: 4 }),
+        Some(WireFault::Cut { got: 1 }),
+    );
+    is_connected && is_empty && faults == due
+}
+
+#[test]
+fn answers_are_read(rt: HostRuntime) -> Result<(), Fail> {
+    let coming = b"\x00\x00\x00\x02\x82\x00\x00\x00\x00\x02\x82\x05\x00\x00\x00\x02\x8f\x04\x00";
+    let mut net = network(rt.alloc(), coming)?;
+    let are_read = are_read(rt.alloc(), &mut net);
+    drop(net);
+    assert!(rt; are_read);
     Ok(())
 }
 
-/// A network of one connection to come, on which a store of this key answers a query.
-fn net_with_reply(alloc: Global, key: &SecretKey) -> Result<MemNet<Never>, Fail> {
-    let mut store = Store::new(alloc, key.public())?;
-    let mut net = connection(alloc, &owner_requests(alloc, key)?)?;
-    let _ = serve_link(alloc, &mut store, &mut net);
-    let mut net = connection(alloc, b"\x00\x00\x00\x10\x01SELECT * FROM t")?;
-    let _ = serve_link(alloc, &mut store, &mut net);
-    let coming = vec![in alloc; Vec::from_slice(alloc, net.sent())?]?;
-    Ok(MemNet::new(alloc, coming, Never)?.in_pieces(3))
+/// What a store that the owner of this key has filled replies to a query.
+fn reply_on(
+    alloc: Global,
+    store: &mut Store,
+    net: &mut MemNet<Never>,
+) -> Result<Vec<u8>, AllocError> {
+    let _ = served_end(alloc, store, net);
+    let mut asking = network(alloc, b"\x00\x00\x00\x10\x01SELECT * FROM t")?;
+    let _ = served_end(alloc, store, &mut asking);
+    let sent = Vec::from_slice(alloc, asking.sent());
+    drop(asking);
+    sent
+}
+
+fn reply_to_query(
+    alloc: Global,
+    key: PublicKey,
+    net: &mut MemNet<Never>,
+) -> Result<Vec<u8>, AllocError> {
+    let mut store = Store::new(alloc, key)?;
+    let reply = reply_on(alloc, &mut store, net);
+    drop(store);
+    reply
+}
+
+fn reply(alloc: Global, key: &SecretKey) -> Result<Vec<u8>, AllocError> {
+    let mut net = owner_network(alloc, key)?;
+    let reply = reply_to_query(alloc, key.public(), &mut net);
+    drop(net);
+    reply
+}
+
+/// Whether this is an answer of version 0 that there is no such table.
+fn is_wrong(answer: Result<Answer, CheckFault>) -> bool {
+    match answer {
+        Ok(answer) => {
+            let is_table = matches!(answer.outcome, Outcome::Wrong(QueryFault::NoTable(_)));
+            let is_first = answer.version == 0;
+            drop(answer);
+            is_table && is_first
+        }
+        Err(_) => false,
+    }
+}
+
+fn is_asked(
+    alloc: Global,
+    client: &mut Client,
+    query: &QueryText,
+    net: &mut MemNet<Never>,
+) -> bool {
+    let mut checking = client.begin(alloc, query);
+    let is_connected = net.next().is_ok();
+    let is_asked = ask_into(alloc, net, b"SELECT * FROM t", &mut checking).is_ok();
+    is_wrong(checking.end(alloc, client)) && is_connected && is_asked
+}
+
+fn is_fetched(
+    alloc: Global,
+    client: &mut Client,
+    query: &QueryText,
+    net: &mut MemNet<Never>,
+) -> bool {
+    let mut checking = client.begin(alloc, query);
+    let is_fetched = fetch_into(alloc, net, "there", b"SELECT * FROM t", &mut checking).is_ok();
+    is_wrong(checking.end(alloc, client)) && is_fetched
+}
+
+/// Whether a reply is taken over a connection that stands, and over one of its own.
+fn is_checked_twice(
+    alloc: Global,
+    key: PublicKey,
+    query: &QueryText,
+    reply: &[u8],
+) -> Result<bool, AllocError> {
+    let mut client = Client::new(key, 0);
+    let mut net = network(alloc, reply)?;
+    let is_asked = is_asked(alloc, &mut client, query, &mut net);
+    drop(net);
+    let mut net = network(alloc, reply)?;
+    let is_fetched = is_fetched(alloc, &mut client, query, &mut net);
+    drop(net);
+    Ok(is_asked && is_fetched)
+}
+
+fn is_checked(alloc: Global, key: PublicKey, reply: &[u8]) -> Result<bool, AllocError> {
+    match read_query(alloc, b"SELECT * FROM t")? {
+        Some(query) => {
+            let is_checked = is_checked_twice(alloc, key, &query, reply);
+            drop(query);
+            is_checked
+        }
+        None => Ok(false),
+    }
+}
+
+fn reply_is_checked(alloc: Global, key: &SecretKey) -> Result<bool, AllocError> {
+    let reply = reply(alloc, key)?;
+    let is_checked = is_checked(alloc, key.public(), &reply);
+    drop(reply);
+    is_checked
 }
 
 #[test]
 fn a_reply_is_checked_as_it_comes(rt: HostRuntime) -> Result<(), Fail> {
     let key = SecretKey::make(rt.alloc(), [7; 16], [8; 32], OtsType::W1, 5)?;
-    let text = b"SELECT * FROM t".as_slice();
-    let Some(query) = read_query(rt.alloc(), text)? else {
-        return Err(AllocError.into());
-    };
-    let mut client = Client::new(key.public(), 0);
-    let mut net = net_with_reply(rt.alloc(), &key)?;
-    net.next()?;
-    let mut checking = client.begin(rt.alloc(), &query);
-    ask_into(rt.alloc(), &mut net, text, &mut checking)?;
-    let first = checking.end(rt.alloc(), &mut client)?;
-    let mut net = net_with_reply(rt.alloc(), &key)?;
-    let mut checking = client.begin(rt.alloc(), &query);
-    fetch_into(rt.alloc(), &mut net, "there", text, &mut checking)?;
-    let second = checking.end(rt.alloc(), &mut client)?;
-    assert_eq!(rt; (first.version, second.version), (0, 0));
-    assert!(rt; matches!(first.outcome, Outcome::Wrong(QueryFault::NoTable(_))));
-    assert!(rt; matches!(second.outcome, Outcome::Wrong(QueryFault::NoTable(_))));
+    let is_checked = reply_is_checked(rt.alloc(), &key);
+    drop(key);
+    assert!(rt; is_checked?);
     Ok(())
 }
