@@ -3,7 +3,7 @@ ghost use Rattle.vo_spec.specs.Fits.{FitsPart};
 ghost use Rattle.mb_tree.specs.View.{part_of};
 
 use line_pieces::{describe, word};
-use std::alloc::Global;
+use std::alloc::{AllocError, Global};
 use std::io;
 use vo_format::{PartTree, put_tree};
 use vo_spec::{Digest, ScanFault};
@@ -13,13 +13,21 @@ pub fn digits(alloc: Global, digest: Digest) -> io::Result<String> {
     Ok(hex::encode(alloc, digest.as_bytes())?)
 }
 
-/// The bytes of a tree.
-pub fn tree_digits(alloc: Global, tree: &PartTree<'_>) -> io::Result<String>
+/// The bytes of a tree, which is let go of.
+pub fn tree_digits(alloc: Global, tree: PartTree<'_>) -> io::Result<String>
+    requires { FitsPart (part_of tree) }
+{
+    let bytes = tree_bytes(alloc, &tree);
+    drop(tree);
+    Ok(hex::encode(alloc, bytes?)?)
+}
+
+fn tree_bytes(alloc: Global, tree: &PartTree<'_>) -> Result<Vec<u8>, AllocError>
     requires { FitsPart (part_of tree.now) }
 {
     let mut bytes = Vec::new(alloc);
     put_tree(&mut bytes, tree)?;
-    Ok(hex::encode(alloc, bytes)?)
+    Ok(bytes)
 }
 
 /// Whether a part tree is a proof.

@@ -5,7 +5,7 @@ use crate::need_calls::{judge_needs, scan_part};
 use crate::part_calls::{
     change_part, change_part_in_turn, digest_of, judge_change, preimage_of, read_again,
 };
-use crate::table_calls::{apply_batch, catalog_of, proof_of, refusals, rows_of, step_batch};
+use crate::table_calls::{apply_batch, catalog_of, clear, proof_of, refusals, rows_of, step_batch};
 use crate::tree_calls::{agree_tree, change_tree, prove_change, prune_tree, root_of};
 use crate::twin_calls::{compare_proofs, compare_two, walk_two};
 use line_pieces::word;
@@ -16,7 +16,11 @@ use stored_tables::StoredTables;
 /// The answer to a line.
 pub fn answer(alloc: Global, tables: &mut StoredTables, line: &str) -> io::Result<String> {
     match read_line(alloc, line)? {
-        Some(line) => answer_call(alloc, tables, line.call, &line.first, &line.second),
+        Some(line) => {
+            let answer = answer_call(alloc, tables, line.call, &line.first, &line.second);
+            drop(line);
+            answer
+        }
         None => word(alloc, "no such line"),
     }
 }
@@ -29,10 +33,7 @@ fn answer_call(
     second: &[u8],
 ) -> io::Result<String> {
     match call {
-        Call::Clear => {
-            *tables = StoredTables::new(alloc);
-            word(alloc, "cleared")
-        }
+        Call::Clear => clear(alloc, tables),
         Call::Apply => apply_batch(alloc, tables, first),
         Call::Step => step_batch(alloc, tables, first),
         Call::Refusal => refusals(alloc, tables, first),

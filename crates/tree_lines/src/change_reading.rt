@@ -8,6 +8,7 @@ ghost use Rattle.vo_spec.specs.Values.{FitsValue};
 ghost use Rattle.mb_update.specs.Sets.{FitsSets};
 ghost use Rattle.tree_lines.specs.Fitting.{FitsOp};
 
+use crate::part_reading::at_end;
 use mb_update::{Op, SetCell};
 use row_bytes::{Cursor, ReadFault, own_value, take_value};
 use std::alloc::Global;
@@ -19,11 +20,7 @@ pub fn read_change(alloc: Global, bytes: &[u8]) -> Result<Op, ReadFault>
 {
     let mut cursor = Cursor::new(bytes);
     let op = take_change(alloc, &mut cursor)?;
-    if cursor.is_empty() {
-        Ok(op)
-    } else {
-        Err(ReadFault::BadForm)
-    }
+    at_end(&cursor, op)
 }
 
 /// The changes that all the bytes are, one behind the other.

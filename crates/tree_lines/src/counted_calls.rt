@@ -3,7 +3,7 @@ use btree::{Contents, KeyedItem, TreeNode, TryClone, find, insert, remove, set};
 use counted_trees::{Entry, Node, NumberKey, Subtree};
 use line_pieces::describe;
 use std::alloc::{AllocError, Global};
-use std::io;
+use std::{io, mem};
 use vo_spec::{Digest, UpdateFault};
 
 /// How many entries a tree that begins with none has after each change, or the value that is found,
@@ -17,6 +17,7 @@ pub fn count_changes(alloc: Global, changes: &[u8]) -> io::Result<String> {
     for change in changes.as_chunks::<6>().0 {
         answers.push(change_counted(alloc, &mut tree, *change))?;
     }
+    drop(tree);
     describe(alloc, &answers)
 }
 
@@ -27,7 +28,8 @@ fn change_counted(alloc: Global, tree: &mut Subtree, change: [u8; 6]) -> Result<
         return Ok(find::<Subtree>(tree.node(), key.key_bytes())?.value);
     }
     let value = u64::from(value);
-    *tree = tree_after(alloc, tree, kind, Entry { key, value })?;
+    let next = tree_after(alloc, tree, kind, Entry { key, value })?;
+    drop(mem::replace(tree, next));
     Ok(tree.count())
 }
 

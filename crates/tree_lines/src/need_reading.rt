@@ -2,6 +2,7 @@
 //!
 //! The lower bound and the upper one, each its kind (0 none, 1 inclusive, 2 exclusive) and, if it
 //! is one, its key behind the length; and the columns behind their number.
+use crate::part_reading::{at_end, both};
 use row_bytes::{Cursor, ReadFault};
 use std::alloc::Global;
 use vo_spec::{Bound, Interval, Key, Need, SharedList};
@@ -10,11 +11,7 @@ use vo_spec::{Bound, Interval, Key, Need, SharedList};
 pub fn read_need(alloc: Global, bytes: &[u8]) -> Result<Need, ReadFault> {
     let mut cursor = Cursor::new(bytes);
     let need = take_need(alloc, &mut cursor)?;
-    if cursor.is_empty() {
-        Ok(need)
-    } else {
-        Err(ReadFault::BadForm)
-    }
+    at_end(&cursor, need)
 }
 
 /// The needs that all the bytes are, one behind the other.
@@ -32,13 +29,18 @@ pub fn read_needs(alloc: Global, bytes: &[u8]) -> Result<Vec<Need>, ReadFault> {
 
 fn take_need(alloc: Global, cursor: &mut Cursor<'_>) -> Result<Need, ReadFault> {
     let interval = take_interval(alloc, cursor)?;
-    let columns = take_columns(alloc, cursor)?;
-    Ok(Need { interval, columns })
+    match take_columns(alloc, cursor) {
+        Ok(columns) => Ok(Need { interval, columns }),
+        Err(fault) => {
+            drop(interval);
+            Err(fault)
+        }
+    }
 }
 
 fn take_interval(alloc: Global, cursor: &mut Cursor<'_>) -> Result<Interval, ReadFault> {
     let low = take_bound(alloc, cursor)?;
-    let high = take_bound(alloc, cursor)?;
+    let (low, high) = both(low, take_bound(alloc, cursor))?;
     Ok(Interval { low, high })
 }
 

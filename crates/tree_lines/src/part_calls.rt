@@ -9,7 +9,6 @@ use crate::change_reading::{read_change, read_changes};
 use crate::part_reading::read_part;
 use line_pieces::describe;
 use mb_update::{Op, UpdateFault, Updates};
-use row_bytes::ReadFault;
 use std::alloc::Global;
 use std::io;
 use update_proof::is_update_proof;
@@ -17,18 +16,34 @@ use vo_format::PartTree;
 
 /// The part tree after a change, or why it isn't changed.
 pub fn change_part(alloc: Global, change: &[u8], part: &[u8]) -> io::Result<String> {
-    match read_change_and_part(alloc, change, part) {
-        Ok((op, part)) => change_part_by(alloc, &part, &op),
+    match read_change(alloc, change) {
+        Ok(op) => {
+            let answer = change_part_by(alloc, &op, part);
+            drop(op);
+            answer
+        }
         Err(fault) => describe(alloc, &fault),
     }
 }
 
-fn change_part_by(alloc: Global, part: &PartTree<'_>, op: &Op) -> io::Result<String>
-    requires fits { FitsPart (part_of part.now) }
-    requires change { FitsOp op.now }
+fn change_part_by(alloc: Global, op: &Op, part: &[u8]) -> io::Result<String>
+    requires { FitsOp op.now }
 {
-    match part_after(alloc, part, op) {
-        Ok(new) => tree_digits(alloc, &new),
+    match read_part(alloc, part) {
+        Ok(part) => {
+            let new = part_after(alloc, &part, op);
+            drop(part);
+            describe_new(alloc, new)
+        }
+        Err(fault) => describe(alloc, &fault),
+    }
+}
+
+fn describe_new(alloc: Global, new: Result<PartTree<'_>, UpdateFault>) -> io::Result<String>
+    requires { IfOk new (λ new. FitsPart (part_of new)) }
+{
+    match new {
+        Ok(new) => tree_digits(alloc, new),
         Err(fault) => describe(alloc, &fault),
     }
 }
@@ -45,22 +60,14 @@ fn part_after<'b>(alloc: Global, part: &PartTree<'b>, op: &Op) -> Result<PartTre
     }
 }
 
-fn read_change_and_part<'b>(
-    alloc: Global,
-    change: &[u8],
-    part: &'b [u8],
-) -> Result<(Op, PartTree<'b>), ReadFault>
-    ensures { IfOk result (λ both. FitsOp both.0 × FitsPart (part_of both.1)) }
-{
-    let op = read_change(alloc, change)?;
-    let part = read_part(alloc, part)?;
-    Ok((op, part))
-}
-
 /// The digest of the part tree after some changes in turn, or why one of them isn't done.
 pub fn change_part_in_turn(alloc: Global, changes: &[u8], part: &[u8]) -> io::Result<String> {
     match read_changes(alloc, changes) {
-        Ok(ops) => change_part_by_all(alloc, &ops, part),
+        Ok(ops) => {
+            let answer = change_part_by_all(alloc, &ops, part);
+            drop(ops);
+            answer
+        }
         Err(fault) => describe(alloc, &fault),
     }
 }
@@ -79,9 +86,18 @@ fn digest_after(alloc: Global, part: PartTree<'_>, ops: &[Op]) -> io::Result<Str
     requires changes { All FitsOp ops.now }
 {
     match part_after_all(alloc, part, ops) {
-        Ok(new) => digits(alloc, new.node_digest()),
+        Ok(new) => part_digest(alloc, new),
         Err(fault) => describe(alloc, &fault),
     }
+}
+
+/// The digest of a part tree, which is let go of.
+fn part_digest(alloc: Global, part: PartTree<'_>) -> io::Result<String>
+    requires { FitsPart (part_of part) }
+{
+    let digest = part.node_digest();
+    drop(part);
+    digits(alloc, digest)
 }
 
 fn part_after_all<'b>(
@@ -95,15 +111,32 @@ fn part_after_all<'b>(
 {
     let mut part = part;
     for op in ops {
-        part = part_after(alloc, &part, op)?;
+        let next = part_after(alloc, &part, op);
+        drop(part);
+        part = next?;
     }
     Ok(part)
 }
 
 /// Whether the part tree is the proof of a change.
 pub fn judge_change(alloc: Global, change: &[u8], part: &[u8]) -> io::Result<String> {
-    match read_change_and_part(alloc, change, part) {
-        Ok((op, part)) => verdict(alloc, is_update_proof(&part, &op)),
+    match read_change(alloc, change) {
+        Ok(op) => {
+            let answer = judge_change_by(alloc, &op, part);
+            drop(op);
+            answer
+        }
+        Err(fault) => describe(alloc, &fault),
+    }
+}
+
+fn judge_change_by(alloc: Global, op: &Op, part: &[u8]) -> io::Result<String> {
+    match read_part(alloc, part) {
+        Ok(part) => {
+            let is_proof = is_update_proof(&part, op);
+            drop(part);
+            verdict(alloc, is_proof)
+        }
         Err(fault) => describe(alloc, &fault),
     }
 }
@@ -111,7 +144,7 @@ pub fn judge_change(alloc: Global, change: &[u8], part: &[u8]) -> io::Result<Str
 /// The digest of a part tree.
 pub fn digest_of(alloc: Global, part: &[u8]) -> io::Result<String> {
     match read_part(alloc, part) {
-        Ok(part) => digits(alloc, part.node_digest()),
+        Ok(part) => part_digest(alloc, part),
         Err(fault) => describe(alloc, &fault),
     }
 }
@@ -119,7 +152,11 @@ pub fn digest_of(alloc: Global, part: &[u8]) -> io::Result<String> {
 /// The bytes that the root of a part tree hashes.
 pub fn preimage_of(alloc: Global, part: &[u8]) -> io::Result<String> {
     match read_part(alloc, part) {
-        Ok(part) => Ok(hex::encode(alloc, part.preimage(alloc)?)?),
+        Ok(part) => {
+            let preimage = part.preimage(alloc);
+            drop(part);
+            Ok(hex::encode(alloc, preimage?)?)
+        }
         Err(fault) => describe(alloc, &fault),
     }
 }
@@ -127,7 +164,7 @@ pub fn preimage_of(alloc: Global, part: &[u8]) -> io::Result<String> {
 /// The bytes of a part tree again.
 pub fn read_again(alloc: Global, part: &[u8]) -> io::Result<String> {
     match read_part(alloc, part) {
-        Ok(part) => tree_digits(alloc, &part),
+        Ok(part) => tree_digits(alloc, part),
         Err(fault) => describe(alloc, &fault),
     }
 }

@@ -1,5 +1,5 @@
 //! Part trees as bytes.
-ghost use Rattle.std.specs.Prelude.{IfOk};
+ghost use Rattle.std.specs.Prelude.{◌≡◌, IfOk, Ok};
 ghost use Rattle.vo_spec.specs.Fits.{FitsPart};
 ghost use Rattle.mb_tree.specs.View.{part_of};
 
@@ -13,8 +13,15 @@ pub fn read_part(alloc: Global, bytes: &[u8]) -> Result<PartTree<'_>, ReadFault>
 {
     let mut cursor = Cursor::new(bytes);
     let part = take_tree(alloc, &mut cursor)?;
+    at_end(&cursor, part)
+}
+
+/// What was read, if no byte is left behind it. How it is let go of is spelled out for no type.
+pub fn at_end<T: Drop>(cursor: &Cursor<'_>, found: T) -> Result<T, ReadFault>
+    ensures { IfOk result (λ value. value ≡ found) }
+{
     if cursor.is_empty() {
-        Ok(part)
+        Ok(found)
     } else {
         Err(ReadFault::BadForm)
     }
@@ -26,10 +33,13 @@ pub fn read_parts(alloc: Global, bytes: &[u8]) -> Result<(PartTree<'_>, PartTree
 {
     let mut cursor = Cursor::new(bytes);
     let first = take_tree(alloc, &mut cursor)?;
-    let second = take_tree(alloc, &mut cursor)?;
-    if cursor.is_empty() {
-        Ok((first, second))
-    } else {
-        Err(ReadFault::BadForm)
-    }
+    let pair = both(first, take_tree(alloc, &mut cursor))?;
+    at_end(&cursor, pair)
+}
+
+/// The first and the second, where there is one; else the first is let go of.
+pub fn both<T: Drop>(first: T, second: Result<T, ReadFault>) -> Result<(T, T), ReadFault>
+    ensures { IfOk result (λ pair. (pair.0 ≡ first) × (second ≡ Ok pair.1)) }
+{
+    Ok((first, second?))
 }

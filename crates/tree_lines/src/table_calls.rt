@@ -1,20 +1,30 @@
 //! What is asked of the tables.
 ghost use Rattle.std.specs.Prelude.{IfOk};
-ghost use Rattle.vo_spec.specs.Batches.{FitsBatch};
+ghost use Rattle.vo_spec.specs.Batches.{FitsBatch, FitsCommand};
 
 use crate::answers::{digits, tree_digits};
 use batch_format::read_batch;
 use line_pieces::{describe, word};
 use std::alloc::{AllocError, Global};
-use std::io;
+use std::{io, mem};
 use stored_tables::StoredTables;
 use table_list::ApplyFault;
-use vo_spec::{Batch, Command, CommandFault};
+use vo_spec::{Batch, Catalog, Command, CommandFault, Table};
+
+/// Has no tables from now on.
+pub fn clear(alloc: Global, tables: &mut StoredTables) -> io::Result<String> {
+    drop(mem::replace(tables, StoredTables::new(alloc)));
+    word(alloc, "cleared")
+}
 
 /// The digest of the table `t` after a batch, or why the batch is refused.
 pub fn apply_batch(alloc: Global, tables: &mut StoredTables, batch: &[u8]) -> io::Result<String> {
     match read_batch(alloc, batch) {
-        Ok(batch) => apply_batch_to(alloc, tables, &batch),
+        Ok(batch) => {
+            let answer = apply_batch_to(alloc, tables, &batch);
+            drop(batch);
+            answer
+        }
         Err(fault) => describe(alloc, &fault),
     }
 }
@@ -34,10 +44,11 @@ fn apply_batch_to(alloc: Global, tables: &mut StoredTables, batch: &Batch) -> io
 /// Why each command of a batch is refused, or that it is applied, by itself.
 pub fn step_batch(alloc: Global, tables: &mut StoredTables, batch: &[u8]) -> io::Result<String> {
     match read_batch(alloc, batch) {
-        Ok(batch) => describe(
-            alloc,
-            &apply_each(alloc, tables, batch.commands.as_slice())?,
-        ),
+        Ok(batch) => {
+            let faults = apply_each(alloc, tables, batch.commands.as_slice());
+            drop(batch);
+            describe(alloc, &faults?)
+        }
         Err(fault) => describe(alloc, &fault),
     }
 }
@@ -51,25 +62,32 @@ fn apply_each(
 {
     let mut faults = Vec::new(alloc);
     for command in commands {
-        let fault = match tables.apply(alloc, command) {
-            Ok(next) => {
-                *tables = next;
-                None
-            }
-            Err(fault) => Some(fault),
-        };
-        faults.push(fault)?;
+        faults.push(apply_one(alloc, tables, command))?;
     }
     Ok(faults)
+}
+
+/// Why a command is refused, if it is.
+fn apply_one(alloc: Global, tables: &mut StoredTables, command: &Command) -> Option<ApplyFault>
+    requires { FitsCommand command.now }
+{
+    match tables.apply(alloc, command) {
+        Ok(next) => {
+            drop(mem::replace(tables, next));
+            None
+        }
+        Err(fault) => Some(fault),
+    }
 }
 
 /// Why each command of a batch is refused on the tables as they are, without a look at the rows.
 pub fn refusals(alloc: Global, tables: &StoredTables, batch: &[u8]) -> io::Result<String> {
     match read_batch(alloc, batch) {
-        Ok(batch) => describe(
-            alloc,
-            &refusals_of(alloc, tables, batch.commands.as_slice())?,
-        ),
+        Ok(batch) => {
+            let faults = refusals_of(alloc, tables, batch.commands.as_slice());
+            drop(batch);
+            describe(alloc, &faults?)
+        }
         Err(fault) => describe(alloc, &fault),
     }
 }
@@ -89,7 +107,11 @@ fn refusals_of(
 /// The proof of a batch's one command, if it has one.
 pub fn proof_of(alloc: Global, tables: &StoredTables, batch: &[u8]) -> io::Result<String> {
     match read_batch(alloc, batch) {
-        Ok(batch) => proof_of_one(alloc, tables, batch.commands.as_slice()),
+        Ok(batch) => {
+            let answer = proof_of_one(alloc, tables, batch.commands.as_slice());
+            drop(batch);
+            answer
+        }
         Err(fault) => describe(alloc, &fault),
     }
 }
@@ -101,7 +123,7 @@ fn proof_of_one(alloc: Global, tables: &StoredTables, commands: &[Command]) -> i
         return word(alloc, "not one command");
     };
     match tables.command_proof(alloc, command)? {
-        Some(proof) => tree_digits(alloc, &proof),
+        Some(proof) => tree_digits(alloc, proof),
         None => word(alloc, "none"),
     }
 }
@@ -109,14 +131,28 @@ fn proof_of_one(alloc: Global, tables: &StoredTables, commands: &[Command]) -> i
 /// The name, the number of rows and the root of each table, as they stay where the tables are
 /// shared.
 pub fn catalog_of(alloc: Global, tables: &StoredTables) -> io::Result<String> {
-    let catalog = tables.share(alloc)?.catalog(alloc)?;
-    describe(alloc, &catalog.tables)
+    let shared = tables.share(alloc)?;
+    let catalog = shared.catalog(alloc);
+    drop(shared);
+    describe_catalog(alloc, catalog?)
+}
+
+fn describe_catalog(alloc: Global, catalog: Catalog) -> io::Result<String> {
+    let answer = describe(alloc, &catalog.tables);
+    drop(catalog);
+    answer
 }
 
 /// The rows of the plain table `t`.
 pub fn rows_of(alloc: Global, tables: &StoredTables) -> io::Result<String> {
     let plain = tables.tables(alloc)?;
-    for table in plain.as_slice() {
+    let answer = describe_rows(alloc, plain.as_slice());
+    drop(plain);
+    answer
+}
+
+fn describe_rows(alloc: Global, tables: &[Table]) -> io::Result<String> {
+    for table in tables {
         if table.name.as_bytes() == b"t".as_slice() {
             return describe(alloc, &table.rows);
         }

@@ -42,7 +42,11 @@ fn count_and_digest(alloc: Global, tree: &Tree) -> io::Result<String> {
 /// the tree itself, which stays.
 pub fn change_tree(alloc: Global, tables: &StoredTables, change: &[u8]) -> io::Result<String> {
     match read_change(alloc, change) {
-        Ok(op) => change_tree_by(alloc, tables, &op),
+        Ok(op) => {
+            let answer = change_tree_by(alloc, tables, &op);
+            drop(op);
+            answer
+        }
         Err(fault) => describe(alloc, &fault),
     }
 }
@@ -68,7 +72,11 @@ fn new_count_and_digest(alloc: Global, tree: &Tree, op: &Op) -> io::Result<Strin
     requires { FitsOp op.now }
 {
     match tree_after(alloc, tree, op) {
-        Ok(new) => count_and_digest(alloc, &new),
+        Ok(new) => {
+            let answer = count_and_digest(alloc, &new);
+            drop(new);
+            answer
+        }
         Err(fault) => describe(alloc, &fault),
     }
 }
@@ -92,14 +100,18 @@ fn tree_after(alloc: Global, tree: &Tree, op: &Op) -> Result<Tree, UpdateFault>
 /// The proof of a change.
 pub fn prove_change(alloc: Global, tables: &StoredTables, change: &[u8]) -> io::Result<String> {
     match read_change(alloc, change) {
-        Ok(op) => prove_change_by(alloc, tables, &op),
+        Ok(op) => {
+            let answer = prove_change_by(alloc, tables, &op);
+            drop(op);
+            answer
+        }
         Err(fault) => describe(alloc, &fault),
     }
 }
 
 fn prove_change_by(alloc: Global, tables: &StoredTables, op: &Op) -> io::Result<String> {
     match tables.find(b"t") {
-        Some(table) => tree_digits(alloc, &proof_of(alloc, &table.tree, op)?),
+        Some(table) => tree_digits(alloc, proof_of(alloc, &table.tree, op)?),
         None => word(alloc, "no table"),
     }
 }
@@ -115,14 +127,18 @@ fn proof_of<'b>(alloc: Global, tree: &'b Tree, op: &Op) -> Result<PartTree<'b>, 
 /// The proof of some needs.
 pub fn prune_tree(alloc: Global, tables: &StoredTables, needs: &[u8]) -> io::Result<String> {
     match read_needs(alloc, needs) {
-        Ok(needs) => prune_tree_for(alloc, tables, &needs),
+        Ok(needs) => {
+            let answer = prune_tree_for(alloc, tables, &needs);
+            drop(needs);
+            answer
+        }
         Err(fault) => describe(alloc, &fault),
     }
 }
 
 fn prune_tree_for(alloc: Global, tables: &StoredTables, needs: &[Need]) -> io::Result<String> {
     match tables.find(b"t") {
-        Some(table) => tree_digits(alloc, &part_for(alloc, &table.tree, needs)?),
+        Some(table) => tree_digits(alloc, part_for(alloc, &table.tree, needs)?),
         None => word(alloc, "no table"),
     }
 }
@@ -138,7 +154,11 @@ fn part_for<'b>(alloc: Global, tree: &'b Tree, needs: &[Need]) -> Result<PartTre
 /// Whether a part tree of the tree's digest prunes it.
 pub fn agree_tree(alloc: Global, tables: &StoredTables, part: &[u8]) -> io::Result<String> {
     match read_part(alloc, part) {
-        Ok(part) => agree_tree_with(alloc, tables, &part),
+        Ok(part) => {
+            let answer = agree_tree_with(alloc, tables, &part);
+            drop(part);
+            answer
+        }
         Err(fault) => describe(alloc, &fault),
     }
 }
@@ -158,8 +178,11 @@ fn compare_part(alloc: Global, part: &PartTree<'_>, tree: &Tree) -> io::Result<S
     if part.node_digest() != tree.node_digest() {
         return word(alloc, "another digest");
     }
-    match agree(alloc, part, tree)? {
-        Agreement::Prunes => word(alloc, "prunes"),
-        Agreement::Collides(_) => word(alloc, "collides"),
-    }
+    let agreement = agree(alloc, part, tree)?;
+    let text = match &agreement {
+        Agreement::Prunes => "prunes",
+        Agreement::Collides(_) => "collides",
+    };
+    drop(agreement);
+    word(alloc, text)
 }

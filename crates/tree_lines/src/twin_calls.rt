@@ -5,7 +5,7 @@ ghost use Rattle.vo_spec.specs.Pruning.{IsCanonical};
 ghost use Rattle.mb_tree.specs.View.{part_of};
 
 use crate::need_reading::read_needs;
-use crate::part_reading::{read_part, read_parts};
+use crate::part_reading::{both, read_part, read_parts};
 use line_pieces::{describe, word};
 use range_proof::is_canonical;
 use row_bytes::ReadFault;
@@ -23,8 +23,7 @@ fn read_two<'b>(
     ensures { IfOk result (λ both. FitsPart (part_of both.0) × FitsPart (part_of both.1)) }
 {
     let first = read_part(alloc, first)?;
-    let second = read_part(alloc, second)?;
-    Ok((first, second))
+    both(first, read_part(alloc, second))
 }
 
 /// Whether the two are the same.
@@ -32,6 +31,7 @@ pub fn compare_two<'b>(alloc: Global, first: &'b [u8], second: &'b [u8]) -> io::
     match read_two(alloc, first, second) {
         Ok((first, second)) => {
             let is_same = are_same(&first, &second);
+            drop((first, second));
             word(alloc, if is_same { "same" } else { "different" })
         },
         Err(fault) => describe(alloc, &fault),
@@ -41,7 +41,11 @@ pub fn compare_two<'b>(alloc: Global, first: &'b [u8], second: &'b [u8]) -> io::
 /// Whether two of one digest give one walk for all rows.
 pub fn walk_two<'b>(alloc: Global, first: &'b [u8], second: &'b [u8]) -> io::Result<String> {
     match read_two(alloc, first, second) {
-        Ok((first, second)) => walk_parts(alloc, &first, &second),
+        Ok((first, second)) => {
+            let answer = walk_parts(alloc, &first, &second);
+            drop((first, second));
+            answer
+        },
         Err(fault) => describe(alloc, &fault),
     }
 }
@@ -53,23 +57,41 @@ fn walk_parts(alloc: Global, first: &PartTree<'_>, second: &PartTree<'_>) -> io:
     if first.node_digest() != second.node_digest() {
         return word(alloc, "another digest");
     }
-    match agree_walk(alloc, first, second, &all_rows(alloc)?)? {
-        Twins::Same => word(alloc, "one walk"),
-        Twins::Collides(_) => word(alloc, "collides"),
-    }
+    let need = all_rows(alloc)?;
+    let twins = agree_walk(alloc, first, second, &need);
+    drop(need);
+    twins_word(alloc, twins?, "one walk")
+}
+
+/// This word for two that are the same.
+fn twins_word(alloc: Global, twins: Twins, same: &str) -> io::Result<String> {
+    let text = match &twins {
+        Twins::Same => same,
+        Twins::Collides(_) => "collides",
+    };
+    drop(twins);
+    word(alloc, text)
 }
 
 /// Whether two of one digest, which stand one behind the other, are one proof of the needs.
 pub fn compare_proofs(alloc: Global, needs: &[u8], parts: &[u8]) -> io::Result<String> {
     match read_needs(alloc, needs) {
-        Ok(needs) => compare_proofs_for(alloc, &needs, parts),
+        Ok(needs) => {
+            let answer = compare_proofs_for(alloc, &needs, parts);
+            drop(needs);
+            answer
+        },
         Err(fault) => describe(alloc, &fault),
     }
 }
 
 fn compare_proofs_for(alloc: Global, needs: &[Need], parts: &[u8]) -> io::Result<String> {
     match read_parts(alloc, parts) {
-        Ok((first, second)) => agree_for(alloc, needs, &first, &second),
+        Ok((first, second)) => {
+            let answer = agree_for(alloc, needs, &first, &second);
+            drop((first, second));
+            answer
+        },
         Err(fault) => describe(alloc, &fault),
     }
 }
@@ -87,10 +109,7 @@ fn agree_for(
         return word(alloc, "another digest");
     }
     match are_proofs(alloc, needs, first, second) {
-        Ok(true) => match agree_two(alloc, first, second, needs)? {
-            Twins::Same => word(alloc, "one proof"),
-            Twins::Collides(_) => word(alloc, "collides"),
-        },
+        Ok(true) => twins_word(alloc, agree_two(alloc, first, second, needs)?, "one proof"),
         Ok(false) => word(alloc, "no proof"),
         Err(fault) => describe(alloc, &fault),
     }
@@ -109,11 +128,10 @@ fn are_proofs(
 }
 
 fn all_rows(alloc: Global) -> io::Result<Need> {
-    Ok(Need {
-        interval: Interval {
-            low: Bound::Absent,
-            high: Bound::Absent,
-        },
-        columns: SharedList::new(alloc, Vec::new(alloc))?,
-    })
+    let columns = SharedList::new(alloc, Vec::new(alloc))?;
+    let interval = Interval {
+        low: Bound::Absent,
+        high: Bound::Absent,
+    };
+    Ok(Need { interval, columns })
 }
