@@ -1,6 +1,6 @@
 """Commands on a table of numbers and names, as text, and the blocks of SHA-256 that each takes by its proof."""
-from costs import blocks, inner_blocks, leaf_blocks, proofs_and_rest, row_blocks
-from replies import number_at, row_part
+from measures.costs import blocks, inner_blocks, leaf_blocks, proofs_and_rest, row_blocks
+from measures.replies import number_at, row_part
 
 CREATE = "CREATE TABLE t (id BIGINT, name TEXT, PRIMARY KEY (id))"
 LEAST_IN_NODE, MOST_IN_NODE = 8, 16

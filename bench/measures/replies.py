@@ -1,5 +1,5 @@
 """What of a reply must be hashed to check it, in blocks of SHA-256."""
-from costs import blocks, verify_blocks
+from measures.costs import blocks, verify_blocks
 
 
 def number_at(data, at, size):

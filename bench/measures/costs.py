@@ -5,8 +5,8 @@ import re
 import subprocess
 import tempfile
 
-TOP = os.path.dirname(os.path.dirname(os.path.abspath(__file__)))
-SEED = os.path.join(TOP, "tools/throwaway.seed")
+TOP = os.path.dirname(os.path.dirname(os.path.dirname(os.path.abspath(__file__))))
+SEED = os.path.join(TOP, "tools/comparisons/throwaway.seed")
 CHAINS = 34  # of a one-time key of 8-bit digits
 
 LOAD = r"""

@@ -4,7 +4,7 @@ import socket
 import subprocess
 import time
 
-from program import PROGRAM
+from measures.program import PROGRAM
 
 def free_address():
     with socket.socket() as listener:

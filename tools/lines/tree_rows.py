@@ -1,7 +1,7 @@
 """The rows of the stored lines of crates/tree_lines: chosen cases, each line with the answer due."""
 from itertools import product
 
-from tree_answers import (CountedChanges, Twin, after, agree, canonical, change, digest, judge, preimage, prove, prune, read,
+from lines.tree_answers import (CountedChanges, Twin, after, agree, canonical, change, digest, judge, preimage, prove, prune, read,
                           root, same, scan, part_bytes, twins, update_proof, walks, work)
 from vo_ref.sql import parse_batch
 from vo_ref.tree import Entry, Inner, Leaf, Need, Op, Stub, attr_digest, digest_of, do_op, empty_tree

@@ -1,7 +1,7 @@
 """Random conversations of an owner with a store that may lie, over a disk that may fail; for tools/conversations."""
-from histories import SECRET
-from memory_runs import own_text
-from quick_reference import store_of
+from comparisons.histories import SECRET
+from comparisons.memory_runs import own_text
+from comparisons.quick_reference import store_of
 from vo_ref import cli, mutate
 from vo_ref.formats import journal_bytes
 from vo_ref.outside import MemDisk, MemLink, MemNet, MemShelf, MemSink, PeerNet

@@ -2,7 +2,7 @@
 import os
 import subprocess
 
-import workspace
+from comparisons import workspace
 
 SHOWN = 20
 

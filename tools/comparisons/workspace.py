@@ -3,7 +3,7 @@ import os
 import subprocess
 import sys
 
-TOP = os.path.dirname(os.path.dirname(os.path.abspath(__file__)))
+TOP = os.path.dirname(os.path.dirname(os.path.dirname(os.path.abspath(__file__))))
 
 # What is built: all that docs/FORMATS.md has. The other implementation counts its own steps, of
 # which these are the first 8 (tables, queries and joins, signed versions, an owner with roots alone,
@@ -14,7 +14,7 @@ STAGE = "8+12+13"
 
 # It signs what comparisons and benches make, one journal after the other: nothing that is kept may
 # be signed by it.
-SEED = os.path.join(TOP, "tools/throwaway.seed")
+SEED = os.path.join(TOP, "tools/comparisons/throwaway.seed")
 
 # The wrong bodies that the gate leaves out, in a folder for each crate that has some.
 SECOND_TIER = os.path.join(TOP, "wrong-bodies")

@@ -2,7 +2,7 @@
 import random
 import re
 
-import forms
+from lines import forms
 from vo_ref.binding import bind
 from vo_ref.catalog import Catalog, CatalogTable, column_of
 from vo_ref.faults import BadForm, FormFault, Missing
@@ -164,7 +164,7 @@ def query_pair(catalog, word, text, more=b""):
     return line(word, text, more), value_or_fault(lambda: answer_plan(catalog, text, answer))
 
 
-# -- rows of tools/call_rows
+# -- rows of tools/lines/call_rows
 
 def values_in(text):
     """The values of SQL literals in parentheses."""

@@ -1,6 +1,6 @@
 """The rows of the stored lines of crates/check_lines: chosen replies, each line with the answer due."""
-from check_answers import NO_LINE, Reader
-from histories import SECRET, history
+from comparisons.histories import SECRET, history
+from lines.check_answers import NO_LINE, Reader
 from vo_ref.binding import bind
 from vo_ref.catalog import Catalog, CatalogTable, Record
 from vo_ref.formats import REPLY_LIMIT, read_reply, write_reply

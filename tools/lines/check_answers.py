@@ -5,8 +5,8 @@ A reply that is near the one before is spelled as that one with other bytes in i
 import os
 import re
 
-import forms
-import quick_reference  # which verifies a signature once
+from comparisons import quick_reference  # which verifies a signature once
+from lines import forms
 from vo_ref.check import check_of
 from vo_ref.faults import CheckFault
 from vo_ref.sql import parse_query

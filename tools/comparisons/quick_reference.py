@@ -3,7 +3,7 @@ loaded once, not again in each run."""
 import copy
 import functools
 
-from histories import SECRET
+from comparisons.histories import SECRET
 from vo_ref import check, cli, lms
 
 verify_anew, load_anew = lms.verify, cli.Program.loaded

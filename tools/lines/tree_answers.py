@@ -2,7 +2,7 @@
 
 A line is a word and byte strings in hexadecimal; a part tree is given as a node or as bytes, which may be none.
 """
-import forms
+from lines import forms
 from vo_ref import tree as trees
 from vo_ref.faults import BatchFault, CommandFault, Fault
 from vo_ref.formats import batch_bytes, read_tree, tree_bytes

@@ -6,8 +6,8 @@ places there.
 import os
 import re
 
-import forms
-from memory_runs import image_with
+from comparisons.memory_runs import image_with
+from lines import forms
 from vo_ref import lms
 from vo_ref.audit import read_owned
 from vo_ref.catalog import catalog_digest, read_catalog, read_record

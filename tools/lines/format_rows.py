@@ -2,7 +2,7 @@
 import random
 from dataclasses import replace
 
-from format_answers import load_store, number, seal_batches
+from lines.format_answers import load_store, number, seal_batches
 from vo_ref import lms
 from vo_ref.catalog import catalog_digest
 from vo_ref.faults import StoreFault
@@ -418,7 +418,7 @@ def read_rows(public, journal):
     yield "record", reply[4:64]
 
 
-# that of the seed of all comparisons, tools/throwaway.seed
+# that of the seed of all comparisons, tools/comparisons/throwaway.seed
 EXAMPLE_SEED = bytes(3 + 7 * place for place in range(32))
 
 

@@ -3,8 +3,8 @@ import os
 import subprocess
 import sys
 
-import costs
-from costs import SEED, TOP
+from measures import costs
+from measures.costs import SEED, TOP
 
 PROGRAM = sys.argv[1] if len(sys.argv) > 1 else os.path.join(TOP, "crates/vo_cli/out/vo_cli")
 
