@@ -1,11 +1,20 @@
 //! Lines of text: words or columns, written at the end of what there is.
-ghost use Rattle.std.specs.Prelude.{◌≡◌, ◌∷◌, ◌++◌, map, flat_map, OnOk};
+ghost use Rattle.std.specs.Prelude.{◌≡◌, ◌∷◌, ◌++◌, map, flat_map, IfOk, OnOk};
 ghost use Rattle.outside.specs.Outputs.{line};
 ghost use Rattle.vo_commands.specs.Lines.{with_separator, words_line, columns_line};
 ghost use Rattle.vo_commands.specs.Words.{word_text};
 
 use crate::piece::{Piece, Word};
 use std::alloc::{AllocError, Global};
+
+/// The line of these words alone.
+pub fn words_line(alloc: Global, words: &[Word<'_>]) -> Result<Vec<u8>, AllocError>
+    ensures { IfOk result (λ line. line.items ≡ words_line (map word_text words.now)) }
+{
+    let mut line = Vec::new(alloc);
+    push_words(alloc, &mut line, words)?;
+    Ok(line)
+}
 
 /// A line of words, with one space between each two.
 pub fn push_words(alloc: Global, out: &mut Vec<u8>, words: &[Word<'_>]) -> Result<(), AllocError>

@@ -4,7 +4,7 @@ ghost use Rattle.vo_format.specs.View.{reply_of};
 ghost use Rattle.vo_commands.specs.Lines.{apart_output, same_output, two_records_output, meeting_output};
 ghost use Rattle.vo_commands.specs.Reports.{output_of};
 
-use crate::lines::push_words;
+use crate::lines::{push_words, words_line};
 use crate::piece::Word;
 use crate::report::{Report, Status};
 use crate::verdicts::{collision_report, push_signed};
@@ -28,9 +28,8 @@ pub fn meeting_report(alloc: Global, met: &MetReplies<'_>) -> Result<Report, All
 fn apart_report(alloc: Global, v1: u64, v2: u64) -> Result<Report, AllocError>
     ensures { IfOk result (λ report. output_of report ≡ apart_output v1 v2) }
 {
-    let mut bytes = Vec::new(alloc);
     let words = [Word::Phrase("apart"), Word::Number(v1), Word::Number(v2)];
-    push_words(alloc, &mut bytes, &words)?;
+    let bytes = words_line(alloc, &words)?;
     Ok(Report {
         status: Status::Done,
         bytes,
@@ -40,9 +39,7 @@ fn apart_report(alloc: Global, v1: u64, v2: u64) -> Result<Report, AllocError>
 fn same_report(alloc: Global, version: u64) -> Result<Report, AllocError>
     ensures { IfOk result (λ report. output_of report ≡ same_output version) }
 {
-    let mut bytes = Vec::new(alloc);
-    let words = [Word::Phrase("same"), Word::Number(version)];
-    push_words(alloc, &mut bytes, &words)?;
+    let bytes = words_line(alloc, &[Word::Phrase("same"), Word::Number(version)])?;
     Ok(Report {
         status: Status::Done,
         bytes,

@@ -41,10 +41,12 @@ fn proof_refusal<'a>(
     ensures { IfOk result (λ report. output_of report
         ≡ proof_refusal why.now index (map word_text digests.now)) }
 {
-    let mut words = Vec::new(alloc);
-    words.push(Word::Phrase("proof"))?;
-    words.push(Word::Phrase(why))?;
-    words.push(Word::Number(index))?;
+    let named = [
+        Word::Phrase("proof"),
+        Word::Phrase(why),
+        Word::Number(index),
+    ];
+    let mut words = Vec::from_slice(alloc, &named)?;
     words.extend_from_slice(digests)?;
     refusal(alloc, Status::RefusedReply, &words)
 }

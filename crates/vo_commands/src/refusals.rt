@@ -1,10 +1,10 @@
 //! Refusals, each in one line that begins with `refused:`.
-ghost use Rattle.std.specs.Prelude.{◌≡◌, map, IfOk};
+ghost use Rattle.std.specs.Prelude.{◌≡◌, ◌∷◌, map, IfOk};
 ghost use Rattle.vo_commands.specs.Lines.{refusal, line_output, command_output, spent_key, fault_name, bad_journal};
 ghost use Rattle.vo_commands.specs.Reports.{output_of, status_code};
 ghost use Rattle.vo_commands.specs.Words.{word_text};
 
-use crate::lines::push_words;
+use crate::lines::words_line;
 use crate::piece::Word;
 use crate::report::{Report, Status};
 use std::alloc::{AllocError, Global};
@@ -28,12 +28,22 @@ pub fn line_report<'a>(
     ensures { IfOk result (λ report. output_of report
         ≡ line_output beginning.now (status_code status) (map word_text words.now)) }
 {
-    let mut all = Vec::new(alloc);
-    all.push(Word::Phrase(beginning))?;
-    all.extend_from_slice(words)?;
-    let mut bytes = Vec::new(alloc);
-    push_words(alloc, &mut bytes, &all)?;
+    let all = words_behind(alloc, beginning, words)?;
+    let bytes = words_line(alloc, &all)?;
     Ok(Report { status, bytes })
+}
+
+fn words_behind<'a>(
+    alloc: Global,
+    beginning: &'a str,
+    words: &[Word<'a>],
+) -> Result<Vec<Word<'a>>, AllocError>
+    ensures { IfOk result (λ all. map word_text all.items
+        ≡ beginning.now ∷ map word_text words.now) }
+{
+    let mut all = Vec::from_slice(alloc, &[Word::Phrase(beginning)])?;
+    all.extend_from_slice(words)?;
+    Ok(all)
 }
 
 /// The command of this number in its batch is refused.
@@ -59,12 +69,7 @@ pub fn spent_key(alloc: Global) -> Result<Report, AllocError>
 pub fn bad_entry(alloc: Global, index: u64) -> Result<Report, AllocError>
     ensures { IfOk result (λ report. output_of report ≡ bad_journal index) }
 {
-    let mut bytes = Vec::new(alloc);
-    push_words(
-        alloc,
-        &mut bytes,
-        &[Word::Phrase("bad journal"), Word::Number(index)],
-    )?;
+    let bytes = words_line(alloc, &[Word::Phrase("bad journal"), Word::Number(index)])?;
     Ok(Report {
         status: Status::BadJournal,
         bytes,

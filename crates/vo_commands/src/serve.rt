@@ -13,7 +13,7 @@ ghost use Rattle.vo_commands.specs.Taking.{TakesFiles, LeavesFiles, SomeOf};
 
 use crate::files::{take_file, take_key};
 use crate::limits::JOURNAL_LIMIT;
-use crate::lines::push_words;
+use crate::lines::words_line;
 use crate::output::print_outcome;
 use crate::piece::Word;
 use crate::refusals::bad_entry;
@@ -185,8 +185,5 @@ fn write_served<S: Sink>(alloc: Global, out: &mut S, count: u32) -> u8
 fn served_line(alloc: Global, count: u32) -> Result<Vec<u8>, AllocError>
     ensures { IfOk result (λ line. line.items ≡ (served_output count).bytes) }
 {
-    let mut line = Vec::new(alloc);
-    let words = [Word::Phrase("served"), Word::Number(count as u64)];
-    push_words(alloc, &mut line, &words)?;
-    Ok(line)
+    words_line(alloc, &[Word::Phrase("served"), Word::Number(count as u64)])
 }

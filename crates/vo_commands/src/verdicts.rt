@@ -4,7 +4,7 @@ ghost use Rattle.vo_spec.specs.declared.checks.Verdict.TheVariants.{Exact, Unsig
 ghost use Rattle.vo_commands.specs.Lines.{collision_output, signed_lines, verdict_output};
 ghost use Rattle.vo_commands.specs.Reports.{output_of};
 
-use crate::lines::push_words;
+use crate::lines::{push_words, words_line};
 use crate::piece::Word;
 use crate::report::{Report, Status};
 use std::alloc::{AllocError, Global};
@@ -29,9 +29,10 @@ pub fn verdict_report(alloc: Global, verdict: &Verdict) -> Result<Report, AllocE
 fn exact_report(alloc: Global, version: u64) -> Result<Report, AllocError>
     ensures { IfOk result (λ report. output_of report ≡ verdict_output (Exact version)) }
 {
-    let mut bytes = Vec::new(alloc);
-    let words = [Word::Phrase("exact version"), Word::Number(version)];
-    push_words(alloc, &mut bytes, &words)?;
+    let bytes = words_line(
+        alloc,
+        &[Word::Phrase("exact version"), Word::Number(version)],
+    )?;
     Ok(Report {
         status: Status::Done,
         bytes,
