@@ -1,11 +1,11 @@
 //! What the calls answer.
-use crate::changes::run_over_changes;
+use crate::changes::{Changes, run_over_changes};
 use crate::disk_run::run_with_disk;
 use crate::folder::{Attempt, Folder, RunEnd};
 use crate::line::{Frame, Line, Splice, read_line};
 use line_pieces::NoAnswer;
 use std::alloc::Global;
-use std::io;
+use std::{io, mem};
 use vo_words::{Command, Commitment, Request, Service, read_words};
 
 /// The answer to a line.
@@ -18,20 +18,34 @@ pub fn answer(alloc: Global, folder: &mut Folder, line: &str) -> io::Result<Stri
 
 fn answer_line(alloc: Global, folder: &mut Folder, line: &str) -> Result<String, NoAnswer> {
     match read_line(alloc, line)? {
-        Line::Clear => {
-            *folder = Folder::new(alloc);
-            Ok("cleared".to_string(alloc)?)
-        }
+        Line::Clear => clear(alloc, folder),
         Line::Keep(name, bytes) => keep_file(alloc, folder, name, bytes),
-        Line::Splice(name, splice) => keep_splice(alloc, folder, name, &splice),
-        Line::Frame(name, frame) => keep_frame(alloc, folder, name, &frame),
+        Line::Splice(name, splice) => keep_splice(alloc, folder, name, splice),
+        Line::Frame(name, frame) => keep_frame(alloc, folder, name, frame),
         Line::Run(attempt) => run_once(alloc, folder, attempt),
         Line::Talk(attempt) => run_with_peer(alloc, folder, attempt),
         Line::Own(run) => run_with_disk(alloc, folder, run),
         Line::Make(name, attempt) => run_and_keep(alloc, folder, name, attempt),
-        Line::Each(change, name, words) => run_over_changes(alloc, folder, change, &name, &words),
-        Line::Words(words) => request_text(alloc, &words),
+        Line::Each(changes) => run_each(alloc, folder, changes),
+        Line::Words(words) => words_text(alloc, words),
     }
+}
+
+fn clear(alloc: Global, folder: &mut Folder) -> Result<String, NoAnswer> {
+    drop(mem::replace(folder, Folder::new(alloc)));
+    Ok("cleared".to_string(alloc)?)
+}
+
+fn run_each(alloc: Global, folder: &Folder, changes: Changes) -> Result<String, NoAnswer> {
+    let answer = run_over_changes(alloc, folder, &changes);
+    drop(changes);
+    answer
+}
+
+fn words_text(alloc: Global, words: Vec<String>) -> Result<String, NoAnswer> {
+    let answer = request_text(alloc, &words);
+    drop(words);
+    answer
 }
 
 /// What the words ask for.
@@ -117,19 +131,36 @@ fn keep_file(
     name: String,
     bytes: Vec<u8>,
 ) -> Result<String, NoAnswer> {
-    let answer = format!(in alloc; "{} bytes", bytes.len())?;
+    let count = bytes.len();
     folder.keep(name, bytes)?;
-    Ok(answer)
+    Ok(format!(in alloc; "{count} bytes")?)
+}
+
+/// The same of bytes that were made for it, if they were.
+fn keep_made(
+    alloc: Global,
+    folder: &mut Folder,
+    name: String,
+    made: Result<Vec<u8>, NoAnswer>,
+) -> Result<String, NoAnswer> {
+    match made {
+        Ok(bytes) => keep_file(alloc, folder, name, bytes),
+        Err(fault) => {
+            drop(name);
+            Err(fault)
+        }
+    }
 }
 
 fn keep_splice(
     alloc: Global,
     folder: &mut Folder,
     name: String,
-    splice: &Splice,
+    splice: Splice,
 ) -> Result<String, NoAnswer> {
-    let bytes = splice_file(alloc, folder, splice)?;
-    keep_file(alloc, folder, name, bytes)
+    let made = splice_file(alloc, folder, &splice);
+    drop(splice);
+    keep_made(alloc, folder, name, made)
 }
 
 fn splice_file(alloc: Global, folder: &Folder, splice: &Splice) -> Result<Vec<u8>, NoAnswer> {
@@ -149,8 +180,14 @@ fn keep_frame(
     alloc: Global,
     folder: &mut Folder,
     name: String,
-    frame: &Frame,
+    frame: Frame,
 ) -> Result<String, NoAnswer> {
+    let made = frame_bytes(alloc, folder, &frame);
+    drop(frame);
+    keep_made(alloc, folder, name, made)
+}
+
+fn frame_bytes(alloc: Global, folder: &Folder, frame: &Frame) -> Result<Vec<u8>, NoAnswer> {
     let Some(body) = folder.find(&frame.body) else {
         return Err(NoAnswer::NoSuchLine);
     };
@@ -160,17 +197,21 @@ fn keep_frame(
     let mut bytes = Vec::from_slice(alloc, &length.to_be_bytes())?;
     bytes.extend_from_slice(&frame.kind)?;
     bytes.extend_from_slice(body)?;
-    keep_file(alloc, folder, name, bytes)
+    Ok(bytes)
 }
 
 fn run_once(alloc: Global, folder: &Folder, attempt: Attempt) -> Result<String, NoAnswer> {
     let end = folder.run(alloc, attempt)?;
-    end_text(alloc, &end)
+    let answer = end_text(alloc, &end);
+    drop(end);
+    answer
 }
 
 fn run_with_peer(alloc: Global, folder: &Folder, attempt: Attempt) -> Result<String, NoAnswer> {
     let end = folder.run(alloc, attempt)?;
-    talk_text(alloc, &end)
+    let answer = talk_text(alloc, &end);
+    drop(end);
+    answer
 }
 
 /// What a run ended with, and what was put on its connections.
@@ -187,10 +228,17 @@ fn run_and_keep(
     name: String,
     attempt: Attempt,
 ) -> Result<String, NoAnswer> {
-    let end = folder.run(alloc, attempt)?;
-    let answer = end_text(alloc, &end)?;
-    folder.keep(name, end.written)?;
-    Ok(answer)
+    match folder.run(alloc, attempt) {
+        Ok(end) => {
+            let answer = end_text(alloc, &end);
+            folder.keep(name, end.written)?;
+            answer
+        }
+        Err(_) => {
+            drop(name);
+            Err(NoAnswer::Memory)
+        }
+    }
 }
 
 /// A status, and output as a text in quotes, if it is one, or else in hexadecimal.

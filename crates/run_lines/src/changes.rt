@@ -14,28 +14,44 @@ pub enum Change {
     Turn,
 }
 
+/// A file that is changed, and the words of the runs over it.
+#[derive(Drop)]
+pub struct Changes {
+    pub change: Change,
+    pub name: String,
+    pub words: Vec<String>,
+}
+
 /// The answers to runs over the file, changed at each place in turn. Of those that follow each
 /// other and are the same one stands, behind their number.
 pub fn run_over_changes(
     alloc: Global,
     folder: &Folder,
-    change: Change,
-    name: &str,
-    words: &[String],
+    changes: &Changes,
 ) -> Result<String, NoAnswer> {
-    let Some(bytes) = folder.find(name) else {
+    let Some(bytes) = folder.find(&changes.name) else {
         return Err(NoAnswer::NoSuchLine);
     };
     let mut answers = Answers::new(alloc)?;
     for at in 0..bytes.len() {
-        let file = NamedFile {
-            name: String::from_str(alloc, name)?,
-            bytes: change_bytes(alloc, bytes, change, at)?,
-        };
-        let end = folder.run_with(alloc, words, file)?;
-        answers.add(alloc, end_text(alloc, &end)?)?;
+        let changed = change_bytes(alloc, bytes, changes.change, at)?;
+        answers.add(alloc, run_over_changed(alloc, folder, changes, changed)?)?;
     }
     Ok(answers.text(alloc)?)
+}
+
+/// The answer to a run over these bytes.
+fn run_over_changed(
+    alloc: Global,
+    folder: &Folder,
+    changes: &Changes,
+    bytes: Vec<u8>,
+) -> Result<String, NoAnswer> {
+    let name = String::from_str(alloc, &changes.name)?;
+    let end = folder.run_with(alloc, &changes.words, NamedFile { name, bytes })?;
+    let answer = end_text(alloc, &end);
+    drop(end);
+    answer
 }
 
 fn change_bytes(

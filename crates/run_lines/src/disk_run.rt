@@ -1,7 +1,7 @@
 //! Runs of the program with a disk that is a file of the folder.
 use crate::calls::talk_text;
 use crate::counted_disk::CountedDisk;
-use crate::folder::{Attempt, Folder};
+use crate::folder::{Attempt, Folder, RunEnd};
 use line_pieces::NoAnswer;
 use outside::{FailAt, Failure, MemDisk};
 use std::alloc::{AllocError, Global};
@@ -26,16 +26,101 @@ pub struct Crash {
 /// Runs the program and keeps what its disk holds then, or what a crash leaves there. Says what a
 /// run with a peer says, how many calls of the disk were made, and what is kept.
 pub fn run_with_disk(alloc: Global, folder: &mut Folder, run: DiskRun) -> Result<String, NoAnswer> {
-    let first = Vec::from_slice(alloc, folder.find(&run.file).unwrap_or(&[]))?;
-    let disk = MemDisk::new(alloc, first, FailAt::new(run.failures))?;
-    let mut counted = CountedDisk::new(disk);
-    let end = folder.run_on(alloc, run.attempt, &mut counted)?;
-    let left = bytes_left(alloc, &counted.disk, run.crash)?;
-    let text = talk_text(alloc, &end)?;
-    let found = left_text(alloc, folder, &left)?;
-    let answer = format!(in alloc; "{text} calls {} disk {found}", counted.calls)?;
-    folder.keep(run.file, left)?;
-    Ok(answer)
+    let DiskRun {
+        file,
+        failures,
+        crash,
+        attempt,
+    } = run;
+    match run_on_file(alloc, folder, &file, failures, attempt) {
+        Ok(done) => {
+            let answer = keep_left(alloc, folder, file, &done, crash);
+            drop(done);
+            answer
+        }
+        Err(fault) => {
+            drop((file, crash));
+            Err(fault)
+        }
+    }
+}
+
+/// A run that ended, and its disk then.
+#[derive(Drop)]
+struct DoneRun {
+    end: RunEnd,
+    disk: CountedDisk<MemDisk<FailAt>>,
+}
+
+fn run_on_file(
+    alloc: Global,
+    folder: &Folder,
+    file: &str,
+    failures: Vec<Failure>,
+    attempt: Attempt,
+) -> Result<DoneRun, NoAnswer> {
+    match disk_of(alloc, folder, file, failures) {
+        Ok(mut disk) => match folder.run_on(alloc, attempt, &mut disk) {
+            Ok(end) => Ok(DoneRun { end, disk }),
+            Err(_) => {
+                drop(disk);
+                Err(NoAnswer::Memory)
+            }
+        },
+        Err(_) => {
+            drop(attempt);
+            Err(NoAnswer::Memory)
+        }
+    }
+}
+
+/// A disk that holds the file, if it is there, and of which these calls fail.
+fn disk_of(
+    alloc: Global,
+    folder: &Folder,
+    file: &str,
+    failures: Vec<Failure>,
+) -> Result<CountedDisk<MemDisk<FailAt>>, AllocError> {
+    let failing = FailAt::new(failures);
+    match Vec::from_slice(alloc, folder.find(file).unwrap_or(&[])) {
+        Ok(first) => Ok(CountedDisk::new(MemDisk::new(alloc, first, failing)?)),
+        Err(fault) => {
+            drop(failing);
+            Err(fault)
+        }
+    }
+}
+
+/// Keeps what the disk holds, or what a crash leaves there, as the file, and says it.
+fn keep_left(
+    alloc: Global,
+    folder: &mut Folder,
+    file: String,
+    done: &DoneRun,
+    crash: Option<Crash>,
+) -> Result<String, NoAnswer> {
+    match bytes_left(alloc, &done.disk.disk, crash) {
+        Ok(left) => {
+            let answer = done_text(alloc, folder, done, &left);
+            folder.keep(file, left)?;
+            answer
+        }
+        Err(_) => {
+            drop(file);
+            Err(NoAnswer::Memory)
+        }
+    }
+}
+
+fn done_text(
+    alloc: Global,
+    folder: &Folder,
+    done: &DoneRun,
+    left: &[u8],
+) -> Result<String, NoAnswer> {
+    let text = talk_text(alloc, &done.end)?;
+    let found = left_text(alloc, folder, left)?;
+    Ok(format!(in alloc; "{text} calls {} disk {found}", done.disk.calls)?)
 }
 
 /// What a disk holds, behind a crash if one comes.
@@ -45,7 +130,11 @@ fn bytes_left(
     crash: Option<Crash>,
 ) -> Result<Vec<u8>, AllocError> {
     match crash {
-        Some(crash) => disk.image(alloc, crash.moment, &crash.lost),
+        Some(crash) => {
+            let image = disk.image(alloc, crash.moment, &crash.lost);
+            drop(crash);
+            image
+        }
         None => Vec::from_slice(alloc, disk.contents()),
     }
 }

@@ -79,32 +79,92 @@ impl Folder {
         attempt: Attempt,
         disk: &mut D,
     ) -> Result<RunEnd, AllocError> {
-        let files = copies(alloc, &self.files)?;
-        let mut shelf = MemShelf::new(files, FailAt::new(attempt.take_failures));
-        let mut net = self.net_to(alloc, attempt.peer)?;
-        let put_failures = FailAt::new(attempt.put_failures);
-        run_over(
-            alloc,
-            &attempt.words,
-            &mut shelf,
-            disk,
-            &mut net,
+        let Attempt {
+            words,
+            take_failures,
             put_failures,
-        )
+            peer,
+        } = attempt;
+        match self.outside_of(alloc, take_failures, peer) {
+            Ok((mut shelf, mut net)) => {
+                let failing = FailAt::new(put_failures);
+                let end = run_over(alloc, &words, &mut shelf, disk, &mut net, failing);
+                drop((words, shelf, net));
+                end
+            }
+            Err(fault) => {
+                drop((words, put_failures));
+                Err(fault)
+            }
+        }
+    }
+
+    /// These files, and a network with the connections of this peer.
+    fn outside_of(
+        &self,
+        alloc: Global,
+        take_failures: Vec<Failure>,
+        peer: Option<Peer>,
+    ) -> Result<(MemShelf<FailAt>, MemNet<FailAt>), AllocError> {
+        match copies(alloc, &self.files) {
+            Ok(files) => {
+                let shelf = MemShelf::new(files, FailAt::new(take_failures));
+                self.beside_net(alloc, shelf, peer)
+            }
+            Err(fault) => {
+                drop((take_failures, peer));
+                Err(fault)
+            }
+        }
+    }
+
+    fn beside_net(
+        &self,
+        alloc: Global,
+        shelf: MemShelf<FailAt>,
+        peer: Option<Peer>,
+    ) -> Result<(MemShelf<FailAt>, MemNet<FailAt>), AllocError> {
+        match self.net_to(alloc, peer) {
+            Ok(net) => Ok((shelf, net)),
+            Err(fault) => {
+                drop(shelf);
+                Err(fault)
+            }
+        }
     }
 
     /// A network with the connections of this peer, if there is one.
     fn net_to(&self, alloc: Global, peer: Option<Peer>) -> Result<MemNet<FailAt>, AllocError> {
-        let mut connections = Vec::new(alloc);
         let Some(peer) = peer else {
-            return MemNet::new(alloc, connections, FailAt::new(Vec::new(alloc)));
+            return MemNet::new(alloc, Vec::new(alloc), FailAt::new(Vec::new(alloc)));
         };
-        for file in &peer.files {
-            let coming = self.find(file).unwrap_or(&[]);
-            connections.push(Vec::from_slice(alloc, coming)?)?;
+        let Peer {
+            files,
+            piece,
+            failures,
+        } = peer;
+        let coming = self.bytes_of(alloc, &files);
+        drop(files);
+        match coming {
+            Ok(coming) => {
+                let net = MemNet::new(alloc, coming, FailAt::new(failures))?;
+                Ok(net.in_pieces(piece.max(1)))
+            }
+            Err(fault) => {
+                drop(failures);
+                Err(fault)
+            }
         }
-        let net = MemNet::new(alloc, connections, FailAt::new(peer.failures))?;
-        Ok(net.in_pieces(peer.piece.max(1)))
+    }
+
+    /// The bytes of each of these files.
+    fn bytes_of(&self, alloc: Global, names: &[String]) -> Result<Vec<Vec<u8>>, AllocError> {
+        let mut all = Vec::new(alloc);
+        for name in names {
+            let bytes = self.find(name).unwrap_or(&[]);
+            all.push(Vec::from_slice(alloc, bytes)?)?;
+        }
+        Ok(all)
     }
 
     /// A run that never fails, with this file in the place of the one of its name.
@@ -114,19 +174,39 @@ impl Folder {
         words: &[String],
         file: NamedFile,
     ) -> Result<RunEnd, AllocError> {
-        let mut files = copies(alloc, &self.files)?;
-        files.insert(0, file)?;
-        let mut shelf = MemShelf::new(files, FailAt::new(Vec::new(alloc)));
-        let mut net = self.net_to(alloc, None)?;
-        run_over(
-            alloc,
-            words,
-            &mut shelf,
-            &mut empty_disk(alloc)?,
-            &mut net,
-            FailAt::new(Vec::new(alloc)),
-        )
+        let shelf = MemShelf::new(self.files_with(alloc, file)?, FailAt::new(Vec::new(alloc)));
+        let (mut shelf, mut net) = self.beside_net(alloc, shelf, None)?;
+        let end = run_without_disk(alloc, words, &mut shelf, &mut net);
+        drop((shelf, net));
+        end
     }
+
+    fn files_with(&self, alloc: Global, file: NamedFile) -> Result<Vec<NamedFile>, AllocError> {
+        match copies(alloc, &self.files) {
+            Ok(mut files) => {
+                files.insert(0, file)?;
+                Ok(files)
+            }
+            Err(fault) => {
+                drop(file);
+                Err(fault)
+            }
+        }
+    }
+}
+
+/// Runs the program over these, with nothing on its disk.
+fn run_without_disk(
+    alloc: Global,
+    words: &[String],
+    shelf: &mut MemShelf<FailAt>,
+    net: &mut MemNet<FailAt>,
+) -> Result<RunEnd, AllocError> {
+    let mut disk = empty_disk(alloc)?;
+    let never = FailAt::new(Vec::new(alloc));
+    let end = run_over(alloc, words, shelf, &mut disk, net, never);
+    drop(disk);
+    end
 }
 
 fn empty_disk(alloc: Global) -> Result<MemDisk<Never>, AllocError> {
@@ -144,10 +224,23 @@ fn run_over<D: Disk>(
 ) -> Result<RunEnd, AllocError> {
     let mut out = MemSink::new(alloc, put_failures);
     let status = run(alloc, words, shelf, disk, net, &mut out);
+    let end = end_of(alloc, status, out.contents(), net);
+    drop(out);
+    end
+}
+
+fn end_of(
+    alloc: Global,
+    status: u8,
+    written: &[u8],
+    net: &MemNet<FailAt>,
+) -> Result<RunEnd, AllocError> {
+    let written = Vec::from_slice(alloc, written)?;
+    let put = all_put(alloc, net)?;
     Ok(RunEnd {
         status,
-        written: Vec::from_slice(alloc, out.contents())?,
-        put: all_put(alloc, net)?,
+        written,
+        put,
     })
 }
 

@@ -1,5 +1,5 @@
 //! A line: the word of a call, and what it is asked of.
-use crate::changes::Change;
+use crate::changes::{Change, Changes};
 use crate::disk_run::{Crash, DiskRun};
 use crate::folder::{Attempt, Peer};
 use crate::pieces::{
@@ -20,7 +20,7 @@ pub enum Line {
     Talk(Attempt),
     Own(DiskRun),
     Make(String, Attempt),
-    Each(Change, String, Vec<String>),
+    Each(Changes),
     Words(Vec<String>),
 }
 
@@ -71,7 +71,12 @@ fn line_of(alloc: Global, word: &str, pieces: &mut Pieces<'_>) -> Result<Line, N
 
 fn take_changes(alloc: Global, change: Change, pieces: &mut Pieces<'_>) -> Result<Line, NoAnswer> {
     let name = take_name(alloc, pieces)?;
-    Ok(Line::Each(change, name, take_words(alloc, pieces)?))
+    let words = take_words(alloc, pieces)?;
+    Ok(Line::Each(Changes {
+        change,
+        name,
+        words,
+    }))
 }
 
 fn take_splice(alloc: Global, pieces: &mut Pieces<'_>) -> Result<Splice, NoAnswer> {
