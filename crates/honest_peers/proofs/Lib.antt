@@ -13,3 +13,4 @@ pub mod Beginnings
 pub mod OwnRuns
 pub mod Readings
 pub mod AnswerLaws
+pub mod OwnedSteps
