@@ -14,3 +14,4 @@ pub mod OwnRuns
 pub mod Readings
 pub mod AnswerLaws
 pub mod OwnedSteps
+pub mod Judged

@@ -1,14 +1,16 @@
-//! Laws of parties that keep to the rules, each the contract of a function that does nothing: what
-//! a client and an owner come to with an honest store, that its bytes have one reading, and
-//! that an owner owns what it writes.
+//! Laws of all parties together, each the contract of a function that does nothing: what a client
+//! accepts is judged by an audit, what an owner writes is owned, bytes have one reading, and what a
+//! client and an owner come to with an honest store.
 #![tactic(auto)]
 
 mod asking;
+mod judging;
 mod one_reading;
 mod owning;
 mod writing;
 
 pub use asking::{checks_have_one_answer, loaded_stores_are_honest, questions_are_answered};
+pub use judging::audits_judge_what_clients_accept;
 pub use one_reading::{bytes_have_one_reading, honest_replies_have_one_answer};
 pub use owning::{owners_begin_plainly, owners_end_plainly, sessions_end_plainly};
 pub use writing::owners_write_what_they_own;
