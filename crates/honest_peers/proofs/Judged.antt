@@ -17,6 +17,7 @@ use Rattle.vo_spec.specs.Replies.{Reply}
 use Rattle.owner_roots.specs.Owners.{IsBadAt, IsOwned, OwnedAuditOf}
 use Rattle.reply_tests.proofs.AcceptedRecords.{of_no_fault}
 use Rattle.honest_peers.proofs.AskLaws.{one_check}
+use Rattle.honest_peers.proofs.OneVerdict.{answer_is}
 use Rattle.honest_peers.proofs.Readings.{never_bad, one_owned}
 use Rattle.honest_peers.specs.Accepting.{AcceptsReply, IsJudged}
 
@@ -93,9 +94,6 @@ module _ (key : List ℕ) (least : ℕ) (q : Query) (bytes : List ℕ) (answer :
   never_refused journal fault accepted refused =
       let same = one_check key 0 q bytes (Ok answer) (Err fault) accepted refused.2 in absurd (cc)
 
-  answer_is : (a b : Answer) → CheckOf key 0 q bytes (Ok a) → CheckOf key 0 q bytes (Ok b) → a ≡ b
-  answer_is a b first second = let same = one_check key 0 q bytes (Ok a) (Ok b) first second in cc
-
   pub judged : (journal : List ℕ) (es : List Entry) (verdict : Result Verdict AuditFault) → IsOwned key journal es
       → CheckOf key least q bytes (Ok answer) → OwnedAuditOf key journal q bytes verdict → IsJudged es q bytes answer verdict
   unfolding AuditOf IsOwned IsBadAt
@@ -105,7 +103,7 @@ module _ (key : List ℕ) (least : ℕ) (q : Query) (bytes : List ℕ) (answer :
   judged journal es (Err Memory) owned accepted told = absurd told
   judged journal es (Ok verdict) owned accepted told =
       let entries : told.0 ≡ es = one_owned key journal told.0 es told.1 owned in
-      let same : told.4 ≡ answer = answer_is told.4 answer told.5 (accepts_reply accepted).by_any in
+      let same : told.4 ≡ answer = answer_is key q bytes told.4 answer told.5 (accepts_reply accepted).by_any in
       record {
         found = verdict;
         told = refl;

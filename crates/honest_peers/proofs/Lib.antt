@@ -14,4 +14,5 @@ pub mod OwnRuns
 pub mod Readings
 pub mod AnswerLaws
 pub mod OwnedSteps
+pub mod OneVerdict
 pub mod Judged

@@ -3,6 +3,7 @@ use Rattle.std.specs.Prelude.{◌≡◌, ℕ, ◌≤◌, List, Result, Ok}
 use Rattle.vo_spec.specs.declared.checks.Answer.{Answer}
 use Rattle.vo_spec.specs.declared.checks.AuditFault.{AuditFault}
 use Rattle.vo_spec.specs.declared.checks.Verdict.{Verdict}
+use Rattle.vo_spec.specs.declared.checks.Verdict.TheVariants.{Collides as Collide}
 use Rattle.vo_spec.specs.declared.records.Entry.{Entry}
 use Rattle.vo_spec.specs.Audits.{IsVerdict}
 use Rattle.vo_spec.specs.Checks.{CheckOf}
@@ -30,3 +31,8 @@ pub record IsJudged (es : List Entry) (q : Query) (bytes : List ℕ) (answer : A
   pub reply : Reply
   pub read : IsReply bytes reply
   pub judges : IsVerdict es q reply answer found
+
+-- Two audits say the same, but for the strings that show a collision.
+abbrev pub SaysSame : Result Verdict AuditFault → Result Verdict AuditFault → Type 0
+SaysSame (Ok (Collide found)) (Ok (Collide other)) = Unit {0}
+SaysSame a b = a ≡ b
