@@ -69,9 +69,6 @@ module _ (key bytes : List ℕ) where
         | inr t ↦ absurd (never_below j i t.1 second first)
       ]
 
-abbrev told : Verdict → Result Verdict AuditFault
-told verdict = Ok verdict
-
 module _ (es : List Entry) (q : Query) (r : Reply) (answer : Answer) where
   same_verdict : (a b : Verdict) → IsVerdict es q r answer a → IsVerdict es q r answer b → SaysSame (Ok a) (Ok b)
   unfolding IsVerdict
