@@ -26,7 +26,7 @@ use Rattle.query_plan.specs.BoundQueries.{bound_query}
 use Rattle.query_plan.specs.Plans.{QueryPlan, plan_of, meets_left}
 use Rattle.plan_run.specs.Running.{group_needs, needs_of, run_needs}
 use Rattle.plan_run.proofs.ByNames.{needs_same}
-use Rattle.tree_collide.specs.Walks.{walk, AreOneWalk}
+use Rattle.vo_spec.specs.Walks.{walk, AreOneWalk}
 use Rattle.tree_collide.proofs.OneWalk.{walk_complete, walks_seen}
 use Rattle.reply_meeting.specs.Accepting.{HasPassed}
 use Rattle.reply_meeting.specs.Comparing.{AreTwins, AreComparable}

@@ -13,10 +13,9 @@ use Rattle.row_bytes.specs.Fields.{◌>>=◌, where_true, short_string_at, name_
 use Rattle.batch_format.specs.BatchReading.{Reader}
 use Rattle.batch_format.proofs.Fitting.{name_is_short}
 use Rattle.batch_format.proofs.ReaderLaws.{bound, some_is, tested, no_some, all_true}
-use Rattle.vo_spec.specs.Records.{are_rising}
+use Rattle.vo_spec.specs.Records.{are_rising, max_catalog}
 use Rattle.version_record.specs.Reading.{schema_at, catalog_table_at, names_of, catalog_at}
 use Rattle.version_record.proofs.RecordLaws.{whole_is}
-use Rattle.reply_stream.specs.Heads.{max_catalog}
 use Rattle.reply_stream.proofs.Locals.{seen_at}
 
 -- what is read takes at most so many bytes

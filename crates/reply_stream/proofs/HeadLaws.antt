@@ -21,7 +21,8 @@ use Rattle.reply_stream.specs.declared.head_state.HeadState.TheVariants.{Front, 
 use Rattle.reply_stream.specs.declared.head_state.SignatureField.{SignatureField}
 use Rattle.reply_stream.specs.declared.head_state.SignedRecord.{SignedRecord}
 use Rattle.reply_stream.specs.declared.head_state.CatalogField.{CatalogField}
-use Rattle.reply_stream.specs.Heads.{max_catalog, head, front_at, signed_head_at, head_at, catalog_of_size, signature_of_size, rest_of_head, Yields}
+use Rattle.vo_spec.specs.Records.{max_catalog}
+use Rattle.reply_stream.specs.Heads.{head, front_at, signed_head_at, head_at, catalog_of_size, signature_of_size, rest_of_head, Yields}
 use Rattle.reply_stream.specs.HeadFields.{field_size}
 use Rattle.reply_stream.proofs.CatalogSizes.{too_long_for_catalog}
 use Rattle.reply_stream.proofs.Locals.{front_local, bytes_local, token_read, too_few}

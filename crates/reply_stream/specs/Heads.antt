@@ -15,10 +15,6 @@ use Rattle.reply_stream.specs.declared.head_state.HeadState.TheVariants.{Front, 
 abbrev pub head : Record → List ℕ → Catalog → ReplyHead
 head rec signature catalog = record { rec = rec; signature = signature; catalog = catalog }
 
--- how many bytes a catalog has at most: as many tables as may be, each of the longest names
-abbrev pub max_catalog : ℕ
-max_catalog = 139906
-
 -- the first word, and the record behind it
 unfoldable pub front_at : Reader Record
 front_at bytes = word_at (codes "VOR1") bytes >>= λ magic. record_at magic.1

@@ -12,10 +12,7 @@ use row_bytes::{Cursor, ReadFault};
 use std::alloc::{AllocError, Global};
 use std::mem;
 use version_record::{catalog_in, take_record};
-use vo_spec::{List, MAX_SIGNATURE, Record};
-
-/// How many bytes a catalog has at most: as many tables as may be, each of the longest names.
-const MAX_CATALOG: usize = 139_906;
+use vo_spec::{List, MAX_CATALOG, MAX_SIGNATURE, Record};
 
 /// How many bytes the next field has, if one comes.
 pub(crate) fn field_size(state: &HeadState) -> Option<usize>

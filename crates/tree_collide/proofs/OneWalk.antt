@@ -14,7 +14,7 @@ use Rattle.vo_laws.proofs.ListLaws.{in_right}
 use Rattle.vo_spec.specs.Needs.{all_keys}
 use Rattle.vo_laws.proofs.ScanLaws.{IsNoneOrSame, Shows, sound, complete}
 use Rattle.tree_collide.specs.Alike.{AreAlike}
-use Rattle.tree_collide.specs.Walks.{ScanWalk, walk_end, walk_stop, from_row, onward, walk_of_entries, walk_in, walk_in_each, walk, if_ended, AreOneWalk}
+use Rattle.vo_spec.specs.Walks.{ScanWalk, walk_end, walk_stop, from_row, onward, walk_of_entries, walk_in, walk_in_each, walk, if_ended, AreOneWalk}
 use Rattle.tree_collide.proofs.OneTree.{one_tree}
 
 -- What a scan gives is the walk's rows where the walk has an end.

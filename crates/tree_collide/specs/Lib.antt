@@ -1,4 +1,3 @@
 pub mod Agreements
 pub mod Alike
 pub mod Preimages
-pub mod Walks

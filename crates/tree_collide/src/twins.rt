@@ -9,7 +9,7 @@ ghost use Rattle.mb_tree.specs.View.{part_of};
 ghost use Rattle.tree_collide.specs.Agreements.{SameOrFound, ToldAre};
 ghost use Rattle.tree_collide.specs.Alike.{AreAlike};
 ghost use Rattle.tree_collide.specs.Preimages.{ArePreimages};
-ghost use Rattle.tree_collide.specs.Walks.{AreOneWalk, if_ended, walk};
+ghost use Rattle.vo_spec.specs.Walks.{AreOneWalk, if_ended, walk};
 
 use crate::twin_nodes::collision_of_twins;
 use mb_tree::PartTree;

@@ -1,5 +1,5 @@
 -- What a client says of a reply: the first of its tests that refuses it, or the answer.
-use Rattle.std.specs.Prelude.{◌≡◌, ◌⊎◌, find, remove, option_and_then, ℕ, ◌+◌, ◌-◌, ◌<◌, ◌≤◌, Bool, true, false, not, ◌&&◌, ◌||◌, ◌==◌, nat_lt, nat_le, if◌then◌else◌, List, [], ◌∷◌, ◌++◌, map, length, Option, Some, None, option_map, is_some, is_none, Result, Ok, Err, zip, bytes_eq}
+use Rattle.std.specs.Prelude.{◌≡◌, ◌⊎◌, find, remove, option_and_then, ℕ, ◌<◌, ◌≤◌, Bool, true, false, ◌&&◌, ◌==◌, nat_lt, nat_le, if◌then◌else◌, List, [], ◌∷◌, map, length, Option, Some, None, is_some, Result, Err, zip, bytes_eq}
 use Rattle.std.specs.Option.{option_map_or}
 use Rattle.std.specs.List.{list_any, list_all}
 use Rattle.vo_spec.specs.declared.values.Kind.{Kind}
@@ -13,7 +13,6 @@ use Rattle.vo_spec.specs.declared.cells.RowPart.TheVariants.{Digest as Closed, C
 use Rattle.vo_spec.specs.declared.cells.PartEntry.{PartEntry}
 use Rattle.vo_spec.specs.declared.needs.Need.{Need}
 use Rattle.vo_spec.specs.declared.queries.Outcome.{Outcome}
-use Rattle.vo_spec.specs.declared.queries.QueryFault.{QueryFault}
 use Rattle.vo_spec.specs.declared.records.Catalog.{Catalog}
 use Rattle.vo_spec.specs.declared.records.CatalogTable.{CatalogTable}
 use Rattle.vo_spec.specs.declared.checks.Answer.{Answer}
@@ -22,7 +21,7 @@ use Rattle.vo_spec.specs.declared.checks.CheckFault.TheVariants.{TooLong, BadFor
 use Rattle.vo_spec.specs.Firsts.{first_some, unless}
 use Rattle.vo_spec.specs.Values.{kind_of, same_kind, is_text}
 use Rattle.vo_spec.specs.Tables.{column_at, max_key}
-use Rattle.vo_spec.specs.Results.{BoundSource, schema_at, bound_sources, binding_fault, header, outcome, answer_rows}
+use Rattle.vo_spec.specs.Results.{bound_sources, binding_fault, header, outcome, answer_rows}
 use Rattle.vo_spec.specs.Conditions.{Query}
 use Rattle.vo_spec.specs.Lms.{key_id, leaf_of, lms_valid}
 use Rattle.vo_spec.specs.Records.{record_bytes, catalog_digest, table_headers}

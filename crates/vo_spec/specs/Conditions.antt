@@ -18,17 +18,75 @@ use Rattle.vo_spec.specs.declared.queries.Join.{Join}
 use Rattle.vo_spec.specs.declared.queries.QueryText.{QueryText}
 use Rattle.vo_spec.specs.Values.{value_cmp, IsInRange}
 
--- A condition: every part holds, some part holds, the part doesn't hold, or a comparison.
+-- A formula over tests of any kind: every part holds, some part holds, the part doesn't hold, or a
+-- test.
 mutual
-  pub data Condition : Type 0 where
-    every : Conditions → Condition
-    some : Conditions → Condition
-    negated : Condition → Condition
-    test : Ref → Cmp → Operand → Condition
+  pub data Formula (T : Type 0) : Type 0 where
+    every : Formulas T → Formula T
+    some : Formulas T → Formula T
+    negated : Formula T → Formula T
+    test : T → Formula T
 
-  pub data Conditions : Type 0 where
-    none : Conditions
-    more : Condition → Conditions → Conditions
+  pub data Formulas (T : Type 0) : Type 0 where
+    none : Formulas T
+    more : Formula T → Formulas T → Formulas T
+
+module _ {T : Type 0} where
+  -- whether it is true, by what is true of a test
+  abbrev mutual
+    pub truth_by : (T → Bool) → Formula T → Bool
+    truth_by holds (every fs) = all_true_by holds fs
+    truth_by holds (some fs) = any_true_by holds fs
+    truth_by holds (negated f) = not (truth_by holds f)
+    truth_by holds (test t) = holds t
+
+    pub all_true_by : (T → Bool) → Formulas T → Bool
+    all_true_by holds none = true
+    all_true_by holds (more f fs) = truth_by holds f && all_true_by holds fs
+
+    pub any_true_by : (T → Bool) → Formulas T → Bool
+    any_true_by holds none = false
+    any_true_by holds (more f fs) = truth_by holds f || any_true_by holds fs
+
+  -- what its tests have, in the order of the text
+  abbrev mutual
+    pub of_tests : {A : Type 0} → (T → List A) → Formula T → List A
+    of_tests has (every fs) = of_tests_in has fs
+    of_tests has (some fs) = of_tests_in has fs
+    of_tests has (negated f) = of_tests has f
+    of_tests has (test t) = has t
+
+    pub of_tests_in : {A : Type 0} → (T → List A) → Formulas T → List A
+    of_tests_in has none = []
+    of_tests_in has (more f fs) = of_tests has f ++ of_tests_in has fs
+
+  -- the same over other tests, one for one
+  abbrev mutual
+    pub with_tests : {U : Type 0} → (T → U) → Formula T → Formula U
+    with_tests change (every fs) = every (with_tests_in change fs)
+    with_tests change (some fs) = some (with_tests_in change fs)
+    with_tests change (negated f) = negated (with_tests change f)
+    with_tests change (test t) = test (change t)
+
+    pub with_tests_in : {U : Type 0} → (T → U) → Formulas T → Formulas U
+    with_tests_in change none = none
+    with_tests_in change (more f fs) = more (with_tests change f) (with_tests_in change fs)
+
+-- A test of a row: a column's value compared with another or with a literal. R is how a column is
+-- written, O how the right side is.
+pub data Test (R O : Type 0) : Type 0 where
+  comparison : R → Cmp → O → Test R O
+
+-- A condition, its columns by their names.
+
+abbrev pub NameTest : Type 0
+NameTest = Test Ref Operand
+
+abbrev pub Condition : Type 0
+Condition = Formula NameTest
+
+abbrev pub Conditions : Type 0
+Conditions = Formulas NameTest
 
 -- Conditions as the program holds them.
 
@@ -41,7 +99,7 @@ abbrev pub condition_layer : Cond-F Condition → Condition
 condition_layer (Cond-F.All parts) = every (conditions parts)
 condition_layer (Cond-F.Any parts) = some (conditions parts)
 condition_layer (Cond-F.Not part) = negated part.value
-condition_layer (Cond-F.Test left op right) = test left op right
+condition_layer (Cond-F.Test left op right) = test (comparison left op right)
 
 abbrev pub condition_of : Cond → Condition
 condition_of = fold-Cond Condition condition_layer
@@ -67,28 +125,18 @@ abbrev pub operand_refs : Operand → List Ref
 operand_refs (Column r) = r ∷ []
 operand_refs (Literal v) = []
 
-abbrev mutual
-  pub condition_refs : Condition → List Ref
-  condition_refs (every cs) = conditions_refs cs
-  condition_refs (some cs) = conditions_refs cs
-  condition_refs (negated c) = condition_refs c
-  condition_refs (test left op right) = left ∷ operand_refs right
+abbrev pub test_refs : NameTest → List Ref
+test_refs (comparison left op right) = left ∷ operand_refs right
 
-  pub conditions_refs : Conditions → List Ref
-  conditions_refs none = []
-  conditions_refs (more c cs) = condition_refs c ++ conditions_refs cs
+abbrev pub condition_refs : Condition → List Ref
+condition_refs = of_tests test_refs
 
 -- the two sides of each comparison
-abbrev mutual
-  pub comparisons : Condition → List (Ref × Operand)
-  comparisons (every cs) = comparisons_in cs
-  comparisons (some cs) = comparisons_in cs
-  comparisons (negated c) = comparisons c
-  comparisons (test left op right) = (left, right) ∷ []
+abbrev pub sides : NameTest → List (Ref × Operand)
+sides (comparison left op right) = (left, right) ∷ []
 
-  pub comparisons_in : Conditions → List (Ref × Operand)
-  comparisons_in none = []
-  comparisons_in (more c cs) = comparisons c ++ comparisons_in cs
+abbrev pub comparisons : Condition → List (Ref × Operand)
+comparisons = of_tests sides
 
 -- Truth.
 
@@ -104,21 +152,13 @@ abbrev pub operand_value : (Ref → Value) → Operand → Value
 operand_value row (Column r) = row r
 operand_value row (Literal v) = v
 
--- a row is what it has for each reference
-abbrev mutual
-  pub truth : (Ref → Value) → Condition → Bool
-  truth row (every cs) = all_true row cs
-  truth row (some cs) = any_true row cs
-  truth row (negated c) = not (truth row c)
-  truth row (test left op right) = compares op (value_cmp (row left) (operand_value row right))
+-- a row is what it has for each column, and so for the right side of a test
+abbrev pub test_truth : {R O : Type 0} → (R → Value) → (O → Value) → Test R O → Bool
+test_truth row operand (comparison left op right) =
+    compares op (value_cmp (row left) (operand right))
 
-  pub all_true : (Ref → Value) → Conditions → Bool
-  all_true row none = true
-  all_true row (more c cs) = truth row c && all_true row cs
-
-  pub any_true : (Ref → Value) → Conditions → Bool
-  any_true row none = false
-  any_true row (more c cs) = truth row c || any_true row cs
+abbrev pub truth : (Ref → Value) → Condition → Bool
+truth row = truth_by (test_truth row (operand_value row))
 
 -- whether the row meets the condition, which may be absent
 abbrev pub is_met : (Ref → Value) → Option Condition → Bool

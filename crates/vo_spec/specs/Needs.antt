@@ -1,6 +1,6 @@
 -- What a query needs of its tables' trees: of the left one an interval of keys, of the right one a
 -- row for each left row that meets the query so far, and of both the columns that the query names.
-use Rattle.std.specs.Prelude.{ℕ, zero, suc, ◌+◌, Bool, true, false, not, ◌&&◌, ◌||◌, ◌==◌, if◌then◌else◌, List, [], ◌∷◌, ◌++◌, map, length, slice_index_or, filter, flat_map, Option, Some, None, option_map, option_to_list, unwrap_or, bytes_eq}
+use Rattle.std.specs.Prelude.{ℕ, Bool, true, false, not, ◌&&◌, ◌||◌, ◌==◌, if◌then◌else◌, List, [], ◌∷◌, map, length, slice_index_or, filter, flat_map, option_to_list, unwrap_or, bytes_eq}
 use Rattle.std.specs.Option.{option_map_or}
 use Rattle.std.specs.List.{list_any, list_all, position_or_len}
 use Rattle.vo_spec.specs.declared.values.Value.{Value}
@@ -13,14 +13,13 @@ use Rattle.vo_spec.specs.declared.tables.Schema.{Schema}
 use Rattle.vo_spec.specs.declared.queries.Ref.{Ref}
 use Rattle.vo_spec.specs.declared.queries.Cmp.{Cmp}
 use Rattle.vo_spec.specs.declared.queries.Cmp.TheVariants as cmp
-use Rattle.vo_spec.specs.declared.queries.Operand.{Operand}
 use Rattle.vo_spec.specs.declared.queries.Operand.TheVariants.{Ref as Column_of, Literal}
 use Rattle.vo_spec.specs.declared.queries.Join.{Join}
 use Rattle.vo_spec.specs.declared.queries.Items.{Items}
 use Rattle.vo_spec.specs.declared.queries.Items.TheVariants.{All, Refs}
 use Rattle.vo_spec.specs.Values.{key_of, key_lt, value_of_key}
 use Rattle.vo_spec.specs.Tables.{column_at, cell_number, value_at}
-use Rattle.vo_spec.specs.Conditions.{Condition, Conditions, every, some, negated, test, none, more, condition_refs, truth, Query}
+use Rattle.vo_spec.specs.Conditions.{Formula, Formulas, every, some, negated, test, none, more, NameTest, comparison, Condition, Conditions, condition_refs, truth, Query}
 use Rattle.vo_spec.specs.Results.{BoundSource, ColumnPlace, bound_source_at, schema_at, place_of, join_places, query_refs, numbers_from, RowView, place_value, ref_value}
 use Rattle.vo_spec.specs.Parts.{leaf}
 use Rattle.vo_spec.specs.Trees.{RowTree}
@@ -59,26 +58,31 @@ lower (Exclusive a) (Exclusive b) = if key_lt b a then Exclusive b else Exclusiv
 abbrev pub intersection : Interval → Interval → Interval
 intersection a b = record { low = higher a.low b.low; high = lower a.high b.high }
 
+-- What the conjuncts of a formula share, by the interval of a test.
+abbrev mutual
+  pub interval_by : {T : Type 0} → (T → Interval) → Formula T → Interval
+  interval_by of_test (every fs) = interval_by_all of_test fs
+  interval_by of_test (some fs) = all_keys
+  interval_by of_test (negated f) = all_keys
+  interval_by of_test (test t) = of_test t
+
+  pub interval_by_all : {T : Type 0} → (T → Interval) → Formulas T → Interval
+  interval_by_all of_test none = all_keys
+  interval_by_all of_test (more f fs) =
+      intersection (interval_by of_test f) (interval_by_all of_test fs)
+
 -- The left interval: what the condition's conjuncts of the form `key op literal` share.
 
 abbrev pub is_left_key : List BoundSource → ColumnPlace → Bool
 is_left_key ss p = p.bound_source == 0 && p.column == (schema_at ss 0).key
 
-abbrev pub test_interval : List BoundSource → Ref → Cmp → Operand → Interval
-test_interval ss left op (Column_of r) = all_keys
-test_interval ss left op (Literal v) = if is_left_key ss (place_of ss left)
+abbrev pub test_interval : List BoundSource → NameTest → Interval
+test_interval ss (comparison left op (Column_of r)) = all_keys
+test_interval ss (comparison left op (Literal v)) = if is_left_key ss (place_of ss left)
     then keys_that op (key_of v) else all_keys
 
-abbrev mutual
-  pub interval_of : List BoundSource → Condition → Interval
-  interval_of ss (every cs) = interval_of_all ss cs
-  interval_of ss (some cs) = all_keys
-  interval_of ss (negated c) = all_keys
-  interval_of ss (test left op right) = test_interval ss left op right
-
-  pub interval_of_all : List BoundSource → Conditions → Interval
-  interval_of_all ss none = all_keys
-  interval_of_all ss (more c cs) = intersection (interval_of ss c) (interval_of_all ss cs)
+abbrev pub interval_of : List BoundSource → Condition → Interval
+interval_of ss = interval_by (test_interval ss)
 
 -- The left condition: the conjuncts on left columns alone. The others wait for the right row.
 
@@ -90,8 +94,7 @@ abbrev mutual
   left_truth ss row (every cs) = left_truths ss row cs
   left_truth ss row (some cs) = if is_left ss (some cs) then truth row (some cs) else true
   left_truth ss row (negated c) = if is_left ss (negated c) then truth row (negated c) else true
-  left_truth ss row (test left op right) = if is_left ss (test left op right)
-      then truth row (test left op right) else true
+  left_truth ss row (test t) = if is_left ss (test t) then truth row (test t) else true
 
   pub left_truths : List BoundSource → (Ref → Value) → Conditions → Bool
   left_truths ss row none = true
@@ -127,11 +130,16 @@ named_cells ss q bound_source =
 
 -- The needs, and what is seen for them.
 
-abbrev pub left_need : List BoundSource → Query → Need
-left_need ss q = record {
+-- what the query asks of the left tree, whatever rows that has
+abbrev pub uncut_need : List BoundSource → Query → Need
+uncut_need ss q = record {
   interval = option_map_or (interval_of ss) q.condition all_keys;
   columns = named_cells ss q 0;
 }
+
+-- what it needs of this left tree: all that it asks for
+abbrev pub left_need : List BoundSource → Query → RowTree → Need
+left_need ss q left = uncut_need ss q
 
 -- the value by which a left row finds its right row
 abbrev pub join_value : List BoundSource → Join → RowView → Value
@@ -174,8 +182,8 @@ right_tree ss trees = if same_table ss then tree_at trees 0 else tree_at trees 1
 -- the left rows that are seen and meet the left condition; and of one of them, the right rows that
 -- are seen
 abbrev pub seen_lefts : List BoundSource → Query → List RowTree → List RowView
-seen_lefts ss q trees = filter (meets_left ss q)
-    (seen_row_views (schema_at ss 0) (left_need ss q) (tree_at trees 0))
+seen_lefts ss q trees = let left = tree_at trees 0 in
+    filter (meets_left ss q) (seen_row_views (schema_at ss 0) (left_need ss q left) left)
 
 abbrev pub seen_rights : List BoundSource → Query → List RowTree → RowView → List RowView
 seen_rights ss q trees left = flat_map
@@ -188,7 +196,7 @@ right_needs ss q trees = flat_map (λ j. map (right_need ss q j) (seen_lefts ss 
 
 -- the needs of each tree, in the order of the trees
 abbrev pub needs : List BoundSource → Query → List RowTree → List (List Need)
-needs ss q trees =
+needs ss q trees = let left = left_need ss q (tree_at trees 0) in
     if length (tables_used ss) == 1
-    then (left_need ss q ∷ right_needs ss q trees) ∷ []
-    else (left_need ss q ∷ []) ∷ right_needs ss q trees ∷ []
+    then (left ∷ right_needs ss q trees) ∷ []
+    else (left ∷ []) ∷ right_needs ss q trees ∷ []

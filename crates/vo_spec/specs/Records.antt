@@ -1,6 +1,6 @@
 -- Catalogs and records as bytes: what an owner signs of its tables.
-use Rattle.std.specs.Prelude.{◌≡◌, ℕ, ◌+◌, ◌<◌, ◌≤◌, ◌^◌, Bool, true, false, not, ◌&&◌, List, [], ◌∷◌, ◌++◌, map, length, flat_map, codes, IsTrue, if◌then◌else◌}
-use Rattle.std.specs.List.{AllByRecursion, list_all}
+use Rattle.std.specs.Prelude.{◌≡◌, ℕ, ◌+◌, ◌*◌, ◌<◌, ◌≤◌, ◌^◌, Bool, true, not, ◌&&◌, List, [], ◌∷◌, ◌++◌, map, length, flat_map, codes, IsTrue}
+use Rattle.std.specs.List.{AllByRecursion}
 use Rattle.sha2.specs.Sha256.{sha256}
 use Rattle.vo_spec.specs.declared.values.Kind.TheVariants as kind
 use Rattle.vo_spec.specs.declared.tables.Column.{Column}
@@ -10,9 +10,9 @@ use Rattle.vo_spec.specs.declared.records.Catalog.{Catalog}
 use Rattle.vo_spec.specs.declared.records.Record.{Record}
 use Rattle.vo_spec.specs.Bytes.{u16_bytes, u64_bytes, short_string}
 use Rattle.vo_spec.specs.Values.{key_lt, same_kind}
-use Rattle.vo_spec.specs.Tables.{TableHeader, column_at, has_twice, max_tables, max_rows}
-use Rattle.vo_spec.specs.Names.{FitsName}
-use Rattle.vo_spec.specs.Batches.{FitCounted, FitsColumn, list_bytes, column_bytes}
+use Rattle.vo_spec.specs.Tables.{TableHeader, column_at, has_twice, max_tables}
+use Rattle.vo_spec.specs.Names.{FitsName, max_name}
+use Rattle.vo_spec.specs.Batches.{max_columns, FitCounted, FitsColumn, list_bytes, column_bytes}
 
 -- Catalogs.
 
@@ -23,6 +23,13 @@ catalog_table_bytes t =
 
 unfoldable pub catalog_bytes : Catalog → List ℕ
 catalog_bytes c = u16_bytes (length c.tables) ++ flat_map catalog_table_bytes c.tables
+
+-- how many bytes a catalog has at most: as many tables as may be, each of the longest names
+abbrev pub max_catalog_table : ℕ
+max_catalog_table = 1 + max_name + 1 + max_columns * (1 + max_name + 1) + 1 + 8 + 32
+
+abbrev pub max_catalog : ℕ
+max_catalog = 2 + max_tables * max_catalog_table
 
 -- the digest of a catalog: of its bytes behind `05`
 unfoldable pub catalog_digest : Catalog → List ℕ

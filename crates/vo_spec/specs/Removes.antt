@@ -1,5 +1,5 @@
 -- Removal from a tree and changes of its rows, whole trees or parts.
-use Rattle.std.specs.Prelude.{ℕ, zero, suc, ◌+◌, ◌-◌, Bool, true, false, not, ◌&&◌, nat_lt, if◌then◌else◌, List, [], ◌∷◌, ◌++◌, map, fold, length, take, drop, slice_get, slice_set, slice_index_or, Option, Some, None, Result, Ok, Err, bytes_eq}
+use Rattle.std.specs.Prelude.{ℕ, ◌+◌, ◌-◌, Bool, true, false, nat_lt, if◌then◌else◌, List, [], ◌∷◌, ◌++◌, map, fold, length, take, drop, slice_get, slice_set, slice_index_or, Result, Ok, Err, bytes_eq}
 use Rattle.vo_spec.specs.declared.cells.Cell.{Cell}
 use Rattle.vo_spec.specs.declared.cells.Cell.TheVariants.{Shown, Hidden}
 use Rattle.vo_spec.specs.declared.cells.RowPart.{RowPart}
@@ -10,7 +10,7 @@ use Rattle.vo_spec.specs.declared.trees.UpdateFault.TheVariants.{NoRow, Missing}
 use Rattle.vo_spec.specs.Firsts.{and_then}
 use Rattle.vo_spec.specs.Tables.{CellChange}
 use Rattle.vo_spec.specs.Cells.{cell_digest}
-use Rattle.vo_spec.specs.Parts.{Part, Parts, stub, leaf, inner, none, more, Family, count, digest_by}
+use Rattle.vo_spec.specs.Parts.{Part, Parts, stub, leaf, inner, none, more, Family, count}
 use Rattle.vo_spec.specs.Trees.{RowTree, RowTrees, row_family, digest}
 use Rattle.vo_spec.specs.Inserts.{min_fill, result_map, goes_here, has_key, first_key, Insertion, one, two, Children, take_parts, drop_parts, after_child, put_insertion, closed_entry}
 

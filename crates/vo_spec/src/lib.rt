@@ -28,8 +28,9 @@ pub use collision::Collision;
 pub use digest::Digest;
 pub use keys::{Bound, Interval, Key};
 pub use limits::{
-    MAX_BATCH_BYTES, MAX_CELLS, MAX_COLUMNS, MAX_COMMANDS, MAX_FILL, MAX_KEY, MAX_LEVELS, MAX_NAME,
-    MAX_PROOFS, MAX_REPLY, MAX_ROWS, MAX_SIGNATURE, MAX_TABLES, MAX_TEXT, MIN_FILL,
+    MAX_BATCH_BYTES, MAX_CATALOG, MAX_CELLS, MAX_COLUMNS, MAX_COMMANDS, MAX_FILL, MAX_KEY,
+    MAX_LEVELS, MAX_NAME, MAX_PROOFS, MAX_REPLY, MAX_ROWS, MAX_SIGNATURE, MAX_TABLES, MAX_TEXT,
+    MIN_FILL,
 };
 pub use lists::{List, SharedList};
 pub use needs::{Need, SeenRow};

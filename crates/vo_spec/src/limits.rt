@@ -37,6 +37,11 @@ pub const MIN_FILL: usize = 8;
 /// Levels of a tree's bytes.
 pub const MAX_LEVELS: usize = 11;
 
+/// Bytes of a catalog: the number of its tables, and as many tables as may be, each with the longest
+/// name, as many columns as may be of the longest names, its key column, its rows and its root.
+pub const MAX_CATALOG: usize = 2
+    + MAX_TABLES * (1 + MAX_NAME + 1 + MAX_COLUMNS * (1 + MAX_NAME + 1) + 1 + 8 + 32);
+
 /// Bytes of a batch's proofs.
 pub const MAX_PROOFS: usize = 134_217_728;
 
