@@ -7,3 +7,4 @@ pub mod WholeSizes
 pub mod RowCounts
 pub mod Writing
 pub mod Gathering
+pub mod RowNodes
