@@ -7,7 +7,7 @@ ghost use Rattle.range_proof.specs.Judging.{JudgesOrMissing};
 use crate::active_needs::ActiveNeeds;
 use crate::judging::judge_node;
 use crate::leaves::judge_entries;
-use crate::scanning::separator_at;
+use crate::separators::separator_at;
 use key_intervals::visits_from;
 use mb_tree::PartTree;
 use std::alloc::Global;

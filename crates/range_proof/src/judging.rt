@@ -16,7 +16,7 @@ use crate::active_needs::ActiveNeeds;
 use crate::judge_for_one::judge_children_for_one;
 use crate::leaves::judge_entries;
 use crate::need_lists::lend_needs;
-use crate::scanning::separator_at;
+use crate::separators::separator_at;
 use mb_tree::PartTree;
 use std::alloc::Global;
 use vo_spec::{KeyPart, Need, ScanFault};

@@ -10,7 +10,7 @@ ghost use Rattle.range_proof.specs.Judging.{JudgesOrMissing};
 use crate::active_needs::ActiveNeeds;
 use crate::naming::{columns_at, hides_any, named_columns, row_has_surplus};
 use std::alloc::Global;
-use vo_spec::{PartEntry, RowPart, ScanFault};
+use vo_spec::{PartEntry, ScanFault};
 
 pub fn judge_entries(
     alloc: Global,
@@ -42,17 +42,17 @@ fn judge_entry(
 {
     let key = entry.key.as_bytes();
     match needs.asked_of(key) {
-        [need] => judge_row(columns_at(need, key), &entry.row),
-        asked => judge_row(&named_columns(alloc, asked, key)?, &entry.row),
+        [need] => judge_row(columns_at(need, key), entry),
+        asked => judge_row(&named_columns(alloc, asked, key)?, entry),
     }
 }
 
-fn judge_row(columns: &[u8], row: &RowPart<'_>) -> Result<bool, ScanFault>
-    ensures { JudgesOrMissing result (does_hide columns.now row.now)
-        (does_exceed columns.now row.now) }
+fn judge_row(columns: &[u8], entry: &PartEntry<'_>) -> Result<bool, ScanFault>
+    ensures { JudgesOrMissing result (does_hide columns.now entry.now.row)
+        (does_exceed columns.now entry.now.row) }
 {
-    if hides_any(columns, row) {
+    if hides_any(columns, entry) {
         return Err(ScanFault::Missing);
     }
-    Ok(row_has_surplus(columns, row))
+    Ok(row_has_surplus(columns, &entry.row))
 }

@@ -9,10 +9,10 @@ ghost use Rattle.vo_spec.specs.Pruning.{
 };
 ghost use Rattle.range_proof.specs.Lending.{lent_need};
 
-use crate::scanning::value_in;
 use key_intervals::in_interval;
+use mb_tree::RowEntry;
 use std::alloc::{AllocError, Global};
-use vo_spec::{Cell, Need, RowPart};
+use vo_spec::{Cell, Need, PartEntry, RowPart};
 
 /// The columns that the needs name whose intervals have the key.
 pub fn named_columns(alloc: Global, needs: &[&Need], key: &[u8]) -> Result<Vec<u8>, AllocError>
@@ -38,12 +38,12 @@ pub fn columns_at<'n>(need: &'n Need, key: &[u8]) -> &'n [u8]
     }
 }
 
-/// Whether the row hides one of these columns.
-pub fn hides_any(columns: &[u8], row: &RowPart<'_>) -> bool
-    ensures { result ≡ does_hide columns.now row.now }
+/// Whether the entry's row hides one of these columns.
+pub fn hides_any(columns: &[u8], entry: &PartEntry<'_>) -> bool
+    ensures { result ≡ does_hide columns.now entry.now.row }
 {
     for column in columns {
-        if value_in(row, *column).is_none() {
+        if entry.shown_value(*column).is_none() {
             return true;
         }
     }

@@ -1,22 +1,20 @@
-//! Scans of parts of trees.
-ghost use Rattle.std.specs.Prelude.{◌≡◌, [], ◌∷◌, ◌++◌, slice_get, OnOk};
+//! Scans of trees, whole and in part.
+ghost use Rattle.std.specs.Prelude.{◌≡◌, [], ◌∷◌, ◌++◌, slice_get, map, OnOk};
 ghost use Rattle.vo_spec.specs.Lent.{value_of};
 ghost use Rattle.std.specs.Option.{option_copied};
-ghost use Rattle.vo_spec.specs.Cells.{value_in as value_at, shown_value as shown};
 ghost use Rattle.vo_spec.specs.Scans.{seen, seen_in, seen_in_each, seen_entries, values_in as values_at};
-ghost use Rattle.mb_tree.specs.View.{part_of, parts_of};
-ghost use Rattle.range_proof.specs.Finding.{FindsOrMissing, Appends, value_seen};
+ghost use Rattle.mb_tree.specs.RowNodes.{row_kids};
+ghost use Rattle.range_proof.specs.Finding.{FindsOrMissing, Appends};
 
+use btree::{KeyedItem, NodeView};
 use key_intervals::{in_interval, is_empty_interval, visits_from};
-use mb_tree::PartTree;
+use mb_tree::{RowEntry, RowNode};
 use std::alloc::{AllocError, Global};
-use vo_spec::{
-    Cell, Key, KeyPart, List, Need, PartEntry, RowPart, ScanFault, SeenRow, Value, ValueRef,
-};
+use vo_spec::{Key, List, Need, ScanFault, SeenRow, Value, ValueRef};
 
 /// The rows of the need's interval, with the values of its columns.
-pub fn scan(alloc: Global, tree: &PartTree<'_>, need: &Need) -> Result<List<SeenRow>, ScanFault>
-    ensures { FindsOrMissing result (seen need.now (part_of tree.now)) }
+pub fn scan<N: RowNode>(alloc: Global, tree: &N, need: &Need) -> Result<List<SeenRow>, ScanFault>
+    ensures { FindsOrMissing result (seen need.now (N.tree tree.now)) }
 {
     let mut rows = Vec::new(alloc);
     if !is_empty_interval(&need.interval) {
@@ -26,40 +24,34 @@ pub fn scan(alloc: Global, tree: &PartTree<'_>, need: &Need) -> Result<List<Seen
 }
 
 #[cycle(scan)]
-fn scan_node(
+fn scan_node<N: RowNode>(
     alloc: Global,
-    tree: &PartTree<'_>,
+    tree: &N,
     need: &Need,
     rows: &mut Vec<SeenRow>,
 ) -> Result<(), ScanFault>
-    ensures { Appends result rows.old.items rows.new.items (seen_in need.now (part_of tree.now)) }
+    ensures { Appends result rows.old.items rows.new.items (seen_in need.now (N.tree tree.now)) }
 {
-    match tree {
-        PartTree::Stub(_) => Err(ScanFault::Missing),
-        PartTree::Leaf(entries) => scan_entries(alloc, entries.as_slice(), need, rows),
-        PartTree::Inner {
+    match N::view(tree) {
+        NodeView::Stub(_) => Err(ScanFault::Missing),
+        NodeView::Leaf(entries) => scan_entries(alloc, entries, need, rows),
+        NodeView::Inner {
             separators,
             children,
-        } => scan_children(
-            alloc,
-            separators.as_slice(),
-            children.as_slice(),
-            need,
-            rows,
-        ),
+        } => scan_children::<N>(alloc, separators, children, need, rows),
     }
 }
 
 #[cycle(scan)]
-fn scan_children(
+fn scan_children<N: RowNode>(
     alloc: Global,
-    separators: &[KeyPart<'_>],
-    children: &[PartTree<'_>],
+    separators: &[N::Key],
+    children: &[N],
     need: &Need,
     rows: &mut Vec<SeenRow>,
 ) -> Result<(), ScanFault>
     ensures { Appends result rows.old.items rows.new.items
-        (seen_in_each need.now None separators.now (parts_of children.now)) }
+        (seen_in_each need.now None (map N.Key.key separators.now) (row_kids N.tree children.now)) }
 {
     let mut is_past = false;
     let mut lower = None;
@@ -77,27 +69,29 @@ fn scan_children(
     Ok(())
 }
 
-pub fn separator_at<'s>(separators: &'s [KeyPart<'_>], place: usize) -> Option<&'s [u8]>
-    ensures { option_copied result ≡ slice_get separators.now place }
+fn separator_at<K: KeyedItem>(separators: &[K], place: usize) -> Option<&[u8]>
+    ensures { option_copied result ≡ slice_get (map K.key separators.now) place }
 {
     match separators.get(place) {
-        Some(separator) => Some(separator.as_bytes()),
+        Some(separator) => Some(separator.key_bytes()),
         None => None,
     }
 }
 
-fn scan_entries(
+fn scan_entries<E: RowEntry>(
     alloc: Global,
-    entries: &[PartEntry<'_>],
+    entries: &[E],
     need: &Need,
     rows: &mut Vec<SeenRow>,
 ) -> Result<(), ScanFault>
-    ensures { Appends result rows.old.items rows.new.items (seen_entries need.now entries.now) }
+    ensures { Appends result rows.old.items rows.new.items
+        (seen_entries need.now (map E.entry entries.now)) }
 {
     for entry in entries {
-        if in_interval(&need.interval, entry.key.as_bytes()) {
-            let values = values_in(alloc, &entry.row, need.columns.as_slice())?;
-            push_row(alloc, rows, entry.key.as_bytes(), values)?;
+        let key = entry.entry_key();
+        if in_interval(&need.interval, key) {
+            let values = values_in(alloc, entry, need.columns.as_slice())?;
+            push_row(alloc, rows, key, values)?;
         }
     }
     Ok(())
@@ -124,34 +118,19 @@ fn push_value(alloc: Global, values: &mut Vec<Value>, value: ValueRef<'_>) -> Re
     Ok(())
 }
 
-fn values_in(alloc: Global, row: &RowPart<'_>, columns: &[u8]) -> Result<List<Value>, ScanFault>
-    ensures { FindsOrMissing result (values_at row.now columns.now) }
+fn values_in<E: RowEntry>(
+    alloc: Global,
+    entry: &E,
+    columns: &[u8],
+) -> Result<List<Value>, ScanFault>
+    ensures { FindsOrMissing result (values_at (E.entry entry.now).row columns.now) }
 {
     let mut values = Vec::with_capacity(alloc, columns.len())?;
     for column in columns {
-        match value_in(row, *column) {
+        match entry.shown_value(*column) {
             Some(value) => push_value(alloc, &mut values, value)?,
             None => return Err(ScanFault::Missing),
         }
     }
     Ok(List::from_vec(values))
-}
-
-/// The row's value in this column, if it is shown.
-pub fn value_in<'r>(row: &'r RowPart<'_>, column: u8) -> Option<ValueRef<'r>>
-    ensures { value_seen result ≡ value_at row.now column }
-{
-    match row {
-        RowPart::Digest(_) => None,
-        RowPart::Cells(cells) => shown_value(cells.get(column as usize)),
-    }
-}
-
-fn shown_value<'c>(cell: Option<&'c Cell<'_>>) -> Option<ValueRef<'c>>
-    ensures { value_seen result ≡ shown (option_copied cell.entry) }
-{
-    match cell {
-        Some(Cell::Shown(value)) => Some(value.as_ref()),
-        Some(Cell::Hidden(_)) | None => None,
-    }
 }

@@ -3,10 +3,10 @@ use Rattle.std.proofs.lemmas.Grind.{common_steps}
 use Rattle.range_proof.proofs.scanning.values_in.Goals as goal
 
 pub returns-in-None : goal.returns-in-None
-returns-in-None c = grind (arith, common_steps)
+returns-in-None g c = grind (arith, common_steps)
 
 pub loop-column-preserved : goal.loop-column-preserved
-loop-column-preserved c = grind (arith, common_steps)
+loop-column-preserved g c = grind (arith, common_steps)
 
 pub returns : goal.returns
-returns c = grind (arith, common_steps)
+returns g c = grind (arith, common_steps)
