@@ -19,7 +19,7 @@ use Rattle.vo_spec.specs.Tables.{column_at, has_column, cell_number}
 use Rattle.vo_spec.specs.Conditions.{Condition, condition_refs, comparisons, is_met, Query, FitsOperand, FitsQuery}
 use Rattle.vo_spec.specs.Results.{BoundSource, ColumnPlace, bound_source_at, schema_at, place_of, means_column_of, qualifies, item_refs, join_refs, query_refs, numbers_from, places_in, shown_places, RowView, row_view_of, no_row_view, place_value, ref_value, is_joined, is_answer, combinations, answer_rows}
 use Rattle.vo_spec.specs.Scans.{in_interval}
-use Rattle.vo_spec.specs.Needs.{all_keys, interval_of, left_truth, meets_left, is_place, shows_all, is_named_column, named_columns, named_cells, left_need}
+use Rattle.vo_spec.specs.Needs.{all_keys, interval_of, left_truth, meets_left, is_place, shows_all, is_named_column, named_columns, named_cells, uncut_need}
 use Rattle.vo_spec.specs.Checks.{key_kind}
 use Rattle.vo_laws.proofs.ListLaws.{IsIn, each_from, each_left, each_right, each_both, each_map, any_in, in_filter, in_map, filtered_map, flat_map_map}
 use Rattle.vo_laws.proofs.SeenLaws.{Alike}
@@ -280,8 +280,8 @@ module _ (ss : List BoundSource) (q : Query) where
 
   pub outside_gives_none : (row : Row) → IsKeyOf (key_kind (schema_at ss 0)) row.key
       → AllByRecursion (KindsAgree ss) (option_map_or comparisons q.condition []) → FitsQuery q
-      → in_interval (left_need ss q).interval row.key ≡ false → (j : Option Join) (rights : RowView → List RowView) → answers_of j rights (row_view_of (schema_at ss 0) row) ≡ []
-  outside_gives_none row is kinds fits e = no_answers (row_view_of (schema_at ss 0) row) (λ rest a. both_ways (in_interval (left_need ss q).interval row.key) e
+      → in_interval (uncut_need ss q).interval row.key ≡ false → (j : Option Join) (rights : RowView → List RowView) → answers_of j rights (row_view_of (schema_at ss 0) row) ≡ []
+  outside_gives_none row is kinds fits e = no_answers (row_view_of (schema_at ss 0) row) (λ rest a. both_ways (in_interval (uncut_need ss q).interval row.key) e
       (inside q.condition rest kinds fits (and_parts (is_joined ss (row_view_of (schema_at ss 0) row ∷ rest) q.join) (is_met (ref_value ss (row_view_of (schema_at ss 0) row ∷ rest)) q.condition) a).1))
     where
       inside : (c : Option Condition) (rest : List RowView) → AllByRecursion (KindsAgree ss) (option_map_or comparisons c [])

@@ -26,7 +26,7 @@ use Rattle.vo_spec.specs.Records.{table_headers, record_bytes, catalog_digest}
 use Rattle.vo_spec.specs.Trees.{RowTree, Prunes}
 use Rattle.vo_spec.specs.Scans.{seen}
 use Rattle.vo_spec.specs.Pruning.{is_missing, has_surplus, prune_tree}
-use Rattle.vo_spec.specs.Needs.{meets_left, left_need, right_need, named_cells, seen_row_view, right_needs, needs, tables_used, same_table}
+use Rattle.vo_spec.specs.Needs.{meets_left, uncut_need, right_need, named_cells, seen_row_view, right_needs, needs, tables_used, same_table}
 use Rattle.vo_spec.specs.Checks.{table_named, has_table_shape, root_fault, trees_of, key_fault, leaf_fault, signature_fault, age_fault, catalog_fault, count_fault, shape_fault, missing_fault, surplus_fault, check_fault, seen_outcome, answer_to}
 use Rattle.vo_spec.specs.Replies.{Reply}
 use Rattle.vo_spec.specs.Lms.{key_id, lms_valid}
@@ -126,13 +126,13 @@ module _ (stored : List Stored) (tables : List Table) (stand : RepresentTables s
     both_sources = bound_sources (map table_header_of tables) joining
 
     abbrev rights_of : Option (List SeenRow) → List Need
-    rights_of o = map (right_need both_sources joining j) (filter (meets_left both_sources joining) (map (seen_row_view (schema_at both_sources 0) (left_need both_sources joining).columns) (unwrap_or o []))) ++ []
+    rights_of o = map (right_need both_sources joining j) (filter (meets_left both_sources joining) (map (seen_row_view (schema_at both_sources 0) (uncut_need both_sources joining).columns) (unwrap_or o []))) ++ []
 
     rights_bounded : (n : ℕ) (o : Option (List SeenRow)) → AreBelow n (named_cells both_sources joining 1) → AreBounded n (rights_of o)
     rights_bounded n o below =
         each_both (λ (need : Need). AreBelow n need.columns)
-        (map (right_need both_sources joining j) (filter (meets_left both_sources joining) (map (seen_row_view (schema_at both_sources 0) (left_need both_sources joining).columns) (unwrap_or o [])))) []
-        (each_right (filter (meets_left both_sources joining) (map (seen_row_view (schema_at both_sources 0) (left_need both_sources joining).columns) (unwrap_or o [])))) tt
+        (map (right_need both_sources joining j) (filter (meets_left both_sources joining) (map (seen_row_view (schema_at both_sources 0) (uncut_need both_sources joining).columns) (unwrap_or o [])))) []
+        (each_right (filter (meets_left both_sources joining) (map (seen_row_view (schema_at both_sources 0) (uncut_need both_sources joining).columns) (unwrap_or o [])))) tt
       where
         each_right : (lefts : List (ℕ → Value)) → AreBounded n (map (right_need both_sources joining j) lefts)
         each_right [] = tt
@@ -143,8 +143,8 @@ module _ (stored : List Stored) (tables : List Table) (stand : RepresentTables s
 
     abbrev needs_by : Bool → List RowTree → List (List Need)
     needs_by b trees = cond (length (names_by b) == 1)
-        ((left_need both_sources joining ∷ right_needs both_sources joining trees) ∷ [])
-        ((left_need both_sources joining ∷ []) ∷ right_needs both_sources joining trees ∷ [])
+        ((uncut_need both_sources joining ∷ right_needs both_sources joining trees) ∷ [])
+        ((uncut_need both_sources joining ∷ []) ∷ right_needs both_sources joining trees ∷ [])
 
     left_fits : NamedFits (schema_at both_sources 0) (rows_named left.table tables)
     left_fits = bound_source_fits left.table
@@ -161,7 +161,7 @@ module _ (stored : List Stored) (tables : List Table) (stand : RepresentTables s
             cells_of (schema_at both_sources 0),
             (
               named_cells_below both_sources joining 0 (rows_named left.table tables) left_fits,
-              rights_bounded (cells_of (schema_at both_sources 0)) (seen (left_need both_sources joining) (tree left.table))
+              rights_bounded (cells_of (schema_at both_sources 0)) (seen (uncut_need both_sources joining) (tree left.table))
                   (subst (λ k. AreBelow k (named_cells both_sources joining 1)) n (named_cells_below both_sources joining 1 (rows_named j.right.table tables) right_fits)),
             ),
             left_fits.cells,
@@ -173,7 +173,7 @@ module _ (stored : List Stored) (tables : List Table) (stand : RepresentTables s
       (
         (
           cells_of (schema_at both_sources 1),
-          rights_bounded (cells_of (schema_at both_sources 1)) (seen (left_need both_sources joining) (tree left.table)) (named_cells_below both_sources joining 1 (rows_named j.right.table tables) right_fits),
+          rights_bounded (cells_of (schema_at both_sources 1)) (seen (uncut_need both_sources joining) (tree left.table)) (named_cells_below both_sources joining 1 (rows_named j.right.table tables) right_fits),
           right_fits.cells,
         ),
         tt,
@@ -183,15 +183,15 @@ module _ (stored : List Stored) (tables : List Table) (stand : RepresentTables s
     same_by : (b : Bool) → AllZip FitNeeds (needs_by b (map tree (names_by b))) (names_by b)
         → needs_by b (pruned_each (needs_by b (map tree (names_by b))) (map tree (names_by b))) ≡ needs_by b (map tree (names_by b))
     same_by true z =
-        let ns : List Need = left_need both_sources joining ∷ right_needs both_sources joining (tree left.table ∷ []) in
-        let here : seen (left_need both_sources joining) (prune_tree ns (tree left.table)) ≡ seen (left_need both_sources joining) (tree left.table) =
-        seen_same ns (left_need both_sources joining) (tree left.table) (inl refl)
+        let ns : List Need = uncut_need both_sources joining ∷ right_needs both_sources joining (tree left.table ∷ []) in
+        let here : seen (uncut_need both_sources joining) (prune_tree ns (tree left.table)) ≡ seen (uncut_need both_sources joining) (tree left.table) =
+        seen_same ns (uncut_need both_sources joining) (tree left.table) (inl refl)
         (pruned_complete z.0.0 ns (tree left.table) (rows_named left.table tables) (named_stands left.table stored tables stand) z.0.1 z.0.2) in
-        ap (λ o. (left_need both_sources joining ∷ rights_of o) ∷ []) here
+        ap (λ o. (uncut_need both_sources joining ∷ rights_of o) ∷ []) here
     same_by false z =
-        let ns : List Need = left_need both_sources joining ∷ [] in
-        let here : seen (left_need both_sources joining) (prune_tree ns (tree left.table)) ≡ seen (left_need both_sources joining) (tree left.table) =
-        seen_same ns (left_need both_sources joining) (tree left.table) (inl refl)
+        let ns : List Need = uncut_need both_sources joining ∷ [] in
+        let here : seen (uncut_need both_sources joining) (prune_tree ns (tree left.table)) ≡ seen (uncut_need both_sources joining) (tree left.table) =
+        seen_same ns (uncut_need both_sources joining) (tree left.table) (inl refl)
         (pruned_complete z.0.0 ns (tree left.table) (rows_named left.table tables) (named_stands left.table stored tables stand) z.0.1 z.0.2) in
         ap (λ o. ns ∷ rights_of o ∷ []) here
 

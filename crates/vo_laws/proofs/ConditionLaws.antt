@@ -19,14 +19,40 @@ use Rattle.vo_spec.specs.declared.keys.Bound.{Bound}
 use Rattle.vo_spec.specs.declared.keys.Bound.TheVariants.{Absent, Inclusive, Exclusive}
 use Rattle.vo_spec.specs.declared.keys.Interval.{Interval}
 use Rattle.vo_spec.specs.Values.{kind_of, same_kind, key_of, key_cmp, key_lt, value_cmp, value_of_key, IsKeyOf}
-use Rattle.vo_spec.specs.Conditions.{Condition, Conditions, every, some, negated, test, none, more, operand_refs, condition_refs, conditions_refs, comparisons, comparisons_in, compares, operand_value, truth, all_true, any_true, FitsOperand}
+use Rattle.vo_spec.specs.Conditions.{Formula, Formulas, every, some, negated, test, none, more, truth_by, all_true_by, any_true_by, of_tests, of_tests_in, comparison, NameTest, Condition, Conditions, operand_refs, test_refs, condition_refs, sides, comparisons, compares, operand_value, test_truth, truth, FitsOperand}
 use Rattle.vo_spec.specs.Results.{BoundSource, schema_at, place_of, ref_kind, kind_fault}
 use Rattle.vo_spec.specs.Scans.{is_above, is_below, in_interval}
-use Rattle.vo_spec.specs.Needs.{all_keys, keys_that, higher, lower, intersection, is_left_key, test_interval, interval_of, interval_of_all, is_left, left_truth, left_truths}
+use Rattle.vo_spec.specs.Needs.{all_keys, keys_that, higher, lower, intersection, interval_by, interval_by_all, is_left_key, test_interval, interval_of, is_left, left_truth, left_truths}
 use Rattle.vo_spec.specs.Checks.{key_kind}
 use Rattle.vo_laws.proofs.KeyOrder.{flipped}
 use Rattle.vo_laws.proofs.ListLaws.{each_left, each_right}
 use Rattle.vo_laws.proofs.ValueOrder.{keys_in_order}
+
+-- Two truths of tests that agree wherever P holds of what a test has agree on formulas likewise.
+
+module _ {T A : Type 0} (one other : T → Bool) (has : T → List A) (P : A → Type 0) (agree : (t : T) → AllByRecursion P (has t) → one t ≡ other t) where
+  mutual
+    formulas_agree : (f : Formula T) → AllByRecursion P (of_tests has f) → truth_by one f ≡ truth_by other f
+    formulas_agree (every fs) all = all_agree fs all
+    formulas_agree (some fs) all = any_agree fs all
+    formulas_agree (negated f) all = ap not (formulas_agree f all)
+    formulas_agree (test t) all = agree t all
+
+    all_agree : (fs : Formulas T) → AllByRecursion P (of_tests_in has fs) → all_true_by one fs ≡ all_true_by other fs
+    all_agree none all = refl
+    all_agree (more f fs) all =
+        rw (
+          formulas_agree f (each_left P (of_tests has f) (of_tests_in has fs) all),
+          all_agree fs (each_right P (of_tests has f) (of_tests_in has fs) all),
+        ) refl
+
+    any_agree : (fs : Formulas T) → AllByRecursion P (of_tests_in has fs) → any_true_by one fs ≡ any_true_by other fs
+    any_agree none all = refl
+    any_agree (more f fs) all =
+        rw (
+          formulas_agree f (each_left P (of_tests has f) (of_tests_in has fs) all),
+          any_agree fs (each_right P (of_tests has f) (of_tests_in has fs) all),
+        ) refl
 
 -- Rows that give the same for each reference of a condition agree on it.
 
@@ -37,28 +63,13 @@ same_operand : (row other : Ref → Value) (o : Operand) → AllByRecursion (Sam
 same_operand row other (Column r) all = all.0
 same_operand row other (Literal v) all = refl
 
-mutual
-  pub same_truth : (row other : Ref → Value) (c : Condition) → AllByRecursion (Same row other) (condition_refs c) → truth row c ≡ truth other c
-  same_truth row other (every cs) all = same_all row other cs all
-  same_truth row other (some cs) all = same_any row other cs all
-  same_truth row other (negated c) all = ap not (same_truth row other c all)
-  same_truth row other (test left op right) all = rw (all.0, same_operand row other right all.1) refl
+same_test : (row other : Ref → Value) (t : NameTest) → AllByRecursion (Same row other) (test_refs t)
+    → test_truth row (operand_value row) t ≡ test_truth other (operand_value other) t
+same_test row other (comparison left op right) all = rw (all.0, same_operand row other right all.1) refl
 
-  same_all : (row other : Ref → Value) (cs : Conditions) → AllByRecursion (Same row other) (conditions_refs cs) → all_true row cs ≡ all_true other cs
-  same_all row other none all = refl
-  same_all row other (more c cs) all =
-      rw (
-        same_truth row other c (each_left (Same row other) (condition_refs c) (conditions_refs cs) all),
-        same_all row other cs (each_right (Same row other) (condition_refs c) (conditions_refs cs) all),
-      ) refl
-
-  same_any : (row other : Ref → Value) (cs : Conditions) → AllByRecursion (Same row other) (conditions_refs cs) → any_true row cs ≡ any_true other cs
-  same_any row other none all = refl
-  same_any row other (more c cs) all =
-      rw (
-        same_truth row other c (each_left (Same row other) (condition_refs c) (conditions_refs cs) all),
-        same_any row other cs (each_right (Same row other) (condition_refs c) (conditions_refs cs) all),
-      ) refl
+pub same_truth : (row other : Ref → Value) (c : Condition) → AllByRecursion (Same row other) (condition_refs c) → truth row c ≡ truth other c
+same_truth row other =
+    formulas_agree (test_truth row (operand_value row)) (test_truth other (operand_value other)) test_refs (Same row other) (same_test row other)
 
 -- The left condition goes by the references that mean left columns.
 
@@ -89,17 +100,16 @@ mutual
       same_choice (is_left ss (some cs)) (truth row (some cs)) (truth other (some cs)) (left_same ss row other (some cs) all)
   same_left ss row other (negated c) all =
       same_choice (is_left ss (negated c)) (truth row (negated c)) (truth other (negated c)) (left_same ss row other (negated c) all)
-  same_left ss row other (test left op right) all =
-      same_choice (is_left ss (test left op right)) (truth row (test left op right)) (truth other (test left op right))
-      (left_same ss row other (test left op right) all)
+  same_left ss row other (test t) all =
+      same_choice (is_left ss (test t)) (truth row (test t)) (truth other (test t)) (left_same ss row other (test t) all)
 
-  same_lefts : (ss : List BoundSource) (row other : Ref → Value) (cs : Conditions) → AllByRecursion (SameLeft ss row other) (conditions_refs cs)
+  same_lefts : (ss : List BoundSource) (row other : Ref → Value) (cs : Conditions) → AllByRecursion (SameLeft ss row other) (of_tests_in test_refs cs)
       → left_truths ss row cs ≡ left_truths ss other cs
   same_lefts ss row other none all = refl
   same_lefts ss row other (more c cs) all =
       rw (
-        same_left ss row other c (each_left (SameLeft ss row other) (condition_refs c) (conditions_refs cs) all),
-        same_lefts ss row other cs (each_right (SameLeft ss row other) (condition_refs c) (conditions_refs cs) all),
+        same_left ss row other c (each_left (SameLeft ss row other) (condition_refs c) (of_tests_in test_refs cs) all),
+        same_lefts ss row other cs (each_right (SameLeft ss row other) (condition_refs c) (of_tests_in test_refs cs) all),
       ) refl
 
 -- A row that meets a condition meets its left part.
@@ -116,17 +126,17 @@ mutual
       choice_true (is_left ss (some cs)) (truth left (some cs)) (λ l. sym (left_same ss row left (some cs) all l) ∙ e)
   left_met ss row left (negated c) all e =
       choice_true (is_left ss (negated c)) (truth left (negated c)) (λ l. sym (left_same ss row left (negated c) all l) ∙ e)
-  left_met ss row left (test a op b) all e =
-      choice_true (is_left ss (test a op b)) (truth left (test a op b)) (λ l. sym (left_same ss row left (test a op b) all l) ∙ e)
+  left_met ss row left (test t) all e =
+      choice_true (is_left ss (test t)) (truth left (test t)) (λ l. sym (left_same ss row left (test t) all l) ∙ e)
 
-  lefts_met : (ss : List BoundSource) (row left : Ref → Value) (cs : Conditions) → AllByRecursion (SameLeft ss row left) (conditions_refs cs)
-      → all_true row cs ≡ true → left_truths ss left cs ≡ true
+  lefts_met : (ss : List BoundSource) (row left : Ref → Value) (cs : Conditions) → AllByRecursion (SameLeft ss row left) (of_tests_in test_refs cs)
+      → all_true_by (test_truth row (operand_value row)) cs ≡ true → left_truths ss left cs ≡ true
   lefts_met ss row left none all e = refl
   lefts_met ss row left (more c cs) all e =
-      let p = and_parts (truth row c) (all_true row cs) e in
+      let p = and_parts (truth row c) (all_true_by (test_truth row (operand_value row)) cs) e in
       and_from (left_truth ss left c) (left_truths ss left cs)
-      (left_met ss row left c (each_left (SameLeft ss row left) (condition_refs c) (conditions_refs cs) all) p.0)
-      (lefts_met ss row left cs (each_right (SameLeft ss row left) (condition_refs c) (conditions_refs cs) all) p.1)
+      (left_met ss row left c (each_left (SameLeft ss row left) (condition_refs c) (of_tests_in test_refs cs) all) p.0)
+      (lefts_met ss row left cs (each_right (SameLeft ss row left) (condition_refs c) (of_tests_in test_refs cs) all) p.1)
 
 -- What two intervals have, the interval that they share has.
 
@@ -223,39 +233,43 @@ kinds_are ss r v e = step (same_kind (ref_kind ss r) (kind_of v)) refl e
     step true f e = same_kind_is (ref_kind ss r) (kind_of v) f
     step false f e = absurd (cc)
 
-tested_inside : (ss : List BoundSource) (row : Ref → Value) (key : List ℕ) (left : Ref) (op : Cmp) (right : Operand)
-    → IsKeyOf (key_kind (schema_at ss 0)) key → ReadsKey ss row key → KindsAgree ss (left, right) → FitsOperand right
-    → truth row (test left op right) ≡ true → in_interval (test_interval ss left op right) key ≡ true
-tested_inside ss row key left op (Column r) is reads kinds fits e = refl
-tested_inside ss row key left op (Literal v) is reads kinds fits e = step (is_left_key ss (place_of ss left)) refl
+tested_inside : (ss : List BoundSource) (row : Ref → Value) (key : List ℕ)
+    → IsKeyOf (key_kind (schema_at ss 0)) key → ReadsKey ss row key → (t : NameTest) → AllByRecursion (KindsAgree ss) (sides t) → AllByRecursion Fitting (sides t)
+    → test_truth row (operand_value row) t ≡ true → in_interval (test_interval ss t) key ≡ true
+tested_inside ss row key is reads (comparison left op (Column r)) kinds fits e = refl
+tested_inside ss row key is reads (comparison left op (Literal v)) kinds fits e = step (is_left_key ss (place_of ss left)) refl
   where
     step : (b : Bool) → is_left_key ss (place_of ss left) ≡ b → in_interval (cond b (keys_that op (key_of v)) all_keys) key ≡ true
     step true f =
         let r = reads left f in
-        let same : kind_of v ≡ key_kind (schema_at ss 0) = kinds_are ss left v kinds ∙ r.1 in
+        let same : kind_of v ≡ key_kind (schema_at ss 0) = kinds_are ss left v kinds.0 ∙ r.1 in
         key_among op key (key_of v)
-        (ap (compares op) (sym (ap (λ x. value_cmp x v) r.0 ∙ keys_in_order (key_kind (schema_at ss 0)) key v is same fits)) ∙ e)
+        (ap (compares op) (sym (ap (λ x. value_cmp x v) r.0 ∙ keys_in_order (key_kind (schema_at ss 0)) key v is same fits.0)) ∙ e)
     step false f = refl
 
-mutual
-  pub met_inside : (ss : List BoundSource) (row : Ref → Value) (key : List ℕ) (c : Condition)
-      → IsKeyOf (key_kind (schema_at ss 0)) key → ReadsKey ss row key
-      → AllByRecursion (KindsAgree ss) (comparisons c) → AllByRecursion Fitting (comparisons c)
-      → truth row c ≡ true → in_interval (interval_of ss c) key ≡ true
-  met_inside ss row key (every cs) is reads kinds fits e = all_inside ss row key cs is reads kinds fits e
-  met_inside ss row key (some cs) is reads kinds fits e = refl
-  met_inside ss row key (negated c) is reads kinds fits e = refl
-  met_inside ss row key (test left op right) is reads kinds fits e = tested_inside ss row key left op right is reads kinds.0 fits.0 e
+-- what holds of each test's interval holds of the conjuncts'
+module _ {T A : Type 0} (holds : T → Bool) (of_test : T → Interval) (has : T → List A) (P Q : A → Type 0) (key : List ℕ)
+    (inside : (t : T) → AllByRecursion P (has t) → AllByRecursion Q (has t) → holds t ≡ true → in_interval (of_test t) key ≡ true) where
+  mutual
+    formula_inside : (f : Formula T) → AllByRecursion P (of_tests has f) → AllByRecursion Q (of_tests has f)
+        → truth_by holds f ≡ true → in_interval (interval_by of_test f) key ≡ true
+    formula_inside (every fs) ps qs e = all_inside fs ps qs e
+    formula_inside (some fs) ps qs e = refl
+    formula_inside (negated f) ps qs e = refl
+    formula_inside (test t) ps qs e = inside t ps qs e
 
-  all_inside : (ss : List BoundSource) (row : Ref → Value) (key : List ℕ) (cs : Conditions)
-      → IsKeyOf (key_kind (schema_at ss 0)) key → ReadsKey ss row key
-      → AllByRecursion (KindsAgree ss) (comparisons_in cs) → AllByRecursion Fitting (comparisons_in cs)
-      → all_true row cs ≡ true → in_interval (interval_of_all ss cs) key ≡ true
-  all_inside ss row key none is reads kinds fits e = refl
-  all_inside ss row key (more c cs) is reads kinds fits e =
-      let p = and_parts (truth row c) (all_true row cs) e in
-      in_intersection (interval_of ss c) (interval_of_all ss cs) key
-      (met_inside ss row key c is reads (each_left (KindsAgree ss) (comparisons c) (comparisons_in cs) kinds)
-      (each_left Fitting (comparisons c) (comparisons_in cs) fits) p.0)
-      (all_inside ss row key cs is reads (each_right (KindsAgree ss) (comparisons c) (comparisons_in cs) kinds)
-      (each_right Fitting (comparisons c) (comparisons_in cs) fits) p.1)
+    all_inside : (fs : Formulas T) → AllByRecursion P (of_tests_in has fs) → AllByRecursion Q (of_tests_in has fs)
+        → all_true_by holds fs ≡ true → in_interval (interval_by_all of_test fs) key ≡ true
+    all_inside none ps qs e = refl
+    all_inside (more f fs) ps qs e =
+        let p = and_parts (truth_by holds f) (all_true_by holds fs) e in
+        in_intersection (interval_by of_test f) (interval_by_all of_test fs) key
+        (formula_inside f (each_left P (of_tests has f) (of_tests_in has fs) ps) (each_left Q (of_tests has f) (of_tests_in has fs) qs) p.0)
+        (all_inside fs (each_right P (of_tests has f) (of_tests_in has fs) ps) (each_right Q (of_tests has f) (of_tests_in has fs) qs) p.1)
+
+pub met_inside : (ss : List BoundSource) (row : Ref → Value) (key : List ℕ) (c : Condition)
+    → IsKeyOf (key_kind (schema_at ss 0)) key → ReadsKey ss row key
+    → AllByRecursion (KindsAgree ss) (comparisons c) → AllByRecursion Fitting (comparisons c)
+    → truth row c ≡ true → in_interval (interval_of ss c) key ≡ true
+met_inside ss row key c is reads =
+    formula_inside (test_truth row (operand_value row)) (test_interval ss) sides (KindsAgree ss) Fitting key (tested_inside ss row key is reads) c

@@ -29,7 +29,7 @@ use Rattle.vo_spec.specs.Cells.{whole_entry}
 use Rattle.vo_spec.specs.Scans.{in_interval}
 use Rattle.vo_spec.specs.Pruning.{is_missing}
 use Rattle.vo_spec.specs.Representation.{Represents}
-use Rattle.vo_spec.specs.Needs.{meets_left, left_need, right_need, seen_row_views, seen_lefts, seen_rights, right_needs, needs, tables_used, same_table, right_tree}
+use Rattle.vo_spec.specs.Needs.{meets_left, uncut_need, right_need, seen_row_views, seen_lefts, seen_rights, right_needs, needs, tables_used, same_table, right_tree}
 use Rattle.vo_spec.specs.Checks.{key_kind, needs_with_trees, missing_fault, seen_outcome}
 use Rattle.vo_spec.specs.Replies.{Reply}
 use Rattle.vo_spec.specs.Honest.{Stored, RepresentsTable, RepresentTables, catalog_of, stored_tree, trees_for}
@@ -123,7 +123,7 @@ HaveKeys schema rows = AllByRecursion (λ (row : Row). IsKeyOf (key_kind schema)
 module _ (ss : List BoundSource) (q : Query) (some_bound_source : 0 < length ss)
     (kinds : AllByRecursion (KindsAgree ss) (option_map_or comparisons q.condition [])) (fits : FitsQuery q) where
   outside : (rights : RowView → List RowView) (rows : List Row) → HaveKeys (schema_at ss 0) rows
-      → AllByRecursion (λ (row : Row). in_interval (left_need ss q).interval row.key ≡ false → answers_of ss q q.join rights (row_view_of (schema_at ss 0) row) ≡ []) rows
+      → AllByRecursion (λ (row : Row). in_interval (uncut_need ss q).interval row.key ≡ false → answers_of ss q q.join rights (row_view_of (schema_at ss 0) row) ≡ []) rows
   outside rights [] keys = tt
   outside rights (row ∷ rows) keys =
       ((λ e. outside_gives_none ss q row keys.0 kinds fits e q.join rights), outside rights rows keys.1)
@@ -134,10 +134,10 @@ module _ (ss : List BoundSource) (q : Query) (some_bound_source : 0 < length ss)
 
   -- What is seen of the left rows gives the answers that all of them give, if right rows do so.
   pub same_lefts : (seen plain : RowView → List RowView) (ns : List Need) (p t : RowTree) (rows : List Row)
-      → IsIn (left_need ss q) ns → is_missing ns p ≡ false → Prunes p t → Represents t rows → HaveKeys (schema_at ss 0) rows
-      → ((a b : RowView) → IsIn a (filter (meets_left ss q) (seen_row_views (schema_at ss 0) (left_need ss q) p)) → AlikeIn ss q 0 a b
+      → IsIn (uncut_need ss q) ns → is_missing ns p ≡ false → Prunes p t → Represents t rows → HaveKeys (schema_at ss 0) rows
+      → ((a b : RowView) → IsIn a (filter (meets_left ss q) (seen_row_views (schema_at ss 0) (uncut_need ss q) p)) → AlikeIn ss q 0 a b
       → answers_of ss q q.join seen a ≡ answers_of ss q q.join plain b)
-      → answer_rows ss q (filter (meets_left ss q) (seen_row_views (schema_at ss 0) (left_need ss q) p)) seen
+      → answer_rows ss q (filter (meets_left ss q) (seen_row_views (schema_at ss 0) (uncut_need ss q) p)) seen
       ≡ answer_rows ss q (map (row_view_of (schema_at ss 0)) rows) plain
   same_lefts seen plain ns p t rows i full prunes stands keys rights =
       answer_rows_are ss q lefts seen
@@ -145,21 +145,21 @@ module _ (ss : List BoundSource) (q : Query) (some_bound_source : 0 < length ss)
       (zip_weaker (λ a b. IsIn a lefts × AlikeIn ss q 0 a b) (λ a b. answers_of ss q q.join seen a ≡ answers_of ss q q.join plain b) (λ a b r. rights a b r.0 r.1)
       lefts (filter (meets_left ss q) inside) (zip_in (AlikeIn ss q 0) lefts (filter (meets_left ss q) inside) met))
       ∙ flat_map_kept (answers_of ss q q.join plain) (meets_left ss q) inside (failing plain inside)
-      ∙ flat_map_map (answers_of ss q q.join plain) (row_view_of (schema_at ss 0)) (rows_in (left_need ss q).interval rows)
-      ∙ flat_map_kept (λ (row : Row). answers_of ss q q.join plain (row_view_of (schema_at ss 0) row)) (λ (row : Row). in_interval (left_need ss q).interval row.key) rows (outside plain rows keys)
+      ∙ flat_map_map (answers_of ss q q.join plain) (row_view_of (schema_at ss 0)) (rows_in (uncut_need ss q).interval rows)
+      ∙ flat_map_kept (λ (row : Row). answers_of ss q q.join plain (row_view_of (schema_at ss 0) row)) (λ (row : Row). in_interval (uncut_need ss q).interval row.key) rows (outside plain rows keys)
       ∙ sym (flat_map_map (answers_of ss q q.join plain) (row_view_of (schema_at ss 0)) rows)
       ∙ sym (answer_rows_are ss q (map (row_view_of (schema_at ss 0)) rows) plain)
     where
       lefts : List RowView
-      lefts = filter (meets_left ss q) (seen_row_views (schema_at ss 0) (left_need ss q) p)
+      lefts = filter (meets_left ss q) (seen_row_views (schema_at ss 0) (uncut_need ss q) p)
 
       inside : List RowView
-      inside = map (row_view_of (schema_at ss 0)) (rows_in (left_need ss q).interval rows)
+      inside = map (row_view_of (schema_at ss 0)) (rows_in (uncut_need ss q).interval rows)
 
-      met : AllZip (AlikeIn ss q 0) (filter (meets_left ss q) (seen_row_views (schema_at ss 0) (left_need ss q) p)) (filter (meets_left ss q) (map (row_view_of (schema_at ss 0)) (rows_in (left_need ss q).interval rows)))
+      met : AllZip (AlikeIn ss q 0) (filter (meets_left ss q) (seen_row_views (schema_at ss 0) (uncut_need ss q) p)) (filter (meets_left ss q) (map (row_view_of (schema_at ss 0)) (rows_in (uncut_need ss q).interval rows)))
       met = zip_filter (AlikeIn ss q 0) (meets_left ss q) (meets_left ss q) (λ a b alike. same_meets ss q a b some_bound_source alike)
-          (seen_row_views (schema_at ss 0) (left_need ss q) p) (map (row_view_of (schema_at ss 0)) (rows_in (left_need ss q).interval rows))
-          (accepted (schema_at ss 0) ns (left_need ss q) p t rows i full prunes stands)
+          (seen_row_views (schema_at ss 0) (uncut_need ss q) p) (map (row_view_of (schema_at ss 0)) (rows_in (uncut_need ss q).interval rows))
+          (accepted (schema_at ss 0) ns (uncut_need ss q) p t rows i full prunes stands)
 
 -- Both sides of a query.
 
@@ -182,8 +182,8 @@ module _ (stored : List Stored) (tables : List Table) (stand : RepresentTables s
   one_source items left condition (p ∷ []) kinds fits c =
       let q : Query = record { items = items; left = left; join = None; condition = condition } in
       let ss : List BoundSource = bound_sources (map table_header_of tables) q in
-      let full = or_parts (is_missing (left_need ss q ∷ []) p) false c.1 in
-      same_lefts ss q (omega arith) kinds fits (seen_rights ss q (p ∷ [])) (λ l. row_views_at tables ss 1) (left_need ss q ∷ []) p (stored_tree stored left.table) (rows_named left.table tables)
+      let full = or_parts (is_missing (uncut_need ss q ∷ []) p) false c.1 in
+      same_lefts ss q (omega arith) kinds fits (seen_rights ss q (p ∷ [])) (λ l. row_views_at tables ss 1) (uncut_need ss q ∷ []) p (stored_tree stored left.table) (rows_named left.table tables)
       (inl refl) full.0 c.0.0 (named_stands left.table stored tables stand) (left_keys q)
       (λ a b i alike. same_answer ss q (a ∷ []) (b ∷ []) (agree_one ss q a b (omega arith) alike))
 
@@ -192,9 +192,9 @@ module _ (stored : List Stored) (tables : List Table) (stand : RepresentTables s
       → let q : Query = record { items = items; left = left; join = Some j; condition = condition } in
       let ss : List BoundSource = bound_sources (map table_header_of tables) q in
       (lefts rights : List Need) (p r : RowTree)
-      → seen_lefts ss q trees ≡ filter (meets_left ss q) (seen_row_views (schema_at ss 0) (left_need ss q) p)
+      → seen_lefts ss q trees ≡ filter (meets_left ss q) (seen_row_views (schema_at ss 0) (uncut_need ss q) p)
       → ((a : RowView) → seen_rights ss q trees a ≡ seen_row_views (schema_at ss 1) (right_need ss q j a) r)
-      → IsIn (left_need ss q) lefts → ((a : RowView) → IsIn a (seen_lefts ss q trees) → IsIn (right_need ss q j a) rights)
+      → IsIn (uncut_need ss q) lefts → ((a : RowView) → IsIn a (seen_lefts ss q trees) → IsIn (right_need ss q j a) rights)
       → is_missing lefts p ≡ false → is_missing rights r ≡ false
       → Prunes p (stored_tree stored left.table) → Prunes r (stored_tree stored j.right.table)
       → join_fault ss j ≡ None → AllByRecursion (KindsAgree ss) (option_map_or comparisons condition []) → FitsQuery q
@@ -232,8 +232,8 @@ module _ (stored : List Stored) (tables : List Table) (stand : RepresentTables s
     abbrev Full : Bool → List RowTree → Type 0
     Full same trees = list_any (λ (t : List Need × RowTree). is_missing t.0 t.1)
         (zip (cond (length (cond same (left.table ∷ []) (left.table ∷ j.right.table ∷ [])) == 1)
-        ((left_need both_sources joining ∷ right_needs both_sources joining trees) ∷ [])
-        ((left_need both_sources joining ∷ []) ∷ right_needs both_sources joining trees ∷ [])) trees) ≡ false
+        ((uncut_need both_sources joining ∷ right_needs both_sources joining trees) ∷ [])
+        ((uncut_need both_sources joining ∷ []) ∷ right_needs both_sources joining trees ∷ [])) trees) ≡ false
 
     abbrev JoinExact : List RowTree → Type 0
     JoinExact trees = answer_rows both_sources joining (seen_lefts both_sources joining trees) (seen_rights both_sources joining trees)
@@ -244,7 +244,7 @@ module _ (stored : List Stored) (tables : List Table) (stand : RepresentTables s
     one_tree fault kinds fits e [] prunes full = absurd prunes
     one_tree fault kinds fits e (p ∷ r ∷ trees) prunes full = absurd prunes.1
     one_tree fault kinds fits e (p ∷ []) prunes full =
-        let ns : List Need = left_need both_sources joining ∷ right_needs both_sources joining (p ∷ []) in
+        let ns : List Need = uncut_need both_sources joining ∷ right_needs both_sources joining (p ∷ []) in
         let complete = or_parts (is_missing ns p) false full in
         let table : left.table ≡ j.right.table = is_bytes left.table j.right.table e in
         two_sources items left j condition (p ∷ []) ns ns p p refl (rights_from (p ∷ []) p (rw e refl)) (inl refl) (λ a i. inr (right_needed (p ∷ []) a i))
@@ -256,9 +256,9 @@ module _ (stored : List Stored) (tables : List Table) (stand : RepresentTables s
     two_trees fault kinds fits e (p ∷ []) prunes full = absurd prunes.1
     two_trees fault kinds fits e (p ∷ r ∷ s ∷ trees) prunes full = absurd prunes.1.1
     two_trees fault kinds fits e (p ∷ r ∷ []) prunes full =
-        let complete = or_parts (is_missing (left_need both_sources joining ∷ []) p) (is_missing (right_needs both_sources joining (p ∷ r ∷ [])) r || false) full in
+        let complete = or_parts (is_missing (uncut_need both_sources joining ∷ []) p) (is_missing (right_needs both_sources joining (p ∷ r ∷ [])) r || false) full in
         let others = or_parts (is_missing (right_needs both_sources joining (p ∷ r ∷ [])) r) false complete.1 in
-        two_sources items left j condition (p ∷ r ∷ []) (left_need both_sources joining ∷ []) (right_needs both_sources joining (p ∷ r ∷ [])) p r refl
+        two_sources items left j condition (p ∷ r ∷ []) (uncut_need both_sources joining ∷ []) (right_needs both_sources joining (p ∷ r ∷ [])) p r refl
         (rights_from (p ∷ r ∷ []) r (rw e refl)) (inl refl) (λ a i. right_needed (p ∷ r ∷ []) a i)
         complete.0 others.0 prunes.0 prunes.1.0 fault kinds fits
 

@@ -18,7 +18,7 @@ use Rattle.vo_spec.specs.Trees.{RowTree}
 use Rattle.vo_spec.specs.Scans.{is_empty_interval, seen}
 use Rattle.vo_spec.specs.Pruning.{prune_tree}
 use Rattle.vo_spec.specs.Representation.{Represents}
-use Rattle.vo_spec.specs.Needs.{left_need, right_need, meets_left, seen_row_view, needs, tables_used, same_table, tree_at}
+use Rattle.vo_spec.specs.Needs.{uncut_need, right_need, meets_left, seen_row_view, needs, tables_used, same_table, tree_at}
 use Rattle.vo_spec.specs.Honest.{Stored, RepresentTables, catalog_of, stored_tree, trees_for, honest_trees}
 use Rattle.vo_laws.proofs.CommandLaws.{FitTables}
 use Rattle.vo_laws.proofs.RepresentationLaws.{stands}
@@ -34,14 +34,14 @@ seen_of_proof n need t rows stand below cells = seen_same (need ∷ []) need t (
 
 -- The needs of a query go by what is seen for its left one alone.
 pub needs_by_seen : (ss : List BoundSource) (q : Query) (trees others : List RowTree)
-    → seen (left_need ss q) (tree_at trees 0) ≡ seen (left_need ss q) (tree_at others 0) → needs ss q trees ≡ needs ss q others
+    → seen (uncut_need ss q) (tree_at trees 0) ≡ seen (uncut_need ss q) (tree_at others 0) → needs ss q trees ≡ needs ss q others
 needs_by_seen ss q trees others same = ap needs_of same
   where
     rights : Option (List SeenRow) → List Need
-    rights o = flat_map (λ j. map (right_need ss q j) (filter (meets_left ss q) (map (seen_row_view (schema_at ss 0) (left_need ss q).columns) (unwrap_or o [])))) (option_to_list q.join)
+    rights o = flat_map (λ j. map (right_need ss q j) (filter (meets_left ss q) (map (seen_row_view (schema_at ss 0) (uncut_need ss q).columns) (unwrap_or o [])))) (option_to_list q.join)
 
     needs_of : Option (List SeenRow) → List (List Need)
-    needs_of o = cond (length (tables_used ss) == 1) ((left_need ss q ∷ rights o) ∷ []) ((left_need ss q ∷ []) ∷ rights o ∷ [])
+    needs_of o = cond (length (tables_used ss) == 1) ((uncut_need ss q ∷ rights o) ∷ []) ((uncut_need ss q ∷ []) ∷ rights o ∷ [])
 
 -- no need shows anything of no rows
 nothing_seen : (need : Need) → seen need (prune_tree (need ∷ []) (leaf [])) ≡ seen need (leaf [])
@@ -53,13 +53,13 @@ nothing_seen need = step (is_empty_interval need.interval) refl
 
 module _ (stored : List Stored) (tables : List Table) (stand : RepresentTables stored tables) (fit : FitTables tables) (q : Query) where
   abbrev SeesLeft : List TableHeader → Type 0
-  SeesLeft hs = seen (left_need (bound_sources hs q) q) (prune_tree (left_need (bound_sources hs q) q ∷ []) (stored_tree stored q.left.table)) ≡ seen (left_need (bound_sources hs q) q) (stored_tree stored q.left.table)
+  SeesLeft hs = seen (uncut_need (bound_sources hs q) q) (prune_tree (uncut_need (bound_sources hs q) q ∷ []) (stored_tree stored q.left.table)) ≡ seen (uncut_need (bound_sources hs q) q) (stored_tree stored q.left.table)
 
   left_same : SeesLeft (map table_header_of tables)
   left_same =
       let ss : List BoundSource = bound_sources (map table_header_of tables) q in
       let f = named_fits q.left.table tables fit.each in
-      seen_of_proof (cells_of (schema_at ss 0)) (left_need ss q) (stored_tree stored q.left.table) (rows_named q.left.table tables) (named_stands q.left.table stored tables stand)
+      seen_of_proof (cells_of (schema_at ss 0)) (uncut_need ss q) (stored_tree stored q.left.table) (rows_named q.left.table tables) (named_stands q.left.table stored tables stand)
       (named_cells_below ss q 0 (rows_named q.left.table tables) f) f.cells
 
   left_seen : SeesLeft (table_headers (catalog_of stored))
@@ -72,7 +72,7 @@ module _ (stored : List Stored) (tables : List Table) (stand : RepresentTables s
   first_tree names = tree_at (map (stored_tree stored) names) 0
 
   abbrev need : Need
-  need = left_need (bound_sources (table_headers (catalog_of stored)) q) q
+  need = uncut_need (bound_sources (table_headers (catalog_of stored)) q) q
 
   abbrev SeesFirst : List (List ℕ) → Type 0
   SeesFirst names = seen need (prune_tree (need ∷ []) (first_tree names)) ≡ seen need (first_tree names)
@@ -98,7 +98,7 @@ module _ (stored : List Stored) (tables : List Table) (stand : RepresentTables s
 pub needs_from_proof : (batches : List (List Command)) (q : Query) (others : List RowTree) → AllByRecursion FitsBatch batches
     → let stored : List Stored = honest_trees batches in
     let ss : List BoundSource = bound_sources (table_headers (catalog_of stored)) q in
-    needs ss q (prune_tree (left_need ss q ∷ []) (tree_at (trees_for q stored) 0) ∷ others) ≡ needs ss q (trees_for q stored)
+    needs ss q (prune_tree (uncut_need ss q ∷ []) (tree_at (trees_for q stored) 0) ∷ others) ≡ needs ss q (trees_for q stored)
 needs_from_proof batches q others fits =
     let s = stands batches fits in
     needs_of_left (honest_trees batches) (tables_after batches) s.0 s.1 q others

@@ -22,7 +22,7 @@ use Rattle.vo_spec.specs.declared.queries.Outcome.TheVariants.{Rows, Wrong}
 use Rattle.vo_spec.specs.Bytes.{u64_bytes, u64_of, u16_bytes}
 use Rattle.vo_spec.specs.Values.{value_bytes, key_of, value_of_key}
 use Rattle.vo_spec.specs.Tables.{apply, apply_batch, tables_after}
-use Rattle.vo_spec.specs.Conditions.{Condition, Query, test}
+use Rattle.vo_spec.specs.Conditions.{Condition, Query, test, comparison}
 use Rattle.vo_spec.specs.Results.{result}
 
 -- Key bytes of -1, 0, and the least and greatest BIGINT, and back.
@@ -194,7 +194,7 @@ abbrev one_table : List Ref → Option Condition → Query
 one_table refs condition = record { items = Refs refs; left = alone (codes "t"); join = None; condition = condition }
 
 abbrev names_above_one : Query
-names_above_one = one_table (plain (codes "name") ∷ []) (Some (test (plain (codes "id")) cmp.Gt (Literal (int 1))))
+names_above_one = one_table (plain (codes "name") ∷ []) (Some (test (comparison (plain (codes "id")) cmp.Gt (Literal (int 1)))))
 
 above_one : result names_above_one two_rows ≡ Rows (codes "name" ∷ []) ((text (codes "bob") ∷ []) ∷ [])
 unfolding result u64_bytes u64_of
@@ -214,7 +214,7 @@ absent_column : result (one_table (plain (codes "x") ∷ []) None) two_rows ≡ 
 unfolding result
 absent_column = refl
 
-kinds_differ : result (one_table (plain (codes "name") ∷ []) (Some (test (plain (codes "id")) cmp.Eq (Literal (text (codes "a")))))) two_rows ≡ Wrong wrong.TypeMismatch
+kinds_differ : result (one_table (plain (codes "name") ∷ []) (Some (test (comparison (plain (codes "id")) cmp.Eq (Literal (text (codes "a"))))))) two_rows ≡ Wrong wrong.TypeMismatch
 unfolding result
 kinds_differ = refl
 

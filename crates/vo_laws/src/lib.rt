@@ -24,7 +24,7 @@ ghost use Rattle.vo_spec.specs.Collides.{Collides};
 ghost use Rattle.vo_spec.specs.Tables.{tables_after};
 ghost use Rattle.vo_spec.specs.Conditions.{Query, FitsQuery};
 ghost use Rattle.vo_spec.specs.Results.{BoundSource, bound_sources, result as result_of};
-ghost use Rattle.vo_spec.specs.Needs.{left_need, needs, tree_at};
+ghost use Rattle.vo_spec.specs.Needs.{uncut_need, left_need, needs, tree_at};
 ghost use Rattle.vo_spec.specs.Scans.{seen};
 ghost use Rattle.vo_spec.specs.Pruning.{prune_tree};
 ghost use Rattle.vo_spec.specs.Representation.{Represents};
@@ -83,13 +83,14 @@ pub fn proofs_show_what_their_need_sees()
         → seen need (prune_tree (need ∷ []) t) ≡ seen need t }
     ensures by_seen { (ss : List BoundSource) (q : Query) (trees : List RowTree)
         (others : List RowTree)
-        → seen (left_need ss q) (tree_at trees 0) ≡ seen (left_need ss q) (tree_at others 0)
+        → seen (uncut_need ss q) (tree_at trees 0) ≡ seen (uncut_need ss q) (tree_at others 0)
         → needs ss q trees ≡ needs ss q others }
     ensures needs { (batches : List (List Command)) (q : Query) (others : List RowTree)
         → AllByRecursion FitsBatch batches
         → let stored : List Stored = honest_trees batches in
         let ss : List BoundSource = bound_sources (table_headers (catalog_of stored)) q in
-        needs ss q (prune_tree (left_need ss q ∷ []) (tree_at (trees_for q stored) 0) ∷ others)
+        let left : RowTree = tree_at (trees_for q stored) 0 in
+        needs ss q (prune_tree (left_need ss q left ∷ []) left ∷ others)
         ≡ needs ss q (trees_for q stored) }
 {}
 
