@@ -2,7 +2,7 @@
 ghost use Rattle.std.specs.Prelude.{◌≡◌, [], map, option_map};
 ghost use Rattle.std.specs.Option.{option_map_or};
 ghost use Rattle.vo_spec.specs.Firsts.{first_some};
-ghost use Rattle.vo_spec.specs.Conditions.{condition_of, conditions, comparisons, comparisons_in};
+ghost use Rattle.vo_spec.specs.Conditions.{condition_of, conditions, of_tests_in, sides, comparisons};
 ghost use Rattle.vo_spec.specs.Results.{ref_kind, operand_kind, kind_fault};
 ghost use Rattle.query_binding.specs.HeldSources.{bound_sources_seen};
 ghost use Rattle.query_binding.specs.Binding.{PassesBinding};
@@ -64,7 +64,7 @@ fn test_condition(bound_sources: &BoundSources<'_>, cond: &Cond) -> Result<(), B
 fn test_parts(bound_sources: &BoundSources<'_>, parts: &[Cond]) -> Result<(), BindFault>
     ensures { PassesBinding result (first_some
         (map (kind_fault (bound_sources_seen bound_sources.now))
-        (comparisons_in (conditions (map condition_of parts.now))))) }
+        (of_tests_in sides (conditions (map condition_of parts.now))))) }
 {
     for part in parts {
         match test_condition(bound_sources, part) {

@@ -2,7 +2,7 @@
 ghost use Rattle.std.specs.Prelude.{◌≡◌, [], ◌∷◌, map, option_map, IfOk};
 ghost use Rattle.std.specs.Option.{option_map_or};
 ghost use Rattle.vo_spec.specs.Firsts.{first_some};
-ghost use Rattle.vo_spec.specs.Conditions.{condition_of, conditions, condition_refs, conditions_refs, operand_refs};
+ghost use Rattle.vo_spec.specs.Conditions.{condition_of, conditions, of_tests_in, test_refs, condition_refs, operand_refs};
 ghost use Rattle.vo_spec.specs.Results.{ref_fault, qualifier_of, item_refs, join_refs};
 ghost use Rattle.query_binding.specs.HeldSources.{bound_sources_seen};
 ghost use Rattle.query_binding.specs.Binding.{PassesBinding};
@@ -163,7 +163,7 @@ fn test_parts(
 ) -> Result<(), BindFault>
     ensures { PassesBinding result (first_some
         (map (ref_fault (bound_sources_seen bound_sources.now))
-        (conditions_refs (conditions (map condition_of parts.now))))) }
+        (of_tests_in test_refs (conditions (map condition_of parts.now))))) }
 {
     for part in parts {
         match test_condition(alloc, bound_sources, part) {

@@ -8,9 +8,9 @@ use Rattle.vo_spec.specs.declared.queries.Operand.{Operand}
 use Rattle.vo_spec.specs.declared.queries.Operand.TheVariants.{Ref as Column, Literal}
 use Rattle.vo_spec.specs.declared.queries.Items.{Items}
 use Rattle.vo_spec.specs.declared.queries.Join.{Join}
-use Rattle.vo_spec.specs.Conditions.{Condition, Conditions, every, some, negated, test, none, more, Query, FitsOperand}
+use Rattle.vo_spec.specs.Conditions.{NameTest, comparison, with_tests, Condition, Query, FitsOperand}
 use Rattle.vo_spec.specs.Results.{BoundSource, ColumnPlace, place_of, shown_places}
-use Rattle.query_plan.specs.BoundConditions.{BoundTerm, column, literal, BoundCondition, BoundConditions, conjunction, disjunction, negation, comparison, no_parts, part_and, condition_places}
+use Rattle.query_plan.specs.BoundConditions.{BoundTerm, column, literal, BoundTest, BoundCondition, condition_places}
 
 -- The sources with their tables' schemas, the items as the text has them (for the titles), the
 -- columns that are shown, the two of ON in the order of the text, and the condition.
@@ -25,16 +25,11 @@ abbrev pub bound_term : List BoundSource → Operand → BoundTerm
 bound_term ss (Column r) = column (place_of ss r)
 bound_term ss (Literal v) = literal v
 
-abbrev mutual
-  pub bound_condition : List BoundSource → Condition → BoundCondition
-  bound_condition ss (every cs) = conjunction (bound_conditions ss cs)
-  bound_condition ss (some cs) = disjunction (bound_conditions ss cs)
-  bound_condition ss (negated c) = negation (bound_condition ss c)
-  bound_condition ss (test left op right) = comparison (place_of ss left) op (bound_term ss right)
+abbrev pub bound_test : List BoundSource → NameTest → BoundTest
+bound_test ss (comparison left op right) = comparison (place_of ss left) op (bound_term ss right)
 
-  pub bound_conditions : List BoundSource → Conditions → BoundConditions
-  bound_conditions ss none = no_parts
-  bound_conditions ss (more c cs) = part_and (bound_condition ss c) (bound_conditions ss cs)
+abbrev pub bound_condition : List BoundSource → Condition → BoundCondition
+bound_condition ss = with_tests (bound_test ss)
 
 abbrev pub bound_join : List BoundSource → Join → ColumnPlace × ColumnPlace
 bound_join ss j = (place_of ss j.left_ref, place_of ss j.right_ref)

@@ -1,32 +1,38 @@
 -- Bound conditions and queries as the program holds them.
 use Rattle.std.specs.Prelude.{List, [], ◌∷◌, map, option_map}
 use Rattle.vo_spec.specs.Lent.{value_of}
+use Rattle.vo_spec.specs.Conditions.{every, some, negated, test, none, more, comparison}
 use Rattle.vo_spec.specs.Results.{ColumnPlace}
 use Rattle.query_binding.specs.HeldSources.{bound_sources_seen, place_seen}
 use Rattle.query_plan.specs.declared.bound_cond.BoundOperand.{BoundOperand}
 use Rattle.query_plan.specs.declared.bound_cond.BoundOperand.TheVariants.{Column, Literal}
+use Rattle.query_plan.specs.declared.bound_cond.BoundTest.{BoundTest as HeldTest}
+use Rattle.query_plan.specs.declared.bound_cond.BoundTest.TheVariants.{Comparison}
 use Rattle.query_plan.specs.declared.bound_cond.BoundCond.{BoundCond, fold-BoundCond}
 use Rattle.query_plan.specs.declared.bound_cond.BoundCond.TheOpen.{BoundCond-F}
 use Rattle.query_plan.specs.declared.bound_cond.Conjunct.{Conjunct}
 use Rattle.query_plan.specs.declared.bound_query.BoundJoin.{BoundJoin}
 use Rattle.query_plan.specs.declared.bound_query.Query.{Query as HeldQuery}
-use Rattle.query_plan.specs.BoundConditions.{BoundTerm, column, literal, BoundCondition, BoundConditions, conjunction, disjunction, negation, comparison, no_parts, part_and}
+use Rattle.query_plan.specs.BoundConditions.{BoundTerm, column, literal, BoundTest, BoundCondition, BoundConditions}
 use Rattle.query_plan.specs.BoundQueries.{BoundQuery}
 
 abbrev pub term_seen : BoundOperand → BoundTerm
 term_seen (Column p) = column (place_seen p)
 term_seen (Literal v) = literal (value_of v)
 
+abbrev pub test_seen : HeldTest → BoundTest
+test_seen (Comparison left op right) = comparison (place_seen left) op (term_seen right)
+
 abbrev pub parts_seen : List BoundCondition → BoundConditions
-parts_seen [] = no_parts
-parts_seen (c ∷ cs) = part_and c (parts_seen cs)
+parts_seen [] = none
+parts_seen (c ∷ cs) = more c (parts_seen cs)
 
 -- one level, its parts already seen
 abbrev pub layer_seen : BoundCond-F BoundCondition → BoundCondition
-layer_seen (BoundCond-F.All parts) = conjunction (parts_seen parts)
-layer_seen (BoundCond-F.Any parts) = disjunction (parts_seen parts)
-layer_seen (BoundCond-F.Not part) = negation part.value
-layer_seen (BoundCond-F.Test left op right) = comparison (place_seen left) op (term_seen right)
+layer_seen (BoundCond-F.All parts) = every (parts_seen parts)
+layer_seen (BoundCond-F.Any parts) = some (parts_seen parts)
+layer_seen (BoundCond-F.Not part) = negated part.value
+layer_seen (BoundCond-F.Test t) = test (test_seen t)
 
 abbrev pub condition_seen : BoundCond → BoundCondition
 condition_seen = fold-BoundCond BoundCondition layer_seen

@@ -7,7 +7,7 @@ use Rattle.query_plan.specs.Plans.{QueryPlan}
 abbrev pub plan_seen : Plan → QueryPlan
 plan_seen p = record {
   query = query_seen p.query.now;
-  left_need = p.left_need;
+  uncut_need = p.uncut_need;
   right_cells = p.right_cells;
   left = map conjunct_seen p.left.items;
   late = map conjunct_seen p.late.items;

@@ -5,22 +5,23 @@ use Rattle.vo_spec.specs.declared.needs.Need.{Need}
 use Rattle.vo_spec.specs.declared.queries.Cmp.TheVariants as cmp
 use Rattle.vo_spec.specs.Values.{key_of}
 use Rattle.vo_spec.specs.Results.{ColumnPlace, schema_at, RowView, place_value}
+use Rattle.vo_spec.specs.Trees.{RowTree}
 use Rattle.vo_spec.specs.Needs.{all_keys, keys_that}
 use Rattle.query_plan.specs.BoundConditions.{BoundCondition, all_hold, bound_interval, conjuncts_where}
 use Rattle.query_plan.specs.BoundQueries.{BoundQuery}
 use Rattle.query_plan.specs.NamedCells.{bound_cells}
 
--- The bound query, the need of the left tree, the cells that each need of the right tree names, and
--- the conjuncts of the left and of the late condition.
+-- The bound query, the uncut need of the left tree, the cells that each need of the right tree
+-- names, and the conjuncts of the left and of the late condition.
 pub record QueryPlan : Type 0 where
   pub query : BoundQuery
-  pub left_need : Need
+  pub uncut_need : Need
   pub right_cells : List ℕ
   pub left : List BoundCondition
   pub late : List BoundCondition
 
-abbrev pub bound_left_need : BoundQuery → Need
-bound_left_need b = record {
+abbrev pub bound_uncut_need : BoundQuery → Need
+bound_uncut_need b = record {
   interval = option_map_or (bound_interval (schema_at b.bound_sources 0).key) b.condition all_keys;
   columns = bound_cells b 0;
 }
@@ -28,11 +29,15 @@ bound_left_need b = record {
 abbrev pub plan_of : BoundQuery → QueryPlan
 plan_of b = record {
   query = b;
-  left_need = bound_left_need b;
+  uncut_need = bound_uncut_need b;
   right_cells = bound_cells b 1;
   left = option_map_or (conjuncts_where true) b.condition [];
   late = option_map_or (conjuncts_where false) b.condition [];
 }
+
+-- what the plan needs of this left tree: all of the uncut need
+abbrev pub plan_need : QueryPlan → RowTree → Need
+plan_need p left = p.uncut_need
 
 -- ON's column of the left source
 abbrev pub left_column : ColumnPlace × ColumnPlace → ColumnPlace

@@ -1,14 +1,14 @@
 //! Queries bound to the tables that they are asked of.
 ghost use Rattle.std.specs.Prelude.{◌≡◌, [], map, option_map, IfOk};
 ghost use Rattle.std.specs.Option.{option_map_or};
-ghost use Rattle.vo_spec.specs.Conditions.{FitsOperand, FitsQuery, comparisons, comparisons_in, conditions, condition_of, query_of};
+ghost use Rattle.vo_spec.specs.Conditions.{FitsOperand, FitsQuery, sides, of_tests_in, with_tests_in, comparisons, conditions, condition_of, query_of};
 ghost use Rattle.vo_spec.specs.Results.{bound_sources as bound_sources_of, binding_fault};
 ghost use Rattle.query_binding.specs.HeldSources.{bound_sources_seen};
 ghost use Rattle.query_binding.specs.Binding.{PassesBinding};
-ghost use Rattle.query_plan.specs.BoundQueries.{FitComparisons, bound_term, bound_condition, bound_conditions, bound_join, bound_query};
+ghost use Rattle.query_plan.specs.BoundQueries.{FitComparisons, bound_term, bound_test, bound_condition, bound_join, bound_query};
 ghost use Rattle.query_plan.specs.BoundViews.{term_seen, parts_seen, condition_seen, join_seen, query_seen};
 
-use crate::bound_cond::{BoundCond, BoundOperand};
+use crate::bound_cond::{BoundCond, BoundOperand, BoundTest};
 use crate::bound_query::{BoundJoin, Query};
 use query_binding::{BindFault, BoundSources, Schemas, bind_sources, shown_places};
 use std::alloc::{AllocError, Global};
@@ -48,11 +48,11 @@ fn bind_condition<'q>(
             let part = bind_condition(alloc, bound_sources, part)?;
             Ok(BoundCond::Not(Box::new(alloc, part)?))
         },
-        Cond::Test { left, op, right } => Ok(BoundCond::Test {
+        Cond::Test { left, op, right } => Ok(BoundCond::Test(BoundTest::Comparison {
             left: bound_sources.place_of(left),
             op: *op,
             right: bind_operand(bound_sources, right),
-        }),
+        })),
     }
 }
 
@@ -63,10 +63,10 @@ fn bind_parts<'q>(
     parts: &'q [Cond],
 ) -> Result<List<BoundCond<'q>>, AllocError>
     ensures value { IfOk result (λ bound. parts_seen (map condition_seen bound)
-        ≡ bound_conditions (bound_sources_seen bound_sources.now)
+        ≡ with_tests_in (bound_test (bound_sources_seen bound_sources.now))
         (conditions (map condition_of parts.now))) }
     ensures fits { IfOk result (λ bound.
-        FitComparisons (comparisons_in (conditions (map condition_of parts.now)))) }
+        FitComparisons (of_tests_in sides (conditions (map condition_of parts.now)))) }
 {
     let mut bound = Vec::with_capacity(alloc, parts.len())?;
     for part in parts {

@@ -9,17 +9,23 @@ pub enum BoundOperand<'q> {
     Literal(ValueRef<'q>),
 }
 
+/// A test of rows at the places of their columns.
+#[derive(Clone, Copy)]
+pub enum BoundTest<'q> {
+    Comparison {
+        left: ColumnPlace,
+        op: Cmp,
+        right: BoundOperand<'q>,
+    },
+}
+
 /// A condition that is bound to the sources of its query.
 #[derive(Drop)]
 pub enum BoundCond<'q> {
     All(List<BoundCond<'q>>),
     Any(List<BoundCond<'q>>),
     Not(Box<BoundCond<'q>>),
-    Test {
-        left: ColumnPlace,
-        op: Cmp,
-        right: BoundOperand<'q>,
-    },
+    Test(BoundTest<'q>),
 }
 
 /// A conjunct of a condition.

@@ -2,10 +2,11 @@
 ghost use Rattle.std.specs.Prelude.{◌≡◌, ◌++◌, [], map, option_map, if◌then◌else◌, IfOk, OnOk};
 ghost use Rattle.std.specs.Option.{option_map_or};
 ghost use Rattle.std.specs.List.{list_all};
-ghost use Rattle.query_plan.specs.BoundConditions.{is_left_place, is_on_left, term_places, parts_places, one_where, conjuncts_where, all_where};
-ghost use Rattle.query_plan.specs.BoundViews.{term_seen, parts_seen, condition_seen, conjunct_seen};
+ghost use Rattle.vo_spec.specs.Conditions.{of_tests_in};
+ghost use Rattle.query_plan.specs.BoundConditions.{is_left_place, is_on_left, term_places, test_places, one_where, conjuncts_where, all_where};
+ghost use Rattle.query_plan.specs.BoundViews.{term_seen, test_seen, parts_seen, condition_seen, conjunct_seen};
 
-use crate::bound_cond::{BoundCond, BoundOperand, Conjunct};
+use crate::bound_cond::{BoundCond, BoundOperand, BoundTest, Conjunct};
 use std::alloc::{AllocError, Global};
 
 /// Whether the condition is on left columns alone.
@@ -16,14 +17,14 @@ fn is_on_left(cond: &BoundCond<'_>) -> bool
     match cond {
         BoundCond::All(parts) | BoundCond::Any(parts) => are_on_left(parts.as_slice()),
         BoundCond::Not(part) => is_on_left(part),
-        BoundCond::Test { left, right, .. } => left.bound_source == 0 && is_operand_on_left(right),
+        BoundCond::Test(test) => is_test_on_left(test),
     }
 }
 
 #[cycle(left)]
 fn are_on_left(parts: &[BoundCond<'_>]) -> bool
     ensures { result ≡ list_all is_left_place
-        (parts_places (parts_seen (map condition_seen parts.now))) }
+        (of_tests_in test_places (parts_seen (map condition_seen parts.now))) }
 {
     for part in parts {
         if !is_on_left(part) {
@@ -31,6 +32,16 @@ fn are_on_left(parts: &[BoundCond<'_>]) -> bool
         }
     }
     true
+}
+
+fn is_test_on_left(test: &BoundTest<'_>) -> bool
+    ensures { result ≡ list_all is_left_place (test_places (test_seen test.now)) }
+{
+    match test {
+        BoundTest::Comparison { left, right, .. } => {
+            left.bound_source == 0 && is_operand_on_left(right)
+        },
+    }
 }
 
 fn is_operand_on_left(operand: &BoundOperand<'_>) -> bool
@@ -68,7 +79,7 @@ fn put_conjuncts<'c, 'q>(
 {
     match cond {
         BoundCond::All(parts) => put_parts(parts.as_slice(), on_left, out),
-        BoundCond::Any(_) | BoundCond::Not(_) | BoundCond::Test { .. } => {
+        BoundCond::Any(_) | BoundCond::Not(_) | BoundCond::Test(_) => {
             put_one(cond, on_left, out)
         },
     }

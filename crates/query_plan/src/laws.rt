@@ -6,10 +6,11 @@ ghost use Rattle.vo_spec.specs.declared.queries.Join.{Join};
 ghost use Rattle.vo_spec.specs.declared.tables.Table.{Table};
 ghost use Rattle.vo_spec.specs.Conditions.{Query, is_met};
 ghost use Rattle.vo_spec.specs.Results.{BoundSource, RowView, place_value, ref_value, answer_rows, row_views_at};
-ghost use Rattle.vo_spec.specs.Needs.{left_need as left_need_by_names, right_need as right_need_by_names, meets_left as meets_by_names};
+ghost use Rattle.vo_spec.specs.Trees.{RowTree};
+ghost use Rattle.vo_spec.specs.Needs.{uncut_need, left_need, right_need as right_need_by_names, meets_left as meets_by_names};
 ghost use Rattle.query_plan.specs.BoundConditions.{bound_truth};
 ghost use Rattle.query_plan.specs.BoundQueries.{bound_join, bound_query};
-ghost use Rattle.query_plan.specs.Plans.{plan_of, right_need_of, meets_left};
+ghost use Rattle.query_plan.specs.Plans.{plan_of, plan_need, right_need_of, meets_left};
 ghost use Rattle.query_plan.specs.Answers.{plain_rows};
 
 /// Rows meet the condition of a bound query where they meet that of the query.
@@ -19,10 +20,13 @@ pub fn bindings_keep_conditions()
         ≡ is_met (ref_value ss rows) q.condition }
 {}
 
-/// A plan needs what its query needs of the left tree, and of the right one for each left row.
+/// A plan needs what its query needs of the left tree, and of the right one for each left row, and it
+/// keeps the left rows that its query keeps.
 pub fn plans_keep_needs()
-    ensures left { (ss : List BoundSource) (q : Query)
-        → (plan_of (bound_query ss q)).left_need ≡ left_need_by_names ss q }
+    ensures uncut { (ss : List BoundSource) (q : Query)
+        → (plan_of (bound_query ss q)).uncut_need ≡ uncut_need ss q }
+    ensures left { (ss : List BoundSource) (q : Query) (left : RowTree)
+        → plan_need (plan_of (bound_query ss q)) left ≡ left_need ss q left }
     ensures right { (ss : List BoundSource) (q : Query) (j : Join) (row_view : RowView)
         → right_need_of (plan_of (bound_query ss q)) (bound_join ss j) row_view
         ≡ right_need_by_names ss q j row_view }

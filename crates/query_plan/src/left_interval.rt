@@ -1,14 +1,15 @@
 //! The interval of keys that a condition leaves of the left table.
 ghost use Rattle.std.specs.Prelude.{◌≡◌, map, drop, IfOk};
+ghost use Rattle.vo_spec.specs.Needs.{interval_by_all};
 ghost use Rattle.query_binding.specs.HeldSources.{place_seen};
-ghost use Rattle.query_plan.specs.BoundConditions.{is_left_key, comparison_interval, bound_interval, intersection_of_all};
-ghost use Rattle.query_plan.specs.BoundViews.{term_seen, parts_seen, condition_seen};
+ghost use Rattle.query_plan.specs.BoundConditions.{is_left_key, bound_test_interval, bound_interval};
+ghost use Rattle.query_plan.specs.BoundViews.{test_seen, parts_seen, condition_seen};
 
-use crate::bound_cond::{BoundCond, BoundOperand};
+use crate::bound_cond::{BoundCond, BoundOperand, BoundTest};
 use crate::intervals::{all_keys, intersection, keys_that};
 use query_binding::ColumnPlace;
 use std::alloc::{AllocError, Global};
-use vo_spec::{Cmp, Interval};
+use vo_spec::Interval;
 
 fn is_left_key(key: usize, place: ColumnPlace) -> bool
     ensures { result ≡ is_left_key key (place_seen place) }
@@ -16,19 +17,21 @@ fn is_left_key(key: usize, place: ColumnPlace) -> bool
     place.bound_source == 0 && place.column == key
 }
 
-fn comparison_interval(
+fn test_interval(
     alloc: Global,
     key: usize,
-    left: ColumnPlace,
-    op: Cmp,
-    right: &BoundOperand<'_>,
+    test: &BoundTest<'_>,
 ) -> Result<Interval, AllocError>
     ensures { IfOk result (λ interval. interval
-        ≡ comparison_interval key (place_seen left) op (term_seen right.now)) }
+        ≡ bound_test_interval key (test_seen test.now)) }
 {
-    match right {
-        BoundOperand::Literal(value) if is_left_key(key, left) => keys_that(alloc, op, *value),
-        BoundOperand::Literal(_) | BoundOperand::Column(_) => Ok(all_keys()),
+    match test {
+        BoundTest::Comparison {
+            left,
+            op,
+            right: BoundOperand::Literal(value),
+        } if is_left_key(key, *left) => keys_that(alloc, *op, *value),
+        BoundTest::Comparison { .. } => Ok(all_keys()),
     }
 }
 
@@ -44,7 +47,7 @@ pub(crate) fn interval_of(
     match cond {
         BoundCond::All(parts) => interval_of_all(alloc, key, parts.as_slice()),
         BoundCond::Any(_) | BoundCond::Not(_) => Ok(all_keys()),
-        BoundCond::Test { left, op, right } => comparison_interval(alloc, key, *left, *op, right),
+        BoundCond::Test(test) => test_interval(alloc, key, test),
     }
 }
 
@@ -55,7 +58,7 @@ fn interval_of_all(
     parts: &[BoundCond<'_>],
 ) -> Result<Interval, AllocError>
     ensures { IfOk result (λ interval. interval
-        ≡ intersection_of_all key (parts_seen (map condition_seen parts.now))) }
+        ≡ interval_by_all (bound_test_interval key) (parts_seen (map condition_seen parts.now))) }
 {
     let mut interval = all_keys();
     let mut place = parts.len();

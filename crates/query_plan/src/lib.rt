@@ -24,7 +24,7 @@ mod value_order;
 
 pub use answers::{push_alone, push_pair, push_pairs};
 pub use binding::bind;
-pub use bound_cond::{BoundCond, BoundOperand, Conjunct};
+pub use bound_cond::{BoundCond, BoundOperand, BoundTest, Conjunct};
 pub use bound_query::{BoundJoin, Query};
 pub use conjuncts::conjuncts_of;
 pub use copies::copy_need;

@@ -3,14 +3,15 @@ ghost use Rattle.std.specs.Prelude.{◌≡◌, ◌≤◌, [], map, length, optio
 ghost use Rattle.std.specs.Option.{option_map_or};
 ghost use Rattle.std.specs.List.{list_any};
 ghost use Rattle.vo_spec.specs.Batches.{max_columns};
+ghost use Rattle.vo_spec.specs.Conditions.{of_tests_in};
 ghost use Rattle.vo_spec.specs.Results.{schema_at};
 ghost use Rattle.query_binding.specs.HeldSources.{bound_sources_seen, place_seen};
-ghost use Rattle.query_plan.specs.BoundConditions.{term_places, condition_places, parts_places};
+ghost use Rattle.query_plan.specs.BoundConditions.{term_places, test_places, condition_places};
 ghost use Rattle.query_plan.specs.BoundQueries.{join_columns};
-ghost use Rattle.query_plan.specs.BoundViews.{term_seen, parts_seen, condition_seen, join_seen, query_seen};
+ghost use Rattle.query_plan.specs.BoundViews.{term_seen, test_seen, parts_seen, condition_seen, join_seen, query_seen};
 ghost use Rattle.query_plan.specs.NamedCells.{is_at, names, is_named_cell, cells_of, bound_cells};
 
-use crate::bound_cond::{BoundCond, BoundOperand};
+use crate::bound_cond::{BoundCond, BoundOperand, BoundTest};
 use crate::bound_query::{BoundJoin, Query};
 use query_binding::ColumnPlace;
 use std::alloc::{AllocError, Global};
@@ -43,14 +44,14 @@ fn condition_names(at: ColumnPlace, cond: &BoundCond<'_>) -> bool
     match cond {
         BoundCond::All(parts) | BoundCond::Any(parts) => parts_name(at, parts.as_slice()),
         BoundCond::Not(part) => condition_names(at, part),
-        BoundCond::Test { left, right, .. } => is_at(at, *left) || operand_names(at, right),
+        BoundCond::Test(test) => test_names(at, test),
     }
 }
 
 #[cycle(names)]
 fn parts_name(at: ColumnPlace, parts: &[BoundCond<'_>]) -> bool
     ensures { result ≡ list_any (is_at (place_seen at))
-        (parts_places (parts_seen (map condition_seen parts.now))) }
+        (of_tests_in test_places (parts_seen (map condition_seen parts.now))) }
 {
     for part in parts {
         if condition_names(at, part) {
@@ -58,6 +59,14 @@ fn parts_name(at: ColumnPlace, parts: &[BoundCond<'_>]) -> bool
         }
     }
     false
+}
+
+fn test_names(at: ColumnPlace, test: &BoundTest<'_>) -> bool
+    ensures { result ≡ list_any (is_at (place_seen at)) (test_places (test_seen test.now)) }
+{
+    match test {
+        BoundTest::Comparison { left, right, .. } => is_at(at, *left) || operand_names(at, right),
+    }
 }
 
 fn operand_names(at: ColumnPlace, operand: &BoundOperand<'_>) -> bool

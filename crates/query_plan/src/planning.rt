@@ -7,7 +7,7 @@ ghost use Rattle.vo_spec.specs.Needs.{all_keys};
 ghost use Rattle.query_binding.specs.HeldSources.{bound_sources_seen};
 ghost use Rattle.query_plan.specs.BoundConditions.{bound_interval};
 ghost use Rattle.query_plan.specs.BoundViews.{condition_seen, query_seen};
-ghost use Rattle.query_plan.specs.Plans.{bound_left_need, plan_of};
+ghost use Rattle.query_plan.specs.Plans.{bound_uncut_need, plan_of};
 ghost use Rattle.query_plan.specs.PlanViews.{plan_seen};
 
 use crate::bound_cond::BoundCond;
@@ -34,11 +34,11 @@ fn left_interval(
     }
 }
 
-/// What the query needs of the left tree.
-fn left_need(alloc: Global, query: &Query<'_>) -> Result<Need, AllocError>
+/// What the query asks of the left tree, whatever rows that has.
+fn uncut_need(alloc: Global, query: &Query<'_>) -> Result<Need, AllocError>
     requires { length (schema_at (bound_sources_seen query.now.bound_sources) 0).columns ≤
         max_columns }
-    ensures { IfOk result (λ need. need ≡ bound_left_need (query_seen query.now)) }
+    ensures { IfOk result (λ need. need ≡ bound_uncut_need (query_seen query.now)) }
 {
     let key = query.bound_sources.left.schema.key as usize;
     let interval = left_interval(alloc, key, &query.condition)?;
@@ -54,13 +54,13 @@ pub fn plan<'p, 'q>(alloc: Global, query: &'p Query<'q>) -> Result<Plan<'p, 'q>,
         max_columns }
     ensures { IfOk result (λ plan. plan_seen plan ≡ plan_of (query_seen query.now)) }
 {
-    let left_need = left_need(alloc, query)?;
+    let uncut_need = uncut_need(alloc, query)?;
     let right_cells = SharedList::new(alloc, named_cells(alloc, query, 1)?)?;
     let left = conjuncts_of(alloc, &query.condition, true)?;
     let late = conjuncts_of(alloc, &query.condition, false)?;
     Ok(Plan {
         query,
-        left_need,
+        uncut_need,
         right_cells,
         left,
         late,

@@ -1,12 +1,12 @@
 //! When rows of a query's sources meet a bound condition.
 ghost use Rattle.std.specs.Prelude.{◌≡◌, map, drop};
 ghost use Rattle.vo_spec.specs.Lent.{value_of};
-ghost use Rattle.vo_spec.specs.Conditions.{compares};
+ghost use Rattle.vo_spec.specs.Conditions.{compares, all_true_by, any_true_by};
 ghost use Rattle.query_binding.specs.HeldSources.{place_seen};
-ghost use Rattle.query_plan.specs.BoundConditions.{term_value, bound_truth, every_true, some_true, all_hold};
-ghost use Rattle.query_plan.specs.BoundViews.{term_seen, parts_seen, condition_seen, conjunct_seen};
+ghost use Rattle.query_plan.specs.BoundConditions.{term_value, bound_test_truth, bound_truth, all_hold};
+ghost use Rattle.query_plan.specs.BoundViews.{term_seen, test_seen, parts_seen, condition_seen, conjunct_seen};
 
-use crate::bound_cond::{BoundCond, BoundOperand, Conjunct};
+use crate::bound_cond::{BoundCond, BoundOperand, BoundTest, Conjunct};
 use crate::rows::PlaceValues;
 use crate::value_order::compare_values;
 use std::cmp::Ordering;
@@ -34,6 +34,20 @@ fn operand_value<'r, V: PlaceValues>(operand: &'r BoundOperand<'r>, rows: &'r V)
     }
 }
 
+/// Whether the test is true of the rows.
+fn test_truth<V: PlaceValues>(test: &BoundTest<'_>, rows: &V) -> bool
+    ensures { result ≡ bound_test_truth (V.values rows.now) (test_seen test.now) }
+{
+    match test {
+        BoundTest::Comparison { left, op, right } => {
+            compares(
+                *op,
+                compare_values(rows.value(*left), operand_value(right, rows)),
+            )
+        },
+    }
+}
+
 /// Whether the condition is true of the rows.
 #[cycle(truth)]
 fn truth<V: PlaceValues>(cond: &BoundCond<'_>, rows: &V) -> bool
@@ -43,18 +57,14 @@ fn truth<V: PlaceValues>(cond: &BoundCond<'_>, rows: &V) -> bool
         BoundCond::All(parts) => every_true(parts.as_slice(), rows),
         BoundCond::Any(parts) => some_true(parts.as_slice(), rows),
         BoundCond::Not(part) => !truth(part, rows),
-        BoundCond::Test { left, op, right } => {
-            compares(
-                *op,
-                compare_values(rows.value(*left), operand_value(right, rows)),
-            )
-        },
+        BoundCond::Test(test) => test_truth(test, rows),
     }
 }
 
 #[cycle(truth)]
 fn every_true<V: PlaceValues>(parts: &[BoundCond<'_>], rows: &V) -> bool
-    ensures { result ≡ every_true (V.values rows.now) (parts_seen (map condition_seen parts.now)) }
+    ensures { result ≡ all_true_by (bound_test_truth (V.values rows.now))
+        (parts_seen (map condition_seen parts.now)) }
 {
     for part in parts {
         if !truth(part, rows) {
@@ -66,7 +76,8 @@ fn every_true<V: PlaceValues>(parts: &[BoundCond<'_>], rows: &V) -> bool
 
 #[cycle(truth)]
 fn some_true<V: PlaceValues>(parts: &[BoundCond<'_>], rows: &V) -> bool
-    ensures { result ≡ some_true (V.values rows.now) (parts_seen (map condition_seen parts.now)) }
+    ensures { result ≡ any_true_by (bound_test_truth (V.values rows.now))
+        (parts_seen (map condition_seen parts.now)) }
 {
     for part in parts {
         if truth(part, rows) {

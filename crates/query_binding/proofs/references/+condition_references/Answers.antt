@@ -1,5 +1,5 @@
 use Rattle.std.proofs.Common.{map, refl}
-use Rattle.vo_spec.specs.Conditions.{condition_of, conditions, condition_refs, conditions_refs}
+use Rattle.vo_spec.specs.Conditions.{condition_of, conditions, of_tests_in, test_refs, condition_refs}
 use Rattle.vo_spec.specs.Results.{ref_fault}
 use Rattle.query_binding.specs.HeldSources.{bound_sources_seen}
 use Rattle.query_binding.proofs.Passing.{passed_part, found_part}
@@ -7,10 +7,10 @@ use Rattle.query_binding.proofs.references.+condition_references.Goals as goal
 
 pub test_parts-returns-in-Err : goal.test_parts-returns-in-Err
 test_parts-returns-in-Err t c =
-    found_part (ref_fault (bound_sources_seen c.args.bound_sources.now)) (λ cond. condition_refs (condition_of cond)) (λ parts. conditions_refs (conditions (map condition_of parts))) (λ x xs. refl)
+    found_part (ref_fault (bound_sources_seen c.args.bound_sources.now)) (λ cond. condition_refs (condition_of cond)) (λ parts. of_tests_in test_refs (conditions (map condition_of parts))) (λ x xs. refl)
     c.args.parts.now _ c.part-item.result c.loop-part-test.true c.part-item.is c.loop-part.invariant c.test_condition.result c.in-Err.fault c.in-Err.is c.test_condition.ensures
 
 pub test_parts-loop-part-preserved : goal.test_parts-loop-part-preserved
 test_parts-loop-part-preserved t c =
-    passed_part (ref_fault (bound_sources_seen c.args.bound_sources.now)) (λ cond. condition_refs (condition_of cond)) (λ parts. conditions_refs (conditions (map condition_of parts))) (λ x xs. refl)
+    passed_part (ref_fault (bound_sources_seen c.args.bound_sources.now)) (λ cond. condition_refs (condition_of cond)) (λ parts. of_tests_in test_refs (conditions (map condition_of parts))) (λ x xs. refl)
     c.args.parts.now _ c.part-item.result c.loop-part-test.true c.part-item.is c.loop-part.invariant c.test_condition.result c.in-Ok.field-0 c.in-Ok.is c.test_condition.ensures
