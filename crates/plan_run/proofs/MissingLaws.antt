@@ -62,14 +62,14 @@ either false b e = inr e
 pub stopped_missing : (p : QueryPlan) (ts : List RowTree) → length ts ≡ length (tables_used p.query.bound_sources)
     → ((on : ColumnPlace × ColumnPlace) → p.query.join ≡ Some on → (length p.query.bound_sources == 1) ≡ false) → stops p ts ≡ true → is_any_missing p ts ≡ true
 stopped_missing p ts e paired u =
-    elim (either (is_unseen (tree_at ts 0) p.left_need) (list_any (is_unseen (right_tree p.query.bound_sources ts)) (needs_of p (lefts_seen p (tree_at ts 0)))) u) [
-      | inl l ↦ left_by (bound_source_at p.query.bound_sources 0).table (bound_source_at p.query.bound_sources 1).table p.left_need (needs_of p (lefts_seen p (tree_at ts 0))) (length p.query.bound_sources == 1 || same_table p.query.bound_sources) ts e l
+    elim (either (is_unseen (tree_at ts 0) p.uncut_need) (list_any (is_unseen (right_tree p.query.bound_sources ts)) (needs_of p (lefts_seen p (tree_at ts 0)))) u) [
+      | inl l ↦ left_by (bound_source_at p.query.bound_sources 0).table (bound_source_at p.query.bound_sources 1).table p.uncut_need (needs_of p (lefts_seen p (tree_at ts 0))) (length p.query.bound_sources == 1 || same_table p.query.bound_sources) ts e l
       | inr r ↦ step p.query.join refl r
     ]
   where
     joined : (on : ColumnPlace × ColumnPlace) → p.query.join ≡ Some on → list_any (is_unseen (right_tree p.query.bound_sources ts)) (needs_of p (lefts_seen p (tree_at ts 0))) ≡ true → is_any_missing p ts ≡ true
     joined on is r =
-        right_by (bound_source_at p.query.bound_sources 0).table (bound_source_at p.query.bound_sources 1).table p.left_need (needs_of p (lefts_seen p (tree_at ts 0))) (length p.query.bound_sources == 1 || same_table p.query.bound_sources) ts e
+        right_by (bound_source_at p.query.bound_sources 0).table (bound_source_at p.query.bound_sources 1).table p.uncut_need (needs_of p (lefts_seen p (tree_at ts 0))) (length p.query.bound_sources == 1 || same_table p.query.bound_sources) ts e
         (subst (λ b. list_any (is_unseen (cond (b || same_table p.query.bound_sources) (tree_at ts 0) (tree_at ts 1))) (needs_of p (lefts_seen p (tree_at ts 0))) ≡ true) (sym (paired on is)) r)
 
     step : (o : Option (ColumnPlace × ColumnPlace)) → p.query.join ≡ o → list_any (is_unseen (right_tree p.query.bound_sources ts)) (flat_map (λ on. map (right_need_of p on) (lefts_seen p (tree_at ts 0))) (option_to_list o)) ≡ true → is_any_missing p ts ≡ true

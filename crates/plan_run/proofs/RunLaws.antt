@@ -15,7 +15,7 @@ use Rattle.vo_spec.specs.Needs.{seen_row_view, same_table, tables_used, tree_at,
 use Rattle.mb_tree.specs.declared.parts.PartTree.{PartTree}
 use Rattle.mb_tree.specs.View.{part_of}
 use Rattle.range_proof.specs.Finding.{FindsOrMissing}
-use Rattle.query_plan.specs.Plans.{QueryPlan, right_need_of, meets_left}
+use Rattle.query_plan.specs.Plans.{QueryPlan, plan_need, right_need_of, meets_left}
 use Rattle.plan_run.specs.declared.ran.Ran.{Ran}
 use Rattle.plan_run.specs.declared.left_views.Shown.{Shown}
 use Rattle.query_plan.specs.Answers.{answer_at, pair_answers, left_answers, plan_rows}
@@ -66,33 +66,33 @@ first_tree [] t lt is = absurd (omega arith)
 first_tree (x ∷ trees) t lt is = ap part_of is
 
 module _ (p : QueryPlan) (ts : List RowTree) (tree : RowTree) (tree_is : tree ≡ tree_at ts 0) where
-  pub left_fault : (fault : ScanFault) → FindsOrMissing {A = List SeenRow} (Err fault) (seen p.left_need tree) → Runs (Err fault) p ts
-  left_fault Missing h = or_left (is_unseen (tree_at ts 0) p.left_need) _ (ap (λ t. is_none (seen p.left_need t)) (sym tree_is) ∙ ap is_none h)
+  pub left_fault : (fault : ScanFault) → FindsOrMissing {A = List SeenRow} (Err fault) (seen p.uncut_need tree) → Runs (Err fault) p ts
+  left_fault Missing h = or_left (is_unseen (tree_at ts 0) p.uncut_need) _ (ap (λ t. is_none (seen p.uncut_need t)) (sym tree_is) ∙ ap is_none h)
   left_fault Memory h = tt
 
-  module _ (rows : List SeenRow) (found : seen p.left_need tree ≡ Some rows) where
+  module _ (rows : List SeenRow) (found : seen p.uncut_need tree ≡ Some rows) where
     abbrev lefts : List RowView
-    lefts = filter (meets_left p) (map (seen_row_view (schema_at p.query.bound_sources 0) p.left_need.columns) rows)
+    lefts = filter (meets_left p) (map (seen_row_view (schema_at p.query.bound_sources 0) p.uncut_need.columns) rows)
 
     lefts_are : lefts ≡ lefts_seen p (tree_at ts 0)
     lefts_are =
-        ap (λ (o : Option (List SeenRow)). filter (meets_left p) (map (seen_row_view (schema_at p.query.bound_sources 0) p.left_need.columns) (unwrap_or o []))) (sym found)
+        ap (λ (o : Option (List SeenRow)). filter (meets_left p) (map (seen_row_view (schema_at p.query.bound_sources 0) p.uncut_need.columns) (unwrap_or o []))) (sym found)
         ∙ ap (lefts_seen p) tree_is
 
-    left_seen : is_unseen (tree_at ts 0) p.left_need ≡ false
-    left_seen = ap (λ t. is_none (seen p.left_need t)) (sym tree_is) ∙ ap is_none found
+    left_seen : is_unseen (tree_at ts 0) p.uncut_need ≡ false
+    left_seen = ap (λ t. is_none (seen p.uncut_need t)) (sym tree_is) ∙ ap is_none found
 
-    pub run_done : (r : Result Ran ScanFault) (shown : Shown) → Shows (Ok shown) p lefts (right_tree p.query.bound_sources ts) → RanOf r p shown → Runs r p ts
+    pub run_done : (r : Result Ran ScanFault) (shown : Shown) → Shows (Ok shown) p lefts (right_tree p.query.bound_sources ts) → RanOf r p (plan_need p tree) shown → Runs r p ts
     run_done (Ok ran) shown s h = (
-      or_from (is_unseen (tree_at ts 0) p.left_need) (list_any (is_unseen (right_tree p.query.bound_sources ts)) (needs_of p (lefts_seen p (tree_at ts 0)))) left_seen
+      or_from (is_unseen (tree_at ts 0) p.uncut_need) (list_any (is_unseen (right_tree p.query.bound_sources ts)) (needs_of p (lefts_seen p (tree_at ts 0)))) left_seen
           (ap (λ ls. list_any (is_unseen (right_tree p.query.bound_sources ts)) (needs_of p ls)) (sym lefts_are) ∙ s.0),
       h.0 ∙ s.1 ∙ ap (λ ls. plan_rows p ls (rights_seen p (right_tree p.query.bound_sources ts))) lefts_are,
-      h.1 ∙ ap (group_needs p.query.bound_sources p.left_need) (s.2 ∙ ap (needs_of p) lefts_are),
+      h.1 ∙ ap (group_needs p.query.bound_sources p.uncut_need) (s.2 ∙ ap (needs_of p) lefts_are),
     )
     run_done (Err Missing) shown s h = absurd h
     run_done (Err Memory) shown s h = tt
 
     pub right_fault : (fault : ScanFault) → Shows (Err fault) p lefts (right_tree p.query.bound_sources ts) → Runs (Err fault) p ts
     right_fault Missing u =
-        or_right (is_unseen (tree_at ts 0) p.left_need) _ (ap (λ ls. list_any (is_unseen (right_tree p.query.bound_sources ts)) (needs_of p ls)) (sym lefts_are) ∙ u)
+        or_right (is_unseen (tree_at ts 0) p.uncut_need) _ (ap (λ ls. list_any (is_unseen (right_tree p.query.bound_sources ts)) (needs_of p ls)) (sym lefts_are) ∙ u)
     right_fault Memory u = tt

@@ -11,7 +11,7 @@ use Rattle.vo_spec.specs.Trees.{RowTree}
 use Rattle.vo_spec.specs.Scans.{seen}
 use Rattle.vo_spec.specs.Pruning.{is_missing}
 use Rattle.vo_spec.specs.Needs.{seen_row_views, tables_used, tree_at, right_tree}
-use Rattle.query_plan.specs.Plans.{QueryPlan, right_need_of, meets_left}
+use Rattle.query_plan.specs.Plans.{QueryPlan, plan_need, right_need_of, meets_left}
 use Rattle.query_plan.specs.Answers.{pair_answers, plan_rows}
 use Rattle.plan_run.specs.declared.ran.Ran.{Ran}
 use Rattle.plan_run.specs.declared.left_views.Shown.{Shown}
@@ -23,7 +23,7 @@ is_unseen tree need = is_none (seen need tree)
 -- the left rows that the left tree shows and that meet the left condition
 abbrev pub lefts_seen : QueryPlan → RowTree → List RowView
 lefts_seen p tree = filter (meets_left p)
-    (seen_row_views (schema_at p.query.bound_sources 0) p.left_need tree)
+    (seen_row_views (schema_at p.query.bound_sources 0) (plan_need p tree) tree)
 
 -- the right rows that a tree shows for a left row
 abbrev pub rights_by : QueryPlan → ColumnPlace × ColumnPlace → RowTree → RowView → List RowView
@@ -50,14 +50,14 @@ run_rows p trees = plan_rows p (lefts_seen p (tree_at trees 0))
     (rights_seen p (right_tree p.query.bound_sources trees))
 
 abbrev pub run_needs : QueryPlan → List RowTree → List (List Need)
-run_needs p trees = group_needs p.query.bound_sources p.left_need
-    (needs_of p (lefts_seen p (tree_at trees 0)))
+run_needs p trees = let left = tree_at trees 0 in
+    group_needs p.query.bound_sources (plan_need p left) (needs_of p (lefts_seen p left))
 
 abbrev pub stops : QueryPlan → List RowTree → Bool
-stops p trees =
-    is_unseen (tree_at trees 0) p.left_need
+stops p trees = let left = tree_at trees 0 in
+    is_unseen left (plan_need p left)
     || list_any (is_unseen (right_tree p.query.bound_sources trees))
-    (needs_of p (lefts_seen p (tree_at trees 0)))
+    (needs_of p (lefts_seen p left))
 
 -- Where no scan stops, the rows that the trees show and the needs of each; Missing where one does.
 -- A want of memory may come in any case.
@@ -99,20 +99,21 @@ AddsPairs (Ok done) old new p on left tree =
 AddsPairs (Err Missing) old new p on left tree = is_unseen tree (right_need_of p on left) ≡ true
 AddsPairs (Err Memory) old new p on left tree = Unit {0}
 
-abbrev pub RanOf : Result Ran ScanFault → QueryPlan → Shown → Type 0
-RanOf (Ok ran) p shown = (ran.rows ≡ shown.rows.items)
-    × (ran.needs ≡ group_needs p.query.bound_sources p.left_need shown.needs.items)
-RanOf (Err Missing) p shown = ⊥
-RanOf (Err Memory) p shown = Unit {0}
+-- what was shown, with this need of the left tree
+abbrev pub RanOf : Result Ran ScanFault → QueryPlan → Need → Shown → Type 0
+RanOf (Ok ran) p left shown = (ran.rows ≡ shown.rows.items)
+    × (ran.needs ≡ group_needs p.query.bound_sources left shown.needs.items)
+RanOf (Err Missing) p left shown = ⊥
+RanOf (Err Memory) p left shown = Unit {0}
 
 -- The needs of the right tree by the rows that the left one shows, or Missing where the scan of it
 -- stops. A query without a join scans nothing.
 abbrev pub FindsNeeds : Result (Vec Need) ScanFault → QueryPlan → RowTree → Type 0
 FindsNeeds (Ok found) p left =
-    (IsTrue (is_some p.query.join) → is_unseen left p.left_need ≡ false)
+    (IsTrue (is_some p.query.join) → is_unseen left (plan_need p left) ≡ false)
     × (found.items ≡ needs_of p (lefts_seen p left))
 FindsNeeds (Err Missing) p left = IsTrue (is_some p.query.join)
-    × (is_unseen left p.left_need ≡ true)
+    × (is_unseen left (plan_need p left) ≡ true)
 FindsNeeds (Err Memory) p left = Unit {0}
 
 -- some tree lacks something that the plan needs of it

@@ -1,6 +1,7 @@
 //! What the trees of a reply show for a query, and what the query needs of each of them.
 #![tactic(auto)]
 
+mod left_tree;
 mod left_views;
 mod needing;
 mod pairs;
@@ -10,6 +11,7 @@ mod running;
 mod seeing;
 mod showing;
 
+pub use left_tree::left_need;
 pub use needing::right_needs;
 pub use ran::Ran;
 pub use row_views::SeenRowView;

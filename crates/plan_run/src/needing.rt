@@ -1,16 +1,16 @@
 //! What a query needs of the right tree, by the left one alone.
 ghost use Rattle.std.specs.Prelude.{◌≡◌, map, filter, IfOk};
 ghost use Rattle.vo_spec.specs.Needs.{seen_row_view};
-ghost use Rattle.mb_tree.specs.View.{part_of};
 ghost use Rattle.query_plan.specs.BoundViews.{join_seen};
 ghost use Rattle.query_plan.specs.Plans.{right_need_of, meets_left};
 ghost use Rattle.query_plan.specs.PlanViews.{plan_seen};
 ghost use Rattle.plan_run.specs.RowViews.{row_view_seen};
 ghost use Rattle.plan_run.specs.Running.{FindsNeeds};
 
+use crate::left_tree::left_need;
 use crate::row_views::SeenRowView;
 use crate::seeing::lefts_of;
-use mb_tree::PartTree;
+use mb_tree::RowNode;
 use query_plan::{BoundJoin, Plan, right_need};
 use range_proof::scan;
 use std::alloc::{AllocError, Global};
@@ -44,24 +44,25 @@ fn needs_of_seen(
         ≡ map (right_need_of (plan_seen plan.now) (join_seen join))
         (filter (meets_left (plan_seen plan.now))
         (map (seen_row_view plan.now.query.now.bound_sources.left.schema.now
-        plan.now.left_need.columns)
+        plan.now.uncut_need.columns)
         seen.now))) }
 {
     let lefts = lefts_of(alloc, plan, seen)?;
     needs_of_lefts(alloc, plan, join, &lefts)
 }
 
-/// What the query needs of the right tree by the left rows that the left tree shows for its need.
-pub fn right_needs(
+/// What the query needs of the right tree by the left rows that the left tree, whole or in part,
+/// shows for its need.
+pub fn right_needs<N: RowNode>(
     alloc: Global,
     plan: &Plan<'_, '_>,
-    left: &PartTree<'_>,
+    left: &N,
 ) -> Result<Vec<Need>, ScanFault>
-    ensures { FindsNeeds result (plan_seen plan.now) (part_of left.now) }
+    ensures { FindsNeeds result (plan_seen plan.now) (N.tree left.now) }
 {
     let Some(join) = plan.query.join else {
         return Ok(Vec::new(alloc));
     };
-    let seen = scan(alloc, left, &plan.left_need)?;
+    let seen = scan(alloc, left, left_need(plan, left))?;
     Ok(needs_of_seen(alloc, plan, join, seen.as_slice())?)
 }

@@ -41,12 +41,17 @@ fn group_needs(
     Ok(List::from_vec(groups))
 }
 
-/// What was shown, with the needs of each tree.
-pub(crate) fn ran_of(alloc: Global, plan: &Plan<'_, '_>, shown: Shown) -> Result<Ran, ScanFault>
-    ensures { RanOf result (plan_seen plan.now) shown }
+/// What was shown, with the needs of each tree, of which this is the left one's own.
+pub(crate) fn ran_of(
+    alloc: Global,
+    plan: &Plan<'_, '_>,
+    left: &Need,
+    shown: Shown,
+) -> Result<Ran, ScanFault>
+    ensures { RanOf result (plan_seen plan.now) left.now shown }
 {
     let Shown { rows, needs } = shown;
-    let left = copy_need(alloc, &plan.left_need)?;
+    let left = copy_need(alloc, left)?;
     Ok(Ran {
         rows: List::from_vec(rows),
         needs: group_needs(alloc, &plan.query.bound_sources, left, needs)?,

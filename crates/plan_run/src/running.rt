@@ -9,6 +9,7 @@ ghost use Rattle.query_plan.specs.Plans.{meets_left};
 ghost use Rattle.query_plan.specs.PlanViews.{plan_seen};
 ghost use Rattle.plan_run.specs.Running.{Shows, Runs, run_rows};
 
+use crate::left_tree::left_need;
 use crate::left_views::Shown;
 use crate::ran::{Ran, ran_of};
 use crate::seeing::lefts_of;
@@ -31,7 +32,7 @@ fn show_seen(
     ensures { Shows result (plan_seen plan.now)
         (filter (meets_left (plan_seen plan.now))
         (map (seen_row_view plan.now.query.now.bound_sources.left.schema.now
-        plan.now.left_need.columns)
+        plan.now.uncut_need.columns)
         seen.now))
         (right_tree (bound_sources_seen plan.now.query.now.bound_sources) (map part_of trees.now)) }
 {
@@ -50,17 +51,18 @@ pub fn run_plan(
         (tables_used (bound_sources_seen plan.now.query.now.bound_sources)) }
     ensures { Runs result (plan_seen plan.now) (map part_of trees.now) }
 {
-    let seen = match scan(alloc, &trees[0], &plan.left_need) {
+    let left = left_need(plan, &trees[0]);
+    let seen = match scan(alloc, &trees[0], left) {
         Ok(seen) => seen,
         Err(fault) => return Err(fault),
     };
     match show_seen(alloc, plan, trees, seen.as_slice()) {
-        Ok(shown) => ran_of(alloc, plan, shown),
+        Ok(shown) => ran_of(alloc, plan, left, shown),
         Err(fault) => Err(fault),
     }
 }
 
-/// The rows that a plan without a join shows, by the rows that were seen for its left need, whoever
+/// The rows that a plan without a join shows, by the rows that were seen for its uncut need, whoever
 /// saw them.
 pub fn run_alone(
     alloc: Global,
@@ -68,7 +70,7 @@ pub fn run_alone(
     rows: &[SeenRow],
 ) -> Result<List<List<Value>>, AllocError>
     requires { plan.now.query.now.join ≡ None }
-    ensures { (tree : RowTree) → seen plan.now.left_need tree ≡ Some rows.now
+    ensures { (tree : RowTree) → seen plan.now.uncut_need tree ≡ Some rows.now
         → IfOk result (λ shown. shown ≡ run_rows (plan_seen plan.now) (tree ∷ [])) }
 {
     let lefts = lefts_of(alloc, plan, rows)?;

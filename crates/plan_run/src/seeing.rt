@@ -19,12 +19,12 @@ pub fn lefts_of<'r>(
     ensures { IfOk result (λ lefts. map row_view_seen lefts.items
         ≡ filter (meets_left (plan_seen plan.now))
         (map (seen_row_view plan.now.query.now.bound_sources.left.schema.now
-        plan.now.left_need.columns)
+        plan.now.uncut_need.columns)
         seen.now)) }
 {
     let query = plan.query;
     let schema = query.bound_sources.left.schema;
-    let cells = plan.left_need.columns.as_slice();
+    let cells = plan.uncut_need.columns.as_slice();
     let mut lefts = Vec::new(alloc);
     for row in seen {
         let left = SeenRowView { schema, cells, row };

@@ -17,7 +17,7 @@ use Rattle.vo_spec.specs.Records.{table_headers}
 use Rattle.vo_spec.specs.Trees.{RowTree}
 use Rattle.vo_spec.specs.Scans.{seen}
 use Rattle.vo_spec.specs.Pruning.{IsCanonical, is_missing, has_surplus}
-use Rattle.vo_spec.specs.Needs.{tables_used, tree_at, needs, left_need, right_needs, seen_row_view}
+use Rattle.vo_spec.specs.Needs.{tables_used, tree_at, needs, uncut_need, right_needs, seen_row_view}
 use Rattle.vo_spec.specs.Replies.{Reply, FitsReply}
 use Rattle.vo_spec.specs.Checks.{tables_wanted, root_fault, needs_with_trees}
 use Rattle.mb_tree.specs.declared.parts.PartTree.{PartTree}
@@ -71,7 +71,7 @@ module _ (q : Query) (r : Reply) where
   needs_canonical : binding_fault (table_headers r.catalog) q ≡ None → HasPassed q r → AllZip IsCanonical (needs ss q r.trees) r.trees
   needs_canonical e passed =
       let given = needed_by false (ap is_some e) in
-      are_canonical (needs ss q r.trees) r.trees (groups_count _ _ _ (left_need ss q) (right_needs ss q r.trees) ∙ sym (bound_count e passed))
+      are_canonical (needs ss q r.trees) r.trees (groups_count _ _ _ (uncut_need ss q) (right_needs ss q r.trees) ∙ sym (bound_count e passed))
       (subst (λ (ts : List (List Need × RowTree)). missing_of ts ≡ None) given passed.complete)
       (subst (λ (ts : List (List Need × RowTree)). surplus_of ts ≡ None) given passed.minimal)
 
@@ -142,20 +142,20 @@ left_ends : (b : Bool) (left : Need) (rights : List Need) (p : RowTree) (ps : Li
 left_ends true left rights p ps z = walk_complete [] left rights p z.0.complete
 left_ends false left rights p ps z = walk_complete [] left [] p z.0.complete
 
-needs_by_left : (plan : QueryPlan) (ps qs : List RowTree) → seen plan.left_need (tree_at ps 0) ≡ seen plan.left_need (tree_at qs 0) → run_needs plan ps ≡ run_needs plan qs
+needs_by_left : (plan : QueryPlan) (ps qs : List RowTree) → seen plan.uncut_need (tree_at ps 0) ≡ seen plan.uncut_need (tree_at qs 0) → run_needs plan ps ≡ run_needs plan qs
 needs_by_left plan ps qs e =
-    ap (λ (rows : Option (List SeenRow)). group_needs plan.query.bound_sources plan.left_need (needs_of plan
-    (filter (meets_left plan) (map (seen_row_view (schema_at plan.query.bound_sources 0) plan.left_need.columns) (unwrap_or rows []))))) e
+    ap (λ (rows : Option (List SeenRow)). group_needs plan.query.bound_sources plan.uncut_need (needs_of plan
+    (filter (meets_left plan) (map (seen_row_view (schema_at plan.query.bound_sources 0) plan.uncut_need.columns) (unwrap_or rows []))))) e
 
-one_needs : (plan : QueryPlan) (p q : RowTree) (ps qs : List RowTree) → AreComparable plan (p ∷ ps) (q ∷ qs) → AreOneWalk (walk plan.left_need p) (walk plan.left_need q) → run_needs plan (p ∷ ps) ≡ run_needs plan (q ∷ qs)
+one_needs : (plan : QueryPlan) (p q : RowTree) (ps qs : List RowTree) → AreComparable plan (p ∷ ps) (q ∷ qs) → AreOneWalk (walk plan.uncut_need p) (walk plan.uncut_need q) → run_needs plan (p ∷ ps) ≡ run_needs plan (q ∷ qs)
 one_needs plan p q ps qs both one =
-    needs_by_left plan (p ∷ ps) (q ∷ qs) (walks_seen plan.left_need p q one (left_ends _ plan.left_need _ p ps both.canonical) (left_ends _ plan.left_need _ q qs both.second_canonical))
+    needs_by_left plan (p ∷ ps) (q ∷ qs) (walks_seen plan.uncut_need p q one (left_ends _ plan.uncut_need _ p ps both.canonical) (left_ends _ plan.uncut_need _ q qs both.second_canonical))
 
 pub same_needs : (plan : QueryPlan) (ps qs : List PartTree) (p q : PartTree) → 0 < length ps → p ≡ get_or ps 0 p → 0 < length qs → q ≡ get_or qs 0 q → AreComparable plan (map part_of ps) (map part_of qs)
-    → AreOneWalk (walk plan.left_need (part_of p)) (walk plan.left_need (part_of q)) → run_needs plan (map part_of ps) ≡ run_needs plan (map part_of qs)
+    → AreOneWalk (walk plan.uncut_need (part_of p)) (walk plan.uncut_need (part_of q)) → run_needs plan (map part_of ps) ≡ run_needs plan (map part_of qs)
 same_needs plan [] qs p q m p_is n q_is both one = absurd (omega arith)
 same_needs plan (x ∷ ps) [] p q m p_is n q_is both one = absurd (omega arith)
 same_needs plan (x ∷ ps) (y ∷ qs) p q m p_is n q_is both one =
     one_needs plan (part_of x) (part_of y) (map part_of ps) (map part_of qs) both
-    (subst (λ (b : PartTree). AreOneWalk (walk plan.left_need (part_of x)) (walk plan.left_need (part_of b))) q_is
-    (subst (λ (a : PartTree). AreOneWalk (walk plan.left_need (part_of a)) (walk plan.left_need (part_of q))) p_is one))
+    (subst (λ (b : PartTree). AreOneWalk (walk plan.uncut_need (part_of x)) (walk plan.uncut_need (part_of b))) q_is
+    (subst (λ (a : PartTree). AreOneWalk (walk plan.uncut_need (part_of a)) (walk plan.uncut_need (part_of q))) p_is one))

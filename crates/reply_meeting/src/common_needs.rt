@@ -37,7 +37,7 @@ pub(crate) fn compare_needed(
         HoldsUnlessFound found (map part_of first.now ≡ map part_of second.now)) }
 {
     let plan = plan(alloc, query)?;
-    match agree_walk(alloc, &first[0], &second[0], &plan.left_need)? {
+    match agree_walk(alloc, &first[0], &second[0], &plan.uncut_need)? {
         Twins::Same => compare_planned(alloc, &plan, first, second),
         Twins::Collides(found) => Ok(Some(found)),
     }

@@ -24,7 +24,7 @@ use Rattle.vo_spec.specs.declared.records.CatalogTable.{CatalogTable}
 use Rattle.vo_spec.specs.Checks.{has_shape, root_fault, seen_outcome, table_named}
 use Rattle.vo_spec.specs.Firsts.{first_some}
 use Rattle.vo_spec.specs.Fits.{FitsTree}
-use Rattle.vo_spec.specs.Needs.{left_need, tables_used, tree_at}
+use Rattle.vo_spec.specs.Needs.{uncut_need, tables_used, tree_at}
 use Rattle.vo_spec.specs.Pruning.{is_missing, has_surplus}
 use Rattle.vo_spec.specs.Replies.{Reply, FitsReply}
 use Rattle.vo_spec.specs.Results.{BoundSource, ColumnPlace, RowView, binding_fault, bound_sources, header, no_schema, schema_at}
@@ -35,9 +35,9 @@ use Rattle.query_binding.specs.declared.bound_sources.BoundSource.{BoundSource a
 use Rattle.query_plan.specs.declared.bound_query.BoundJoin.{BoundJoin}
 use Rattle.query_plan.specs.declared.bound_query.Query.{Query as HeldQuery}
 use Rattle.query_plan.specs.BoundQueries.{BoundQuery, bound_query}
-use Rattle.query_plan.proofs.MeaningLaws.{left_need_same}
+use Rattle.query_plan.proofs.MeaningLaws.{uncut_need_same}
 use Rattle.query_plan.specs.BoundViews.{join_seen, query_seen}
-use Rattle.query_plan.specs.Plans.{QueryPlan, bound_left_need, plan_of, right_need_of}
+use Rattle.query_plan.specs.Plans.{QueryPlan, bound_uncut_need, plan_of, right_need_of}
 use Rattle.plan_run.specs.Running.{group_needs, lefts_seen, needs_of, run_needs, run_rows}
 use Rattle.tree_stream.specs.declared.findings.Summary.{Summary}
 use Rattle.tree_stream.specs.declared.findings.Findings.{Findings}
@@ -121,10 +121,10 @@ needs_tested need tree f missing surplus =
 no_right_needs : (p : QueryPlan) (lefts : List RowView) → p.query.join ≡ None → needs_of p lefts ≡ []
 no_right_needs p lefts none = ap (λ (j : Option (ColumnPlace × ColumnPlace)). flat_map (λ on. map (right_need_of p on) lefts) (option_to_list j)) none
 
-needs_alone : (p : QueryPlan) (s : BoundSource) (trees : List RowTree) → p.query.bound_sources ≡ s ∷ [] → p.query.join ≡ None → run_needs p trees ≡ (p.left_need ∷ []) ∷ []
+needs_alone : (p : QueryPlan) (s : BoundSource) (trees : List RowTree) → p.query.bound_sources ≡ s ∷ [] → p.query.join ≡ None → run_needs p trees ≡ (p.uncut_need ∷ []) ∷ []
 needs_alone p s trees one none =
-    ap (λ (ss : List BoundSource). group_needs ss p.left_need (needs_of p (lefts_seen p (tree_at trees 0)))) one
-    ∙ ap (λ (ns : List Need). (p.left_need ∷ ns) ∷ []) (no_right_needs p (lefts_seen p (tree_at trees 0)) none)
+    ap (λ (ss : List BoundSource). group_needs ss p.uncut_need (needs_of p (lefts_seen p (tree_at trees 0)))) one
+    ∙ ap (λ (ns : List Need). (p.uncut_need ∷ ns) ∷ []) (no_right_needs p (lefts_seen p (tree_at trees 0)) none)
 
 module _ (h : HeldQuery) (none : h.join ≡ None) where
   abbrev b : BoundQuery
@@ -163,7 +163,7 @@ module _ (h : HeldQuery) (none : h.join ≡ None) where
       shape : (t : CatalogTable) → table_of b r.catalog ≡ Some t → has_shape t.schema tree ≡ s.findings.has_shape
       shape t e =
           ap (λ sc. has_shape sc tree) (schema t e)
-          ∙ shape_is (bound_left_need b) (schema_at b.bound_sources 0) tree sum.0.nodes
+          ∙ shape_is (bound_uncut_need b) (schema_at b.bound_sources 0) tree sum.0.nodes
           ∙ of_findings (λ f. f.has_shape)
 
       against_table : trees_fault (tables_used b.bound_sources) r ≡ table_fault (table_of b r.catalog) s
@@ -177,8 +177,8 @@ module _ (h : HeldQuery) (none : h.join ≡ None) where
       by_needs : needs_fault (needed_for (plan_of b) r) ≡ findings_fault s.findings
       by_needs =
           ap (λ (ns : List (List Need)). needs_fault (zip ns r.trees)) (needs_alone (plan_of b) source r.trees (one_source h none) unjoined)
-          ∙ ap (λ (ts : List RowTree). needs_fault (zip (((plan_of b).left_need ∷ []) ∷ []) ts)) one
-          ∙ needs_tested (bound_left_need b) tree s.findings
+          ∙ ap (λ (ts : List RowTree). needs_fault (zip (((plan_of b).uncut_need ∷ []) ∷ []) ts)) one
+          ∙ needs_tested (bound_uncut_need b) tree s.findings
           (missing_is target tree sum.0.nodes ∙ of_findings (λ f. f.is_missing))
           (surplus_is target tree sum.0.nodes ∙ of_findings (λ f. f.has_surplus))
 
@@ -200,7 +200,7 @@ second None next e = e
 second (Some f) next e = absurd cc
 
 pub passed_rows : (b : BoundQuery) (table : Option CatalogTable) (tree : RowTree) (s : Summary) → IsSummedUp (bound_target b) tree s → summary_fault table s ≡ None
-    → seen (bound_left_need b) tree ≡ Some s.findings.rows
+    → seen (bound_uncut_need b) tree ≡ Some s.findings.rows
 passed_rows b table tree s (fits, same) e =
     let none = none_found s.findings.is_missing s.findings.has_surplus (second (table_fault table s) (findings_fault s.findings) e) in
     let findings : s.findings ≡ findings_in (bound_target b) tree = ap (λ (t : Summary). t.findings) same in
@@ -210,11 +210,11 @@ passed_rows b table tree s (fits, same) e =
 -- what a plan shows of them is the outcome
 pub shown_by : (b : BoundQuery) (p : QueryPlan) → p ≡ plan_of b → (table : Option CatalogTable) (tree : RowTree) (s : Summary) → IsSummedUp (bound_target b) tree s → summary_fault table s ≡ None
     → (rows : List SeenRow) → rows ≡ s.findings.rows → (result : Result Outcome CheckFault)
-    → (seen p.left_need tree ≡ Some rows → GivesIfPassed result None (Rows (header p.query.bound_sources p.query.items) (run_rows p (tree ∷ []))))
+    → (seen p.uncut_need tree ≡ Some rows → GivesIfPassed result None (Rows (header p.query.bound_sources p.query.items) (run_rows p (tree ∷ []))))
     → GivesIfPassed result (summary_fault table s) (Rows (header b.bound_sources b.items) (run_rows (plan_of b) (tree ∷ [])))
 shown_by b p is table tree s sum none rows same result given =
-    let found : seen p.left_need tree ≡ Some rows =
-    ap (λ (x : QueryPlan). seen x.left_need tree) is ∙ passed_rows b table tree s sum none ∙ ap (λ (x : List SeenRow). Some x) (sym same) in
+    let found : seen p.uncut_need tree ≡ Some rows =
+    ap (λ (x : QueryPlan). seen x.uncut_need tree) is ∙ passed_rows b table tree s sum none ∙ ap (λ (x : List SeenRow). Some x) (sym same) in
     subst (λ (o : Option CheckFault). GivesIfPassed result o (Rows (header b.bound_sources b.items) (run_rows (plan_of b) (tree ∷ [])))) (sym none)
     (subst (λ (x : QueryPlan). GivesIfPassed result None (Rows (header x.query.bound_sources x.query.items) (run_rows x (tree ∷ [])))) is (given found))
 
@@ -297,8 +297,8 @@ module _ (c : Catalog) (q : Query) where
       pub same_target : bound_target b ≡ target_for q c
       same_target =
           ap bound_target is
-          ∙ ap (λ (n : Need). target_of n (schema_at ss 0)) (left_need_same ss q)
-          ∙ sym (ap (λ (f : Option QueryFault). if is_some f then no_target else target_of (left_need ss q) (schema_at ss 0)) none)
+          ∙ ap (λ (n : Need). target_of n (schema_at ss 0)) (uncut_need_same ss q)
+          ∙ sym (ap (λ (f : Option QueryFault). if is_some f then no_target else target_of (uncut_need ss q) (schema_at ss 0)) none)
 
       pub judged_bound : (trees : TreesSummary) (r : Reply) (result : Result Outcome CheckFault)
           → (HasFound (bound_target b) c trees r → GivesIfPassed result (bound_fault b r) (shown_for (plan_of b) r)) → HasFound (target_for q c) c trees r

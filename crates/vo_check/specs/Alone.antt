@@ -7,14 +7,14 @@ use Rattle.vo_spec.specs.declared.records.Catalog.{Catalog}
 use Rattle.vo_spec.specs.declared.records.CatalogTable.{CatalogTable}
 use Rattle.vo_spec.specs.Conditions.{Query}
 use Rattle.vo_spec.specs.Fits.{FitsTree}
-use Rattle.vo_spec.specs.Needs.{left_need}
+use Rattle.vo_spec.specs.Needs.{uncut_need}
 use Rattle.vo_spec.specs.Records.{table_headers}
 use Rattle.vo_spec.specs.Replies.{Reply, FitsReply}
 use Rattle.vo_spec.specs.Results.{binding_fault, bound_source_at, bound_sources, schema_at}
 use Rattle.vo_spec.specs.Trees.{RowTree, digest}
 use Rattle.vo_spec.specs.Checks.{table_named}
 use Rattle.query_plan.specs.BoundQueries.{BoundQuery}
-use Rattle.query_plan.specs.Plans.{bound_left_need}
+use Rattle.query_plan.specs.Plans.{bound_uncut_need}
 use Rattle.tree_stream.specs.declared.findings.Findings.{Findings}
 use Rattle.tree_stream.specs.declared.findings.Summary.{Summary}
 use Rattle.tree_stream.specs.declared.target.Target.{Target}
@@ -29,13 +29,13 @@ use Rattle.reply_tests.specs.Testing.{digest_fault}
 -- wrong.
 
 abbrev pub bound_target : BoundQuery → Target
-bound_target b = target_of (bound_left_need b) (schema_at b.bound_sources 0)
+bound_target b = target_of (bound_uncut_need b) (schema_at b.bound_sources 0)
 
 abbrev pub target_for : Query → Catalog → Target
 target_for q c =
     let ss = bound_sources (table_headers c) q in
     if is_some (binding_fault (table_headers c) q) then no_target
-    else target_of (left_need ss q) (schema_at ss 0)
+    else target_of (uncut_need ss q) (schema_at ss 0)
 
 abbrev pub plan_for : Query → ReplyHead → Target
 plan_for q head = target_for q head.catalog

@@ -1,5 +1,5 @@
 -- The check of a reply whose bytes come in pieces: how far it is, and what it stands for.
-use Rattle.std.specs.Prelude.{◌≡◌, ℕ, ◌<◌, Bool, true, false, List, [], ◌++◌, length, Some, None, is_some, IsTrue}
+use Rattle.std.specs.Prelude.{◌≡◌, ℕ, ◌<◌, Bool, true, false, List, [], ◌++◌, length, Some}
 use Rattle.row_bytes.specs.Fields.{whole}
 use Rattle.vo_spec.specs.declared.queries.QueryText.{QueryText}
 use Rattle.vo_spec.specs.Conditions.{Query}
@@ -12,6 +12,7 @@ use Rattle.reply_stream.specs.ReplyTrees.{trees_at}
 use Rattle.reply_stream.specs.TreesStreams.{trees_of, WantsMemory}
 use Rattle.vo_check.specs.declared.progress.Progress.{Progress}
 use Rattle.vo_check.specs.declared.progress.Progress.TheVariants.{Head, Trees, Kept, TooLong, OutOfMemory}
+use Rattle.vo_check.specs.Streaming.{IsStreamed, IsKept}
 use Rattle.vo_check.specs.Alone.{plan_for}
 
 -- a query, the bytes of its reply that came, and whether one of the pieces found no memory
@@ -55,17 +56,17 @@ pub record ReadsTrees (q : Query) (head : ReplyHead) (trees : TreesStream) (byte
 
 -- the check of a reply to this query is so far behind these bytes
 abbrev pub StandsBehind : Query → Progress → List ℕ → Type 0
-StandsBehind q (Head stream) bytes = (q.join ≡ None) × (head_of stream [] ≡ None)
+StandsBehind q (Head stream) bytes = IsStreamed q × (head_of stream [] ≡ None)
     × ((more : List ℕ) → head_of stream more ≡ head_at (bytes ++ more))
 StandsBehind q (Trees reply) bytes =
-    (q.join ≡ None) × ReadsTrees q reply.head reply.trees bytes
-StandsBehind q (Kept held) bytes = IsTrue (is_some q.join) × (held.items ≡ bytes)
+    IsStreamed q × ReadsTrees q reply.head reply.trees bytes
+StandsBehind q (Kept held) bytes = IsKept q × (held.items ≡ bytes)
 StandsBehind q TooLong bytes = max_reply < length bytes
 StandsBehind q OutOfMemory bytes = Unit {0}
 
--- only of a reply to a query without a join are the trees read as they come
+-- the trees are read as they come only where the query is streamed
 abbrev pub SuitsQuery : Query → Progress → Type 0
-SuitsQuery q (Trees reply) = q.join ≡ None
+SuitsQuery q (Trees reply) = IsStreamed q
 SuitsQuery q _ = Unit {0}
 
 -- What a call may want memory for that begins behind the catalog's last byte.

@@ -71,7 +71,7 @@ fn test_summary(
 /// The answer of a plan by the rows that were seen for its need.
 fn show_rows(alloc: Global, plan: &Plan<'_, '_>, rows: &[SeenRow]) -> Result<Outcome, CheckFault>
     requires { plan.now.query.now.join ≡ None }
-    ensures { (tree : RowTree) → seen plan.now.left_need tree ≡ Some rows.now
+    ensures { (tree : RowTree) → seen plan.now.uncut_need tree ≡ Some rows.now
         → (let p = plan_seen plan.now in GivesIfPassed result None
         (Rows (header_of p.query.bound_sources p.query.items) (run_rows p (tree ∷ [])))) }
 {

@@ -5,6 +5,7 @@ ghost use Rattle.vo_spec.specs.Checks.{CheckOf};
 ghost use Rattle.vo_spec.specs.Conditions.{query_of};
 ghost use Rattle.vo_spec.specs.Replies.{IsNoReply};
 ghost use Rattle.reply_tests.specs.Accepting.{IsSignedReply};
+ghost use Rattle.vo_check.specs.Streaming.{IsStreamed};
 ghost use Rattle.vo_check.specs.Checkings.{HasHead, WantsRow, with_piece, without_memory};
 
 use crate::client::Client;
@@ -60,12 +61,12 @@ impl Checking<'_> {
 
         // Behind the catalog's last byte memory runs out only while the bytes so far can still
         // become a reply,
-        ensures dead { self.old.query.join ≡ None → HasHead self.old.bytes
+        ensures dead { IsStreamed (query_of self.old.query) → HasHead self.old.bytes
             → ((more : List ℕ) → IsBytes more → IsNoReply (self.old.bytes ++ more))
             → IsOk result }
 
         // and only at a byte of a row that the query needs.
-        ensures memory { self.old.query.join ≡ None → HasHead self.old.bytes → IsErr result
+        ensures memory { IsStreamed (query_of self.old.query) → HasHead self.old.bytes → IsErr result
             → WantsRow (query_of self.old.query) self.old.bytes piece.now }
     {
         self.count.add(piece);

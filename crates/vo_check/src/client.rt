@@ -7,6 +7,7 @@ ghost use Rattle.vo_check.specs.Checkings.{no_bytes_of};
 
 use crate::checking::Checking;
 use crate::feeding::first_progress;
+use crate::streaming::is_streamed;
 use lms_sign::PublicKey;
 use reply_stream::ReplyLength;
 use reply_tests::judge_bytes;
@@ -72,8 +73,8 @@ impl Client {
         ensures key { self.new.key ≡ self.old.key }
         ensures kept { OnErr result (self.new ≡ self.old) }
     {
-        // The pieces of a join's reply would be kept, and these are at hand.
-        if query.join.is_some() {
+        // The pieces would be kept, and these are at hand.
+        if !is_streamed(query) {
             return self.check_whole(alloc, query, reply);
         }
         let mut checking = self.begin(alloc, query);

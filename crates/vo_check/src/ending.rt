@@ -5,6 +5,7 @@ ghost use Rattle.vo_spec.specs.Checks.{CheckOf};
 ghost use Rattle.vo_spec.specs.Conditions.{query_of};
 ghost use Rattle.vo_spec.specs.Replies.{max_reply};
 ghost use Rattle.reply_stream.specs.Lengths.{count_up_to_most};
+ghost use Rattle.vo_check.specs.Streaming.{IsStreamed};
 ghost use Rattle.vo_check.specs.Checkings.{StandsBehind, SuitsQuery, is_out_of_memory};
 
 use crate::alone::judge_alone;
@@ -81,7 +82,7 @@ fn end_reply(
     query: &QueryText,
     reply: OpenReply,
 ) -> Result<Answer, CheckFault>
-    requires { query.now.join ≡ None }
+    requires { IsStreamed (query_of query.now) }
     ensures { (bytes : List ℕ) → IsBytes bytes → length bytes ≤ max_reply
         → StandsBehind (query_of query.now) (Progress.Trees reply) bytes
         → (result ≡ Err CheckFault.Memory)

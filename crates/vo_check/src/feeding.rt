@@ -4,9 +4,11 @@ ghost use Rattle.vo_spec.specs.Conditions.{Query, query_of};
 ghost use Rattle.vo_spec.specs.Bytes.{IsBytes};
 ghost use Rattle.vo_spec.specs.Replies.{IsNoReply, max_reply};
 ghost use Rattle.reply_stream.specs.Heads.{head_at};
+ghost use Rattle.vo_check.specs.Streaming.{IsStreamed};
 ghost use Rattle.vo_check.specs.Checkings.{HasHead, StandsBehind, WantsRow, is_of_head, is_out_of_memory};
 
 use crate::progress::{OpenReply, Progress, put};
+use crate::streaming::is_streamed;
 use crate::targets::target_for;
 use reply_stream::{Head, HeadStream, TreesStream};
 use std::alloc::{AllocError, Global};
@@ -18,9 +20,10 @@ pub(crate) fn first_progress(alloc: Global, query: &QueryText) -> Progress
     ensures stands { StandsBehind (query_of query.now) result [] }
     ensures out { is_out_of_memory result ≡ false }
 {
-    match query.join {
-        Some(_) => Progress::Kept(Vec::new(alloc)),
-        None => Progress::Head(HeadStream::new(alloc)),
+    if is_streamed(query) {
+        Progress::Head(HeadStream::new(alloc))
+    } else {
+        Progress::Kept(Vec::new(alloc))
     }
 }
 
@@ -48,11 +51,11 @@ pub(crate) fn feed_progress(
     ensures out { OnOk result (is_out_of_memory progress.new ≡ is_out_of_memory progress.old) }
     ensures err { OnErr result (progress.new ≡ Progress.OutOfMemory) }
     ensures dead { (bytes : List ℕ) → IsBytes bytes
-        → StandsBehind (query_of query.now) progress.old bytes → query.now.join ≡ None
+        → StandsBehind (query_of query.now) progress.old bytes → IsStreamed (query_of query.now)
         → HasHead bytes → ((more : List ℕ) → IsBytes more → IsNoReply (bytes ++ more))
         → IsOk result }
     ensures memory { (bytes : List ℕ) → StandsBehind (query_of query.now) progress.old bytes
-        → query.now.join ≡ None → HasHead bytes → IsErr result
+        → IsStreamed (query_of query.now) → HasHead bytes → IsErr result
         → WantsRow (query_of query.now) bytes piece.now }
 {
     match feed_in_place(progress, alloc, piece) {
@@ -74,10 +77,10 @@ fn feed_in_place(progress: &mut Progress, alloc: Global, piece: &[u8]) -> Result
         → is_out_of_memory progress.new ≡ is_out_of_memory progress.old }
     ensures head { result ≡ Ok false
         → (progress.new ≡ progress.old) × (is_of_head progress.old ≡ true) }
-    ensures dead { (q : Query) (bytes : List ℕ) → IsBytes bytes → q.join ≡ None
+    ensures dead { (q : Query) (bytes : List ℕ) → IsBytes bytes → IsStreamed q
         → StandsBehind q progress.old bytes
         → ((more : List ℕ) → IsBytes more → IsNoReply (bytes ++ more)) → IsOk result }
-    ensures memory { (q : Query) (bytes : List ℕ) → q.join ≡ None
+    ensures memory { (q : Query) (bytes : List ℕ) → IsStreamed q
         → StandsBehind q progress.old bytes → IsErr result → WantsRow q bytes piece.now }
 {
     match progress {
@@ -149,7 +152,7 @@ fn begin_trees(
     head: Head,
     left: &[u8],
 ) -> Result<Progress, AllocError>
-    ensures stands { IfOk result (λ next. (bytes : List ℕ) → query.now.join ≡ None
+    ensures stands { IfOk result (λ next. (bytes : List ℕ) → IsStreamed (query_of query.now)
         → ((more : List ℕ) → head_at (bytes ++ more) ≡ Some (head, left.now ++ more))
         → StandsBehind (query_of query.now) next bytes) }
     ensures out { IfOk result (λ next. is_out_of_memory next ≡ false) }

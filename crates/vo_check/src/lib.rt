@@ -7,6 +7,7 @@ mod client;
 mod ending;
 mod feeding;
 mod progress;
+mod streaming;
 mod targets;
 
 pub use checking::Checking;

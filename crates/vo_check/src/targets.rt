@@ -20,8 +20,8 @@ fn bound_target(alloc: Global, query: &Query<'_>) -> Result<Target, AllocError>
         max_columns }
     ensures { IfOk result (λ target. target ≡ target_of_bound (query_seen query.now)) }
 {
-    let Plan { left_need, .. } = plan(alloc, query)?;
-    Target::new(alloc, left_need, query.bound_sources.left.schema)
+    let Plan { uncut_need, .. } = plan(alloc, query)?;
+    Target::new(alloc, uncut_need, query.bound_sources.left.schema)
 }
 
 /// The rows that the query needs of its left table, or none where the catalog bears it out that the

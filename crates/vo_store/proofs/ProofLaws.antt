@@ -1,5 +1,4 @@
--- The proofs of a query by the left table's own proof, which shows all that the query needs of that
--- table.
+-- The proofs of a query by its needs, which are found on the left table's tree.
 use Rattle.std.proofs.Common.{◌≡◌, ℕ, zero, suc, ◌<◌, ◌≤◌, Bool, true, false, cond, List, [], ◌∷◌, ◌++◌, Option, Some, None, length, map, inl, refl, sym, ap, ◌∙◌, subst, arith}
 use Rattle.std.specs.Prelude.{◌||◌, ◌==◌, find, is_some, is_none, bytes_eq, option_map, option_to_list}
 use Rattle.std.specs.Option.{option_map_or}
@@ -19,23 +18,23 @@ use Rattle.vo_spec.specs.Parts.{entries}
 use Rattle.vo_spec.specs.Trees.{RowTree}
 use Rattle.vo_spec.specs.Scans.{seen}
 use Rattle.vo_spec.specs.Pruning.{is_missing, prune_tree}
-use Rattle.vo_spec.specs.Needs.{left_need, right_needs, same_table, tree_at}
+use Rattle.vo_spec.specs.Needs.{uncut_need, right_needs, same_table, tree_at}
 use Rattle.vo_spec.specs.Honest.{Stored, catalog_of, stored_tree, pruned_each}
 use Rattle.vo_laws.proofs.NamedFits.{cells_of, named_fits, named_cells_below}
 use Rattle.vo_laws.proofs.ReplyTrees.{pruned_complete}
 use Rattle.vo_laws.proofs.ScanLaws.{Shows, complete}
 use Rattle.vo_laws.proofs.StoredFits.{catalog_fits}
 use Rattle.vo_laws.proofs.ExactOutcomes.{named_stands, same_table_headers}
-use Rattle.vo_laws.proofs.NeedLaws.{needs_of_left}
+use Rattle.vo_laws.proofs.CompleteReplies.{seen_same}
 use Rattle.query_binding.specs.declared.bound_sources.BoundSource.{BoundSource as HeldBoundSource}
 use Rattle.query_binding.specs.HeldSources.{bound_source_seen}
 use Rattle.stored_tables.specs.Representation.{IsStanding}
 use Rattle.query_plan.proofs.Narrow.{bound_sources_narrow}
 use Rattle.query_plan.specs.BoundQueries.{bound_query}
 use Rattle.query_plan.specs.Plans.{QueryPlan, plan_of}
-use Rattle.query_plan.proofs.MeaningLaws.{left_need_same}
+use Rattle.query_plan.proofs.MeaningLaws.{uncut_need_same}
 use Rattle.plan_run.proofs.ByNames.{right_needs_same}
-use Rattle.vo_store.specs.Proving.{HasTable, HasTables, proofs_of, tree_by, left_proof, rights_by_proof, plan_proofs}
+use Rattle.vo_store.specs.Proving.{HasTable, HasTables, proofs_of, tree_by, left_need_by, right_needs_by, left_proof, plan_proofs}
 
 -- Tables of a catalog are those of the trees.
 
@@ -101,7 +100,7 @@ module _ (stored : List Stored) (standing : IsStanding stored) (q : Query) where
   ss = bound_sources (table_headers (catalog_of stored)) q
 
   abbrev need : Need
-  need = left_need ss q
+  need = uncut_need ss q
 
   abbrev tree : ℕ → RowTree
   tree i = stored_tree stored (bound_source_at ss i).table
@@ -114,21 +113,21 @@ module _ (stored : List Stored) (standing : IsStanding stored) (q : Query) where
   narrow i = bound_sources_narrow (catalog_of stored) (catalog_fits stored standing.tables standing.stand standing.fit) q i
 
   abbrev IsComplete : List TableHeader → Type 0
-  IsComplete hs = is_missing (left_need (bound_sources hs q) q ∷ []) (prune_tree (left_need (bound_sources hs q) q ∷ []) (stored_tree stored q.left.table)) ≡ false
+  IsComplete hs = is_missing (uncut_need (bound_sources hs q) q ∷ []) (prune_tree (uncut_need (bound_sources hs q) q ∷ []) (stored_tree stored q.left.table)) ≡ false
 
   whole_complete : IsComplete (map table_header_of standing.tables)
   whole_complete =
       let held : List BoundSource = bound_sources (map table_header_of standing.tables) q in
       let rows = rows_named q.left.table standing.tables in
       let fits = named_fits q.left.table standing.tables standing.fit.each in
-      pruned_complete (cells_of (schema_at held 0)) (left_need held q ∷ []) (stored_tree stored q.left.table) rows
+      pruned_complete (cells_of (schema_at held 0)) (uncut_need held q ∷ []) (stored_tree stored q.left.table) rows
       (named_stands q.left.table stored standing.tables standing.stand) (named_cells_below held q 0 rows fits, tt) fits.cells
 
   first_complete : is_missing (need ∷ []) first ≡ false
   first_complete = subst IsComplete (sym (same_table_headers stored standing.tables standing.stand)) whole_complete
 
-  pub first_shown : seen need first ≡ None → ⊥
-  first_shown e = subst Shows e (complete (need ∷ []) need first (inl refl) first_complete)
+  whole_shown : seen need (tree 0) ≡ None → ⊥
+  whole_shown e = subst Shows (seen_same (need ∷ []) need (tree 0) (inl refl) first_complete ∙ e) (complete (need ∷ []) need first (inl refl) first_complete)
 
   -- The proofs, by how many trees the query uses.
 
@@ -136,7 +135,7 @@ module _ (stored : List Stored) (standing : IsStanding stored) (q : Query) where
   names b = cond b ((bound_source_at ss 0).table ∷ []) ((bound_source_at ss 0).table ∷ (bound_source_at ss 1).table ∷ [])
 
   abbrev rights : List (List ℕ) → List Need
-  rights ns = right_needs ss q (prune_tree (need ∷ []) (tree_at (map (stored_tree stored) ns) 0) ∷ [])
+  rights ns = right_needs ss q (map (stored_tree stored) ns)
 
   -- by the names of the trees that the needs go by, and of those that the reply has
   abbrev proofs_by : Bool → List (List ℕ) → List RowTree
@@ -146,17 +145,13 @@ module _ (stored : List Stored) (standing : IsStanding stored) (q : Query) where
   abbrev is_one : Bool
   is_one = length ss == 1 || same_table ss
 
-  by_first : proofs_of q stored ≡ proofs_by is_one (cond (is_some (binding_fault (table_headers (catalog_of stored)) q)) [] (names is_one))
-  by_first = ap (λ nss. pruned_each nss (map (stored_tree stored) (cond (is_some (binding_fault (table_headers (catalog_of stored)) q)) [] (names is_one))))
-      (sym (needs_of_left stored standing.tables standing.stand standing.fit q []))
-
   bound_proofs : binding_fault (table_headers (catalog_of stored)) q ≡ None → proofs_of q stored ≡ proofs_by is_one (names is_one)
-  bound_proofs e = by_first ∙ ap (λ (o : Option QueryFault). proofs_by is_one (cond (is_some o) [] (names is_one))) e
+  bound_proofs e = ap (λ (o : Option QueryFault). proofs_by is_one (cond (is_some o) [] (names is_one))) e
 
-  pub one_proof : binding_fault (table_headers (catalog_of stored)) q ≡ None → is_one ≡ true → proofs_of q stored ≡ prune_tree (need ∷ right_needs ss q (first ∷ [])) (tree 0) ∷ []
+  pub one_proof : binding_fault (table_headers (catalog_of stored)) q ≡ None → is_one ≡ true → proofs_of q stored ≡ prune_tree (need ∷ right_needs ss q (tree 0 ∷ [])) (tree 0) ∷ []
   one_proof e one = bound_proofs e ∙ ap (λ b. proofs_by b (names b)) one
 
-  pub two_proofs : binding_fault (table_headers (catalog_of stored)) q ≡ None → is_one ≡ false → proofs_of q stored ≡ first ∷ prune_tree (right_needs ss q (first ∷ [])) (tree 1) ∷ []
+  pub two_proofs : binding_fault (table_headers (catalog_of stored)) q ≡ None → is_one ≡ false → proofs_of q stored ≡ first ∷ prune_tree (right_needs ss q (tree 0 ∷ [])) (tree 1) ∷ []
   two_proofs e two = bound_proofs e ∙ ap (λ b. proofs_by b (names b)) two
 
   none_each : (nss : List (List Need)) → pruned_each nss [] ≡ []
@@ -165,45 +160,45 @@ module _ (stored : List Stored) (standing : IsStanding stored) (q : Query) where
 
   pub no_proofs : (fault : QueryFault) → binding_fault (table_headers (catalog_of stored)) q ≡ Some fault → proofs_of q stored ≡ []
   no_proofs fault e =
-      by_first ∙ ap (λ (o : Option QueryFault). proofs_by is_one (cond (is_some o) [] (names is_one))) e ∙ none_each _
+      ap (λ (o : Option QueryFault). proofs_by is_one (cond (is_some o) [] (names is_one))) e ∙ none_each _
 
   -- The same of the query's plan.
 
   abbrev plan : QueryPlan
   plan = plan_of (bound_query ss q)
 
-  same_need : plan.left_need ≡ need
-  same_need = left_need_same ss q
+  same_need : left_need_by plan stored ≡ need
+  same_need = uncut_need_same ss q
 
   same_proof : left_proof plan stored ≡ first
   same_proof = ap (λ (n : Need). prune_tree (n ∷ []) (tree 0)) same_need
 
-  same_rights : rights_by_proof plan stored ≡ right_needs ss q (first ∷ [])
-  same_rights = right_needs_same ss q (left_proof plan stored) ∙ ap (λ (t : RowTree). right_needs ss q (t ∷ [])) same_proof
+  same_rights : right_needs_by plan stored ≡ right_needs ss q (tree 0 ∷ [])
+  same_rights = right_needs_same ss q (tree 0)
 
   -- by whether there is one source, and whether the tables are one
   pub plan_same : binding_fault (table_headers (catalog_of stored)) q ≡ None → plan_proofs plan stored ≡ proofs_of q stored
   plan_same e = step (length ss == 1) (same_table ss) refl refl
     where
       step : (one same : Bool) → (length ss == 1) ≡ one → same_table ss ≡ same
-          → cond one (left_proof plan stored ∷ []) (cond same (prune_tree (plan.left_need ∷ rights_by_proof plan stored) (tree 0) ∷ []) (left_proof plan stored ∷ prune_tree (rights_by_proof plan stored) (tree 1) ∷ []))
+          → cond one (left_proof plan stored ∷ []) (cond same (prune_tree (left_need_by plan stored ∷ right_needs_by plan stored) (tree 0) ∷ []) (left_proof plan stored ∷ prune_tree (right_needs_by plan stored) (tree 1) ∷ []))
           ≡ proofs_of q stored
       step true same is f =
           ap (λ (t : RowTree). t ∷ []) same_proof
-          ∙ ap (λ (ns : List Need). prune_tree (need ∷ ns) (tree 0) ∷ []) (sym (alone (table_headers (catalog_of stored)) q (first ∷ []) (eqb-true (length ss) 1 is)))
+          ∙ ap (λ (ns : List Need). prune_tree (need ∷ ns) (tree 0) ∷ []) (sym (alone (table_headers (catalog_of stored)) q (tree 0 ∷ []) (eqb-true (length ss) 1 is)))
           ∙ sym (one_proof e (or_left (length ss == 1) (same_table ss) is))
       step false true is f =
-          ap (λ (n : Need). prune_tree (n ∷ rights_by_proof plan stored) (tree 0) ∷ []) same_need
+          ap (λ (n : Need). prune_tree (n ∷ right_needs_by plan stored) (tree 0) ∷ []) same_need
           ∙ ap (λ (ns : List Need). prune_tree (need ∷ ns) (tree 0) ∷ []) same_rights
           ∙ sym (one_proof e (or_right (length ss == 1) (same_table ss) f))
       step false false is f =
-          ap (λ (t : RowTree). t ∷ prune_tree (rights_by_proof plan stored) (tree 1) ∷ []) same_proof
+          ap (λ (t : RowTree). t ∷ prune_tree (right_needs_by plan stored) (tree 1) ∷ []) same_proof
           ∙ ap (λ (ns : List Need). first ∷ prune_tree ns (tree 1) ∷ []) same_rights
           ∙ sym (two_proofs e (or_from (length ss == 1) (same_table ss) is f))
 
-  -- the left proof shows all that is needed of it
-  pub plan_shown : seen plan.left_need (left_proof plan stored) ≡ None → ⊥
-  plan_shown u = first_shown (sym (ap (seen need) same_proof) ∙ ap (λ (n : Need). seen n (left_proof plan stored)) (sym same_need) ∙ u)
+  -- the left tree shows all that is needed of it
+  pub plan_shown : seen (left_need_by plan stored) (tree 0) ≡ None → ⊥
+  plan_shown u = whole_shown (ap (λ (n : Need). seen n (tree 0)) (sym same_need) ∙ u)
 
 -- a left source, with a right one beside it if there is one
 abbrev pub beside : HeldBoundSource → Option HeldBoundSource → List BoundSource
@@ -213,16 +208,14 @@ beside left right = bound_source_seen left ∷ option_to_list (option_map bound_
 module _ (p : QueryPlan) (stored : List Stored) where
   abbrev made : Bool → Bool → List RowTree
   made one same =
-      cond one (left_proof p stored ∷ []) (cond same (prune_tree (p.left_need ∷ rights_by_proof p stored) (tree_by p stored 0) ∷ []) (left_proof p stored ∷ prune_tree (rights_by_proof p stored) (tree_by p stored 1) ∷ []))
+      cond one (left_proof p stored ∷ []) (cond same (prune_tree (left_need_by p stored ∷ right_needs_by p stored) (tree_by p stored 0) ∷ []) (left_proof p stored ∷ prune_tree (right_needs_by p stored) (tree_by p stored 1) ∷ []))
 
   pub made_alone : (length p.query.bound_sources == 1) ≡ true → left_proof p stored ∷ [] ≡ plan_proofs p stored
   made_alone one = ap (λ b. made b (same_table p.query.bound_sources)) (sym one)
 
-  module _ (two : (length p.query.bound_sources == 1) ≡ false) (rights : List Need) (are : rights ≡ rights_by_proof p stored) where
-    pub made_of_both : same_table p.query.bound_sources ≡ true → prune_tree (p.left_need ∷ rights) (tree_by p stored 0) ∷ [] ≡ plan_proofs p stored
-    made_of_both same =
-        ap (λ (ns : List Need). prune_tree (p.left_need ∷ ns) (tree_by p stored 0) ∷ []) are ∙ ap (made false) (sym same) ∙ ap (λ b. made b (same_table p.query.bound_sources)) (sym two)
+  module _ (two : (length p.query.bound_sources == 1) ≡ false) where
+    pub made_of_both : same_table p.query.bound_sources ≡ true → prune_tree (left_need_by p stored ∷ right_needs_by p stored) (tree_by p stored 0) ∷ [] ≡ plan_proofs p stored
+    made_of_both same = ap (made false) (sym same) ∙ ap (λ b. made b (same_table p.query.bound_sources)) (sym two)
 
-    pub made_of_each : same_table p.query.bound_sources ≡ false → left_proof p stored ∷ prune_tree rights (tree_by p stored 1) ∷ [] ≡ plan_proofs p stored
-    made_of_each other =
-        ap (λ (ns : List Need). left_proof p stored ∷ prune_tree ns (tree_by p stored 1) ∷ []) are ∙ ap (made false) (sym other) ∙ ap (λ b. made b (same_table p.query.bound_sources)) (sym two)
+    pub made_of_each : same_table p.query.bound_sources ≡ false → left_proof p stored ∷ prune_tree (right_needs_by p stored) (tree_by p stored 1) ∷ [] ≡ plan_proofs p stored
+    made_of_each other = ap (made false) (sym other) ∙ ap (λ b. made b (same_table p.query.bound_sources)) (sym two)

@@ -8,7 +8,7 @@ use Rattle.vo_spec.specs.Trees.{RowTree}
 use Rattle.vo_spec.specs.Pruning.{prune_tree}
 use Rattle.vo_spec.specs.Needs.{needs, same_table}
 use Rattle.vo_spec.specs.Honest.{Stored, catalog_of, stored_tree, trees_for, pruned_each}
-use Rattle.query_plan.specs.Plans.{QueryPlan}
+use Rattle.query_plan.specs.Plans.{QueryPlan, plan_need}
 use Rattle.plan_run.specs.Running.{lefts_seen, needs_of}
 
 -- the trees of the query, with open what it needs of each
@@ -29,17 +29,20 @@ HasTables stored ss = (i : ℕ) → i < length ss → HasTable stored (bound_sou
 abbrev pub tree_by : QueryPlan → List Stored → ℕ → RowTree
 tree_by p stored i = stored_tree stored (bound_source_at p.query.bound_sources i).table
 
+-- what it needs of the left tree, and what the left rows need of the right one
+abbrev pub left_need_by : QueryPlan → List Stored → Need
+left_need_by p stored = plan_need p (tree_by p stored 0)
+
+abbrev pub right_needs_by : QueryPlan → List Stored → List Need
+right_needs_by p stored = needs_of p (lefts_seen p (tree_by p stored 0))
+
 -- the left table's own proof
 abbrev pub left_proof : QueryPlan → List Stored → RowTree
-left_proof p stored = prune_tree (p.left_need ∷ []) (tree_by p stored 0)
-
--- what the left rows that it shows need of the right tree
-abbrev pub rights_by_proof : QueryPlan → List Stored → List Need
-rights_by_proof p stored = needs_of p (lefts_seen p (left_proof p stored))
+left_proof p stored = prune_tree (left_need_by p stored ∷ []) (tree_by p stored 0)
 
 abbrev pub plan_proofs : QueryPlan → List Stored → List RowTree
 plan_proofs p stored =
     if length p.query.bound_sources == 1 then left_proof p stored ∷ []
     else (if same_table p.query.bound_sources
-    then prune_tree (p.left_need ∷ rights_by_proof p stored) (tree_by p stored 0) ∷ []
-    else left_proof p stored ∷ prune_tree (rights_by_proof p stored) (tree_by p stored 1) ∷ [])
+    then prune_tree (left_need_by p stored ∷ right_needs_by p stored) (tree_by p stored 0) ∷ []
+    else left_proof p stored ∷ prune_tree (right_needs_by p stored) (tree_by p stored 1) ∷ [])

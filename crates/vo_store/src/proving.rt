@@ -9,15 +9,15 @@ ghost use Rattle.vo_spec.specs.Honest.{catalog_of, stored_tree};
 ghost use Rattle.mb_tree.specs.View.{part_of};
 ghost use Rattle.query_binding.specs.HeldSources.{bound_sources_seen};
 ghost use Rattle.query_plan.specs.BoundViews.{query_seen};
-ghost use Rattle.query_plan.specs.Plans.{plan_of};
+ghost use Rattle.query_plan.specs.Plans.{plan_of, plan_need};
 ghost use Rattle.query_plan.specs.PlanViews.{plan_seen};
 ghost use Rattle.plan_run.specs.Running.{lefts_seen, needs_of};
 ghost use Rattle.stored_tables.specs.Representation.{IsStanding};
 ghost use Rattle.vo_format.specs.View.{trees_of};
-ghost use Rattle.vo_store.specs.Proving.{HasTable, HasTables, left_proof, plan_proofs, proofs_of};
+ghost use Rattle.vo_store.specs.Proving.{HasTable, HasTables, tree_by, left_need_by, plan_proofs, proofs_of};
 
-use mb_tree::{PartTree, Tree};
-use plan_run::right_needs;
+use mb_tree::{PartTree, Subtree, Tree};
+use plan_run::{left_need, right_needs};
 use query_plan::{BindFault, BoundSource, Plan, Query, bind, copy_need, plan, same_table};
 use range_proof::prune;
 use std::alloc::{AllocError, Global};
@@ -35,18 +35,17 @@ fn tree_of<'t>(tables: &'t StoredTables, name: &Name) -> &'t Tree
     }
 }
 
-/// What the query needs of the right tree, by the proof of the left one for its need, which shows
-/// all of it.
-fn needs_by_proof(
+/// What the query needs of the right tree, by the left one, which is whole.
+fn needs_by_left(
     alloc: Global,
     plan: &Plan<'_, '_>,
-    proof: &PartTree<'_>,
+    left: &Subtree,
 ) -> Result<Vec<Need>, AllocError>
-    requires shown { seen plan.now.left_need (part_of proof.now) ≡ None → ⊥ }
+    requires shown { seen (plan_need (plan_seen plan.now) left.now) left.now ≡ None → ⊥ }
     ensures { IfOk result (λ needs. needs.items
-        ≡ needs_of (plan_seen plan.now) (lefts_seen (plan_seen plan.now) (part_of proof.now))) }
+        ≡ needs_of (plan_seen plan.now) (lefts_seen (plan_seen plan.now) left.now)) }
 {
-    match right_needs(alloc, plan, proof) {
+    match right_needs(alloc, plan, left) {
         Ok(needs) => Ok(needs),
         Err(ScanFault::Missing) => unreachable!(),
         Err(ScanFault::Memory) => Err(AllocError),
@@ -103,43 +102,55 @@ fn proofs_of_both<'t>(
     one_proof(alloc, proof)
 }
 
-/// The proofs of two tables: the left one's, and that of the right one for its needs.
+/// The proofs of two tables, each for its needs.
 fn proofs_of_each<'t>(
     alloc: Global,
-    left: PartTree<'t>,
-    tree: &'t Tree,
+    left: &'t Tree,
+    need: &Need,
+    right: &'t Tree,
     rights: &[Need],
 ) -> Result<Vec<PartTree<'t>>, AllocError>
-    ensures { IfOk result (λ proofs. trees_of proofs ≡ part_of left.entry
-        ∷ prune_tree rights.now tree.now ∷ []) }
+    ensures { IfOk result (λ proofs. trees_of proofs ≡ prune_tree (need.now ∷ []) left.now
+        ∷ prune_tree rights.now right.now ∷ []) }
 {
-    let right = prune(alloc, tree, rights)?;
+    let left = prune(alloc, left, slice::from_ref(need))?;
+    let right = prune(alloc, right, rights)?;
     two_proofs(alloc, left, right)
 }
 
-/// The proofs of a join, by the left table's own proof.
+/// The proofs of a query of one table.
+fn proofs_of_one<'t>(
+    alloc: Global,
+    tree: &'t Tree,
+    need: &Need,
+) -> Result<Vec<PartTree<'t>>, AllocError>
+    ensures { IfOk result (λ proofs. trees_of proofs ≡ prune_tree (need.now ∷ []) tree.now ∷ []) }
+{
+    let proof = prune(alloc, tree, slice::from_ref(need))?;
+    one_proof(alloc, proof)
+}
+
+/// The proofs of a join, whose needs are found on the left tree.
 fn joined_proofs<'t>(
     alloc: Global,
     tables: &'t StoredTables,
     plan: &Plan<'_, '_>,
     right: &BoundSource<'_>,
-    proof: PartTree<'t>,
+    left: &'t Tree,
 ) -> Result<Vec<PartTree<'t>>, AllocError>
-    requires left { HasTable tables.now plan.now.query.now.bound_sources.left.table.now }
     requires right { HasTable tables.now right.now.table.now }
     requires joined { plan.now.query.now.bound_sources.right ≡ Some right.now }
-    requires proof { part_of proof ≡ left_proof (plan_seen plan.now) tables.now }
-    requires shown { seen plan.now.left_need (part_of proof) ≡ None → ⊥ }
+    requires tree { left.now ≡ tree_by (plan_seen plan.now) tables.now 0 }
+    requires shown { seen (plan_need (plan_seen plan.now) left.now) left.now ≡ None → ⊥ }
     ensures { IfOk result (λ trees. trees_of trees ≡ plan_proofs (plan_seen plan.now) tables.now) }
 {
-    let query = plan.query;
-    let rights = needs_by_proof(alloc, plan, &proof)?;
-    if same_table(&query.bound_sources) {
-        let tree = tree_of(tables, query.bound_sources.left.table);
-        proofs_of_both(alloc, tree, &plan.left_need, rights)
+    let root = left.root();
+    let need = left_need(plan, root);
+    let rights = needs_by_left(alloc, plan, root)?;
+    if same_table(&plan.query.bound_sources) {
+        proofs_of_both(alloc, left, need, rights)
     } else {
-        let tree = tree_of(tables, right.table);
-        proofs_of_each(alloc, proof, tree, &rights)
+        proofs_of_each(alloc, left, need, tree_of(tables, right.table), &rights)
     }
 }
 
@@ -150,16 +161,15 @@ fn plan_proofs<'t>(
     plan: &Plan<'_, '_>,
 ) -> Result<Vec<PartTree<'t>>, AllocError>
     requires tables { HasTables tables.now (bound_sources_seen plan.now.query.now.bound_sources) }
-    requires shown { seen plan.now.left_need (left_proof (plan_seen plan.now) tables.now) ≡ None
-        → ⊥ }
+    requires shown { let p = plan_seen plan.now in
+        seen (left_need_by p tables.now) (tree_by p tables.now 0) ≡ None → ⊥ }
     ensures { IfOk result (λ trees. trees_of trees ≡ plan_proofs (plan_seen plan.now) tables.now) }
 {
     let query = plan.query;
-    let tree = tree_of(tables, query.bound_sources.left.table);
-    let proof = prune(alloc, tree, slice::from_ref(&plan.left_need))?;
+    let left = tree_of(tables, query.bound_sources.left.table);
     match &query.bound_sources.right {
-        Some(right) => joined_proofs(alloc, tables, plan, right, proof),
-        None => one_proof(alloc, proof),
+        Some(right) => joined_proofs(alloc, tables, plan, right, left),
+        None => proofs_of_one(alloc, left, left_need(plan, left.root())),
     }
 }
 
@@ -174,8 +184,8 @@ fn bound_proofs<'t>(
         max_columns }
     requires right { length (schema_at (bound_sources_seen query.now.bound_sources) 1).columns ≤
         max_columns }
-    requires shown { let p = plan_of (query_seen query.now) in seen p.left_need
-        (left_proof p tables.now) ≡ None → ⊥ }
+    requires shown { let p = plan_of (query_seen query.now) in
+        seen (left_need_by p tables.now) (tree_by p tables.now 0) ≡ None → ⊥ }
     ensures { IfOk result (λ trees. trees_of trees
         ≡ plan_proofs (plan_of (query_seen query.now)) tables.now) }
 {

@@ -11,22 +11,25 @@ returns-in-Err c =
     let trees = c.args.trees.now in
     let some = used_some (bound_sources_seen c.args.plan.now.query.now.bound_sources) in
     let lt : 0 < length c.args.trees.now = omega (arith, some, c.requires) in
-    left_fault (plan_seen c.args.plan.now) (map part_of trees) (part_of c.index-trees-0.result) (first_tree trees _ lt c.index-trees-0.is) c.in-Err.fault c.in-Err.ensures
+    left_fault (plan_seen c.args.plan.now) (map part_of trees) (part_of c.index-trees-0.result) (first_tree trees _ lt c.index-trees-0.is) c.in-Err.fault
+    (rw c.left_need-left.ensures at c.in-Err.ensures)
 
 pub returns-in-Ok-show_seen : goal.returns-in-Ok-show_seen
 returns-in-Ok-show_seen c =
     let trees = c.args.trees.now in
     let some = used_some (bound_sources_seen c.args.plan.now.query.now.bound_sources) in
     let lt : 0 < length c.args.trees.now = omega (arith, some, c.requires) in
-    let found : seen c.args.plan.now.left_need (part_of c.index-trees-0.result) ≡ Some c.as_slice.result.now = cc c.in-Ok.ensures in
+    let shown : seen c.left_need-left.result.now (part_of c.index-trees-0.result) ≡ Some c.as_slice.result.now = cc c.in-Ok.ensures in
+    let found : seen c.args.plan.now.uncut_need (part_of c.index-trees-0.result) ≡ Some c.as_slice.result.now = rw c.left_need-left.ensures at shown in
     run_done (plan_seen c.args.plan.now) (map part_of trees) (part_of c.index-trees-0.result) (first_tree trees _ lt c.index-trees-0.is)
-    c.as_slice.result.now found c.ran_of.result c.in-Ok-show_seen.shown c.in-Ok-show_seen.ensures c.ran_of.ensures
+    c.as_slice.result.now found c.ran_of.result c.in-Ok-show_seen.shown c.in-Ok-show_seen.ensures (rw c.left_need-left.ensures at c.ran_of.ensures)
 
 pub returns : goal.returns
 returns c =
     let trees = c.args.trees.now in
     let some = used_some (bound_sources_seen c.args.plan.now.query.now.bound_sources) in
     let lt : 0 < length c.args.trees.now = omega (arith, some, c.requires) in
-    let found : seen c.args.plan.now.left_need (part_of c.index-trees-0.result) ≡ Some c.as_slice.result.now = cc c.in-Ok.ensures in
+    let shown : seen c.left_need-left.result.now (part_of c.index-trees-0.result) ≡ Some c.as_slice.result.now = cc c.in-Ok.ensures in
+    let found : seen c.args.plan.now.uncut_need (part_of c.index-trees-0.result) ≡ Some c.as_slice.result.now = rw c.left_need-left.ensures at shown in
     right_fault (plan_seen c.args.plan.now) (map part_of trees) (part_of c.index-trees-0.result) (first_tree trees _ lt c.index-trees-0.is)
     c.as_slice.result.now found c.in-Err-show_seen.fault c.in-Err-show_seen.ensures

@@ -1,6 +1,6 @@
-use Rattle.std.proofs.Common.{[], ◌∙◌}
 use Rattle.vo_check.proofs.CheckingLaws.{empty_head}
 use Rattle.vo_check.proofs.feeding.first_progress.Goals as goal
 
-pub returns-in-None-clause-stands : goal.returns-in-None-clause-stands
-returns-in-None-clause-stands c = (c.in-None.is, c.new-in-None.ensures [] ∙ empty_head, c.new-in-None.ensures)
+pub returns-then-is_streamed-clause-stands : goal.returns-then-is_streamed-clause-stands
+returns-then-is_streamed-clause-stands c =
+    (c.is_streamed.ensures.yes c.if-is_streamed.true, c.new-then-is_streamed.ensures [] ∙ empty_head, c.new-then-is_streamed.ensures)

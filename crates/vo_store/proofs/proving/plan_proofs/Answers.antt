@@ -1,21 +1,19 @@
 use Rattle.std.proofs.Common.{◌≡◌, ◌==◌, true, [], ◌∷◌, Option, None, Some, length, ap, sym, subst, ◌∙◌, IfOk, arith}
+use Rattle.vo_spec.specs.declared.needs.Need.{Need}
 use Rattle.vo_spec.specs.Trees.{RowTree}
 use Rattle.vo_spec.specs.Scans.{seen}
 use Rattle.vo_spec.specs.Pruning.{prune_tree}
-use Rattle.mb_tree.specs.View.{part_of}
 use Rattle.query_binding.specs.declared.bound_sources.BoundSource.{BoundSource as HeldBoundSource}
 use Rattle.query_binding.specs.HeldSources.{bound_sources_seen}
+use Rattle.query_plan.specs.Plans.{plan_need}
 use Rattle.query_plan.specs.PlanViews.{plan_seen}
 use Rattle.vo_format.specs.View.{trees_of}
-use Rattle.vo_store.specs.Proving.{HasTables, left_proof}
+use Rattle.vo_store.specs.Proving.{HasTables, tree_by, left_need_by}
 use Rattle.vo_store.proofs.ProofLaws.{beside, made_alone}
 use Rattle.vo_store.proofs.proving.plan_proofs.Goals as goal
 
-pub tree_of-tree-requires : goal.tree_of-tree-requires
-tree_of-tree-requires c = c.requires.tables 0 (omega arith)
-
-pub joined_proofs-requires-clause-left : goal.joined_proofs-requires-clause-left
-joined_proofs-requires-clause-left c = c.requires.tables 0 (omega arith)
+pub tree_of-left-requires : goal.tree_of-left-requires
+tree_of-left-requires c = c.requires.tables 0 (omega arith)
 
 pub joined_proofs-requires-clause-right : goal.joined_proofs-requires-clause-right
 joined_proofs-requires-clause-right c =
@@ -23,22 +21,18 @@ joined_proofs-requires-clause-right c =
     subst (λ (r : Option HeldBoundSource). HasTables c.args.tables.now (beside c.args.plan.now.query.now.bound_sources.left r)) c.in-Some.is c.requires.tables in
     both 1 (omega arith)
 
-pub joined_proofs-requires-clause-proof : goal.joined_proofs-requires-clause-proof
-joined_proofs-requires-clause-proof c =
-    let made : part_of c.in_ok-proof.proof ≡ prune_tree (c.args.plan.now.left_need ∷ []) c.tree_of-tree.result.now = rw c.from_ref.ensures.value at c.in_ok-proof.ensures in
-    made ∙ ap (prune_tree (c.args.plan.now.left_need ∷ [])) c.tree_of-tree.ensures
-
 pub joined_proofs-requires-clause-shown : goal.joined_proofs-requires-clause-shown
 joined_proofs-requires-clause-shown c =
-    let made : part_of c.in_ok-proof.proof ≡ prune_tree (c.args.plan.now.left_need ∷ []) c.tree_of-tree.result.now = rw c.from_ref.ensures.value at c.in_ok-proof.ensures in
-    let proof : part_of c.in_ok-proof.proof ≡ left_proof (plan_seen c.args.plan.now) c.args.tables.now = made ∙ ap (prune_tree (c.args.plan.now.left_need ∷ [])) c.tree_of-tree.ensures in
-    subst (λ (t : RowTree). seen c.args.plan.now.left_need t ≡ None → ⊥) (sym proof) c.requires.shown
+    subst (λ (t : RowTree). seen (plan_need (plan_seen c.args.plan.now) t) t ≡ None → ⊥) (sym c.tree_of-left.ensures) c.requires.shown
 
 pub returns-in-None : goal.returns-in-None
 returns-in-None c =
+    let p = plan_seen c.args.plan.now in
+    let stored = c.args.tables.now in
     let one : (length (bound_sources_seen c.args.plan.now.query.now.bound_sources) == 1) ≡ true = ap (λ (r : Option HeldBoundSource). length (beside c.args.plan.now.query.now.bound_sources.left r) == 1) c.in-None.is in
-    let made : part_of c.in_ok-proof.proof ≡ prune_tree (c.args.plan.now.left_need ∷ []) c.tree_of-tree.result.now = rw c.from_ref.ensures.value at c.in_ok-proof.ensures in
-    let proof : part_of c.in_ok-proof.proof ≡ left_proof (plan_seen c.args.plan.now) c.args.tables.now = made ∙ ap (prune_tree (c.args.plan.now.left_need ∷ [])) c.tree_of-tree.ensures in
-    subst (λ trees. IfOk c.one_proof.result (λ proofs. trees_of proofs ≡ trees))
-    (ap (λ (t : RowTree). t ∷ []) proof ∙ made_alone (plan_seen c.args.plan.now) c.args.tables.now one)
-    c.one_proof.ensures
+    let need : c.left_need.result.now ≡ left_need_by (plan_seen c.args.plan.now) c.args.tables.now = c.left_need.ensures ∙ ap (plan_need (plan_seen c.args.plan.now)) (c.root.ensures ∙ c.tree_of-left.ensures) in
+    subst (λ trees. IfOk c.proofs_of_one.result (λ proofs. trees_of proofs ≡ trees))
+    (ap (λ (n : Need). prune_tree (n ∷ []) c.tree_of-left.result.now ∷ []) need
+    ∙ ap (λ (t : RowTree). prune_tree (left_need_by p stored ∷ []) t ∷ []) c.tree_of-left.ensures
+    ∙ made_alone p stored one)
+    c.proofs_of_one.ensures

@@ -11,7 +11,7 @@ use Rattle.vo_format.specs.View.{trees_of}
 use Rattle.query_plan.specs.BoundQueries.{BoundQuery, bound_query}
 use Rattle.query_plan.specs.BoundViews.{query_seen}
 use Rattle.query_plan.specs.Plans.{plan_of}
-use Rattle.vo_store.specs.Proving.{HasTables, left_proof, plan_proofs, proofs_of}
+use Rattle.vo_store.specs.Proving.{HasTables, tree_by, left_need_by, plan_proofs, proofs_of}
 use Rattle.vo_store.proofs.ProofLaws.{narrow, bound_source_there, plan_same, plan_shown, no_proofs}
 use Rattle.vo_store.proofs.proving.proofs_for.Goals as goal
 
@@ -29,8 +29,8 @@ module _ (stored : List Stored) (standing : IsStanding stored) (q : Query) (hs :
   few_by : (i : ℕ) → length (schema_at b.bound_sources i).columns ≤ max_columns
   few_by i = subst (λ (x : BoundQuery). length (schema_at x.bound_sources i).columns ≤ max_columns) (sym bound) (narrow stored standing q i)
 
-  shown_by : seen (plan_of b).left_need (left_proof (plan_of b) stored) ≡ None → ⊥
-  shown_by = subst (λ (x : BoundQuery). seen (plan_of x).left_need (left_proof (plan_of x) stored) ≡ None → ⊥) (sym bound) (plan_shown stored standing q)
+  shown_by : seen (left_need_by (plan_of b) stored) (tree_by (plan_of b) stored 0) ≡ None → ⊥
+  shown_by = subst (λ (x : BoundQuery). seen (left_need_by (plan_of x) stored) (tree_by (plan_of x) stored 0) ≡ None → ⊥) (sym bound) (plan_shown stored standing q)
 
   proofs_by : plan_proofs (plan_of b) stored ≡ proofs_of q stored
   proofs_by = ap (λ (x : BoundQuery). plan_proofs (plan_of x) stored) bound ∙ plan_same stored standing q right

@@ -1,5 +1,5 @@
 use Rattle.vo_store.proofs.ProofLaws.{unseen_none}
-use Rattle.vo_store.proofs.proving.needs_by_proof.Goals as goal
+use Rattle.vo_store.proofs.proving.needs_by_left.Goals as goal
 
 pub unreachable-requires : goal.unreachable-requires
 unreachable-requires c =
