@@ -17,8 +17,9 @@ use Rattle.vo_spec.specs.Records.{FitsCatalogTable, FitsSchema}
 use Rattle.vo_spec.specs.Representation.{AreRising}
 use Rattle.vo_spec.specs.Parts.{leaf}
 use Rattle.vo_spec.specs.Trees.{digest}
-use Rattle.vo_laws.proofs.CommandLaws.{FitTables, FitsTable, created_fit}
-use Rattle.vo_laws.proofs.CommandLaws.{names_of as plain_names}
+use Rattle.vo_laws.proofs.CommandLaws.{created_fit}
+use Rattle.vo_laws.specs.FittingTables.{FitTables, FitsTable}
+use Rattle.vo_laws.specs.FittingTables.{names_of as plain_names}
 use Rattle.vo_laws.proofs.ListLaws.{each_weaker, each_map}
 use Rattle.owner_roots.specs.Next.{table_header, place_for, new_table}
 use Rattle.owner_roots.specs.Working.{FitCatalog, names_of}

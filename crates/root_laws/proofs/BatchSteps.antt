@@ -13,7 +13,7 @@ use Rattle.vo_spec.specs.Tables.{refusal, apply_from}
 use Rattle.vo_spec.specs.Trees.{RowTree}
 use Rattle.vo_spec.specs.Inserts.{result_map}
 use Rattle.vo_spec.specs.Honest.{Stored, RepresentTables, stored_table_header, catalog_of, work, work_all, command_proof, honest_proofs}
-use Rattle.vo_laws.proofs.CommandLaws.{FitTables}
+use Rattle.vo_laws.specs.FittingTables.{FitTables}
 use Rattle.table_list.specs.BatchResults.{BatchGives}
 use Rattle.table_list.specs.declared.fault.BatchFault.{BatchFault}
 use Rattle.table_list.specs.declared.fault.BatchFault.TheVariants as batch

@@ -20,7 +20,7 @@ use Rattle.vo_spec.specs.Parts.{leaf}
 use Rattle.vo_spec.specs.Trees.{RowTree, Prunes}
 use Rattle.vo_spec.specs.Removes.{tree_with_cells}
 use Rattle.vo_spec.specs.Honest.{Stored, RepresentTables, stored_table_header, catalog_of, tree_after, change_tree, changed_trees, work, proof_on, command_proof, table_of}
-use Rattle.vo_laws.proofs.CommandLaws.{FitsTable, FitTables}
+use Rattle.vo_laws.specs.FittingTables.{FitsTable, FitTables}
 use Rattle.mb_update.specs.declared.ops.Op.{Op}
 use Rattle.mb_update.specs.declared.ops.Op.TheVariants.{Insert as PutRow, Replace, Remove}
 use Rattle.mb_update.specs.Sets.{change_of}

@@ -18,7 +18,8 @@ use Rattle.vo_spec.specs.Representation.{Represents}
 use Rattle.vo_spec.specs.Honest.{Stored, RepresentsTable, row_refusal}
 use Rattle.vo_laws.specs.Changing.{Changes, Inserts}
 use Rattle.vo_laws.specs.UpdateProofs.{IsUpdateProof, lacks}
-use Rattle.vo_laws.proofs.CommandLaws.{FitsTable, put_row_length}
+use Rattle.vo_laws.proofs.CommandLaws.{put_row_length}
+use Rattle.vo_laws.specs.FittingTables.{FitsTable}
 use Rattle.vo_laws.proofs.PrunedLaws.{digest_same}
 use Rattle.vo_laws.proofs.Removal.{TreeShrinks, tree_shrinks}
 use Rattle.vo_laws.proofs.RepresentingTrees.{inserted_stands, replaced_stands}

@@ -23,7 +23,7 @@ use Rattle.vo_spec.specs.Results.{no_schema}
 use Rattle.vo_spec.specs.Checks.{is_key_of, key_kind}
 use Rattle.vo_spec.specs.Honest.{Stored, RepresentsTable}
 use Rattle.vo_laws.proofs.ListLaws.{each_left, each_right, each_both}
-use Rattle.vo_laws.proofs.CommandLaws.{FitsTable, HasKinds}
+use Rattle.vo_laws.specs.FittingTables.{FitsTable, HasKinds}
 use Rattle.vo_laws.proofs.ReplyTrees.{HasCells}
 use Rattle.vo_laws.proofs.NamedFits.{NamedFits, cells_of, named_fits}
 use Rattle.owner_roots.specs.Forms.{has_cell_count, entry_has_form, has_form}

@@ -11,7 +11,7 @@ use Rattle.vo_spec.specs.Representation.{AreRising}
 use Rattle.vo_spec.specs.Honest.{Stored, RepresentTables, put_stored, stored_table_header}
 use Rattle.vo_spec.specs.declared.tables.Table.{Table}
 use Rattle.vo_laws.proofs.InsertionNodes.{other_back}
-use Rattle.vo_laws.proofs.CommandLaws.{names_of}
+use Rattle.vo_laws.specs.FittingTables.{names_of}
 use Rattle.stored_tables.specs.Plain.{catalog_table}
 use Rattle.stored_tables.specs.Positions.{is_named}
 use Rattle.owner_roots.specs.declared.owner_fault.OwnerFault.{OwnerFault}

@@ -10,7 +10,7 @@ use Rattle.vo_spec.specs.declared.trees.UpdateFault.{UpdateFault}
 use Rattle.vo_spec.specs.declared.records.CatalogTable.{CatalogTable}
 use Rattle.vo_spec.specs.Trees.{RowTree}
 use Rattle.vo_spec.specs.Honest.{Stored, RepresentsTable, RepresentTables, catalog_of, row_refusal, tree_after, with_tree, behind_stored, change_tree}
-use Rattle.vo_laws.proofs.CommandLaws.{FitsTable}
+use Rattle.vo_laws.specs.FittingTables.{FitsTable}
 use Rattle.stored_tables.specs.Plain.{catalog_table}
 use Rattle.stored_tables.specs.Positions.{is_named}
 use Rattle.stored_tables.specs.Working.{with_new_tree}

@@ -5,7 +5,7 @@ use Rattle.vo_spec.specs.Fits.{FitsTree}
 use Rattle.vo_spec.specs.Honest.{Stored}
 use Rattle.vo_laws.proofs.ListLaws.{each_right}
 use Rattle.vo_laws.proofs.TreeLevels.{whole_fits}
-use Rattle.vo_laws.proofs.StoredFits.{SeparatedIn}
+use Rattle.vo_laws.specs.Separators.{SeparatedIn}
 use Rattle.stored_tables.specs.Representation.{IsStanding}
 use Rattle.stored_tables.specs.Positions.{IsAt}
 use Rattle.stored_tables.proofs.ListLaws.{parted_at}

@@ -6,7 +6,7 @@ use Rattle.std.specs.declared.alloc.Global.{Global}
 use Rattle.vo_spec.specs.declared.tables.Table.{Table}
 use Rattle.vo_spec.specs.Records.{FitsCatalog, FitsCatalogTable}
 use Rattle.vo_spec.specs.Honest.{Stored, RepresentTables, RepresentsTable, catalog_of}
-use Rattle.vo_laws.proofs.CommandLaws.{FitTables}
+use Rattle.vo_laws.specs.FittingTables.{FitTables}
 use Rattle.vo_laws.proofs.StoredFits.{catalog_fits}
 use Rattle.mb_tree.proofs.RowLaws.{rows_in_leaf}
 use Rattle.stored_tables.specs.Representation.{IsStanding}

@@ -8,7 +8,7 @@ use Rattle.vo_spec.specs.declared.tables.CommandFault.{CommandFault}
 use Rattle.vo_spec.specs.Batches.{FitsCommand}
 use Rattle.vo_spec.specs.Tables.{table_named, apply}
 use Rattle.vo_spec.specs.Honest.{Stored, RepresentsTable, RepresentTables, work}
-use Rattle.vo_laws.proofs.CommandLaws.{FitsTable}
+use Rattle.vo_laws.specs.FittingTables.{FitsTable}
 use Rattle.vo_laws.proofs.RepresentationLaws.{InStep, FitAfter, command_in_step}
 use Rattle.vo_laws.proofs.StoredFits.{SeparatedAfter, work_separated}
 use Rattle.table_list.specs.Changes.{Returns}

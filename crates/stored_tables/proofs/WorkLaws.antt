@@ -9,7 +9,7 @@ use Rattle.vo_spec.specs.Firsts.{and_then, unless}
 use Rattle.vo_spec.specs.Batches.{FitsCommand}
 use Rattle.vo_spec.specs.Tables.{refusal, apply, apply_from, with_index}
 use Rattle.vo_spec.specs.Honest.{Stored, RepresentTables, stored_table_header, changed_trees, work, work_all}
-use Rattle.vo_laws.proofs.CommandLaws.{FitTables}
+use Rattle.vo_laws.specs.FittingTables.{FitTables}
 use Rattle.vo_laws.proofs.RepresentationLaws.{InStep, FitAfter, command_in_step}
 use Rattle.table_list.specs.BatchResults.{BatchGives}
 use Rattle.table_list.specs.declared.fault.BatchFault.{BatchFault}

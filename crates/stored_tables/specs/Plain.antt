@@ -7,7 +7,7 @@ use Rattle.vo_spec.specs.Parts.{entries}
 use Rattle.vo_spec.specs.Trees.{digest}
 use Rattle.vo_spec.specs.Representation.{rows_in}
 use Rattle.vo_spec.specs.Honest.{Stored, RepresentTables}
-use Rattle.vo_laws.proofs.CommandLaws.{FitTables}
+use Rattle.vo_laws.specs.FittingTables.{FitTables}
 use Rattle.table_list.specs.declared.fault.BatchFault.{BatchFault}
 use Rattle.table_list.specs.declared.fault.BatchFault.TheVariants.{Command, Memory}
 

@@ -2,8 +2,8 @@
 use Rattle.std.specs.Prelude.{List}
 use Rattle.vo_spec.specs.declared.tables.Table.{Table}
 use Rattle.vo_spec.specs.Honest.{Stored, RepresentTables}
-use Rattle.vo_laws.proofs.CommandLaws.{FitTables}
-use Rattle.vo_laws.proofs.StoredFits.{AreSeparatedIn}
+use Rattle.vo_laws.specs.FittingTables.{FitTables}
+use Rattle.vo_laws.specs.Separators.{AreSeparatedIn}
 
 pub record IsStanding (stored : List Stored) : Type 0 where
   pub tables : List Table

@@ -8,7 +8,7 @@ ghost use Rattle.table_list.specs.BatchResults.{BatchGives};
 ghost use Rattle.stored_tables.specs.View.{stored_in};
 ghost use Rattle.stored_tables.specs.Representation.{IsStanding};
 ghost use Rattle.vo_spec.specs.Tables.{apply_batch as apply_plain};
-ghost use Rattle.vo_laws.proofs.CommandLaws.{FitTables};
+ghost use Rattle.vo_laws.specs.FittingTables.{FitTables};
 ghost use Rattle.stored_tables.specs.Working.{work_from};
 ghost use Rattle.stored_tables.specs.Plain.{GivesPlain};
 

@@ -6,7 +6,7 @@ ghost use Rattle.vo_spec.specs.Batches.{FitsBatch, FitsCommand};
 ghost use Rattle.vo_spec.specs.Fits.{FitsTree};
 ghost use Rattle.vo_spec.specs.Records.{FitsCatalog, catalog_digest};
 ghost use Rattle.vo_spec.specs.Honest.{RepresentTables, stored_table_header, work, work_all, command_proof, catalog_of};
-ghost use Rattle.vo_laws.proofs.CommandLaws.{FitTables};
+ghost use Rattle.vo_laws.specs.FittingTables.{FitTables};
 ghost use Rattle.table_list.specs.Changes.{Returns};
 ghost use Rattle.table_list.specs.BatchResults.{BatchGives};
 ghost use Rattle.stored_tables.specs.View.{lent_stored, proof_list, stored_in};

@@ -13,7 +13,8 @@ use Rattle.vo_spec.specs.Fits.{FitsKey}
 use Rattle.vo_spec.specs.Inserts.{result_map, goes_here, one, two, Children, take_parts, drop_parts, after_child, has_key, first_key, put_insertion}
 use Rattle.vo_spec.specs.Removes.{joined_parts, is_underfull, settled_root, without_entry, with_left, with_right, settle_first, settle_next, shrink, shrink_in, shrink_after, tree_without_key, edit_entry, edited_by, edited_in, set_row, tree_with_cells}
 use Rattle.vo_laws.proofs.ListLaws.{each_left, each_right, each_both}
-use Rattle.vo_laws.proofs.TreeFits.{Separated, AreSeparated, SeparatedInsertion, SeparatedChildren, SeparatedTree, KeyFits, each_loadable, each_dropped, key_there, parts_taken, parts_dropped, first_fits, put_separated, after_separated, either_separated}
+use Rattle.vo_laws.proofs.TreeFits.{SeparatedInsertion, SeparatedChildren, SeparatedTree, KeyFits, each_loadable, each_dropped, key_there, parts_taken, parts_dropped, first_fits, put_separated, after_separated, either_separated}
+use Rattle.vo_laws.specs.Separators.{Separated, AreSeparated}
 
 -- Two siblings.
 

@@ -15,7 +15,6 @@ use Rattle.vo_spec.specs.declared.values.Value.{Value}
 use Rattle.vo_spec.specs.declared.values.Value.TheVariants.{Int, Text, Bool as Truth}
 use Rattle.vo_spec.specs.declared.values.Row.{Row}
 use Rattle.vo_spec.specs.declared.tables.Column.{Column}
-use Rattle.vo_spec.specs.declared.tables.Schema.{Schema}
 use Rattle.vo_spec.specs.declared.tables.Table.{Table}
 use Rattle.vo_spec.specs.declared.tables.Command.TheVariants.{Create, Insert}
 use Rattle.vo_spec.specs.declared.tables.CommandFault.{CommandFault}
@@ -23,12 +22,12 @@ use Rattle.vo_spec.specs.declared.tables.CommandFault.TheVariants.{TableExists, 
 use Rattle.vo_spec.specs.Firsts.{first_of}
 use Rattle.vo_spec.specs.Values.{kind_of, same_kind, key_of, key_lt, FitsValue, IsInRange, IsKeyOf, is_text}
 use Rattle.vo_spec.specs.Tables.{max_tables, max_rows, max_key, value_at, column_at, column_number, has_column, has_twice, are_of_kinds, TableHeader, table_header_of, table_header_named, is_bad_schema, insert_tests, on_table, refusal, row_of, put_row, table_named, put_table}
-use Rattle.vo_spec.specs.Names.{FitsName}
 use Rattle.vo_spec.specs.Batches.{FitCounted, FitsCommand}
 use Rattle.vo_spec.specs.Records.{FitsSchema}
 use Rattle.vo_spec.specs.Fits.{FitsRow}
 use Rattle.vo_spec.specs.Representation.{AreRising}
 use Rattle.vo_spec.specs.Checks.{key_kind, is_key_of}
+use Rattle.vo_laws.specs.FittingTables.{HasKinds, FitsTable, names_of, FitTables}
 use Rattle.vo_laws.proofs.KeyOrder.{same_key, key_lt_lt}
 use Rattle.vo_laws.proofs.ListLaws.{each_weaker, each_both, each_map, each_mapped}
 use Rattle.vo_laws.proofs.ValueOrder.{number_length}
@@ -125,11 +124,6 @@ key_inserted t values schema fits is =
 
 -- Tables with names that rise, each within its limits.
 
--- the row's key is one of its column's kind, and its other values are of their columns' kinds
-pub record HasKinds (schema : Schema) (row : Row) : Type 0 where
-  pub key : is_key_of (key_kind schema) row.key ≡ true
-  pub cells : are_of_kinds (remove schema.columns schema.key) row.cells ≡ true
-
 kinds_removed : (columns : List Column) (values : List Value) (k : ℕ) → are_of_kinds columns values ≡ true
     → are_of_kinds (remove columns k) (remove values k) ≡ true
 kinds_removed [] [] zero e = refl
@@ -159,21 +153,6 @@ row_has_kinds t values schema fits is = record {
       (not-true (same_kind (key_kind t.schema) kind.Bool) schema.key_kind) (value_there values t.schema.key fits) is.short;
   cells = kinds_removed t.schema.columns values t.schema.key is.kinds;
 }
-
-pub record FitsTable (t : Table) : Type 0 where
-  pub name : FitsName t.name
-  pub schema : FitsSchema t.schema
-  pub rows : AllByRecursion FitsRow t.rows
-  pub kinds : AllByRecursion (HasKinds t.schema) t.rows
-  pub count : length t.rows ≤ max_rows
-
-abbrev pub names_of : List Table → List (List ℕ)
-names_of = map (λ (t : Table). t.name)
-
-pub record FitTables (tables : List Table) : Type 0 where
-  pub each : AllByRecursion FitsTable tables
-  pub rising : AreRising (names_of tables)
-  pub count : length tables ≤ max_tables
 
 -- A table is dropped.
 

@@ -36,7 +36,7 @@ use Rattle.vo_laws.proofs.RepresentationLaws.{stands}
 use Rattle.vo_laws.proofs.ListLaws.{IsIn, each_both}
 use Rattle.vo_laws.proofs.ScanLaws.{IsNoneOrSame, Shows, sound, complete}
 use Rattle.vo_laws.proofs.PrunedLaws.{pruned_prunes, pruned_bare}
-use Rattle.vo_laws.proofs.CommandLaws.{FitTables}
+use Rattle.vo_laws.specs.FittingTables.{FitTables}
 use Rattle.vo_laws.proofs.ReplyTrees.{AreBelow, AreBounded, HasCells, pruned_complete, good}
 use Rattle.vo_laws.proofs.NamedFits.{cells_of, NamedFits, named_fits, named_cells_below}
 use Rattle.vo_laws.proofs.JoinLaws.{is_bytes}

@@ -17,7 +17,7 @@ use Rattle.vo_spec.specs.Results.{BoundSource, schema_at, no_schema, numbers_fro
 use Rattle.vo_spec.specs.Needs.{is_named_column, named_columns, named_cells}
 use Rattle.vo_laws.proofs.ListLaws.{IsIn, each_of, each_from, each_map, filter_in}
 use Rattle.vo_laws.proofs.AnswerLaws.{numbers_below}
-use Rattle.vo_laws.proofs.CommandLaws.{HasKinds, FitsTable}
+use Rattle.vo_laws.specs.FittingTables.{HasKinds, FitsTable}
 use Rattle.vo_laws.proofs.ReplyTrees.{AreBelow, HasCells}
 
 -- how many cells a row of this schema has

@@ -20,7 +20,7 @@ use Rattle.vo_spec.specs.Pruning.{prune_tree}
 use Rattle.vo_spec.specs.Representation.{Represents}
 use Rattle.vo_spec.specs.Needs.{uncut_need, right_need, meets_left, seen_row_view, needs, tables_used, same_table, tree_at}
 use Rattle.vo_spec.specs.Honest.{Stored, RepresentTables, catalog_of, stored_tree, trees_for, honest_trees}
-use Rattle.vo_laws.proofs.CommandLaws.{FitTables}
+use Rattle.vo_laws.specs.FittingTables.{FitTables}
 use Rattle.vo_laws.proofs.RepresentationLaws.{stands}
 use Rattle.vo_laws.proofs.NamedFits.{cells_of, named_fits, named_cells_below}
 use Rattle.vo_laws.proofs.ReplyTrees.{pruned_complete}

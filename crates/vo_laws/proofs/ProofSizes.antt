@@ -26,9 +26,10 @@ use Rattle.vo_spec.specs.TreeBytes.{entry_form, row_encoding, tree_bytes, trees_
 use Rattle.vo_spec.specs.Replies.{proofs_bytes, FitsProofs}
 use Rattle.vo_spec.specs.Honest.{Stored, RepresentTables, stored_table_header, work, proof_on, table_of, command_proof, honest_proofs, honest_trees}
 use Rattle.vo_laws.proofs.ListLaws.{each_both, each_weaker}
-use Rattle.vo_laws.proofs.CommandLaws.{FitTables}
+use Rattle.vo_laws.specs.FittingTables.{FitTables}
 use Rattle.vo_laws.proofs.RepresentationLaws.{InStep, FitAfter, command_in_step, stands}
-use Rattle.vo_laws.proofs.StoredFits.{AreSeparatedIn, SeparatedAfter, work_separated, honest_separated, each_tree_fits}
+use Rattle.vo_laws.proofs.StoredFits.{SeparatedAfter, work_separated, honest_separated, each_tree_fits}
+use Rattle.vo_laws.specs.Separators.{AreSeparatedIn}
 use Rattle.vo_laws.proofs.PrunedFits.{insert_proof_fits}
 use Rattle.vo_laws.proofs.ByteLengths.{length-u16, flat_within, keys_within, entries_within}
 use Rattle.vo_laws.proofs.ChangeProofs.{replace_proof_fits, replace_proof_size, remove_proof_fits, remove_proof_size}

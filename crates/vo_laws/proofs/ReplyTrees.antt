@@ -25,7 +25,7 @@ use Rattle.vo_spec.specs.Checks.{key_kind, is_key_of, shows_kind, cells_fit, row
 use Rattle.vo_spec.specs.Honest.{Stored, RepresentTables, catalog_of, stored_tree}
 use Rattle.vo_laws.specs.Columns.{HaveColumns}
 use Rattle.vo_laws.proofs.ListLaws.{each_weaker}
-use Rattle.vo_laws.proofs.CommandLaws.{HasKinds, FitsTable}
+use Rattle.vo_laws.specs.FittingTables.{HasKinds, FitsTable}
 use Rattle.vo_laws.proofs.PrunedLaws.{digest_same, walk_each, pruned_prunes}
 pub use Rattle.vo_laws.proofs.OneProof.{AreBelow}
 use Rattle.vo_laws.proofs.OneProof.{pruned_canonical}

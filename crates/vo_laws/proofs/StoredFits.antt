@@ -27,19 +27,15 @@ use Rattle.vo_spec.specs.Trees.{RowTree, row_family, digest}
 use Rattle.vo_spec.specs.Fits.{FitsKey, FitsRow, FitsTree}
 use Rattle.vo_spec.specs.Representation.{AreRising, IsTree, IsNode, fewest_in_root}
 use Rattle.vo_spec.specs.Honest.{Stored, RepresentTables, put_stored, tree_after, with_tree, behind_stored, change_tree, changed_trees, work, work_all, after_work, honest_trees, catalog_of, honest_record}
-use Rattle.vo_laws.proofs.CommandLaws.{insertable, FitsTable, FitTables, names_of, each_filter}
-use Rattle.vo_laws.proofs.TreeFits.{Separated, SeparatedTree, KeyFits, tree_separated}
+use Rattle.vo_laws.specs.Separators.{SeparatedIn, AreSeparatedIn}
+use Rattle.vo_laws.proofs.CommandLaws.{insertable, each_filter}
+use Rattle.vo_laws.specs.FittingTables.{FitsTable, FitTables, names_of}
+use Rattle.vo_laws.proofs.TreeFits.{SeparatedTree, KeyFits, tree_separated}
 use Rattle.vo_laws.proofs.ChangedFits.{removed_separated, replaced_separated}
 use Rattle.vo_laws.proofs.TreeLevels.{whole_fits}
 use Rattle.vo_laws.proofs.RepresentationLaws.{InStep, FitAfter, stored_table_headers, command_in_step, batch_in_step, InStepFrom, stands}
 
 -- The separators of what is stored fit.
-
-abbrev pub SeparatedIn : Stored → Type 0
-SeparatedIn s = Separated s.tree
-
-abbrev pub AreSeparatedIn : List Stored → Type 0
-AreSeparatedIn = AllByRecursion SeparatedIn
 
 abbrev pub SeparatedAfter : Result (List Stored) CommandFault → Type 0
 SeparatedAfter (Ok stored) = AreSeparatedIn stored

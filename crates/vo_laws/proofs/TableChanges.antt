@@ -20,7 +20,8 @@ use Rattle.vo_spec.specs.Fits.{FitsRow}
 use Rattle.vo_spec.specs.Representation.{AreRising}
 use Rattle.vo_laws.proofs.ListLaws.{each_weaker, each_map, none_any}
 use Rattle.vo_laws.proofs.InsertionNodes.{other_back}
-use Rattle.vo_laws.proofs.CommandLaws.{not_false, tests_fail, IsInsertable, insertable, HasKinds, row_has_kinds, FitsTable, names_of, FitTables, each_filter, filter_shorter, each_put_row, put_row_length, row_fits}
+use Rattle.vo_laws.proofs.CommandLaws.{not_false, tests_fail, IsInsertable, insertable, row_has_kinds, each_filter, filter_shorter, each_put_row, put_row_length, row_fits}
+use Rattle.vo_laws.specs.FittingTables.{HasKinds, FitsTable, names_of, FitTables}
 
 -- The rows of one table.
 

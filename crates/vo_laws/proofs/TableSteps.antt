@@ -32,7 +32,8 @@ use Rattle.vo_laws.proofs.ListLaws.{each_weaker, each_map}
 use Rattle.vo_laws.specs.Changing.{Changes}
 use Rattle.vo_laws.proofs.RepresentingTrees.{Inserts, inserted_stands, removed_stands, replaced_stands}
 use Rattle.vo_laws.proofs.ExactOutcomes.{nothing_stands}
-use Rattle.vo_laws.proofs.CommandLaws.{names_of, each_filter, each_put_row}
+use Rattle.vo_laws.proofs.CommandLaws.{each_filter, each_put_row}
+use Rattle.vo_laws.specs.FittingTables.{names_of}
 use Rattle.vo_laws.proofs.TableChanges.{others_kept}
 
 -- Both go on in step, or both refuse for one reason.

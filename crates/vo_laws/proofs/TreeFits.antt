@@ -12,22 +12,13 @@ use Rattle.vo_spec.specs.Trees.{RowTree, RowTrees, row_family}
 use Rattle.vo_spec.specs.Fits.{FitsKey, FitsEntry, FitsEach, FitsPart}
 use Rattle.vo_spec.specs.Inserts.{min_fill, result_map, goes_here, Insertion, one, two, Children, take_parts, drop_parts, after_child, has_key, put_entry, first_key, split_leaf, split_inner, put_insertion, grow, grow_in, root_of, tree_with_entry}
 use Rattle.vo_spec.specs.Representation.{IsNode, AreNodes, fewest_in_root}
+use Rattle.vo_laws.specs.Separators.{Separated, AreSeparated}
 use Rattle.vo_laws.proofs.ListLaws.{each_left, each_right, each_both}
 use Rattle.vo_laws.proofs.NodeBounds as bounds
 use Rattle.vo_laws.proofs.InsertionNodes.{put_each}
 use Rattle.vo_laws.proofs.Insertion.{root_few}
 
 -- Separators that fit.
-
-abbrev mutual
-  pub Separated : RowTree → Type 0
-  Separated (stub d) = Unit {0}
-  Separated (leaf es) = Unit {0}
-  Separated (inner ss ps) = AllByRecursion FitsKey ss × AreSeparated ps
-
-  pub AreSeparated : RowTrees → Type 0
-  AreSeparated none = Unit {0}
-  AreSeparated (more m p ps) = Separated p × AreSeparated ps
 
 abbrev pub SeparatedInsertion : Result (Insertion PartEntry (Unit {0})) UpdateFault → Type 0
 SeparatedInsertion (Ok (one p)) = Separated p

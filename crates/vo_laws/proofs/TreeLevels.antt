@@ -15,7 +15,8 @@ use Rattle.vo_spec.specs.Trees.{RowTree, row_family}
 use Rattle.vo_spec.specs.Fits.{FitsCell, FitsEntry, FitsRow, FitsTree}
 use Rattle.vo_spec.specs.Inserts.{min_fill}
 use Rattle.vo_spec.specs.Representation.{IsNode, AreNodes, fewest_in_root, Represents}
-use Rattle.vo_laws.proofs.TreeFits.{Separated, node_fits}
+use Rattle.vo_laws.proofs.TreeFits.{node_fits}
+use Rattle.vo_laws.specs.Separators.{Separated}
 
 -- how many entries a node has at least that isn't the root, so many levels above its leaves
 abbrev least : ℕ → ℕ

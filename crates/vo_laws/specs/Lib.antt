@@ -2,3 +2,5 @@ pub mod Changing
 pub mod Sealing
 pub mod Columns
 pub mod UpdateProofs
+pub mod FittingTables
+pub mod Separators

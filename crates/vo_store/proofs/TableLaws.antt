@@ -21,7 +21,7 @@ use Rattle.vo_spec.specs.Owners.{IsSigned}
 use Rattle.vo_spec.specs.Records.{FitsRecord}
 use Rattle.vo_spec.specs.Replies.{FitsReply, IsReply, Reply, max_reply, proofs_bytes, reply_bytes}
 use Rattle.vo_spec.specs.Honest.{RepresentTables, Stored, after_work, honest_proofs, honest_record, honest_reply, work_all}
-use Rattle.vo_laws.proofs.CommandLaws.{FitTables}
+use Rattle.vo_laws.specs.FittingTables.{FitTables}
 use Rattle.vo_laws.proofs.CompleteReplies.{honest_answer}
 use Rattle.vo_laws.proofs.ProofSizes.{honest_proofs_fit}
 use Rattle.vo_laws.proofs.ReplyFits.{reply_fits}

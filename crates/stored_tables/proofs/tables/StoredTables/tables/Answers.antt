@@ -1,6 +1,6 @@
 use Rattle.std.proofs.Common.{sym, ap, subst, map, ◌∙◌}
 use Rattle.vo_spec.specs.Honest.{RepresentTables}
-use Rattle.vo_laws.proofs.CommandLaws.{FitTables}
+use Rattle.vo_laws.specs.FittingTables.{FitTables}
 use Rattle.stored_tables.specs.View.{stored_in}
 use Rattle.stored_tables.specs.Plain.{plain_table}
 use Rattle.stored_tables.proofs.PlainLaws.{plain_stand, plain_fit}
