@@ -15,5 +15,5 @@ pub use left_tree::left_need;
 pub use needing::right_needs;
 pub use ran::Ran;
 pub use row_views::SeenRowView;
-pub use running::{run_alone, run_plan};
+pub use running::{rows_of_seen, run_plan};
 pub use seeing::lefts_of;

@@ -64,7 +64,7 @@ pub fn run_plan(
 
 /// The rows that a plan without a join shows, by the rows that were seen for its uncut need, whoever
 /// saw them.
-pub fn run_alone(
+pub fn rows_of_seen(
     alloc: Global,
     plan: &Plan<'_, '_>,
     rows: &[SeenRow],

@@ -26,7 +26,7 @@ use Rattle.reply_stream.proofs.PartLaws.{parts_again, parts_found}
 use Rattle.tree_stream.proofs.AllBytes.{IsBytes-append}
 use Rattle.reply_tests.specs.Accepting.{IsSignedReply}
 use Rattle.reply_tests.proofs.AcceptedRecords.{accepted}
-use Rattle.vo_check.specs.Alone.{plan_for}
+use Rattle.vo_check.specs.Streamed.{plan_for}
 use Rattle.vo_check.specs.Checkings.{CheckingModel, ReadsTrees, no_bytes_of, with_piece, without_memory}
 
 not_none : {A : Type 0} {x : A} → Some x ≡ None → ⊥
@@ -111,11 +111,11 @@ module _ (key : List ℕ) (least : ℕ) (q : Query) (bytes : List ℕ) (short : 
   answered_reply r reply result (inr e) = inr (inr (inr (short, r, reply, e)))
 
 -- what holds of a state that was fed
-pub if_fed : {A : Type 0} (fed : Result (Unit {0}) AllocError) (result : Result A AllocError) (state : A) (P : A → Type 0) → OnOk fed (result ≡ Ok state) → OnErr fed (IsErr result)
+pub unless_out_of_memory : {A : Type 0} (fed : Result (Unit {0}) AllocError) (result : Result A AllocError) (state : A) (P : A → Type 0) → OnOk fed (result ≡ Ok state) → OnErr fed (IsErr result)
     → (H : Type 0) → OnOk fed H → (H → P state) → IfOk result P
-if_fed {A = A} (Ok done) result state P ok err H h holds = subst (λ (r : Result A AllocError). IfOk r P) (sym ok) (holds h)
-if_fed (Err error) (Ok value) state P ok err H h holds = absurd cc
-if_fed (Err error) (Err other) state P ok err H h holds = tt
+unless_out_of_memory {A = A} (Ok done) result state P ok err H h holds = subst (λ (r : Result A AllocError). IfOk r P) (sym ok) (holds h)
+unless_out_of_memory (Err error) (Ok value) state P ok err H h holds = absurd cc
+unless_out_of_memory (Err error) (Err other) state P ok err H h holds = tt
 
 -- All bytes that came in one piece, whether or not memory was found for it.
 pub fed_whole : (o : Result (Unit {0}) AllocError) (old new : CheckingModel) (query : QueryText) (piece : List ℕ) → old ≡ no_bytes_of query → OnOk o (new ≡ with_piece old piece)

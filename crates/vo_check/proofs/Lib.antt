@@ -1,3 +1,3 @@
 pub mod RisingColumns
-pub mod AloneLaws
+pub mod StreamedLaws
 pub mod CheckingLaws

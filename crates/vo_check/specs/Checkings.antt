@@ -13,7 +13,7 @@ use Rattle.reply_stream.specs.TreesStreams.{trees_of, WantsMemory}
 use Rattle.vo_check.specs.declared.progress.Progress.{Progress}
 use Rattle.vo_check.specs.declared.progress.Progress.TheVariants.{Head, Trees, Kept, TooLong, OutOfMemory}
 use Rattle.vo_check.specs.Streaming.{IsStreamed, IsKept}
-use Rattle.vo_check.specs.Alone.{plan_for}
+use Rattle.vo_check.specs.Streamed.{plan_for}
 
 -- a query, the bytes of its reply that came, and whether one of the pieces found no memory
 pub record CheckingModel : Type 0 where

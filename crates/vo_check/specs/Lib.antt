@@ -1,3 +1,3 @@
-pub mod Alone
+pub mod Streamed
 pub mod Checkings
 pub mod Streaming

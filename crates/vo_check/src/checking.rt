@@ -10,7 +10,7 @@ ghost use Rattle.vo_check.specs.Checkings.{HasHead, WantsRow, with_piece, withou
 
 use crate::client::Client;
 use crate::ending::end_progress;
-use crate::feeding::{feed_progress, let_go};
+use crate::feeding::{feed_progress, forget_reply};
 use crate::progress::Progress;
 use reply_stream::ReplyLength;
 use running_hash::{ByteLog, Piece};
@@ -72,7 +72,7 @@ impl Checking<'_> {
         self.count.add(piece);
         self.log = self.log.with_piece(&Piece { bytes: piece });
         if self.count.excess().is_some() {
-            let_go(&mut self.progress);
+            forget_reply(&mut self.progress);
             return Ok(());
         }
         feed_progress(&mut self.progress, alloc, self.query, piece)

@@ -8,9 +8,9 @@ ghost use Rattle.reply_stream.specs.Lengths.{count_up_to_most};
 ghost use Rattle.vo_check.specs.Streaming.{IsStreamed};
 ghost use Rattle.vo_check.specs.Checkings.{StandsBehind, SuitsQuery, is_out_of_memory};
 
-use crate::alone::judge_alone;
 use crate::client::Client;
 use crate::progress::{OpenReply, Progress};
+use crate::streamed::judge_streamed;
 use reply_stream::ReplyLength;
 use std::alloc::Global;
 use vo_spec::{Answer, CheckFault, QueryText};
@@ -90,7 +90,7 @@ fn end_reply(
 {
     let OpenReply { head, trees } = reply;
     match trees.end() {
-        Some(trees) => judge_alone(alloc, client.key(), client.least(), query, &head, &trees),
+        Some(trees) => judge_streamed(alloc, client.key(), client.least(), query, &head, &trees),
         None => Err(CheckFault::BadForm),
     }
 }

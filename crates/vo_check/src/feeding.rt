@@ -28,7 +28,7 @@ pub(crate) fn first_progress(alloc: Global, query: &QueryText) -> Progress
 }
 
 /// Lets go of what was read of a reply over the limit, of which only the length counts.
-pub(crate) fn let_go(progress: &mut Progress)
+pub(crate) fn forget_reply(progress: &mut Progress)
     ensures stands { (q : Query) (bytes : List ℕ) → max_reply < length bytes
         → StandsBehind q progress.new bytes }
     ensures out { is_out_of_memory progress.new ≡ is_out_of_memory progress.old }
@@ -159,11 +159,11 @@ fn begin_trees(
 {
     let mut trees = TreesStream::new(target_for(alloc, query, head.catalog())?);
     let fed = trees.feed(alloc, left);
-    if_fed(Progress::Trees(OpenReply { head, trees }), fed)
+    unless_out_of_memory(Progress::Trees(OpenReply { head, trees }), fed)
 }
 
 /// What was fed, unless that found no memory.
-fn if_fed<T: Drop>(state: T, fed: Result<(), AllocError>) -> Result<T, AllocError>
+fn unless_out_of_memory<T: Drop>(state: T, fed: Result<(), AllocError>) -> Result<T, AllocError>
     ensures ok { OnOk fed (result ≡ Ok state) }
     ensures err { OnErr fed (IsErr result) }
 {

@@ -1,12 +1,12 @@
 //! The client's check of a reply.
 #![tactic(auto)]
 
-mod alone;
 mod checking;
 mod client;
 mod ending;
 mod feeding;
 mod progress;
+mod streamed;
 mod streaming;
 mod targets;
 

@@ -6,7 +6,7 @@ ghost use Rattle.vo_spec.specs.Records.{FitsCatalog};
 ghost use Rattle.vo_spec.specs.Results.{schema_at};
 ghost use Rattle.query_binding.specs.HeldSources.{bound_sources_seen};
 ghost use Rattle.query_plan.specs.BoundViews.{query_seen};
-ghost use Rattle.vo_check.specs.Alone.{bound_target as target_of_bound, target_for};
+ghost use Rattle.vo_check.specs.Streamed.{bound_target as target_of_bound, target_for};
 
 use query_plan::{BindFault, Plan, Query, bind, plan};
 use reply_stream::Target;

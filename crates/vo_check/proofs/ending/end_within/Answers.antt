@@ -1,7 +1,7 @@
 use Rattle.std.proofs.Common.{[], append-nil, ap, inr, subst, sym, ◌∙◌}
 use Rattle.vo_spec.specs.Conditions.{query_of}
 use Rattle.reply_stream.specs.Heads.{head_at}
-use Rattle.vo_check.specs.Alone.{plan_for}
+use Rattle.vo_check.specs.Streamed.{plan_for}
 use Rattle.vo_check.specs.Checkings.{StandsBehind}
 use Rattle.vo_check.specs.declared.progress.Progress.{Progress}
 use Rattle.vo_check.proofs.CheckingLaws.{no_head, no_reply}

@@ -5,10 +5,10 @@ use Rattle.tree_stream.specs.declared.target.Target.{Target}
 use Rattle.reply_stream.specs.Heads.{head_at}
 use Rattle.reply_stream.specs.ReplyTrees.{trees_at}
 use Rattle.reply_stream.specs.TreesStreams.{trees_of}
-use Rattle.vo_check.specs.Alone.{target_for}
+use Rattle.vo_check.specs.Streamed.{target_for}
 use Rattle.vo_check.specs.Checkings.{StandsBehind, is_out_of_memory}
 use Rattle.vo_check.specs.declared.progress.Progress.{Progress}
-use Rattle.vo_check.proofs.CheckingLaws.{begun, if_fed}
+use Rattle.vo_check.proofs.CheckingLaws.{begun, unless_out_of_memory}
 use Rattle.vo_check.proofs.feeding.begin_trees.Goals as goal
 
 pub returns-clause-stands : goal.returns-clause-stands
@@ -17,7 +17,7 @@ returns-clause-stands c =
     let head = c.args.head in
     let left = c.args.left.now in
     let Stands : Progress → Type 0 = λ next. (bytes : List ℕ) → c.args.query.now.join ≡ None → ((more : List ℕ) → head_at (bytes ++ more) ≡ Some (head, left ++ more)) → StandsBehind q next bytes in
-    if_fed c.feed-fed.result c.if_fed.result _ Stands c.if_fed.ensures.ok c.if_fed.ensures.err
+    unless_out_of_memory c.feed-fed.result c.unless_out_of_memory.result _ Stands c.unless_out_of_memory.ensures.ok c.unless_out_of_memory.ensures.err
     ((more : List ℕ) → trees_of c.feed-fed.new.self more ≡ trees_of c.new-trees.result (left ++ more)) c.feed-fed.ensures.ok
     (λ fed bytes none head_is. (
       none,
@@ -27,4 +27,4 @@ returns-clause-stands c =
 
 pub returns-clause-out : goal.returns-clause-out
 returns-clause-out c =
-    if_fed c.feed-fed.result c.if_fed.result _ (λ next. is_out_of_memory next ≡ false) c.if_fed.ensures.ok c.if_fed.ensures.err _ c.feed-fed.ensures.ok (λ fed. refl)
+    unless_out_of_memory c.feed-fed.result c.unless_out_of_memory.result _ (λ next. is_out_of_memory next ≡ false) c.unless_out_of_memory.ensures.ok c.unless_out_of_memory.ensures.err _ c.feed-fed.ensures.ok (λ fed. refl)

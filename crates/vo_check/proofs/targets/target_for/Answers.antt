@@ -2,8 +2,8 @@ use Rattle.std.proofs.Common.{sym, subst}
 use Rattle.vo_spec.specs.Conditions.{query_of}
 use Rattle.query_plan.specs.BoundViews.{query_seen}
 use Rattle.query_plan.proofs.Narrow.{bound_sources_narrow}
-use Rattle.vo_check.specs.Alone.{bound_target, target_for}
-use Rattle.vo_check.proofs.AloneLaws.{few_left, few_right, same_target, target_same}
+use Rattle.vo_check.specs.Streamed.{bound_target, target_for}
+use Rattle.vo_check.proofs.StreamedLaws.{few_left, few_right, same_target, target_same}
 use Rattle.vo_check.proofs.targets.target_for.Goals as goal
 
 pub bound_target-requires-clause-left : goal.bound_target-requires-clause-left

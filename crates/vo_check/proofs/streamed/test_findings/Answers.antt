@@ -1,5 +1,5 @@
 use Rattle.std.proofs.Common.{inr, refl}
-use Rattle.vo_check.proofs.alone.test_findings.Goals as goal
+use Rattle.vo_check.proofs.streamed.test_findings.Goals as goal
 
 pub returns-then-findings : goal.returns-then-findings
 returns-then-findings c = inr (rw c.if-findings.true refl)

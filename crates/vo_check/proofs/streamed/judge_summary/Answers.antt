@@ -1,8 +1,8 @@
 use Rattle.std.specs.Prelude.{option_map}
 use Rattle.query_plan.specs.BoundViews.{query_seen}
 use Rattle.query_plan.specs.PlanViews.{plan_seen}
-use Rattle.vo_check.proofs.AloneLaws.{shown_by}
-use Rattle.vo_check.proofs.alone.judge_summary.Goals as goal
+use Rattle.vo_check.proofs.StreamedLaws.{shown_by}
+use Rattle.vo_check.proofs.streamed.judge_summary.Goals as goal
 
 pub returns-in-Ok-plan : goal.returns-in-Ok-plan
 returns-in-Ok-plan c = λ tree sum.

@@ -2,8 +2,8 @@ use Rattle.std.proofs.Common.{sym, subst}
 use Rattle.vo_spec.specs.Conditions.{query_of}
 use Rattle.query_plan.specs.BoundViews.{query_seen}
 use Rattle.query_plan.proofs.Narrow.{bound_sources_narrow}
-use Rattle.vo_check.proofs.AloneLaws.{few_left, few_right, has_schema, judged_bound}
-use Rattle.vo_check.proofs.alone.judge_trees.Goals as goal
+use Rattle.vo_check.proofs.StreamedLaws.{few_left, few_right, has_schema, judged_bound}
+use Rattle.vo_check.proofs.streamed.judge_trees.Goals as goal
 
 pub judge_bound-requires-clause-schema : goal.judge_bound-requires-clause-schema
 judge_bound-requires-clause-schema c = has_schema c.args.catalog.now (query_of c.args.query.now) (query_seen c.in-Ok.query) c.in-Ok.ensures.value

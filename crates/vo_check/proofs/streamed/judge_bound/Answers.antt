@@ -2,8 +2,8 @@ use Rattle.std.proofs.Common.{◌∙◌, ap}
 use Rattle.std.specs.Prelude.{List, option_map}
 use Rattle.vo_spec.specs.declared.records.CatalogTable.{CatalogTable}
 use Rattle.vo_spec.specs.Checks.{table_named}
-use Rattle.vo_check.proofs.AloneLaws.{judged_by_summary}
-use Rattle.vo_check.proofs.alone.judge_bound.Goals as goal
+use Rattle.vo_check.proofs.StreamedLaws.{judged_by_summary}
+use Rattle.vo_check.proofs.streamed.judge_bound.Goals as goal
 
 pub returns-in-Some-first : goal.returns-in-Some-first
 returns-in-Some-first c = λ r found.

@@ -17,10 +17,10 @@ ghost use Rattle.plan_run.specs.Running.{run_rows};
 ghost use Rattle.reply_stream.specs.ReplyParts.{parts_of};
 ghost use Rattle.reply_tests.specs.Judging.{bound_fault, proof_fault, shown_for};
 ghost use Rattle.reply_tests.specs.Testing.{GivesIfPassed, PassesTests};
-ghost use Rattle.vo_check.specs.Alone.{HasFound, HasSchema, IsSummedUp, bound_target, findings_fault, plan_for, summary_fault, table_fault, target_for};
+ghost use Rattle.vo_check.specs.Streamed.{HasFound, HasSchema, IsSummedUp, bound_target, findings_fault, plan_for, summary_fault, table_fault, target_for};
 
 use lms_sign::PublicKey;
-use plan_run::run_alone;
+use plan_run::rows_of_seen;
 use query_plan::{BindFault, Plan, Query, bind, header, plan};
 use reply_stream::{Findings, Head, Summary, TreesSummary};
 use reply_tests::{count_fault, table_named, test_digest, test_head};
@@ -75,7 +75,7 @@ fn show_rows(alloc: Global, plan: &Plan<'_, '_>, rows: &[SeenRow]) -> Result<Out
         → (let p = plan_seen plan.now in GivesIfPassed result None
         (Rows (header_of p.query.bound_sources p.query.items) (run_rows p (tree ∷ [])))) }
 {
-    let Ok(rows) = run_alone(alloc, plan, rows) else {
+    let Ok(rows) = rows_of_seen(alloc, plan, rows) else {
         return Err(CheckFault::Memory);
     };
     match header(alloc, &plan.query.bound_sources, plan.query.items) {
@@ -202,7 +202,7 @@ fn answer_of(
 /// What a client of this key, who takes no version below `least`, says of a reply to the query with
 /// this head and these trees: its answer, or the first test that refuses it.
 #[tactic(auto, unfolding(vo_spec::specs::Checks::answer_to))]
-pub(crate) fn judge_alone(
+pub(crate) fn judge_streamed(
     alloc: Global,
     key: &PublicKey,
     least: u64,

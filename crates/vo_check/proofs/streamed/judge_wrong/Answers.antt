@@ -1,5 +1,5 @@
-use Rattle.vo_check.proofs.AloneLaws.{wrong_count, wrong_passed}
-use Rattle.vo_check.proofs.alone.judge_wrong.Goals as goal
+use Rattle.vo_check.proofs.StreamedLaws.{wrong_count, wrong_passed}
+use Rattle.vo_check.proofs.streamed.judge_wrong.Goals as goal
 
 pub returns-in-Some : goal.returns-in-Some
 returns-in-Some c = λ q catalog r wrong found. wrong_count q catalog c.args.trees.now r c.args.fault wrong found c.in-Some.fault c.in-Some.ensures
