@@ -12,7 +12,8 @@ use Rattle.reply_meeting.specs.declared.meeting.MeetFault.{MeetFault}
 use Rattle.reply_meeting.specs.declared.meeting.MeetFault.TheVariants.{First, Second, Memory}
 use Rattle.vo_format.specs.View.{reply_of}
 use Rattle.reply_meeting.specs.Accepting.{IsAccepted}
-use Rattle.reply_meeting.specs.Comparing.{HoldsUnlessFound, ShowTheSame}
+use Rattle.tree_collide.specs.Agreements.{HoldsOrCollides}
+use Rattle.reply_meeting.specs.Comparing.{ShowTheSame, AreOfReplies}
 use Rattle.reply_meeting.specs.Meetings.{IsMeeting, MeetOf, RepliesMeet, first_fault, second_fault}
 use Rattle.reply_meeting.proofs.Telling.{shown_same, shown_told}
 
@@ -75,5 +76,5 @@ module _ (key : List ℕ) (q : Query) (first second : List ℕ) where
 pub none_found : (r s : Reply) → r.rec ≡ s.rec → ShowTheSame r s → IsMeeting r s Same
 none_found r s rec same = (rec, shown_same r s same)
 
-pub one_found : (r s : Reply) (found : List ℕ × List ℕ) → FitsReply r → FitsReply s → r.rec ≡ s.rec → HoldsUnlessFound (Some found) (ShowTheSame r s) → IsMeeting r s (Collide found)
-one_found r s found f g rec h = (rec, (λ same. h.0 (shown_told r s f g same)), h.1)
+pub one_found : (r s : Reply) (found : List ℕ × List ℕ) → FitsReply r → FitsReply s → r.rec ≡ s.rec → HoldsOrCollides (Some found) (ShowTheSame r s) (AreOfReplies r s) → IsMeeting r s (Collide found)
+one_found r s found f g rec h = (rec, (λ same. h.0 (shown_told r s f g same)), h.1.0, h.1.1)

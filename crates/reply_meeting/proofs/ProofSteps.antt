@@ -1,5 +1,5 @@
 -- One tree further: what is left decides for all.
-use Rattle.std.proofs.Common.{◌≡◌, ◌≢◌, ℕ, ◌+◌, ◌<◌, ◌≤◌, List, [], ◌∷◌, length, map, get_or, drop, sym, ap, ◌∙◌, subst, arith}
+use Rattle.std.proofs.Common.{◌≡◌, ◌≢◌, ℕ, zero, suc, inl, inr, ◌+◌, ◌<◌, ◌≤◌, List, [], ◌∷◌, length, map, get_or, drop, sym, ap, ◌∙◌, subst, arith}
 use Rattle.std.specs.List.{AllZip}
 use Rattle.std.proofs.lemmas.List.{drop_all}
 use Rattle.vo_spec.specs.declared.needs.Need.{Need}
@@ -8,6 +8,7 @@ use Rattle.vo_spec.specs.Pruning.{IsCanonical}
 use Rattle.mb_tree.specs.declared.parts.PartTree.{PartTree}
 use Rattle.mb_tree.specs.View.{part_of}
 use Rattle.tree_collide.proofs.PruningLaws.{here}
+use Rattle.tree_collide.specs.Preimages.{ArePreimages, AreOfTrees}
 use Rattle.reply_meeting.specs.Comparing.{AreTwins}
 
 pub record ProofsLeft (needs : List (List Need)) (ps qs : List RowTree) (all : Type 0) : Type 0 where
@@ -56,6 +57,16 @@ module _ (i : ℕ) (needs : List (List Need)) (ps qs : List PartTree) (ns : List
 
       tails : (x y : RowTree) (xs ys : List RowTree) → (x ∷ xs) ≡ (y ∷ ys) → xs ≡ ys
       tails x y xs ys e = cc
+
+-- strings of two trees at one place are of the trees
+pub of_trees_at : (ps qs : List PartTree) (i : ℕ) (p q : PartTree) → i < length ps → p ≡ get_or ps i p → i < length qs → q ≡ get_or qs i q → (x y : List ℕ)
+    → ArePreimages (part_of p) (part_of q) x y → AreOfTrees (map part_of ps) (map part_of qs) x y
+of_trees_at [] qs i p q lp p_is lq q_is x y are = absurd (omega arith)
+of_trees_at (r ∷ ps) [] i p q lp p_is lq q_is x y are = absurd (omega arith)
+of_trees_at (r ∷ ps) (t ∷ qs) zero p q lp p_is lq q_is x y are =
+    inl (subst (λ (u : PartTree). ArePreimages (part_of u) (part_of t) x y) p_is (subst (λ (u : PartTree). ArePreimages (part_of p) (part_of u) x y) q_is are))
+of_trees_at (r ∷ ps) (t ∷ qs) (suc i) p q lp p_is lq q_is x y are =
+    inr (of_trees_at ps qs i p q (omega arith) p_is (omega arith) q_is x y are)
 
 pub proofs_done : (i : ℕ) (needs : List (List Need)) (ps qs : List PartTree) (all : Type 0) → length ps ≤ i → length ps ≡ length qs
     → ProofsLeft needs (map part_of (drop i ps)) (map part_of (drop i qs)) all → all

@@ -11,25 +11,29 @@ use Rattle.vo_spec.specs.Replies.{Reply, FitsReply, reply_bytes}
 use Rattle.vo_laws.proofs.CatalogEncoding.{catalog_told, catalogs_collide}
 use Rattle.vo_format.specs.Reading.{reply_at}
 use Rattle.vo_format.proofs.ReplyLaws.{reply_again}
-use Rattle.reply_meeting.specs.Comparing.{HoldsUnlessFound, ShowTheSame}
+use Rattle.tree_collide.specs.Agreements.{HoldsOrCollides}
+use Rattle.tree_collide.specs.Preimages.{OfStrings}
+use Rattle.reply_meeting.specs.Comparing.{ShowTheSame}
 use Rattle.reply_meeting.specs.Meetings.{shown_bytes}
 
 abbrev Found : Type 0
 Found = Option (List ℕ × List ℕ)
 
-pub not_found : (found : Found) (fact : Type 0) → is_some found ≡ false → HoldsUnlessFound found fact → fact
-not_found None fact e h = h
-not_found (Some pair) fact e h = absurd (cc)
+pub not_found : (found : Found) (fact : Type 0) (Are : OfStrings) → is_some found ≡ false → HoldsOrCollides found fact Are → fact
+not_found None fact Are e h = h
+not_found (Some pair) fact Are e h = absurd (cc)
 
 -- what is found against a part of a fact is found against the fact
-pub found_of_part : (found : Found) (part fact : Type 0) → (fact → part) → is_some found ≡ true → HoldsUnlessFound found part → HoldsUnlessFound found fact
-found_of_part None part fact f e h = absurd (cc)
-found_of_part (Some pair) part fact f e h = (λ x. h.0 (f x), h.1)
+pub found_of_part : (found : Found) (part fact : Type 0) (Are All : OfStrings) → (fact → part) → ((x y : List ℕ) → Are x y → All x y) → is_some found ≡ true
+    → HoldsOrCollides found part Are → HoldsOrCollides found fact All
+found_of_part None part fact Are All f g e h = absurd (cc)
+found_of_part (Some pair) part fact Are All f g e h = ((λ x. h.0 (f x)), h.1.0, g pair.0 pair.1 h.1.1)
 
-pub found_as : {E : Type 0} (r : Result Found E) (part fact : Type 0) → (part → fact) → (fact → part) → IfOk r (λ found. HoldsUnlessFound found part) → IfOk r (λ found. HoldsUnlessFound found fact)
-found_as (Ok None) part fact f g h = f h
-found_as (Ok (Some pair)) part fact f g h = (λ x. h.0 (g x), h.1)
-found_as (Err e) part fact f g h = tt
+pub found_as : {E : Type 0} (r : Result Found E) (part fact : Type 0) (Are All : OfStrings) → (part → fact) → (fact → part) → ((x y : List ℕ) → Are x y → All x y)
+    → IfOk r (λ found. HoldsOrCollides found part Are) → IfOk r (λ found. HoldsOrCollides found fact All)
+found_as (Ok None) part fact Are All f g k h = f h
+found_as (Ok (Some pair)) part fact Are All f g k h = ((λ x. h.0 (g x)), h.1.0, k pair.0 pair.1 h.1.1)
+found_as (Err e) part fact Are All f g k h = tt
 
 -- Catalogs.
 

@@ -1,23 +1,21 @@
 -- What is compared of two replies, and what is found.
-use Rattle.std.specs.Prelude.{◌≡◌, ℕ, List, length, Option, Some, None}
+use Rattle.std.specs.Prelude.{◌≡◌, ◌⊎◌, List, length}
 use Rattle.std.specs.List.{AllZip}
-use Rattle.vo_spec.specs.Collides.{Collides}
 use Rattle.vo_spec.specs.Fits.{FitsPart}
 use Rattle.vo_spec.specs.Trees.{RowTree, digest}
 use Rattle.vo_spec.specs.Pruning.{IsCanonical}
 use Rattle.vo_spec.specs.Needs.{tables_used}
 use Rattle.vo_spec.specs.Replies.{Reply}
+use Rattle.tree_collide.specs.Preimages.{OfStrings, AreOfTrees, AreCatalogs}
 use Rattle.query_plan.specs.Plans.{QueryPlan}
 use Rattle.plan_run.specs.Running.{run_needs}
 
--- the fact holds exactly where nothing is found; what is found are two different byte strings of
--- one digest
-abbrev pub HoldsUnlessFound : Option (List ℕ × List ℕ) → Type 0 → Type 0
-HoldsUnlessFound None fact = fact
-HoldsUnlessFound (Some found) fact = (fact → ⊥) × Collides found.0 found.1
-
 abbrev pub ShowTheSame : Reply → Reply → Type 0
 ShowTheSame r s = (r.catalog ≡ s.catalog) × (r.trees ≡ s.trees)
+
+-- what their catalogs hash, or two of their trees at one place
+abbrev pub AreOfReplies : Reply → Reply → OfStrings
+AreOfReplies r s x y = AreCatalogs r.catalog s.catalog x y ⊎ AreOfTrees r.trees s.trees x y
 
 -- two trees of one digest
 pub record AreTwins (p q : RowTree) : Type 0 where

@@ -14,20 +14,22 @@ use Rattle.reply_meeting.specs.declared.meeting.Meeting.TheVariants.{Apart, TwoR
 use Rattle.reply_meeting.specs.declared.meeting.MeetFault.{MeetFault}
 use Rattle.reply_meeting.specs.declared.meeting.MeetFault.TheVariants.{First, Second, Memory}
 use Rattle.reply_meeting.specs.Accepting.{IsAccepted}
+use Rattle.reply_meeting.specs.Comparing.{AreOfReplies}
 
 -- the bytes of a reply after its signature
 abbrev pub shown_bytes : Reply → List ℕ
 shown_bytes r = block (catalog_bytes r.catalog) ++ length r.trees ∷ flat_map tree_bytes r.trees
 
 -- The versions differ; or else the records do; or the replies show the same, to the byte; or they
--- don't, and here are two different byte strings with one digest.
+-- don't, and here are two different byte strings with one digest, the first of which the first
+-- reply's catalog or one of its trees hashes, and the second that of the second reply at its place.
 abbrev pub IsMeeting : Reply → Reply → Meeting → Type 0
 IsMeeting r s (Apart one other) = (r.rec.version ≢ s.rec.version) × (one ≡ r.rec.version)
     × (other ≡ s.rec.version)
 IsMeeting r s TwoRecords = (r.rec.version ≡ s.rec.version) × (r.rec ≢ s.rec)
 IsMeeting r s Same = (r.rec ≡ s.rec) × (shown_bytes r ≡ shown_bytes s)
 IsMeeting r s (Collide found) = (r.rec ≡ s.rec) × (shown_bytes r ≢ shown_bytes s)
-    × Collides found.0 found.1
+    × Collides found.0 found.1 × AreOfReplies r s found.0 found.1
 
 -- why they don't meet, by why a client refuses the one
 abbrev pub first_fault : CheckFault → MeetFault

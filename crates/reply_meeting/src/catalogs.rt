@@ -1,7 +1,8 @@
 //! The catalogs of two replies of one record.
 ghost use Rattle.std.specs.Prelude.{◌≡◌, ◌∷◌, IfOk};
 ghost use Rattle.vo_spec.specs.Records.{FitsCatalog, catalog_bytes, catalog_digest};
-ghost use Rattle.reply_meeting.specs.Comparing.{HoldsUnlessFound};
+ghost use Rattle.tree_collide.specs.Agreements.{HoldsOrCollides};
+ghost use Rattle.tree_collide.specs.Preimages.{AreCatalogs};
 
 use std::alloc::{AllocError, Global};
 use version_record::put_catalog;
@@ -26,7 +27,8 @@ pub(crate) fn compare_catalogs(
     requires fits { FitsCatalog first.now }
     requires second_fits { FitsCatalog second.now }
     requires same { catalog_digest first.now ≡ catalog_digest second.now }
-    ensures { IfOk result (λ found. HoldsUnlessFound found (first.now ≡ second.now)) }
+    ensures { IfOk result (λ found. HoldsOrCollides found (first.now ≡ second.now)
+        (AreCatalogs first.now second.now)) }
 {
     let one = catalog_preimage(alloc, first)?;
     let other = catalog_preimage(alloc, second)?;

@@ -9,7 +9,9 @@ ghost use Rattle.query_plan.specs.BoundViews.{query_seen};
 ghost use Rattle.query_plan.specs.Plans.{plan_of};
 ghost use Rattle.query_plan.specs.PlanViews.{plan_seen};
 ghost use Rattle.plan_run.specs.Running.{run_needs};
-ghost use Rattle.reply_meeting.specs.Comparing.{AreComparable, HoldsUnlessFound};
+ghost use Rattle.tree_collide.specs.Agreements.{HoldsOrCollides};
+ghost use Rattle.tree_collide.specs.Preimages.{AreOfTrees};
+ghost use Rattle.reply_meeting.specs.Comparing.{AreComparable};
 
 use crate::trees::compare_proofs;
 use mb_tree::PartTree;
@@ -34,7 +36,8 @@ pub(crate) fn compare_needed(
     requires comparable { AreComparable (plan_of (query_seen query.now))
         (map part_of first.now) (map part_of second.now) }
     ensures { IfOk result (λ found.
-        HoldsUnlessFound found (map part_of first.now ≡ map part_of second.now)) }
+        HoldsOrCollides found (map part_of first.now ≡ map part_of second.now)
+        (AreOfTrees (map part_of first.now) (map part_of second.now))) }
 {
     let plan = plan(alloc, query)?;
     match agree_walk(alloc, &first[0], &second[0], &plan.uncut_need)? {
@@ -55,7 +58,8 @@ fn compare_planned(
     requires same { run_needs (plan_seen plan.now) (map part_of first.now)
         ≡ run_needs (plan_seen plan.now) (map part_of second.now) }
     ensures { IfOk result (λ found.
-        HoldsUnlessFound found (map part_of first.now ≡ map part_of second.now)) }
+        HoldsOrCollides found (map part_of first.now ≡ map part_of second.now)
+        (AreOfTrees (map part_of first.now) (map part_of second.now))) }
 {
     match run_plan(alloc, plan, first) {
         Ok(ran) => compare_proofs(alloc, ran.needs.as_slice(), first, second),

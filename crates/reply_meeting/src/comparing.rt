@@ -3,8 +3,10 @@ ghost use Rattle.std.specs.Prelude.{◌≡◌, IfOk};
 ghost use Rattle.vo_spec.specs.Conditions.{query_of};
 ghost use Rattle.vo_spec.specs.Replies.{FitsReply};
 ghost use Rattle.vo_format.specs.View.{reply_of, trees_of};
+ghost use Rattle.tree_collide.specs.Agreements.{HoldsOrCollides};
+ghost use Rattle.tree_collide.specs.Preimages.{AreOfTrees};
 ghost use Rattle.reply_meeting.specs.Accepting.{HasPassed};
-ghost use Rattle.reply_meeting.specs.Comparing.{HoldsUnlessFound, ShowTheSame};
+ghost use Rattle.reply_meeting.specs.Comparing.{ShowTheSame, AreOfReplies};
 
 use crate::catalogs::compare_catalogs;
 use crate::common_needs::compare_needed;
@@ -29,7 +31,8 @@ fn compare_trees(
     requires second_passed { HasPassed (query_of query.now) (reply_of second.now) }
     requires same { first.now.catalog ≡ second.now.catalog }
     ensures { IfOk result (λ found.
-        HoldsUnlessFound found (trees_of first.now.trees ≡ trees_of second.now.trees)) }
+        HoldsOrCollides found (trees_of first.now.trees ≡ trees_of second.now.trees)
+        (AreOfTrees (trees_of first.now.trees) (trees_of second.now.trees))) }
 {
     if are_all_same(first.trees.as_slice(), second.trees.as_slice()) {
         return Ok(None);
@@ -54,7 +57,8 @@ pub(crate) fn compare_replies(
     requires second_passed { HasPassed (query_of query.now) (reply_of second.now) }
     requires same { first.now.rec ≡ second.now.rec }
     ensures { IfOk result (λ found.
-        HoldsUnlessFound found (ShowTheSame (reply_of first.now) (reply_of second.now))) }
+        HoldsOrCollides found (ShowTheSame (reply_of first.now) (reply_of second.now))
+        (AreOfReplies (reply_of first.now) (reply_of second.now))) }
 {
     let found = compare_catalogs(alloc, &first.catalog, &second.catalog)?;
     if found.is_some() {

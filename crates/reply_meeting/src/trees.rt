@@ -3,7 +3,9 @@ ghost use Rattle.std.specs.Prelude.{◌≡◌, length, map, IfOk};
 ghost use Rattle.std.specs.List.{AllZip};
 ghost use Rattle.vo_spec.specs.Pruning.{IsCanonical};
 ghost use Rattle.mb_tree.specs.View.{part_of};
-ghost use Rattle.reply_meeting.specs.Comparing.{AreTwins, HoldsUnlessFound};
+ghost use Rattle.tree_collide.specs.Agreements.{HoldsOrCollides};
+ghost use Rattle.tree_collide.specs.Preimages.{AreOfTrees};
+ghost use Rattle.reply_meeting.specs.Comparing.{AreTwins};
 
 use mb_tree::PartTree;
 use std::alloc::{AllocError, Global};
@@ -23,7 +25,8 @@ pub(crate) fn compare_proofs(
     requires canonical { AllZip IsCanonical needs.now (map part_of first.now) }
     requires second_canonical { AllZip IsCanonical needs.now (map part_of second.now) }
     ensures { IfOk result (λ found.
-        HoldsUnlessFound found (map part_of first.now ≡ map part_of second.now)) }
+        HoldsOrCollides found (map part_of first.now ≡ map part_of second.now)
+        (AreOfTrees (map part_of first.now) (map part_of second.now))) }
 {
     for (place, tree) in first.iter().enumerate() {
         match agree_two(alloc, tree, &second[place], needs[place].as_slice())? {

@@ -1,13 +1,16 @@
--- What two trees hash at one place: the preimages of two nodes, of two rows or of two attributes.
+-- What two trees hash at one place: the preimages of two nodes, of two rows or of two attributes;
+-- and what two catalogs do.
 use Rattle.std.specs.Prelude.{◌≡◌, ◌⊎◌, ℕ, ◌+◌, true, List, ◌∷◌}
 use Rattle.vo_spec.specs.declared.cells.Cell.{Cell}
 use Rattle.vo_spec.specs.declared.cells.Cell.TheVariants.{Shown}
 use Rattle.vo_spec.specs.declared.cells.RowPart.{RowPart}
 use Rattle.vo_spec.specs.declared.cells.RowPart.TheVariants.{Cells}
 use Rattle.vo_spec.specs.declared.cells.PartEntry.{PartEntry}
+use Rattle.vo_spec.specs.declared.records.Catalog.{Catalog}
 use Rattle.vo_spec.specs.Cells.{attribute_bytes, row_bytes}
 use Rattle.vo_spec.specs.Parts.{leaf, inner, more}
 use Rattle.vo_spec.specs.Trees.{RowTree, RowTrees, preimage}
+use Rattle.vo_spec.specs.Records.{catalog_bytes}
 use Rattle.tree_collide.specs.Agreements.{is_open}
 
 -- a fact about two byte strings, one of each tree
@@ -55,3 +58,12 @@ abbrev mutual
 -- there do.
 abbrev pub ArePreimages : RowTree → RowTree → OfStrings
 ArePreimages p t x y = NodesOf p t x y ⊎ BelowNodes p t x y
+
+-- the same of one pair of the trees
+abbrev pub AreOfTrees : List RowTree → List RowTree → OfStrings
+AreOfTrees (p ∷ ps) (q ∷ qs) x y = ArePreimages p q x y ⊎ AreOfTrees ps qs x y
+AreOfTrees _ _ x y = ⊥
+
+-- what the digests of these catalogs are of
+abbrev pub AreCatalogs : Catalog → Catalog → OfStrings
+AreCatalogs a b x y = (x ≡ 5 ∷ catalog_bytes a) × (y ≡ 5 ∷ catalog_bytes b)

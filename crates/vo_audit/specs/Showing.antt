@@ -10,14 +10,10 @@ use Rattle.vo_spec.specs.Trees.{RowTree}
 use Rattle.vo_spec.specs.Replies.{Reply, IsReply}
 use Rattle.vo_spec.specs.Checks.{tables_wanted}
 use Rattle.vo_spec.specs.Honest.{Stored, catalog_of}
-use Rattle.tree_collide.specs.Preimages.{OfStrings}
+use Rattle.tree_collide.specs.Preimages.{OfStrings, AreCatalogs}
 use Rattle.owner_roots.specs.Owners.{IsOwned}
 use Rattle.owner_state.specs.Departing.{trees_at}
 use Rattle.vo_audit.specs.Evidence.{AreHashedIn, AreHashedInBatch}
-
--- what the digests of these catalogs are of
-abbrev pub AreCatalogs : Catalog → Catalog → OfStrings
-AreCatalogs a b x y = (x ≡ 5 ∷ catalog_bytes a) × (y ≡ 5 ∷ catalog_bytes b)
 
 -- one of these trees and that of its table, whose name stands at its place, hash them at one place
 abbrev pub AreHashedInOne : List Stored → List (List ℕ) → List RowTree → OfStrings

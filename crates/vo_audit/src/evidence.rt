@@ -6,7 +6,8 @@ ghost use Rattle.vo_spec.specs.Replies.{FitsReply};
 ghost use Rattle.vo_spec.specs.Honest.{catalog_of};
 ghost use Rattle.vo_format.specs.View.{reply_of};
 ghost use Rattle.vo_audit.specs.Auditing.{CollidesOr, HasPassed, IsPartOf};
-ghost use Rattle.vo_audit.specs.Showing.{AreCatalogs, AreOfReply};
+ghost use Rattle.vo_audit.specs.Showing.{AreOfReply};
+ghost use Rattle.tree_collide.specs.Preimages.{AreCatalogs};
 
 use crate::tree_evidence::compare_trees;
 use std::alloc::{AllocError, Global};
