@@ -84,7 +84,7 @@ fn answer_by(
     more: &[u8],
 ) -> io::Result<String> {
     match call {
-        PlanCall::Trees | PlanCall::LeftNeed => describe(alloc, &plan.left_need),
+        PlanCall::Trees | PlanCall::LeftNeed => describe(alloc, &plan.uncut_need),
         PlanCall::RightNeed => right_need_text(alloc, plan, more),
         PlanCall::RightNeeds => runs::right_needs_of(alloc, plan, more),
         PlanCall::Run => runs::run(alloc, plan, more),

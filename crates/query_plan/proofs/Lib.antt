@@ -1,5 +1,6 @@
 pub mod AnswerLaws
 pub mod BoundLaws
+pub mod FormulaLaws
 pub mod MeaningLaws
 pub mod Naming
 pub mod Narrow

@@ -17,13 +17,15 @@ use Rattle.vo_spec.specs.declared.queries.Items.TheVariants.{All, Refs}
 use Rattle.vo_spec.specs.declared.queries.Join.{Join}
 use Rattle.vo_spec.specs.Values.{value_cmp, key_of}
 use Rattle.vo_spec.specs.Tables.{cell_number}
-use Rattle.vo_spec.specs.Conditions.{Condition, Conditions, every, some, negated, test, none, more, operand_refs, condition_refs, conditions_refs, operand_value, compares, truth, all_true, any_true, Query, is_met}
+use Rattle.vo_spec.specs.Conditions.{every, some, negated, test, none, more, with_tests_in, all_true_by, comparison, NameTest, Condition, Conditions, operand_refs, test_refs, condition_refs, operand_value, compares, test_truth, truth, Query, is_met}
 use Rattle.vo_spec.specs.Results.{BoundSource, ColumnPlace, schema_at, place_of, join_places, item_refs, join_refs, numbers_from, shown_places, RowView, place_value, ref_value}
-use Rattle.vo_spec.specs.Needs.{all_keys, keys_that, intersection, join_value, test_interval, interval_of, interval_of_all, is_left, left_truth, left_truths, is_place, shows_all, is_named_column, named_cells, left_need, right_need, meets_left as meets_by_names}
-use Rattle.query_plan.specs.BoundConditions.{BoundCondition, BoundConditions, conjunction, disjunction, negation, comparison, no_parts, part_and, term_value, bound_truth, every_true, some_true, all_hold, term_places, condition_places, parts_places, comparison_interval, bound_interval, intersection_of_all, is_left_place, is_on_left, one_where, conjuncts_where, all_where}
-use Rattle.query_plan.specs.BoundQueries.{bound_term, bound_condition, bound_conditions, bound_join, bound_query, join_columns}
+use Rattle.vo_spec.specs.Trees.{RowTree}
+use Rattle.vo_spec.specs.Needs.{all_keys, keys_that, join_value, test_interval, interval_of, is_left, left_truth, left_truths, is_place, shows_all, is_named_column, named_cells, uncut_need, left_need, right_need, meets_left as meets_by_names}
+use Rattle.query_plan.specs.BoundConditions.{BoundCondition, BoundConditions, term_value, bound_test_truth, bound_truth, all_hold, term_places, test_places, condition_places, bound_test_interval, bound_interval, is_left_place, is_on_left, one_where, conjuncts_where, all_where}
+use Rattle.query_plan.specs.BoundQueries.{bound_term, bound_test, bound_condition, bound_join, bound_query, join_columns}
 use Rattle.query_plan.specs.NamedCells.{is_at, names, is_named_cell, bound_cells}
-use Rattle.query_plan.specs.Plans.{plan_of, left_column, right_need_of, meets_left}
+use Rattle.query_plan.specs.Plans.{plan_of, plan_need, left_column, right_need_of, meets_left}
+use Rattle.query_plan.proofs.FormulaLaws.{truth_with, tests_with, interval_with}
 
 -- Tests of mapped items, and tests that agree.
 
@@ -46,19 +48,11 @@ module _ (ss : List BoundSource) where
   term_columns (Column r) = refl
   term_columns (Literal v) = refl
 
-  mutual
-    pub condition_columns : (c : Condition) → condition_places (bound_condition ss c) ≡ map (place_of ss) (condition_refs c)
-    condition_columns (every cs) = parts_columns cs
-    condition_columns (some cs) = parts_columns cs
-    condition_columns (negated c) = condition_columns c
-    condition_columns (test left op right) = ap (λ ps. place_of ss left ∷ ps) (term_columns right)
+  test_columns : (t : NameTest) → test_places (bound_test ss t) ≡ map (place_of ss) (test_refs t)
+  test_columns (comparison left op right) = ap (λ ps. place_of ss left ∷ ps) (term_columns right)
 
-    parts_columns : (cs : Conditions) → parts_places (bound_conditions ss cs) ≡ map (place_of ss) (conditions_refs cs)
-    parts_columns none = refl
-    parts_columns (more c cs) =
-        ap (λ ps. ps ++ parts_places (bound_conditions ss cs)) (condition_columns c)
-        ∙ ap (λ ps. map (place_of ss) (condition_refs c) ++ ps) (parts_columns cs)
-        ∙ sym (map-append (place_of ss) (condition_refs c) (conditions_refs cs))
+  pub condition_columns : (c : Condition) → condition_places (bound_condition ss c) ≡ map (place_of ss) (condition_refs c)
+  condition_columns c = tests_with (bound_test ss) test_places test_refs (place_of ss) test_columns c
 
   left_columns : (c : Condition) → is_on_left (bound_condition ss c) ≡ is_left ss c
   left_columns c = ap (list_all is_left_place) (condition_columns c) ∙ all_mapped is_left_place (place_of ss) (condition_refs c)
@@ -73,20 +67,11 @@ module _ (ss : List BoundSource) (row : ColumnPlace → Value) where
   term_valued (Column r) = refl
   term_valued (Literal v) = refl
 
-  mutual
-    pub truth_same : (c : Condition) → bound_truth row (bound_condition ss c) ≡ truth by_name c
-    truth_same (every cs) = every_same cs
-    truth_same (some cs) = some_same cs
-    truth_same (negated c) = ap not (truth_same c)
-    truth_same (test left op right) = ap (λ v. compares op (value_cmp (row (place_of ss left)) v)) (term_valued right)
+  test_same : (t : NameTest) → bound_test_truth row (bound_test ss t) ≡ test_truth by_name (operand_value by_name) t
+  test_same (comparison left op right) = ap (λ v. compares op (value_cmp (row (place_of ss left)) v)) (term_valued right)
 
-    every_same : (cs : Conditions) → every_true row (bound_conditions ss cs) ≡ all_true by_name cs
-    every_same none = refl
-    every_same (more c cs) = ap (λ b. b && every_true row (bound_conditions ss cs)) (truth_same c) ∙ ap (λ b. truth by_name c && b) (every_same cs)
-
-    some_same : (cs : Conditions) → some_true row (bound_conditions ss cs) ≡ any_true by_name cs
-    some_same none = refl
-    some_same (more c cs) = ap (λ b. b || some_true row (bound_conditions ss cs)) (truth_same c) ∙ ap (λ b. truth by_name c || b) (some_same cs)
+  pub truth_same : (c : Condition) → bound_truth row (bound_condition ss c) ≡ truth by_name c
+  truth_same c = truth_with (bound_test ss) (bound_test_truth row) (test_truth by_name (operand_value by_name)) test_same c
 
   pub met_same : (o : Option Condition) → option_map_or (bound_truth row) (option_map (bound_condition ss) o) true ≡ is_met by_name o
   met_same None = refl
@@ -98,21 +83,12 @@ module _ (ss : List BoundSource) where
   abbrev key : ℕ
   key = (schema_at ss 0).key
 
-  comparison_same : (left : Ref) (op : Cmp) (o : Operand) → comparison_interval key (place_of ss left) op (bound_term ss o) ≡ test_interval ss left op o
-  comparison_same left op (Column r) = refl
-  comparison_same left op (Literal v) = refl
+  test_interval_same : (t : NameTest) → bound_test_interval key (bound_test ss t) ≡ test_interval ss t
+  test_interval_same (comparison left op (Column r)) = refl
+  test_interval_same (comparison left op (Literal v)) = refl
 
-  mutual
-    interval_same : (c : Condition) → bound_interval key (bound_condition ss c) ≡ interval_of ss c
-    interval_same (every cs) = intervals_same cs
-    interval_same (some cs) = refl
-    interval_same (negated c) = refl
-    interval_same (test left op right) = comparison_same left op right
-
-    intervals_same : (cs : Conditions) → intersection_of_all key (bound_conditions ss cs) ≡ interval_of_all ss cs
-    intervals_same none = refl
-    intervals_same (more c cs) =
-        ap (λ i. intersection i (intersection_of_all key (bound_conditions ss cs))) (interval_same c) ∙ ap (intersection (interval_of ss c)) (intervals_same cs)
+  interval_same : (c : Condition) → bound_interval key (bound_condition ss c) ≡ interval_of ss c
+  interval_same c = interval_with (bound_test ss) (bound_test_interval key) (test_interval ss) test_interval_same c
 
   left_interval : (o : Option Condition) → option_map_or (bound_interval key) (option_map (bound_condition ss) o) all_keys ≡ option_map_or (interval_of ss) o all_keys
   left_interval None = refl
@@ -156,15 +132,15 @@ module _ (row : ColumnPlace → Value) where
   -- the conjuncts together are the condition
   mutual
     pub conjuncts_hold : (c : BoundCondition) → (all_hold row (conjuncts_where true c) && all_hold row (conjuncts_where false c)) ≡ bound_truth row c
-    conjuncts_hold (conjunction cs) = parts_hold cs
-    conjuncts_hold (disjunction cs) = one_of_both (disjunction cs)
-    conjuncts_hold (negation c) = one_of_both (negation c)
-    conjuncts_hold (comparison left op right) = one_of_both (comparison left op right)
+    conjuncts_hold (every cs) = parts_hold cs
+    conjuncts_hold (some cs) = one_of_both (some cs)
+    conjuncts_hold (negated c) = one_of_both (negated c)
+    conjuncts_hold (test t) = one_of_both (test t)
 
-    parts_hold : (cs : BoundConditions) → (all_hold row (all_where true cs) && all_hold row (all_where false cs)) ≡ every_true row cs
-    parts_hold no_parts = refl
-    parts_hold (part_and c cs) =
-        ap (λ b. b && all_hold row (all_where false (part_and c cs))) (hold_append row (conjuncts_where true c) (all_where true cs))
+    parts_hold : (cs : BoundConditions) → (all_hold row (all_where true cs) && all_hold row (all_where false cs)) ≡ all_true_by (bound_test_truth row) cs
+    parts_hold none = refl
+    parts_hold (more c cs) =
+        ap (λ b. b && all_hold row (all_where false (more c cs))) (hold_append row (conjuncts_where true c) (all_where true cs))
         ∙ ap (λ b. (all_hold row (conjuncts_where true c) && all_hold row (all_where true cs)) && b) (hold_append row (conjuncts_where false c) (all_where false cs))
         ∙ regroup (all_hold row (conjuncts_where true c)) (all_hold row (all_where true cs)) (all_hold row (conjuncts_where false c)) (all_hold row (all_where false cs))
         ∙ ap (λ b. b && (all_hold row (all_where true cs) && all_hold row (all_where false cs))) (conjuncts_hold c)
@@ -185,13 +161,13 @@ module _ (ss : List BoundSource) (row : ColumnPlace → Value) where
     left_same (every cs) = lefts_same cs
     left_same (some cs) = one_same (some cs)
     left_same (negated c) = one_same (negated c)
-    left_same (test left op right) = one_same (test left op right)
+    left_same (test t) = one_same (test t)
 
-    lefts_same : (cs : Conditions) → all_hold row (all_where true (bound_conditions ss cs)) ≡ left_truths ss named cs
+    lefts_same : (cs : Conditions) → all_hold row (all_where true (with_tests_in (bound_test ss) cs)) ≡ left_truths ss named cs
     lefts_same none = refl
     lefts_same (more c cs) =
-        hold_append row (conjuncts_where true (bound_condition ss c)) (all_where true (bound_conditions ss cs))
-        ∙ ap (λ b. b && all_hold row (all_where true (bound_conditions ss cs))) (left_same c)
+        hold_append row (conjuncts_where true (bound_condition ss c)) (all_where true (with_tests_in (bound_test ss) cs))
+        ∙ ap (λ b. b && all_hold row (all_where true (with_tests_in (bound_test ss) cs))) (left_same c)
         ∙ ap (λ b. left_truth ss named c && b) (lefts_same cs)
 
 -- The cells that a query names.
@@ -238,10 +214,13 @@ module _ (ss : List BoundSource) (q : Query) where
 
   -- The parts of a plan.
 
-  pub left_need_same : (plan_of (bound_query ss q)).left_need ≡ left_need ss q
-  left_need_same =
+  pub uncut_need_same : (plan_of (bound_query ss q)).uncut_need ≡ uncut_need ss q
+  uncut_need_same =
       ap (λ (i : Interval). let n : Need = record { interval = i; columns = bound_cells (bound_query ss q) 0 } in n) (left_interval ss q.condition)
       ∙ ap (λ (cs : List ℕ). let n : Need = record { interval = option_map_or (interval_of ss) q.condition all_keys; columns = cs } in n) (cells_same 0)
+
+  pub left_need_same : (left : RowTree) → plan_need (plan_of (bound_query ss q)) left ≡ left_need ss q left
+  left_need_same left = uncut_need_same
 
   choice : (b : Bool) (x y : ColumnPlace) → cond b y x ≡ (let p : ColumnPlace × ColumnPlace = cond b (y, x) (x, y) in p.0)
   choice true x y = refl

@@ -30,10 +30,10 @@ term_value row (column p) = row p
 term_value row (literal v) = v
 
 abbrev pub bound_test_truth : (ColumnPlace → Value) → BoundTest → Bool
-bound_test_truth row = test_truth row (term_value row)
+bound_test_truth row t = test_truth row (term_value row) t
 
 abbrev pub bound_truth : (ColumnPlace → Value) → BoundCondition → Bool
-bound_truth row = truth_by (bound_test_truth row)
+bound_truth row c = truth_by (bound_test_truth row) c
 
 -- whether rows meet all of these conditions
 abbrev pub all_hold : (ColumnPlace → Value) → List BoundCondition → Bool
@@ -49,7 +49,7 @@ abbrev pub test_places : BoundTest → List ColumnPlace
 test_places (comparison left op right) = left ∷ term_places right
 
 abbrev pub condition_places : BoundCondition → List ColumnPlace
-condition_places = of_tests test_places
+condition_places c = of_tests test_places c
 
 -- The left interval: what the conjuncts of the form `key op literal` share. The key is the left
 -- source's column of this number.
@@ -63,7 +63,7 @@ bound_test_interval key (comparison left op (literal v)) = if is_left_key key le
     then keys_that op (key_of v) else all_keys
 
 abbrev pub bound_interval : ℕ → BoundCondition → Interval
-bound_interval key = interval_by (bound_test_interval key)
+bound_interval key c = interval_by (bound_test_interval key) c
 
 -- The conjuncts: those on left columns alone are the left condition, the others the late condition.
 

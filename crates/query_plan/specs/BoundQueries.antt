@@ -29,7 +29,7 @@ abbrev pub bound_test : List BoundSource → NameTest → BoundTest
 bound_test ss (comparison left op right) = comparison (place_of ss left) op (bound_term ss right)
 
 abbrev pub bound_condition : List BoundSource → Condition → BoundCondition
-bound_condition ss = with_tests (bound_test ss)
+bound_condition ss c = with_tests (bound_test ss) c
 
 abbrev pub bound_join : List BoundSource → Join → ColumnPlace × ColumnPlace
 bound_join ss j = (place_of ss j.left_ref, place_of ss j.right_ref)

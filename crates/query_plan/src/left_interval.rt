@@ -17,11 +17,7 @@ fn is_left_key(key: usize, place: ColumnPlace) -> bool
     place.bound_source == 0 && place.column == key
 }
 
-fn test_interval(
-    alloc: Global,
-    key: usize,
-    test: &BoundTest<'_>,
-) -> Result<Interval, AllocError>
+fn test_interval(alloc: Global, key: usize, test: &BoundTest<'_>) -> Result<Interval, AllocError>
     ensures { IfOk result (λ interval. interval
         ≡ bound_test_interval key (test_seen test.now)) }
 {

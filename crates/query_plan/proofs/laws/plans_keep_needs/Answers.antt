@@ -1,8 +1,11 @@
-use Rattle.query_plan.proofs.MeaningLaws.{left_need_same, right_need_same, meets_same}
+use Rattle.query_plan.proofs.MeaningLaws.{uncut_need_same, left_need_same, right_need_same, meets_same}
 use Rattle.query_plan.proofs.laws.plans_keep_needs.Goals as goal
 
+pub returns-clause-uncut : goal.returns-clause-uncut
+returns-clause-uncut c = λ ss q. uncut_need_same ss q
+
 pub returns-clause-left : goal.returns-clause-left
-returns-clause-left c = λ ss q. left_need_same ss q
+returns-clause-left c = λ ss q left. left_need_same ss q left
 
 pub returns-clause-right : goal.returns-clause-right
 returns-clause-right c = λ ss q j row_view. right_need_same ss q j row_view
