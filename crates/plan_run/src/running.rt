@@ -51,8 +51,9 @@ pub fn run_plan(
         (tables_used (bound_sources_seen plan.now.query.now.bound_sources)) }
     ensures { Runs result (plan_seen plan.now) (map part_of trees.now) }
 {
-    let left = left_need(plan, &trees[0]);
-    let seen = match scan(alloc, &trees[0], left) {
+    let tree = &trees[0];
+    let left = left_need(plan, tree);
+    let seen = match scan(alloc, tree, left) {
         Ok(seen) => seen,
         Err(fault) => return Err(fault),
     };
