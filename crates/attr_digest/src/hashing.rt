@@ -2,15 +2,16 @@
 ghost use Rattle.std.specs.Prelude.{◌≡◌, ◌≤◌, length, All};
 ghost use Rattle.vo_spec.specs.Sha256.{sha256};
 ghost use Rattle.vo_spec.specs.declared.cells.Cell.TheVariants.{Shown};
-ghost use Rattle.vo_spec.specs.declared.values.Value.TheVariants.{Int, Text};
 ghost use Rattle.vo_spec.specs.Lent.{value_of};
-ghost use Rattle.vo_spec.specs.Values.{value_bytes, max_text, FitsValue};
+ghost use Rattle.vo_spec.specs.Values.{value_bytes, FitsValue};
 ghost use Rattle.vo_spec.specs.Cells.{cell_digest as cell_digest_of, row_bytes, row_digest as row_digest_of, whole_row};
 ghost use Rattle.vo_spec.specs.Fits.{FitsCell, FitsCells, FitsRowPart, max_cells};
-ghost use Rattle.attr_digest.specs.Adding.{Adds};
+ghost use Rattle.tagged_hash.specs.Holding.{HoldsBytes};
+ghost use Rattle.row_bytes.specs.Writing.{Writes};
 
+use row_bytes::write_value;
 use tagged_hash::{Hasher, digest_of};
-use vo_spec::{Cell, Digest, MAX_CELLS, RowPart, Value, ValueRef, u16_bytes, u64_bytes};
+use vo_spec::{Cell, Digest, MAX_CELLS, RowPart, Value, ValueRef};
 
 /// How many bytes a row is hashed of at most: its tag, its count, and each cell's digest.
 const MAX_ROW_BYTES: usize = 2 + 32 * MAX_CELLS;
@@ -29,29 +30,9 @@ pub fn attr_digest(column: u8, value: ValueRef<'_>) -> Digest
 /// Adds the value's bytes to what is hashed.
 pub fn add_value(hasher: &mut Hasher, value: ValueRef<'_>)
     requires { FitsValue (value_of value) }
-    ensures { Adds hasher.old hasher.new (value_bytes (value_of value.entry)) }
+    ensures { Writes HoldsBytes hasher.old hasher.new (value_bytes (value_of value.entry)) }
 {
-    match value {
-        ValueRef::Int(number) => add_int(hasher, number),
-        ValueRef::Text(text) => add_text(hasher, text),
-        ValueRef::Bool(truth) => hasher.add(&[3, u8::from(truth)]),
-    }
-}
-
-fn add_int(hasher: &mut Hasher, number: i64)
-    ensures { Adds hasher.old hasher.new (value_bytes (Int number)) }
-{
-    hasher.add(&[1]);
-    hasher.add(&u64_bytes(number.cast_unsigned()));
-}
-
-fn add_text(hasher: &mut Hasher, text: &[u8])
-    requires { length text.now ≤ max_text }
-    ensures { Adds hasher.old hasher.new (value_bytes (Text text.now)) }
-{
-    hasher.add(&[2]);
-    hasher.add(&u16_bytes(text.len() as u16));
-    hasher.add(text);
+    let Ok(()) = write_value(hasher, value);
 }
 
 /// The digest of the row: its own where it is one.

@@ -1,7 +1,8 @@
 -- What stays in front of bytes that are put at the end.
-use Rattle.std.proofs.Common.{◌≡◌, ℕ, List, ◌++◌, length, take, drop, sym, ap, ◌∙◌, append_assoc}
+use Rattle.std.proofs.Common.{◌≡◌, ℕ, List, Vec, ◌++◌, length, take, drop, refl, sym, ap, ◌∙◌, append_assoc}
 use Rattle.std.proofs.Math.Seq.{take-append_seam, take-length}
 use Rattle.std.proofs.lemmas.List.{take-append-drop}
+use Rattle.row_bytes.specs.Writing.{WritesSome}
 use Rattle.batch_format.specs.Writing.{StaysInFront}
 
 -- with nothing put
@@ -19,3 +20,7 @@ stays_behind old more between new e h =
     let rest : List ℕ = drop (length between) new in
     stays_before old (more ++ rest) new
     (sym (take-append-drop (length between) new) ∙ ap (λ t. t ++ rest) (h ∙ e) ∙ append_assoc old more rest)
+
+-- with what a call wrote that failed on its way
+pub stays_written : {Z : Type 0} (old new : Vec ℕ Z) → WritesSome (λ (out : Vec ℕ Z) bytes. out.items ≡ bytes) old new → StaysInFront old.items new.items
+stays_written old new some = stays_before old.items some.written new.items (some.writes old.items refl)

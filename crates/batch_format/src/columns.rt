@@ -4,21 +4,23 @@ ghost use Rattle.vo_spec.specs.Bytes.{short_string};
 ghost use Rattle.vo_spec.specs.Names.{FitsName};
 ghost use Rattle.vo_spec.specs.Values.{type_byte};
 ghost use Rattle.vo_spec.specs.Batches.{list_bytes, column_bytes, FitCounted, FitsColumn};
+ghost use Rattle.row_bytes.specs.Writing.{Writes, WritesSome};
 ghost use Rattle.batch_format.specs.Writing.{StaysInFront};
 
+use row_bytes::ByteSink;
 use std::alloc::AllocError;
 use vo_spec::{Column, Kind, Name};
 
-/// Puts a name behind its length at the end. Where memory runs out, what was there stays in front.
-#[tactic(auto, using(crate::proofs::Fitting::name_is_short, crate::proofs::Fronts::stays_itself, crate::proofs::Fronts::stays_before))]
-pub fn put_name(out: &mut Vec<u8>, name: &Name) -> Result<(), AllocError>
+/// Writes a name behind its length.
+#[tactic(auto, using(crate::proofs::Fitting::name_is_short, row_bytes::proofs::Writings::some_behind))]
+pub fn write_name<S: ByteSink>(sink: &mut S, name: &Name) -> Result<(), S::Fault>
     requires { FitsName name.now }
-    ensures ok { OnOk result (out.new.items ≡ out.old.items ++ short_string name.now) }
-    ensures err { OnErr result (StaysInFront out.old.items out.new.items) }
+    ensures ok { OnOk result (Writes S.HoldsBytes sink.old sink.new (short_string name.now)) }
+    ensures err { OnErr result (WritesSome S.HoldsBytes sink.old sink.new) }
 {
     let bytes = name.as_bytes();
-    out.push(bytes.len() as u8)?;
-    out.extend_from_slice(bytes)
+    sink.write(&[bytes.len() as u8])?;
+    sink.write(bytes)
 }
 
 /// The byte of a kind in a list of columns.
@@ -32,29 +34,49 @@ pub fn type_byte(kind: Kind) -> u8
     }
 }
 
-#[tactic(auto, using(crate::proofs::Fronts::stays_itself, crate::proofs::Fronts::stays_before, crate::proofs::Fronts::stays_behind))]
-fn put_column(out: &mut Vec<u8>, column: &Column) -> Result<(), AllocError>
+#[tactic(auto, using(row_bytes::proofs::Writings::some_behind))]
+fn write_column<S: ByteSink>(sink: &mut S, column: &Column) -> Result<(), S::Fault>
     requires { FitsColumn column.now }
-    ensures ok { OnOk result (out.new.items ≡ out.old.items ++ column_bytes column.now) }
+    ensures ok { OnOk result (Writes S.HoldsBytes sink.old sink.new (column_bytes column.now)) }
+    ensures err { OnErr result (WritesSome S.HoldsBytes sink.old sink.new) }
+{
+    write_name(sink, &column.name)?;
+    sink.write(&[type_byte(column.kind)])
+}
+
+/// Writes columns behind how many they are.
+#[tactic(auto, using(row_bytes::proofs::Writings::some_behind))]
+pub fn write_columns<S: ByteSink>(sink: &mut S, columns: &[Column]) -> Result<(), S::Fault>
+    requires { FitCounted FitsColumn columns.now }
+    ensures ok { OnOk result
+        (Writes S.HoldsBytes sink.old sink.new (list_bytes column_bytes columns.now)) }
+    ensures err { OnErr result (WritesSome S.HoldsBytes sink.old sink.new) }
+{
+    sink.write(&[columns.len() as u8])?;
+    for column in columns {
+        write_column(sink, column)?;
+    }
+    Ok(())
+}
+
+/// Puts a name behind its length at the end. Where memory runs out, what was there stays in front.
+#[tactic(auto, using(crate::proofs::Fronts::stays_written))]
+pub fn put_name(out: &mut Vec<u8>, name: &Name) -> Result<(), AllocError>
+    requires { FitsName name.now }
+    ensures ok { OnOk result (out.new.items ≡ out.old.items ++ short_string name.now) }
     ensures err { OnErr result (StaysInFront out.old.items out.new.items) }
 {
-    put_name(out, &column.name)?;
-    out.push(type_byte(column.kind))?;
-    Ok(())
+    write_name(out, name)
 }
 
 /// Puts columns at the end, behind how many they are. Where memory runs out, what was there stays
 /// in front.
-#[tactic(auto, using(crate::proofs::Fronts::stays_itself, crate::proofs::Fronts::stays_before, crate::proofs::Fronts::stays_behind))]
+#[tactic(auto, using(crate::proofs::Fronts::stays_written))]
 pub fn put_columns(out: &mut Vec<u8>, columns: &[Column]) -> Result<(), AllocError>
     requires { FitCounted FitsColumn columns.now }
     ensures ok { OnOk result
         (out.new.items ≡ out.old.items ++ list_bytes column_bytes columns.now) }
     ensures err { OnErr result (StaysInFront out.old.items out.new.items) }
 {
-    out.push(columns.len() as u8)?;
-    for column in columns {
-        put_column(out, column)?;
-    }
-    Ok(())
+    write_columns(out, columns)
 }

@@ -6,7 +6,7 @@ ghost use Rattle.row_bytes.specs.Fields.{FoundOr, times, count_at};
 ghost use Rattle.row_bytes.specs.Fields.{name_at as a_name_at};
 ghost use Rattle.batch_format.specs.BatchReading.{any_value_at, set_at, values_at, sets_at, create_at, drop_at, insert_at, update_at, delete_at, command_at, commands_at, batch_of, BatchRead};
 
-use row_bytes::{Cursor, ReadFault, own_value, take_columns, take_count, take_value};
+use row_bytes::{Cursor, ReadFault, take_columns, take_count, take_value};
 use std::alloc::Global;
 use vo_spec::{Batch, Command, List, MAX_BATCH_BYTES, MAX_COMMANDS, Name, SetPart, Value};
 
@@ -16,7 +16,7 @@ fn take_any_value(alloc: Global, cursor: &mut Cursor<'_>) -> Result<Value, ReadF
 {
     let mut ahead = cursor.copy();
     let value = take_value(&mut ahead).or(Err(ReadFault::BadForm))?;
-    let value = own_value(alloc, value)?;
+    let value = value.to_value(alloc)?;
     *cursor = ahead;
     Ok(value)
 }

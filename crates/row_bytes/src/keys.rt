@@ -2,6 +2,7 @@
 ghost use Rattle.std.specs.Prelude.{◌≡◌, ◌^◌, pos, ◌+ℤ◌, ◌-ℤ◌, IfOk};
 ghost use Rattle.std.specs.Int.{w64, cast_unsigned};
 ghost use Rattle.vo_spec.specs.Firsts.{unless};
+ghost use Rattle.vo_spec.specs.Checks.{is_key_of};
 ghost use Rattle.vo_spec.specs.Values.{key_of, value_of_key};
 ghost use Rattle.row_bytes.specs.Reading.{key_fault};
 ghost use Rattle.row_bytes.specs.Taking.{Lends};
@@ -76,4 +77,11 @@ pub fn read_key(kind: Kind, key: &[u8]) -> Result<ValueRef<'_>, FormFault>
         Kind::Text => text_of_key(key),
         Kind::Bool => Err(FormFault::Tag),
     }
+}
+
+/// Whether it is the key of a value of this kind.
+pub fn is_key_of(kind: Kind, key: &[u8]) -> bool
+    ensures { result ≡ is_key_of kind key.now }
+{
+    read_key(kind, key).is_ok()
 }

@@ -1,8 +1,8 @@
 //! Values and keys as bytes, both ways, and the cursor that all readers of bytes use.
 #![tactic(auto)]
 
+mod byte_sink;
 mod columns;
-mod copies;
 mod cursor;
 mod fault;
 mod fields;
@@ -12,12 +12,12 @@ mod reading;
 mod text;
 mod writing;
 
+pub use byte_sink::ByteSink;
 pub use columns::{take_columns, take_count, take_kind};
-pub use copies::{copy_onto, copy_values, own_value};
 pub use cursor::Cursor;
 pub use fault::FormFault;
-pub use keys::{key_of, read_key};
+pub use keys::{is_key_of, key_of, read_key};
 pub use read_fault::ReadFault;
 pub use reading::take_value;
 pub use vo_spec::{Bound, Interval, Key, Kind, List, Name, Row, Text, Value, ValueRef};
-pub use writing::put_value;
+pub use writing::{put_value, put_value_ref, write_value};

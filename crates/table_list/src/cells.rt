@@ -3,9 +3,8 @@ ghost use Rattle.std.specs.Prelude.{◌≡◌, IfOk};
 ghost use Rattle.vo_spec.specs.Tables.{cell_number, column_number, cell_changes, changed_cells};
 
 use crate::columns::column_number;
-use row_bytes::{copy_values, own_value};
 use std::alloc::{AllocError, Global};
-use vo_spec::{List, Schema, SetPart, Value};
+use vo_spec::{List, Schema, SetPart, Value, copy_values};
 
 /// The place of a column's cell, its number among those that aren't the key.
 pub fn cell_number(key: usize, column: usize) -> usize
@@ -33,7 +32,7 @@ pub(crate) fn changed_cells(
         let column = column_number(schema.columns.as_slice(), part.column.as_bytes());
         let at = cell_number(schema.key as usize, column);
         if at < changed.len() {
-            changed[at] = own_value(alloc, part.value.as_ref())?;
+            changed[at] = part.value.copy(alloc)?;
         }
     }
     Ok(List::from_vec(changed))

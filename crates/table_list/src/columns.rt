@@ -3,9 +3,12 @@ ghost use Rattle.std.specs.Prelude.{◌≡◌, ◌≤◌, length, map, bytes_eq,
 ghost use Rattle.std.specs.List.{list_any};
 ghost use Rattle.vo_spec.specs.Tables.{column_at, column_number, has_column, is_key, suits, are_of_kinds, has_twice, is_bad_schema};
 ghost use Rattle.vo_spec.specs.Values.{kind_of, same_kind};
+ghost use Rattle.vo_spec.specs.Checks.{key_kind};
+ghost use Rattle.vo_spec.specs.Lent.{value_of};
+ghost use Rattle.vo_spec.specs.Batches.{max_columns};
 
 use std::alloc::{AllocError, Global};
-use vo_spec::{Column, Kind, List, Name, Schema, Value};
+use vo_spec::{Column, Kind, List, Name, Schema, Value, ValueRef};
 
 /// The number of the column of this name, or else how many there are.
 pub fn column_number(columns: &[Column], name: &[u8]) -> usize
@@ -53,6 +56,20 @@ pub fn same_kind(a: Kind, b: Kind) -> bool
     )
 }
 
+/// Whether a column of this kind takes the value.
+// Inlined: asked of each cell that is shown.
+#[inline(always)]
+pub fn takes(kind: Kind, value: ValueRef<'_>) -> bool
+    ensures { result ≡ same_kind kind (kind_of (value_of value.entry)) }
+{
+    matches!(
+        (kind, value),
+        (Kind::Int, ValueRef::Int(_))
+            | (Kind::Text, ValueRef::Text(_))
+            | (Kind::Bool, ValueRef::Bool(_))
+    )
+}
+
 /// The kind of the column of this number, past the end BIGINT.
 pub fn kind_at(columns: &[Column], number: usize) -> Kind
     ensures { result ≡ (column_at columns.now number).kind }
@@ -61,6 +78,13 @@ pub fn kind_at(columns: &[Column], number: usize) -> Kind
         Some(column) => column.kind,
         None => Kind::Int,
     }
+}
+
+/// The kind of the schema's key.
+pub fn key_kind(schema: &Schema) -> Kind
+    ensures { result ≡ key_kind schema.now }
+{
+    kind_at(schema.columns.as_slice(), schema.key as usize)
 }
 
 /// The name of the column of this number, past the end nothing.
@@ -77,9 +101,9 @@ pub fn name_at(columns: &[Column], number: usize) -> &[u8]
 pub(crate) fn suits(columns: &[Column], name: &[u8], value: &Value) -> bool
     ensures { result ≡ suits columns.now name.now value.now }
 {
-    same_kind(
+    takes(
         kind_at(columns, column_number(columns, name)),
-        kind_of(value),
+        value.as_ref(),
     )
 }
 
@@ -92,7 +116,7 @@ pub(crate) fn are_of_kinds(columns: &[Column], values: &[Value]) -> bool
         return false;
     }
     for (number, column) in columns.iter().enumerate() {
-        if !same_kind(column.kind, kind_of(&values[number])) {
+        if !takes(column.kind, values[number].as_ref()) {
             return false;
         }
     }
@@ -149,4 +173,18 @@ pub fn copy_columns(alloc: Global, columns: &[Column]) -> Result<List<Column>, A
         copy.push(copy_column(alloc, column)?)?;
     }
     Ok(List::from_vec(copy))
+}
+
+/// The schema that a CREATE makes.
+pub fn new_schema(alloc: Global, columns: &[Column], key: &[u8]) -> Result<Schema, AllocError>
+    requires { length columns.now ≤ max_columns }
+    ensures { IfOk result (λ schema. schema ≡ record {
+      columns = columns.now;
+      key = column_number columns.now key.now;
+    }) }
+{
+    Ok(Schema {
+        columns: copy_columns(alloc, columns)?,
+        key: column_number(columns, key) as u8,
+    })
 }

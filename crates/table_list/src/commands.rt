@@ -7,7 +7,7 @@ ghost use Rattle.vo_spec.specs.Tables.{apply, table_header_of, refusal, put_tabl
 ghost use Rattle.table_list.specs.Changes.{Returns, new_table, rows_after, table_after, changed_tables, row_fault, fault_by_rows};
 ghost use Rattle.table_list.specs.TableHeaders.{command_name};
 
-use crate::columns::{column_number, copy_columns};
+use crate::columns::new_schema;
 use crate::copies::{copy_rows, copy_schema, copy_table, copy_tables};
 use crate::fault::ApplyFault;
 use crate::lookup::{command_name, table_header_of, table_named};
@@ -16,7 +16,7 @@ use crate::refusal::first_refusal;
 use crate::rows::{has_row, put_row, update_row, without_row};
 use row_bytes::key_of;
 use std::alloc::{AllocError, Global};
-use vo_spec::{Column, Command, CommandFault, List, Name, Row, Schema, Table};
+use vo_spec::{Column, Command, CommandFault, List, Name, Row, Table};
 
 /// The refusal by the tables without their rows.
 fn refusal(tables: &[Table], command: &Command) -> Option<CommandFault>
@@ -159,13 +159,9 @@ fn new_table(
     requires { length columns.now ≤ max_columns }
     ensures { IfOk result (λ table. table ≡ new_table name.now columns.now key.now) }
 {
-    let number = column_number(columns, key.as_bytes()) as u8;
     Ok(Table {
         name: name.copy(alloc)?,
-        schema: Schema {
-            columns: copy_columns(alloc, columns)?,
-            key: number,
-        },
+        schema: new_schema(alloc, columns, key.as_bytes())?,
         rows: List::new(alloc),
     })
 }

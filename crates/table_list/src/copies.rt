@@ -1,10 +1,23 @@
-//! Rows and tables once more.
-ghost use Rattle.std.specs.Prelude.{◌≡◌, IfOk};
+//! Values, rows and tables once more.
+ghost use Rattle.std.specs.Prelude.{◌≡◌, ◌++◌, IfOk, OnOk};
 
 use crate::columns::copy_columns;
-use row_bytes::copy_values;
 use std::alloc::{AllocError, Global};
-use vo_spec::{List, Row, Schema, Table};
+use vo_spec::{List, Row, Schema, Table, Value, copy_values};
+
+/// Puts copies of the values at the end.
+pub(crate) fn copy_onto(
+    alloc: Global,
+    out: &mut Vec<Value>,
+    values: &[Value],
+) -> Result<(), AllocError>
+    ensures { OnOk result (out.new.items ≡ out.old.items ++ values.now) }
+{
+    for value in values {
+        out.push(value.copy(alloc)?)?;
+    }
+    Ok(())
+}
 
 pub(crate) fn copy_row(alloc: Global, row: &Row) -> Result<Row, AllocError>
     ensures { IfOk result (λ copy. copy ≡ row.now) }

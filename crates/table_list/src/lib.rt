@@ -15,7 +15,8 @@ mod tables;
 
 pub use cells::cell_number;
 pub use columns::{
-    column_number, copy_columns, has_column, has_twice, kind_at, kind_of, name_at, same_kind,
+    column_number, copy_columns, has_column, has_twice, key_kind, kind_at, kind_of, name_at,
+    new_schema, same_kind, takes,
 };
 pub use copies::copy_schema;
 pub use fault::{ApplyFault, BatchFault};

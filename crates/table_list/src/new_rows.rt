@@ -3,7 +3,8 @@ ghost use Rattle.std.specs.Prelude.{◌≡◌, remove, IfOk};
 ghost use Rattle.vo_spec.specs.Values.{key_of};
 ghost use Rattle.vo_spec.specs.Tables.{row_of, value_at};
 
-use row_bytes::{copy_onto, key_of};
+use crate::copies::copy_onto;
+use row_bytes::key_of;
 use std::alloc::{AllocError, Global};
 use vo_spec::{Key, List, Row, Schema, Value};
 

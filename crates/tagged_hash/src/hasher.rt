@@ -3,7 +3,9 @@ ghost use Rattle.std.specs.Prelude.{◌≡◌, ℕ, List, [], ◌++◌};
 ghost use Rattle.vo_spec.specs.Sha256.{sha256};
 ghost use Rattle.tagged_hash.specs.Holding.{HoldsBytes};
 
+use row_bytes::ByteSink;
 use sha2::{Digest as _, Sha256};
+use std::convert::Infallible;
 use vo_spec::Digest;
 
 /// A hasher of the pieces that were added, joined.
@@ -36,5 +38,16 @@ impl Hasher {
         ensures { (bytes : List ℕ) → HoldsBytes self bytes → result ≡ sha256 bytes }
     {
         Digest::new(self.inner.finalize())
+    }
+}
+
+impl ByteSink for Hasher {
+    type Fault = Infallible;
+
+    ghost HoldsBytes = { HoldsBytes };
+
+    fn write(&mut self, bytes: &[u8]) -> Result<(), Infallible> {
+        self.add(bytes);
+        Ok(())
     }
 }

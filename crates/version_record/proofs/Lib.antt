@@ -1,5 +1,4 @@
 pub mod CatalogLaws
-pub mod Joined
 mod Laid
 pub mod RecordLaws
 pub mod Rising

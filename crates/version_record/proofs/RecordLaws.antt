@@ -14,37 +14,10 @@ use Rattle.row_bytes.proofs.ValueLaws.{u64_same, u64_again, u64_below, u64_lengt
 use Rattle.batch_format.specs.BatchReading.{one, two, three}
 use Rattle.batch_format.proofs.ReaderLaws.{Took, IsReader, some_is, bound, tested, took_then, no_some, next_found, next_again}
 use Rattle.batch_format.proofs.BatchLaws.{one_found}
+pub use Rattle.batch_format.proofs.KeyLaws.{as_is, bytes_read}
 use Rattle.version_record.specs.Reading.{record_at}
 
--- So many bytes, numbers, and bytes that are given.
-
-abbrev pub HasLength : ℕ → List ℕ → Type 0
-HasLength n bytes = length bytes ≡ n
-
-abbrev pub as_is : List ℕ → List ℕ
-as_is bytes = bytes
-
-bytes_found : (n : ℕ) (bytes text rest : List ℕ) → IsBytes bytes → bytes_at n bytes ≡ Some (text, rest) → Took bytes text rest × HasLength n text
-unfolding bytes_at
-bytes_found n bytes text rest fits e =
-    elim (chosen (ltb (length bytes) n) None (Some (take n bytes, drop n bytes)) (Some (text, rest)) e) [
-      | inl a ↦ absurd (no_some (text, rest) a.1)
-      | inr a ↦
-          let long : n ≤ length bytes = ltb-false _ _ a.0 in
-          let is : (take n bytes, drop n bytes) ≡ (text, rest) = some_is (take n bytes, drop n bytes) (text, rest) a.1 in
-          let len : length (take n bytes) ≡ n = omega (arith, length-take n bytes) in
-          subst (λ (p : List ℕ × List ℕ). Took bytes p.0 p.1 × HasLength n p.0) is
-          (record { parts = sym (take-append-drop n bytes); behind = IsBytes-drop n bytes fits }, len)
-    ]
-
-bytes_again : (n : ℕ) (text rest : List ℕ) → HasLength n text → bytes_at n (text ++ rest) ≡ Some (text, rest)
-unfolding bytes_at
-bytes_again n text rest len =
-    let long : ltb (length (text ++ rest)) n ≡ false = le-ltb _ _ (omega (arith, len, length-append text rest)) in
-    rw (long, take_at text rest n len, drop_at text rest n len) refl
-
-pub bytes_read : (n : ℕ) → IsReader (bytes_at n) as_is (HasLength n)
-bytes_read n = record { found = bytes_found n; again = bytes_again n }
+-- Numbers, and bytes that are given.
 
 abbrev pub IsU64 : ℕ → Type 0
 IsU64 n = n < 2 ^ 64
@@ -83,14 +56,14 @@ word_found word bytes found rest fits e =
     let b = bound (bytes_at (length word) bytes) (λ found. where_true (bytes_eq found.0 word) found) (found, rest) e in
     let t = tested (bytes_eq b.0.0 word) b.0 (found, rest) b.2 in
     subst (λ (p : List ℕ × List ℕ). Took bytes p.0 p.1 × IsWord word p.0) t.1
-    ((bytes_found (length word) bytes b.0.0 b.0.1 fits b.1).0, (bytes_eq-Decides b.0.0 word).0 t.0)
+    (((bytes_read (length word)).found bytes b.0.0 b.0.1 fits b.1).0, (bytes_eq-Decides b.0.0 word).0 t.0)
 
 same_eq : (word : List ℕ) → bytes_eq word word ≡ true
 same_eq word = (bytes_eq-Decides word word).1 refl
 
 word_itself : (word rest : List ℕ) → word_at word (word ++ rest) ≡ Some (word, rest)
 unfolding word_at
-word_itself word rest = rw (bytes_again (length word) word rest refl, same_eq word) refl
+word_itself word rest = rw ((bytes_read (length word)).again word rest refl, same_eq word) refl
 
 word_again : (word found rest : List ℕ) → IsWord word found → word_at word (found ++ rest) ≡ Some (found, rest)
 word_again word found rest e = subst (λ (w : List ℕ). word_at w (found ++ rest) ≡ Some (found, rest)) e (word_itself found rest)

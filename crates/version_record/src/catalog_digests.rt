@@ -1,14 +1,12 @@
 //! Digests of catalogs, whose tables may be lent one by one.
 ghost use Rattle.std.specs.Prelude.{◌≡◌, ◌∷◌, ◌++◌, ℕ, List};
-ghost use Rattle.vo_spec.specs.Bytes.{short_string, u16_bytes};
-ghost use Rattle.vo_spec.specs.Names.{FitsName};
-ghost use Rattle.vo_spec.specs.Batches.{column_bytes, list_bytes, FitCounted, FitsColumn};
+ghost use Rattle.vo_spec.specs.Bytes.{u16_bytes};
 ghost use Rattle.vo_spec.specs.Records.{FitsCatalog, FitsCatalogTable, catalog_digest, catalog_table_bytes};
 ghost use Rattle.tagged_hash.specs.Holding.{HoldsBytes};
 
-use batch_format::type_byte;
+use crate::tables::write_table;
 use tagged_hash::Hasher;
-use vo_spec::{Catalog, Column, Digest, Name, Schema, u16_bytes, u64_bytes};
+use vo_spec::{Catalog, Digest, Name, Schema, u16_bytes};
 
 /// The digest of a catalog: that of its bytes behind `05`.
 #[tactic(auto, unfolding(vo_spec::specs::Records::catalog_digest, vo_spec::specs::Records::catalog_bytes))]
@@ -56,31 +54,5 @@ pub fn hash_table(hasher: &mut Hasher, name: &Name, schema: &Schema, rows: u64, 
           root = root.now;
         })) }
 {
-    hash_name(hasher, name);
-    hash_columns(hasher, schema.columns.as_slice());
-    hasher.add(&[schema.key]);
-    hasher.add(&u64_bytes(rows));
-    hasher.add(root.as_bytes());
-}
-
-fn hash_name(hasher: &mut Hasher, name: &Name)
-    requires { FitsName name.now }
-    ensures { (bytes : List ℕ) → HoldsBytes hasher.old bytes
-        → HoldsBytes hasher.new (bytes ++ short_string name.now) }
-{
-    let bytes = name.as_bytes();
-    hasher.add(&[bytes.len() as u8]);
-    hasher.add(bytes);
-}
-
-fn hash_columns(hasher: &mut Hasher, columns: &[Column])
-    requires { FitCounted FitsColumn columns.now }
-    ensures { (bytes : List ℕ) → HoldsBytes hasher.old bytes
-        → HoldsBytes hasher.new (bytes ++ list_bytes column_bytes columns.now) }
-{
-    hasher.add(&[columns.len() as u8]);
-    for column in columns {
-        hash_name(hasher, &column.name);
-        hasher.add(&[type_byte(column.kind)]);
-    }
+    let Ok(()) = write_table(hasher, name, schema, rows, root);
 }

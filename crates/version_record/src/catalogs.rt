@@ -1,5 +1,5 @@
 //! Catalogs as bytes.
-ghost use Rattle.std.specs.Prelude.{◌≡◌, ◌++◌, flat_map, IfOk, OnOk, OnErr, Some};
+ghost use Rattle.std.specs.Prelude.{◌≡◌, ◌∷◌, ◌++◌, flat_map, IfOk, OnOk, OnErr, Some};
 ghost use Rattle.std.specs.List.{AllByRecursion};
 ghost use Rattle.vo_spec.specs.declared.records.Catalog.{Catalog as Plain};
 ghost use Rattle.vo_spec.specs.Records.{IsCatalog, FitsCatalog, FitsCatalogTable, are_rising, catalog_bytes, catalog_table_bytes};
@@ -19,6 +19,16 @@ pub fn catalog_bytes(alloc: Global, catalog: &Catalog) -> Result<Vec<u8>, AllocE
     ensures { IfOk result (λ bytes. bytes.items ≡ catalog_bytes catalog.now) }
 {
     let mut bytes = Vec::new(alloc);
+    put_catalog(&mut bytes, catalog)?;
+    Ok(bytes)
+}
+
+/// The bytes whose digest is the catalog's.
+pub fn catalog_preimage(alloc: Global, catalog: &Catalog) -> Result<Vec<u8>, AllocError>
+    requires { FitsCatalog catalog.now }
+    ensures { IfOk result (λ bytes. bytes.items ≡ 5 ∷ catalog_bytes catalog.now) }
+{
+    let mut bytes = Vec::from_slice(alloc, &[5])?;
     put_catalog(&mut bytes, catalog)?;
     Ok(bytes)
 }

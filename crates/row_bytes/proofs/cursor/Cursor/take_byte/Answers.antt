@@ -1,4 +1,4 @@
-use Rattle.std.proofs.Common.{sym, subst}
+use Rattle.std.proofs.Common.{subst}
 use Rattle.vo_spec.specs.Bytes.{IsBytes}
 use Rattle.row_bytes.proofs.Readers.{IsBytes-rest}
 use Rattle.row_bytes.proofs.cursor.Cursor.take_byte.Goals as goal
