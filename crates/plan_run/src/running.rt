@@ -63,8 +63,8 @@ pub fn run_plan(
     }
 }
 
-/// The rows that a plan without a join shows, by those that were seen for its uncut need, whoever saw
-/// them.
+/// The rows that a plan without a join shows, by those that were seen for its uncut need, whoever
+/// saw them.
 pub fn rows_of_seen(
     alloc: Global,
     plan: &Plan<'_, '_>,
