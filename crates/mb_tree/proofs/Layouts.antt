@@ -10,7 +10,7 @@ use Rattle.vo_spec.specs.Trees.{RowTree, digest, preimage, open_parts}
 use Rattle.vo_spec.specs.Fits.{FitsPart, FitsEach, FitsEntry}
 use Rattle.mb_tree.specs.declared.parts.PartTree.{PartTree}
 use Rattle.mb_tree.specs.View.{part_of, parts_of}
-use Rattle.mb_tree.specs.Writing.{leaf_layout, inner_layout}
+use Rattle.mb_tree.specs.Layouts.{leaf_layout, inner_layout}
 use Rattle.mb_tree.proofs.SubtreeLaws.{count_open_parts, child_bytes_open_parts}
 use Rattle.mb_tree.proofs.PartLaws.{count_parts_of, child_bytes_parts_of}
 

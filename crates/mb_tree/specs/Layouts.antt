@@ -1,11 +1,6 @@
 -- Preimages of nodes as they are written, by what each item of a node has in them.
 use Rattle.std.specs.Prelude.{ℕ, List, ◌∷◌, ◌++◌, length, flat_map}
 
--- these bytes come after all that were there
-module _ {W : Type 0} (HoldsBytes : W → List ℕ → Type 0) where
-  pub record Writes (old new : W) (bytes : List ℕ) : Type 0 where
-    pub writes : (before : List ℕ) → HoldsBytes old before → HoldsBytes new (before ++ bytes)
-
 abbrev pub leaf_layout : {E : Type 0} → (E → List ℕ) → List E → List ℕ
 leaf_layout entry es = 3 ∷ length es ∷ flat_map entry es
 

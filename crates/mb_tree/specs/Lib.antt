@@ -5,6 +5,6 @@ pub mod NodeDigests
 pub mod Whole
 pub mod WholeSizes
 pub mod RowCounts
-pub mod Writing
+pub mod Layouts
 pub mod Gathering
 pub mod RowNodes

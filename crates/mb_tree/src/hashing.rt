@@ -2,7 +2,7 @@
 ghost use Rattle.std.specs.Prelude.{◌≡◌, ◌≤◌, length, All};
 ghost use Rattle.vo_spec.specs.Sha256.{sha256};
 ghost use Rattle.vo_spec.specs.Fits.{max_fill};
-ghost use Rattle.mb_tree.specs.Writing.{leaf_layout};
+ghost use Rattle.mb_tree.specs.Layouts.{leaf_layout};
 
 use crate::layout::{NodeItem, write_leaf};
 use crate::node_hasher::NodeHasher;

@@ -2,9 +2,10 @@
 ghost use Rattle.std.specs.Prelude.{◌≡◌, ℕ, List, [], ◌∷◌, ◌≤◌, length, flat_map, All, OnOk};
 ghost use Rattle.vo_spec.specs.Bytes.{string};
 ghost use Rattle.vo_spec.specs.Fits.{FitsKey, max_fill};
-ghost use Rattle.mb_tree.specs.Writing.{Writes, leaf_layout, head_layout, inner_layout};
+ghost use Rattle.row_bytes.specs.Writing.{Writes};
+ghost use Rattle.mb_tree.specs.Layouts.{leaf_layout, head_layout, inner_layout};
 
-use crate::preimage_writer::PreimageWriter;
+use row_bytes::ByteSink;
 use vo_spec::u16_bytes;
 
 /// An entry, a separator or a child of a node.
@@ -18,17 +19,14 @@ pub trait NodeItem {
     // what its type knows of it
     ghost Fits: { Self → Type 0 } = { λ _. Unit {0} };
 
-    fn write_to<W: PreimageWriter>(&self, writer: &mut W) -> Result<(), W::Fault>
+    fn write_to<W: ByteSink>(&self, writer: &mut W) -> Result<(), W::Fault>
         requires { CanWrite self.now }
         ensures value { OnOk result (Writes W.HoldsBytes writer.old writer.new (bytes self.now)) }
         ensures fits { OnOk result (Fits self.now) };
 }
 
 /// A leaf is its first byte, the count of its entries and these.
-pub fn write_leaf<W: PreimageWriter, E: NodeItem>(
-    writer: &mut W,
-    entries: &[E],
-) -> Result<(), W::Fault>
+pub fn write_leaf<W: ByteSink, E: NodeItem>(writer: &mut W, entries: &[E]) -> Result<(), W::Fault>
     requires count { length entries.now ≤ max_fill }
     requires can { All E.CanWrite entries.now }
     ensures value { OnOk result
@@ -41,7 +39,7 @@ pub fn write_leaf<W: PreimageWriter, E: NodeItem>(
 
 /// An inner node is its first byte, the count of its children, its separators and its
 /// children's digests.
-pub fn write_inner<W: PreimageWriter, K: NodeItem, C: NodeItem>(
+pub fn write_inner<W: ByteSink, K: NodeItem, C: NodeItem>(
     writer: &mut W,
     separators: &[K],
     children: &[C],
@@ -59,7 +57,7 @@ pub fn write_inner<W: PreimageWriter, K: NodeItem, C: NodeItem>(
 }
 
 /// What an inner node has before the digests of its children.
-pub fn write_inner_head<W: PreimageWriter, K: NodeItem>(
+pub fn write_inner_head<W: ByteSink, K: NodeItem>(
     writer: &mut W,
     separators: &[K],
     children: usize,
@@ -74,14 +72,14 @@ pub fn write_inner_head<W: PreimageWriter, K: NodeItem>(
     write_items(writer, separators)
 }
 
-fn write_start<W: PreimageWriter>(writer: &mut W, tag: u8, count: usize) -> Result<(), W::Fault>
+fn write_start<W: ByteSink>(writer: &mut W, tag: u8, count: usize) -> Result<(), W::Fault>
     requires { count ≤ max_fill }
     ensures { OnOk result (Writes W.HoldsBytes writer.old writer.new (tag ∷ count ∷ [])) }
 {
     writer.write(&[tag, count as u8])
 }
 
-fn write_items<W: PreimageWriter, I: NodeItem>(writer: &mut W, items: &[I]) -> Result<(), W::Fault>
+fn write_items<W: ByteSink, I: NodeItem>(writer: &mut W, items: &[I]) -> Result<(), W::Fault>
     requires { All I.CanWrite items.now }
     ensures value { OnOk result
         (Writes W.HoldsBytes writer.old writer.new (flat_map I.bytes items.now)) }
@@ -96,7 +94,7 @@ fn write_items<W: PreimageWriter, I: NodeItem>(writer: &mut W, items: &[I]) -> R
 /// A key or separator stands behind its length.
 // Inlined: asked of each entry and each separator.
 #[inline(always)]
-pub fn write_key<W: PreimageWriter>(writer: &mut W, key: &[u8]) -> Result<(), W::Fault>
+pub fn write_key<W: ByteSink>(writer: &mut W, key: &[u8]) -> Result<(), W::Fault>
     requires { FitsKey key.now }
     ensures { OnOk result (Writes W.HoldsBytes writer.old writer.new (string key.now)) }
 {

@@ -10,7 +10,6 @@ mod part_digest;
 mod part_items;
 mod part_node;
 mod parts;
-mod preimage_writer;
 mod preimages;
 mod row_node;
 mod row_nodes;

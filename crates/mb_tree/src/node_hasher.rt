@@ -2,9 +2,11 @@
 ghost use Rattle.std.specs.Prelude.{◌≡◌, ℕ, List, []};
 ghost use Rattle.vo_spec.specs.Sha256.{sha256};
 ghost use Rattle.mb_tree.specs.Gathering.{HoldsNode};
-ghost use Rattle.mb_tree.specs.Writing.{Writes};
+ghost use Rattle.row_bytes.specs.Writing.{Writes};
 
 use arrayvec::ArrayVec;
+use row_bytes::ByteSink;
+use std::convert::Infallible;
 use tagged_hash::Hasher;
 use vo_spec::Digest;
 
@@ -61,5 +63,17 @@ impl NodeHasher {
         let mut hasher = self.hasher;
         hasher.add(&self.gathered);
         hasher.end()
+    }
+}
+
+impl ByteSink for NodeHasher {
+    type Fault = Infallible;
+
+    ghost HoldsBytes = { HoldsNode };
+
+    #[inline(always)]
+    fn write(&mut self, bytes: &[u8]) -> Result<(), Infallible> {
+        self.add(bytes);
+        Ok(())
     }
 }

@@ -7,8 +7,8 @@ ghost use Rattle.mb_tree.specs.View.{part_of};
 
 use crate::layout::{NodeItem, write_key};
 use crate::parts::PartTree;
-use crate::preimage_writer::PreimageWriter;
 use attr_digest::row_digest;
+use row_bytes::ByteSink;
 use vo_spec::{KeyPart, PartEntry};
 
 impl NodeItem for PartEntry<'_> {
@@ -16,7 +16,7 @@ impl NodeItem for PartEntry<'_> {
 
     ghost CanWrite = { FitsEntry };
 
-    fn write_to<W: PreimageWriter>(&self, writer: &mut W) -> Result<(), W::Fault> {
+    fn write_to<W: ByteSink>(&self, writer: &mut W) -> Result<(), W::Fault> {
         write_key(writer, self.key.as_bytes())?;
         writer.write(row_digest(&self.row).as_bytes())
     }
@@ -27,7 +27,7 @@ impl NodeItem for KeyPart<'_> {
 
     ghost CanWrite = { FitsKey };
 
-    fn write_to<W: PreimageWriter>(&self, writer: &mut W) -> Result<(), W::Fault> {
+    fn write_to<W: ByteSink>(&self, writer: &mut W) -> Result<(), W::Fault> {
         write_key(writer, self.as_bytes())
     }
 }
@@ -37,7 +37,7 @@ impl NodeItem for PartTree<'_> {
 
     ghost CanWrite = { λ part. FitsPart (part_of part) };
 
-    fn write_to<W: PreimageWriter>(&self, writer: &mut W) -> Result<(), W::Fault> {
+    fn write_to<W: ByteSink>(&self, writer: &mut W) -> Result<(), W::Fault> {
         writer.write(self.node_digest().as_bytes())
     }
 }

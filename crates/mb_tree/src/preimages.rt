@@ -3,7 +3,7 @@ ghost use Rattle.std.specs.Prelude.{◌≡◌, ◌≤◌, length, All, IfOk};
 ghost use Rattle.vo_spec.specs.Trees.{preimage};
 ghost use Rattle.vo_spec.specs.Fits.{FitsPart, max_fill};
 ghost use Rattle.mb_tree.specs.View.{part_of};
-ghost use Rattle.mb_tree.specs.Writing.{leaf_layout, inner_layout};
+ghost use Rattle.mb_tree.specs.Layouts.{leaf_layout, inner_layout};
 
 use crate::layout::{NodeItem, write_inner, write_leaf};
 use crate::parts::PartTree;

@@ -6,16 +6,16 @@ ghost use Rattle.vo_spec.specs.Fits.{FitsKey, FitsPart, FitsRow};
 
 use crate::entries::TreeEntry;
 use crate::layout::{NodeItem, write_key};
-use crate::preimage_writer::PreimageWriter;
 use crate::subtrees::Subtree;
 use crate::tree_key::TreeKey;
+use row_bytes::ByteSink;
 
 impl NodeItem for TreeEntry {
     ghost bytes = { λ row. entry_bytes (whole_entry row) };
 
     ghost Fits = { FitsRow };
 
-    fn write_to<W: PreimageWriter>(&self, writer: &mut W) -> Result<(), W::Fault> {
+    fn write_to<W: ByteSink>(&self, writer: &mut W) -> Result<(), W::Fault> {
         let digest = self.cells().digest();
         write_key(writer, self.key().as_bytes())?;
         writer.write(digest.as_bytes())
@@ -27,7 +27,7 @@ impl NodeItem for TreeKey {
 
     ghost Fits = { FitsKey };
 
-    fn write_to<W: PreimageWriter>(&self, writer: &mut W) -> Result<(), W::Fault> {
+    fn write_to<W: ByteSink>(&self, writer: &mut W) -> Result<(), W::Fault> {
         write_key(writer, self.as_bytes())
     }
 }
@@ -37,7 +37,7 @@ impl NodeItem for Subtree {
 
     ghost Fits = { FitsPart };
 
-    fn write_to<W: PreimageWriter>(&self, writer: &mut W) -> Result<(), W::Fault> {
+    fn write_to<W: ByteSink>(&self, writer: &mut W) -> Result<(), W::Fault> {
         writer.write(self.node_digest().as_bytes())
     }
 }
