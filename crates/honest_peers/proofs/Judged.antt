@@ -15,7 +15,7 @@ use Rattle.vo_spec.specs.Conditions.{Query}
 use Rattle.vo_spec.specs.Firsts.{first_some, unless}
 use Rattle.vo_spec.specs.Replies.{Reply}
 use Rattle.owner_roots.specs.Owners.{IsBadAt, IsOwned, OwnedAuditOf}
-use Rattle.reply_tests.proofs.AcceptedRecords.{of_no_fault}
+use Rattle.held_replies.proofs.AcceptedRecords.{of_no_fault}
 use Rattle.honest_peers.proofs.AskLaws.{one_check}
 use Rattle.honest_peers.proofs.OneVerdict.{answer_is}
 use Rattle.honest_peers.proofs.Readings.{never_bad, one_owned}

@@ -11,7 +11,7 @@ use Rattle.vo_spec.specs.Replies.{Reply, IsReply, max_reply}
 use Rattle.vo_spec.specs.Owners.{IsSigned}
 use Rattle.vo_spec.specs.Checks.{key_fault, leaf_fault, signature_fault, age_fault, catalog_fault, count_fault, shape_fault, root_fault, missing_fault, surplus_fault, tables_wanted, trees_of, check_fault, answer_to, CheckOf}
 use Rattle.vo_laws.proofs.JoinLaws.{is_bytes}
-use Rattle.reply_tests.proofs.AcceptedRecords.{of_no_fault}
+use Rattle.held_replies.proofs.AcceptedRecords.{of_no_fault}
 use Rattle.reply_meeting.specs.Accepting.{IsAccepted, HasPassed}
 
 none_of : (o : Option CheckFault) (a x : Answer) → Ok a ≡ unless o x → o ≡ None

@@ -2,8 +2,8 @@
 ghost use Rattle.vo_spec.specs.Conditions.{query_of};
 ghost use Rattle.reply_meeting.specs.Accepting.{ReadsAccepted};
 
+use held_replies::{judge, read_within};
 use lms_sign::PublicKey;
-use reply_tests::{judge, read_within};
 use std::alloc::Global;
 use vo_format::Reply;
 use vo_spec::{CheckFault, QueryText};

@@ -16,7 +16,7 @@ use Rattle.vo_spec.specs.Checks.{key_fault, leaf_fault, signature_fault, age_fau
 use Rattle.vo_spec.specs.Audits.{AuditOf}
 use Rattle.owner_roots.specs.Owners.{IsOwned, IsBadAt, OwnedAuditOf}
 use Rattle.vo_laws.proofs.JoinLaws.{is_bytes}
-use Rattle.reply_tests.specs.Judging.{FitsWhereBound}
+use Rattle.held_replies.specs.Judging.{FitsWhereBound}
 use Rattle.vo_audit.specs.Auditing.{HasPassed, AuditsReply, audit_fault, seen_answer}
 use Rattle.vo_audit.specs.Showing.{AreShown, Shows, ShowsOf}
 use Rattle.std.specs.Prelude.{◌≤◌, IfOk}

@@ -30,7 +30,7 @@ use Rattle.owner_state.specs.declared.departures.Departure.{Departure}
 use Rattle.owner_state.specs.declared.journals.OwnedJournal.{OwnedJournal}
 use Rattle.owner_state.specs.Departing.{trees_at}
 use Rattle.vo_audit.specs.Departures.{IsDeparture}
-use Rattle.reply_tests.specs.Judging.{FitsWhereBound}
+use Rattle.held_replies.specs.Judging.{FitsWhereBound}
 
 -- two different byte strings of one digest are found, which are as said, or the fact holds
 abbrev pub CollidesOr : Option (List ℕ × List ℕ) → Type 0 → OfStrings → Type 0

@@ -9,9 +9,9 @@ ghost use Rattle.vo_audit.specs.Auditing.{IsReadAt, AuditsReply, audit_fault, ve
 ghost use Rattle.vo_audit.specs.Showing.{AreShown, Shows, ShowsOf};
 
 use crate::verdicts::verdict_on;
+use held_replies::{judge, read_within};
 use lms_sign::PublicKey;
 use owner_state::{JournalFault, OwnedJournal, read_owned};
-use reply_tests::{judge, read_within};
 use std::alloc::Global;
 use vo_format::Reply;
 use vo_spec::{AuditFault, CheckFault, QueryText, Verdict};

@@ -24,8 +24,8 @@ use Rattle.reply_stream.specs.ReplyTrees.{trees_at}
 use Rattle.reply_stream.specs.TreesStreams.{trees_of}
 use Rattle.reply_stream.proofs.PartLaws.{parts_again, parts_found}
 use Rattle.tree_stream.proofs.AllBytes.{IsBytes-append}
-use Rattle.reply_tests.specs.Accepting.{IsSignedReply}
-use Rattle.reply_tests.proofs.AcceptedRecords.{accepted}
+use Rattle.held_replies.specs.Accepting.{IsSignedReply}
+use Rattle.held_replies.proofs.AcceptedRecords.{accepted}
 use Rattle.vo_check.specs.Streamed.{plan_for}
 use Rattle.vo_check.specs.Checkings.{CheckingModel, ReadsTrees, no_bytes_of, with_piece, without_memory}
 

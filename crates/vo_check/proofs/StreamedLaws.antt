@@ -50,9 +50,9 @@ use Rattle.reply_stream.specs.declared.trees_summary.TreesSummary.{TreesSummary}
 use Rattle.reply_stream.specs.ReplyHeads.{ReplyHead}
 use Rattle.reply_stream.specs.ReplyParts.{Parts, head_in, parts_of}
 use Rattle.reply_stream.specs.ReplyTrees.{first_summary, trees_summary}
-use Rattle.reply_tests.specs.Testing.{GivesIfPassed, bare_reply, count_fault_of, digest_fault, excess_fault, needs_fault, shapes_fault, trees_fault}
-use Rattle.reply_tests.specs.Judging.{bound_fault, head_fault, needed_for, proof_fault, shown_for}
-use Rattle.reply_tests.proofs.ReplyTests.{bound_same, wrong_gives, wrong_refused}
+use Rattle.held_replies.specs.Testing.{GivesIfPassed, bare_reply, count_fault_of, digest_fault, excess_fault, needs_fault, shapes_fault, trees_fault}
+use Rattle.held_replies.specs.Judging.{bound_fault, head_fault, needed_for, proof_fault, shown_for}
+use Rattle.held_replies.proofs.ReplyTests.{bound_same, wrong_gives, wrong_refused}
 use Rattle.vo_check.specs.Streamed.{HasFound, HasSchema, IsSummedUp, bound_target, findings_fault, or_fault, plan_for, summary_fault, table_fault, table_of, target_for}
 use Rattle.vo_check.proofs.RisingColumns.{columns_rise}
 

@@ -23,7 +23,7 @@ use Rattle.tree_stream.specs.Remaining.{summary}
 use Rattle.reply_stream.specs.declared.trees_summary.TreesSummary.{TreesSummary}
 use Rattle.reply_stream.specs.ReplyHeads.{ReplyHead}
 use Rattle.reply_stream.specs.ReplyTrees.{trees_summary}
-use Rattle.reply_tests.specs.Testing.{digest_fault}
+use Rattle.held_replies.specs.Testing.{digest_fault}
 
 -- What the first tree is read for: the rows that the query needs of it, or none where the query is
 -- wrong.

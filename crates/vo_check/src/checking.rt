@@ -4,7 +4,7 @@ ghost use Rattle.vo_spec.specs.Bytes.{IsBytes};
 ghost use Rattle.vo_spec.specs.Checks.{CheckOf};
 ghost use Rattle.vo_spec.specs.Conditions.{query_of};
 ghost use Rattle.vo_spec.specs.Replies.{IsNoReply};
-ghost use Rattle.reply_tests.specs.Accepting.{IsSignedReply};
+ghost use Rattle.held_replies.specs.Accepting.{IsSignedReply};
 ghost use Rattle.vo_check.specs.Streaming.{IsStreamed};
 ghost use Rattle.vo_check.specs.Checkings.{HasHead, WantsRow, with_piece, without_memory};
 

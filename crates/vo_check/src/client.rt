@@ -2,15 +2,15 @@
 ghost use Rattle.std.specs.Prelude.{◌≡◌, ◌⊎◌, IfOk, OnErr, Err};
 ghost use Rattle.vo_spec.specs.Conditions.{query_of};
 ghost use Rattle.vo_spec.specs.Checks.{CheckOf};
-ghost use Rattle.reply_tests.specs.Accepting.{IsSignedReply};
+ghost use Rattle.held_replies.specs.Accepting.{IsSignedReply};
 ghost use Rattle.vo_check.specs.Checkings.{no_bytes_of};
 
 use crate::checking::Checking;
 use crate::feeding::first_progress;
 use crate::streaming::is_streamed;
+use held_replies::judge_bytes;
 use lms_sign::PublicKey;
 use reply_stream::ReplyLength;
-use reply_tests::judge_bytes;
 use running_hash::ByteLog;
 use std::alloc::Global;
 use vo_spec::{Answer, CheckFault, QueryText};

@@ -12,5 +12,5 @@ mod targets;
 
 pub use checking::Checking;
 pub use client::Client;
-pub use reply_tests::{judge, read_within};
+pub use held_replies::{judge, read_within};
 pub use vo_spec::{Answer, CheckFault};

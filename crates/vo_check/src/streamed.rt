@@ -15,15 +15,15 @@ ghost use Rattle.query_plan.specs.Plans.{plan_of};
 ghost use Rattle.query_plan.specs.PlanViews.{plan_seen};
 ghost use Rattle.plan_run.specs.Running.{run_rows};
 ghost use Rattle.reply_stream.specs.ReplyParts.{parts_of};
-ghost use Rattle.reply_tests.specs.Judging.{bound_fault, proof_fault, shown_for};
-ghost use Rattle.reply_tests.specs.Testing.{GivesIfPassed, PassesTests};
+ghost use Rattle.held_replies.specs.Judging.{bound_fault, proof_fault, shown_for};
+ghost use Rattle.held_replies.specs.Testing.{GivesIfPassed, PassesTests};
 ghost use Rattle.vo_check.specs.Streamed.{HasFound, HasSchema, IsSummedUp, bound_target, findings_fault, plan_for, summary_fault, table_fault, target_for};
 
+use held_replies::{count_fault, table_named, test_digest, test_head};
 use lms_sign::PublicKey;
 use plan_run::rows_of_seen;
 use query_plan::{BindFault, Plan, Query, bind, header, plan};
 use reply_stream::{Findings, Head, Summary, TreesSummary};
-use reply_tests::{count_fault, table_named, test_digest, test_head};
 use std::alloc::Global;
 use vo_spec::{Answer, Catalog, CatalogTable, CheckFault, Outcome, QueryFault, QueryText, SeenRow};
 

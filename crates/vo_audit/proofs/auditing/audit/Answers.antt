@@ -4,7 +4,7 @@ use Rattle.vo_spec.specs.declared.checks.AuditFault.TheVariants.{BadJournal}
 use Rattle.vo_spec.specs.Conditions.{query_of}
 use Rattle.vo_format.specs.View.{reply_of}
 use Rattle.owner_state.specs.declared.journals.JournalFault.{JournalFault}
-use Rattle.reply_tests.specs.Reading.{ReadsReply}
+use Rattle.held_replies.specs.Reading.{ReadsReply}
 use Rattle.vo_audit.specs.Auditing.{IsReadAt, version_of}
 use Rattle.vo_audit.proofs.AcceptedLaws.{told_of_bytes, shown_of_bytes, told_unread, told_bad}
 use Rattle.vo_audit.proofs.JournalLaws.{read_at}

@@ -3,7 +3,7 @@ use Rattle.vo_spec.specs.declared.checks.Answer.{Answer}
 use Rattle.vo_spec.specs.declared.queries.Outcome.{Outcome}
 use Rattle.vo_spec.specs.declared.records.Record.{Record}
 use Rattle.vo_spec.specs.Conditions.{query_of}
-use Rattle.reply_tests.proofs.ReplyTests.{left_to_trees, refused_head}
+use Rattle.held_replies.proofs.ReplyTests.{left_to_trees, refused_head}
 use Rattle.vo_check.proofs.StreamedLaws.{has_found, head_tests, same_record}
 use Rattle.vo_check.proofs.streamed.answer_of.Goals as goal
 

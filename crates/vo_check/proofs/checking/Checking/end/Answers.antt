@@ -1,7 +1,7 @@
 use Rattle.std.proofs.Common.{List, ℕ, IfOk, ap, subst, ◌∙◌}
 use Rattle.vo_spec.specs.declared.checks.Answer.{Answer}
 use Rattle.vo_spec.specs.Conditions.{query_of}
-use Rattle.reply_tests.specs.Accepting.{IsSignedReply}
+use Rattle.held_replies.specs.Accepting.{IsSignedReply}
 use Rattle.vo_check.specs.Checkings.{CheckingModel}
 use Rattle.vo_check.proofs.CheckingLaws.{accepted_either, counted_most}
 use Rattle.vo_check.proofs.checking.Checking.end.Goals as goal

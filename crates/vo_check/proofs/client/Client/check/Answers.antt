@@ -4,7 +4,7 @@ use Rattle.vo_spec.specs.declared.checks.CheckFault.TheVariants.{Memory}
 use Rattle.vo_spec.specs.declared.queries.QueryText.{QueryText}
 use Rattle.vo_spec.specs.Checks.{CheckOf}
 use Rattle.vo_spec.specs.Conditions.{query_of}
-use Rattle.reply_tests.specs.Accepting.{IsSignedReply}
+use Rattle.held_replies.specs.Accepting.{IsSignedReply}
 use Rattle.vo_check.proofs.CheckingLaws.{fed_whole}
 use Rattle.vo_check.proofs.client.Client.check.Goals as goal
 

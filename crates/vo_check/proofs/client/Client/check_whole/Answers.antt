@@ -1,5 +1,5 @@
 use Rattle.vo_spec.specs.Conditions.{query_of}
-use Rattle.reply_tests.proofs.AcceptedRecords.{accepted}
+use Rattle.held_replies.proofs.AcceptedRecords.{accepted}
 use Rattle.vo_check.proofs.client.Client.check_whole.Goals as goal
 
 pub returns-clause-accepted : goal.returns-clause-accepted

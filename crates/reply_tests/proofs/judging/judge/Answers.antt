@@ -1,7 +1,0 @@
-use Rattle.vo_spec.specs.Checks.{answer_to}
-use Rattle.reply_tests.proofs.ReplyTests.{answered}
-use Rattle.reply_tests.proofs.judging.judge.Goals as goal
-
-pub returns-clause-answers : goal.returns-clause-answers
-unfolding answer_to
-returns-clause-answers c = answered c.answer_of.result _ _ c.answer_of.ensures.answer

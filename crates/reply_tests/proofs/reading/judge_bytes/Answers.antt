@@ -1,6 +1,0 @@
-use Rattle.vo_spec.specs.Conditions.{query_of}
-use Rattle.reply_tests.proofs.Unread.{unread}
-use Rattle.reply_tests.proofs.reading.judge_bytes.Goals as goal
-
-pub returns-in-Err : goal.returns-in-Err
-returns-in-Err c = unread c.args.key.now c.args.least (query_of c.args.query.now) c.args.bytes.now c.in-Err.fault c.in-Err.ensures
