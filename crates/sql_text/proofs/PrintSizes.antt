@@ -8,7 +8,7 @@ abbrev mutual
   size (every cs) = suc (sizes cs)
   size (some cs) = suc (sizes cs)
   size (negated c) = suc (size c)
-  size (test left op right) = zero
+  size (test t) = zero
 
   pub sizes : Conditions → ℕ
   sizes none = zero

@@ -22,14 +22,13 @@ use Rattle.vo_spec.specs.declared.queries.Cmp.TheVariants as cmp
 use Rattle.vo_spec.specs.declared.queries.Operand.{Operand}
 use Rattle.vo_spec.specs.declared.queries.Operand.TheVariants as operand_of
 use Rattle.vo_spec.specs.Values.{FitsValue}
-use Rattle.vo_spec.specs.Conditions.{Condition, Conditions, every, some, negated, none, more, conditions, Query}
-use Rattle.vo_spec.specs.Conditions
+use Rattle.vo_spec.specs.Conditions.{every, some, negated, test, none, more, comparison, NameTest, Condition, Conditions, conditions, Query}
 use Rattle.sql_text.specs.Tokens.{sql, IsToken, whole}
 use Rattle.sql_text.specs.Rules as rule
 use Rattle.sql_text.specs.Queries as query
 use Rattle.sql_text.specs.Queries.{conditions_of, all_of, any_of}
-use Rattle.sql_text.specs.Printing.{word, name_token, literal_token, separate_by, terminate_by, parens, reference_tokens, source_tokens, operator, operand_tokens, is_enclosed, parenthesize, condition_tokens, parts_tokens, items_tokens, join_tokens, where_tokens, query_tokens}
-use Rattle.sql_text.specs.Spellable.{FreeName, SpellableRef, SpellableSource, SpellableOperand, HasTwo, SpellableCondition, SpellableParts, deeper, levels_of, levels_in, SpellableItems, SpellableJoin, SpellableQuery}
+use Rattle.sql_text.specs.Printing.{word, name_token, literal_token, separate_by, terminate_by, parens, reference_tokens, source_tokens, operator, operand_tokens, test_tokens, is_enclosed, parenthesize, condition_tokens, parts_tokens, items_tokens, join_tokens, where_tokens, query_tokens}
+use Rattle.sql_text.specs.Spellable.{FreeName, SpellableRef, SpellableSource, SpellableOperand, SpellableTest, HasTwo, SpellableCondition, SpellableParts, deeper, levels_of, levels_in, SpellableItems, SpellableJoin, SpellableQuery}
 use Rattle.sql_text.proofs.PrintTokens.{name_folded, name_is, integer_is, quoted_is, unquoted_again}
 
 -- keywords and symbols are tokens
@@ -216,17 +215,16 @@ unfolding query.operand
 spell_operand n (operand_of.Ref r) h = inl (r, spell_ref n r h, refl)
 spell_operand n (operand_of.Literal v) h = inr (v, spell_literal n v h, refl)
 
-spell_test : (n : ℕ) (left : Ref) (op : Cmp) (right : Operand) → SpellableRef left → SpellableOperand right
-    → Text n query.prim (reference_tokens left ++ word (operator op) ∷ operand_tokens right) (Conditions.test left op right)
+spell_test : (n : ℕ) (t : NameTest) → SpellableTest t → Text n query.prim (test_tokens t) (test t)
 unfolding query.prim query.comparison
-spell_test n left op right h f = inr (inr (
+spell_test n (comparison left op right) h = inr (inr (
   (left, (op, right)),
   (
     reference_tokens left,
     word (operator op) ∷ operand_tokens right,
     refl,
-    spell_ref n left h,
-    (word (operator op) ∷ [], operand_tokens right, refl, spell_operator n op, spell_operand n right f),
+    spell_ref n left h.0,
+    (word (operator op) ∷ [], operand_tokens right, refl, spell_operator n op, spell_operand n right h.1),
   ),
   refl,
 ))
@@ -309,7 +307,7 @@ not_as_and : (c : Condition) → is_enclosed k.And c ≡ is_enclosed k.Not c
 not_as_and (every cs) = refl
 not_as_and (some cs) = refl
 not_as_and (negated c) = refl
-not_as_and (Conditions.test left op right) = refl
+not_as_and (test t) = refl
 
 -- a part of an AND or a NOT, and of an OR
 
@@ -343,13 +341,13 @@ mutual
   tight (every cs) h n d = tight_every n cs h.0 d (all_parts cs h.1)
   tight (some cs) h n d = tight_some n cs h.0 d (any_parts cs h.1)
   tight (negated c) h n d = tight_not n c d (tight c h)
-  tight (Conditions.test left op right) h n d = spell_test n left op right h.0 h.1
+  tight (test t) h n d = spell_test n t h
 
   loose : (c : Condition) → SpellableCondition c → (n : ℕ) → deeper (is_enclosed k.Or c) (levels_of c) ≤ n → Loose n c
   loose (every cs) h n d = joined_all n cs h.0 (all_parts cs h.1 n d)
   loose (some cs) h n d = one_prim n _ (some cs) (tight_some n cs h.0 d (any_parts cs h.1))
   loose (negated c) h n d = one_prim n _ (negated c) (tight_not n c d (tight c h))
-  loose (Conditions.test left op right) h n d = one_prim n _ (Conditions.test left op right) (spell_test n left op right h.0 h.1)
+  loose (test t) h n d = one_prim n _ (test t) (spell_test n t h)
 
   all_parts : (cs : Conditions) → SpellableParts cs → (n : ℕ) → levels_in k.And cs ≤ n → Each n query.prim k.And cs
   all_parts none h n d = tt
@@ -363,7 +361,7 @@ pub spell_condition : (n : ℕ) (c : Condition) → SpellableCondition c → lev
 spell_condition n (every cs) h d = one_conj n _ (every cs) (loose (every cs) h n d)
 spell_condition n (some cs) h d = joined_any n cs h.0 (any_parts cs h.1 n d)
 spell_condition n (negated c) h d = one_conj n _ (negated c) (loose (negated c) h n d)
-spell_condition n (Conditions.test left op right) h d = one_conj n _ (Conditions.test left op right) (loose (Conditions.test left op right) h n d)
+spell_condition n (test t) h d = one_conj n _ (test t) (loose (test t) h n d)
 
 -- Queries.
 

@@ -35,9 +35,8 @@ use Rattle.vo_spec.specs.declared.tables.Command.TheVariants as command_of
 use Rattle.vo_spec.specs.Names.{is_name_byte, FitsName}
 use Rattle.vo_spec.specs.Values.{FitsValue}
 use Rattle.vo_spec.specs.Batches.{FitsColumn, FitsSet, FitsCommand, FitsBatch}
-use Rattle.vo_spec.specs.Conditions.{Condition, Conditions, every, some, negated, none, more, comparisons, comparisons_in, Query}
-use Rattle.vo_spec.specs.Conditions
-use Rattle.sql_text.specs.Printing.{word, name_token, literal_token, quoted_byte, separate_by, terminate_by, parens, reference_tokens, source_tokens, operator, operand_tokens, is_enclosed, parenthesize, condition_tokens, parts_tokens, items_tokens, join_tokens, where_tokens, query_tokens, kind_word, column_tokens, set_tokens, key_tokens, columns_tokens, command_tokens, batch_tokens, spaces_between, query_text, batch_text}
+use Rattle.vo_spec.specs.Conditions.{every, some, negated, test, none, more, of_tests_in, comparison, NameTest, Condition, Conditions, sides, comparisons, Query}
+use Rattle.sql_text.specs.Printing.{word, name_token, literal_token, quoted_byte, separate_by, terminate_by, parens, reference_tokens, source_tokens, operator, operand_tokens, test_tokens, is_enclosed, parenthesize, condition_tokens, parts_tokens, items_tokens, join_tokens, where_tokens, query_tokens, kind_word, column_tokens, set_tokens, key_tokens, columns_tokens, command_tokens, batch_tokens, spaces_between, query_text, batch_text}
 use Rattle.sql_text.specs.Printable.{PrintableRef, PrintableSource, PrintableItems, PrintableJoin, PrintableOperand, PrintableSides, PrintableQuery}
 use Rattle.sql_text.proofs.Made.{all_both, all_parts}
 use Rattle.sql_text.proofs.PrintTokens.{name_small}
@@ -170,17 +169,20 @@ operand_utf8 : (v : Operand) → PrintableOperand v → AreUtf8 (operand_tokens 
 operand_utf8 (operand_of.Ref r) h = reference_utf8 r h
 operand_utf8 (operand_of.Literal v) h = (literal_utf8 v h, tt)
 
+test_utf8 : (t : NameTest) → AreTests (sides t) → AreUtf8 (test_tokens t)
+test_utf8 (comparison left op right) h = joined (reference_tokens left) _ (reference_utf8 left h.0.0) (operator_utf8 op, operand_utf8 right h.0.1)
+
 mutual
   condition_utf8 : (c : Condition) → AreTests (comparisons c) → AreUtf8 (condition_tokens c)
   condition_utf8 (every cs) h = rest_utf8 (parts_tokens k.And cs) (parts_utf8 k.And (word_utf8 k.And refl) cs h)
   condition_utf8 (some cs) h = rest_utf8 (parts_tokens k.Or cs) (parts_utf8 k.Or (word_utf8 k.Or refl) cs h)
   condition_utf8 (negated c) h = (word_utf8 k.Not refl, enclosed_utf8 (is_enclosed k.Not c) (condition_tokens c) (condition_utf8 c h))
-  condition_utf8 (Conditions.test left op right) h = joined (reference_tokens left) _ (reference_utf8 left h.0.0) (operator_utf8 op, operand_utf8 right h.0.1)
+  condition_utf8 (test t) h = test_utf8 t h
 
-  parts_utf8 : (in_word : TokenKind) → IsUtf8 (spelling in_word) → (cs : Conditions) → AreTests (comparisons_in cs) → AreUtf8 (parts_tokens in_word cs)
+  parts_utf8 : (in_word : TokenKind) → IsUtf8 (spelling in_word) → (cs : Conditions) → AreTests (of_tests_in sides cs) → AreUtf8 (parts_tokens in_word cs)
   parts_utf8 in_word u none h = tt
   parts_utf8 in_word u (more c cs) h =
-      let parts = all_parts PrintableSides (comparisons c) (comparisons_in cs) h in
+      let parts = all_parts PrintableSides (comparisons c) (of_tests_in sides cs) h in
       joined (word in_word ∷ parenthesize (is_enclosed in_word c) (condition_tokens c)) (parts_tokens in_word cs)
       (u, enclosed_utf8 (is_enclosed in_word c) (condition_tokens c) (condition_utf8 c parts.0)) (parts_utf8 in_word u cs parts.1)
 

@@ -22,7 +22,7 @@ use Rattle.vo_spec.specs.declared.queries.QueryText.{QueryText}
 use Rattle.sql_text.specs.declared.faults.SqlFault.{SqlFault}
 use Rattle.vo_spec.specs.Names.{FitsName}
 use Rattle.vo_spec.specs.Values.{FitsValue, IsInRange}
-use Rattle.vo_spec.specs.Conditions.{Condition, conditions, comparisons, comparisons_in, Query, query_of, FitsOperand, FitsQuery}
+use Rattle.vo_spec.specs.Conditions.{Condition, conditions, sides, of_tests_in, comparisons, Query, query_of, FitsOperand, FitsQuery}
 use Rattle.sql_text.specs.Tokens.{sql, Nested, whole, primary}
 use Rattle.sql_text.specs.Rules.{before, followed_by, optional}
 use Rattle.sql_text.specs.Queries.{name, reference, ref_of, source, source_of, operand, comparison, prim, conj, disj, all_of, any_of, conditions_of, items, on_clause, join, query}
@@ -83,9 +83,9 @@ prim_fits c (inl (part, m, e)) = subst FitsCondition (sym e) m
 prim_fits c (inr (inl (x, (m, _), e))) = subst FitsCondition (sym e) m
 prim_fits c (inr (inr m)) = test_fits c m
 
-parts_fit : (cs : List Condition) → AllByRecursion FitsCondition cs → AreTests (comparisons_in (conditions cs))
+parts_fit : (cs : List Condition) → AllByRecursion FitsCondition cs → AreTests (of_tests_in sides (conditions cs))
 parts_fit [] h = tt
-parts_fit (c ∷ cs) h = all_both _ (comparisons c) (comparisons_in (conditions cs)) h.0 (parts_fit cs h.1)
+parts_fit (c ∷ cs) h = all_both _ (comparisons c) (of_tests_in sides (conditions cs)) h.0 (parts_fit cs h.1)
 
 all_fits : (cs : List Condition) → AllByRecursion FitsCondition cs → FitsCondition (all_of cs)
 all_fits [] h = tt

@@ -23,7 +23,7 @@ use Rattle.vo_spec.specs.declared.tables.Column.{Column}
 use Rattle.vo_spec.specs.declared.tables.SetPart.{SetPart}
 use Rattle.vo_spec.specs.declared.tables.Command.{Command}
 use Rattle.vo_spec.specs.declared.tables.Command.TheVariants as command_of
-use Rattle.vo_spec.specs.Conditions.{Condition, Conditions, every, some, negated, test, none, more, Query}
+use Rattle.vo_spec.specs.Conditions.{every, some, negated, test, none, more, comparison, NameTest, Condition, Conditions, Query}
 
 -- Tokens.
 
@@ -90,12 +90,16 @@ abbrev pub operand_tokens : Operand → List Token
 operand_tokens (operand_of.Ref r) = reference_tokens r
 operand_tokens (operand_of.Literal v) = literal_token v ∷ []
 
+abbrev pub test_tokens : NameTest → List Token
+test_tokens (comparison left op right) = reference_tokens left
+    ++ word (operator op) ∷ operand_tokens right
+
 -- whether parentheses stand round a condition that is a part of AND, OR or NOT
 abbrev pub is_enclosed : TokenKind → Condition → Bool
 is_enclosed in_word (every cs) = not (same_kind in_word k.Or)
 is_enclosed in_word (some cs) = true
 is_enclosed in_word (negated c) = false
-is_enclosed in_word (test left op right) = false
+is_enclosed in_word (test t) = false
 
 abbrev pub parenthesize : Bool → List Token → List Token
 parenthesize true tokens = parens tokens
@@ -107,8 +111,7 @@ abbrev mutual
   condition_tokens (some cs) = drop 1 (parts_tokens k.Or cs)
   condition_tokens (negated c) =
       word k.Not ∷ parenthesize (is_enclosed k.Not c) (condition_tokens c)
-  condition_tokens (test left op right) = reference_tokens left
-      ++ word (operator op) ∷ operand_tokens right
+  condition_tokens (test t) = test_tokens t
 
   -- each part behind this word
   pub parts_tokens : TokenKind → Conditions → List Token

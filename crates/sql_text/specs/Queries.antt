@@ -16,7 +16,7 @@ use Rattle.vo_spec.specs.declared.queries.Cmp.{Cmp}
 use Rattle.vo_spec.specs.declared.queries.Cmp.TheVariants as cmp
 use Rattle.vo_spec.specs.declared.queries.Operand.{Operand}
 use Rattle.vo_spec.specs.declared.queries.Operand.TheVariants as operand_of
-use Rattle.vo_spec.specs.Conditions.{Condition, conditions, every, some, negated, Query}
+use Rattle.vo_spec.specs.Conditions.{every, some, negated, test, Condition, conditions, Query}
 use Rattle.vo_spec.specs.Conditions
 use Rattle.sql_text.specs.Limits.{max_items}
 use Rattle.sql_text.specs.Tokens.{sql, Nested, whole, primary}
@@ -67,7 +67,7 @@ operand = either (means operand_of.Ref reference) (means operand_of.Literal lite
 
 -- ref op ( ref | literal )
 unfoldable pub comparison : Rule sql Condition
-comparison = means (λ x. Conditions.test x.0 x.1.0 x.1.1) (both reference (both operator operand))
+comparison = means (λ x. test (Conditions.comparison x.0 x.1.0 x.1.1)) (both reference (both operator operand))
 
 -- NOT prim | ( cond ) | comparison
 unfoldable pub prim : Rule sql Condition

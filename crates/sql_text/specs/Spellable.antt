@@ -18,7 +18,7 @@ use Rattle.vo_spec.specs.declared.tables.Command.TheVariants as command_of
 use Rattle.vo_spec.specs.Names.{FitsName}
 use Rattle.vo_spec.specs.Values.{FitsValue}
 use Rattle.vo_spec.specs.Batches.{FitCounted, max_commands}
-use Rattle.vo_spec.specs.Conditions.{Condition, Conditions, every, some, negated, test, none, more, Query}
+use Rattle.vo_spec.specs.Conditions.{every, some, negated, test, none, more, comparison, NameTest, Condition, Conditions, Query}
 use Rattle.sql_text.specs.Limits.{max_items, max_nesting, max_sql_bytes}
 use Rattle.sql_text.specs.Printing.{is_enclosed, query_text, batch_text}
 
@@ -38,6 +38,9 @@ abbrev pub SpellableOperand : Operand → Type 0
 SpellableOperand (operand_of.Ref r) = SpellableRef r
 SpellableOperand (operand_of.Literal v) = FitsValue v
 
+abbrev pub SpellableTest : NameTest → Type 0
+SpellableTest (comparison left op right) = SpellableRef left × SpellableOperand right
+
 abbrev pub HasTwo : Conditions → Type 0
 HasTwo none = ⊥
 HasTwo (more c none) = ⊥
@@ -49,7 +52,7 @@ abbrev mutual
   SpellableCondition (every cs) = HasTwo cs × SpellableParts cs
   SpellableCondition (some cs) = HasTwo cs × SpellableParts cs
   SpellableCondition (negated c) = SpellableCondition c
-  SpellableCondition (test left op right) = SpellableRef left × SpellableOperand right
+  SpellableCondition (test t) = SpellableTest t
 
   pub SpellableParts : Conditions → Type 0
   SpellableParts none = Unit {0}
@@ -65,7 +68,7 @@ abbrev mutual
   levels_of (every cs) = levels_in k.And cs
   levels_of (some cs) = levels_in k.Or cs
   levels_of (negated c) = suc (deeper (is_enclosed k.Not c) (levels_of c))
-  levels_of (test left op right) = zero
+  levels_of (test t) = zero
 
   pub levels_in : TokenKind → Conditions → ℕ
   levels_in in_word none = zero
