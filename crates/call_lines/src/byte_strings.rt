@@ -6,11 +6,12 @@ use crate::line::BytesCall;
 use batch_format::read_batch;
 use line_pieces::{describe, word};
 use row_bytes::{
-    Cursor, FormFault, Value, ValueRef, copy_onto, copy_values, key_of, own_value, put_value,
-    read_key, take_columns, take_kind, take_value,
+    Cursor, FormFault, Value, ValueRef, key_of, put_value, read_key, take_columns, take_kind,
+    take_value,
 };
 use std::alloc::Global;
 use std::io;
+use vo_spec::copy_values;
 
 /// The answer to a call of bytes.
 pub fn answer(alloc: Global, call: BytesCall, bytes: &[u8]) -> io::Result<String> {
@@ -39,7 +40,7 @@ fn value(alloc: Global, bytes: &[u8]) -> io::Result<String> {
 fn describe_value(alloc: Global, value: ValueRef<'_>) -> io::Result<String>
     requires { FitsValue (value_of value) }
 {
-    let value = own_value(alloc, value)?;
+    let value = value.to_value(alloc)?;
     let digits = digits_of(alloc, &value)?;
     let value = describe(alloc, &value)?;
     Ok(format!(in alloc; "{value} {digits}")?)
@@ -63,7 +64,7 @@ pub fn take_values(alloc: Global, bytes: &[u8]) -> io::Result<Result<Vec<Value>,
             break;
         }
         match take_value(&mut cursor) {
-            Ok(value) => copy_onto(alloc, &mut values, &[own_value(alloc, value)?])?,
+            Ok(value) => values.push(value.to_value(alloc)?)?,
             Err(fault) => return Ok(Err(fault)),
         }
     }
@@ -82,7 +83,7 @@ fn copies(alloc: Global, bytes: &[u8]) -> io::Result<String> {
 fn key(alloc: Global, bytes: &[u8]) -> io::Result<String> {
     match take_value(&mut Cursor::new(bytes)) {
         Ok(value) => {
-            let key = key_of(alloc, &own_value(alloc, value)?)?;
+            let key = key_of(alloc, &value.to_value(alloc)?)?;
             Ok(hex::encode(alloc, key.as_bytes())?)
         }
         Err(fault) => describe(alloc, &fault),

@@ -4,7 +4,7 @@ ghost use Rattle.vo_spec.specs.Lent.{value_of};
 ghost use Rattle.vo_spec.specs.Values.{key_lt as is_less, key_of as key_bytes};
 ghost use Rattle.vo_spec.specs.Needs.{all_keys, keys_that, higher, lower, intersection};
 
-use row_bytes::{key_of, own_value};
+use row_bytes::key_of;
 use std::alloc::{AllocError, Global};
 use vo_spec::{Bound, Cmp, Interval, Key, ValueRef};
 
@@ -29,7 +29,7 @@ pub(crate) fn keys_that(alloc: Global, op: Cmp, value: ValueRef<'_>) -> Result<I
     ensures { IfOk result (λ interval. interval
         ≡ keys_that op (key_bytes (value_of value.entry))) }
 {
-    let key = key_of(alloc, &own_value(alloc, value)?)?;
+    let key = key_of(alloc, &value.to_value(alloc)?)?;
     let (low, high) = match op {
         Cmp::Eq => (Bound::Inclusive(key.copy(alloc)?), Bound::Inclusive(key)),
         Cmp::Ne => (Bound::Absent, Bound::Absent),

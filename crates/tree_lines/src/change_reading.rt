@@ -10,7 +10,7 @@ ghost use Rattle.tree_lines.specs.Fitting.{FitsOp};
 
 use crate::part_reading::at_end;
 use mb_update::{Op, SetCell};
-use row_bytes::{Cursor, ReadFault, own_value, take_value};
+use row_bytes::{Cursor, ReadFault, take_value};
 use std::alloc::Global;
 use vo_spec::{Key, List, MAX_KEY, Row, Value};
 
@@ -73,7 +73,7 @@ fn take_value_of(alloc: Global, cursor: &mut Cursor<'_>) -> Result<Value, ReadFa
     ensures { IfOk result (λ value. FitsValue value) }
 {
     match take_value(cursor) {
-        Ok(value) => Ok(own_value(alloc, value)?),
+        Ok(value) => Ok(value.to_value(alloc)?),
         Err(_) => Err(ReadFault::BadForm),
     }
 }

@@ -7,11 +7,10 @@ ghost use Rattle.tree_stream.specs.Findings.{cell_findings, closed_row_findings,
 ghost use Rattle.tree_stream.specs.Parsing.{cell_of};
 
 use crate::findings::{CellFindings, Findings};
-use crate::kinds::is_key_of;
 use crate::parse::CellToken;
 use crate::target::Target;
 use key_intervals::in_interval;
-use row_bytes::own_value;
+use row_bytes::is_key_of;
 use std::alloc::{AllocError, Global};
 use vo_spec::{Key, Kind, List, SeenRow, Value};
 
@@ -107,7 +106,7 @@ pub(crate) fn add_cell(
         CellToken::Hidden(_) => findings.is_missing |= is_named,
         CellToken::Shown { value, .. } => {
             if is_named {
-                findings.values.push(own_value(alloc, *value)?)?;
+                findings.values.push(value.to_value(alloc)?)?;
             } else {
                 findings.has_surplus = true;
             }

@@ -1,18 +1,12 @@
-//! Whether keys and cells are those of a table's columns.
+//! Whether cells are those of a table's columns.
 ghost use Rattle.std.specs.Prelude.{◌≡◌};
-ghost use Rattle.vo_spec.specs.Checks.{is_key_of as has_kind, shows_kind as shows_such};
+ghost use Rattle.vo_spec.specs.Checks.{shows_kind as shows_such};
 ghost use Rattle.tree_stream.specs.Findings.{fits_kind as is_of_kind};
 ghost use Rattle.tree_stream.specs.Parsing.{cell_of};
 
 use crate::parse::CellToken;
-use row_bytes::read_key;
-use vo_spec::{Kind, ValueRef};
-
-pub(crate) fn is_key_of(kind: Kind, key: &[u8]) -> bool
-    ensures { result ≡ has_kind kind key.now }
-{
-    read_key(kind, key).is_ok()
-}
+use table_list::takes;
+use vo_spec::Kind;
 
 /// Whether the cell of this column shows no value, or one of the column's kind.
 // Inlined, as all that is asked of each cell.
@@ -33,11 +27,6 @@ fn shows_kind(kind: Kind, cell: &CellToken<'_>) -> bool
 {
     match cell {
         CellToken::Hidden(_) => true,
-        CellToken::Shown { value, .. } => matches!(
-            (kind, value),
-            (Kind::Int, ValueRef::Int(_))
-                | (Kind::Text, ValueRef::Text(_))
-                | (Kind::Bool, ValueRef::Bool(_))
-        ),
+        CellToken::Shown { value, .. } => takes(kind, *value),
     }
 }

@@ -4,7 +4,7 @@ ghost use Rattle.vo_spec.specs.declared.tables.Column.{Column as PlainColumn};
 ghost use Rattle.tree_stream.specs.Findings.{no_target, target_of};
 
 use std::alloc::{AllocError, Global};
-use table_list::kind_at;
+use table_list::key_kind;
 use vo_spec::{Bound, Column, Interval, Key, Kind, List, Need, Schema};
 
 /// The rows of an interval of keys, with the columns that are named, in a tree of a table. Columns
@@ -29,7 +29,7 @@ impl Target {
         Ok(Target {
             interval: need.interval,
             columns: List::from_vec(columns),
-            key_kind: kind_at(schema.columns.as_slice(), schema.key as usize),
+            key_kind: key_kind(schema),
             cell_kinds: List::from_vec(cell_kinds),
         })
     }

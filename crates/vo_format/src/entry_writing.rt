@@ -1,15 +1,13 @@
 //! Writing the entries of leaves.
 ghost use Rattle.std.specs.Prelude.{◌≡◌, ◌++◌, ◌≤◌, [], ◌∷◌, length, flat_map, OnOk, OnErr, All};
-ghost use Rattle.vo_spec.specs.declared.values.Value.TheVariants.{Int, Text};
 ghost use Rattle.vo_spec.specs.Bytes.{string};
-ghost use Rattle.vo_spec.specs.Values.{value_bytes, max_text, FitsValue};
-ghost use Rattle.vo_spec.specs.Lent.{value_of};
 ghost use Rattle.vo_spec.specs.Fits.{FitsCell, FitsEntry, FitsKey, FitsRowPart, max_cells};
 ghost use Rattle.vo_spec.specs.TreeBytes.{cell_form, entry_form, row_form};
 ghost use Rattle.batch_format.specs.Writing.{StaysInFront};
 
+use row_bytes::put_value_ref;
 use std::alloc::AllocError;
-use vo_spec::{Cell, Digest, PartEntry, RowPart, ValueRef, u16_bytes, u64_bytes};
+use vo_spec::{Cell, Digest, PartEntry, RowPart, u16_bytes};
 
 /// Puts what is hidden at the end: a zero, and its digest. Where memory runs out, what was there
 /// stays in front.
@@ -37,39 +35,6 @@ pub fn put_key(out: &mut Vec<u8>, key: &[u8]) -> Result<(), AllocError>
 }
 
 #[tactic(auto, using(batch_format::proofs::Fronts::stays_itself, batch_format::proofs::Fronts::stays_before, batch_format::proofs::Fronts::stays_behind))]
-fn put_int(out: &mut Vec<u8>, number: i64) -> Result<(), AllocError>
-    ensures ok { OnOk result (out.new.items ≡ out.old.items ++ value_bytes (Int number)) }
-    ensures err { OnErr result (StaysInFront out.old.items out.new.items) }
-{
-    out.push(1)?;
-    out.extend_from_slice(&u64_bytes(number.cast_unsigned()))
-}
-
-#[tactic(auto, using(batch_format::proofs::Fronts::stays_itself, batch_format::proofs::Fronts::stays_before, batch_format::proofs::Fronts::stays_behind))]
-fn put_text(out: &mut Vec<u8>, text: &[u8]) -> Result<(), AllocError>
-    requires { length text.now ≤ max_text }
-    ensures ok { OnOk result (out.new.items ≡ out.old.items ++ value_bytes (Text text.now)) }
-    ensures err { OnErr result (StaysInFront out.old.items out.new.items) }
-{
-    out.push(2)?;
-    out.extend_from_slice(&u16_bytes(text.len() as u16))?;
-    out.extend_from_slice(text)
-}
-
-#[tactic(auto, using(batch_format::proofs::Fronts::stays_itself, batch_format::proofs::Fronts::stays_before, batch_format::proofs::Fronts::stays_behind))]
-fn put_shown(out: &mut Vec<u8>, value: ValueRef<'_>) -> Result<(), AllocError>
-    requires { FitsValue (value_of value) }
-    ensures ok { OnOk result (out.new.items ≡ out.old.items ++ value_bytes (value_of value.entry)) }
-    ensures err { OnErr result (StaysInFront out.old.items out.new.items) }
-{
-    match value {
-        ValueRef::Int(number) => put_int(out, number),
-        ValueRef::Text(text) => put_text(out, text),
-        ValueRef::Bool(truth) => out.extend_from_slice(&[3, u8::from(truth)]),
-    }
-}
-
-#[tactic(auto, using(batch_format::proofs::Fronts::stays_itself, batch_format::proofs::Fronts::stays_before, batch_format::proofs::Fronts::stays_behind))]
 fn put_cell(out: &mut Vec<u8>, cell: &Cell<'_>) -> Result<(), AllocError>
     requires { FitsCell cell.now }
     ensures ok { OnOk result (out.new.items ≡ out.old.items ++ cell_form cell.now) }
@@ -79,7 +44,7 @@ fn put_cell(out: &mut Vec<u8>, cell: &Cell<'_>) -> Result<(), AllocError>
         Cell::Hidden(digest) => put_hidden(out, digest),
         Cell::Shown(value) => {
             out.push(1)?;
-            put_shown(out, value.as_ref())
+            put_value_ref(out, value.as_ref())
         }
     }
 }
