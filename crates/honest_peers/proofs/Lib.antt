@@ -16,3 +16,4 @@ pub mod AnswerLaws
 pub mod OwnedSteps
 pub mod OneVerdict
 pub mod Judged
+pub mod CrashLaws

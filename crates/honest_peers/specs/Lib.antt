@@ -2,3 +2,4 @@ pub mod Answering
 pub mod Asking
 pub mod Owning
 pub mod Accepting
+pub mod Crashes

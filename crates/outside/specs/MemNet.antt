@@ -1,5 +1,5 @@
 -- Connections that are kept in memory.
-use Rattle.std.specs.Prelude.{ℕ, drop, map, vec_capacity}
+use Rattle.std.specs.Prelude.{ℕ, drop, map}
 use Rattle.outside.specs.ConnectionModel.{ConnectionModel}
 use Rattle.outside.specs.declared.mem_net.MemNet.{MemNet}
 
@@ -17,10 +17,6 @@ misses_of net = net.misses
 
 abbrev pub plan_of : {P : Type 0} → MemNet P → P
 plan_of net = net.failures
-
--- for how many bytes there is room on the connection that stands, those that were put counted
-abbrev pub room_of : {P : Type 0} → MemNet P → ℕ
-room_of net = vec_capacity net.sent
 
 -- how many bytes one get takes at most
 abbrev pub most_of : {P : Type 0} → MemNet P → ℕ

@@ -19,3 +19,10 @@ Takes None limit (Err Failed) = Unit {0}
 Takes None limit (Err TooLong) = ⊥
 Takes None limit (Err Memory) = ⊥
 Takes None limit (Ok taken) = ⊥
+
+-- P, unless the file is not there or was not read
+abbrev pub UnlessTakeFails : Result (Vec ℕ) TakeFault → Type 0 → Type 0
+UnlessTakeFails (Ok taken) P = P
+UnlessTakeFails (Err Failed) P = Unit {0}
+UnlessTakeFails (Err TooLong) P = P
+UnlessTakeFails (Err Memory) P = P

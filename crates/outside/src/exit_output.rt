@@ -12,6 +12,7 @@ pub fn write_output<S: Sink>(out: &mut S, status: u8, bytes: &[u8]) -> u8
         (FaultRose (S.faults out.old) (S.faults out.new))
         result (S.written out.old) (S.written out.new) }
     ensures counts { S.faults out.old ≤ S.faults out.new }
+    ensures quiet { result ≢ 3 → S.faults out.new ≡ S.faults out.old }
     ensures outside { status ≢ 3 → result ≡ 3 → FaultRose (S.faults out.old) (S.faults out.new) }
     ensures memory { status ≢ 4 → result ≡ 4 → S.written out.new ≡ S.written out.old }
 {

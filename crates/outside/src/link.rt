@@ -3,6 +3,7 @@ ghost use Rattle.std.specs.Prelude.{◌≡◌, ℕ, ◌≤◌, Option, false, le
 ghost use Rattle.outside.specs.Miss.{CountsMiss};
 ghost use Rattle.outside.specs.FaultRose.{FaultRose};
 ghost use Rattle.outside.specs.ConnectionModel.{ConnectionModel, Gets, take_known, send_known};
+ghost use Rattle.outside.specs.Sink.{UnlessPutFails};
 
 use crate::faults::{Failed, PutFault};
 
@@ -30,6 +31,7 @@ pub trait Link {
 
         ensures counts { faults self.old ≤ faults self.new }
         ensures cause { IsErr result → FaultRose (faults self.old) (faults self.new) }
+        ensures quiet { OnOk result (faults self.new ≡ faults self.old) }
         ensures misses { IfSome (wire self.old)
             (λ wire. CountsMiss wire.stands (misses self.old) (misses self.new)) };
 
@@ -46,6 +48,7 @@ pub trait Link {
         ensures counts { faults self.old ≤ faults self.new }
         ensures cause { IsErrOf result PutFault.Failed
             → FaultRose (faults self.old) (faults self.new) }
+        ensures quiet { UnlessPutFails result (faults self.new ≡ faults self.old) }
         ensures misses { IfSome (wire self.old)
             (λ wire. CountsMiss wire.stands (misses self.old) (misses self.new)) };
 }

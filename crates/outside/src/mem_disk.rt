@@ -1,6 +1,7 @@
 //! A disk that is kept in memory, with what was done to it.
 ghost use Rattle.std.specs.Prelude.{◌≡◌, ℕ, ◌+◌, ◌-◌, ◌≤◌, ◌↔◌, List, Some, Ok, true, false, length, take, drop, vec_len, vec_capacity, IsSome, IsTrue, IfOk, OnOk, OnErr, IsErr};
 ghost use Rattle.std.specs.List.{list_all};
+ghost use Rattle.outside.specs.Calls.{next_count};
 ghost use Rattle.outside.specs.declared.room.Room.{Room};
 ghost use Rattle.outside.specs.Done.{seen_after, is_within};
 ghost use Rattle.outside.specs.DiskModel.{HasRoom, IsImage, IsImageWith, NoLess, LeftSince, crashed_at, fresh, now, overwrite_at, write_on, write_leaving, sync_now, less_room};
@@ -30,6 +31,8 @@ pub struct MemDisk<P> {
     log: Vec<u8>,
     done: Vec<Done>,
     room: Room,
+    // How often the device was asked.
+    asked: u64,
     failures: P,
     ghost kept: { seen.items ≡ seen_after log.items first.items done.items },
     ghost within: { IsTrue (list_all (is_within (length log.items)) done.items) },
@@ -39,11 +42,12 @@ pub struct MemDisk<P> {
 }
 
 impl<P: Failures> MemDisk<P> {
-    ghost use Rattle.outside.specs.MemDisk.{drive_of, room_of, plan_of};
+    ghost use Rattle.outside.specs.MemDisk.{drive_of, room_of, asked_of, plan_of};
 
     /// These contents, put down.
     pub fn new(alloc: Global, contents: Vec<u8>, failures: P) -> Result<Self, AllocError>
         ensures drive { IfOk result (λ disk. drive_of disk ≡ fresh contents.items) }
+        ensures asked { IfOk result (λ disk. asked_of disk ≡ 0) }
         ensures plan { IfOk result (λ disk. plan_of disk ≡ failures) }
     {
         Ok(MemDisk {
@@ -56,6 +60,7 @@ impl<P: Failures> MemDisk<P> {
                 bytes: 0,
                 calls: 0,
             },
+            asked: 0,
             failures,
         })
     }
@@ -121,6 +126,7 @@ impl<P: Failures> MemDisk<P> {
             ≡ write_leaving at (length front.now + lost)
             (overwrite_at at front.now (drive_of self.old).seen) (drive_of self.old) }
         ensures room { room_of self.new ≡ less_room (length front.now + lost) (room_of self.old) }
+        ensures asked { asked_of self.new ≡ asked_of self.old }
         ensures plan { plan_of self.new ≡ plan_of self.old }
     {
         overwrite(&mut self.seen, at as usize, front);
@@ -139,7 +145,7 @@ impl<P: Failures> MemDisk<P> {
 }
 
 impl<P: Failures> Disk for MemDisk<P> {
-    ghost use Rattle.outside.specs.MemDisk.{drive_of, room_of, plan_of};
+    ghost use Rattle.outside.specs.MemDisk.{drive_of, room_of, asked_of, plan_of};
     ghost use Rattle.outside.specs.ImageLaws.{may_leave-seen};
 
     ghost drive = { λ disk. Some (drive_of disk) };
@@ -147,6 +153,8 @@ impl<P: Failures> Disk for MemDisk<P> {
     ghost room = { λ disk. Some (room_of disk) };
 
     ghost faults = { λ disk. P.count (plan_of disk) };
+
+    ghost asked = { λ disk. Some (asked_of disk) };
 
     ghost sees = { λ disk. may_leave-seen disk.first.items disk.seen.items disk.log.items
         disk.done.items disk.kept };
@@ -158,10 +166,13 @@ impl<P: Failures> Disk for MemDisk<P> {
         ensures counts { P.count (plan_of self.old) ≤ P.count (plan_of self.new) }
         ensures cause { IsErr result
             → FaultRose (P.count (plan_of self.old)) (P.count (plan_of self.new)) }
+        ensures quiet { OnOk result (P.count (plan_of self.new) ≡ P.count (plan_of self.old)) }
+        ensures asked { asked_of self.new ≡ next_count (asked_of self.old) }
 
         ensures due { IsErr result ↔ IsSome (P.due (plan_of self.old)) }
         ensures plan { plan_of self.new ≡ P.after (plan_of self.old) }
     {
+        self.asked = self.asked.saturating_add(1);
         match self.failures.next_call() {
             None => Ok(self.seen.len() as u64),
             Some(_) => Err(Failed),
@@ -177,10 +188,13 @@ impl<P: Failures> Disk for MemDisk<P> {
         ensures counts { P.count (plan_of self.old) ≤ P.count (plan_of self.new) }
         ensures cause { IsErr result
             → FaultRose (P.count (plan_of self.old)) (P.count (plan_of self.new)) }
+        ensures quiet { OnOk result (P.count (plan_of self.new) ≡ P.count (plan_of self.old)) }
+        ensures asked { asked_of self.new ≡ next_count (asked_of self.old) }
 
         ensures due { IsErr result ↔ IsSome (P.due (plan_of self.old)) }
         ensures plan { plan_of self.new ≡ P.after (plan_of self.old) }
     {
+        self.asked = self.asked.saturating_add(1);
         if self.failures.next_call().is_some() {
             return Err(Failed);
         }
@@ -198,6 +212,8 @@ impl<P: Failures> Disk for MemDisk<P> {
         ensures counts { P.count (plan_of self.old) ≤ P.count (plan_of self.new) }
         ensures cause { IsErr result
             → FaultRose (P.count (plan_of self.old)) (P.count (plan_of self.new)) }
+        ensures quiet { OnOk result (P.count (plan_of self.new) ≡ P.count (plan_of self.old)) }
+        ensures asked { asked_of self.new ≡ next_count (asked_of self.old) }
 
         // A write that is to fail writes the front that its plan says.
         ensures front { OnErr result (drive_of self.new ≡ write_leaving at (length piece.now)
@@ -206,6 +222,7 @@ impl<P: Failures> Disk for MemDisk<P> {
         ensures due { IsErr result ↔ IsSome (P.due (plan_of self.old)) }
         ensures plan { plan_of self.new ≡ P.after (plan_of self.old) }
     {
+        self.asked = self.asked.saturating_add(1);
         match self.failures.next_call() {
             None => {
                 self.write_front(at, piece, 0);
@@ -228,10 +245,13 @@ impl<P: Failures> Disk for MemDisk<P> {
         ensures counts { P.count (plan_of self.old) ≤ P.count (plan_of self.new) }
         ensures cause { IsErr result
             → FaultRose (P.count (plan_of self.old)) (P.count (plan_of self.new)) }
+        ensures quiet { OnOk result (P.count (plan_of self.new) ≡ P.count (plan_of self.old)) }
+        ensures asked { asked_of self.new ≡ next_count (asked_of self.old) }
 
         ensures due { IsErr result ↔ IsSome (P.due (plan_of self.old)) }
         ensures plan { plan_of self.new ≡ P.after (plan_of self.old) }
     {
+        self.asked = self.asked.saturating_add(1);
         self.room.calls -= 1;
         if self.failures.next_call().is_some() {
             return Err(Failed);
@@ -244,6 +264,7 @@ impl<P: Failures> Disk for MemDisk<P> {
         ensures ok { OnOk result (HasRoom end bytes calls (room_of self.new)) }
         ensures kept { drive_of self.new ≡ drive_of self.old }
         ensures no_less { NoLess (room_of self.old) (room_of self.new) }
+        ensures asked { asked_of self.new ≡ asked_of self.old }
         ensures plan { plan_of self.new ≡ plan_of self.old }
     {
         let longer = end.saturating_sub(self.seen.len() as u64);

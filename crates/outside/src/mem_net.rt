@@ -1,9 +1,10 @@
 //! Connections that are kept in memory.
-ghost use Rattle.std.specs.Prelude.{◌≡◌, ℕ, ◌+◌, ◌<◌, ◌≤◌, ◌↔◌, ◌-◌, ◌^◌, min, cond, Some, true, false, [], map, length, take, vec_len, vec_capacity, IsSome, IsTrue, IfOk, OnOk, OnErr, IsErr, IsErrOf};
+ghost use Rattle.std.specs.Prelude.{◌≡◌, ℕ, ◌+◌, ◌<◌, ◌≤◌, ◌↔◌, ◌-◌, ◌^◌, min, cond, Some, true, false, [], ◌++◌, map, length, take, vec_len, vec_capacity, IsSome, IsTrue, IfOk, OnOk, OnErr, IsErr, IsErrOf};
 ghost use Rattle.std.specs.VecDeque.{deque_len};
-ghost use Rattle.outside.specs.Failure.{PutsFront, front_of};
+ghost use Rattle.outside.specs.Failure.{AnswersPut, UnlessWant, front_of};
 ghost use Rattle.outside.specs.Miss.{CountsMiss};
 ghost use Rattle.outside.specs.FaultRose.{FaultRose};
+ghost use Rattle.outside.specs.Sink.{UnlessPutFails};
 ghost use Rattle.outside.specs.ConnectionModel.{Gets, take_from, send_on, close_wire, open_next, has_next};
 
 use crate::failures::Failures;
@@ -105,6 +106,8 @@ impl<P: Failures> MemNet<P> {
         ensures cause { IsErr result
             → FaultRose (P.count (plan_of self.old) + misses_of self.old)
             (P.count (plan_of self.new) + misses_of self.new) }
+        ensures quiet { OnOk result (P.count (plan_of self.new) + misses_of self.new
+            ≡ P.count (plan_of self.old) + misses_of self.old) }
         ensures misses { CountsMiss (has_next (wire_of self.old)) (misses_of self.old)
             (misses_of self.new) }
 
@@ -132,7 +135,7 @@ impl<P: Failures> MemNet<P> {
 }
 
 impl<P: Failures> Link for MemNet<P> {
-    ghost use Rattle.outside.specs.MemNet.{wire_of, room_of, misses_of, most_of, plan_of};
+    ghost use Rattle.outside.specs.MemNet.{wire_of, misses_of, most_of, plan_of};
 
     ghost wire = { λ net. Some (wire_of net) };
 
@@ -154,6 +157,8 @@ impl<P: Failures> Link for MemNet<P> {
         ensures cause { IsErr result
             → FaultRose (P.count (plan_of self.old) + misses_of self.old)
             (P.count (plan_of self.new) + misses_of self.new) }
+        ensures quiet { OnOk result (P.count (plan_of self.new) + misses_of self.new
+            ≡ P.count (plan_of self.old) + misses_of self.old) }
         ensures misses { CountsMiss (wire_of self.old).stands (misses_of self.old)
             (misses_of self.new) }
 
@@ -190,31 +195,38 @@ impl<P: Failures> Link for MemNet<P> {
         ensures cause { IsErrOf result PutFault.Failed
             → FaultRose (P.count (plan_of self.old) + misses_of self.old)
             (P.count (plan_of self.new) + misses_of self.new) }
+        ensures quiet { UnlessPutFails result (P.count (plan_of self.new) + misses_of self.new
+            ≡ P.count (plan_of self.old) + misses_of self.old) }
         ensures misses { CountsMiss (wire_of self.old).stands (misses_of self.old)
             (misses_of self.new) }
 
-        // Of a piece that fails as much is put as its failure says.
+        // Of a piece that fails as much is put as its failure says. Want of memory is no call of
+        // the plan.
         ensures front { (wire_of self.old).stands ≡ true → IsErrOf result PutFault.Failed
-            → PutsFront (front_of (P.due (plan_of self.old)) piece.now) (room_of self.old)
-            (wire_of self.old).sent (wire_of self.new).sent }
+            → (wire_of self.new).sent ≡ (wire_of self.old).sent
+            ++ front_of (P.due (plan_of self.old)) piece.now }
         ensures due { (wire_of self.old).stands ≡ true
-            → (IsErrOf result PutFault.Failed ↔ IsSome (P.due (plan_of self.old))) }
+            → AnswersPut (P.due (plan_of self.old)) result }
         ensures most { most_of self.new ≡ most_of self.old }
-        ensures plan { plan_of self.new ≡ P.after (plan_of self.old) }
+        ensures plan { UnlessWant result (plan_of self.new ≡ P.after (plan_of self.old)) }
+        ensures unplanned { IsErrOf result PutFault.Memory → plan_of self.new ≡ plan_of self.old }
     {
-        let failure = self.failures.next_call();
         if !self.stands {
+            let _ = self.failures.next_call();
             self.misses = self.misses.saturating_add(1);
             return Err(PutFault::Failed);
         }
-        match failure {
-            None => match self.sent.extend_from_slice(piece) {
-                Ok(()) => Ok(()),
-                Err(_) => Err(PutFault::Memory),
-            },
+        if self.sent.reserve(piece.len()).is_err() {
+            return Err(PutFault::Memory);
+        }
+        match self.failures.next_call() {
+            None => {
+                self.sent.extend_from_slice(piece).unwrap();
+                Ok(())
+            }
             Some(after) => {
                 let front = &piece[..piece.len().min(after)];
-                let _ = self.sent.extend_from_slice(front);
+                self.sent.extend_from_slice(front).unwrap();
                 Err(PutFault::Failed)
             }
         }
@@ -234,6 +246,8 @@ impl<P: Failures> Net for MemNet<P> {
         ensures cause { IsErr result
             → FaultRose (P.count (plan_of self.old) + misses_of self.old)
             (P.count (plan_of self.new) + misses_of self.new) }
+        ensures quiet { OnOk result (P.count (plan_of self.new) + misses_of self.new
+            ≡ P.count (plan_of self.old) + misses_of self.old) }
         ensures misses { CountsMiss (has_next (wire_of self.old)) (misses_of self.old)
             (misses_of self.new) }
 
@@ -253,6 +267,8 @@ impl<P: Failures> Net for MemNet<P> {
         ensures cause { IsErr result
             → FaultRose (P.count (plan_of self.old) + misses_of self.old)
             (P.count (plan_of self.new) + misses_of self.new) }
+        ensures quiet { OnOk result (P.count (plan_of self.new) + misses_of self.new
+            ≡ P.count (plan_of self.old) + misses_of self.old) }
         ensures misses { misses_of self.new ≡ misses_of self.old }
 
         ensures due { IsErr result ↔ IsSome (P.due (plan_of self.old)) }
@@ -275,6 +291,8 @@ impl<P: Failures> Net for MemNet<P> {
         ensures cause { IsErr result
             → FaultRose (P.count (plan_of self.old) + misses_of self.old)
             (P.count (plan_of self.new) + misses_of self.new) }
+        ensures quiet { OnOk result (P.count (plan_of self.new) + misses_of self.new
+            ≡ P.count (plan_of self.old) + misses_of self.old) }
         ensures misses { CountsMiss (has_next (wire_of self.old)) (misses_of self.old)
             (misses_of self.new) }
 

@@ -2,7 +2,7 @@
 ghost use Rattle.std.specs.Prelude.{◌≡◌, ℕ, ◌+◌, ◌≤◌, ◌↔◌, Some, length, is_some, IsSome, IfOk, IsErrOf};
 ghost use Rattle.outside.specs.Miss.{CountsMiss};
 ghost use Rattle.outside.specs.FaultRose.{FaultRose};
-ghost use Rattle.outside.specs.Shelf.{Takes};
+ghost use Rattle.outside.specs.Shelf.{Takes, UnlessTakeFails};
 
 use crate::failures::Failures;
 use crate::faults::TakeFault;
@@ -63,6 +63,8 @@ impl<P: Failures> Shelf for MemShelf<P> {
         ensures cause { IsErrOf result TakeFault.Failed
             → FaultRose (P.count (plan_of self.old) + misses_of self.old)
             (P.count (plan_of self.new) + misses_of self.new) }
+        ensures quiet { UnlessTakeFails result (P.count (plan_of self.new) + misses_of self.new
+            ≡ P.count (plan_of self.old) + misses_of self.old) }
         ensures misses { CountsMiss (is_some (file_at (files_of self.old) name.now))
             (misses_of self.old) (misses_of self.new) }
 

@@ -1,7 +1,8 @@
 //! Output that is kept in memory.
-ghost use Rattle.std.specs.Prelude.{◌≡◌, ℕ, ◌≤◌, ◌↔◌, Some, [], ◌++◌, take, IsSome, OnOk, IsErrOf};
-ghost use Rattle.outside.specs.Failure.{PutsFront, front_of};
+ghost use Rattle.std.specs.Prelude.{◌≡◌, ℕ, ◌≤◌, Some, [], ◌++◌, take, OnOk, IsErrOf};
+ghost use Rattle.outside.specs.Failure.{AnswersPut, UnlessWant, front_of};
 ghost use Rattle.outside.specs.FaultRose.{FaultRose};
+ghost use Rattle.outside.specs.Sink.{UnlessPutFails};
 
 use crate::failures::Failures;
 use crate::faults::PutFault;
@@ -36,7 +37,7 @@ impl<P: Failures> MemSink<P> {
 }
 
 impl<P: Failures> Sink for MemSink<P> {
-    ghost use Rattle.outside.specs.MemSink.{written_of, room_of, plan_of};
+    ghost use Rattle.outside.specs.MemSink.{written_of, plan_of};
 
     ghost written = { λ sink. Some (written_of sink) };
 
@@ -52,22 +53,28 @@ impl<P: Failures> Sink for MemSink<P> {
         ensures counts { P.count (plan_of self.old) ≤ P.count (plan_of self.new) }
         ensures cause { IsErrOf result PutFault.Failed
             → FaultRose (P.count (plan_of self.old)) (P.count (plan_of self.new)) }
+        ensures quiet { UnlessPutFails result
+            (P.count (plan_of self.new) ≡ P.count (plan_of self.old)) }
 
-        // Of a piece that fails as much is put as its failure says.
-        ensures front { IsErrOf result PutFault.Failed
-            → PutsFront (front_of (P.due (plan_of self.old)) piece.now) (room_of self.old)
-            (written_of self.old) (written_of self.new) }
-        ensures due { IsErrOf result PutFault.Failed ↔ IsSome (P.due (plan_of self.old)) }
-        ensures plan { plan_of self.new ≡ P.after (plan_of self.old) }
+        // Of a piece that fails as much is put as its failure says. Want of memory is no call of
+        // the plan.
+        ensures front { IsErrOf result PutFault.Failed → written_of self.new
+            ≡ written_of self.old ++ front_of (P.due (plan_of self.old)) piece.now }
+        ensures due { AnswersPut (P.due (plan_of self.old)) result }
+        ensures plan { UnlessWant result (plan_of self.new ≡ P.after (plan_of self.old)) }
+        ensures unplanned { IsErrOf result PutFault.Memory → plan_of self.new ≡ plan_of self.old }
     {
+        if self.written.reserve(piece.len()).is_err() {
+            return Err(PutFault::Memory);
+        }
         match self.failures.next_call() {
-            None => match self.written.extend_from_slice(piece) {
-                Ok(()) => Ok(()),
-                Err(_) => Err(PutFault::Memory),
-            },
+            None => {
+                self.written.extend_from_slice(piece).unwrap();
+                Ok(())
+            }
             Some(after) => {
                 let front = &piece[..piece.len().min(after)];
-                let _ = self.written.extend_from_slice(front);
+                self.written.extend_from_slice(front).unwrap();
                 Err(PutFault::Failed)
             }
         }

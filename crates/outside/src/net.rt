@@ -17,6 +17,7 @@ pub trait Net: Link {
 
         ensures counts { Self.faults self.old ≤ Self.faults self.new }
         ensures cause { IsErr result → FaultRose (Self.faults self.old) (Self.faults self.new) }
+        ensures quiet { OnOk result (Self.faults self.new ≡ Self.faults self.old) }
         ensures misses { IfSome (Self.wire self.old)
             (λ wire. CountsMiss (has_next wire) (Self.misses self.old) (Self.misses self.new)) };
 
@@ -26,6 +27,7 @@ pub trait Net: Link {
 
         ensures counts { Self.faults self.old ≤ Self.faults self.new }
         ensures cause { IsErr result → FaultRose (Self.faults self.old) (Self.faults self.new) }
+        ensures quiet { OnOk result (Self.faults self.new ≡ Self.faults self.old) }
         ensures misses { IfSome (Self.wire self.old)
             (λ _. Self.misses self.new ≡ Self.misses self.old) };
 
@@ -37,6 +39,7 @@ pub trait Net: Link {
 
         ensures counts { Self.faults self.old ≤ Self.faults self.new }
         ensures cause { IsErr result → FaultRose (Self.faults self.old) (Self.faults self.new) }
+        ensures quiet { OnOk result (Self.faults self.new ≡ Self.faults self.old) }
         ensures misses { IfSome (Self.wire self.old)
             (λ wire. CountsMiss (has_next wire) (Self.misses self.old) (Self.misses self.new)) };
 

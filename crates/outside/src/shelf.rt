@@ -2,7 +2,7 @@
 ghost use Rattle.std.specs.Prelude.{◌≡◌, ℕ, ◌≤◌, Option, is_some, length, IfSome, IfOk, IsErrOf};
 ghost use Rattle.outside.specs.Miss.{CountsMiss};
 ghost use Rattle.outside.specs.FaultRose.{FaultRose};
-ghost use Rattle.outside.specs.Shelf.{Files, Takes};
+ghost use Rattle.outside.specs.Shelf.{Files, Takes, UnlessTakeFails};
 
 use crate::faults::TakeFault;
 use std::alloc::Global;
@@ -28,6 +28,7 @@ pub trait Shelf {
         ensures counts { faults self.old ≤ faults self.new }
         ensures cause { IsErrOf result TakeFault.Failed
             → FaultRose (faults self.old) (faults self.new) }
+        ensures quiet { UnlessTakeFails result (faults self.new ≡ faults self.old) }
         ensures misses { IfSome (contents self.old)
             (λ files. CountsMiss (is_some (files name.now)) (misses self.old) (misses self.new)) };
 }

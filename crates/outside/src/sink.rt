@@ -1,7 +1,7 @@
 //! Where output goes.
 ghost use Rattle.std.specs.Prelude.{◌≡◌, ℕ, ◌≤◌, Option, List, take, OnOk, IsErrOf};
 ghost use Rattle.outside.specs.FaultRose.{FaultRose};
-ghost use Rattle.outside.specs.Sink.{append_known};
+ghost use Rattle.outside.specs.Sink.{UnlessPutFails, append_known};
 
 use crate::faults::PutFault;
 
@@ -21,5 +21,6 @@ pub trait Sink {
 
         ensures counts { faults self.old ≤ faults self.new }
         ensures cause { IsErrOf result PutFault.Failed
-            → FaultRose (faults self.old) (faults self.new) };
+            → FaultRose (faults self.old) (faults self.new) }
+        ensures quiet { UnlessPutFails result (faults self.new ≡ faults self.old) };
 }

@@ -1,5 +1,5 @@
 -- What a disk holds of a journal, between calls and while they work.
-use Rattle.std.specs.Prelude.{◌≡◌, ◌⊎◌, ℕ, List, [], ◌∷◌, ◌++◌, length, flat_map}
+use Rattle.std.specs.Prelude.{◌≡◌, ◌⊎◌, ℕ, List, [], ◌∷◌, ◌++◌, length, flat_map, Result, Ok, Err}
 use Rattle.std.specs.List.{AllByRecursion}
 use Rattle.vo_spec.specs.declared.records.Entry.{Entry}
 use Rattle.vo_spec.specs.Bytes.{block}
@@ -45,3 +45,10 @@ abbrev pub IsNoDamage : JournalFault → Type 0
 IsNoDamage (Damaged index at) = ⊥
 IsNoDamage Disk = Unit {0}
 IsNoDamage Memory = Unit {0}
+
+-- P, unless the disk failed
+abbrev pub UnlessDisk : {T : Type 0} → Result T JournalFault → Type 0 → Type 0
+UnlessDisk (Ok done) P = P
+UnlessDisk (Err Disk) P = Unit {0}
+UnlessDisk (Err (Damaged index at)) P = P
+UnlessDisk (Err Memory) P = P

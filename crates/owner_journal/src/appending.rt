@@ -1,11 +1,12 @@
 //! Appending an entry, so that the disk holds it whole or not at all.
 ghost use Rattle.std.specs.Prelude.{◌≡◌, ◌⊎◌, ℕ, ◌+◌, ◌<◌, ◌≤◌, ◌^◌, List, ◌++◌, ◌∷◌, [], true, false, length, vec_len, IsTrue, IfOk, IfErr, OnOk, OnErr, IsErrOf, Err};
+ghost use Rattle.outside.specs.Calls.{AsksAtMost};
 ghost use Rattle.outside.specs.DiskModel.{MayLeave};
 ghost use Rattle.outside.specs.FaultRose.{FaultRose};
 ghost use Rattle.outside.specs.Moments.{IfKnown, LeavesOnly};
 ghost use Rattle.vo_spec.specs.Journals.{FitsEntry, IsJournal};
 ghost use Rattle.owner_journal.specs.Slots.{slot_down};
-ghost use Rattle.owner_journal.specs.Resting.{IsAtRest, HoldsWith, IsNoDamage, behind_gate, end_of};
+ghost use Rattle.owner_journal.specs.Resting.{IsAtRest, HoldsWith, IsNoDamage, UnlessDisk, behind_gate, end_of};
 ghost use Rattle.owner_journal.specs.Entries.{entries_of, has_failed};
 
 use crate::fault::JournalFault;
@@ -41,6 +42,14 @@ impl Journal {
         ensures counts { D.faults disk.old ≤ D.faults disk.new }
         ensures cause { IsErrOf result JournalFault.Disk → IsTrue (has_failed self.old)
             ⊎ FaultRose (D.faults disk.old) (D.faults disk.new) }
+        ensures quiet { UnlessDisk result (D.faults disk.new ≡ D.faults disk.old) }
+
+        // It asks the device for four calls at most, and for none where it wants memory or the disk
+        // failed before.
+        ensures asks { AsksAtMost 4 (D.asked disk.old) (D.asked disk.new) }
+        ensures unasked { IsErrOf result JournalFault.Memory → D.asked disk.new ≡ D.asked disk.old }
+        ensures unasked_after_fault { IsTrue (has_failed self.old)
+            → D.asked disk.new ≡ D.asked disk.old }
 
         // What it does to the disk, and what a crash leaves at any moment since it began.
         ensures exact { OnOk result (D.drive disk.new
@@ -87,6 +96,9 @@ impl Journal {
         ensures counts { D.faults disk.old ≤ D.faults disk.new }
         ensures cause { IsErrOf result JournalFault.Disk
             → FaultRose (D.faults disk.old) (D.faults disk.new) }
+        ensures quiet { UnlessDisk result (D.faults disk.new ≡ D.faults disk.old) }
+        ensures asks { AsksAtMost 4 (D.asked disk.old) (D.asked disk.new) }
+        ensures unasked { IsErrOf result JournalFault.Memory → D.asked disk.new ≡ D.asked disk.old }
         ensures exact { OnOk result (D.drive disk.new
             ≡ slot_down (end_of (entries_of self.old)) (behind_gate entry) (D.drive disk.old)) }
         ensures any_moment { IfKnown (D.drive disk.old) (D.drive disk.new)

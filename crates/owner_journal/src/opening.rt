@@ -1,11 +1,12 @@
 //! Opening a journal, whatever a crash left on its disk.
 ghost use Rattle.std.specs.Prelude.{◌≡◌, ◌⊎◌, ℕ, ◌+◌, ◌<◌, ◌≤◌, List, ◌∷◌, [], false, length, IfOk, IfErr, IfSome, OnOk, IsErrOf};
 ghost use Rattle.std.specs.List.{AllByRecursion};
+ghost use Rattle.outside.specs.Calls.{AsksAtMost};
 ghost use Rattle.outside.specs.DiskModel.{HasRoom, MayLeave, sync_known};
 ghost use Rattle.outside.specs.FaultRose.{FaultRose};
 ghost use Rattle.outside.specs.Moments.{IfKnown, IsDown, LeavesOnly, IsTornImage, persist_known};
 ghost use Rattle.vo_spec.specs.Journals.{FitsEntry, IsJournal};
-ghost use Rattle.owner_journal.specs.Resting.{IsAtRest, HoldsAsBefore, IsFaultOf, IsNoDamage};
+ghost use Rattle.owner_journal.specs.Resting.{IsAtRest, HoldsAsBefore, IsFaultOf, IsNoDamage, UnlessDisk};
 ghost use Rattle.owner_journal.specs.Entries.{entries_of, has_failed};
 
 use crate::fault::JournalFault;
@@ -30,6 +31,16 @@ impl Journal {
         ensures counts { D.faults disk.old ≤ D.faults disk.new }
         ensures cause { IsErrOf result JournalFault.Disk
             → FaultRose (D.faults disk.old) (D.faults disk.new) }
+        ensures quiet { UnlessDisk result (D.faults disk.new ≡ D.faults disk.old) }
+
+        // It asks the device for four calls at most, and for three where a journal may stand. Where
+        // it wants memory, the disk is as it was, or what reads gave was put down.
+        ensures asks { AsksAtMost 4 (D.asked disk.old) (D.asked disk.new) }
+        ensures asks_later { IfSome (D.drive disk.old) (λ before. 2 ≤ length before.seen
+            → AsksAtMost 3 (D.asked disk.old) (D.asked disk.new)) }
+        ensures memory { IsErrOf result JournalFault.Memory
+            → (D.drive disk.new ≡ D.drive disk.old)
+            ⊎ (D.drive disk.new ≡ sync_known (D.drive disk.old)) }
 
         // What it does to the disk, and what a crash leaves at any moment since it began.
         ensures first { OnOk result (IfSome (D.drive disk.old) (λ before. length before.seen < 2
@@ -64,6 +75,9 @@ fn settle<D: Disk>(disk: &mut D) -> Result<u64, JournalFault>
     ensures counts { D.faults disk.old ≤ D.faults disk.new }
     ensures cause { IsErrOf result JournalFault.Disk
         → FaultRose (D.faults disk.old) (D.faults disk.new) }
+    ensures quiet { UnlessDisk result (D.faults disk.new ≡ D.faults disk.old) }
+    ensures asks { AsksAtMost 2 (D.asked disk.old) (D.asked disk.new) }
+    ensures memory { IsErrOf result JournalFault.Memory → D.drive disk.new ≡ D.drive disk.old }
 {
     disk.reserve(1, 1, 3)?;
     match disk.sync() {
@@ -88,6 +102,9 @@ fn close_first<D: Disk>(alloc: Global, disk: &mut D) -> Result<Journal, JournalF
     ensures counts { D.faults disk.old ≤ D.faults disk.new }
     ensures cause { IsErrOf result JournalFault.Disk
         → FaultRose (D.faults disk.old) (D.faults disk.new) }
+    ensures quiet { UnlessDisk result (D.faults disk.new ≡ D.faults disk.old) }
+    ensures asks { AsksAtMost 2 (D.asked disk.old) (D.asked disk.new) }
+    ensures memory { IsErrOf result JournalFault.Memory → ⊥ }
 {
     match write_down(disk, 0, &[0]) {
         Ok(()) => Ok(Journal {

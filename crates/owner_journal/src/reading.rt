@@ -1,9 +1,10 @@
 //! Reading the entries of a journal from its disk.
 ghost use Rattle.std.specs.Prelude.{◌≡◌, ◌≤◌, ℕ, false, length, IfOk, IfErr, IfSome, OnOk, IsErrOf};
 ghost use Rattle.std.specs.List.{AllByRecursion};
+ghost use Rattle.outside.specs.Calls.{AsksAtMost};
 ghost use Rattle.outside.specs.FaultRose.{FaultRose};
 ghost use Rattle.vo_spec.specs.Journals.{FitsEntry, IsJournal};
-ghost use Rattle.owner_journal.specs.Resting.{IsFaultOf, IsNoDamage};
+ghost use Rattle.owner_journal.specs.Resting.{IsFaultOf, IsNoDamage, UnlessDisk};
 ghost use Rattle.owner_journal.specs.Entries.{entries_of, has_failed};
 
 use crate::fault::JournalFault;
@@ -29,6 +30,8 @@ pub(crate) fn read_journal<D: Disk>(
     ensures counts { D.faults disk.old ≤ D.faults disk.new }
     ensures cause { IsErrOf result JournalFault.Disk
         → FaultRose (D.faults disk.old) (D.faults disk.new) }
+    ensures quiet { UnlessDisk result (D.faults disk.new ≡ D.faults disk.old) }
+    ensures asks { AsksAtMost 1 (D.asked disk.old) (D.asked disk.new) }
 {
     let bytes = read_whole(alloc, disk, end)?;
     journal_of(alloc, &bytes)
@@ -43,6 +46,8 @@ fn read_whole<D: Disk>(alloc: Global, disk: &mut D, end: u64) -> Result<Vec<u8>,
     ensures counts { D.faults disk.old ≤ D.faults disk.new }
     ensures cause { IsErrOf result JournalFault.Disk
         → FaultRose (D.faults disk.old) (D.faults disk.new) }
+    ensures quiet { UnlessDisk result (D.faults disk.new ≡ D.faults disk.old) }
+    ensures asks { AsksAtMost 1 (D.asked disk.old) (D.asked disk.new) }
 {
     let mut bytes = Vec::new(alloc);
     bytes.resize(end as usize, 0)?;

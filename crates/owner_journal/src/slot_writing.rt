@@ -1,5 +1,6 @@
 //! Writing to a disk so that a crash leaves what was before, or what was written.
 ghost use Rattle.std.specs.Prelude.{◌≡◌, ◌+◌, ◌<◌, ◌≤◌, ◌^◌, length, IfSome, OnOk, IsErr};
+ghost use Rattle.outside.specs.Calls.{AsksAtMost};
 ghost use Rattle.outside.specs.DiskModel.{HasRoom};
 ghost use Rattle.outside.specs.FaultRose.{FaultRose};
 ghost use Rattle.outside.specs.Moments.{IfKnown, IsDown, LeavesOnly, IsTornImage, persist_known, room_down};
@@ -17,6 +18,8 @@ pub fn write_down<D: Disk>(disk: &mut D, at: u64, piece: &[u8]) -> Result<(), Fa
     ensures room { OnOk result (D.room disk.new ≡ room_down (length piece.now) (D.room disk.old)) }
     ensures counts { D.faults disk.old ≤ D.faults disk.new }
     ensures cause { IsErr result → FaultRose (D.faults disk.old) (D.faults disk.new) }
+    ensures quiet { OnOk result (D.faults disk.new ≡ D.faults disk.old) }
+    ensures asks { AsksAtMost 2 (D.asked disk.old) (D.asked disk.new) }
 {
     match disk.write_at(at, piece) {
         Ok(()) => disk.sync(),
@@ -35,6 +38,8 @@ pub fn write_slot<D: Disk>(disk: &mut D, gate: u64, behind: &[u8]) -> Result<(),
         IsDown before → LeavesOnly before after (WhileSlot gate behind.now before.seen)) }
     ensures counts { D.faults disk.old ≤ D.faults disk.new }
     ensures cause { IsErr result → FaultRose (D.faults disk.old) (D.faults disk.new) }
+    ensures quiet { OnOk result (D.faults disk.new ≡ D.faults disk.old) }
+    ensures asks { AsksAtMost 4 (D.asked disk.old) (D.asked disk.new) }
 {
     match write_down(disk, gate + 1, behind) {
         Ok(()) => write_down(disk, gate, &[1]),
