@@ -19,7 +19,8 @@ class Rivalry:
         self.differences = []
         write(JOURNAL, b"")
         write("key", run("keygen", SEED)[0])
-        self.watch, self.length = Watch(Store(b"\0")), self.usual_length()
+        self.watch = Watch(Store(b"\0"))
+        self.length = self.usual_length()
 
     def compare(self, what, due, got):
         if due != got:
