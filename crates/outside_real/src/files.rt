@@ -1,7 +1,7 @@
 //! The files of the working folder.
 ghost use Rattle.std.specs.Prelude.{None};
 
-use crate::count::raise;
+use crate::reasons::fail;
 use outside::{Shelf, TakeFault};
 use std::alloc::Global;
 use std::fs::OpenFile;
@@ -22,13 +22,13 @@ pub struct FolderFiles<'r, R> {
     faults: u64,
 }
 
-impl<'r, R: Files> FolderFiles<'r, R> {
+impl<'r, R: Files + Eprint> FolderFiles<'r, R> {
     pub fn new(rt: &'r R) -> Self {
         FolderFiles { rt, faults: 0 }
     }
 }
 
-impl<R: Files> Shelf for FolderFiles<'_, R> {
+impl<R: Files + Eprint> Shelf for FolderFiles<'_, R> {
     ghost contents = { λ _. None };
 
     ghost faults = { λ files. files.faults };
@@ -40,8 +40,8 @@ impl<R: Files> Shelf for FolderFiles<'_, R> {
             Ok(bytes) if bytes.len() as u64 <= limit => Ok(bytes),
             Ok(_) => Err(TakeFault::TooLong),
             Err(error) if error.kind() == io::ErrorKind::OutOfMemory => Err(TakeFault::Memory),
-            Err(_) => {
-                raise(&mut self.faults);
+            Err(error) => {
+                fail(self.rt, name, error, &mut self.faults);
                 Err(TakeFault::Failed)
             }
         }

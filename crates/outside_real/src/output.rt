@@ -1,7 +1,7 @@
 //! Standard output.
 ghost use Rattle.std.specs.Prelude.{None};
 
-use crate::count::raise;
+use crate::reasons::fail;
 use outside::{PutFault, Sink};
 
 #[cfg(test)]
@@ -14,13 +14,13 @@ pub struct StandardOutput<'r, R> {
     faults: u64,
 }
 
-impl<'r, R: Print> StandardOutput<'r, R> {
+impl<'r, R: Print + Eprint> StandardOutput<'r, R> {
     pub fn new(rt: &'r R) -> Self {
         StandardOutput { rt, faults: 0 }
     }
 }
 
-impl<R: Print> Sink for StandardOutput<'_, R> {
+impl<R: Print + Eprint> Sink for StandardOutput<'_, R> {
     ghost written = { λ _. None };
 
     ghost faults = { λ output. output.faults };
@@ -28,8 +28,8 @@ impl<R: Print> Sink for StandardOutput<'_, R> {
     fn put(&mut self, piece: &[u8]) -> Result<(), PutFault> {
         match self.rt.write_all(piece) {
             Ok(()) => Ok(()),
-            Err(_) => {
-                raise(&mut self.faults);
+            Err(error) => {
+                fail(self.rt, "standard output", error, &mut self.faults);
                 Err(PutFault::Failed)
             }
         }

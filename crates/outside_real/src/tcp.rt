@@ -1,44 +1,96 @@
 //! Connections over TCP.
 ghost use Rattle.std.specs.Prelude.{◌≡◌, None};
 
+use crate::connection::Connection;
 use crate::count::raise;
+use crate::reasons::fail;
+use crate::turn::PATIENCE_SECONDS;
 use outside::{Failed, Link, Net, PutFault};
-use std::io::{ErrorKind, Read, Write};
-use std::net::{Net as Sockets, OpenListener, OpenStream, Shutdown, TcpListener, TcpStream};
+use std::io::{self, ErrorKind};
+use std::net::{Net as Sockets, OpenListener, TcpListener, ToSocketAddrs};
+use std::thread;
+use std::time::{Clock, Duration};
 
 #[cfg(test)]
 mod tests;
+
+/// How often a connection that couldn't be taken is waited for again, and how long before each try.
+const TRIES: u32 = 300;
+
+const PAUSE_MILLIS: u64 = 100;
 
 /// At most one connection, and the socket that listens for the next.
 #[derive(Drop)]
 pub struct Tcp<'r, R: Sockets> {
     rt: &'r R,
+    patience: Duration,
     listener: Option<R::Listener>,
-    stream: Option<R::Stream>,
+    connection: Option<Connection<R::Stream>>,
     faults: u64,
 }
 
-impl<'r, R: Sockets> Tcp<'r, R> {
+impl<'r, R: Sockets + Clock + Eprint> Tcp<'r, R> {
     pub fn new(rt: &'r R) -> Self {
         Tcp {
             rt,
+            patience: Duration::from_secs(PATIENCE_SECONDS),
             listener: None,
-            stream: None,
+            connection: None,
             faults: 0,
         }
     }
 
-    /// Frames are short and wait for answers, so they are sent at once.
-    fn begin(&mut self, stream: R::Stream)
+    fn begin(&mut self, connection: Connection<R::Stream>)
         ensures { self.new.faults ≡ self.old.faults }
     {
-        let _ = stream.set_nodelay(true);
         self.close();
-        self.stream = Some(stream);
+        self.connection = Some(connection);
     }
 }
 
-impl<R: Sockets> Link for Tcp<'_, R> {
+/// A connection to the first address of this name that answers.
+fn connect<R: Sockets + Clock>(
+    rt: &R,
+    addr: &str,
+    patience: Duration,
+) -> io::Result<Connection<R::Stream>> {
+    let mut last = io::Error::new(ErrorKind::InvalidInput, "it has no address");
+    for addr in addr.to_socket_addrs(rt)? {
+        match rt.connect_timeout(addr, patience) {
+            Ok(stream) => return Connection::new(stream, addr, patience),
+            Err(error) => last = error,
+        }
+    }
+    Err(last)
+}
+
+/// The next connection. One that fails as it is taken says nothing of those behind it, and want of
+/// open files may pass, so it is tried again for a while.
+fn accept<R: Sockets + Clock>(
+    rt: &R,
+    listener: &R::Listener,
+    patience: Duration,
+) -> io::Result<Connection<R::Stream>> {
+    let mut last = ErrorKind::TimedOut.into();
+    for _ in 0..TRIES {
+        match accept_once::<R>(listener, patience) {
+            Ok(connection) => return Ok(connection),
+            Err(error) => last = error,
+        }
+        thread::sleep(rt, Duration::from_millis(PAUSE_MILLIS));
+    }
+    Err(last)
+}
+
+fn accept_once<R: Sockets>(
+    listener: &R::Listener,
+    patience: Duration,
+) -> io::Result<Connection<R::Stream>> {
+    let (stream, peer) = listener.accept()?;
+    Connection::new(stream, peer, patience)
+}
+
+impl<R: Sockets + Clock + Eprint> Link for Tcp<'_, R> {
     ghost wire = { λ _. None };
 
     ghost faults = { λ tcp. tcp.faults };
@@ -46,63 +98,76 @@ impl<R: Sockets> Link for Tcp<'_, R> {
     ghost misses = { λ _. 0 };
 
     fn get(&mut self, into: &mut [u8]) -> Result<usize, Failed> {
-        if let Some(stream) = &mut self.stream {
-            for _ in 0..u64::MAX {
-                match stream.read(into) {
-                    Ok(count) => return Ok(count),
-                    Err(error) if error.kind() == ErrorKind::Interrupted => {}
-                    Err(_) => break,
-                }
-            }
+        let Some(connection) = &mut self.connection else {
+            return Err(raise(&mut self.faults));
+        };
+        match connection.get(self.rt, into) {
+            Ok(count) => Ok(count),
+            Err(error) => Err(fail(self.rt, connection.peer, error, &mut self.faults)),
         }
-        Err(raise(&mut self.faults))
     }
 
     fn put(&mut self, piece: &[u8]) -> Result<(), PutFault> {
-        if let Some(stream) = &mut self.stream {
-            if stream.write_all(piece).is_ok() {
-                return Ok(());
+        let Some(connection) = &mut self.connection else {
+            raise(&mut self.faults);
+            return Err(PutFault::Failed);
+        };
+        match connection.put(self.rt, piece) {
+            Ok(()) => Ok(()),
+            Err(error) => {
+                fail(self.rt, connection.peer, error, &mut self.faults);
+                Err(PutFault::Failed)
             }
         }
-        raise(&mut self.faults);
-        Err(PutFault::Failed)
     }
 }
 
-impl<R: Sockets> Net for Tcp<'_, R> {
+impl<R: Sockets + Clock + Eprint> Net for Tcp<'_, R> {
     fn connect(&mut self, addr: &str) -> Result<(), Failed> {
-        match TcpStream::connect(self.rt, addr) {
-            Ok(stream) => {
-                self.begin(stream);
+        match connect(self.rt, addr, self.patience) {
+            Ok(connection) => {
+                self.begin(connection);
                 Ok(())
             }
-            Err(_) => Err(raise(&mut self.faults)),
+            Err(error) => Err(fail(self.rt, addr, error, &mut self.faults)),
         }
     }
 
     fn listen(&mut self, addr: &str) -> Result<(), Failed> {
         match TcpListener::bind(self.rt, addr) {
             Ok(listener) => {
+                print_address(self.rt, &listener, addr);
                 self.listener = Some(listener);
                 Ok(())
             }
-            Err(_) => Err(raise(&mut self.faults)),
+            Err(error) => Err(fail(self.rt, addr, error, &mut self.faults)),
         }
     }
 
     fn next(&mut self) -> Result<(), Failed> {
-        if let Some(listener) = &self.listener {
-            if let Ok((stream, _)) = listener.accept() {
-                self.begin(stream);
-                return Ok(());
+        let Some(listener) = &self.listener else {
+            return Err(raise(&mut self.faults));
+        };
+        match accept(self.rt, listener, self.patience) {
+            Ok(connection) => {
+                self.begin(connection);
+                Ok(())
             }
+            Err(error) => Err(fail(self.rt, "the next connection", error, &mut self.faults)),
         }
-        Err(raise(&mut self.faults))
     }
 
     fn close(&mut self) {
-        if let Some(stream) = self.stream.take() {
-            let _ = stream.shutdown(Shutdown::Both);
+        if let Some(connection) = self.connection.take() {
+            connection.end(self.rt);
         }
     }
+}
+
+/// Says where it listens: the system chooses the port where 0 is asked for.
+fn print_address<R: Eprint>(rt: &R, listener: &impl OpenListener, asked: &str) {
+    let _ = match listener.local_addr() {
+        Ok(addr) => eprintln!(rt; "listening at {addr}"),
+        Err(_) => eprintln!(rt; "listening at {asked}"),
+    };
 }

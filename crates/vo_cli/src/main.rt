@@ -1,6 +1,8 @@
 //! The program: an owner, a store, clients and auditors of outsourced tables.
 #![tactic(auto)]
 
+mod usage;
+
 ghost use Rattle.std.specs.Prelude.{◌≡◌, ◌≢◌, ◌⊎◌, map, string_bytes, Some, IfOk, IfErr, IfSome};
 ghost use Rattle.std.specs.IoError.{error_kind};
 ghost use Rattle.outside.specs.ConnectionModel.{ConnectionModel};
@@ -17,21 +19,21 @@ use std::env;
 use std::io::{self, ErrorKind};
 use std::process::ExitCode;
 use std::rt::Env;
+use usage::{USAGE, are_refused};
 use vo_commands::run;
 
 fn main(rt: HostRuntime) -> ExitCode {
+    let words = words(&rt);
+    let are_refused = are_refused(rt.alloc(), &words);
     let mut files = FolderFiles::new(&rt);
-    let mut disk = JournalFile::new(&rt, ".", "owner.journal");
+    let mut disk = JournalFile::new(&rt, "owner.journal");
     let mut net = Tcp::new(&rt);
     let mut out = StandardOutput::new(&rt);
-    ExitCode::from(run_on_words(
-        rt.alloc(),
-        words(&rt),
-        &mut files,
-        &mut disk,
-        &mut net,
-        &mut out,
-    ))
+    let status = run_on_words(rt.alloc(), words, &mut files, &mut disk, &mut net, &mut out);
+    if are_refused {
+        let _ = eprint!(rt; "{USAGE}");
+    }
+    ExitCode::from(status)
 }
 
 /// The words of the command line, the program's name first.

@@ -32,6 +32,17 @@ impl Print for Recorder {
     }
 }
 
+/// What is said of a failure isn't kept.
+impl Eprint for Recorder {
+    fn eprint<D: Display + Drop>(&self, _value: D) -> io::Result<()> {
+        Ok(())
+    }
+
+    fn eprintln<D: Display + Drop>(&self, _value: D) -> io::Result<()> {
+        Ok(())
+    }
+}
+
 #[test]
 fn writes_each_piece_once(rt: HostRuntime) -> Result<(), Fail> {
     let bytes = RefCell::new(Vec::new(rt.alloc()));

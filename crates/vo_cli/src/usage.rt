@@ -1,0 +1,34 @@
+//! The commands, for who has asked for none of them.
+ghost use Rattle.std.specs.Prelude.{◌≡◌, map, string_bytes, None, IsTrue, IfOk};
+ghost use Rattle.vo_words.specs.PlainRequest.{request_in};
+
+use std::alloc::Global;
+use std::io::{self, ErrorKind};
+use vo_words::read_words;
+
+/// What standard error gets where the words are refused.
+pub const USAGE: &str = "\
+usage:
+    vo_cli keygen SEED [--height H]            writes the public key of a seed file
+    vo_cli seal SEED SQLFILE [--height H]      writes the journal of a script's batches
+    vo_cli own SEED ADDR SQLFILE [--height H]  commits a script's batches through a mirror
+    vo_cli answer PUB JOURNAL QUERY            writes the reply to a query
+    vo_cli serve ADDR PUB JOURNAL COUNT        serves COUNT connections
+    vo_cli check PUB QUERY REPLY [--least V]   checks a reply and writes its rows
+    vo_cli ask ADDR PUB QUERY [--least V]      asks a mirror, checks its reply, writes the rows
+    vo_cli audit PUB JOURNAL QUERY REPLY       writes what a reply is worth by the journal
+    vo_cli meet PUB QUERY REPLY REPLY          writes what two replies are to each other
+SEED, SQLFILE, PUB, JOURNAL and REPLY are files, QUERY is a text, and ADDR is as 127.0.0.1:7878.
+COUNT is at least 1; H is 5, the default, or 10; V is the last version seen, or 0 by default.
+";
+
+/// Whether the words of the command line ask for nothing.
+pub fn are_refused(alloc: Global, words: &io::Result<Vec<String>>) -> bool
+    ensures { IfOk words.now (λ words. IsTrue result
+        → request_in (map string_bytes words.items) ≡ None) }
+{
+    match words {
+        Ok(words) => matches!(read_words(alloc, words), Ok(None)),
+        Err(error) => error.kind() != ErrorKind::OutOfMemory,
+    }
+}
