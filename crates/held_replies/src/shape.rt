@@ -1,16 +1,14 @@
 //! Whether a tree is of its table's schema.
 ghost use Rattle.std.specs.Prelude.{◌≡◌, remove};
 ghost use Rattle.std.specs.List.{list_all};
-ghost use Rattle.vo_spec.specs.Lent.{value_of};
-ghost use Rattle.vo_spec.specs.Values.{kind_of};
 ghost use Rattle.vo_spec.specs.Parts.{entries_in};
-ghost use Rattle.vo_spec.specs.Checks.{is_key_of, key_kind, shows_kind, cells_fit, row_fits, entry_fits, has_shape};
+ghost use Rattle.vo_spec.specs.Checks.{shows_kind, cells_fit, row_fits, entry_fits, has_shape};
 ghost use Rattle.mb_tree.specs.View.{part_of, parts_of};
 
 use mb_tree::PartTree;
-use row_bytes::read_key;
-use table_list::{kind_at, same_kind};
-use vo_spec::{Cell, Column, Kind, PartEntry, RowPart, Schema, ValueRef};
+use row_bytes::is_key_of;
+use table_list::{key_kind, takes};
+use vo_spec::{Cell, Column, Kind, PartEntry, RowPart, Schema};
 
 /// Whether the keys of the tree's leaves are keys of the schema, its rows have the schema's cells,
 /// and those that are shown are of their columns' kinds.
@@ -49,18 +47,6 @@ fn entry_fits(schema: &Schema, entry: &PartEntry<'_>) -> bool
     ensures { result ≡ entry_fits schema.now entry.now }
 {
     is_key_of(key_kind(schema), entry.key.as_bytes()) && row_fits(schema, &entry.row)
-}
-
-fn key_kind(schema: &Schema) -> Kind
-    ensures { result ≡ key_kind schema.now }
-{
-    kind_at(schema.columns.as_slice(), schema.key as usize)
-}
-
-fn is_key_of(kind: Kind, key: &[u8]) -> bool
-    ensures { result ≡ is_key_of kind key.now }
-{
-    read_key(kind, key).is_ok()
 }
 
 fn row_fits(schema: &Schema, row: &RowPart<'_>) -> bool
@@ -108,17 +94,7 @@ fn shows_kind(kind: Kind, cell: &Cell<'_>) -> bool
     ensures { result ≡ shows_kind kind cell.now }
 {
     match cell {
-        Cell::Shown(value) => same_kind(kind, kind_of(value.as_ref())),
+        Cell::Shown(value) => takes(kind, value.as_ref()),
         Cell::Hidden(_) => true,
-    }
-}
-
-fn kind_of(value: ValueRef<'_>) -> Kind
-    ensures { result ≡ kind_of (value_of value.entry) }
-{
-    match value {
-        ValueRef::Int(_) => Kind::Int,
-        ValueRef::Text(_) => Kind::Text,
-        ValueRef::Bool(_) => Kind::Bool,
     }
 }

@@ -13,17 +13,10 @@ ghost use Rattle.owner_roots.specs.Working.{FitsOp, IsReady};
 
 use mb_tree::PartTree;
 use mb_update::{Op, SetCell, UpdateFault, Updates};
+use row_bytes::key_of;
 use std::alloc::{AllocError, Global};
-use std::slice;
-use table_list::{cell_number, column_number, key_at, row_of};
-use vo_spec::{CatalogTable, Command, Key, List, Schema, SetPart, Value};
-
-/// The key of one value.
-fn key_of(alloc: Global, value: &Value) -> Result<Key, AllocError>
-    ensures { IfOk result (λ key. key ≡ key_of value.now) }
-{
-    key_at(alloc, slice::from_ref(value), 0)
-}
+use table_list::{cell_number, column_number, row_of};
+use vo_spec::{CatalogTable, Command, List, Schema, SetPart, Value};
 
 /// The cells that SET names.
 fn set_cells(alloc: Global, schema: &Schema, sets: &[SetPart]) -> Result<List<SetCell>, AllocError>

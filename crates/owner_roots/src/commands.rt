@@ -14,8 +14,8 @@ use crate::places::{place_for, place_of, refusal};
 use crate::row_commands::change_rows;
 use mb_tree::PartTree;
 use std::alloc::{AllocError, Global};
-use table_list::{column_number, copy_columns};
-use vo_spec::{CatalogTable, Column, Command, List, Name, Schema};
+use table_list::new_schema;
+use vo_spec::{CatalogTable, Column, Command, List, Name};
 
 /// The table that a CREATE makes.
 fn new_table(
@@ -27,13 +27,9 @@ fn new_table(
     requires { length columns.now ≤ max_columns }
     ensures { IfOk result (λ table. table ≡ made_table name.now columns.now key.now) }
 {
-    let number = column_number(columns, key.as_bytes()) as u8;
     Ok(CatalogTable {
         name: name.copy(alloc)?,
-        schema: Schema {
-            columns: copy_columns(alloc, columns)?,
-            key: number,
-        },
+        schema: new_schema(alloc, columns, key.as_bytes())?,
         rows: 0,
         root: PartTree::Leaf(List::new(alloc)).node_digest(),
     })

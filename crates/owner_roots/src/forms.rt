@@ -2,14 +2,13 @@
 ghost use Rattle.std.specs.Prelude.{◌≡◌};
 ghost use Rattle.std.specs.List.{list_all};
 ghost use Rattle.vo_spec.specs.Parts.{entries_in};
-ghost use Rattle.vo_spec.specs.Checks.{is_key_of, key_kind};
 ghost use Rattle.mb_tree.specs.View.{part_of, parts_of};
 ghost use Rattle.owner_roots.specs.Forms.{entry_has_form, has_cell_count, has_form};
 
 use mb_tree::PartTree;
-use row_bytes::read_key;
-use table_list::kind_at;
-use vo_spec::{Kind, PartEntry, RowPart, Schema};
+use row_bytes::is_key_of;
+use table_list::key_kind;
+use vo_spec::{PartEntry, RowPart, Schema};
 
 /// Whether the keys of the tree's leaves are keys of the schema, and the rows that stand as cells
 /// have as many as the schema.
@@ -46,18 +45,6 @@ fn entry_has_form(schema: &Schema, entry: &PartEntry<'_>) -> bool
     ensures { result ≡ entry_has_form schema.now entry.now }
 {
     is_key_of(key_kind(schema), entry.key.as_bytes()) && has_cell_count(schema, &entry.row)
-}
-
-fn key_kind(schema: &Schema) -> Kind
-    ensures { result ≡ key_kind schema.now }
-{
-    kind_at(schema.columns.as_slice(), schema.key as usize)
-}
-
-fn is_key_of(kind: Kind, key: &[u8]) -> bool
-    ensures { result ≡ is_key_of kind key.now }
-{
-    read_key(kind, key).is_ok()
 }
 
 fn has_cell_count(schema: &Schema, row: &RowPart<'_>) -> bool

@@ -1,22 +1,12 @@
 //! The catalogs of two replies of one record.
-ghost use Rattle.std.specs.Prelude.{◌≡◌, ◌∷◌, IfOk};
-ghost use Rattle.vo_spec.specs.Records.{FitsCatalog, catalog_bytes, catalog_digest};
+ghost use Rattle.std.specs.Prelude.{◌≡◌, IfOk};
+ghost use Rattle.vo_spec.specs.Records.{FitsCatalog, catalog_digest};
 ghost use Rattle.tree_collide.specs.Agreements.{HoldsOrCollides};
 ghost use Rattle.tree_collide.specs.Preimages.{AreCatalogs};
 
 use std::alloc::{AllocError, Global};
-use version_record::put_catalog;
+use version_record::catalog_preimage;
 use vo_spec::{Catalog, Collision};
-
-/// What the digest of a catalog is of.
-fn catalog_preimage(alloc: Global, catalog: &Catalog) -> Result<Vec<u8>, AllocError>
-    requires { FitsCatalog catalog.now }
-    ensures { IfOk result (λ bytes. bytes.items ≡ 5 ∷ catalog_bytes catalog.now) }
-{
-    let mut bytes = Vec::from_slice(alloc, &[5])?;
-    put_catalog(&mut bytes, catalog)?;
-    Ok(bytes)
-}
 
 /// None where the catalogs are the same, else two byte strings of their one digest.
 pub(crate) fn compare_catalogs(

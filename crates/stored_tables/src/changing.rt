@@ -11,8 +11,8 @@ use crate::table::StoredTable;
 use mb_tree::Tree;
 use std::alloc::{AllocError, Global};
 use std::rc::Rc;
-use table_list::{column_number, copy_columns};
-use vo_spec::{Column, Name, Schema};
+use table_list::new_schema;
+use vo_spec::{Column, Name};
 
 /// The table that a CREATE makes.
 pub(crate) fn new_table(
@@ -24,16 +24,10 @@ pub(crate) fn new_table(
     requires { length columns.now ≤ max_columns }
     ensures { IfOk result (λ table. stored_of table ≡ made_stored name.now columns.now key.now) }
 {
-    let number = column_number(columns, key.as_bytes()) as u8;
+    let schema = new_schema(alloc, columns, key.as_bytes())?;
     Ok(StoredTable {
         name: Rc::new(alloc, name.copy(alloc)?)?,
-        schema: Rc::new(
-            alloc,
-            Schema {
-                columns: copy_columns(alloc, columns)?,
-                key: number,
-            },
-        )?,
+        schema: Rc::new(alloc, schema)?,
         tree: Tree::new(alloc)?,
     })
 }

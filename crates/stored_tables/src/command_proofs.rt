@@ -7,9 +7,9 @@ ghost use Rattle.stored_tables.specs.View.{proof_list, stored_in, stored_of};
 ghost use Rattle.stored_tables.specs.Representation.{IsStanding};
 
 use crate::positions::place_of;
-use crate::row_changes::key_of;
 use crate::table::StoredTable;
 use mb_tree::PartTree;
+use row_bytes::key_of;
 use std::alloc::{AllocError, Global};
 use std::rc::Rc;
 use table_list::{command_name, key_at};

@@ -4,7 +4,6 @@ ghost use Rattle.std.specs.List.{AllByRecursion};
 ghost use Rattle.std.specs.Result.{result_map_both};
 ghost use Rattle.vo_spec.specs.declared.tables.Command.TheVariants.{Insert, Update, Delete};
 ghost use Rattle.vo_spec.specs.declared.trees.UpdateFault.{UpdateFault as TreeFault};
-ghost use Rattle.vo_spec.specs.Values.{key_of};
 ghost use Rattle.vo_spec.specs.Tables.{cell_changes, max_rows, row_of as row_from};
 ghost use Rattle.vo_spec.specs.Batches.{FitsSet, max_columns};
 ghost use Rattle.vo_spec.specs.Trees.{RowTree};
@@ -21,17 +20,10 @@ ghost use Rattle.stored_tables.specs.Ready.{IsReady};
 use crate::table::StoredTable;
 use mb_tree::Tree;
 use mb_update::{SetCell, UpdateFault, Updates, insert_row};
+use row_bytes::key_of;
 use std::alloc::{AllocError, Global};
-use std::slice;
-use table_list::{ApplyFault, cell_number, column_number, key_at, row_of};
-use vo_spec::{Command, CommandFault, Key, Schema, SetPart, Value};
-
-/// The key of one value.
-pub(crate) fn key_of(alloc: Global, value: &Value) -> Result<Key, AllocError>
-    ensures { IfOk result (λ key. key ≡ key_of value.now) }
-{
-    key_at(alloc, slice::from_ref(value), 0)
-}
+use table_list::{ApplyFault, cell_number, column_number, row_of};
+use vo_spec::{Command, CommandFault, Schema, SetPart, Value};
 
 /// The table with what a change has made of its tree, or why the change is refused.
 fn with_tree(

@@ -1,7 +1,7 @@
 //! A reply against tables of the digests that it has.
-ghost use Rattle.std.specs.Prelude.{◌≡◌, ◌∷◌, IfOk};
+ghost use Rattle.std.specs.Prelude.{◌≡◌, IfOk};
 ghost use Rattle.vo_spec.specs.Conditions.{query_of};
-ghost use Rattle.vo_spec.specs.Records.{FitsCatalog, catalog_bytes, catalog_digest};
+ghost use Rattle.vo_spec.specs.Records.{FitsCatalog, catalog_digest};
 ghost use Rattle.vo_spec.specs.Replies.{FitsReply};
 ghost use Rattle.vo_spec.specs.Honest.{catalog_of};
 ghost use Rattle.vo_format.specs.View.{reply_of};
@@ -12,19 +12,9 @@ ghost use Rattle.tree_collide.specs.Preimages.{AreCatalogs};
 use crate::tree_evidence::compare_trees;
 use std::alloc::{AllocError, Global};
 use stored_tables::StoredTables;
-use version_record::put_catalog;
+use version_record::catalog_preimage;
 use vo_format::Reply;
 use vo_spec::{Catalog, Collision, QueryText};
-
-/// What the digest of a catalog is of.
-fn catalog_preimage(alloc: Global, catalog: &Catalog) -> Result<Vec<u8>, AllocError>
-    requires { FitsCatalog catalog.now }
-    ensures { IfOk result (λ bytes. bytes.items ≡ 5 ∷ catalog_bytes catalog.now) }
-{
-    let mut bytes = Vec::from_slice(alloc, &[5])?;
-    put_catalog(&mut bytes, catalog)?;
-    Ok(bytes)
-}
 
 /// Two byte strings of one digest, unless the catalog is that of the tables.
 fn compare_catalogs(
