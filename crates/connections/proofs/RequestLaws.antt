@@ -1,5 +1,5 @@
 -- What a question and its answer are as a request.
-use Rattle.std.proofs.Common.{◌≡◌, ◌≢◌, ℕ, ◌+◌, ◌<◌, ◌^◌, List, [], ◌∷◌, ◌++◌, length, Option, Some, IfSome, IfOk, Result, Ok, Err, IsErr, IsTrue, refl, sym, ap, ◌∙◌, subst, inr, zero-add, rules, tests}
+use Rattle.std.proofs.Common.{◌≡◌, ◌≢◌, ℕ, ◌+◌, ◌<◌, ◌^◌, List, [], ◌∷◌, ◌++◌, length, Option, Some, IfSome, IfOk, Result, Ok, Err, IsErr, IsTrue, refl, sym, ap, ◌∙◌, subst, inr, zero-add, arith, rules, tests}
 use Rattle.std.specs.Prelude.{nat_lt}
 use Rattle.std.specs.Result.{result_map_both}
 use Rattle.std.specs.Global.{Vec}
@@ -12,6 +12,7 @@ use Rattle.link_frames.specs.declared.frame.NoFrame.{NoFrame}
 use Rattle.link_frames.specs.declared.frame.NoFrame.TheVariants as no_frame
 use Rattle.link_frames.specs.Frames.{Coming, Whole, Ended, Cut, Bad, span}
 use Rattle.link_frames.specs.Reading.{Took, TookRest, AsksAs, Receives}
+use Rattle.link_frames.proofs.ReadLaws.{half_asked}
 use Rattle.connections.specs.declared.wire_fault.WireFault.{WireFault}
 use Rattle.connections.specs.declared.wire_fault.WireFault.TheVariants as fault
 use Rattle.connections.specs.Requesting.{answer_in, body_of, fault_of, received_answer, Requests, RequestsInto}
@@ -45,8 +46,8 @@ pub requested : {X Y : Type 0} (view : X → Y) (frame : List ℕ) (first : Comi
     → result_map_both view (λ why. why) result ≡ answer → Took (span first) (send_on frame before) after
     → Requests view frame first answer result before after
 requested view frame first answer (Ok x) before after gives took = (sym gives, took)
-requested view frame first answer (Err fault.LinkFault) before after gives took = inr (span first, took)
-requested view frame first answer (Err fault.Memory) before after gives took = inr (span first, took)
+requested view frame first answer (Err fault.LinkFault) before after gives took = inr (span first, omega arith, took)
+requested view frame first answer (Err fault.Memory) before after gives took = inr (span first, omega arith, took)
 requested view frame first answer (Err (fault.BadFrame length)) before after gives took = (sym gives, took)
 requested view frame first answer (Err (fault.Cut got)) before after gives took = (sym gives, took)
 requested view frame first answer (Err (fault.Refused code)) before after gives took = (sym gives, took)
@@ -71,7 +72,7 @@ unanswered view Is frame first (no_frame.Cut got) before after h =
     (answer_cut first got h.0, took_span first (send_on frame before) after h.1)
 unanswered view Is frame first (no_frame.BadFrame length) before after h =
     (answer_bad first length h.0.0 h.0.1, took_span first (send_on frame before) after h.1)
-unanswered view Is frame first no_frame.LinkFault before after h = h
+unanswered view Is frame first no_frame.LinkFault before after h = half_asked frame first before after h
 unanswered view Is frame first no_frame.Memory before after h = h
 
 -- a body is an answer, but for a refusal's

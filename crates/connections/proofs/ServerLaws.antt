@@ -15,7 +15,7 @@ use Rattle.link_frames.specs.Reading.{StaysWhereItStands}
 use Rattle.connections.specs.declared.serve_fault.ServeFault.{ServeFault}
 use Rattle.connections.specs.declared.serve_fault.ServeFault.TheVariants as fault
 use Rattle.connections.specs.Lines.{HasLine, end_line, end_lines}
-use Rattle.connections.specs.Serving.{IsServed, AreServed, AreServedKnown, AreWritten, WritesLine, CountsFault, ServesAll, ServesNext}
+use Rattle.connections.specs.Serving.{IsServed, AreServed, AreServedKnown, AreWritten, WritesLine, CountsEach, CountsFault, ServesAll, ServesNext}
 
 -- The connections to come stay while one is served.
 
@@ -148,28 +148,28 @@ rose_later old mid new rose counts = λ some. let h : old < mid = rose (omega (a
 pub rose_before : (old mid new : ℕ) → old ≤ mid → FaultRose mid new → FaultRose old new
 rose_before old mid new counts rose = λ some. let h : mid < new = rose some in omega (arith, h, counts)
 
-faults-append : (ends : List End) (end : End) (old mid new : ℕ) → CountsFault ends old mid → old ≤ mid → mid ≤ new
-    → CountsFault (end ∷ []) mid new → CountsFault (ends ++ end ∷ []) old new
-faults-append ends end old mid new (inr rose) a b l = inr (rose_later old mid new rose b)
-faults-append ends end old mid new (inl none) a b (inr rose) = inr (rose_before old mid new a rose)
-faults-append ends end old mid new (inl none) a b (inl l) =
-    inl (all-append (λ (e : End). e ≢ ended.LinkFault) ends end none l.0)
+-- one connection more
+counts-append : (ends : List End) (end : End) (old mid new : ℕ) → CountsEach ends old mid → CountsFault end mid new
+    → CountsEach (ends ++ end ∷ []) old new
+counts-append [] end old mid new h l = (
+  new,
+  record { rise = omega (arith, h, l.rise); cause = λ e. rose_before old mid new h (l.cause e) },
+  omega arith,
+)
+counts-append (first ∷ ends) end old mid new h l = (h.0, h.1, counts-append ends end h.0 mid new h.2 l)
 
 -- the same ends later
-faults_later : (ends : List End) (old mid new : ℕ) → mid ≤ new → CountsFault ends old mid → CountsFault ends old new
-faults_later ends old mid new b (inr rose) = inr (rose_later old mid new rose b)
-faults_later ends old mid new b (inl none) = inl none
+counts_later : (ends : List End) (old mid new : ℕ) → mid ≤ new → CountsEach ends old mid → CountsEach ends old new
+counts_later [] old mid new b h = omega (arith, b, h)
+counts_later (end ∷ ends) old mid new b h = (h.0, h.1, counts_later ends h.0 mid new b h.2)
 
 -- the end of one connection, by the counts before it was made, while it was served, and at its end
 pub fault_counted : (end : End) (old opened last new : ℕ) → (end ≡ ended.LinkFault → FaultRose opened last)
-    → old ≤ opened → last ≤ new → CountsFault (end ∷ []) old new
-fault_counted ended.LinkFault old opened last new rose a b =
-    inr (rose_before old opened new a (rose_later opened last new (rose refl) b))
-fault_counted ended.Closed old opened last new rose a b = inl (λ e. cc e, tt)
-fault_counted ended.Turns old opened last new rose a b = inl (λ e. cc e, tt)
-fault_counted ended.Memory old opened last new rose a b = inl (λ e. cc e, tt)
-fault_counted (ended.BadFrame length) old opened last new rose a b = inl (λ e. cc e, tt)
-fault_counted (ended.Cut got) old opened last new rose a b = inl (λ e. cc e, tt)
+    → old ≤ opened → opened ≤ last → last ≤ new → CountsFault end old new
+fault_counted end old opened last new rose a b l = record {
+  rise = omega (arith, a, b, l);
+  cause = λ e. rose_before old opened new a (rose_later opened last new (rose e) l);
+}
 
 -- The next connection.
 
@@ -177,7 +177,7 @@ pub next_served : {S : Type 0} (reply : Reply S) (next : Next S) (number : ℕ) 
     (result : Result (Unit {0}) ServeFault) (old new : S) (wire later : Option ConnectionModel)
     (written after : Option (List ℕ)) (faults more : ℕ) → result ≢ Err fault.Network
     → AreServedKnown reply next (end ∷ []) old new wire later → WritesLine number end result written after
-    → CountsFault (end ∷ []) faults more
+    → CountsFault end faults more
     → ServesNext reply next number result old new wire later written after faults more
 next_served reply next number end (Ok done) old new wire later written after faults more other known line rose =
     (end, known, line, rose)
@@ -212,7 +212,7 @@ pub record IsServing {S : Type 0} (reply : Reply S) (next : Next S) (number : �
   pub count_is : length ends ≡ number
   pub lines : AreWritten ends written after
   pub known : AreServedKnown reply next ends old now wire later
-  pub rose : CountsFault ends faults more
+  pub rose : CountsEach ends faults more
   pub counts : faults ≤ more
   pub stays : (before : ConnectionModel) → wire ≡ Some before → number ≤ length before.queue → more_misses ≡ misses
   pub out_counts : out ≤ more_out
@@ -225,7 +225,7 @@ serves_none reply next old wire written faults misses out = record {
   count_is = refl;
   lines = (tt, added-nothing written);
   known = λ before is. (before, is, (refl, refl));
-  rose = inl tt;
+  rose = omega arith;
   counts = omega arith;
   stays = λ before is some. refl;
   out_counts = omega arith;
@@ -268,7 +268,7 @@ serves_more reply next number done old now new wire mid later written between af
   count_is = length-one_more h.ends one.0 ∙ ap (λ (n : ℕ). n + 1) h.count_is;
   lines = (all-append HasLine h.ends one.0 h.lines.0 one.2.0, line);
   known = served_known-append reply next h.ends (one.0 ∷ []) old now new wire mid later h.known one.1;
-  rose = faults-append h.ends one.0 faults more new_faults h.rose h.counts counts one.3;
+  rose = counts-append h.ends one.0 faults more new_faults h.rose one.3;
   counts = omega (arith, h.counts, counts);
   stays = λ before is some. misses_stay reply next number (number + 1) old now wire mid written between faults more misses more_misses new_misses out more_out (omega arith) h stays before is some;
   out_counts = omega (arith, h.out_counts, out_counts);
@@ -294,7 +294,7 @@ serves_all reply next number count done old now wire later written after faults 
   ends = h.ends;
   lines = (h.count_is ∙ all, h.lines);
   known = h.known;
-  rose = h.rose;
+  counts = h.rose;
 }
 
 -- the serving failed
@@ -309,7 +309,7 @@ serves_to_fault reply next number count fault.Network old now new wire mid later
   ends = h.ends;
   lines = (omega (arith, h.count_is, below), (h.lines.0, one.2 ∙ h.lines.1));
   known = rw (one.0, one.1) h.known;
-  rose = faults_later h.ends faults more new_faults counts h.rose;
+  counts = counts_later h.ends faults more new_faults counts h.rose;
 }
 serves_to_fault reply next number count fault.Output old now new wire mid later written between after faults more new_faults misses more_misses out more_out below h one counts = record {
   ends = h.ends ++ one.0 ∷ [];
@@ -326,7 +326,7 @@ serves_to_fault reply next number count fault.Output old now new wire mid later 
         (sym (length-one_more h.ends one.0 ∙ ap (λ (n : ℕ). n + 1) h.count_is)),
   );
   known = served_known-append reply next h.ends (one.0 ∷ []) old now new wire mid later h.known one.1;
-  rose = faults-append h.ends one.0 faults more new_faults h.rose h.counts counts one.3;
+  counts = counts-append h.ends one.0 faults more new_faults h.rose one.3;
 }
 serves_to_fault reply next number count fault.Memory old now new wire mid later written between after faults more new_faults misses more_misses out more_out below h one counts = record {
   ends = h.ends ++ one.0 ∷ [];
@@ -338,5 +338,5 @@ serves_to_fault reply next number count fault.Memory old now new wire mid later 
     (h.lines.0, one.2 ∙ h.lines.1),
   );
   known = served_known-append reply next h.ends (one.0 ∷ []) old now new wire mid later h.known one.1;
-  rose = faults-append h.ends one.0 faults more new_faults h.rose h.counts counts one.3;
+  counts = counts-append h.ends one.0 faults more new_faults h.rose one.3;
 }

@@ -38,8 +38,8 @@ abbrev pub Requests : {X Y : Type 0} → (X → Y) → List ℕ → Coming → R
     → Result X WireFault → ConnectionModel → Option ConnectionModel → Type 0
 Requests view frame first answer (Ok x) before after =
     (answer ≡ Ok (view x)) × Took (span first) (send_on frame before) after
-Requests view frame first answer (Err fault.LinkFault) before after = IsHalfAsked frame before after
-Requests view frame first answer (Err fault.Memory) before after = IsHalfAsked frame before after
+Requests view frame first answer (Err fault.LinkFault) before after = IsHalfAsked frame first before after
+Requests view frame first answer (Err fault.Memory) before after = IsHalfAsked frame first before after
 Requests view frame first answer (Err why) before after =
     (answer ≡ Err why) × Took (span first) (send_on frame before) after
 

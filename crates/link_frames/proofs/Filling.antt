@@ -4,8 +4,9 @@ use Rattle.std.proofs.lemmas.List.{drop-drop, drop_all, length-drop, length-take
 use borrow.Rule.Slice.PartMut.{put_mid}
 use Rattle.outside.specs.ConnectionModel.{ConnectionModel, take_from, take_known, Gets}
 use Rattle.outside.specs.Miss.{CountsMiss}
-use Rattle.link_frames.specs.Reading.{Took, TookSome, StaysWhereItStands, Fills, Gathered, HandsOn}
+use Rattle.link_frames.specs.Reading.{Took, TookAtMost, TookFewer, StaysWhereItStands, Fills, Gathered, HandsOn}
 use Rattle.link_frames.specs.declared.interrupted.Interrupted.{Interrupted}
+use Rattle.link_frames.specs.declared.interrupted.Interrupted.TheVariants as interrupted
 use Rattle.link_frames.proofs.ReadLaws.{took_later}
 
 take_more : (m n : ℕ) (xs : List ℕ) → take m xs ++ take n (drop m xs) ≡ take (m + n) xs
@@ -136,7 +137,8 @@ filled_within filled n now within fits =
 
 -- a fault, after some bytes
 pub fills_err : (E : Type 0) (old new : List ℕ) (result : Result ℕ E) (before : ConnectionModel)
-    (wire : Option ConnectionModel) → IsErr result → TookSome before wire → Fills old new result before wire
+    (wire : Option ConnectionModel) → IsErr result
+    → TookFewer (length old) before wire → Fills old new result before wire
 fills_err E old new (Ok n) before wire err t = absurd (cc err)
 fills_err E old new (Err fault) before wire err t = t
 
@@ -206,10 +208,18 @@ handed_end handed n count room old now new before wire later zero_ some wide h k
     (omega (arith, h.0), more.1, more.2)
 
 -- a fault, after some bytes
-pub hands_err : (count : ℕ) (old new : List ℕ) (result : Result ℕ Interrupted) (before : ConnectionModel)
-    (wire : Option ConnectionModel) → IsErr result → TookSome before wire → HandsOn count old new result before wire
-hands_err count old new (Ok n) before wire err t = absurd (cc err)
-hands_err count old new (Err fault) before wire err t = t
+pub hands_err : (handed count room : ℕ) (old now new : List ℕ) (fault : Interrupted) (before : ConnectionModel)
+    (wire : Option ConnectionModel) → handed < count → handed ≤ length before.coming → room ≤ count - handed
+    → Gathered room now new (Err fault) (take_from handed before) wire
+    → HandsOn count old new (Err fault) before wire
+hands_err handed count room old now new interrupted.LinkFault before wire below there fits t =
+    (handed + 0, omega (arith, below), omega (arith, there), took_later handed 0 before wire t)
+hands_err handed count room old now new interrupted.Memory before wire below there fits t = (
+  handed + t.0,
+  omega (arith, below, fits, t.1),
+  omega (arith, there, t.2, length-drop handed before.coming),
+  took_later handed t.0 before wire t.3,
+)
 
 -- as many bytes were added as were taken
 pub piece_grows : (n : ℕ) (old now piece : List ℕ) → n ≤ length piece → now ≡ old ++ take n piece

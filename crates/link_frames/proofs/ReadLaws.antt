@@ -1,6 +1,6 @@
 -- Reads that go on where others ended.
-use Rattle.std.proofs.Common.{◌≡◌, ◌≢◌, ℕ, ◌+◌, ◌-◌, ◌<◌, ◌≤◌, Bool, true, false, ◌&&◌, cond, eqb, ltb, List, [], ◌∷◌, ◌++◌, length, take, drop, get_or, Option, Some, None, Result, Ok, Err, refl, sym, ap, ◌∙◌, subst, inr, arith, append-nil, IsTrue}
-use Rattle.std.proofs.lemmas.List.{drop-drop, drop_all, length-take-le}
+use Rattle.std.proofs.Common.{◌≡◌, ◌≢◌, ℕ, ◌+◌, ◌-◌, ◌<◌, ◌≤◌, Bool, true, false, ◌&&◌, cond, eqb, ltb, List, [], ◌∷◌, ◌++◌, length, take, drop, get_or, min, Option, Some, None, Result, Ok, Err, refl, sym, ap, ◌∙◌, subst, inl, inr, arith, append-nil, IsTrue}
+use Rattle.std.proofs.lemmas.List.{drop-drop, drop_all, length-take, length-take-le}
 use Rattle.std.specs.Int.{w32, from_be_bytes}
 use Rattle.std.proofs.lemmas.Bool.{eqb-true}
 use Rattle.std.proofs.lemmas.Bool.Decides.{nat_tests}
@@ -12,8 +12,8 @@ use Rattle.link_frames.specs.declared.frame.NoFrame.TheVariants as no_frame
 use Rattle.link_frames.specs.declared.head.FrameHead.{FrameHead}
 use Rattle.link_frames.specs.declared.frame_kind.FrameKind.{FrameKind}
 use Rattle.link_frames.specs.declared.frame_kind.FrameKind.TheVariants.{Refusal}
-use Rattle.link_frames.specs.Frames.{Coming, Bad, span, with_body, with_kind, may_come, is_length, behind_length, first_frame, kind_of}
-use Rattle.link_frames.specs.Reading.{Took, TookSome, TookRest, TookRestOrSome, ReadsAs, Adds, ReadsHead, Fills, HandsOn, IsHeadOf, AsksAs}
+use Rattle.link_frames.specs.Frames.{Coming, Whole, Ended, Cut, Bad, span, with_body, with_kind, may_come, is_length, behind_length, first_frame, kind_of}
+use Rattle.link_frames.specs.Reading.{Took, IsFrame, TookAtMost, TookFewer, TookPart, TookRest, TookRestOrFront, TookWithin, ReadsAs, Adds, ReadsHead, Fills, HandsOn, IsHeadOf, AsksAs, IsBrokenOff, IsHalfAsked}
 
 -- taken twice is taken at once
 pub took_later : (k n : ℕ) (w : ConnectionModel) (wire : Option ConnectionModel)
@@ -21,18 +21,23 @@ pub took_later : (k n : ℕ) (w : ConnectionModel) (wire : Option ConnectionMode
 took_later k n w wire t =
     t ∙ ap (λ (bytes : List ℕ). Some (record w { coming = bytes })) (drop-drop n k w.coming)
 
-pub some_later : (k : ℕ) (w : ConnectionModel) (wire : Option ConnectionModel)
-    → TookSome (take_from k w) wire → TookSome w wire
-some_later k w wire t = (k + t.0, took_later k t.0 w wire t.1)
+within_later : (k : ℕ) (first : Coming) (w : ConnectionModel) (wire : Option ConnectionModel)
+    → TookWithin k first (take_from k w) wire → TookWithin 0 first w wire
+within_later k first w wire t = (k + t.0, omega (arith, t.1), took_later k t.0 w wire t.2)
+
+part_later : (k : ℕ) (first : Coming) (w : ConnectionModel) (wire : Option ConnectionModel)
+    → TookPart k first (take_from k w) wire → TookPart 0 first w wire
+part_later k first w wire t =
+    (k + t.0, omega (arith, t.1), λ is. omega (arith, t.2 is), took_later k t.0 w wire t.3)
 
 rest_later : (k : ℕ) (first : Coming) (w : ConnectionModel) (wire : Option ConnectionModel)
     → TookRest k first (take_from k w) wire → TookRest 0 first w wire
 rest_later k first w wire t = (k + t.0, omega (arith, t.1), took_later k t.0 w wire t.2)
 
 fault_later : (k : ℕ) (first : Coming) (fault : NoFrame) (w : ConnectionModel) (wire : Option ConnectionModel)
-    → TookRestOrSome k first fault (take_from k w) wire → TookRestOrSome 0 first fault w wire
-fault_later k first no_frame.LinkFault w wire t = some_later k w wire t
-fault_later k first no_frame.Memory w wire t = some_later k w wire t
+    → TookRestOrFront k first fault (take_from k w) wire → TookRestOrFront 0 first fault w wire
+fault_later k first no_frame.LinkFault w wire t = part_later k first w wire t
+fault_later k first no_frame.Memory w wire t = within_later k first w wire t
 fault_later k first no_frame.Ended w wire t = rest_later k first w wire t
 fault_later k first (no_frame.Cut got) w wire t = rest_later k first w wire t
 fault_later k first (no_frame.BadFrame size) w wire t = rest_later k first w wire t
@@ -51,6 +56,105 @@ frame_later : {X : Type 0} (Is : Coming → X → Type 0) (k : ℕ) (first : Com
     → ReadsAs Is 0 first result w wire
 frame_later Is k first (Ok x) w wire h = (h.0, rest_later k first w wire h.1)
 frame_later Is k first (Err fault) w wire h = (h.0, fault_later k first fault w wire h.1)
+
+-- How much of what comes first a failed read took.
+
+span_if : (b : Bool) (x y : Coming) (k : ℕ) → (b ≡ true → k ≤ span x) → (b ≡ false → k ≤ span y)
+    → k ≤ span (cond b x y)
+span_if true x y k h l = h refl
+span_if false x y k h l = l refl
+
+span-body : (kind : FrameKind) (n : ℕ) (bytes : List ℕ)
+    → 5 + min n (length bytes) ≤ span (with_body kind n bytes)
+span-body kind n bytes =
+    span_if (ltb (length bytes) n) (Cut (5 + length bytes)) (Whole kind (take n bytes)) (5 + min n (length bytes))
+    (λ short. omega arith) (λ long. omega (arith, length-take n bytes))
+
+span-kind : (awaits : Awaits) (kind : Option FrameKind) (n : ℕ) (bytes : List ℕ)
+    → 5 ≤ span (with_kind awaits kind n bytes)
+span-kind awaits None n bytes = omega arith
+span-kind awaits (Some kind) n bytes =
+    span_if (may_come awaits kind && is_length kind n) (with_body kind n bytes) (Bad (n + 1) 5) 5
+    (λ may. omega (arith, span-body kind n bytes)) (λ none. omega arith)
+
+span-behind_length : (awaits : Awaits) (n : ℕ) (bytes : List ℕ) → 4 ≤ span (behind_length awaits n bytes)
+unfolding behind_length
+span-behind_length awaits n bytes =
+    span_if (eqb n 0) (Bad 0 4) (cond (eqb (length bytes) 0) (Cut 4) (with_kind awaits (kind_of (get_or bytes 0 0)) (n - 1) (drop 1 bytes))) 4
+    (λ zero_. omega arith)
+    (λ some. span_if (eqb (length bytes) 0) (Cut 4) (with_kind awaits (kind_of (get_or bytes 0 0)) (n - 1) (drop 1 bytes)) 4
+    (λ none. omega arith) (λ more. omega (arith, span-kind awaits (kind_of (get_or bytes 0 0)) (n - 1) (drop 1 bytes))))
+
+span-first_frame : (awaits : Awaits) (bytes : List ℕ) → min 4 (length bytes) ≤ span (first_frame awaits bytes)
+unfolding first_frame
+span-first_frame awaits bytes =
+    let behind : Coming = behind_length awaits (u32_of (take 4 bytes)) (drop 4 bytes) in
+    span_if (eqb (length bytes) 0) Ended (cond (ltb (length bytes) 4) (Cut (length bytes)) behind) (min 4 (length bytes))
+    (λ none. omega (arith, eqb-true (length bytes) 0 none))
+    (λ some. span_if (ltb (length bytes) 4) (Cut (length bytes)) behind (min 4 (length bytes))
+    (λ short. omega arith)
+    (λ long. omega (arith, span-behind_length awaits (u32_of (take 4 bytes)) (drop 4 bytes))))
+
+behind_length-some : (awaits : Awaits) (n : ℕ) (coming : List ℕ) → 0 < n → 0 < length coming
+    → behind_length awaits n coming ≡ with_kind awaits (kind_of (get_or coming 0 0)) (n - 1) (drop 1 coming)
+unfolding behind_length
+behind_length-some awaits n coming some more =
+    let zero_not : eqb n 0 ≡ false = grind (arith, nat_tests) in
+    let some_test : eqb (length coming) 0 ≡ false = grind (arith, nat_tests) in
+    rw (zero_not, some_test) refl
+
+span-frame : (first : Coming) → IsFrame first → 5 ≤ span first
+span-frame (Whole kind body) is = omega arith
+span-frame Ended is = absurd is
+span-frame (Cut got) is = absurd is
+span-frame (Bad size taken) is = absurd is
+
+body-frame : (kind : FrameKind) (n : ℕ) (bytes : List ℕ) → IsFrame (with_body kind n bytes)
+    → 5 + n ≤ span (with_body kind n bytes)
+body-frame kind n bytes is = step (ltb (length bytes) n) refl is
+  where
+    step : (b : Bool) → ltb (length bytes) n ≡ b
+        → IsFrame (cond b (Cut (5 + length bytes)) (Whole kind (take n bytes)))
+        → 5 + n ≤ span (cond (ltb (length bytes) n) (Cut (5 + length bytes)) (Whole kind (take n bytes)))
+    step true short is = absurd is
+    step false long is =
+        let enough : n ≤ length bytes = grind (arith, nat_tests) in
+        rw long (omega (arith, length-take n bytes))
+
+-- in the midst of the length
+pub length_fails : (awaits : Awaits) (w : ConnectionModel) (wire : Option ConnectionModel)
+    → TookFewer 4 w wire → TookPart 0 (first_frame awaits w.coming) w wire
+length_fails awaits w wire t = (
+  t.0,
+  omega (arith, t.1, t.2, span-first_frame awaits w.coming),
+  λ is. omega (arith, t.1, span-frame (first_frame awaits w.coming) is),
+  t.3,
+)
+
+-- at the kind
+pub kind_fails : (awaits : Awaits) (n : ℕ) (w : ConnectionModel) (wire : Option ConnectionModel) → 0 < n
+    → TookFewer 1 w wire → TookPart 4 (behind_length awaits n w.coming) w wire
+kind_fails awaits n w wire some t = (
+  t.0,
+  omega (arith, t.1, span-behind_length awaits n w.coming),
+  λ is. omega (arith, t.1, span-frame (behind_length awaits n w.coming) is),
+  t.3,
+)
+
+-- in the midst of the body
+pub body_fails : (kind : FrameKind) (n : ℕ) (w : ConnectionModel) (wire : Option ConnectionModel)
+    → TookFewer n w wire → TookPart 5 (with_body kind n w.coming) w wire
+body_fails kind n w wire t = (
+  t.0,
+  omega (arith, t.1, t.2, span-body kind n w.coming),
+  λ is. omega (arith, t.1, body-frame kind n w.coming is),
+  t.3,
+)
+
+-- memory ran out in it
+pub body_wants : (kind : FrameKind) (n : ℕ) (w : ConnectionModel) (wire : Option ConnectionModel)
+    → TookAtMost n w wire → TookWithin 5 (with_body kind n w.coming) w wire
+body_wants kind n w wire t = (t.0, omega (arith, t.1, t.2, span-body kind n w.coming), t.3)
 
 -- The head.
 
@@ -103,14 +207,6 @@ pub kind_zero : (awaits : Awaits) (n : ℕ) (w : ConnectionModel) (wire : Option
 unfolding behind_length
 kind_zero awaits n w wire zero_ is =
     rw zero_ ((4, refl), (0, refl, is))
-
-behind_length-some : (awaits : Awaits) (n : ℕ) (coming : List ℕ) → 0 < n → 0 < length coming
-    → behind_length awaits n coming ≡ with_kind awaits (kind_of (get_or coming 0 0)) (n - 1) (drop 1 coming)
-unfolding behind_length
-behind_length-some awaits n coming some more =
-    let zero_not : eqb n 0 ≡ false = grind (arith, nat_tests) in
-    let some_test : eqb (length coming) 0 ≡ false = grind (arith, nat_tests) in
-    rw (zero_not, some_test) refl
 
 head_result : (first : Coming) (size : ℕ) (result : Result FrameHead NoFrame) (w : ConnectionModel)
     (wire : Option ConnectionModel) → Took 1 w wire → IsHeadOf first size (drop 1 w.coming) result
@@ -273,3 +369,9 @@ read_asks Is frame first (Err no_frame.Memory) before wire h = inr h.1
 read_asks Is frame first (Err no_frame.Ended) before wire h = h
 read_asks Is frame first (Err (no_frame.Cut got)) before wire h = h
 read_asks Is frame first (Err (no_frame.BadFrame size)) before wire h = h
+
+-- what the link broke off is half asked
+pub half_asked : (frame : List ℕ) (first : Coming) (before : ConnectionModel) (after : Option ConnectionModel)
+    → IsBrokenOff frame first before after → IsHalfAsked frame first before after
+half_asked frame first before after (inl h) = inl h
+half_asked frame first before after (inr h) = inr (h.0, h.1, h.3)

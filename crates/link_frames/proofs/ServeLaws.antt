@@ -9,7 +9,7 @@ use Rattle.link_frames.specs.declared.frame.NoFrame.TheVariants as no_frame
 use Rattle.link_frames.specs.declared.end.End.{End}
 use Rattle.link_frames.specs.declared.end.End.TheVariants as end
 use Rattle.link_frames.specs.Frames.{Coming, Whole, Ended, Cut, Bad, frame_bytes, span, first_frame}
-use Rattle.link_frames.specs.Reading.{Took, TookSome, TookRest, TookRestOrSome, StaysWhereItStands, Misses}
+use Rattle.link_frames.specs.Reading.{Took, TookRest, TookRestOrFront, TookWithin, StaysWhereItStands, Misses}
 use Rattle.link_frames.specs.Scripts.{Event, Puts, Takes, Does, Script, behind, IsDone}
 use Rattle.link_frames.specs.Serving.{max_turns, Reply, Next, ends_after, with_reply, with_first, serving_script, last_state, StopsIn, EndsWith, Serves, ServesKnown, end_of, PutsAnswer, AnswersOne, ServesOne}
 use Rattle.link_frames.proofs.Filling.{stays_on}
@@ -78,35 +78,35 @@ ends_there n count end old new before wire all same t = (
 
 -- the taking of a request stopped
 stops_taking : {S : Type 0} (next : Next S) (old new : S) (kind : FrameKind) (body : List ℕ)
-    (answer : Option (FrameKind × List ℕ)) (rest : Script S End) (before : ConnectionModel)
-    (wire : Option ConnectionModel) → new ≡ old → TookSome before wire
+    (answer : Option (FrameKind × List ℕ)) (rest : Script S End) (n : ℕ) (before : ConnectionModel)
+    (wire : Option ConnectionModel) → new ≡ old → Took n before wire
     → (after : ConnectionModel) × (wire ≡ Some after)
     × StopsIn (with_reply next old kind body answer rest) old new before after
-stops_taking next old new kind body (Some answer) rest before wire same t =
-    (take_from t.0 before, t.1, ([], same, inl (refl, (t.0, refl))))
-stops_taking next old new kind body None rest before wire same t =
-    (take_from t.0 before, t.1, ([], same, inl (refl, (t.0, refl))))
+stops_taking next old new kind body (Some answer) rest n before wire same t =
+    (take_from n before, t, ([], same, inl (refl, (n, refl))))
+stops_taking next old new kind body None rest n before wire same t =
+    (take_from n before, t, ([], same, inl (refl, (n, refl))))
 
 -- the same, whatever was to come
 stops_reading : {S : Type 0} (reply : Reply S) (next : Next S) (first : Coming) (old new : S)
     (before : ConnectionModel) (wire : Option ConnectionModel) (rest : FrameKind → List ℕ → Script S End)
-    → new ≡ old → TookSome before wire
+    → new ≡ old → TookWithin 0 first before wire
     → (after : ConnectionModel) × (wire ≡ Some after) × StopsIn (with_first reply next old first rest) old new before after
 stops_reading reply next (Whole kind body) old new before wire rest same t =
-    stops_taking next old new kind body (reply old kind body) (rest kind body) before wire same t
+    stops_taking next old new kind body (reply old kind body) (rest kind body) t.0 before wire same t.2
 stops_reading reply next Ended old new before wire rest same t =
-    (take_from t.0 before, t.1, ([], same, inl (refl, (t.0, refl))))
+    (take_from t.0 before, t.2, ([], same, inl (refl, (t.0, refl))))
 stops_reading reply next (Cut got) old new before wire rest same t =
-    (take_from t.0 before, t.1, ([], same, inl (refl, (t.0, refl))))
+    (take_from t.0 before, t.2, ([], same, inl (refl, (t.0, refl))))
 stops_reading reply next (Bad length taken) old new before wire rest same t =
-    (take_from t.0 before, t.1, ([], same, inl (refl, (t.0, refl))))
+    (take_from t.0 before, t.2, ([], same, inl (refl, (t.0, refl))))
 
 without_first : {S : Type 0} (reply : Reply S) (next : Next S) (first : Coming) (fault : NoFrame) (s : S)
     (before : ConnectionModel) (wire : Option ConnectionModel) (rest : FrameKind → List ℕ → Script S End)
-    → Misses first fault → TookRestOrSome 0 first fault before wire
+    → Misses first fault → TookRestOrFront 0 first fault before wire
     → ServesKnown (with_first reply next s first rest) (end_of fault) s s before wire
 without_first reply next first no_frame.LinkFault s before wire rest m t =
-    stops_reading reply next first s s before wire rest refl t
+    stops_reading reply next first s s before wire rest refl (t.0, t.1, t.3)
 without_first reply next first no_frame.Memory s before wire rest m t =
     stops_reading reply next first s s before wire rest refl t
 without_first reply next first no_frame.Ended s before wire rest m t =
@@ -122,7 +122,7 @@ without_first reply next first (no_frame.BadFrame length) s before wire rest m t
 -- no request was read: the serving ends
 pub no_request : {S : Type 0} (reply : Reply S) (next : Next S) (first : Coming) (fault : NoFrame) (s : S)
     (before : ConnectionModel) (wire : Option ConnectionModel)
-    → Misses first fault × TookRestOrSome 0 first fault before wire
+    → Misses first fault × TookRestOrFront 0 first fault before wire
     → ServesOne reply next first (Err (end_of fault)) s s before wire
 no_request reply next first fault s before wire h =
     λ rest. without_first reply next first fault s before wire rest h.0 h.1
@@ -181,8 +181,8 @@ pub no_memory : {S : Type 0} (reply : Reply S) (next : Next S) (kind : FrameKind
     (before : ConnectionModel) (wire : Option ConnectionModel) → new ≡ old → wire ≡ Some before
     → AnswersOne reply next kind body (Err end.Memory) old new before wire
 no_memory reply next kind body old new before wire same is =
-    λ rest start taken. stops_taking next old new kind body (reply old kind body) rest start wire same
-    (5 + length body, is ∙ ap (λ (w : ConnectionModel). Some w) taken)
+    λ rest start taken. stops_taking next old new kind body (reply old kind body) rest (5 + length body) start wire same
+    (is ∙ ap (λ (w : ConnectionModel). Some w) taken)
 
 -- the body was none of its kind
 pub no_answer : {S : Type 0} (reply : Reply S) (next : Next S) (kind : FrameKind) (body : List ℕ) (size : ℕ)

@@ -9,6 +9,7 @@ use Rattle.link_frames.specs.declared.frame_kind.FrameKind.{FrameKind}
 use Rattle.link_frames.specs.declared.frame_kind.FrameKind.TheVariants.{Refusal}
 use Rattle.link_frames.specs.declared.head.FrameHead.{FrameHead}
 use Rattle.link_frames.specs.declared.interrupted.Interrupted.{Interrupted}
+use Rattle.link_frames.specs.declared.interrupted.Interrupted.TheVariants as interrupted
 use Rattle.link_frames.specs.declared.received.Received.{Received}
 use Rattle.link_frames.specs.declared.received.Received.TheVariants as received
 use Rattle.link_frames.specs.Frames.{Coming, Whole, Ended, Cut, Bad, span, with_body}
@@ -17,9 +18,15 @@ use Rattle.link_frames.specs.Frames.{Coming, Whole, Ended, Cut, Bad, span, with_
 abbrev pub Took : ℕ → ConnectionModel → Option ConnectionModel → Type 0
 Took n before after = after ≡ Some (take_from n before)
 
--- the same of some number of bytes
-abbrev pub TookSome : ConnectionModel → Option ConnectionModel → Type 0
-TookSome before after = (n : ℕ) × Took n before after
+-- the same of some of the bytes that come, at most so many
+abbrev pub TookAtMost : ℕ → ConnectionModel → Option ConnectionModel → Type 0
+TookAtMost most before after =
+    (n : ℕ) × (n ≤ most) × (n ≤ length before.coming) × Took n before after
+
+-- or fewer
+abbrev pub TookFewer : ℕ → ConnectionModel → Option ConnectionModel → Type 0
+TookFewer most before after =
+    (n : ℕ) × (n < most) × (n ≤ length before.coming) × Took n before after
 
 -- a count that stays where the connection has what is asked for
 abbrev pub StaysWhere : (ConnectionModel → Bool) → Option ConnectionModel → ℕ → ℕ → Type 0
@@ -56,7 +63,7 @@ abbrev pub Fills : {E : Type 0} → List ℕ → List ℕ → Result ℕ E → C
 Fills old new (Ok n) before after =
     (n ≡ min (length old) (length before.coming))
     × (new ≡ take n before.coming ++ drop n old) × Took n before after
-Fills old new (Err fault) before after = TookSome before after
+Fills old new (Err fault) before after = TookFewer (length old) before after
 
 -- of what comes, bytes that fit into the room are put behind what was gathered; none are the end
 abbrev pub Gathered : ℕ → List ℕ → List ℕ → Result ℕ Interrupted → ConnectionModel
@@ -64,7 +71,8 @@ abbrev pub Gathered : ℕ → List ℕ → List ℕ → Result ℕ Interrupted �
 Gathered room old new (Ok n) before after =
     (n ≤ length before.coming) × (new ≡ old ++ take n before.coming)
     × (0 < room → (n ≡ 0) ↔ (before.coming ≡ [])) × Took n before after
-Gathered room old new (Err fault) before after = TookSome before after
+Gathered room old new (Err interrupted.LinkFault) before after = Took 0 before after
+Gathered room old new (Err interrupted.Memory) before after = TookAtMost room before after
 
 -- the next bytes of what comes, so many or all that are left, are put behind what was gathered
 abbrev pub HandsOn : ℕ → List ℕ → List ℕ → Result ℕ Interrupted → ConnectionModel
@@ -72,7 +80,8 @@ abbrev pub HandsOn : ℕ → List ℕ → List ℕ → Result ℕ Interrupted �
 HandsOn count old new (Ok n) before after =
     (n ≡ min count (length before.coming)) × (new ≡ old ++ take n before.coming)
     × Took n before after
-HandsOn count old new (Err fault) before after = TookSome before after
+HandsOn count old new (Err interrupted.LinkFault) before after = TookFewer count before after
+HandsOn count old new (Err interrupted.Memory) before after = TookAtMost count before after
 
 -- Why there is no frame is what comes first.
 abbrev pub Misses : Coming → NoFrame → Type 0
@@ -86,19 +95,34 @@ Misses first no_frame.Memory = Unit {0}
 abbrev pub TookRest : ℕ → Coming → ConnectionModel → Option ConnectionModel → Type 0
 TookRest k first before after = (n : ℕ) × (k + n ≡ span first) × Took n before after
 
--- the same of a read without a frame, but that it took some bytes where the link failed or memory
--- ran out
-abbrev pub TookRestOrSome : ℕ → Coming → NoFrame → ConnectionModel → Option ConnectionModel → Type 0
-TookRestOrSome k first no_frame.LinkFault before after = TookSome before after
-TookRestOrSome k first no_frame.Memory before after = TookSome before after
-TookRestOrSome k first _ before after = TookRest k first before after
+-- a front of that rest
+abbrev pub TookWithin : ℕ → Coming → ConnectionModel → Option ConnectionModel → Type 0
+TookWithin k first before after = (n : ℕ) × (k + n ≤ span first) × Took n before after
+
+-- what comes first is a frame
+abbrev pub IsFrame : Coming → Type 0
+IsFrame (Whole kind body) = Unit {0}
+IsFrame _ = ⊥
+
+-- a front of it, but not all of a frame
+abbrev pub TookPart : ℕ → Coming → ConnectionModel → Option ConnectionModel → Type 0
+TookPart k first before after = (n : ℕ) × (k + n ≤ span first)
+    × (IsFrame first → k + n < span first) × Took n before after
+
+-- the same of a read without a frame, but that it took a front alone where memory ran out, and
+-- where the link failed not all of a frame
+abbrev pub TookRestOrFront : ℕ → Coming → NoFrame → ConnectionModel → Option ConnectionModel
+    → Type 0
+TookRestOrFront k first no_frame.LinkFault before after = TookPart k first before after
+TookRestOrFront k first no_frame.Memory before after = TookWithin k first before after
+TookRestOrFront k first _ before after = TookRest k first before after
 
 -- a read that began k bytes before gives what comes first, in this form, or says why it is no frame
 abbrev pub ReadsAs : {X : Type 0} → (Coming → X → Type 0) → ℕ → Coming → Result X NoFrame
     → ConnectionModel → Option ConnectionModel → Type 0
 ReadsAs Is k first (Ok x) before after = Is first x × TookRest k first before after
 ReadsAs Is k first (Err fault) before after =
-    Misses first fault × TookRestOrSome k first fault before after
+    Misses first fault × TookRestOrFront k first fault before after
 
 -- what comes first is this frame
 abbrev pub IsWhole : Coming → Frame → Type 0
@@ -126,7 +150,7 @@ ReadsHead k first (Ok head) before after =
     (n : ℕ) × (k + n ≡ 5) × (first ≡ with_body head.kind head.length (drop n before.coming))
     × Took n before after
 ReadsHead k first (Err fault) before after =
-    Misses first fault × TookRestOrSome k first fault before after
+    Misses first fault × TookRestOrFront k first fault before after
 
 -- a head that begins with this length and is followed by these bytes, or none
 abbrev pub IsHeadOf : Coming → ℕ → List ℕ → Result FrameHead NoFrame → Type 0
@@ -135,17 +159,23 @@ IsHeadOf first length bytes (Err fault) =
     (fault ≡ no_frame.BadFrame length) × (first ≡ Bad length 5)
 
 -- of a frame and its answer: a front of the frame was put and nothing taken, or all of it was put,
--- and some bytes were taken then
-abbrev pub IsHalfAsked : List ℕ → ConnectionModel → Option ConnectionModel → Type 0
-IsHalfAsked frame before after =
+-- and a front of what comes first was taken then
+abbrev pub IsHalfAsked : List ℕ → Coming → ConnectionModel → Option ConnectionModel → Type 0
+IsHalfAsked frame first before after =
     ((n : ℕ) × (after ≡ Some (send_on (take n frame) before)))
-    ⊎ TookSome (send_on frame before) after
+    ⊎ TookWithin 0 first (send_on frame before) after
+
+-- the same where the link failed: not all of a frame was taken
+abbrev pub IsBrokenOff : List ℕ → Coming → ConnectionModel → Option ConnectionModel → Type 0
+IsBrokenOff frame first before after =
+    ((n : ℕ) × (after ≡ Some (send_on (take n frame) before)))
+    ⊎ TookPart 0 first (send_on frame before) after
 
 -- a frame was put, and then what comes first was read, in this form
 abbrev pub AsksAs : {X : Type 0} → (Coming → X → Type 0) → List ℕ → Coming → Result X NoFrame
     → ConnectionModel → Option ConnectionModel → Type 0
-AsksAs Is frame first (Err no_frame.LinkFault) before after = IsHalfAsked frame before after
-AsksAs Is frame first (Err no_frame.Memory) before after = IsHalfAsked frame before after
+AsksAs Is frame first (Err no_frame.LinkFault) before after = IsBrokenOff frame first before after
+AsksAs Is frame first (Err no_frame.Memory) before after = IsHalfAsked frame first before after
 AsksAs Is frame first result before after =
     ReadsAs Is 0 first result (send_on frame before) after
 

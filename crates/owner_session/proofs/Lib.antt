@@ -1,4 +1,5 @@
 pub mod DeedLaws
+pub mod StoppingLaws
 pub mod RunLaws
 pub mod TradeLaws
 pub mod WireLaws

@@ -9,6 +9,7 @@ use Rattle.owner_session.specs.Work.{Forms, Judgement, Makes, Refuses, Deed, Ste
 use Rattle.owner_session.specs.Runs.{Snapshot, entries_of, input_of}
 use Rattle.owner_session.specs.Sessions.{SessionEnds, SessionRuns}
 use Rattle.owner_session.specs.Requests.{Request, AsksStanding, Proposes, Installs, request_bytes, IsRequestOf, PutsRequests}
+use Rattle.owner_session.proofs.StoppingLaws.{on_link_stops}
 use Rattle.owner_session.proofs.DeedLaws.{entries_of-append}
 use Rattle.owner_session.proofs.OrderLaws.{session_carries}
 
@@ -165,7 +166,8 @@ ended_stops : {S B E : Type 0} (work : Work S B E) (L D O K : Type 0) (W : E →
     → SessionEnds work L D O K W status deeds a b → Stops work.events deeds a.wire b.wire
 ended_stops work L D O K W status deeds a b (inl h) =
     stops_done work.events deeds a.wire b.wire h.1.2
-ended_stops work L D O K W status deeds a b (inr (inl h)) = h.2.0
+ended_stops work L D O K W status deeds a b (inr (inl h)) =
+    on_link_stops work.events deeds a.wire b.wire h.2.0
 ended_stops work L D O K W status deeds a b (inr (inr (inl h))) = h.2.0
 ended_stops work L D O K W status deeds a b (inr (inr (inr (inl h)))) = h.2.1
 ended_stops work L D O K W status deeds a b (inr (inr (inr (inr h)))) = h.1.1

@@ -10,6 +10,7 @@ use Rattle.owner_session.specs.Faults.{CountsFaults}
 use Rattle.owner_session.specs.Endings.{Ending, StopsWith, IsOfLink}
 use Rattle.owner_session.specs.Work.{Judgement, Deed, Appends, Says, Work, Input, ends_with}
 use Rattle.owner_session.specs.Runs.{Snapshot, Piece, Reaches, Fails, Halts, Runs, input_of}
+use Rattle.owner_session.proofs.StoppingLaws.{on_link-append}
 use Rattle.owner_session.proofs.DeedLaws.{judgements-append, leads-append, leads-nothing, wrote-append, added-nil, next-behind}
 
 pub reaches-then : {S B E G : Type 0} (IsJudgement : S → B → List ℕ → Judgement S E → Type 0) (work mid rest : Piece S B E G)
@@ -38,7 +39,7 @@ halts-behind IsJudgement Kept work mid a b c f es rest (stop.Refused report) h =
   wrote-append f.deeds es [] a b c f.wrote h.2,
 )
 halts-behind IsJudgement Kept work mid a b c f es rest stop.LinkFault h = (
-  stops-append f.events rest.events f.deeds es a.wire b.wire c.wire f.done h.0,
+  on_link-append f.events rest.events f.deeds es a.wire b.wire c.wire f.done h.0,
   wrote-append f.deeds es [] a b c f.wrote h.1,
 )
 halts-behind IsJudgement Kept work mid a b c f es rest stop.DiskFault h = (

@@ -25,7 +25,7 @@ pub trades_not : (frame : List ℕ) (first : Coming) (ending : Ending) (why : Se
     → StopsWith ending why → Trades frame first (Err why) before wire
 trades_not frame first ending (stop.Refused report) before wire is t h =
     ((ending, is, h), took_all first (send_on frame before) wire t)
-trades_not frame first ending stop.Memory before wire is t h = inr (t.0, t.2)
+trades_not frame first ending stop.Memory before wire is t h = inr (t.0, omega (arith, t.1), t.2)
 trades_not frame first ending stop.LinkFault before wire is t h = absurd h
 trades_not frame first ending stop.DiskFault before wire is t h = absurd h
 trades_not frame first ending stop.OutputFault before wire is t h = absurd h

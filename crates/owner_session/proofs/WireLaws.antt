@@ -1,5 +1,5 @@
 -- Runs of calls that do something to the connection alone.
-use Rattle.std.proofs.Common.{◌≡◌, ℕ, suc, ◌+◌, ◌<◌, Bool, List, [], ◌∷◌, length, take, drop, slice_get, Option, Some, None, Result, Ok, Err, bytes_eq, if◌then◌else◌, refl, sym, ap, ◌∙◌, subst, inl, inr, zero, ◌≤◌, append-nil, arith}
+use Rattle.std.proofs.Common.{◌≡◌, ◌≢◌, ℕ, suc, ◌+◌, ◌<◌, Bool, List, [], ◌∷◌, length, take, drop, slice_get, Option, Some, None, Result, Ok, Err, bytes_eq, if◌then◌else◌, refl, sym, ap, ◌∙◌, subst, inl, inr, zero, ◌≤◌, append-nil, arith}
 use Rattle.std.proofs.lemmas.List.{drop_all}
 use Rattle.std.specs.Global.{Vec}
 use Rattle.outside.specs.ConnectionModel.{ConnectionModel, take_from, send_on}
@@ -8,8 +8,8 @@ use Rattle.link_frames.specs.declared.awaits.Awaits.{Awaits}
 use Rattle.link_frames.specs.declared.awaits.Awaits.TheVariants as awaits
 use Rattle.link_frames.specs.declared.frame_kind.FrameKind.{FrameKind}
 use Rattle.link_frames.specs.declared.frame_kind.FrameKind.TheVariants as kind
-use Rattle.link_frames.specs.Frames.{span, first_frame, frame_bytes}
-use Rattle.link_frames.specs.Reading.{IsHalfAsked, StaysWhereItStands}
+use Rattle.link_frames.specs.Frames.{Coming, Whole, Ended, Cut, Bad, span, first_frame, frame_bytes}
+use Rattle.link_frames.specs.Reading.{IsBrokenOff, IsFrame, IsHalfAsked, StaysWhereItStands}
 use Rattle.link_frames.specs.Scripts.{Event, Puts, Takes, behind, Stops}
 use Rattle.owner_session.specs.declared.place.Place.{Place}
 use Rattle.owner_session.specs.declared.place.Place.TheVariants.{Holds, Elsewhere, NoStanding}
@@ -17,6 +17,7 @@ use Rattle.owner_session.specs.declared.stop.SessionStop.{SessionStop}
 use Rattle.owner_session.specs.declared.stop.SessionStop.TheVariants as stop
 use Rattle.owner_session.specs.Endings.{Ending, StandsElsewhere, BadAnswer}
 use Rattle.owner_session.specs.Work.{Forms, Judgement, Deed, Work, Input, AnswerBody, Body, NoBody, answer_of, with_answer, with_place, input_after, ends_with, exchange, installation, proposal, standing, delivery, deliveries, catch_up}
+use Rattle.owner_session.specs.Stopping.{StopsOnLink}
 use Rattle.owner_session.specs.Runs.{Snapshot, LeadsTo, Piece, Reaches, Halts, Runs, RunsOnWire, Trades, ChecksVersion, HoldsSome, snapshot_of, input_of, continuation, continuation_with}
 use Rattle.owner_session.proofs.DeedLaws.{added-nil}
 use Rattle.link_frames.proofs.ScriptLaws.{stands-after}
@@ -45,39 +46,73 @@ answered {S} {B} {E} kind body awaits input go answer is =
     (with_answer a (input_after (span (first_frame awaits input.coming)) input) go)) is
 
 -- where a half exchange left the connection
-abbrev half_wire : (frame : List ℕ) (before : ConnectionModel) (wire : Option ConnectionModel) → IsHalfAsked frame before wire
-    → (later : ConnectionModel) × (wire ≡ Some later)
-half_wire frame before wire (inl h) = (send_on (take h.0 frame) before, h.1)
-half_wire frame before wire (inr h) = (take_from h.0 (send_on frame before), h.1)
+abbrev half_wire : (frame : List ℕ) (first : Coming) (before : ConnectionModel) (wire : Option ConnectionModel)
+    → IsHalfAsked frame first before wire → (later : ConnectionModel) × (wire ≡ Some later)
+half_wire frame first before wire (inl h) = (send_on (take h.0 frame) before, h.1)
+half_wire frame first before wire (inr h) = (take_from h.0 (send_on frame before), h.2)
 
 half_stops : {S B E : Type 0} (kind : FrameKind) (body : List ℕ) (awaits : Awaits) (input : Input S E)
-    (go : List ℕ → Input S E → Work S B E) (before : ConnectionModel) (wire : Option ConnectionModel)
-    (h : IsHalfAsked (frame_bytes kind body) before wire)
-    → Stops (exchange kind body awaits input go).events [] before (half_wire (frame_bytes kind body) before wire h).0
+    (go : List ℕ → Input S E → Work S B E) (first : Coming) (before : ConnectionModel) (wire : Option ConnectionModel)
+    (h : IsHalfAsked (frame_bytes kind body) first before wire)
+    → Stops (exchange kind body awaits input go).events [] before (half_wire (frame_bytes kind body) first before wire h).0
 unfolding exchange
-half_stops kind body awaits input go before wire (inl h) = inl (refl, (h.0, refl))
-half_stops kind body awaits input go before wire (inr h) = inr ([], refl, inl (refl, (h.0, refl)))
+half_stops kind body awaits input go first before wire (inl h) = inl (refl, (h.0, refl))
+half_stops kind body awaits input go first before wire (inr h) = inr ([], refl, inl (refl, (h.0, refl)))
 
+-- the same where the link failed
+abbrev broken_wire : (frame : List ℕ) (first : Coming) (before : ConnectionModel) (wire : Option ConnectionModel)
+    → IsBrokenOff frame first before wire → (later : ConnectionModel) × (wire ≡ Some later)
+broken_wire frame first before wire (inl h) = (send_on (take h.0 frame) before, h.1)
+broken_wire frame first before wire (inr h) = (take_from h.0 (send_on frame before), h.3)
+
+-- nothing is due behind what is no frame
+part_taken : {S B E : Type 0} (first : Coming) (input : Input S E) (go : List ℕ → Input S E → Work S B E) (n : ℕ)
+    → (IsFrame first → n < span first) → (with_answer (answer_of first) input go).events ≢ [] → n < span first
+part_taken (Whole kind body) input go n part due = part tt
+part_taken Ended input go n part due = absurd (due refl)
+part_taken (Cut got) input go n part due = absurd (due refl)
+part_taken (Bad length taken) input go n part due = absurd (due refl)
+
+broken_stops : {S B E : Type 0} (kind : FrameKind) (body : List ℕ) (awaits : Awaits) (input : Input S E)
+    (go : List ℕ → Input S E → Work S B E) (before : ConnectionModel) (wire : Option ConnectionModel)
+    (h : IsBrokenOff (frame_bytes kind body) (first_frame awaits input.coming) before wire)
+    → StopsOnLink (exchange kind body awaits input go).events [] before
+    (broken_wire (frame_bytes kind body) (first_frame awaits input.coming) before wire h).0
+unfolding exchange
+broken_stops kind body awaits input go before wire (inl h) = inl (refl, (h.0, refl))
+broken_stops kind body awaits input go before wire (inr h) =
+    let first : Coming = first_frame awaits input.coming in
+    inr (
+      [],
+      refl,
+      inl (
+        refl,
+        (
+          h.0,
+          part_taken first (input_after (span first) input) go h.0 (λ is. omega (arith, h.2 is)),
+          refl,
+        ),
+      ),
+    )
+
+-- the connection is half asked, and its work stopped so, whatever follows
 half_fails : {S B E : Type 0} (IsJudgement : S → B → List ℕ → Judgement S E → Type 0) (kind : FrameKind) (body : List ℕ)
     (awaits : Awaits) (why : SessionStop) (before : Snapshot S E) (wire : Option ConnectionModel)
-    → ((work : Work S B E) (later : ConnectionModel) → Stops work.events [] before.wire later
-    → Halts (λ (e : E). ⊥) work why [] before (on_wire later before))
-    → IsHalfAsked (frame_bytes kind body) before.wire wire
+    (later : (w : ConnectionModel) × (wire ≡ Some w))
+    → ((more : List (Judgement S E)) (go : List ℕ → Input S E → Work S B E)
+    → Halts (λ (e : E). ⊥) (exchange kind body awaits (input_of before more) go) why [] before (on_wire later.0 before))
     → RunsOnWire IsJudgement (exchange kind body awaits) (λ (given : Vec ℕ). continuation_with given.items) (Err why) before wire
-half_fails {S} {B} {E} IsJudgement kind body awaits why before wire halts h =
-    let later : (w : ConnectionModel) × (wire ≡ Some w) = half_wire (frame_bytes kind body) before.wire wire h in (
-      later.0,
-      later.1,
-      record {
-        judgements = [];
-        deeds = [];
-        are_judgements = tt;
-        leads = leads-on-wire later.0 before;
-        halts = λ (more : List (Judgement S E)) (go : List ℕ → Input S E → Work S B E).
-            halts (exchange kind body awaits (input_of before more) go) later.0
-            (half_stops kind body awaits (input_of before more) go before.wire wire h);
-      },
-    )
+half_fails IsJudgement kind body awaits why before wire later halts = (
+  later.0,
+  later.1,
+  record {
+    judgements = [];
+    deeds = [];
+    are_judgements = tt;
+    leads = leads-on-wire later.0 before;
+    halts = halts;
+  },
+)
 
 -- a call that did the exchange, or stopped in it
 pub traded : {S B E : Type 0} (IsJudgement : S → B → List ℕ → Judgement S E → Type 0) (kind : FrameKind) (body : List ℕ)
@@ -119,9 +154,17 @@ traded {S} {B} {E} IsJudgement kind body awaits (Err (stop.Refused report)) befo
       },
     )
 traded {S} {B} {E} IsJudgement kind body awaits (Err stop.LinkFault) before wire h =
-    half_fails IsJudgement kind body awaits stop.LinkFault before wire (λ work later s. (s, added-nil before.written)) h
+    let frame : List ℕ = frame_bytes kind body in
+    let first : Coming = first_frame awaits before.wire.coming in
+    half_fails IsJudgement kind body awaits stop.LinkFault before wire
+    (broken_wire frame first before.wire wire h)
+    (λ (more : List (Judgement S E)) (go : List ℕ → Input S E → Work S B E).
+    (broken_stops kind body awaits (input_of before more) go before.wire wire h, added-nil before.written))
 traded {S} {B} {E} IsJudgement kind body awaits (Err stop.Memory) before wire h =
-    half_fails IsJudgement kind body awaits stop.Memory before wire (λ work later s. (s, added-nil before.written)) h
+    let first : Coming = first_frame awaits before.wire.coming in
+    half_fails IsJudgement kind body awaits stop.Memory before wire (half_wire (frame_bytes kind body) first before.wire wire h)
+    (λ (more : List (Judgement S E)) (go : List ℕ → Input S E → Work S B E).
+    (half_stops kind body awaits (input_of before more) go first before.wire wire h, added-nil before.written))
 traded IsJudgement kind body awaits (Err stop.DiskFault) before wire h = absurd h
 traded IsJudgement kind body awaits (Err stop.OutputFault) before wire h = absurd h
 

@@ -5,7 +5,7 @@ use Rattle.outside.specs.ConnectionModel.{ConnectionModel, take_from, send_on}
 use Rattle.outside.specs.Sink.{append_known}
 use Rattle.link_frames.specs.declared.frame_kind.FrameKind.{FrameKind}
 use Rattle.link_frames.specs.Frames.{Coming, Whole, span}
-use Rattle.link_frames.specs.Reading.{IsHalfAsked}
+use Rattle.link_frames.specs.Reading.{IsBrokenOff, IsHalfAsked}
 use Rattle.link_frames.specs.Scripts.{Event, behind, others, IsDone, Stops}
 use Rattle.owner_session.specs.declared.refusals.RefusalCause.{RefusalCause}
 use Rattle.owner_session.specs.declared.refusals.NoAppend.{NoAppend}
@@ -16,6 +16,7 @@ use Rattle.owner_session.specs.declared.stop.SessionStop.TheVariants as stop
 use Rattle.owner_session.specs.declared.place.Place.{Place}
 use Rattle.owner_session.specs.declared.place.Place.TheVariants.{Holds, Elsewhere, NoStanding}
 use Rattle.owner_session.specs.Endings.{Ending, StandsElsewhere, BadAnswer, OwnerRefuses, Reports, StopsWith}
+use Rattle.owner_session.specs.Stopping.{StopsOnLink}
 use Rattle.owner_session.specs.Work.{Judgement, Makes, Refuses, Deed, Steps, Appends, Says, Work, Input, Body, NoBody, answer_of}
 
 -- What deeds leave.
@@ -108,15 +109,15 @@ pub record Reaches {S B E G : Type 0} (IsJudgement : S → B → List ℕ → Ju
   pub leads : LeadsTo deeds before after
   pub wrote : HasWritten deeds [] before after
 
--- The work stopped so: it was done; or it stopped in the midst of an event, where after a failing
--- disk the entry that was next has Kept.
+-- The work stopped so: it was done; or it stopped in the midst of an event, which is one of the
+-- connection where the link failed, and where after a failing disk the entry that was next has Kept.
 abbrev pub Halts : {S B E : Type 0} → (E → Type 0) → Work S B E → SessionStop → List (Deed S B E)
     → Snapshot S E → Snapshot S E → Type 0
 Halts Kept work (stop.Refused report) deeds before after =
     ((ending : Ending) × (work.value ≡ Some ending) × Reports report ending)
     × IsDone work.events deeds before.wire after.wire × HasWritten deeds [] before after
 Halts Kept work stop.LinkFault deeds before after =
-    Stops work.events deeds before.wire after.wire × HasWritten deeds [] before after
+    StopsOnLink work.events deeds before.wire after.wire × HasWritten deeds [] before after
 Halts Kept work stop.DiskFault deeds before after =
     Stops work.events deeds before.wire after.wire × HasWritten deeds [] before after
     × ((entry : _) × (next : _) × IsNext (Appends entry next) deeds work × Kept entry)
@@ -174,8 +175,8 @@ Trades frame first (Ok body) before wire =
 Trades frame first (Err (stop.Refused report)) before wire =
     ((ending : Ending) × (answer_of first ≡ NoBody ending) × Reports report ending)
     × (wire ≡ Some (take_from (span first) (send_on frame before)))
-Trades frame first (Err stop.LinkFault) before wire = IsHalfAsked frame before wire
-Trades frame first (Err stop.Memory) before wire = IsHalfAsked frame before wire
+Trades frame first (Err stop.LinkFault) before wire = IsBrokenOff frame first before wire
+Trades frame first (Err stop.Memory) before wire = IsHalfAsked frame first before wire
 Trades frame first (Err _) before wire = ⊥
 
 -- of an answer that came whole, this is the body, or why there is none

@@ -5,6 +5,7 @@ use Rattle.link_frames.specs.Scripts.{IsDone, Stops}
 use Rattle.outside.specs.Outputs.{Output, Writes, outside_failure}
 use Rattle.owner_session.specs.Endings.{Ending, Done, output_of}
 use Rattle.owner_session.specs.Work.{Judgement, Deed, Appends, Says, Work, Forms, session}
+use Rattle.owner_session.specs.Stopping.{StopsOnLink}
 use Rattle.owner_session.specs.Runs.{Snapshot, LeadsTo, AreJudgements, IsNext, HasWritten, input_of, lines_of}
 
 -- the same behind the lines of these deeds
@@ -29,7 +30,14 @@ Finishes work OutRose status deeds before after =
     × IsDone work.events deeds before.wire after.wire
     × WritesEnding ending OutRose status deeds before after
 
--- the outside failed in the midst of an event, and so it is written
+-- the link failed in the midst of an event of the connection, and so it is written
+abbrev pub StopsAtLink : {S B E : Type 0} → Work S B E → Type 0 → ℕ → List (Deed S B E)
+    → Snapshot S E → Snapshot S E → Type 0
+StopsAtLink work OutRose status deeds before after =
+    StopsOnLink work.events deeds before.wire after.wire
+    × WritesLast outside_failure OutRose status deeds before after
+
+-- the same of the disk, in the midst of any event
 abbrev pub StopsAtFault : {S B E : Type 0} → Work S B E → Type 0 → ℕ → List (Deed S B E)
     → Snapshot S E → Snapshot S E → Type 0
 StopsAtFault work OutRose status deeds before after =
@@ -56,7 +64,7 @@ abbrev pub SessionEnds : {S B E : Type 0} → Work S B E → Type 0 → Type 0 �
     → (E → Type 0) → ℕ → List (Deed S B E) → Snapshot S E → Snapshot S E → Type 0
 SessionEnds work LinkRose DiskRose OutRose Kept KeptWith status deeds before after =
     (Kept × Finishes work OutRose status deeds before after)
-    ⊎ (LinkRose × Kept × StopsAtFault work OutRose status deeds before after)
+    ⊎ (LinkRose × Kept × StopsAtLink work OutRose status deeds before after)
     ⊎ (DiskRose
     × ((entry : _) × (next : _) × IsNext (Appends entry next) deeds work × KeptWith entry)
     × StopsAtFault work OutRose status deeds before after)

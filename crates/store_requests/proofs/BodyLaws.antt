@@ -12,9 +12,9 @@ use Rattle.connections.proofs.RequestLaws.{requested}
 use Rattle.store_requests.specs.Answers.{or_bad_frame}
 
 -- memory ran out before anything was asked
-pub nothing_asked : (frame : List ℕ) (before : ConnectionModel) (wire : Option ConnectionModel) → wire ≡ Some before
-    → IsHalfAsked frame before wire
-nothing_asked frame before wire is =
+pub nothing_asked : (frame : List ℕ) (first : Coming) (before : ConnectionModel) (wire : Option ConnectionModel)
+    → wire ≡ Some before → IsHalfAsked frame first before wire
+nothing_asked frame first before wire is =
     inl (0, is ∙ ap (λ (bytes : List ℕ). Some (record before { sent = bytes })) (sym (append-nil before.sent)))
 
 same_result : {X : Type 0} (result : Result X WireFault) → result_map_both (λ x. x) (λ why. why) result ≡ result

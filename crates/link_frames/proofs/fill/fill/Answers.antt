@@ -15,8 +15,12 @@ loop-filled-init g c =
 
 pub returns-in_err-count-clause-known : goal.returns-in_err-count-clause-known
 returns-in_err-count-clause-known g c =
-    λ before is. fills_err _ _ _ c.from_residual.result before _ c.from_residual.ensures.0
-    (c.loop-filled.filled, c.in_err-count.ensures.err ∙ (c.loop-filled.invariant.known before is).2)
+    λ before is. fills_err _ _ _ c.from_residual.result before _ c.from_residual.ensures.0 (
+      c.loop-filled.filled,
+      omega arith,
+      (c.loop-filled.invariant.known before is).0,
+      c.in_err-count.ensures.err ∙ (c.loop-filled.invariant.known before is).2,
+    )
 
 pub returns-in-0-clause-known : goal.returns-in-0-clause-known
 returns-in-0-clause-known g c =

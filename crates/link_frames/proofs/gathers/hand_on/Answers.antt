@@ -1,7 +1,7 @@
 use Rattle.std.proofs.Common.{length, take, refl, ◌∙◌, arith}
 use Rattle.std.proofs.lemmas.List.{length-take}
+use Rattle.std.proofs.lemmas.Result.{err_from_is_err_and}
 use Rattle.outside.specs.ConnectionModel.{take_from}
-use Rattle.link_frames.proofs.ReadLaws.{some_later}
 use Rattle.link_frames.proofs.Filling.{stays_on, handed_none, handed_more, handed_end, handed_all, hands_err}
 use Rattle.link_frames.proofs.gathers.hand_on.Goals as goal
 
@@ -20,8 +20,13 @@ loop-handed-init g c =
 
 pub returns-in_err-came-clause-known : goal.returns-in_err-came-clause-known
 returns-in_err-came-clause-known g c =
-    λ before is. hands_err _ _ _ c.from_residual.result before _ c.from_residual.ensures.0
-    (some_later c.loop-handed.handed before _ (c.in_err-came.ensures.known (take_from c.loop-handed.handed before) (c.loop-handed.invariant.handing.known before is).2))
+    λ before is.
+    let p = err_from_is_err_and c.from_residual.result c.from_residual.ensures.1 in
+    rw (p.1, p.2) (hands_err c.loop-handed.handed c.args.count (length (take c.min-room.result c.loop-handed.piece))
+    (g.G.Gathers.gathered c.args.into.now) (g.G.Gathers.gathered c.loop-handed.into) (g.G.Gathers.gathered c.hand_piece.new.into) _ before _
+    (omega arith) (c.loop-handed.invariant.handing.known before is).0
+    (omega (arith, length-take c.min-room.result c.loop-handed.piece, c.min-room.ensures))
+    (c.in_err-came.ensures.known (take_from c.loop-handed.handed before) (c.loop-handed.invariant.handing.known before is).2))
 
 pub returns-in-0-clause-known : goal.returns-in-0-clause-known
 returns-in-0-clause-known g c =

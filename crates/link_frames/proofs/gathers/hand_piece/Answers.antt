@@ -3,7 +3,7 @@ use Rattle.link_frames.proofs.Filling.{one_piece, piece_grows}
 use Rattle.link_frames.proofs.gathers.hand_piece.Goals as goal
 
 pub returns-in-Err-clause-known : goal.returns-in-Err-clause-known
-returns-in-Err-clause-known g c = λ before is. (0, c.in-Err.ensures.err ∙ is)
+returns-in-Err-clause-known g c = λ before is. c.in-Err.ensures.err ∙ is
 
 pub returns-in-Ok-add-clause-known : goal.returns-in-Ok-add-clause-known
 returns-in-Ok-add-clause-known g c =

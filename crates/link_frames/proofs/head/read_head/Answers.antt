@@ -1,6 +1,6 @@
 use Rattle.std.proofs.Common.{arith, ℕ, [], ◌∷◌, refl}
 use Rattle.outside.specs.ConnectionModel.{take_from}
-use Rattle.link_frames.proofs.ReadLaws.{length_none, length_cut, length_read}
+use Rattle.link_frames.proofs.ReadLaws.{length_fails, length_none, length_cut, length_read}
 use Rattle.link_frames.proofs.Filling.{stays_on}
 use Rattle.link_frames.proofs.head.read_head.Goals as goal
 
@@ -21,7 +21,7 @@ returns-in-Ok-clause-known g c =
     c.in-Ok.got-test.0.1 c.in-Ok.got-test.1 (c.in-Ok.ensures.known before is)
 
 pub returns-in-Err-clause-known : goal.returns-in-Err-clause-known
-returns-in-Err-clause-known g c = λ before is. (tt, c.in-Err.ensures.known before is)
+returns-in-Err-clause-known g c = λ before is. (tt, length_fails c.args.awaits before _ (c.in-Err.ensures.known before is))
 
 pub returns-in-Ok-eq4-clause-counts : goal.returns-in-Ok-eq4-clause-counts
 returns-in-Ok-eq4-clause-counts g c =

@@ -1,6 +1,6 @@
 use Rattle.std.proofs.Common.{ℕ, ◌-◌, [], ◌∷◌, get_or, refl, arith}
 use Rattle.link_frames.specs.Frames.{kind_of, with_kind}
-use Rattle.link_frames.proofs.ReadLaws.{kind_zero, kind_cut, kind_read, not_fault}
+use Rattle.link_frames.proofs.ReadLaws.{kind_fails, kind_zero, kind_cut, kind_read, not_fault}
 use Rattle.link_frames.proofs.head.read_kind.Goals as goal
 
 pub returns-then-length-eq0-clause-known : goal.returns-then-length-eq0-clause-known
@@ -21,7 +21,7 @@ returns-in-Ok-clause-known g c =
     before (g.L.Link.wire c.fill.new.link) (omega arith) refl c.in-Ok.field-0-test.1 refl (c.in-Ok.ensures.known before is) c.head_of.ensures.known
 
 pub returns-in-Err-clause-known : goal.returns-in-Err-clause-known
-returns-in-Err-clause-known g c = λ before is. (tt, c.in-Err.ensures.known before is)
+returns-in-Err-clause-known g c = λ before is. (tt, kind_fails c.args.awaits c.args.length before _ (omega arith) (c.in-Err.ensures.known before is))
 
 pub returns-in-Ok-clause-counts : goal.returns-in-Ok-clause-counts
 returns-in-Ok-clause-counts g c =

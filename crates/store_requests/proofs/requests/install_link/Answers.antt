@@ -17,4 +17,4 @@ returns-in-Ok-clause-known g c = λ before is.
 
 pub returns-in-Err-clause-known : goal.returns-in-Err-clause-known
 returns-in-Err-clause-known g c = λ before is.
-    nothing_asked (frame_bytes Install (install_bytes c.args.rec.now c.args.signature.now)) before (g.L.Link.wire c.args.link.now) is
+    nothing_asked (frame_bytes Install (install_bytes c.args.rec.now c.args.signature.now)) (first_frame Installed before.coming) before (g.L.Link.wire c.args.link.now) is

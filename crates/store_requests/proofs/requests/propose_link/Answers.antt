@@ -17,4 +17,4 @@ returns-in-Ok-clause-known g c = λ before is.
 
 pub returns-in-Err-clause-known : goal.returns-in-Err-clause-known
 returns-in-Err-clause-known g c = λ before is.
-    nothing_asked (frame_bytes Propose (batch_bytes c.args.batch.now.commands)) before (g.L.Link.wire c.args.link.now) is
+    nothing_asked (frame_bytes Propose (batch_bytes c.args.batch.now.commands)) (first_frame Proofs before.coming) before (g.L.Link.wire c.args.link.now) is
