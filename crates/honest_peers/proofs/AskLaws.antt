@@ -106,7 +106,7 @@ query_goes text q output utf8 is rest = (to, λ allows. inl (q, is, allows))
 frame_goes : (k : FrameKind) (body tail : List ℕ) (queue : List (List ℕ))
     → IsTrue (may_come ReplyAwaited k) → IsTrue (is_length k (length body))
     → (rest : List ℕ → Expected)
-    → with_reply ((frame_bytes k body ++ tail) ∷ queue) rest ≡ with_answer (Whole k body) rest
+    → with_reply (Some ((frame_bytes k body ++ tail) ∷ queue)) rest ≡ with_answer (Whole k body) rest
 frame_goes k body tail queue may fits rest = ap (λ (first : Coming). with_answer first rest)
     (read_back ReplyAwaited k body tail may fits)
 
@@ -180,22 +180,22 @@ module _ (s : StoreState) (key text : List ℕ) (least : ℕ) (files : Files) (q
     (coming : List ℕ) (queue : List (List ℕ)) (output : Output)
     (asked : IsAsked key text files s q coming) where
   abbrev expected_output : Expected
-  expected_output = ask_expected key text least files (coming ∷ queue)
+  expected_output = ask_expected key text least files (Some (coming ∷ queue))
 
   abbrev by_reply : List (List ℕ) → Expected
-  by_reply connections = with_reply connections (λ r. Checks s.key least q r)
+  by_reply connections = with_reply (Some connections) (λ r. Checks s.key least q r)
 
   expected_is : expected_output ≡ OfQuery text
-      (λ x. with_reply (coming ∷ queue) (λ r. Checks s.key least x r))
+      (λ x. with_reply (Some (coming ∷ queue)) (λ r. Checks s.key least x r))
   expected_is = key_goes files key s.key asked.key_is asked.is_key
-      (λ k. OfQuery text (λ x. with_reply (coming ∷ queue) (λ r. Checks k least x r)))
+      (λ k. OfQuery text (λ x. with_reply (Some (coming ∷ queue)) (λ r. Checks k least x r)))
 
   goes : Allows expected_output output ↔ Allows (by_reply (coming ∷ queue)) output
   goes =
       subst (λ (x : Expected). Allows x output ↔ Allows (by_reply (coming ∷ queue)) output)
       (sym expected_is)
       (query_goes text q output asked.is_text asked.is_query
-      (λ x. with_reply (coming ∷ queue) (λ r. Checks s.key least x r)))
+      (λ x. with_reply (Some (coming ∷ queue)) (λ r. Checks s.key least x r)))
 
   -- the answer that comes is this
   came : (k : FrameKind) (body : List ℕ) → reply_answer (answer_of s q) ≡ (k, body)

@@ -214,16 +214,16 @@ online_left batches status held es after wire later_wire written later_written w
 
 from_left : {Net Disk Out : Type 0} (secret : Secret) (batches : List Batch) (status : ℕ) (before after : DiskModel) (wire : ConnectionModel)
     (later_wire : Option ConnectionModel) (written later_written : Option (List ℕ)) (was : List Record) → IsSafe was before
-    → (from : CommitsFrom secret batches Net Disk Out status (Some before) (Some after) wire later_wire written later_written)
+    → (from : CommitsFrom secret batches Net Disk Out status (Some before) (Some after) (Some wire) later_wire written later_written)
     → (image : List ℕ) → MayLeave after image → HasEach (was ++ put_from from) image
 from_left secret batches status before after wire later_wire written later_written was safe (inl stopped) image left =
     both (Has image) was [] (begun_or_before secret before after was safe stopped.3 image left) tt
 from_left secret batches status before after wire later_wire written later_written was safe (inr (held, es, opened, opens, online)) image left =
-    online_left batches status held es after wire later_wire written later_written was (opened_holds secret before es was safe opens.found) online image left
+    online_left batches status held es after wire later_wire written later_written was (opened_holds secret before es was safe opens.found) (online wire refl) image left
 
 run_left : {Net Disk Out : Type 0} (expected : Expected) (Files : Type 0) (status : ℕ) (before after : DiskModel) (wire : ConnectionModel)
     (later_wire : Option ConnectionModel) (written later_written : Option (List ℕ)) (was : List Record) → IsSafe was before
-    → (ends : OwnEnds expected Files Net Disk Out status (Some before) (Some after) wire later_wire written later_written)
+    → (ends : OwnEnds expected Files Net Disk Out status (Some before) (Some after) (Some wire) later_wire written later_written)
     → (image : List ℕ) → MayLeave after image → HasEach (was ++ put_in expected Files ends) image
 run_left expected Files status before after wire later_wire written later_written was safe (inl ended) image left =
     both (Has image) was [] (safe.left image (subst (λ (d : DiskModel). MayLeave d image) (known after before ended.1) left)) tt

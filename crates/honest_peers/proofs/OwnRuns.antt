@@ -3,7 +3,7 @@ use Rattle.std.proofs.Common.{◌≡◌, ℕ, List, ◌++◌, Option, sym, ap, �
 use Rattle.std.specs.Prelude.{◌⊎◌}
 use Rattle.outside.specs.ConnectionModel.{ConnectionModel}
 use Rattle.outside.specs.DiskModel.{DiskModel}
-use Rattle.outside.specs.Outputs.{Output}
+use Rattle.outside.specs.Outputs.{Output, outside_failure}
 use Rattle.vo_spec.specs.declared.records.Entry.{Entry}
 use Rattle.vo_spec.specs.declared.tables.Batch.{Batch}
 use Rattle.vo_spec.specs.declared.tables.Command.{Command}
@@ -16,7 +16,7 @@ use Rattle.link_frames.specs.Scripts.{others}
 use Rattle.vo_store.specs.StoreState.{StoreState}
 use Rattle.owner_session.specs.Endings.{Ending, Done, StoreRefuses, StandsElsewhere, OwnerRefuses, BadAnswer, CutAnswer, output_of}
 use Rattle.owner_session.specs.Runs.{AreJudgements, Snapshot, entries_of, input_of, snapshot_of, state_after}
-use Rattle.owner_session.specs.Sessions.{Finishes, SessionEnds, StopsAtFault, WritesEnding, WritesLast}
+use Rattle.owner_session.specs.Sessions.{Finishes, SessionEnds, WritesEnding, WritesLast}
 use Rattle.owner_session.specs.Work.{session}
 use Rattle.vo_commands.specs.Committing.{IsJudgement, LeavesWith, entry_forms}
 use Rattle.vo_commands.specs.Owning.{Commits, Leaves}
@@ -79,8 +79,10 @@ module _ {Net Disk Out : Type 0} (secret : Secret) (law : SessionsEnd)
   abbrev Plainly : Type 0
   Plainly = OwnsPlainly secret batches new (Net ⊎ Disk ⊎ Out) status run.later run.entries store
 
-  by_fault : Net ⊎ Disk ⊎ Out → StopsAtFault work Out status run.runs.deeds start end → Plainly
-  by_fault rose (stops, writes) = step (last_status _ status run.runs.deeds start end writes)
+  by_fault : Net ⊎ Disk ⊎ Out
+      → WritesLast outside_failure Out status run.runs.deeds start end → Plainly
+  by_fault rose writes =
+      step (last_status outside_failure status run.runs.deeds start end writes)
     where
       step : HasStatus 3 Out status → Plainly
       step (inl is) = inl (is, rose)
@@ -119,7 +121,7 @@ module _ {Net Disk Out : Type 0} (secret : Secret) (law : SessionsEnd)
       step : SessionEnds work Net Disk Out (Leaves drive run.entries) (LeavesWith drive run.entries)
           status run.runs.deeds start end → Plainly
       step (inl h) = finished own within fit served h.1
-      step (inr (inl h)) = by_fault (inl h.0) h.2
-      step (inr (inr (inl h))) = by_fault (inr (inl h.0)) h.2
+      step (inr (inl h)) = by_fault (inl h.0) h.2.1
+      step (inr (inr (inl h))) = by_fault (inr (inl h.0)) h.2.1
       step (inr (inr (inr (inl h)))) = inl (h.2.0, inr (inr h.0))
       step (inr (inr (inr (inr h)))) = inr (inl h.1.0)

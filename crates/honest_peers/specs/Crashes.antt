@@ -1,6 +1,7 @@
 -- One disk through runs of `own` and stops of the machine: which records are released meanwhile,
 -- and that no stop takes one away.
 use mathlib.Core.Logic.{inl, inr}
+use mathlib.Core.Path.{refl}
 use Rattle.std.specs.Prelude.{◌≡◌, ◌⊎◌, ℕ, List, [], ◌∷◌, ◌++◌, Option, Some, Contains}
 use Rattle.std.specs.List.{AllByRecursion}
 use Rattle.outside.specs.ConnectionModel.{ConnectionModel}
@@ -39,15 +40,15 @@ put_online (inr (later, is, commits)) = records_in commits.puts.requests
 abbrev pub put_from : {secret : Secret} {batches : List Batch} {Net Disk Out : Type 0} {status : ℕ}
     {drive later_drive : Option DiskModel} {before : ConnectionModel}
     {wire : Option ConnectionModel} {written after : Option (List ℕ)}
-    → CommitsFrom secret batches Net Disk Out status drive later_drive before wire written after
-    → List Record
+    → CommitsFrom secret batches Net Disk Out status drive later_drive (Some before) wire written
+    after → List Record
 put_from (inl stopped) = []
-put_from (inr (held, es, opened, opens, online)) = put_online online
+put_from {before = before} (inr (held, es, opened, opens, online)) = put_online (online before refl)
 
 abbrev pub put_in : (expected : Expected) (Files : Type 0) {Net Disk Out : Type 0} {status : ℕ}
     {drive later_drive : Option DiskModel} {before : ConnectionModel}
     {wire : Option ConnectionModel} {written after : Option (List ℕ)}
-    → OwnEnds expected Files Net Disk Out status drive later_drive before wire written after
+    → OwnEnds expected Files Net Disk Out status drive later_drive (Some before) wire written after
     → List Record
 put_in expected Files (inl ended) = []
 put_in expected Files (inr (secret, batches, is, from)) = put_from from
@@ -66,8 +67,8 @@ pub record OwnRun (before after : DiskModel) : Type 0 where
   pub written : Option (List ℕ)
   pub later_written : Option (List ℕ)
   pub ends : OwnEnds expected (FaultRose files.0 files.1) (FaultRose net.0 net.1)
-      (FaultRose disk.0 disk.1) (FaultRose out.0 out.1) status (Some before) (Some after) wire
-      later_wire written later_written
+      (FaultRose disk.0 disk.1) (FaultRose out.0 out.1) status (Some before) (Some after)
+      (Some wire) later_wire written later_written
   pub sees : MayLeave after after.seen  -- as of every disk
 
 -- those that it put in install frames

@@ -1,6 +1,6 @@
 //! What `ask` prints of an honest store's answer.
 
-ghost use Rattle.std.specs.Prelude.{◌≡◌, ◌↔◌, ℕ, ◌≤◌, List, ◌∷◌, drop, length, None, Result, Ok, Err};
+ghost use Rattle.std.specs.Prelude.{◌≡◌, ◌↔◌, ℕ, ◌≤◌, List, ◌∷◌, drop, length, Some, None, Result, Ok, Err};
 ghost use Rattle.outside.specs.Shelf.{Files};
 ghost use Rattle.outside.specs.Outputs.{Output};
 ghost use Rattle.vo_spec.specs.declared.checks.Answer.{Answer};
@@ -44,17 +44,17 @@ pub fn questions_are_answered()
         (least : ℕ) (files : Files) (q : Query) (coming bytes : List ℕ) (queue : List (List ℕ))
         (output : Output) → IsHonestAfter batches s → IsAsked key text files s q coming
         → least ≤ length batches → answer_of s q ≡ Ok bytes
-        → Allows (ask_expected key text least files (coming ∷ queue)) output
+        → Allows (ask_expected key text least files (Some (coming ∷ queue))) output
         ↔ (output ≡ check_output (Ok (plain_answer batches q))) }
     ensures too_large { (s : StoreState) (key text : List ℕ) (least size : ℕ) (files : Files)
         (q : Query) (coming : List ℕ) (queue : List (List ℕ)) (output : Output)
         → IsAsked key text files s q coming → answer_of s q ≡ Err (TooLarge size)
-        → Allows (ask_expected key text least files (coming ∷ queue)) output
+        → Allows (ask_expected key text least files (Some (coming ∷ queue))) output
         ↔ (output ≡ store_refusal 3) }
     ensures empty { (s : StoreState) (key text : List ℕ) (least : ℕ) (files : Files) (q : Query)
         (coming : List ℕ) (queue : List (List ℕ)) (output : Output)
         → IsAsked key text files s q coming → s.installed ≡ None
-        → Allows (ask_expected key text least files (coming ∷ queue)) output
+        → Allows (ask_expected key text least files (Some (coming ∷ queue))) output
         ↔ (output ≡ store_refusal 2) }
 {
     answers_are_accepted();

@@ -3,9 +3,8 @@
 
 mod usage;
 
-ghost use Rattle.std.specs.Prelude.{◌≡◌, ◌≢◌, ◌⊎◌, map, string_bytes, Some, IfOk, IfErr, IfSome};
+ghost use Rattle.std.specs.Prelude.{◌≡◌, ◌≢◌, ◌⊎◌, map, string_bytes, IfOk, IfErr, IfSome};
 ghost use Rattle.std.specs.IoError.{error_kind};
-ghost use Rattle.outside.specs.ConnectionModel.{ConnectionModel};
 ghost use Rattle.outside.specs.FaultRose.{FaultRose};
 ghost use Rattle.vo_words.specs.PlainRequest.{request_in};
 ghost use Rattle.vo_commands.specs.Expected.{Exactly, Ends, expected_of, queue_of, words_refusal};
@@ -68,12 +67,11 @@ fn run_on_words<F: Shelf, D: Disk, N: Net, S: Sink>(
         (S.written out.old) (S.written out.new))) }
     ensures owns { IfOk words (λ words.
         IfSome (own_expected (request_in (map string_bytes words.items)) (F.contents files.old))
-        (λ expected. (before : ConnectionModel) → N.wire net.old ≡ Some before
-        → OwnEnds expected (FaultRose (F.faults files.old) (F.faults files.new))
+        (λ expected. OwnEnds expected (FaultRose (F.faults files.old) (F.faults files.new))
         (FaultRose (N.faults net.old) (N.faults net.new))
         (FaultRose (D.faults disk.old) (D.faults disk.new))
         (FaultRose (S.faults out.old) (S.faults out.new)) result
-        (D.drive disk.old) (D.drive disk.new) before (N.wire net.new)
+        (D.drive disk.old) (D.drive disk.new) (N.wire net.old) (N.wire net.new)
         (S.written out.old) (S.written out.new))) }
     ensures memory { IfErr words (λ error. error_kind error ≡ ErrorKind.OutOfMemory → result ≡ 4) }
     ensures silent { IfErr words (λ error. error_kind error ≡ ErrorKind.OutOfMemory

@@ -49,25 +49,25 @@ command_ends command request files queue outcome outside_rose out_rose status be
 pub serve_ends_empty : (o : Option Expected) (outside_rose out_rose : Type 0) (faults : ℕ) (wire : Option ConnectionModel) (before : Option (List ℕ))
     → IfSome o (λ expected. ServeEnds expected outside_rose out_rose 4 faults faults wire wire before before)
 serve_ends_empty None outside_rose out_rose faults wire before = _
-serve_ends_empty (Some expected) outside_rose out_rose faults wire before = inl (inl (refl, refl))
+serve_ends_empty (Some expected) outside_rose out_rose faults wire before = inl (inl (refl, refl), refl)
 
 -- nothing was done on the network
-pub asks_nothing : (request : Option PlainRequest) (before : ConnectionModel) (wire : Option ConnectionModel) → wire ≡ Some before → UsesNet request before wire
-asks_nothing None before wire is = is
-asks_nothing (Some (Keygen seed height)) before wire is = is
-asks_nothing (Some (Seal seed script height)) before wire is = is
-asks_nothing (Some (Own seed address script height)) before wire is = tt
-asks_nothing (Some (Answer key journal query)) before wire is = is
-asks_nothing (Some (Serve address key journal count)) before wire is = tt
-asks_nothing (Some (Check key query reply least)) before wire is = is
-asks_nothing (Some (Ask address key query least)) before wire is = inl is
-asks_nothing (Some (Audit key journal query reply)) before wire is = is
-asks_nothing (Some (Meet key query first second)) before wire is = is
+pub asks_nothing : (request : Option PlainRequest) (files : Option Files) (before : ConnectionModel) (wire : Option ConnectionModel) → wire ≡ Some before
+    → UsesNet request files before wire
+asks_nothing None files before wire is = is
+asks_nothing (Some (Keygen seed height)) files before wire is = is
+asks_nothing (Some (Seal seed script height)) files before wire is = is
+asks_nothing (Some (Own seed address script height)) files before wire is = tt
+asks_nothing (Some (Answer key journal query)) files before wire is = is
+asks_nothing (Some (Serve address key journal count)) files before wire is = tt
+asks_nothing (Some (Check key query reply least)) files before wire is = is
+asks_nothing (Some (Ask address key query least)) files before wire is = inl is
+asks_nothing (Some (Audit key journal query reply)) files before wire is = is
+asks_nothing (Some (Meet key query first second)) files before wire is = is
 
 -- the same of `own`
 pub own_ends_empty : (o : Option Expected) (FilesRose NetRose DiskRose OutRose : Type 0) (drive : Option DiskModel) (wire : Option ConnectionModel)
     (written : Option (List ℕ))
-    → IfSome o (λ expected. (before : ConnectionModel) → wire ≡ Some before
-    → OwnEnds expected FilesRose NetRose DiskRose OutRose 4 drive drive before wire written written)
+    → IfSome o (λ expected. OwnEnds expected FilesRose NetRose DiskRose OutRose 4 drive drive wire wire written written)
 own_ends_empty None FilesRose NetRose DiskRose OutRose drive wire written = tt
-own_ends_empty (Some expected) FilesRose NetRose DiskRose OutRose drive wire written = λ before is. inl (inl (refl, refl), refl, is)
+own_ends_empty (Some expected) FilesRose NetRose DiskRose OutRose drive wire written = inl (inl (refl, refl), refl, refl)

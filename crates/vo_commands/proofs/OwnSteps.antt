@@ -332,14 +332,13 @@ offline batches NetRose DiskRose OutRose status held es drive before wire later 
 module _ (NetRose DiskRose OutRose : Type 0) (status : ℕ) (drive later_drive : Option DiskModel) (wire later_wire : Option ConnectionModel)
     (written later_written : Option (List ℕ)) where
   abbrev Ended : Expected → Type 0 → Type 0
-  Ended expected FilesRose = (before : ConnectionModel) → wire ≡ Some before
-      → OwnEnds expected FilesRose NetRose DiskRose OutRose status drive later_drive before later_wire written later_written
+  Ended expected FilesRose =
+      OwnEnds expected FilesRose NetRose DiskRose OutRose status drive later_drive wire later_wire written later_written
 
   ends_prepared : (FilesRose : Type 0) (secret : Secret) (batches : Vec Batch) (expected : Expected) → Prepares expected secret (Ok batches)
-      → ((before : ConnectionModel) → wire ≡ Some before
-      → CommitsFrom secret batches.items NetRose DiskRose OutRose status drive later_drive before later_wire written later_written)
+      → CommitsFrom secret batches.items NetRose DiskRose OutRose status drive later_drive wire later_wire written later_written
       → Ended expected FilesRose
-  ends_prepared FilesRose secret batches expected prepares commits = λ before is. inr (secret, batches.items, prepares, commits before is)
+  ends_prepared FilesRose secret batches expected prepares commits = inr (secret, batches.items, prepares, commits)
 
   stopped : (FilesRose : Type 0) (expected : Expected) (stop : Stop) → ((report : Report) → stop ≡ Refused report → Allows expected (output_of report))
       → (stop ≡ Outside → FilesRose) → WritesOutcome (Err stop) OutRose status written later_written
@@ -352,12 +351,11 @@ module _ (NetRose DiskRose OutRose : Type 0) (status : ℕ) (drive later_drive :
       → ((report : Report) → stop ≡ Refused report → Allows expected (output_of report))
       → (stop ≡ Outside → FilesRose) → WritesOutcome (Err stop) OutRose status written later_written → Ended expected FilesRose
   ends_stopped FilesRose expected stop same still allows rose wrote =
-      λ before is. inl (stopped FilesRose expected stop allows rose wrote, same, still ∙ is)
+      inl (stopped FilesRose expected stop allows rose wrote, same, still)
 
   pub run_prepared : (FilesRose : Type 0) (secret : Secret) (batches : Vec Batch) (script : List ℕ) (o : Option Files)
       → IfSome o (λ known. (secret : Secret) → Prepares (with_file known script script_limit (commitment_in secret)) secret (Ok batches))
-      → ((before : ConnectionModel) → wire ≡ Some before
-      → CommitsFrom secret batches.items NetRose DiskRose OutRose status drive later_drive before later_wire written later_written)
+      → CommitsFrom secret batches.items NetRose DiskRose OutRose status drive later_drive wire later_wire written later_written
       → IfSome o (λ known. Ended (with_file known script script_limit (commitment_in secret)) FilesRose)
   run_prepared FilesRose secret batches script None prepares commits = tt
   run_prepared FilesRose secret batches script (Some known) prepares commits =
@@ -391,14 +389,10 @@ module _ (NetRose DiskRose OutRose : Type 0) (status : ℕ) (drive later_drive :
       step o goes (subst (λ z. IfSome z (λ known. Ended (with_file known script script_limit (commitment_in secret)) Before)) same ended)
     where
       later : (expected : Expected) → Ended expected Before → Ended expected FilesRose
-      later expected ended = λ before is. by before (ended before is)
-        where
-          by : (before : ConnectionModel) → OwnEnds expected Before NetRose DiskRose OutRose status drive later_drive before later_wire written later_written
-              → OwnEnds expected FilesRose NetRose DiskRose OutRose status drive later_drive before later_wire written later_written
-          by before (inl (inl wrote, same, still)) = inl (inl wrote, same, still)
-          by before (inl (inr (inl output), same, still)) = inl (inr (inl output), same, still)
-          by before (inl (inr (inr (rose, wrote)), same, still)) = inl (inr (inr (rises rose, wrote)), same, still)
-          by before (inr commits) = inr commits
+      later expected (inl (inl wrote, same, still)) = inl (inl wrote, same, still)
+      later expected (inl (inr (inl output), same, still)) = inl (inr (inl output), same, still)
+      later expected (inl (inr (inr (rose, wrote)), same, still)) = inl (inr (inr (rises rose, wrote)), same, still)
+      later expected (inr commits) = inr commits
 
       step : (o : Option Files) → IfSome o (λ known. (rest : Secret → Expected) → with_seed known seed height rest ≡ rest secret)
           → IfSome o (λ known. Ended (with_file known script script_limit (commitment_in secret)) Before)

@@ -1,5 +1,5 @@
 -- A store that loads a journal, and serves connections.
-use Rattle.std.proofs.Common.{◌≡◌, ℕ, suc, ◌+◌, ◌<◌, List, [], ◌∷◌, ◌++◌, length, Option, Some, None, Result, Ok, Err, refl, sym, ap, ◌∙◌, subst, append_assoc, arith}
+use Rattle.std.proofs.Common.{◌≡◌, ℕ, suc, ◌+◌, ◌<◌, ◌≤◌, List, [], ◌∷◌, ◌++◌, length, Option, Some, None, Result, Ok, Err, refl, sym, ap, ◌∙◌, subst, append_assoc, arith}
 use mathlib.Core.Logic.{inl, inr}
 use Rattle.std.specs.Prelude.{◌⊎◌, IfSome}
 use Rattle.std.specs.List.{flat_map}
@@ -17,7 +17,11 @@ use Rattle.owner_state.specs.Walking.{StopsAt}
 use Rattle.owner_state.proofs.SlotLaws.{AreSlots, fails_behind, fails_inside}
 use Rattle.connections.specs.declared.serve_fault.ServeFault.{ServeFault}
 use Rattle.connections.specs.declared.serve_fault.ServeFault.TheVariants as fault
+use Rattle.link_frames.specs.declared.end.End.{End}
+use Rattle.connections.specs.Serving.{AreServedKnown, CountsEach}
+use Rattle.owner_session.proofs.SessionLaws.{rose_later}
 use Rattle.vo_store.specs.StoreState.{StoreState}
+use Rattle.vo_wire.specs.Answering.{next_after, reply_to}
 use Rattle.vo_commands.specs.declared.report.Stop.{Stop}
 use Rattle.vo_commands.specs.declared.report.Stop.TheVariants.{Refused, Outside, Memory}
 use Rattle.vo_commands.specs.Expected.{Expected, IsUnservableAt}
@@ -66,6 +70,42 @@ stops_loading key journal es Memory slots stops = tt
 
 -- Ends.
 
+-- connections that were served behind a call that made none
+counts_before : (ends : List End) (old mid new : ℕ) → old ≤ mid → CountsEach ends mid new → CountsEach ends old new
+counts_before [] old mid new first counts = omega (arith, first, counts)
+counts_before (end ∷ ends) old mid new first counts = (
+  counts.0,
+  record {
+    rise = omega (arith, first, counts.1.rise);
+    cause = λ e. rose_later old mid counts.0 first (counts.1.cause e);
+  },
+  counts.2,
+)
+
+net_later : (count : ℕ) (N M OutRose : Type 0) → (M → N) → (r : Result (Unit {0}) ServeFault) (status : ℕ) (written after : Option (List ℕ))
+    → EndsServing count r M OutRose status written after → EndsServing count r N OutRose status written after
+net_later count N M OutRose wider (Ok done) status written after ends = ends
+net_later count N M OutRose wider (Err fault.Network) status written after ends = (wider ends.0, ends.1)
+net_later count N M OutRose wider (Err fault.Output) status written after ends = ends
+net_later count N M OutRose wider (Err fault.Memory) status written after ends = ends
+
+pub served_behind : (s : StoreState) (count : ℕ) (N M OutRose : Type 0) (status old mid more : ℕ) (wire opened later : Option ConnectionModel)
+    (before after : Option (List ℕ)) → (M → N) → old ≤ mid → opened ≡ wire
+    → IsServedFrom s count M OutRose status mid more opened later before after
+    → IsServedFrom s count N OutRose status old more wire later before after
+served_behind s count N M OutRose status old mid more wire opened later before after wider first same served = record {
+  new = served.new;
+  result = served.result;
+  written = served.written;
+  serves = record {
+    ends = served.serves.ends;
+    lines = served.serves.lines;
+    known = subst (λ (o : Option ConnectionModel). AreServedKnown reply_to next_after served.serves.ends s served.new o later) same served.serves.known;
+    counts = counts_before served.serves.ends old mid more first served.serves.counts;
+  };
+  ends = net_later count N M OutRose wider served.result status served.written after served.ends;
+}
+
 module _ (files_rose net_rose out_rose : Type 0) (status faults more : ℕ) (wire later : Option ConnectionModel) (before after : Option (List ℕ)) where
   ends_so : (count : ℕ) (r : Result (Unit {0}) ServeFault) (written : Option (List ℕ)) → EndsServing count r net_rose out_rose status written after
       → EndsServing count r (files_rose ⊎ net_rose) out_rose status written after
@@ -85,27 +125,27 @@ module _ (files_rose net_rose out_rose : Type 0) (status faults more : ℕ) (wir
   }
 
   by_store : (expected : Expected) (s : StoreState) (count : ℕ) → Loads expected count (Ok s)
-      → FailsToListen net_rose out_rose status before after ⊎ IsServedFrom s count net_rose out_rose status faults more wire later before after
+      → FailsToListen net_rose out_rose status wire later before after ⊎ IsServedFrom s count net_rose out_rose status faults more wire later before after
       → ServeEnds expected (files_rose ⊎ net_rose) out_rose status faults more wire later before after
-  by_store expected s count loads (inl fails) = inl (inr (inr (inr fails.0, fails.1)))
+  by_store expected s count loads (inl fails) = inl (inr (inr (inr fails.0, fails.2)), fails.1)
   by_store expected s count loads (inr served) =
       inr (subst (λ x. IsServedBy x (files_rose ⊎ net_rose) out_rose status faults more wire later before after) (sym loads.2) (s, loads.3, served_so s count served))
 
   pub ends_by_store : (expected : Files → Expected) (o : Option Files) (s : StoreState) (count : ℕ) → IfSome o (λ known. Loads (expected known) count (Ok s))
-      → FailsToListen net_rose out_rose status before after ⊎ IsServedFrom s count net_rose out_rose status faults more wire later before after
+      → FailsToListen net_rose out_rose status wire later before after ⊎ IsServedFrom s count net_rose out_rose status faults more wire later before after
       → IfSome o (λ known. ServeEnds (expected known) (files_rose ⊎ net_rose) out_rose status faults more wire later before after)
   ends_by_store expected None s count loads ends = tt
   ends_by_store expected (Some known) s count loads ends = by_store (expected known) s count loads ends
 
   by_stop : (expected : Expected) (stop : Stop) (count : ℕ) → Loads expected count (Err stop) → (stop ≡ Outside → files_rose)
-      → WritesOutcome (Err stop) out_rose status before after
+      → later ≡ wire → WritesOutcome (Err stop) out_rose status before after
       → ServeEnds expected (files_rose ⊎ net_rose) out_rose status faults more wire later before after
-  by_stop expected (Refused report) count loads rose wrote = inl (inr (inl (output_of report, loads, wrote)))
-  by_stop expected Outside count loads rose wrote = inl (inr (inr (inl (rose refl), wrote)))
-  by_stop expected Memory count loads rose wrote = inl (inl wrote)
+  by_stop expected (Refused report) count loads rose same wrote = inl (inr (inl (output_of report, loads, wrote)), same)
+  by_stop expected Outside count loads rose same wrote = inl (inr (inr (inl (rose refl), wrote)), same)
+  by_stop expected Memory count loads rose same wrote = inl (inl wrote, same)
 
   pub ends_by_stop : (expected : Files → Expected) (o : Option Files) (stop : Stop) (count : ℕ) → IfSome o (λ known. Loads (expected known) count (Err stop))
-      → (stop ≡ Outside → files_rose) → WritesOutcome (Err stop) out_rose status before after
+      → (stop ≡ Outside → files_rose) → later ≡ wire → WritesOutcome (Err stop) out_rose status before after
       → IfSome o (λ known. ServeEnds (expected known) (files_rose ⊎ net_rose) out_rose status faults more wire later before after)
-  ends_by_stop expected None stop count loads rose wrote = tt
-  ends_by_stop expected (Some known) stop count loads rose wrote = by_stop (expected known) stop count loads rose wrote
+  ends_by_stop expected None stop count loads rose same wrote = tt
+  ends_by_stop expected (Some known) stop count loads rose same wrote = by_stop (expected known) stop count loads rose same wrote

@@ -1,5 +1,5 @@
 -- What a run of the program must print, by its words and by the files that it takes.
-use Rattle.std.specs.Prelude.{◌≡◌, ◌⊎◌, ℕ, Bool, true, false, ◌&&◌, ◌==◌, nat_lt, if◌then◌else◌, List, [], ◌∷◌, length, take, drop, codes, decimal, Option, Some, None, option_map, option_and_then, is_some, IsSome, slice_index, Result}
+use Rattle.std.specs.Prelude.{◌≡◌, ◌⊎◌, ℕ, Bool, true, false, ◌&&◌, ◌==◌, nat_lt, if◌then◌else◌, List, [], ◌∷◌, length, take, drop, codes, decimal, Option, Some, None, option_map, is_some, IsSome, IfSome, IsTrue, slice_index, Result}
 use Rattle.std.specs.Option.{option_map_or}
 use Rattle.std.specs.Str.{is_utf8}
 use Rattle.outside.specs.Shelf.{Files}
@@ -41,7 +41,7 @@ use Rattle.vo_commands.specs.Texts.{IsQueryText, IsRefusedQuery, IsRefusedScript
 -- These lines; or what is expected of the query or the script that a text is; or what a relation
 -- allows: the reply to a query by a journal, what a client or an auditor answers to one, what two
 -- replies are to each other, and why no store of a journal serves connections; or, with no lines of
--- its own, that an owner of a key commits batches.
+-- its own, that an owner of a key commits batches; or anything, where the network isn't known.
 pub data Expected : Type 0 where
   Exactly : (output : Output) → Expected
   OfQuery : (text : List ℕ) (rest : Query → Expected) → Expected
@@ -52,6 +52,7 @@ pub data Expected : Type 0 where
   Meets : (key : List ℕ) (q : Query) (first second : List ℕ) → Expected
   Serves : (key journal : List ℕ) (count : ℕ) → Expected
   Owns : (secret : Secret) (batches : List Batch) → Expected
+  Anything : Expected
 
 -- the reply of a store, where it isn't over the limit
 abbrev pub reply_output : List ℕ → Output
@@ -92,6 +93,7 @@ Allows (Meets key q first second) output =
 Allows (Serves key journal count) output =
     (index : ℕ) × IsUnservableAt key journal index × (output ≡ bad_journal index)
 Allows (Owns secret batches) output = ⊥
+Allows Anything output = Unit {0}
 
 abbrev pub words_refusal : Output
 words_refusal = input_refusal (codes "words" ∷ [])
@@ -184,13 +186,15 @@ with_answer Ended rest = Exactly (cut_off 0)
 with_answer (Cut got) rest = Exactly (cut_off got)
 with_answer (Bad length taken) rest = Exactly (bad_frame length)
 
--- on the first of the connections to come, each by the bytes to come on it; without one it fails
-abbrev pub with_connection : List (List ℕ) → (List ℕ → Expected) → Expected
-with_connection [] rest = Exactly outside_failure
-with_connection (coming ∷ queue) rest = rest coming
+-- on the first of the connections to come, where these are known, each by the bytes to come on it;
+-- without one it fails
+abbrev pub with_connection : Option (List (List ℕ)) → (List ℕ → Expected) → Expected
+with_connection None rest = Anything
+with_connection (Some []) rest = Exactly outside_failure
+with_connection (Some (coming ∷ queue)) rest = rest coming
 
 -- on the reply that a store sends there
-abbrev pub with_reply : List (List ℕ) → (List ℕ → Expected) → Expected
+abbrev pub with_reply : Option (List (List ℕ)) → (List ℕ → Expected) → Expected
 with_reply queue rest =
     with_connection queue (λ coming. with_answer (first_frame ReplyAwaited coming) rest)
 
@@ -212,7 +216,7 @@ check_expected key query reply least files =
     with_key files key
     (λ k. OfQuery query (λ q. with_file files reply reply_limit (λ r. Checks k least q r)))
 
-abbrev pub ask_expected : List ℕ → List ℕ → ℕ → Files → List (List ℕ) → Expected
+abbrev pub ask_expected : List ℕ → List ℕ → ℕ → Files → Option (List (List ℕ)) → Expected
 ask_expected key query least files queue =
     with_key files key (λ k. OfQuery query (λ q. with_reply queue (λ r. Checks k least q r)))
 
@@ -226,8 +230,8 @@ meet_expected key query first second files =
     with_key files key (λ k. OfQuery query (λ q. with_file files first reply_limit (λ r.
     with_file files second reply_limit (λ s. Meets k q r s))))
 
--- where the files are known, and for `ask` the connections to come; what `own` and `serve` come to
--- is told apart, since they write as they work
+-- where the files are known; what `own` and `serve` come to is told apart, since they write as they
+-- work
 abbrev pub command_expected : PlainRequest → Option Files → Option (List (List ℕ))
     → Option Expected
 command_expected (Keygen seed height) files queue = option_map (keygen_expected seed height) files
@@ -239,8 +243,8 @@ command_expected (Answer key journal query) files queue =
 command_expected (Serve address key journal count) files queue = None
 command_expected (Check key query reply least) files queue =
     option_map (check_expected key query reply least) files
-command_expected (Ask address key query least) files queue = option_and_then
-    (λ queue. option_map (λ files. ask_expected key query least files queue) files) queue
+command_expected (Ask address key query least) files queue =
+    option_map (λ files. ask_expected key query least files queue) files
 command_expected (Audit key journal query reply) files queue =
     option_map (audit_expected key journal query reply) files
 command_expected (Meet key query first second) files queue =
@@ -256,19 +260,36 @@ abbrev pub expected_of : Option PlainRequest → Option Files → Option (List (
 expected_of None files queue = Some (Exactly words_refusal)
 expected_of (Some request) files queue = command_expected request files queue
 
--- A command may make no connection and leave the network; or it makes one, on which it puts a
--- frame, or a front of it, and takes bytes only once all of the frame was put.
-abbrev pub AsksOnly : List ℕ → ConnectionModel → Option ConnectionModel → Type 0
-AsksOnly frame before after =
-    (after ≡ Some before) ⊎ IsHalfAsked frame (open_next before) after
+-- A command may make no connection and leave the network; or, where it is good for this, it makes
+-- one. There it puts a frame, or a front of it, and takes bytes only once all of the frame was put,
+-- and none behind the answer that comes first.
+abbrev pub AsksWhere : Type 0 → List ℕ → ConnectionModel → Option ConnectionModel → Type 0
+AsksWhere Good frame before after = (after ≡ Some before)
+    ⊎ (Good × IsHalfAsked frame (first_frame ReplyAwaited (open_next before).coming)
+    (open_next before) after)
 
--- what a command but `own` and `serve` does on the network: it asks its query, or does nothing
-abbrev pub UsesNet : Option PlainRequest → ConnectionModel → Option ConnectionModel → Type 0
-UsesNet (Some (Own seed address script height)) before after = Unit {0}
-UsesNet (Some (Serve address key journal count)) before after = Unit {0}
-UsesNet (Some (Ask address key query least)) before after =
-    AsksOnly (frame_bytes QueryFrame query) before after
-UsesNet _ before after = after ≡ Some before
+-- the same of any command
+abbrev pub AsksOnly : List ℕ → ConnectionModel → Option ConnectionModel → Type 0
+AsksOnly frame before after = AsksWhere (Unit {0}) frame before after
+
+-- a file of this name, if the files are known, is a public key
+abbrev pub IsKeyFile : List ℕ → Option Files → Type 0
+IsKeyFile name files = IfSome files
+    (λ known. (key : List ℕ) × (known name ≡ Some key) × IsTrue (is_public_key key))
+
+-- the text is a query
+abbrev pub HasQuery : List ℕ → Type 0
+HasQuery text = (q : Query) × IsQueryText text q
+
+-- what a command but `own` and `serve` does on the network: it asks its query, if that is one and
+-- the key is one, or does nothing
+abbrev pub UsesNet : Option PlainRequest → Option Files → ConnectionModel → Option ConnectionModel
+    → Type 0
+UsesNet (Some (Own seed address script height)) files before after = Unit {0}
+UsesNet (Some (Serve address key journal count)) files before after = Unit {0}
+UsesNet (Some (Ask address key query least)) files before after =
+    AsksWhere (IsKeyFile key files × HasQuery query) (frame_bytes QueryFrame query) before after
+UsesNet _ files before after = after ≡ Some before
 
 -- a command that makes or takes connections
 abbrev pub uses_net : Option PlainRequest → Bool

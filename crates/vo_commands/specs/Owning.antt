@@ -164,29 +164,31 @@ CommitsOnline batches NetRose DiskRose OutRose status held es drive before wire 
     ⊎ ((later : ConnectionModel) × (wire ≡ Some later) × Commits batches NetRose DiskRose OutRose
     status held es drive (open_next before) later written after)
 
--- no owner stands behind the journal, or one does, which goes on
+-- No owner stands behind the journal, and the network is as it was; or one does, which goes on,
+-- where the network is known.
 abbrev pub CommitsFrom : Secret → List Batch → Type 0 → Type 0 → Type 0 → ℕ → Option DiskModel
-    → Option DiskModel → ConnectionModel → Option ConnectionModel → Option (List ℕ)
+    → Option DiskModel → Option ConnectionModel → Option ConnectionModel → Option (List ℕ)
     → Option (List ℕ) → Type 0
-CommitsFrom secret batches NetRose DiskRose OutRose status drive later_drive before wire written
-    after =
+CommitsFrom secret batches NetRose DiskRose OutRose status drive later_drive wire later_wire
+    written after =
     ((stop : Stop) × StopsOpening secret drive stop × (stop ≡ Outside → DiskRose)
-    × IfKnown drive later_drive (LeavesAsBefore secret) × (wire ≡ Some before)
+    × IfKnown drive later_drive (LeavesAsBefore secret) × (later_wire ≡ wire)
     × WritesOutcome (Err stop) OutRose status written after)
     ⊎ ((held : Held) × (es : List Entry) × (opened : Option DiskModel)
     × Opens secret drive opened held es
-    × CommitsOnline batches NetRose DiskRose OutRose status held es later_drive before wire written
-    after)
+    × ((before : ConnectionModel) → wire ≡ Some before
+    → CommitsOnline batches NetRose DiskRose OutRose status held es later_drive before later_wire
+    written after))
 
 -- What a run of `own` ends with: an expected output, and disk and network are as they were; or the
 -- batches were to be committed.
 abbrev pub OwnEnds : Expected → Type 0 → Type 0 → Type 0 → Type 0 → ℕ → Option DiskModel
-    → Option DiskModel → ConnectionModel → Option ConnectionModel → Option (List ℕ)
+    → Option DiskModel → Option ConnectionModel → Option ConnectionModel → Option (List ℕ)
     → Option (List ℕ) → Type 0
-OwnEnds expected FilesRose NetRose DiskRose OutRose status drive later_drive before wire written
-    after =
+OwnEnds expected FilesRose NetRose DiskRose OutRose status drive later_drive wire later_wire
+    written after =
     (Ends expected FilesRose OutRose status written after × (later_drive ≡ drive)
-    × (wire ≡ Some before))
+    × (later_wire ≡ wire))
     ⊎ ((secret : Secret) × (batches : List Batch) × IsCommitment expected secret batches
-    × CommitsFrom secret batches NetRose DiskRose OutRose status drive later_drive before wire
+    × CommitsFrom secret batches NetRose DiskRose OutRose status drive later_drive wire later_wire
     written after)

@@ -74,10 +74,11 @@ EndsServing count (Err fault.Output) net_rose out_rose status written after =
 EndsServing count (Err fault.Memory) net_rose out_rose status written after =
     (status ≡ 4) × (after ≡ written)
 
--- nobody could listen
-abbrev pub FailsToListen : Type 0 → Type 0 → ℕ → Option (List ℕ) → Option (List ℕ) → Type 0
-FailsToListen net_rose out_rose status before after =
-    net_rose × Writes outside_failure out_rose status before after
+-- nobody could listen, and so no connection was taken
+abbrev pub FailsToListen : Type 0 → Type 0 → ℕ → Option ConnectionModel → Option ConnectionModel
+    → Option (List ℕ) → Option (List ℕ) → Type 0
+FailsToListen net_rose out_rose status wire later before after =
+    net_rose × (later ≡ wire) × Writes outside_failure out_rose status before after
 
 -- Connections were served from this state, and the run ended so.
 pub record IsServedFrom (old : StoreState) (count : ℕ) (net_rose out_rose : Type 0)
@@ -98,10 +99,10 @@ IsServedBy (Serves key journal count) net_rose out_rose status faults more wire 
     × IsServedFrom s count net_rose out_rose status faults more wire later before after
 IsServedBy expected net_rose out_rose status faults more wire later before after = ⊥
 
--- What a run of `serve` ends with: an expected output, before a connection is served; or
--- connections were.
+-- What a run of `serve` ends with: an expected output, and no connection was taken, so nothing was
+-- put or taken on one; or connections were served.
 abbrev pub ServeEnds : Expected → Type 0 → Type 0 → ℕ → ℕ → ℕ → Option ConnectionModel
     → Option ConnectionModel → Option (List ℕ) → Option (List ℕ) → Type 0
 ServeEnds expected outside_rose out_rose status faults more wire later before after =
-    Ends expected outside_rose out_rose status before after
+    (Ends expected outside_rose out_rose status before after × (later ≡ wire))
     ⊎ IsServedBy expected outside_rose out_rose status faults more wire later before after

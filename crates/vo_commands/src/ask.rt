@@ -6,7 +6,7 @@ ghost use Rattle.link_frames.specs.Reading.{KeepsNetCounts};
 ghost use Rattle.link_frames.specs.declared.frame_kind.FrameKind.TheVariants.{Query};
 ghost use Rattle.link_frames.specs.Frames.{frame_bytes, max_query};
 ghost use Rattle.vo_spec.specs.Conditions.{query_of};
-ghost use Rattle.vo_commands.specs.Expected.{AsksOnly, Checks, OfQuery, ask_expected, with_reply};
+ghost use Rattle.vo_commands.specs.Expected.{AsksOnly, AsksWhere, Checks, HasQuery, IsKeyFile, OfQuery, ask_expected, queue_of, with_reply};
 ghost use Rattle.vo_commands.specs.Reports.{Answers, FailsOutside};
 ghost use Rattle.vo_commands.specs.Taking.{LeavesFiles, SomeOf};
 
@@ -32,11 +32,11 @@ pub fn ask<F: Shelf, N: Net>(
     query: &str,
     least: u64,
 ) -> Result<Report, Stop>
-    ensures known { (before : ConnectionModel) → N.wire net.old ≡ Some before
-        → IfSome (F.contents files.old) (λ known.
-        Answers (ask_expected key.now query.now least known before.queue) result) }
+    ensures known { IfSome (F.contents files.old) (λ known.
+        Answers (ask_expected key.now query.now least known (queue_of (N.wire net.old))) result) }
     ensures asks { (before : ConnectionModel) → N.wire net.old ≡ Some before
-        → AsksOnly (frame_bytes Query query.now) before (N.wire net.new) }
+        → AsksWhere (IsKeyFile key.now (F.contents files.old) × HasQuery query.now)
+        (frame_bytes Query query.now) before (N.wire net.new) }
     ensures files { LeavesFiles F.contents F.faults F.misses (SomeOf (key.now ∷ [])) files.old
         files.new }
 
@@ -60,11 +60,10 @@ fn ask_by_key<N: Net>(
     query: &str,
     least: u64,
 ) -> Result<Report, Stop>
-    ensures known { (before : ConnectionModel) → N.wire net.old ≡ Some before
-        → Answers (OfQuery query.now (λ q. with_reply before.queue
+    ensures known { Answers (OfQuery query.now (λ q. with_reply (queue_of (N.wire net.old))
         (λ reply. Checks key least q reply))) result }
     ensures asks { (before : ConnectionModel) → N.wire net.old ≡ Some before
-        → AsksOnly (frame_bytes Query query.now) before (N.wire net.new) }
+        → AsksWhere (HasQuery query.now) (frame_bytes Query query.now) before (N.wire net.new) }
 
     ensures counts { KeepsNetCounts N.wire N.faults N.misses net.old net.new
         (FailsOutside result) }
@@ -89,7 +88,7 @@ fn ask_store<N: Net>(
     requires some { 1 ≤ length text.now }
     requires fits { length text.now ≤ max_query }
     ensures known { (before : ConnectionModel) → N.wire net.old ≡ Some before
-        → Answers (with_reply before.queue
+        → Answers (with_reply (Some before.queue)
         (λ reply. Checks key least (query_of query.now) reply)) result }
     ensures asks { (before : ConnectionModel) → N.wire net.old ≡ Some before
         → AsksOnly (frame_bytes Query text.now) before (N.wire net.new) }

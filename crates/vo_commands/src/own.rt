@@ -41,15 +41,13 @@ pub fn own<F: Shelf, D: Disk, N: Net, S: Sink>(
     out: &mut S,
     commitment: &Commitment<'_>,
 ) -> u8
-    ensures ends { IfSome (F.contents files.old) (λ known. (before : ConnectionModel)
-        → N.wire net.old ≡ Some before
-        → OwnEnds (commitment_expected commitment.now.seed.now commitment.now.script.now
+    ensures ends { IfSome (F.contents files.old) (λ known. OwnEnds (commitment_expected commitment.now.seed.now commitment.now.script.now
         (number_of commitment.now.height) known)
         (FaultRose (F.faults files.old) (F.faults files.new))
         (FaultRose (N.faults net.old) (N.faults net.new))
         (FaultRose (D.faults disk.old) (D.faults disk.new))
         (FaultRose (S.faults out.old) (S.faults out.new)) result
-        (D.drive disk.old) (D.drive disk.new) before (N.wire net.new)
+        (D.drive disk.old) (D.drive disk.new) (N.wire net.old) (N.wire net.new)
         (S.written out.old) (S.written out.new)) }
     ensures files { LeavesFiles F.contents F.faults F.misses
         (SomeOf (commitment.now.seed.now ∷ commitment.now.script.now ∷ [])) files.old files.new }
@@ -78,14 +76,12 @@ fn own_with_key<F: Shelf, D: Disk, N: Net, S: Sink>(
     out: &mut S,
     commitment: &Commitment<'_>,
 ) -> u8
-    ensures ends { IfSome (F.contents files.old) (λ known. (before : ConnectionModel)
-        → N.wire net.old ≡ Some before
-        → OwnEnds (with_file known commitment.now.script.now script_limit (commitment_in key.now))
+    ensures ends { IfSome (F.contents files.old) (λ known. OwnEnds (with_file known commitment.now.script.now script_limit (commitment_in key.now))
         (FaultRose (F.faults files.old) (F.faults files.new))
         (FaultRose (N.faults net.old) (N.faults net.new))
         (FaultRose (D.faults disk.old) (D.faults disk.new))
         (FaultRose (S.faults out.old) (S.faults out.new)) result
-        (D.drive disk.old) (D.drive disk.new) before (N.wire net.new)
+        (D.drive disk.old) (D.drive disk.new) (N.wire net.old) (N.wire net.new)
         (S.written out.old) (S.written out.new)) }
     ensures files { LeavesFiles F.contents F.faults F.misses (One commitment.now.script.now)
         files.old files.new }
@@ -143,11 +139,10 @@ fn commit<D: Disk, N: Net, S: Sink>(
     address: &str,
 ) -> u8
     requires { All (λ batch. FitsBatch batch.commands) batches.now }
-    ensures ends { (before : ConnectionModel) → N.wire net.old ≡ Some before
-        → CommitsFrom key.now batches.now (FaultRose (N.faults net.old) (N.faults net.new))
+    ensures ends { CommitsFrom key.now batches.now (FaultRose (N.faults net.old) (N.faults net.new))
         (FaultRose (D.faults disk.old) (D.faults disk.new))
         (FaultRose (S.faults out.old) (S.faults out.new)) result
-        (D.drive disk.old) (D.drive disk.new) before (N.wire net.new)
+        (D.drive disk.old) (D.drive disk.new) (N.wire net.old) (N.wire net.new)
         (S.written out.old) (S.written out.new) }
 
     ensures outside { result ≡ 3

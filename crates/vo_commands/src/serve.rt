@@ -127,7 +127,7 @@ fn serve_store<N: Net, S: Sink>(
 ) -> u8
     ensures ends { FailsToListen (FaultRose (N.faults net.old) (N.faults net.new))
         (FaultRose (S.faults out.old) (S.faults out.new)) result
-        (S.written out.old) (S.written out.new)
+        (N.wire net.old) (N.wire net.new) (S.written out.old) (S.written out.new)
         ⊎ IsServedFrom store.old count (FaultRose (N.faults net.old) (N.faults net.new))
         (FaultRose (S.faults out.old) (S.faults out.new)) result
         (N.faults net.old) (N.faults net.new) (N.wire net.old) (N.wire net.new)

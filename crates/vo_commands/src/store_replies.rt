@@ -28,7 +28,7 @@ pub fn feed_reply<N: Net>(
     requires some { 1 ≤ length query.now }
     requires fits { length query.now ≤ max_query }
     ensures known { (before : ConnectionModel) → N.wire net.old ≡ Some before
-        → GoesOn (λ _. checking.new.bytes) (with_reply before.queue) result }
+        → GoesOn (λ _. checking.new.bytes) (with_reply (Some before.queue)) result }
     ensures asks { (before : ConnectionModel) → N.wire net.old ≡ Some before
         → AsksOnly (frame_bytes Query query.now) before (N.wire net.new) }
     ensures short { OnOk result (length checking.new.bytes < 2 ^ 32) }

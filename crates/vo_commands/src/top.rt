@@ -1,5 +1,5 @@
 //! The top call.
-ghost use Rattle.std.specs.Prelude.{◌≡◌, ◌⊎◌, ◌≤◌, false, length, map, string_bytes, Some, IfSome};
+ghost use Rattle.std.specs.Prelude.{◌≡◌, ◌⊎◌, ◌≤◌, false, length, map, string_bytes, Some, None, IfSome};
 ghost use Rattle.outside.specs.ConnectionModel.{ConnectionModel};
 ghost use Rattle.outside.specs.FaultRose.{FaultRose};
 ghost use Rattle.vo_words.specs.PlainRequest.{request_in};
@@ -39,8 +39,8 @@ pub fn run<F: Shelf, D: Disk, N: Net, S: Sink>(
     net: &mut N,
     out: &mut S,
 ) -> u8
-    // Where the contents of the files are known, and for a command that asks the connections to
-    // come, it ends with the expected output, or a fault rose, or memory ran out.
+    // Where the contents of the files are known, it ends with the expected output, or a fault rose,
+    // or memory ran out; of `ask` by the connections to come too, where these are known.
     ensures lines { IfSome (expected_of (request_in (map string_bytes words.now))
         (F.contents files.old) (queue_of (N.wire net.old)))
         (λ expected. Ends expected (FaultRose (F.faults files.old) (F.faults files.new)
@@ -62,25 +62,26 @@ pub fn run<F: Shelf, D: Disk, N: Net, S: Sink>(
         (FaultRose (S.faults out.old) (S.faults out.new)) result
         (N.faults net.old) (N.faults net.new) (N.wire net.old) (N.wire net.new)
         (S.written out.old) (S.written out.new)) }
-    // Where the network is known too, `own` ends so.
+    // So does `own`.
     ensures owns { IfSome (own_expected (request_in (map string_bytes words.now))
         (F.contents files.old))
-        (λ expected. (before : ConnectionModel) → N.wire net.old ≡ Some before
-        → OwnEnds expected (FaultRose (F.faults files.old) (F.faults files.new))
+        (λ expected. OwnEnds expected (FaultRose (F.faults files.old) (F.faults files.new))
         (FaultRose (N.faults net.old) (N.faults net.new))
         (FaultRose (D.faults disk.old) (D.faults disk.new))
         (FaultRose (S.faults out.old) (S.faults out.new)) result
-        (D.drive disk.old) (D.drive disk.new) before (N.wire net.new)
+        (D.drive disk.old) (D.drive disk.new) (N.wire net.old) (N.wire net.new)
         (S.written out.old) (S.written out.new)) }
 
-    // What it does to the outside.
+    // What it does to the outside: words that ask for nothing leave all but the output.
+    ensures refused { request_in (map string_bytes words.now) ≡ None → files.new ≡ files.old }
     ensures files { F.contents files.new ≡ F.contents files.old }
     ensures disk { uses_disk (request_in (map string_bytes words.now)) ≡ false
         → disk.new ≡ disk.old }
     ensures net { uses_net (request_in (map string_bytes words.now)) ≡ false
         → net.new ≡ net.old }
     ensures asks { (before : ConnectionModel) → N.wire net.old ≡ Some before
-        → UsesNet (request_in (map string_bytes words.now)) before (N.wire net.new) }
+        → UsesNet (request_in (map string_bytes words.now)) (F.contents files.old) before
+        (N.wire net.new) }
 
     // What is there is not missed.
     ensures misses { IfSome (F.contents files.old) (λ known.
@@ -123,7 +124,8 @@ fn run_command<F: Shelf, N: Net>(
         (SomeOf (files_of_request (plain_command command.entry))) files.old files.new }
     ensures net { uses_net (Some (plain_command command.entry)) ≡ false → net.new ≡ net.old }
     ensures asks { (before : ConnectionModel) → N.wire net.old ≡ Some before
-        → UsesNet (Some (plain_command command.entry)) before (N.wire net.new) }
+        → UsesNet (Some (plain_command command.entry)) (F.contents files.old) before
+        (N.wire net.new) }
 
     ensures net_counts { N.faults net.old ≤ N.faults net.new }
     ensures cause { FailsOutside result

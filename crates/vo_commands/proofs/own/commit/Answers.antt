@@ -7,7 +7,6 @@ use Rattle.vo_commands.proofs.own.commit.Goals as goal
 
 pub returns-in-Ok-clause-ends : goal.returns-in-Ok-clause-ends
 returns-in-Ok-clause-ends g c =
-    λ before is.
     let opened = c.in-Ok.opened in
     let faults = g.D.Disk.faults c.open_owner.new.disk in
     let NetRose = FaultRose (g.N.Link.faults c.args.net.now) (g.N.Link.faults c.commit_online.new.net) in
@@ -16,7 +15,8 @@ returns-in-Ok-clause-ends g c =
       entries_of opened.journal,
       g.D.Disk.drive c.open_owner.new.disk,
       c.in-Ok.ensures.opened,
-      online_later c.args.batches.now NetRose NetRose (FaultRose faults (g.D.Disk.faults c.commit_online.new.disk))
+      λ before is.
+          online_later c.args.batches.now NetRose NetRose (FaultRose faults (g.D.Disk.faults c.commit_online.new.disk))
           (FaultRose (g.D.Disk.faults c.args.disk.now) (g.D.Disk.faults c.commit_online.new.disk))
           (FaultRose (g.S.Sink.faults c.args.out.now) (g.S.Sink.faults c.commit_online.new.out)) (λ rose. rose)
           (rose_later (g.D.Disk.faults c.args.disk.now) faults (g.D.Disk.faults c.commit_online.new.disk) c.in-Ok.ensures.counts)

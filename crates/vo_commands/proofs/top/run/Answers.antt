@@ -22,4 +22,4 @@ pub returns-in-Err-clause-owns : goal.returns-in-Err-clause-owns
 returns-in-Err-clause-owns g c = own_ends_empty _ _ _ _ _ _ _ _
 
 pub returns-in-Err-clause-asks : goal.returns-in-Err-clause-asks
-returns-in-Err-clause-asks g c = λ before is. asks_nothing _ before _ is
+returns-in-Err-clause-asks g c = λ before is. asks_nothing _ _ before _ is
