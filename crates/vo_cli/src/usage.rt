@@ -1,4 +1,7 @@
 //! The commands, for who has asked for none of them.
+ghost use Rattle.std.specs.Prelude.{◌≡◌, map, string_bytes, None, IsTrue, IfOk};
+ghost use Rattle.vo_words.specs.PlainRequest.{request_in};
+
 use std::alloc::Global;
 use std::io::{self, ErrorKind};
 use vo_words::read_words;
@@ -20,7 +23,10 @@ COUNT is at least 1; H is 5, the default, or 10; V is the last version seen, or 
 ";
 
 /// Whether the words of the command line ask for nothing.
-pub fn are_refused(alloc: Global, words: &io::Result<Vec<String>>) -> bool {
+pub fn are_refused(alloc: Global, words: &io::Result<Vec<String>>) -> bool
+    ensures { IfOk words.now (λ words. IsTrue result
+        → request_in (map string_bytes words.items) ≡ None) }
+{
     match words {
         Ok(words) => matches!(read_words(alloc, words), Ok(None)),
         Err(error) => error.kind() != ErrorKind::OutOfMemory,
