@@ -27,12 +27,12 @@ not_found (Some pair) fact Are e h = absurd (cc)
 pub found_of_part : (found : Found) (part fact : Type 0) (Are All : OfStrings) → (fact → part) → ((x y : List ℕ) → Are x y → All x y) → is_some found ≡ true
     → HoldsOrCollides found part Are → HoldsOrCollides found fact All
 found_of_part None part fact Are All f g e h = absurd (cc)
-found_of_part (Some pair) part fact Are All f g e h = ((λ x. h.0 (f x)), h.1.0, g pair.0 pair.1 h.1.1)
+found_of_part (Some pair) part fact Are All f g e h = ((λ x. h.0 (f x)), h.1, g pair.0 pair.1 h.2)
 
 pub found_as : {E : Type 0} (r : Result Found E) (part fact : Type 0) (Are All : OfStrings) → (part → fact) → (fact → part) → ((x y : List ℕ) → Are x y → All x y)
     → IfOk r (λ found. HoldsOrCollides found part Are) → IfOk r (λ found. HoldsOrCollides found fact All)
 found_as (Ok None) part fact Are All f g k h = f h
-found_as (Ok (Some pair)) part fact Are All f g k h = ((λ x. h.0 (g x)), h.1.0, k pair.0 pair.1 h.1.1)
+found_as (Ok (Some pair)) part fact Are All f g k h = ((λ x. h.0 (g x)), h.1, k pair.0 pair.1 h.2)
 found_as (Err e) part fact Are All f g k h = tt
 
 -- Catalogs.
