@@ -18,7 +18,7 @@ use Rattle.vo_spec.specs.Parts.{entries}
 use Rattle.vo_spec.specs.Trees.{RowTree}
 use Rattle.vo_spec.specs.Scans.{seen}
 use Rattle.vo_spec.specs.Pruning.{is_missing, prune_tree}
-use Rattle.vo_spec.specs.Needs.{uncut_need, right_needs, same_table, tree_at}
+use Rattle.vo_spec.specs.Needs.{uncut_need, right_needs, same_table}
 use Rattle.vo_spec.specs.Honest.{Stored, catalog_of, stored_tree, pruned_each}
 use Rattle.vo_laws.proofs.NamedFits.{cells_of, named_fits, named_cells_below}
 use Rattle.vo_laws.proofs.ReplyTrees.{pruned_complete}

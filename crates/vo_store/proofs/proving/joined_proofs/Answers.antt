@@ -18,7 +18,7 @@ use Rattle.vo_store.proofs.proving.joined_proofs.Goals as goal
 
 pub needs_by_left-requires : goal.needs_by_left-requires
 needs_by_left-requires c =
-    subst (λ (t : RowTree). seen (plan_need (plan_seen c.args.plan.now) t) t ≡ None → ⊥) (sym c.root.ensures) c.requires.shown
+    record { shown = subst (λ (t : RowTree). seen (plan_need (plan_seen c.args.plan.now) t) t ≡ None → ⊥) (sym c.root-root.ensures.value) c.requires.shown }
 
 pub returns-then-same_table : goal.returns-then-same_table
 returns-then-same_table c =
@@ -26,7 +26,7 @@ returns-then-same_table c =
     let stored = c.args.tables.now in
     let same : same_table (bound_sources_seen c.args.plan.now.query.now.bound_sources) ≡ true = sym c.same_table.ensures ∙ c.if-same_table.true in
     let two : (length (bound_sources_seen c.args.plan.now.query.now.bound_sources) == 1) ≡ false = ap (λ (r : Option HeldBoundSource). length (beside c.args.plan.now.query.now.bound_sources.left r) == 1) c.requires.joined in
-    let root : c.root.result.now ≡ tree_by (plan_seen c.args.plan.now) c.args.tables.now 0 = c.root.ensures ∙ c.requires.tree in
+    let root : c.root-root.result.now ≡ tree_by (plan_seen c.args.plan.now) c.args.tables.now 0 = c.root-root.ensures.value ∙ c.requires.tree in
     let need : c.left_need-need.result.now ≡ left_need_by (plan_seen c.args.plan.now) c.args.tables.now = c.left_need-need.ensures ∙ ap (plan_need (plan_seen c.args.plan.now)) root in
     let rights : c.in_ok-rights.rights.items ≡ right_needs_by (plan_seen c.args.plan.now) c.args.tables.now =
     c.in_ok-rights.ensures ∙ ap (λ (t : RowTree). needs_of (plan_seen c.args.plan.now) (lefts_seen (plan_seen c.args.plan.now) t)) root in
@@ -43,7 +43,7 @@ returns c =
     let stored = c.args.tables.now in
     let apart : same_table (bound_sources_seen c.args.plan.now.query.now.bound_sources) ≡ false = sym c.same_table.ensures ∙ c.if-same_table.false in
     let two : (length (bound_sources_seen c.args.plan.now.query.now.bound_sources) == 1) ≡ false = ap (λ (r : Option HeldBoundSource). length (beside c.args.plan.now.query.now.bound_sources.left r) == 1) c.requires.joined in
-    let root : c.root.result.now ≡ tree_by (plan_seen c.args.plan.now) c.args.tables.now 0 = c.root.ensures ∙ c.requires.tree in
+    let root : c.root-root.result.now ≡ tree_by (plan_seen c.args.plan.now) c.args.tables.now 0 = c.root-root.ensures.value ∙ c.requires.tree in
     let need : c.left_need-need.result.now ≡ left_need_by (plan_seen c.args.plan.now) c.args.tables.now = c.left_need-need.ensures ∙ ap (plan_need (plan_seen c.args.plan.now)) root in
     let rights : c.in_ok-rights.rights.items ≡ right_needs_by (plan_seen c.args.plan.now) c.args.tables.now =
     c.in_ok-rights.ensures ∙ ap (λ (t : RowTree). needs_of (plan_seen c.args.plan.now) (lefts_seen (plan_seen c.args.plan.now) t)) root in

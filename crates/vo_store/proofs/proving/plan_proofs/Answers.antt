@@ -30,7 +30,9 @@ returns-in-None c =
     let p = plan_seen c.args.plan.now in
     let stored = c.args.tables.now in
     let one : (length (bound_sources_seen c.args.plan.now.query.now.bound_sources) == 1) ≡ true = ap (λ (r : Option HeldBoundSource). length (beside c.args.plan.now.query.now.bound_sources.left r) == 1) c.in-None.is in
-    let need : c.left_need.result.now ≡ left_need_by (plan_seen c.args.plan.now) c.args.tables.now = c.left_need.ensures ∙ ap (plan_need (plan_seen c.args.plan.now)) (c.root.ensures ∙ c.tree_of-left.ensures) in
+    let root : c.root.result.now ≡ c.tree_of-left.result.now = c.root.ensures.value in
+    let left : c.root.result.now ≡ tree_by (plan_seen c.args.plan.now) c.args.tables.now 0 = root ∙ c.tree_of-left.ensures in
+    let need : c.left_need.result.now ≡ left_need_by (plan_seen c.args.plan.now) c.args.tables.now = c.left_need.ensures ∙ ap (plan_need (plan_seen c.args.plan.now)) left in
     subst (λ trees. IfOk c.proofs_of_one.result (λ proofs. trees_of proofs ≡ trees))
     (ap (λ (n : Need). prune_tree (n ∷ []) c.tree_of-left.result.now ∷ []) need
     ∙ ap (λ (t : RowTree). prune_tree (left_need_by p stored ∷ []) t ∷ []) c.tree_of-left.ensures
