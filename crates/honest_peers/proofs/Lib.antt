@@ -11,6 +11,7 @@ pub mod Commits
 pub mod Sessions
 pub mod Beginnings
 pub mod OwnRuns
+pub mod Reopenings
 pub mod Readings
 pub mod AnswerLaws
 pub mod OwnedSteps

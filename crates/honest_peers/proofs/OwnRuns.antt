@@ -25,7 +25,7 @@ use Rattle.honest_peers.specs.Owning.{EndsPlainly, IsOwnerAfter, IsStoreWithin, 
 use Rattle.honest_peers.proofs.Trading.{Deeds, OwnInput, OwnWork}
 
 -- the status by what is written last
-abbrev HasStatus : ℕ → Type 0 → ℕ → Type 0
+abbrev pub HasStatus : ℕ → Type 0 → ℕ → Type 0
 HasStatus due Out status = (status ≡ due) ⊎ ((status ≡ 3) × Out) ⊎ (status ≡ 4)
 
 last_status : {Out : Type 0} (output : Output) (status : ℕ) (deeds : Deeds)
@@ -89,7 +89,7 @@ module _ {Net Disk Out : Type 0} (secret : Secret) (law : SessionsEnd)
       step (inr (inl h)) = inl (h.0, rose)
       step (inr (inr h)) = inr (inl h)
 
-  finished : IsOwnerAfter secret batches held es → IsStoreWithin secret batches s → FitEach new
+  pub finished : IsOwnerAfter secret batches held es → IsStoreWithin secret batches s → FitEach new
       → AreServed s work.events before.coming store
       → Finishes work Out status run.runs.deeds start end → Plainly
   finished own within fit served fin =

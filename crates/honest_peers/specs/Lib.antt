@@ -1,5 +1,6 @@
 pub mod Answering
 pub mod Asking
 pub mod Owning
+pub mod Reopening
 pub mod Accepting
 pub mod Crashes

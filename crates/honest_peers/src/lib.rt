@@ -14,5 +14,7 @@ pub use asking::{checks_have_one_answer, loaded_stores_are_honest, questions_are
 pub use crashing::crashes_lose_nothing_released;
 pub use judging::{audits_have_one_verdict, audits_judge_what_clients_accept};
 pub use one_reading::{bytes_have_one_reading, honest_replies_have_one_answer};
-pub use owning::{owners_begin_plainly, owners_end_plainly, sessions_end_plainly};
+pub use owning::{
+    owners_begin_plainly, owners_end_plainly, owners_reopen_plainly, sessions_end_plainly,
+};
 pub use writing::owners_write_what_they_own;

@@ -1,13 +1,14 @@
 //! What an owner's session with an honest store comes to.
 
 ghost use Rattle.std.specs.Prelude.{◌≡◌, ◌⊎◌, ℕ, List, [], ◌∷◌, length, Option, Some};
-ghost use Rattle.outside.specs.ConnectionModel.{ConnectionModel};
+ghost use Rattle.outside.specs.ConnectionModel.{ConnectionModel, open_next};
 ghost use Rattle.outside.specs.DiskModel.{DiskModel};
 ghost use Rattle.outside.specs.FaultRose.{FaultRose};
 ghost use Rattle.vo_spec.specs.declared.records.Entry.{Entry};
 ghost use Rattle.vo_spec.specs.declared.tables.Batch.{Batch};
 ghost use Rattle.vo_spec.specs.declared.tables.Command.{Command};
 ghost use Rattle.vo_spec.specs.Honest.{RepresentTables, honest_trees, seal_batches};
+ghost use Rattle.vo_spec.specs.Journals.{IsJournal};
 ghost use Rattle.vo_spec.specs.Secret.{Secret};
 ghost use Rattle.vo_spec.specs.Tables.{tables_after};
 ghost use Rattle.vo_laws.specs.Sealing.{SignsValidly};
@@ -21,10 +22,12 @@ ghost use Rattle.vo_store.specs.StoreState.{StoreState};
 ghost use Rattle.owner_session.specs.Endings.{Ending};
 ghost use Rattle.owner_session.specs.Runs.{AreJudgements, input_of, snapshot_of};
 ghost use Rattle.owner_session.specs.Work.{Input, session};
+ghost use Rattle.sql_text.specs.Scripts.{IsScript};
 ghost use Rattle.vo_commands.specs.Committing.{IsJudgement, entry_forms};
-ghost use Rattle.vo_commands.specs.Owning.{Commits};
+ghost use Rattle.vo_commands.specs.Owning.{Commits, OwnEnds};
 ghost use Rattle.honest_peers.specs.Answering.{AreServed};
 ghost use Rattle.honest_peers.specs.Owning.{EndsPlainly, IsOwnerAfter, IsStoreWithin, OwnsPlainly};
+ghost use Rattle.honest_peers.specs.Reopening.{EndsOnDisk, ServesScript, owner_expected};
 
 use vo_store::laws::{owners_follow_stores, stores_stay_honest};
 
@@ -72,6 +75,28 @@ pub fn owners_end_plainly()
         AreServed s (session entry_forms held es new input).events before.coming later
         → OwnsPlainly secret batches new (FaultRose net later_net ⊎ FaultRose disk later_disk
         ⊎ FaultRose out later_out) status run.later run.entries later }
+{
+    sessions_end_plainly();
+}
+
+/// And so it is of all of `own` where the plain journal of such an owner is on its disk, and its
+/// script is one, by whatever ended the runs that made that journal: no bad journal is told, and
+/// what is left on the disk then is the owner's journal, which is plain.
+pub fn owners_reopen_plainly()
+    ensures { (secret : Secret) (batches : List (List Command)) (text : List ℕ)
+        (some : List Batch) (files later_files net later_net disk later_disk out later_out : ℕ)
+        (status : ℕ) (held : Held) (es : List Entry) (drive : DiskModel)
+        (later_drive : Option DiskModel) (before : ConnectionModel)
+        (wire : Option ConnectionModel) (written later_written : Option (List ℕ))
+        (s : StoreState) → IsOwnerAfter secret batches held es → IsJournal drive.seen es
+        → IsStoreWithin secret batches s → IsScript text some
+        → ServesScript s held es text (open_next before).coming
+        → OwnEnds (owner_expected secret text) (FaultRose files later_files)
+        (FaultRose net later_net) (FaultRose disk later_disk) (FaultRose out later_out) status
+        (Some drive) later_drive (Some before) wire written later_written
+        → (new : List Batch) × IsScript text new
+        × EndsOnDisk secret batches new (FaultRose files later_files ⊎ FaultRose net later_net
+        ⊎ FaultRose disk later_disk ⊎ FaultRose out later_out) status later_drive }
 {
     sessions_end_plainly();
 }

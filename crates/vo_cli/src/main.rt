@@ -42,7 +42,7 @@ fn words(rt: &(impl Env + AllocGlobal)) -> io::Result<Vec<String>> {
 
 /// Runs the program on the words of the command line, if they could be collected. Words that
 /// aren't text ask for nothing, as no words do.
-#[tactic(auto, using(crate::proofs::NoWords::no_words))]
+#[tactic(auto, using(crate::proofs::NoWords::no_words, crate::proofs::NoWords::no_disk, crate::proofs::NoWords::no_net))]
 fn run_on_words<F: Shelf, D: Disk, N: Net, S: Sink>(
     alloc: Global,
     words: io::Result<Vec<String>>,
@@ -73,6 +73,11 @@ fn run_on_words<F: Shelf, D: Disk, N: Net, S: Sink>(
         (FaultRose (S.faults out.old) (S.faults out.new)) result
         (D.drive disk.old) (D.drive disk.new) (N.wire net.old) (N.wire net.new)
         (S.written out.old) (S.written out.new))) }
+
+    // Words that can't be collected leave all but the output as it was.
+    ensures files { IfErr words (λ _. files.new ≡ files.old) }
+    ensures disk { IfErr words (λ _. disk.new ≡ disk.old) }
+    ensures net { IfErr words (λ _. net.new ≡ net.old) }
     ensures memory { IfErr words (λ error. error_kind error ≡ ErrorKind.OutOfMemory → result ≡ 4) }
     ensures silent { IfErr words (λ error. error_kind error ≡ ErrorKind.OutOfMemory
         → out.new ≡ out.old) }
