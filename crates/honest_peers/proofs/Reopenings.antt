@@ -80,14 +80,14 @@ module _ (secret : Secret) (batches : List (List Command)) (held : Held) (es : L
   -- and its journal isn't bad
   never_bad : (report : Report) → StopsOpening secret (Some drive) (Refused report) → ⊥
   never_bad report stops = elim stops.2.1 [
-      | inl damaged ↦ damaged.0.1 es journal
-      | inr bad ↦
-          let same : stops.2.0 ≡ es = one_journal drive.seen stops.2.0 es bad.0 journal in
-          let front = front_stands secret es held.roots stops.0 own.steps in
-          let next : suc stops.0 ≡ stops.0 + 1 = omega arith in
-          bad.2.not_on front.0 (subst (λ (fs : List Entry). AreStepsTo secret (take (stops.0 + 1) fs) front.0)
-          (sym same) (subst (λ (n : ℕ). AreStepsTo secret (take n es) front.0) next front.1))
-    ]
+    | inl damaged ↦ damaged.0.1 es journal
+    | inr bad ↦
+        let same : stops.2.0 ≡ es = one_journal drive.seen stops.2.0 es bad.0 journal in
+        let front = front_stands secret es held.roots stops.0 own.steps in
+        let next : suc stops.0 ≡ stops.0 + 1 = omega arith in
+        bad.2.not_on front.0 (subst (λ (fs : List Entry). AreStepsTo secret (take (stops.0 + 1) fs) front.0)
+        (sym same) (subst (λ (n : ℕ). AreStepsTo secret (take n es) front.0) next front.1))
+  ]
 
 -- The run.
 
