@@ -153,22 +153,18 @@ counts-append : (ends : List End) (end : End) (old mid new : ℕ) → CountsEach
     → CountsEach (ends ++ end ∷ []) old new
 counts-append [] end old mid new h l = (
   new,
-  record { rise = omega (arith, h, l.rise); cause = λ e. rose_before old mid new h (l.cause e) },
-  omega arith,
+  subst (λ (count : ℕ). CountsFault end count new) h l,
+  refl,
 )
 counts-append (first ∷ ends) end old mid new h l = (h.0, h.1, counts-append ends end h.0 mid new h.2 l)
 
--- the same ends later
-counts_later : (ends : List End) (old mid new : ℕ) → mid ≤ new → CountsEach ends old mid → CountsEach ends old new
-counts_later [] old mid new b h = omega (arith, b, h)
-counts_later (end ∷ ends) old mid new b h = (h.0, h.1, counts_later ends h.0 mid new b h.2)
-
 -- the end of one connection, by the counts before it was made, while it was served, and at its end
 pub fault_counted : (end : End) (old opened last new : ℕ) → (end ≡ ended.LinkFault → FaultRose opened last)
-    → old ≤ opened → opened ≤ last → last ≤ new → CountsFault end old new
-fault_counted end old opened last new rose a b l = record {
+    → (end ≢ ended.LinkFault → last ≡ opened) → opened ≡ old → opened ≤ last → new ≡ last → CountsFault end old new
+fault_counted end old opened last new rose quiet a b l = record {
   rise = omega (arith, a, b, l);
-  cause = λ e. rose_before old opened new a (rose_later opened last new (rose e) l);
+  cause = λ e. rose_before old opened new (omega (arith, a)) (rose_later opened last new (rose e) (omega (arith, l)));
+  quiet = λ other. l ∙ quiet other ∙ a;
 }
 
 -- The next connection.
@@ -215,7 +211,7 @@ pub record IsServing {S : Type 0} (reply : Reply S) (next : Next S) (number : �
   pub rose : CountsEach ends faults more
   pub counts : faults ≤ more
   pub stays : (before : ConnectionModel) → wire ≡ Some before → number ≤ length before.queue → more_misses ≡ misses
-  pub out_counts : out ≤ more_out
+  pub out_counts : more_out ≡ out
 
 pub serves_none : {S : Type 0} (reply : Reply S) (next : Next S) (old : S) (wire : Option ConnectionModel)
     (written : Option (List ℕ)) (faults misses out : ℕ)
@@ -225,10 +221,10 @@ serves_none reply next old wire written faults misses out = record {
   count_is = refl;
   lines = (tt, added-nothing written);
   known = λ before is. (before, is, (refl, refl));
-  rose = omega arith;
+  rose = refl;
   counts = omega arith;
   stays = λ before is some. refl;
-  out_counts = omega arith;
+  out_counts = refl;
 }
 
 has_more : (ends : ℕ) (queue : List (List ℕ)) → ends < length queue → IsTrue (nat_lt 0 (length (drop ends queue)))
@@ -261,7 +257,7 @@ pub serves_more : {S : Type 0} (reply : Reply S) (next : Next S) (number : ℕ) 
     → ServesNext reply next (number + 1) (Ok done) now new mid later between after more new_faults
     → more ≤ new_faults
     → ((w : ConnectionModel) → mid ≡ Some w → IsTrue (has_next w) → new_misses ≡ more_misses)
-    → more_out ≤ new_out
+    → new_out ≡ more_out
     → IsServing reply next (number + 1) old new wire later written after faults new_faults misses new_misses out new_out
 serves_more reply next number done old now new wire mid later written between after faults more new_faults misses more_misses new_misses out more_out new_out h one counts stays out_counts = record {
   ends = h.ends ++ one.0 ∷ [];
@@ -271,7 +267,7 @@ serves_more reply next number done old now new wire mid later written between af
   rose = counts-append h.ends one.0 faults more new_faults h.rose one.3;
   counts = omega (arith, h.counts, counts);
   stays = λ before is some. misses_stay reply next number (number + 1) old now wire mid written between faults more misses more_misses new_misses out more_out (omega arith) h stays before is some;
-  out_counts = omega (arith, h.out_counts, out_counts);
+  out_counts = out_counts ∙ h.out_counts;
 }
   where
     number_is : 1 + length h.ends ≡ number + 1
@@ -294,7 +290,7 @@ serves_all reply next number count done old now wire later written after faults 
   ends = h.ends;
   lines = (h.count_is ∙ all, h.lines);
   known = h.known;
-  counts = h.rose;
+  counts = (more, h.rose, refl);
 }
 
 -- the serving failed
@@ -309,7 +305,7 @@ serves_to_fault reply next number count fault.Network old now new wire mid later
   ends = h.ends;
   lines = (omega (arith, h.count_is, below), (h.lines.0, one.2 ∙ h.lines.1));
   known = rw (one.0, one.1) h.known;
-  counts = counts_later h.ends faults more new_faults counts h.rose;
+  counts = (more, h.rose, one.3);
 }
 serves_to_fault reply next number count fault.Output old now new wire mid later written between after faults more new_faults misses more_misses out more_out below h one counts = record {
   ends = h.ends ++ one.0 ∷ [];
@@ -326,7 +322,7 @@ serves_to_fault reply next number count fault.Output old now new wire mid later 
         (sym (length-one_more h.ends one.0 ∙ ap (λ (n : ℕ). n + 1) h.count_is)),
   );
   known = served_known-append reply next h.ends (one.0 ∷ []) old now new wire mid later h.known one.1;
-  counts = counts-append h.ends one.0 faults more new_faults h.rose one.3;
+  counts = (new_faults, counts-append h.ends one.0 faults more new_faults h.rose one.3, refl);
 }
 serves_to_fault reply next number count fault.Memory old now new wire mid later written between after faults more new_faults misses more_misses out more_out below h one counts = record {
   ends = h.ends ++ one.0 ∷ [];
@@ -338,5 +334,5 @@ serves_to_fault reply next number count fault.Memory old now new wire mid later 
     (h.lines.0, one.2 ∙ h.lines.1),
   );
   known = served_known-append reply next h.ends (one.0 ∷ []) old now new wire mid later h.known one.1;
-  counts = counts-append h.ends one.0 faults more new_faults h.rose one.3;
+  counts = (new_faults, counts-append h.ends one.0 faults more new_faults h.rose one.3, refl);
 }

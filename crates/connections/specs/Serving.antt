@@ -1,5 +1,5 @@
 -- Connections that are served one after the other, and what is written of them.
-use Rattle.std.specs.Prelude.{◌≡◌, ℕ, ◌<◌, ◌≤◌, List, [], ◌∷◌, ◌++◌, length, take, Option, Some, Result, Ok, Err, IsTrue}
+use Rattle.std.specs.Prelude.{◌≡◌, ◌≢◌, ℕ, ◌<◌, ◌≤◌, List, [], ◌∷◌, ◌++◌, length, take, Option, Some, Result, Ok, Err, IsTrue}
 use Rattle.std.specs.List.{AllByRecursion}
 use Rattle.outside.specs.FaultRose.{FaultRose}
 use Rattle.outside.specs.ConnectionModel.{ConnectionModel, open_next, close_wire, has_next}
@@ -68,17 +68,28 @@ WritesLine number end (Err fault.Output) before after =
     HasLine end × (n : ℕ) × (after ≡ append_known before (take n (end_line number end)))
 WritesLine number end (Err fault.Memory) before after = after ≡ before
 
--- The network's count of faults, before and after the work on a connection that ended so: it never
--- falls, and it rose in that work where the connection ended by a fault of the network.
+-- The network's count of faults, before and after the work on a connection that ended so: it rose
+-- in that work where the connection ended by a fault of the network, and only there.
 pub record CountsFault (end : End) (before after : ℕ) : Type 0 where
   pub rise : before ≤ after
   pub cause : end ≡ LinkFault → FaultRose before after
+  pub quiet : end ≢ LinkFault → after ≡ before
 
 -- the same of connections in turn, each from the count that the one before it left
 abbrev pub CountsEach : List End → ℕ → ℕ → Type 0
-CountsEach [] before after = before ≤ after
+CountsEach [] before after = after ≡ before
 CountsEach (end ∷ ends) before after =
     (mid : ℕ) × CountsFault end before mid × CountsEach ends mid after
+
+-- behind them it rose where no further connection was made, and only there
+abbrev pub CountsLast : Result (Unit {0}) ServeFault → ℕ → ℕ → Type 0
+CountsLast (Err fault.Network) before after = (before ≤ after) × FaultRose before after
+CountsLast _ before after = after ≡ before
+
+-- the same from the count before the first of them
+abbrev pub CountsAll : Result (Unit {0}) ServeFault → List End → ℕ → ℕ → Type 0
+CountsAll result ends before after =
+    (mid : ℕ) × CountsEach ends before mid × CountsLast result mid after
 
 -- Connections were served, as many as were asked for or fewer where that failed, and their lines
 -- written.
@@ -88,14 +99,14 @@ pub record ServesAll {S : Type 0} (reply : Reply S) (next : Next S) (count : ℕ
   pub ends : List End
   pub lines : WritesLines count result ends written after
   pub known : AreServedKnown reply next ends old new wire later
-  pub counts : CountsEach ends faults later_faults
+  pub counts : CountsAll result ends faults later_faults
 
 -- The next connection was served and its line written; or none was made, and nothing changed.
 abbrev pub ServesNext : {S : Type 0} → Reply S → Next S → ℕ → Result (Unit {0}) ServeFault → S → S
     → Option ConnectionModel → Option ConnectionModel → Option (List ℕ) → Option (List ℕ) → ℕ → ℕ
     → Type 0
 ServesNext reply next number (Err fault.Network) old new wire later written after faults more =
-    (new ≡ old) × (later ≡ wire) × (after ≡ written)
+    (new ≡ old) × (later ≡ wire) × (after ≡ written) × CountsLast (Err fault.Network) faults more
 ServesNext reply next number result old new wire later written after faults more =
     (end : End) × AreServedKnown reply next (end ∷ []) old new wire later
     × WritesLine number end result written after × CountsFault end faults more

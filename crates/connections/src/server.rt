@@ -2,7 +2,7 @@
 ghost use Rattle.std.specs.Prelude.{◌≡◌, ◌≢◌, ◌≤◌, ◌<◌, ◌^◌, ℕ, length, Some, Err, IsTrue, IsErrOf};
 ghost use Rattle.outside.specs.ConnectionModel.{ConnectionModel, has_next};
 ghost use Rattle.outside.specs.FaultRose.{FaultRose};
-ghost use Rattle.link_frames.specs.Reading.{KeepsNetCounts};
+ghost use Rattle.link_frames.specs.Reading.{StaysWhere};
 ghost use Rattle.connections.specs.Serving.{ServesAll, ServesNext, WritesLine};
 
 use crate::end_line::end_line;
@@ -33,6 +33,8 @@ pub fn serve_all<R: Responder, N: Net, S: Sink>(
     ensures out_counts { S.faults out.old ≤ S.faults out.new }
     ensures out_cause { IsErrOf result ServeFault.Output
         → FaultRose (S.faults out.old) (S.faults out.new) }
+    ensures out_quiet { (IsErrOf result ServeFault.Output → ⊥)
+        → S.faults out.new ≡ S.faults out.old }
 {
     for served in 0..count {
         match serve_next(alloc, store, net, out, served + 1) {
@@ -55,12 +57,16 @@ fn serve_next<R: Responder, N: Net, S: Sink>(
         (R.state store.new) (N.wire net.old) (N.wire net.new) (S.written out.old)
         (S.written out.new) (N.faults net.old) (N.faults net.new) }
 
-    ensures counts { KeepsNetCounts N.wire N.faults N.misses net.old net.new
-        (IsErrOf result ServeFault.Network) }
+    ensures counts { N.faults net.old ≤ N.faults net.new }
+    ensures cause { IsErrOf result ServeFault.Network
+        → FaultRose (N.faults net.old) (N.faults net.new) }
+    ensures misses { StaysWhere has_next (N.wire net.old) (N.misses net.old) (N.misses net.new) }
 
     ensures out_counts { S.faults out.old ≤ S.faults out.new }
     ensures out_cause { IsErrOf result ServeFault.Output
         → FaultRose (S.faults out.old) (S.faults out.new) }
+    ensures out_quiet { (IsErrOf result ServeFault.Output → ⊥)
+        → S.faults out.new ≡ S.faults out.old }
 {
     match net.next() {
         Ok(()) => {}
@@ -78,6 +84,8 @@ fn put_line<S: Sink>(alloc: Global, out: &mut S, number: u32, end: End) -> Resul
     ensures counts { S.faults out.old ≤ S.faults out.new }
     ensures cause { IsErrOf result ServeFault.Output
         → FaultRose (S.faults out.old) (S.faults out.new) }
+    ensures quiet { (IsErrOf result ServeFault.Output → ⊥)
+        → S.faults out.new ≡ S.faults out.old }
     ensures inside { result ≢ Err ServeFault.Network }
 {
     let Ok(line) = end_line(alloc, number, end) else {

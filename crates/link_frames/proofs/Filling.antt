@@ -104,7 +104,7 @@ pub record IsFilling (filled : ℕ) (old now : List ℕ) (first wire : Option Co
     (old_faults faults old_misses misses : ℕ) : Type 0 where
   pub within : filled ≤ length old
   pub known : (before : ConnectionModel) → first ≡ Some before → FilledTo filled old now before wire
-  pub counts : old_faults ≤ faults
+  pub counts : faults ≡ old_faults
   pub stays : StaysWhereItStands first old_misses misses
 
 -- nothing more comes
@@ -189,7 +189,7 @@ pub record IsHanding (handed count : ℕ) (old now : List ℕ) (first wire : Opt
   pub within : handed ≤ count
   pub grows : length now ≡ length old + handed
   pub known : (before : ConnectionModel) → first ≡ Some before → HandedTo handed old now before wire
-  pub counts : old_faults ≤ faults
+  pub counts : faults ≡ old_faults
   pub stays : StaysWhereItStands first old_misses misses
 
 pub handed_end : (handed n count room : ℕ) (old now new : List ℕ) (before : ConnectionModel)

@@ -1,5 +1,6 @@
 pub mod FrameLaws
 pub mod ReadLaws
+pub mod Results
 pub mod Filling
 pub mod Putting
 pub mod ScriptLaws

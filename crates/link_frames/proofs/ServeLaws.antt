@@ -346,7 +346,7 @@ pub record IsServing {S : Type 0} (reply : Reply S) (next : Next S) (turn : ℕ)
   pub left : ℕ
   pub turns_are : left + turn ≡ max_turns
   pub known : (before : ConnectionModel) → first ≡ Some before → IsServedTo reply next left old now before wire
-  pub counts : old_faults ≤ faults
+  pub counts : faults ≡ old_faults
   pub stays : StaysWhereItStands first old_misses misses
 
 pub turns : max_turns ≡ 1048576
@@ -374,7 +374,7 @@ serving_none reply next s wire faults misses = record {
   left = max_turns;
   turns_are = omega arith;
   known = λ before is. serves_none reply next s before wire is;
-  counts = omega arith;
+  counts = refl;
   stays = λ w is stands. refl;
 }
 
@@ -392,7 +392,7 @@ pub serving_more : {S : Type 0} (reply : Reply S) (next : Next S) (turn : ℕ) (
     → IsServing reply next turn old now first wire old_faults faults old_misses misses
     → ((mid : ConnectionModel) → wire ≡ Some mid
     → ServesOne reply next (first_frame Request mid.coming) (Ok done) now new mid later)
-    → faults ≤ later_faults → StaysWhereItStands wire misses later_misses
+    → later_faults ≡ faults → StaysWhereItStands wire misses later_misses
     → IsServing reply next (turn + 1) old new first later old_faults later_faults old_misses later_misses
 serving_more reply next turn old now new first wire later old_faults faults later_faults old_misses misses later_misses done some h one counts stays =
     let l = one_left reply next turn old now first wire old_faults faults old_misses misses some h in
@@ -403,7 +403,7 @@ serving_more reply next turn old now new first wire later old_faults faults late
       turns_are = omega (arith, h.turns_are, left_is);
       known = λ before is. serves_more reply next left old now new before wire later done
           (subst (λ (k : ℕ). IsServedTo reply next k old now before wire) left_is (h.known before is)) one;
-      counts = omega (arith, h.counts, counts);
+      counts = counts ∙ h.counts;
       stays = serving_stays reply next turn old now first wire old_faults faults old_misses misses later_misses h stays;
     }
 

@@ -38,11 +38,12 @@ abbrev pub StaysWhereItStands : Option ConnectionModel → ℕ → ℕ → Type 
 StaysWhereItStands wire before after = StaysWhere (λ w. w.stands) wire before after
 
 -- What a call leaves of the counts of what it works on: faults don't fall, one rose where the call
--- failed by it, and misses stay where it has what is asked for.
+-- failed by it, and else they are as they were; and misses stay where it has what is asked for.
 pub record KeepsCounts {T : Type 0} (has : ConnectionModel → Bool) (wire : T → Option ConnectionModel)
     (faults misses : T → ℕ) (old new : T) (failed : Type 0) : Type 0 where
   pub rise : faults old ≤ faults new
   pub cause : failed → FaultRose (faults old) (faults new)
+  pub quiet : (failed → ⊥) → faults new ≡ faults old
   pub stays : StaysWhere has (wire old) (misses old) (misses new)
 
 -- of a link, which is asked for nothing but to stand

@@ -259,7 +259,7 @@ impl<P: Failures> Net for MemNet<P> {
         self.open_next()
     }
 
-    fn listen(&mut self, _addr: &str) -> Result<(), Failed>
+    fn listen(&mut self, _addr: &str, _version: Option<u64>) -> Result<(), Failed>
         ensures kept { wire_of self.new ≡ wire_of self.old }
 
         ensures counts { P.count (plan_of self.old) + misses_of self.old

@@ -21,8 +21,9 @@ pub trait Net: Link {
         ensures misses { IfSome (Self.wire self.old)
             (λ wire. CountsMiss (has_next wire) (Self.misses self.old) (Self.misses self.new)) };
 
-    /// Begins to listen at this address, for `next`.
-    fn listen(&mut self, addr: &str) -> Result<(), Failed>
+    /// Begins to listen at this address, for `next`. Who runs the machine may be told of it, and of
+    /// the version that is served there.
+    fn listen(&mut self, addr: &str, version: Option<u64>) -> Result<(), Failed>
         ensures kept { Self.wire self.new ≡ Self.wire self.old }
 
         ensures counts { Self.faults self.old ≤ Self.faults self.new }

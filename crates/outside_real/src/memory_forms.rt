@@ -114,7 +114,7 @@ fn net_keeps_what_was_put(rt: HostRuntime) -> Result<(), Fail> {
 }
 
 fn front_is_kept(net: &mut MemNet<FailAt>) -> bool {
-    let called = (net.listen("here"), net.next(), net.put(b"zz"));
+    let called = (net.listen("here", None), net.next(), net.put(b"zz"));
     let is_sent = net.sent() == b"z".as_slice();
     net.close();
     let is_past = match net.past().first() {

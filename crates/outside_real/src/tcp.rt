@@ -6,6 +6,7 @@ use crate::count::raise;
 use crate::reasons::fail;
 use crate::turn::PATIENCE_SECONDS;
 use outside::{Failed, Link, Net, PutFault};
+use std::fmt::Display;
 use std::io::{self, ErrorKind};
 use std::net::{Net as Sockets, OpenListener, TcpListener, ToSocketAddrs};
 use std::thread;
@@ -133,10 +134,10 @@ impl<R: Sockets + Clock + Eprint> Net for Tcp<'_, R> {
         }
     }
 
-    fn listen(&mut self, addr: &str) -> Result<(), Failed> {
+    fn listen(&mut self, addr: &str, version: Option<u64>) -> Result<(), Failed> {
         match TcpListener::bind(self.rt, addr) {
             Ok(listener) => {
-                print_address(self.rt, &listener, addr);
+                print_service(self.rt, &listener, addr, version);
                 self.listener = Some(listener);
                 Ok(())
             }
@@ -164,10 +165,24 @@ impl<R: Sockets + Clock + Eprint> Net for Tcp<'_, R> {
     }
 }
 
-/// Says where it listens: the system chooses the port where 0 is asked for.
-fn print_address<R: Eprint>(rt: &R, listener: &impl OpenListener, asked: &str) {
-    let _ = match listener.local_addr() {
-        Ok(addr) => eprintln!(rt; "listening at {addr}"),
-        Err(_) => eprintln!(rt; "listening at {asked}"),
+/// Says where it listens, and what is served there: the system chooses the port where 0 is asked
+/// for.
+fn print_service<R: Eprint>(
+    rt: &R,
+    listener: &impl OpenListener,
+    asked: &str,
+    version: Option<u64>,
+) {
+    match listener.local_addr() {
+        Ok(addr) => print_version(rt, addr, version),
+        Err(_) => print_version(rt, asked, version),
+    }
+}
+
+/// Says which version is served at this address, if one is.
+fn print_version<R: Eprint, W: Display + Drop>(rt: &R, whose: W, version: Option<u64>) {
+    let _ = match version {
+        Some(version) => eprintln!(rt; "listening at {whose}, version {version}"),
+        None => eprintln!(rt; "listening at {whose}, no version"),
     };
 }

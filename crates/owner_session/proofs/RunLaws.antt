@@ -247,16 +247,22 @@ no_output_fault stop.Memory P h is = absurd (cc is)
 
 -- what stopped so on the link alone counts no faults but the link's
 pub link_faults : {T U : Type 0} (why : SessionStop) (before after disk out : ℕ) → before ≤ after
-    → (IsErrOf {T = T} (Err why) stop.LinkFault → FaultRose before after) → IsOfLink why
+    → (IsErrOf {T = T} (Err why) stop.LinkFault → FaultRose before after)
+    → ((IsErrOf {T = T} (Err why) stop.LinkFault → ⊥) → after ≡ before) → IsOfLink why
     → CountsFaults {T = U} (Err why) (record { link = before; disk = disk; out = out })
     (record { link = after; disk = disk; out = out })
-link_faults why before after disk out counts cause inside = record {
+link_faults why before after disk out counts cause quiet inside = record {
   link_counts = counts;
   link_cause = λ is.
       let same : why ≡ stop.LinkFault = cc is in
       cause (ap (λ (stop : SessionStop). Err stop) same);
+  link_quiet = λ fine. quiet (λ is.
+      let same : why ≡ stop.LinkFault = cc is in
+      fine (ap (λ (stop : SessionStop). Err stop) same));
   disk_counts = omega arith;
   disk_cause = no_disk_fault why (FaultRose disk disk) inside;
+  disk_quiet = λ fine. refl;
   out_counts = omega arith;
   out_cause = no_output_fault why (FaultRose out out) inside;
+  out_quiet = λ fine. refl;
 }

@@ -1,5 +1,5 @@
 //! Writing what a session says.
-ghost use Rattle.std.specs.Prelude.{◌≤◌, IsErrOf};
+ghost use Rattle.std.specs.Prelude.{◌≡◌, ◌≤◌, IsErrOf};
 ghost use Rattle.outside.specs.FaultRose.{FaultRose};
 ghost use Rattle.owner_session.specs.Endings.{version_line};
 ghost use Rattle.owner_session.specs.Runs.{PutsLine};
@@ -15,6 +15,8 @@ pub fn announce<S: Sink>(alloc: Global, version: u64, out: &mut S) -> Result<(),
     ensures counts { S.faults out.old ≤ S.faults out.new }
     ensures cause { IsErrOf result SessionStop.OutputFault
         → FaultRose (S.faults out.old) (S.faults out.new) }
+    ensures quiet { (IsErrOf result SessionStop.OutputFault → ⊥)
+        → S.faults out.new ≡ S.faults out.old }
 {
     match version_line(alloc, version) {
         Ok(line) => put_line(out, &line),
@@ -27,6 +29,8 @@ fn put_line<S: Sink>(out: &mut S, line: &[u8]) -> Result<(), SessionStop>
     ensures counts { S.faults out.old ≤ S.faults out.new }
     ensures cause { IsErrOf result SessionStop.OutputFault
         → FaultRose (S.faults out.old) (S.faults out.new) }
+    ensures quiet { (IsErrOf result SessionStop.OutputFault → ⊥)
+        → S.faults out.new ≡ S.faults out.old }
 {
     match out.put(line) {
         Ok(()) => Ok(()),

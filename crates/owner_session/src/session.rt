@@ -1,5 +1,5 @@
 //! A whole session, with its exit status.
-ghost use Rattle.std.specs.Prelude.{◌≡◌, ◌≤◌, ◌⊎◌, ◌++◌, map, All, Some};
+ghost use Rattle.std.specs.Prelude.{◌≡◌, ◌≢◌, ◌≤◌, ◌⊎◌, ◌++◌, map, All, Some};
 ghost use Rattle.outside.specs.ConnectionModel.{ConnectionModel};
 ghost use Rattle.outside.specs.FaultRose.{FaultRose};
 ghost use Rattle.link_frames.specs.Reading.{StaysWhereItStands};
@@ -57,6 +57,10 @@ pub fn run_session<O: SessionOwner, L: Link, S: Sink>(
         ⊎ FaultRose (O.faults owner.old) (O.faults owner.new)
         ⊎ FaultRose (S.faults out.old) (S.faults out.new) }
     ensures misses { StaysWhereItStands (L.wire link.old) (L.misses link.old) (L.misses link.new) }
+
+    // Where something failed, the status says so, or that memory ran out.
+    ensures quiet { result ≢ 3 → result ≢ 4 → (L.faults link.new ≡ L.faults link.old)
+        × (O.faults owner.new ≡ O.faults owner.old) × (S.faults out.new ≡ S.faults out.old) }
     ensures link_counts { L.faults link.old ≤ L.faults link.new }
     ensures disk_counts { O.faults owner.old ≤ O.faults owner.new }
     ensures out_counts { S.faults out.old ≤ S.faults out.new }

@@ -115,5 +115,7 @@ pub trait SessionOwner {
 
         ensures counts { faults self.old ≤ faults self.new }
         ensures cause { IsErrOf result NoAppend.Disk
-            → FaultRose (faults self.old) (faults self.new) };
+            → FaultRose (faults self.old) (faults self.new) }
+        ensures quiet { (IsErrOf result NoAppend.Disk → ⊥)
+            → faults self.new ≡ faults self.old };
 }

@@ -2,6 +2,7 @@ pub mod Endings
 pub mod Steps
 pub mod TextSteps
 pub mod FileSteps
+pub mod FilesThere
 pub mod ServeSteps
 pub mod QueryTexts
 pub mod NetSteps

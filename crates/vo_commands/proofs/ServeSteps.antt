@@ -17,9 +17,7 @@ use Rattle.owner_state.specs.Walking.{StopsAt}
 use Rattle.owner_state.proofs.SlotLaws.{AreSlots, fails_behind, fails_inside}
 use Rattle.connections.specs.declared.serve_fault.ServeFault.{ServeFault}
 use Rattle.connections.specs.declared.serve_fault.ServeFault.TheVariants as fault
-use Rattle.link_frames.specs.declared.end.End.{End}
-use Rattle.connections.specs.Serving.{AreServedKnown, CountsEach}
-use Rattle.owner_session.proofs.SessionLaws.{rose_later}
+use Rattle.connections.specs.Serving.{AreServedKnown, CountsAll}
 use Rattle.vo_store.specs.StoreState.{StoreState}
 use Rattle.vo_wire.specs.Answering.{next_after, reply_to}
 use Rattle.vo_commands.specs.declared.report.Stop.{Stop}
@@ -70,18 +68,6 @@ stops_loading key journal es Memory slots stops = tt
 
 -- Ends.
 
--- connections that were served behind a call that made none
-counts_before : (ends : List End) (old mid new : ℕ) → old ≤ mid → CountsEach ends mid new → CountsEach ends old new
-counts_before [] old mid new first counts = omega (arith, first, counts)
-counts_before (end ∷ ends) old mid new first counts = (
-  counts.0,
-  record {
-    rise = omega (arith, first, counts.1.rise);
-    cause = λ e. rose_later old mid counts.0 first (counts.1.cause e);
-  },
-  counts.2,
-)
-
 net_later : (count : ℕ) (N M OutRose : Type 0) → (M → N) → (r : Result (Unit {0}) ServeFault) (status : ℕ) (written after : Option (List ℕ))
     → EndsServing count r M OutRose status written after → EndsServing count r N OutRose status written after
 net_later count N M OutRose wider (Ok done) status written after ends = ends
@@ -90,7 +76,7 @@ net_later count N M OutRose wider (Err fault.Output) status written after ends =
 net_later count N M OutRose wider (Err fault.Memory) status written after ends = ends
 
 pub served_behind : (s : StoreState) (count : ℕ) (N M OutRose : Type 0) (status old mid more : ℕ) (wire opened later : Option ConnectionModel)
-    (before after : Option (List ℕ)) → (M → N) → old ≤ mid → opened ≡ wire
+    (before after : Option (List ℕ)) → (M → N) → mid ≡ old → opened ≡ wire
     → IsServedFrom s count M OutRose status mid more opened later before after
     → IsServedFrom s count N OutRose status old more wire later before after
 served_behind s count N M OutRose status old mid more wire opened later before after wider first same served = record {
@@ -101,7 +87,7 @@ served_behind s count N M OutRose status old mid more wire opened later before a
     ends = served.serves.ends;
     lines = served.serves.lines;
     known = subst (λ (o : Option ConnectionModel). AreServedKnown reply_to next_after served.serves.ends s served.new o later) same served.serves.known;
-    counts = counts_before served.serves.ends old mid more first served.serves.counts;
+    counts = subst (λ (count : ℕ). CountsAll served.result served.serves.ends count more) first served.serves.counts;
   };
   ends = net_later count N M OutRose wider served.result status served.written after served.ends;
 }

@@ -1,56 +1,106 @@
 -- Files that are taken one after another.
-use Rattle.std.proofs.Common.{◌≡◌, ◌≤◌, ℕ, List, [], ◌∷◌, Option, Some, None, Result, subst, ◌∙◌, arith}
-use Rattle.std.specs.Prelude.{IfSome, IsSome, is_some}
+use Rattle.std.proofs.Common.{◌≡◌, ◌≤◌, ℕ, List, Option, Some, None, Result, refl, sym, subst, ◌∙◌, arith}
+use Rattle.std.specs.Prelude.{IfSome, is_some}
 use Rattle.outside.specs.Miss.{CountsMiss}
+use Rattle.outside.specs.Outputs.{outside_failure}
 use Rattle.outside.specs.Shelf.{Files}
 use Rattle.owner_session.proofs.SessionLaws.{rose_later}
 use Rattle.vo_commands.specs.declared.report.Stop.{Stop}
-use Rattle.vo_commands.specs.Taking.{CountsMisses, Names, One, SomeOf, TakesFiles}
+use Rattle.vo_spec.specs.Conditions.{Query}
+use Rattle.vo_commands.specs.Texts.{IsQueryText}
+use Rattle.vo_commands.specs.Expected.{Expected, OfQuery, with_contents}
+use Rattle.vo_commands.specs.Reports.{FailsOutside}
+use Rattle.vo_commands.specs.Taking.{CountsMisses, LacksFile, Names, One, Along, LeavesFiles, TakesFiles}
 
-no_miss : {A : Type 0} (o : Option A) (before after : ℕ) → IsSome o → CountsMiss (is_some o) before after → after ≡ before
+-- the work comes to the file of this name, whatever files there are
+abbrev pub ComesTo : List ℕ → (Files → Expected) → Type 0
+ComesTo name expected = (known : Files) → known name ≡ None → LacksFile (expected known)
+
+pub lacks_it : (found : Option (List ℕ)) (name : List ℕ) (limit : ℕ) (rest : List ℕ → Expected) → found ≡ None
+    → LacksFile (with_contents found name limit rest)
+lacks_it None name limit rest is = refl
+lacks_it (Some bytes) name limit rest is = absurd (cc)
+
+no_miss : {A : Type 0} (o : Option A) (before after : ℕ) → (o ≡ None → ⊥) → CountsMiss (is_some o) before after → after ≡ before
 no_miss (Some a) before after there c = c
-no_miss None before after there c = absurd (cc)
+no_miss None before after there c = absurd (there refl)
 
 abbrev Misses : Names → ℕ → ℕ → Files → Type 0
 Misses names before after known = CountsMisses names known before after
 
-one_missed : (o : Option Files) (name : List ℕ) (x y : ℕ) → IfSome o (Misses (One name) x y) → IfSome o (Misses (SomeOf (name ∷ [])) x y)
-one_missed None name x y one = tt
-one_missed (Some known) name x y one = λ there. no_miss (known name) x y there.0 one
+one_missed : (o : Option Files) (name : List ℕ) (expected : Files → Expected) (x y : ℕ) → ComesTo name expected
+    → IfSome o (Misses (One name) x y) → IfSome o (Misses (Along expected) x y)
+one_missed None name expected x y comes one = tt
+one_missed (Some known) name expected x y comes one = λ there. no_miss (known name) x y (λ none. there (comes known none)) one
 
-more_missed : (o p : Option Files) (name : List ℕ) (names : List (List ℕ)) (x y z : ℕ) → p ≡ o → IfSome o (Misses (One name) x y) → IfSome p (Misses (SomeOf names) y z)
-    → IfSome o (Misses (SomeOf (name ∷ names)) x z)
-more_missed o p name names x y z same one rest = step o one (subst (λ o. IfSome o (Misses (SomeOf names) y z)) same rest)
+-- what the rest of the work lacks the whole lacks
+abbrev GoesThrough : (Files → Expected) → (Files → Expected) → Files → Type 0
+GoesThrough expected rest known = LacksFile (rest known) → LacksFile (expected known)
+
+more_missed : (o p : Option Files) (name : List ℕ) (expected rest : Files → Expected) (x y z : ℕ) → ComesTo name expected
+    → IfSome o (GoesThrough expected rest) → p ≡ o → IfSome o (Misses (One name) x y) → IfSome p (Misses (Along rest) y z)
+    → IfSome o (Misses (Along expected) x z)
+more_missed o p name expected rest x y z comes goes same one more = step o goes one (subst (λ o. IfSome o (Misses (Along rest) y z)) same more)
   where
-    step : (o : Option Files) → IfSome o (Misses (One name) x y) → IfSome o (Misses (SomeOf names) y z) → IfSome o (Misses (SomeOf (name ∷ names)) x z)
-    step None one rest = tt
-    step (Some known) one rest = λ there. rest there.1 ∙ no_miss (known name) x y there.0 one
+    step : (o : Option Files) → IfSome o (GoesThrough expected rest) → IfSome o (Misses (One name) x y) → IfSome o (Misses (Along rest) y z) → IfSome o (Misses (Along expected) x z)
+    step None goes one more = tt
+    step (Some known) goes one more = λ there. more (λ lacks. there (goes lacks)) ∙ no_miss (known name) x y (λ none. there (comes known none)) one
+
+-- What the rest of the work lacks, of what the rest of the work is once a file was taken.
+pub lacks_behind : {B : Type 0} (expected : Files → (B → Expected) → Expected) (b : B) (rest : Files → B → Expected) (o : Option Files)
+    → IfSome o (λ known. (rest : B → Expected) → expected known rest ≡ rest b)
+    → IfSome o (λ known. LacksFile (rest known b) → LacksFile (expected known (rest known)))
+lacks_behind expected b rest None goes = tt
+lacks_behind expected b rest (Some known) goes = λ lacks. subst LacksFile (sym (goes (rest known))) lacks
+
+-- and once a query was read
+pub lacks_query : (text : List ℕ) (q : Query) (rest : Files → Query → Expected) (expected : Files → Expected) (o : Option Files) → IsQueryText text q
+    → IfSome o (λ known. LacksFile (OfQuery text (rest known)) → LacksFile (expected known))
+    → IfSome o (λ known. LacksFile (rest known q) → LacksFile (expected known))
+lacks_query text q rest expected None is goes = tt
+lacks_query text q rest expected (Some known) is goes = λ lacks. goes (q, is, lacks)
 
 module _ {S : Type 0} {contents : S → Option Files} {faults misses : S → ℕ} where
-  -- one of these is some of them
-  pub takes_some : {A : Type 0} (name : List ℕ) (before after : S) (r : Result A Stop) → TakesFiles contents faults misses (One name) before after r
-      → TakesFiles contents faults misses (SomeOf (name ∷ [])) before after r
-  takes_some name before after r took = record {
-    leaves = record {
-      kept = took.leaves.kept;
-      counts = took.leaves.counts;
-      missed = one_missed (contents before) name (misses before) (misses after) took.leaves.missed;
-    };
-    cause = took.cause;
+  -- the work ends with the first file that it comes to
+  pub leaves_first : (name : List ℕ) (expected : Files → Expected) (before after : S) → ComesTo name expected
+      → LeavesFiles contents faults misses (One name) before after → LeavesFiles contents faults misses (Along expected) before after
+  leaves_first name expected before after comes took = record {
+    kept = took.kept;
+    counts = took.counts;
+    missed = one_missed (contents before) name expected (misses before) (misses after) comes took.missed;
   }
 
-  -- one is taken, and then some others
-  pub takes_more : {A B : Type 0} (name : List ℕ) (names : List (List ℕ)) (before between after : S) (r : Result A Stop) (t : Result B Stop)
-      → TakesFiles contents faults misses (One name) before between r → TakesFiles contents faults misses (SomeOf names) between after t
-      → TakesFiles contents faults misses (SomeOf (name ∷ names)) before after t
-  takes_more name names before between after r t first rest =
-      let x : faults before ≤ faults between = first.leaves.counts in
-      let y : faults between ≤ faults after = rest.leaves.counts in
+  -- a file is taken, and then those to which the rest of the work comes
+  pub leaves_more : (name : List ℕ) (expected rest : Files → Expected) (before between after : S) → ComesTo name expected
+      → IfSome (contents before) (λ known. LacksFile (rest known) → LacksFile (expected known))
+      → LeavesFiles contents faults misses (One name) before between → LeavesFiles contents faults misses (Along rest) between after
+      → LeavesFiles contents faults misses (Along expected) before after
+  leaves_more name expected rest before between after comes goes first more =
+      let x : faults before ≤ faults between = first.counts in
+      let y : faults between ≤ faults after = more.counts in
       record {
-        leaves = record {
-          kept = rest.leaves.kept ∙ first.leaves.kept;
-          counts = omega (arith, x, y);
-          missed = more_missed (contents before) (contents between) name names (misses before) (misses between) (misses after) first.leaves.kept first.leaves.missed rest.leaves.missed;
-        };
-        cause = λ e. rose_later (faults before) (faults between) (faults after) x (rest.cause e);
+        kept = more.kept ∙ first.kept;
+        counts = omega (arith, x, y);
+        missed = more_missed (contents before) (contents between) name expected rest (misses before) (misses between) (misses after) comes goes first.kept first.missed more.missed;
       }
+
+  -- the same of calls that end so
+
+  pub takes_first : {A B : Type 0} (name : List ℕ) (expected : Files → Expected) (before after : S) (r : Result A Stop) (t : Result B Stop)
+      → (FailsOutside t → FailsOutside r) → (FailsOutside r → FailsOutside t) → ComesTo name expected
+      → TakesFiles contents faults misses (One name) before after r → TakesFiles contents faults misses (Along expected) before after t
+  takes_first name expected before after r t to fro comes took = record {
+    leaves = leaves_first name expected before after comes took.leaves;
+    cause = λ e. took.cause (to e);
+    quiet = λ other. took.quiet (λ e. other (fro e));
+  }
+
+  pub takes_more : {A B : Type 0} (name : List ℕ) (expected rest : Files → Expected) (before between after : S) (r : Result A Stop) (t : Result B Stop)
+      → (FailsOutside r → ⊥) → ComesTo name expected → IfSome (contents before) (λ known. LacksFile (rest known) → LacksFile (expected known))
+      → TakesFiles contents faults misses (One name) before between r → TakesFiles contents faults misses (Along rest) between after t
+      → TakesFiles contents faults misses (Along expected) before after t
+  takes_more name expected rest before between after r t fine comes goes first more = record {
+    leaves = leaves_more name expected rest before between after comes goes first.leaves more.leaves;
+    cause = λ e. rose_later (faults before) (faults between) (faults after) first.leaves.counts (more.cause e);
+    quiet = λ other. more.quiet other ∙ first.quiet fine;
+  }

@@ -304,6 +304,11 @@ writes_as_it_works (Some (Own seed address script height)) = true
 writes_as_it_works (Some (Serve address key journal count)) = true
 writes_as_it_works _ = false
 
+-- a command that goes on where a connection fails
+abbrev pub is_service : Option PlainRequest → Bool
+is_service (Some (Serve address key journal count)) = true
+is_service _ = false
+
 -- a command that appends to the owner's journal
 abbrev pub uses_disk : Option PlainRequest → Bool
 uses_disk (Some (Own seed address script height)) = true
@@ -334,6 +339,25 @@ files_of_request (Check key query reply least) = key ∷ reply ∷ []
 files_of_request (Ask address key query least) = key ∷ []
 files_of_request (Audit key journal query reply) = key ∷ journal ∷ reply ∷ []
 files_of_request (Meet key query first second) = key ∷ first ∷ second ∷ []
+
+-- what their files come to, whatever the network and the disk do
+abbrev pub files_expected : PlainRequest → Files → Expected
+files_expected (Keygen seed height) files = keygen_expected seed height files
+files_expected (Seal seed script height) files = seal_expected seed script height files
+files_expected (Own seed address script height) files =
+    with_seed files seed height (λ _. with_file files script script_limit (λ _. Anything))
+files_expected (Answer key journal query) files = answer_expected key journal query files
+files_expected (Serve address key journal count) files =
+    with_key files key (λ _. with_file files journal journal_limit (λ _. Anything))
+files_expected (Check key query reply least) files = check_expected key query reply least files
+files_expected (Ask address key query least) files = with_key files key (λ _. Anything)
+files_expected (Audit key journal query reply) files =
+    audit_expected key journal query reply files
+files_expected (Meet key query first second) files = meet_expected key query first second files
+
+abbrev pub words_expected : Option PlainRequest → Files → Expected
+words_expected None files = Exactly words_refusal
+words_expected (Some request) files = files_expected request files
 
 abbrev pub file_words : Option PlainRequest → List (List ℕ)
 file_words request = option_map_or files_of_request request []

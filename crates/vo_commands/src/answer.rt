@@ -3,7 +3,7 @@ ghost use Rattle.std.specs.Prelude.{[], ◌∷◌, IfSome};
 ghost use Rattle.vo_spec.specs.Conditions.{query_of};
 ghost use Rattle.vo_commands.specs.Expected.{answer_expected, OfQuery, Replies};
 ghost use Rattle.vo_commands.specs.Reports.{Answers, StaysInside};
-ghost use Rattle.vo_commands.specs.Taking.{TakesFiles, SomeOf};
+ghost use Rattle.vo_commands.specs.Taking.{TakesFiles, Along};
 
 use crate::files::{take_file, take_key};
 use crate::limits::JOURNAL_LIMIT;
@@ -27,8 +27,8 @@ pub fn answer<F: Shelf>(
 ) -> Result<Report, Stop>
     ensures known { IfSome (F.contents files.old)
         (λ known. Answers (answer_expected key.now journal.now query.now known) result) }
-    ensures files { TakesFiles F.contents F.faults F.misses (SomeOf (key.now ∷ journal.now ∷ []))
-        files.old files.new result }
+    ensures files { TakesFiles F.contents F.faults F.misses (Along
+        (answer_expected key.now journal.now query.now)) files.old files.new result }
 {
     let key = take_key(alloc, files, key)?;
     let journal = take_file(alloc, files, journal, JOURNAL_LIMIT)?;

@@ -6,9 +6,9 @@ ghost use Rattle.link_frames.specs.Reading.{KeepsNetCounts};
 ghost use Rattle.link_frames.specs.declared.frame_kind.FrameKind.TheVariants.{Query};
 ghost use Rattle.link_frames.specs.Frames.{frame_bytes, max_query};
 ghost use Rattle.vo_spec.specs.Conditions.{query_of};
-ghost use Rattle.vo_commands.specs.Expected.{AsksOnly, AsksWhere, Checks, HasQuery, IsKeyFile, OfQuery, ask_expected, queue_of, with_reply};
+ghost use Rattle.vo_commands.specs.Expected.{AsksOnly, AsksWhere, Checks, HasQuery, IsKeyFile, OfQuery, ask_expected, queue_of, with_reply, Anything, with_key};
 ghost use Rattle.vo_commands.specs.Reports.{Answers, FailsOutside};
-ghost use Rattle.vo_commands.specs.Taking.{LeavesFiles, SomeOf};
+ghost use Rattle.vo_commands.specs.Taking.{LeavesFiles, Along};
 
 use crate::check::client_report;
 use crate::files::take_key;
@@ -37,13 +37,15 @@ pub fn ask<F: Shelf, N: Net>(
     ensures asks { (before : ConnectionModel) → N.wire net.old ≡ Some before
         → AsksWhere (IsKeyFile key.now (F.contents files.old) × HasQuery query.now)
         (frame_bytes Query query.now) before (N.wire net.new) }
-    ensures files { LeavesFiles F.contents F.faults F.misses (SomeOf (key.now ∷ [])) files.old
-        files.new }
+    ensures files { LeavesFiles F.contents F.faults F.misses (Along (λ known.
+        with_key known key.now (λ _. Anything))) files.old files.new }
 
     ensures net_counts { N.faults net.old ≤ N.faults net.new }
     ensures cause { FailsOutside result
         → FaultRose (F.faults files.old) (F.faults files.new)
         ⊎ FaultRose (N.faults net.old) (N.faults net.new) }
+    ensures quiet { (FailsOutside result → ⊥) → (F.faults files.new ≡ F.faults files.old)
+        × (N.faults net.new ≡ N.faults net.old) }
     ensures net_misses { (before : ConnectionModel) → N.wire net.old ≡ Some before
         → IsTrue (has_next before) → N.misses net.new ≡ N.misses net.old }
 {

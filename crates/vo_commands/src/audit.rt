@@ -4,7 +4,7 @@ ghost use Rattle.vo_spec.specs.Conditions.{Query, query_of};
 ghost use Rattle.owner_roots.specs.Owners.{OwnedAuditOf};
 ghost use Rattle.vo_commands.specs.Expected.{audit_expected, OfQuery, with_file, reply_limit, Audits};
 ghost use Rattle.vo_commands.specs.Reports.{Answers, StaysInside};
-ghost use Rattle.vo_commands.specs.Taking.{TakesFiles, One, SomeOf};
+ghost use Rattle.vo_commands.specs.Taking.{TakesFiles, One, Along};
 
 use crate::files::{take_file, take_key};
 use crate::limits::{JOURNAL_LIMIT, REPLY_LIMIT};
@@ -31,7 +31,8 @@ pub fn audit<F: Shelf>(
     ensures known { IfSome (F.contents files.old)
         (λ known. Answers (audit_expected key.now journal.now query.now reply.now known) result) }
     ensures files { TakesFiles F.contents F.faults F.misses
-        (SomeOf (key.now ∷ journal.now ∷ reply.now ∷ [])) files.old files.new result }
+        (Along (audit_expected key.now journal.now query.now reply.now)) files.old files.new
+        result }
 {
     let key = take_key(alloc, files, key)?;
     let journal = take_file(alloc, files, journal, JOURNAL_LIMIT)?;
@@ -51,8 +52,9 @@ fn audit_query<F: Shelf>(
         (λ known. Answers (OfQuery query.now
         (λ q. with_file known reply.now reply_limit
         (λ bytes. Audits key.now journal.now q bytes))) result) }
-    ensures files { TakesFiles F.contents F.faults F.misses (SomeOf (reply.now ∷ [])) files.old
-        files.new result }
+    ensures files { TakesFiles F.contents F.faults F.misses (Along (λ known.
+        OfQuery query.now (λ q. with_file known reply.now reply_limit
+        (λ bytes. Audits key.now journal.now q bytes)))) files.old files.new result }
 {
     let query = query_in(alloc, query)?;
     let report = audit_file(alloc, files, key, journal, &query, reply);

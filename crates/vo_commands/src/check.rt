@@ -4,7 +4,7 @@ ghost use Rattle.vo_spec.specs.Checks.{CheckOf};
 ghost use Rattle.vo_spec.specs.Conditions.{Query, query_of};
 ghost use Rattle.vo_commands.specs.Expected.{check_expected, with_file, reply_limit, Checks};
 ghost use Rattle.vo_commands.specs.Reports.{Answers, StaysInside};
-ghost use Rattle.vo_commands.specs.Taking.{TakesFiles, One, SomeOf};
+ghost use Rattle.vo_commands.specs.Taking.{TakesFiles, One, Along};
 
 use crate::answers::answer_report;
 use crate::files::{take_file, take_key};
@@ -30,8 +30,8 @@ pub fn check<F: Shelf>(
 ) -> Result<Report, Stop>
     ensures known { IfSome (F.contents files.old)
         (λ known. Answers (check_expected key.now query.now reply.now least known) result) }
-    ensures files { TakesFiles F.contents F.faults F.misses (SomeOf (key.now ∷ reply.now ∷ []))
-        files.old files.new result }
+    ensures files { TakesFiles F.contents F.faults F.misses (Along
+        (check_expected key.now query.now reply.now least)) files.old files.new result }
 {
     let key = take_key(alloc, files, key)?;
     let query = query_in(alloc, query)?;

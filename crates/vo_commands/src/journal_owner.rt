@@ -146,6 +146,8 @@ impl<D: Disk> LentDisk<'_, D> {
         ensures counts { D.faults self.old.disk.now ≤ D.faults self.new.disk.now }
         ensures cause { IsErrOf result NoAppend.Disk
             → FaultRose (D.faults self.old.disk.now) (D.faults self.new.disk.now) }
+        ensures quiet { (IsErrOf result NoAppend.Disk → ⊥)
+            → D.faults self.new.disk.now ≡ D.faults self.old.disk.now }
     {
         append_entry(alloc, journal, self.disk, entry)
     }
@@ -174,6 +176,7 @@ pub fn append_entry<D: Disk>(
     ensures counts { D.faults disk.old ≤ D.faults disk.new }
     ensures cause { IsErrOf result NoAppend.Disk
         → FaultRose (D.faults disk.old) (D.faults disk.new) }
+    ensures quiet { (IsErrOf result NoAppend.Disk → ⊥) → D.faults disk.new ≡ D.faults disk.old }
 {
     match journal.append(alloc, disk, entry) {
         Ok(()) => Ok(()),

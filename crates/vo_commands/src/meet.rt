@@ -5,7 +5,7 @@ ghost use Rattle.reply_meeting.specs.Meetings.{RepliesMeet};
 ghost use Rattle.reply_meeting.specs.Views.{met_of};
 ghost use Rattle.vo_commands.specs.Expected.{meet_expected, with_file, reply_limit, Meets};
 ghost use Rattle.vo_commands.specs.Reports.{Answers, StaysInside};
-ghost use Rattle.vo_commands.specs.Taking.{TakesFiles, SomeOf};
+ghost use Rattle.vo_commands.specs.Taking.{TakesFiles, Along};
 
 use crate::files::{take_file, take_key};
 use crate::limits::REPLY_LIMIT;
@@ -31,7 +31,8 @@ pub fn meet<F: Shelf>(
     ensures known { IfSome (F.contents files.old)
         (λ known. Answers (meet_expected key.now query.now first.now second.now known) result) }
     ensures files { TakesFiles F.contents F.faults F.misses
-        (SomeOf (key.now ∷ first.now ∷ second.now ∷ [])) files.old files.new result }
+        (Along (meet_expected key.now query.now first.now second.now)) files.old files.new
+        result }
 {
     let key = take_key(alloc, files, key)?;
     let query = query_in(alloc, query)?;
@@ -54,8 +55,9 @@ fn meet_files<F: Shelf>(
         (λ known. Answers (with_file known first.now reply_limit
         (λ one. with_file known second.now reply_limit
         (λ other. Meets key.now (query_of query.now) one other))) result) }
-    ensures files { TakesFiles F.contents F.faults F.misses (SomeOf (first.now ∷ second.now ∷ []))
-        files.old files.new result }
+    ensures files { TakesFiles F.contents F.faults F.misses (Along (λ known.
+        with_file known first.now reply_limit (λ one. with_file known second.now reply_limit
+        (λ other. Meets key.now (query_of query.now) one other)))) files.old files.new result }
 {
     let first = take_file(alloc, files, first, REPLY_LIMIT)?;
     let second = take_file(alloc, files, second, REPLY_LIMIT)?;

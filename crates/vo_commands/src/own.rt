@@ -1,5 +1,5 @@
 //! `own`: the owner of a key commits the batches of a script with a store, over a network.
-ghost use Rattle.std.specs.Prelude.{◌≡◌, ◌⊎◌, ◌≤◌, ◌∷◌, [], length, All, Some, IfOk, IfSome};
+ghost use Rattle.std.specs.Prelude.{◌≡◌, ◌≢◌, ◌⊎◌, ◌≤◌, ◌∷◌, [], length, All, Some, IfOk, IfSome};
 ghost use Rattle.outside.specs.ConnectionModel.{ConnectionModel};
 ghost use Rattle.outside.specs.FaultRose.{FaultRose};
 ghost use Rattle.link_frames.specs.Reading.{StaysWhereItStands};
@@ -9,11 +9,11 @@ ghost use Rattle.owner_state.specs.Stepping.{AreStepsTo};
 ghost use Rattle.owner_journal.specs.Entries.{entries_of};
 ghost use Rattle.owner_journal.specs.Resting.{IsAtRest};
 ghost use Rattle.vo_words.specs.Height.{number_of};
-ghost use Rattle.vo_commands.specs.Expected.{script_limit, with_file};
+ghost use Rattle.vo_commands.specs.Expected.{script_limit, with_file, Anything, with_seed};
 ghost use Rattle.vo_commands.specs.Committing.{CanGoOn};
 ghost use Rattle.vo_commands.specs.Owning.{CommitsFrom, CommitsOnline, CommitsOver, OwnEnds, Prepares, commitment_expected, commitment_in};
 ghost use Rattle.vo_commands.specs.Reports.{StaysInside};
-ghost use Rattle.vo_commands.specs.Taking.{TakesFiles, LeavesFiles, One, SomeOf};
+ghost use Rattle.vo_commands.specs.Taking.{TakesFiles, LeavesFiles, One, Along};
 
 use crate::files::{take_file, take_seed};
 use crate::journal_owner::{JournalOwner, LentDisk};
@@ -50,13 +50,18 @@ pub fn own<F: Shelf, D: Disk, N: Net, S: Sink>(
         (D.drive disk.old) (D.drive disk.new) (N.wire net.old) (N.wire net.new)
         (S.written out.old) (S.written out.new)) }
     ensures files { LeavesFiles F.contents F.faults F.misses
-        (SomeOf (commitment.now.seed.now ∷ commitment.now.script.now ∷ [])) files.old files.new }
+        (Along (λ known. with_seed known commitment.now.seed.now (number_of commitment.now.height)
+        (λ _. with_file known commitment.now.script.now script_limit (λ _. Anything)))) files.old
+        files.new }
 
     ensures outside { result ≡ 3
         → FaultRose (F.faults files.old) (F.faults files.new)
         ⊎ FaultRose (N.faults net.old) (N.faults net.new)
         ⊎ FaultRose (D.faults disk.old) (D.faults disk.new)
         ⊎ FaultRose (S.faults out.old) (S.faults out.new) }
+    ensures quiet { result ≢ 3 → result ≢ 4 → (F.faults files.new ≡ F.faults files.old)
+        × (N.faults net.new ≡ N.faults net.old) × (D.faults disk.new ≡ D.faults disk.old)
+        × (S.faults out.new ≡ S.faults out.old) }
     ensures net_misses { (before : ConnectionModel) → N.wire net.old ≡ Some before
         → 1 ≤ length before.queue → N.misses net.new ≡ N.misses net.old }
 {
@@ -91,6 +96,9 @@ fn own_with_key<F: Shelf, D: Disk, N: Net, S: Sink>(
         ⊎ FaultRose (N.faults net.old) (N.faults net.new)
         ⊎ FaultRose (D.faults disk.old) (D.faults disk.new)
         ⊎ FaultRose (S.faults out.old) (S.faults out.new) }
+    ensures quiet { result ≢ 3 → result ≢ 4 → (F.faults files.new ≡ F.faults files.old)
+        × (N.faults net.new ≡ N.faults net.old) × (D.faults disk.new ≡ D.faults disk.old)
+        × (S.faults out.new ≡ S.faults out.old) }
     ensures net_misses { (before : ConnectionModel) → N.wire net.old ≡ Some before
         → 1 ≤ length before.queue → N.misses net.new ≡ N.misses net.old }
 {
@@ -149,6 +157,8 @@ fn commit<D: Disk, N: Net, S: Sink>(
         → FaultRose (N.faults net.old) (N.faults net.new)
         ⊎ FaultRose (D.faults disk.old) (D.faults disk.new)
         ⊎ FaultRose (S.faults out.old) (S.faults out.new) }
+    ensures quiet { result ≢ 3 → result ≢ 4 → (N.faults net.new ≡ N.faults net.old)
+        × (D.faults disk.new ≡ D.faults disk.old) × (S.faults out.new ≡ S.faults out.old) }
     ensures misses { (before : ConnectionModel) → N.wire net.old ≡ Some before
         → 1 ≤ length before.queue → N.misses net.new ≡ N.misses net.old }
 {
@@ -184,6 +194,8 @@ fn commit_online<D: Disk, N: Net, S: Sink>(
         → FaultRose (N.faults net.old) (N.faults net.new)
         ⊎ FaultRose (D.faults disk.old) (D.faults disk.new)
         ⊎ FaultRose (S.faults out.old) (S.faults out.new) }
+    ensures quiet { result ≢ 3 → result ≢ 4 → (N.faults net.new ≡ N.faults net.old)
+        × (D.faults disk.new ≡ D.faults disk.old) × (S.faults out.new ≡ S.faults out.old) }
     ensures misses { (before : ConnectionModel) → N.wire net.old ≡ Some before
         → 1 ≤ length before.queue → N.misses net.new ≡ N.misses net.old }
 {
@@ -218,6 +230,8 @@ fn hold_session<D: Disk, N: Net, S: Sink>(
         → FaultRose (N.faults net.old) (N.faults net.new)
         ⊎ FaultRose (D.faults disk.old) (D.faults disk.new)
         ⊎ FaultRose (S.faults out.old) (S.faults out.new) }
+    ensures quiet { result ≢ 3 → result ≢ 4 → (N.faults net.new ≡ N.faults net.old)
+        × (D.faults disk.new ≡ D.faults disk.old) × (S.faults out.new ≡ S.faults out.old) }
     ensures misses { StaysWhereItStands (N.wire net.old) (N.misses net.old) (N.misses net.new) }
 {
     let lent = LentDisk { disk };
@@ -252,6 +266,9 @@ fn hold_session_on<'a, K: Loan, D: Disk, N: Net, S: Sink>(
         → FaultRose (N.faults net.old) (N.faults net.new)
         ⊎ FaultRose (D.faults lent.entry.disk.now) (D.faults result.0.disk.now)
         ⊎ FaultRose (S.faults out.old) (S.faults out.new) }
+    ensures quiet { result.1 ≢ 3 → result.1 ≢ 4 → (N.faults net.new ≡ N.faults net.old)
+        × (D.faults result.0.disk.now ≡ D.faults lent.entry.disk.now)
+        × (S.faults out.new ≡ S.faults out.old) }
     ensures misses { StaysWhereItStands (N.wire net.old) (N.misses net.old) (N.misses net.new) }
 {
     let OpenedJournal { owner, journal } = opened;

@@ -1,5 +1,5 @@
 //! The owner of a key behind the last entry of its journal.
-ghost use Rattle.std.specs.Prelude.{◌≡◌, ◌<◌, ◌≤◌, [], ◌∷◌, false, length, IfErr, IfOk, IfSome, OnErr, OnOk};
+ghost use Rattle.std.specs.Prelude.{◌≡◌, ◌<◌, ◌≤◌, [], ◌∷◌, false, length, IfErr, IfOk, IfSome, OnErr, OnOk, Ok};
 ghost use Rattle.std.specs.List.{AllByRecursion};
 ghost use Rattle.outside.specs.FaultRose.{FaultRose};
 ghost use Rattle.outside.specs.Moments.{IfKnown};
@@ -44,6 +44,7 @@ pub fn open_owner<D: Disk>(
     ensures counts { D.faults disk.old ≤ D.faults disk.new }
     ensures cause { FailsOutside result
         → FaultRose (D.faults disk.old) (D.faults disk.new) }
+    ensures quiet { (FailsOutside result → ⊥) → D.faults disk.new ≡ D.faults disk.old }
 {
     match Journal::open(alloc, disk) {
         Ok(journal) => owner_behind(alloc, key, journal, disk),
@@ -53,7 +54,8 @@ pub fn open_owner<D: Disk>(
 
 /// What the program ends with where the journal isn't opened.
 fn stop_after(alloc: Global, fault: JournalFault) -> Result<Stop, AllocError>
-    ensures { IfOk result (StopsAtFault fault) }
+    ensures stops { IfOk result (StopsAtFault fault) }
+    ensures told { fault ≡ JournalFault.Disk → result ≡ Ok Stop.Outside }
 {
     match fault {
         JournalFault::Disk => Ok(Stop::Outside),
@@ -86,6 +88,7 @@ fn owner_behind<D: Disk>(
     ensures counts { D.faults disk.old ≤ D.faults disk.new }
     ensures cause { FailsOutside result
         → FaultRose (D.faults disk.old) (D.faults disk.new) }
+    ensures quiet { (FailsOutside result → ⊥) → D.faults disk.new ≡ D.faults disk.old }
 {
     if journal.entries().is_empty() {
         begin_journal(alloc, key, journal, disk)
@@ -124,6 +127,7 @@ fn begin_journal<D: Disk>(
     ensures counts { D.faults disk.old ≤ D.faults disk.new }
     ensures cause { FailsOutside result
         → FaultRose (D.faults disk.old) (D.faults disk.new) }
+    ensures quiet { (FailsOutside result → ⊥) → D.faults disk.new ≡ D.faults disk.old }
 {
     match start_owner(alloc, key, &mut journal, disk) {
         Ok(owner) => Ok(OpenedJournal { owner, journal }),
@@ -157,6 +161,7 @@ fn start_owner<D: Disk>(
     ensures counts { D.faults disk.old ≤ D.faults disk.new }
     ensures cause { FailsOutside result
         → FaultRose (D.faults disk.old) (D.faults disk.new) }
+    ensures quiet { (FailsOutside result → ⊥) → D.faults disk.new ≡ D.faults disk.old }
 {
     let (owner, first) = Owner::start(alloc, key)?;
     let appended = append_entry(alloc, journal, disk, &first);

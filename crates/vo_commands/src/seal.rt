@@ -4,7 +4,7 @@ ghost use Rattle.vo_commands.specs.Expected.{Exactly, script_expected, seal_expe
 ghost use Rattle.vo_commands.specs.Reports.{Answers, StaysInside};
 ghost use Rattle.vo_words.specs.Height.{number_of};
 ghost use Rattle.owner_state.specs.Sealing.{FitEach};
-ghost use Rattle.vo_commands.specs.Taking.{TakesFiles, SomeOf};
+ghost use Rattle.vo_commands.specs.Taking.{TakesFiles, Along};
 
 use crate::files::{take_file, take_seed};
 use crate::limits::SCRIPT_LIMIT;
@@ -28,8 +28,8 @@ pub fn seal<F: Shelf>(
 ) -> Result<Report, Stop>
     ensures known { IfSome (F.contents files.old)
         (λ known. Answers (seal_expected seed.now script.now (number_of height) known) result) }
-    ensures files { TakesFiles F.contents F.faults F.misses (SomeOf (seed.now ∷ script.now ∷ []))
-        files.old files.new result }
+    ensures files { TakesFiles F.contents F.faults F.misses (Along
+        (seal_expected seed.now script.now (number_of height))) files.old files.new result }
 {
     let key = take_seed(alloc, files, seed, height)?;
     let script = take_file(alloc, files, script, SCRIPT_LIMIT)?;

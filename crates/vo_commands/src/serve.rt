@@ -1,5 +1,5 @@
 //! `serve`: the store of a journal, over a network.
-ghost use Rattle.std.specs.Prelude.{◌≡◌, ◌⊎◌, ℕ, ◌≤◌, [], ◌∷◌, length, Some, IfErr, IfOk, IfSome};
+ghost use Rattle.std.specs.Prelude.{◌≡◌, ◌≢◌, ◌⊎◌, ℕ, ◌≤◌, [], ◌∷◌, length, Some, IfErr, IfOk, IfSome};
 ghost use Rattle.std.specs.List.{AllByRecursion};
 ghost use Rattle.outside.specs.ConnectionModel.{ConnectionModel};
 ghost use Rattle.outside.specs.FaultRose.{FaultRose};
@@ -7,9 +7,10 @@ ghost use Rattle.outside.specs.Outputs.{Writes};
 ghost use Rattle.vo_spec.specs.Journals.{FitsEntry};
 ghost use Rattle.vo_spec.specs.Owners.{AreLoadable};
 ghost use Rattle.vo_store.specs.Loading.{store_behind};
+ghost use Rattle.vo_commands.specs.Expected.{Anything, journal_limit, with_file, with_key};
 ghost use Rattle.vo_commands.specs.Serving.{FailsToListen, IsServedFrom, Loads, LoadsStore, ServeEnds, StopsLoading, served_output, service_expected};
 ghost use Rattle.vo_commands.specs.Reports.{StaysInside};
-ghost use Rattle.vo_commands.specs.Taking.{TakesFiles, LeavesFiles, SomeOf};
+ghost use Rattle.vo_commands.specs.Taking.{TakesFiles, LeavesFiles, Along};
 
 use crate::files::{take_file, take_key};
 use crate::limits::JOURNAL_LIMIT;
@@ -44,12 +45,16 @@ pub fn serve<F: Shelf, N: Net, S: Sink>(
         (N.faults net.old) (N.faults net.new) (N.wire net.old) (N.wire net.new)
         (S.written out.old) (S.written out.new)) }
     ensures files { LeavesFiles F.contents F.faults F.misses
-        (SomeOf (service.now.key.now ∷ service.now.journal.now ∷ [])) files.old files.new }
+        (Along (λ known. with_key known service.now.key.now (λ _.
+        with_file known service.now.journal.now journal_limit (λ _. Anything)))) files.old
+        files.new }
 
     ensures outside { result ≡ 3
         → FaultRose (F.faults files.old) (F.faults files.new)
         ⊎ FaultRose (N.faults net.old) (N.faults net.new)
         ⊎ FaultRose (S.faults out.old) (S.faults out.new) }
+    ensures quiet { result ≢ 3 → result ≢ 4 → (F.faults files.new ≡ F.faults files.old)
+        × (S.faults out.new ≡ S.faults out.old) }
     ensures net_misses { (before : ConnectionModel) → N.wire net.old ≡ Some before
         → service.now.count ≤ length before.queue → N.misses net.new ≡ N.misses net.old }
 {
@@ -72,8 +77,9 @@ fn load_store<F: Shelf>(
 ) -> Result<Store, Stop>
     ensures known { (count : ℕ) → IfSome (F.contents files.old)
         (λ known. Loads (service_expected key.now journal.now count known) count result) }
-    ensures files { TakesFiles F.contents F.faults F.misses (SomeOf (key.now ∷ journal.now ∷ []))
-        files.old files.new result }
+    ensures files { TakesFiles F.contents F.faults F.misses (Along (λ known.
+        with_key known key.now (λ _. with_file known journal.now journal_limit
+        (λ _. Anything)))) files.old files.new result }
 {
     let key = take_key(alloc, files, key)?;
     let journal = take_file(alloc, files, journal, JOURNAL_LIMIT)?;
@@ -135,10 +141,11 @@ fn serve_store<N: Net, S: Sink>(
 
     ensures outside { result ≡ 3 → FaultRose (N.faults net.old) (N.faults net.new)
         ⊎ FaultRose (S.faults out.old) (S.faults out.new) }
+    ensures quiet { result ≢ 3 → result ≢ 4 → S.faults out.new ≡ S.faults out.old }
     ensures misses { (before : ConnectionModel) → N.wire net.old ≡ Some before
         → count ≤ length before.queue → N.misses net.new ≡ N.misses net.old }
 {
-    match net.listen(address) {
+    match net.listen(address, store.version()) {
         Ok(()) => serve_connections(alloc, store, net, out, count),
         Err(_) => write_output(out, 3, b"fault: outside\n"),
     }
@@ -159,6 +166,7 @@ fn serve_connections<N: Net, S: Sink>(
     ensures counts { N.faults net.old ≤ N.faults net.new }
     ensures outside { result ≡ 3 → FaultRose (N.faults net.old) (N.faults net.new)
         ⊎ FaultRose (S.faults out.old) (S.faults out.new) }
+    ensures quiet { result ≢ 3 → result ≢ 4 → S.faults out.new ≡ S.faults out.old }
     ensures misses { (before : ConnectionModel) → N.wire net.old ≡ Some before
         → count ≤ length before.queue → N.misses net.new ≡ N.misses net.old }
 {
@@ -175,6 +183,7 @@ fn write_served<S: Sink>(alloc: Global, out: &mut S, count: u32) -> u8
     ensures wrote { Writes (served_output count) (FaultRose (S.faults out.old) (S.faults out.new))
         result (S.written out.old) (S.written out.new) }
     ensures outside { result ≡ 3 → FaultRose (S.faults out.old) (S.faults out.new) }
+    ensures quiet { result ≢ 3 → S.faults out.new ≡ S.faults out.old }
 {
     match served_line(alloc, count) {
         Ok(line) => write_output(out, 0, &line),

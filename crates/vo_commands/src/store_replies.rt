@@ -1,5 +1,5 @@
 //! Checking the reply of a store as it comes, over a network.
-ghost use Rattle.std.specs.Prelude.{◌≡◌, ◌<◌, ◌≤◌, ◌^◌, [], length, Some, IsTrue, IfOk, OnOk};
+ghost use Rattle.std.specs.Prelude.{◌≡◌, ◌<◌, ◌≤◌, ◌^◌, [], length, Some, IsTrue, IfOk, OnOk, Ok};
 ghost use Rattle.outside.specs.ConnectionModel.{ConnectionModel, has_next};
 ghost use Rattle.link_frames.specs.Reading.{KeepsNetCounts};
 ghost use Rattle.link_frames.specs.declared.frame_kind.FrameKind.TheVariants.{Query};
@@ -45,7 +45,8 @@ pub fn feed_reply<N: Net>(
 
 /// What the program ends with where there is no reply.
 fn stop_without(alloc: Global, fault: WireFault) -> Result<Stop, AllocError>
-    ensures { IfOk result (λ stop. StopsWithout fault stop) }
+    ensures stops { IfOk result (λ stop. StopsWithout fault stop) }
+    ensures told { fault ≡ WireFault.LinkFault → result ≡ Ok Stop.Outside }
 {
     let report = match fault {
         WireFault::BadFrame { length } => {

@@ -1,14 +1,14 @@
 //! The top call.
-ghost use Rattle.std.specs.Prelude.{◌≡◌, ◌⊎◌, ◌≤◌, false, length, map, string_bytes, Some, None, IfSome};
+ghost use Rattle.std.specs.Prelude.{◌≡◌, ◌≢◌, ◌⊎◌, ◌≤◌, false, length, map, string_bytes, Some, None, IfSome};
 ghost use Rattle.outside.specs.ConnectionModel.{ConnectionModel};
 ghost use Rattle.outside.specs.FaultRose.{FaultRose};
 ghost use Rattle.vo_words.specs.PlainRequest.{request_in};
 ghost use Rattle.vo_words.specs.Request.{plain_command};
-ghost use Rattle.vo_commands.specs.Expected.{Exactly, expected_of, command_expected, words_refusal, queue_of, connections_of, uses_disk, uses_net, writes_as_it_works, UsesNet, Ends, HoldsEach, files_of_request, file_words};
+ghost use Rattle.vo_commands.specs.Expected.{Exactly, is_service, expected_of, command_expected, words_refusal, queue_of, connections_of, uses_disk, uses_net, writes_as_it_works, UsesNet, Ends, HoldsEach, file_words, files_expected, words_expected};
 ghost use Rattle.vo_commands.specs.Owning.{OwnEnds, own_expected};
 ghost use Rattle.vo_commands.specs.Reports.{Answers, StaysInside, FailsOutside};
 ghost use Rattle.vo_commands.specs.Serving.{ServeEnds, serve_expected};
-ghost use Rattle.vo_commands.specs.Taking.{LeavesFiles, SomeOf};
+ghost use Rattle.vo_commands.specs.Taking.{LacksFile, LeavesFiles, Along};
 
 use crate::answer::answer;
 use crate::ask::ask;
@@ -52,6 +52,12 @@ pub fn run<F: Shelf, D: Disk, N: Net, S: Sink>(
         ⊎ FaultRose (N.faults net.old) (N.faults net.new)
         ⊎ FaultRose (D.faults disk.old) (D.faults disk.new)
         ⊎ FaultRose (S.faults out.old) (S.faults out.new) }
+    // A call of the outside that failed is told: another status comes only where none has, but that
+    // a server goes on where a connection fails, and its lines tell of it.
+    ensures quiet { result ≢ 3 → result ≢ 4 → (F.faults files.new ≡ F.faults files.old)
+        × (D.faults disk.new ≡ D.faults disk.old) × (S.faults out.new ≡ S.faults out.old) }
+    ensures net_quiet { is_service (request_in (map string_bytes words.now)) ≡ false
+        → result ≢ 3 → result ≢ 4 → N.faults net.new ≡ N.faults net.old }
     ensures memory { writes_as_it_works (request_in (map string_bytes words.now)) ≡ false
         → result ≡ 4 → S.written out.new ≡ S.written out.old }
     // Where the contents of the files are known, `serve` ends so, or as is expected before that.
@@ -83,7 +89,11 @@ pub fn run<F: Shelf, D: Disk, N: Net, S: Sink>(
         → UsesNet (request_in (map string_bytes words.now)) (F.contents files.old) before
         (N.wire net.new) }
 
-    // What is there is not missed.
+    // No file is missed but one that isn't there and to which it comes, since what is before that in
+    // the order of the words is as it must be; so what is there is not missed.
+    ensures misses_in_order { IfSome (F.contents files.old) (λ known.
+        (LacksFile (words_expected (request_in (map string_bytes words.now)) known) → ⊥)
+        → F.misses files.new ≡ F.misses files.old) }
     ensures misses { IfSome (F.contents files.old) (λ known.
         HoldsEach known (file_words (request_in (map string_bytes words.now)))
         → F.misses files.new ≡ F.misses files.old) }
@@ -121,7 +131,7 @@ fn run_command<F: Shelf, N: Net>(
     ensures known { IfSome (command_expected (plain_command command.entry) (F.contents files.old)
         (queue_of (N.wire net.old))) (λ expected. Answers expected result) }
     ensures files { LeavesFiles F.contents F.faults F.misses
-        (SomeOf (files_of_request (plain_command command.entry))) files.old files.new }
+        (Along (files_expected (plain_command command.entry))) files.old files.new }
     ensures net { uses_net (Some (plain_command command.entry)) ≡ false → net.new ≡ net.old }
     ensures asks { (before : ConnectionModel) → N.wire net.old ≡ Some before
         → UsesNet (Some (plain_command command.entry)) (F.contents files.old) before
@@ -131,6 +141,8 @@ fn run_command<F: Shelf, N: Net>(
     ensures cause { FailsOutside result
         → FaultRose (F.faults files.old) (F.faults files.new)
         ⊎ FaultRose (N.faults net.old) (N.faults net.new) }
+    ensures quiet { (FailsOutside result → ⊥) → (F.faults files.new ≡ F.faults files.old)
+        × (N.faults net.new ≡ N.faults net.old) }
     ensures net_misses { (before : ConnectionModel) → N.wire net.old ≡ Some before
         → connections_of (Some (plain_command command.entry)) ≤ length before.queue
         → N.misses net.new ≡ N.misses net.old }

@@ -34,6 +34,8 @@ pub fn serve_all<N: Net, S: Sink>(
     ensures out_counts { S.faults out.old ≤ S.faults out.new }
     ensures out_cause { IsErrOf result ServeFault.Output
         → FaultRose (S.faults out.old) (S.faults out.new) }
+    ensures out_quiet { (IsErrOf result ServeFault.Output → ⊥)
+        → S.faults out.new ≡ S.faults out.old }
 {
     let (_, end) = serve_all_lent::<Brand, N, S>(alloc, LentStore { store }, net, out, count);
     end
@@ -62,6 +64,8 @@ fn serve_all_lent<'a, K: Loan, N: Net, S: Sink>(
     ensures out_counts { S.faults out.old ≤ S.faults out.new }
     ensures out_cause { IsErrOf result.1 ServeFault.Output
         → FaultRose (S.faults out.old) (S.faults out.new) }
+    ensures out_quiet { (IsErrOf result.1 ServeFault.Output → ⊥)
+        → S.faults out.new ≡ S.faults out.old }
 {
     let mut server: StoreServer<'a, K> = StoreServer {
         lent,

@@ -15,7 +15,7 @@ fn passes_bytes_each_way(rt: HostRuntime) -> Result<(), Fail> {
 }
 
 fn server_passes_bytes(rt: &HostRuntime, server: &mut Tcp<'_, HostRuntime>) -> Result<bool, Fail> {
-    let listening = server.listen("127.0.0.1:0");
+    let listening = server.listen("127.0.0.1:0", Some(7));
     let addr = address(rt, server)?;
     let mut client = Tcp::new(rt);
     let connected = (client.connect(&addr), server.next());
@@ -80,7 +80,7 @@ fn impatient_ends(rt: &HostRuntime) -> Result<(Tcp<'_, HostRuntime>, Tcp<'_, Hos
     let (mut server, mut client) = (Tcp::new(rt), Tcp::new(rt));
     server.patience = Duration::from_millis(600);
     client.patience = Duration::from_millis(600);
-    let listening = server.listen("127.0.0.1:0");
+    let listening = server.listen("127.0.0.1:0", Some(7));
     let addr = address(rt, &server)?;
     let connected = (client.connect(&addr), server.next());
     drop(addr);

@@ -1,4 +1,5 @@
-use Rattle.std.proofs.Common.{arith}
+use Rattle.std.proofs.Common.{refl, arith}
+use Rattle.link_frames.proofs.Results.{no_err}
 use Rattle.connections.proofs.ServerLaws.{serves_none, serves_more, serves_all, serves_to_fault, misses_stay}
 use Rattle.connections.proofs.server.serve_all.Goals as goal
 
@@ -10,16 +11,16 @@ loop-served-init g c =
 pub loop-served-preserved : goal.loop-served-preserved
 loop-served-preserved g c =
     serves_more _ _ _ c.in-Ok.field-0 _ _ _ _ _ _ _ _ _ _ _ _ _ _ _ _ _ _ c.loop-served.invariant c.in-Ok.ensures.served
-    c.serve_next.ensures.counts.rise c.serve_next.ensures.counts.stays c.serve_next.ensures.out_counts
+    c.serve_next.ensures.counts c.serve_next.ensures.misses (c.in-Ok.ensures.out_quiet (λ e. no_err _ _ _ refl e))
 
 pub returns-in-Err-clause-served : goal.returns-in-Err-clause-served
 returns-in-Err-clause-served g c =
     serves_to_fault _ _ _ _ c.in-Err.fault _ _ _ _ _ _ _ _ _ _ _ _ _ _ _ _ (omega arith) c.loop-served.invariant c.in-Err.ensures.served
-    c.serve_next.ensures.counts.rise
+    c.serve_next.ensures.counts
 
 pub returns-clause-served : goal.returns-clause-served
 returns-clause-served g c = serves_all _ _ _ _ _ _ _ _ _ _ _ _ _ _ _ _ _ (omega arith) c.loop-served.invariant
 
 pub returns-in-Err-clause-misses : goal.returns-in-Err-clause-misses
 returns-in-Err-clause-misses g c =
-    misses_stay _ _ _ _ _ _ _ _ _ _ _ _ _ _ _ _ _ (omega arith) c.loop-served.invariant c.serve_next.ensures.counts.stays
+    misses_stay _ _ _ _ _ _ _ _ _ _ _ _ _ _ _ _ _ (omega arith) c.loop-served.invariant c.serve_next.ensures.misses

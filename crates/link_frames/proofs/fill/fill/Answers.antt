@@ -9,7 +9,7 @@ loop-filled-init g c =
     record {
       within = omega arith;
       known = λ before is. filled_none c.args.into.now before (g.L.Link.wire c.args.link.now) is;
-      counts = omega arith;
+      counts = refl;
       stays = λ w is stands. refl;
     }
 
@@ -37,7 +37,7 @@ loop-filled-preserved g c =
       known = λ before is. filled_more c.loop-filled.filled c.in_ok-count.count c.args.into.now c.loop-filled.into _ c.get.new.into
           before _ _ (take_rest c.loop-filled.into c.loop-filled.filled) (c.loop-filled.invariant.known before is)
           c.in_ok-count.ensures.taken c.in_ok-count.ensures.ok;
-      counts = omega (arith, c.get.ensures.counts);
+      counts = c.in_ok-count.ensures.quiet ∙ c.loop-filled.invariant.counts;
       stays = misses_stay c.loop-filled.filled _ _ _ _ _ (λ before is. (c.loop-filled.invariant.known before is).2) c.loop-filled.invariant.stays c.get.ensures.misses;
     }
 
@@ -51,6 +51,7 @@ returns-in_err-count-clause-counts g c =
     record {
       rise = omega (arith, c.loop-filled.invariant.counts, c.get.ensures.counts);
       cause = λ err. omega (arith, c.loop-filled.invariant.counts, c.in_err-count.ensures.cause refl);
+      quiet = λ fine. absurd (fine c.from_residual.ensures.0);
       stays = misses_stay c.loop-filled.filled _ _ _ _ _ (λ before is. (c.loop-filled.invariant.known before is).2) c.loop-filled.invariant.stays c.get.ensures.misses;
     }
 
@@ -59,5 +60,6 @@ returns-in-0-clause-counts g c =
     record {
       rise = omega (arith, c.loop-filled.invariant.counts, c.get.ensures.counts);
       cause = λ err. absurd (false≢true err);
+      quiet = λ fine. c.in_ok-count.ensures.quiet ∙ c.loop-filled.invariant.counts;
       stays = misses_stay c.loop-filled.filled _ _ _ _ _ (λ before is. (c.loop-filled.invariant.known before is).2) c.loop-filled.invariant.stays c.get.ensures.misses;
     }

@@ -1,8 +1,9 @@
-use Rattle.std.proofs.Common.{length, take, refl, ◌∙◌, arith}
+use Rattle.std.proofs.Common.{length, take, Err, refl, sym, ap, ◌∙◌, arith}
 use Rattle.std.proofs.lemmas.List.{length-take}
 use Rattle.std.proofs.lemmas.Result.{err_from_is_err_and}
 use Rattle.outside.specs.ConnectionModel.{take_from}
 use Rattle.link_frames.proofs.Filling.{stays_on, handed_none, handed_more, handed_end, handed_all, hands_err}
+use Rattle.link_frames.proofs.Results.{no_err}
 use Rattle.link_frames.proofs.gathers.hand_on.Goals as goal
 
 pub loop-handed-init : goal.loop-handed-init
@@ -12,7 +13,7 @@ loop-handed-init g c =
         within = omega arith;
         grows = omega arith;
         known = λ before is. handed_none (g.G.Gathers.gathered c.args.into.now) before (g.L.Link.wire c.args.link.now) is;
-        counts = omega arith;
+        counts = refl;
         stays = λ w is stands. refl;
       };
       kept = refl;
@@ -49,7 +50,7 @@ loop-handed-preserved g c =
             (g.G.Gathers.gathered c.args.into.now) (g.G.Gathers.gathered c.loop-handed.into) (g.G.Gathers.gathered c.hand_piece.new.into)
             before (g.L.Link.wire c.loop-handed.link) (g.L.Link.wire c.hand_piece.new.link)
             (c.loop-handed.invariant.handing.known before is) c.in_ok-came.ensures.known;
-        counts = omega (arith, c.hand_piece.ensures.counts.rise);
+        counts = c.hand_piece.ensures.counts.quiet (λ e. no_err _ _ _ c.in_ok-came.was e) ∙ c.loop-handed.invariant.handing.counts;
         stays = stays_on _ _ _ _ _ (λ before is. (take_from c.loop-handed.handed before, (c.loop-handed.invariant.handing.known before is).2, refl)) c.loop-handed.invariant.handing.stays c.hand_piece.ensures.counts.stays;
       };
       kept = c.hand_piece.ensures.kept ∙ c.loop-handed.invariant.kept;
@@ -65,9 +66,11 @@ returns-clause-grows g c = c.loop-handed.invariant.handing.grows
 
 pub returns-in_err-came-clause-counts : goal.returns-in_err-came-clause-counts
 returns-in_err-came-clause-counts g c =
+    let p = err_from_is_err_and c.from_residual.result c.from_residual.ensures.1 in
     record {
       rise = omega (arith, c.loop-handed.invariant.handing.counts, c.hand_piece.ensures.counts.rise);
       cause = grind arith;
+      quiet = λ fine. c.hand_piece.ensures.counts.quiet (λ e. fine (p.1 ∙ ap (λ f. Err f) p.2 ∙ sym c.in_err-came.was ∙ e)) ∙ c.loop-handed.invariant.handing.counts;
       stays = stays_on _ _ _ _ _ (λ before is. (take_from c.loop-handed.handed before, (c.loop-handed.invariant.handing.known before is).2, refl)) c.loop-handed.invariant.handing.stays c.hand_piece.ensures.counts.stays;
     }
 
@@ -76,5 +79,6 @@ returns-in-0-clause-counts g c =
     record {
       rise = omega (arith, c.loop-handed.invariant.handing.counts, c.hand_piece.ensures.counts.rise);
       cause = grind arith;
+      quiet = λ fine. c.hand_piece.ensures.counts.quiet (λ e. no_err _ _ _ c.in_ok-came.was e) ∙ c.loop-handed.invariant.handing.counts;
       stays = stays_on _ _ _ _ _ (λ before is. (take_from c.loop-handed.handed before, (c.loop-handed.invariant.handing.known before is).2, refl)) c.loop-handed.invariant.handing.stays c.hand_piece.ensures.counts.stays;
     }

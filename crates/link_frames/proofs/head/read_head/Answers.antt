@@ -1,7 +1,8 @@
-use Rattle.std.proofs.Common.{arith, ℕ, [], ◌∷◌, refl}
+use Rattle.std.proofs.Common.{arith, ℕ, [], ◌∷◌, refl, ◌∙◌}
 use Rattle.outside.specs.ConnectionModel.{take_from}
 use Rattle.link_frames.proofs.ReadLaws.{length_fails, length_none, length_cut, length_read}
 use Rattle.link_frames.proofs.Filling.{stays_on}
+use Rattle.link_frames.proofs.Results.{ok_no_err}
 use Rattle.link_frames.proofs.head.read_head.Goals as goal
 
 pub returns-in-Ok-eq0-clause-known : goal.returns-in-Ok-eq0-clause-known
@@ -28,6 +29,7 @@ returns-in-Ok-eq4-clause-counts g c =
     record {
       rise = omega (arith, c.fill.ensures.counts.rise, c.read_kind.ensures.counts.rise);
       cause = λ e. omega (arith, c.fill.ensures.counts.rise, c.read_kind.ensures.counts.cause e);
+      quiet = λ fine. c.read_kind.ensures.counts.quiet fine ∙ c.fill.ensures.counts.quiet (λ e. ok_no_err _ _ c.in-Ok-eq4.is e);
       stays = stays_on _ _ _ _ _ (λ before is. (take_from c.in-Ok-eq4.field-0 before, (c.in-Ok-eq4.ensures.known before is).2, refl))
           c.fill.ensures.counts.stays c.read_kind.ensures.counts.stays;
     }

@@ -1,6 +1,7 @@
 use Rattle.std.proofs.Common.{ℕ, ◌-◌, [], ◌∷◌, get_or, refl, arith}
 use Rattle.link_frames.specs.Frames.{kind_of, with_kind}
 use Rattle.link_frames.proofs.ReadLaws.{kind_fails, kind_zero, kind_cut, kind_read, not_fault}
+use Rattle.link_frames.proofs.Results.{ok_no_err}
 use Rattle.link_frames.proofs.head.read_kind.Goals as goal
 
 pub returns-then-length-eq0-clause-known : goal.returns-then-length-eq0-clause-known
@@ -29,5 +30,6 @@ returns-in-Ok-clause-counts g c =
       rise = c.fill.ensures.counts.rise;
       cause = λ e. absurd (not_fault (with_kind c.args.awaits (kind_of (get_or c.fill.new.into 0 0)) (c.args.length - 1) []) c.args.length [] c.head_of.result
           (c.head_of.ensures.known []) e);
+      quiet = λ fine. c.fill.ensures.counts.quiet (λ e. ok_no_err _ _ c.in-Ok.is e);
       stays = c.fill.ensures.counts.stays;
     }

@@ -1,4 +1,5 @@
-use Rattle.std.proofs.Common.{arith}
+use Rattle.std.proofs.Common.{◌∙◌, arith}
+use Rattle.link_frames.proofs.Results.{no_err, one_error}
 use Rattle.link_frames.proofs.ServeLaws.{serving_none, serving_more, serving_ends, serving_all, serving_stays}
 use Rattle.link_frames.proofs.serve.serve_link.Goals as goal
 
@@ -10,7 +11,7 @@ loop-turn-init g c =
 pub loop-turn-preserved : goal.loop-turn-preserved
 loop-turn-preserved g c =
     serving_more _ _ _ _ _ _ _ _ _ _ _ _ _ _ _ c.in-Ok.field-0 (omega arith) c.loop-turn.invariant c.in-Ok.ensures.known
-    c.serve_request.ensures.counts.rise c.serve_request.ensures.counts.stays
+    (c.serve_request.ensures.counts.quiet (λ e. no_err _ _ _ c.in-Ok.is e)) c.serve_request.ensures.counts.stays
 
 pub returns-in-Err-clause-known : goal.returns-in-Err-clause-known
 returns-in-Err-clause-known g c =
@@ -24,5 +25,6 @@ returns-in-Err-clause-counts g c =
     record {
       rise = omega (arith, c.loop-turn.invariant.counts, c.serve_request.ensures.counts.rise);
       cause = grind arith;
+      quiet = λ fine. c.serve_request.ensures.counts.quiet (λ e. fine (one_error _ _ _ c.in-Err.is e)) ∙ c.loop-turn.invariant.counts;
       stays = serving_stays _ _ _ _ _ _ _ _ _ _ _ _ c.loop-turn.invariant c.serve_request.ensures.counts.stays;
     }

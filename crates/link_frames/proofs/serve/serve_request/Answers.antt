@@ -1,4 +1,4 @@
-use Rattle.std.proofs.Common.{arith, length, refl, sym, subst}
+use Rattle.std.proofs.Common.{arith, length, refl, sym, ◌∙◌, subst}
 use Rattle.outside.specs.ConnectionModel.{take_from}
 use Rattle.link_frames.specs.declared.awaits.Awaits.TheVariants.{Request}
 use Rattle.link_frames.specs.declared.end.End.{End}
@@ -7,6 +7,7 @@ use Rattle.link_frames.specs.Frames.{first_frame}
 use Rattle.link_frames.specs.Serving.{ServesOne}
 use Rattle.link_frames.proofs.FrameLaws.{allowed_length}
 use Rattle.link_frames.proofs.Filling.{stays_on}
+use Rattle.link_frames.proofs.Results.{no_err}
 use Rattle.link_frames.proofs.ServeLaws.{no_request, one_read}
 use Rattle.link_frames.proofs.serve.serve_request.Goals as goal
 
@@ -35,6 +36,7 @@ returns-in-Ok-clause-counts g c =
     record {
       rise = omega (arith, c.read_frame.ensures.counts.rise, c.answer_request.ensures.counts.rise);
       cause = λ e. omega (arith, c.read_frame.ensures.counts.rise, c.answer_request.ensures.counts.cause e);
+      quiet = λ fine. c.answer_request.ensures.counts.quiet fine ∙ c.read_frame.ensures.counts.quiet (λ e. no_err _ _ _ c.in-Ok.is e);
       stays = stays_on _ _ _ _ _ (λ before is. (take_from (c.in-Ok.ensures.known before is).1.0 before, (c.in-Ok.ensures.known before is).1.2, refl))
           c.read_frame.ensures.counts.stays c.answer_request.ensures.counts.stays;
     }

@@ -1,4 +1,5 @@
-use Rattle.std.proofs.Common.{arith}
+use Rattle.std.proofs.Common.{◌∙◌, refl, arith}
+use Rattle.link_frames.proofs.Results.{no_err}
 use Rattle.owner_session.specs.Work.{standing}
 use Rattle.owner_session.specs.Runs.{continuation_with}
 use Rattle.owner_session.proofs.WireLaws.{caught_up, not_caught_up, stays_then}
@@ -19,6 +20,7 @@ returns-in-Ok-clause-counts g c =
     record {
       rise = omega (arith, c.in-Ok.ensures.counts.rise, c.deliver.ensures.counts.rise);
       cause = λ e. omega (arith, c.in-Ok.ensures.counts.rise, c.deliver.ensures.counts.cause e);
+      quiet = λ fine. c.deliver.ensures.counts.quiet fine ∙ c.in-Ok.ensures.counts.quiet (λ e. no_err _ _ _ refl e);
       stays = stays_then g.O.SessionOwner.IsJudgement (standing g.O.SessionOwner.forms (g.O.SessionOwner.entries c.args.owner.now)) continuation_with c.in-Ok.held
           (g.O.SessionOwner.state c.args.owner.now) (g.O.SessionOwner.entries c.args.owner.now) (g.L.Link.wire c.args.link.now) (g.L.Link.wire c.ask_standing.new.link)
           (g.L.Link.misses c.args.link.now) (g.L.Link.misses c.ask_standing.new.link) (g.L.Link.misses c.deliver.new.link)

@@ -1,4 +1,5 @@
-use Rattle.std.proofs.Common.{ℕ, ◌-◌, arith}
+use Rattle.std.proofs.Common.{ℕ, ◌-◌, ◌∙◌, refl, arith}
+use Rattle.link_frames.proofs.Results.{no_err}
 use Rattle.std.specs.Global.{Vec}
 use Rattle.owner_session.specs.Work.{proposal}
 use Rattle.owner_session.specs.Runs.{continuation_with}
@@ -27,6 +28,7 @@ returns-in-Ok-clause-counts g c =
     record {
       rise = omega (arith, c.in-Ok.ensures.counts.rise, c.install_entry-in-Ok.ensures.counts.rise);
       cause = λ f. omega (arith, c.in-Ok.ensures.counts.rise, c.install_entry-in-Ok.ensures.counts.cause f);
+      quiet = λ fine. c.install_entry-in-Ok.ensures.counts.quiet fine ∙ c.in-Ok.ensures.counts.quiet (λ e. no_err _ _ _ refl e);
       stays = stays_then g.O.SessionOwner.IsJudgement (proposal g.O.SessionOwner.forms (g.O.SessionOwner.forms.batch e.0)) (λ (given : Vec ℕ). continuation_with given.items) c.in-Ok.field-0
           (g.O.SessionOwner.state c.args.owner.now) (g.O.SessionOwner.entries c.args.owner.now) (g.L.Link.wire c.args.link.now) (g.L.Link.wire c.propose_entry.new.link)
           (g.L.Link.misses c.args.link.now) (g.L.Link.misses c.propose_entry.new.link) (g.L.Link.misses c.install_entry-in-Ok.new.link)

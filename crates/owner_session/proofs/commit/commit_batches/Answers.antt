@@ -1,4 +1,5 @@
-use Rattle.std.proofs.Common.{refl, arith}
+use Rattle.std.proofs.Common.{refl, ◌∙◌, arith}
+use Rattle.link_frames.proofs.Results.{no_err}
 use Rattle.owner_session.proofs.CommitLaws.{committed_none, committed_more, commit_stops, committed_all, committed_stays}
 use Rattle.owner_session.proofs.commit.commit_batches.Goals as goal
 
@@ -8,9 +9,9 @@ loop-batch-init g c = record {
       (g.O.SessionOwner.state c.args.owner.now) (g.O.SessionOwner.entries c.args.owner.now);
   works = c.requires.works;
   keeps = λ keeps. keeps;
-  link_counts = omega arith;
-  disk_counts = omega arith;
-  out_counts = omega arith;
+  link_counts = refl;
+  disk_counts = refl;
+  out_counts = refl;
   stays = λ w is stands. refl;
 }
 
@@ -25,9 +26,9 @@ loop-batch-preserved g c = record {
       c.loop-batch-test.true c.batch-item.is c.loop-batch.invariant.known c.in-Ok.ensures.known;
   works = c.in-Ok.ensures.works;
   keeps = λ keeps. c.in-Ok.ensures.keeps (c.loop-batch.invariant.keeps keeps);
-  link_counts = omega (arith, c.loop-batch.invariant.link_counts, c.in-Ok.ensures.faults.link_counts);
-  disk_counts = omega (arith, c.loop-batch.invariant.disk_counts, c.in-Ok.ensures.faults.disk_counts);
-  out_counts = omega (arith, c.loop-batch.invariant.out_counts, c.in-Ok.ensures.faults.out_counts);
+  link_counts = c.in-Ok.ensures.faults.link_quiet (λ e. no_err _ _ _ refl e) ∙ c.loop-batch.invariant.link_counts;
+  disk_counts = c.in-Ok.ensures.faults.disk_quiet (λ e. no_err _ _ _ refl e) ∙ c.loop-batch.invariant.disk_counts;
+  out_counts = c.in-Ok.ensures.faults.out_quiet (λ e. no_err _ _ _ refl e) ∙ c.loop-batch.invariant.out_counts;
   stays = committed_stays g.O.SessionOwner.IsJudgement g.O.SessionOwner.forms c.args.batches.now c.loop-batch.batch-index (g.L.Link.wire c.args.link.now)
       (g.L.Link.wire c.loop-batch.link) (g.S.Sink.written c.args.out.now) (g.S.Sink.written c.loop-batch.out) (g.O.SessionOwner.state c.args.owner.now)
       (g.O.SessionOwner.state c.loop-batch.owner) (g.O.SessionOwner.entries c.args.owner.now) (g.O.SessionOwner.entries c.loop-batch.owner)

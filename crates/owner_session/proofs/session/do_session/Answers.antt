@@ -25,7 +25,7 @@ pub returns-in-Err-clause-faults : goal.returns-in-Err-clause-faults
 returns-in-Err-clause-faults g c =
     link_faults c.in-Err.stop (g.L.Link.faults c.args.link.now)
     (g.L.Link.faults c.catch_up.new.link) (g.O.SessionOwner.faults c.args.owner.now)
-    (g.S.Sink.faults c.args.out.now) c.in-Err.ensures.counts.rise c.in-Err.ensures.counts.cause
+    (g.S.Sink.faults c.args.out.now) c.in-Err.ensures.counts.rise c.in-Err.ensures.counts.cause c.in-Err.ensures.counts.quiet
     c.in-Err.ensures.inside
 
 pub returns-in-Ok-clause-misses : goal.returns-in-Ok-clause-misses

@@ -1,7 +1,9 @@
-use Rattle.std.proofs.Common.{[], ◌∷◌}
-use Rattle.vo_commands.specs.Expected.{Meets, with_file, reply_limit}
+use Rattle.std.proofs.Common.{ℕ, List}
+use Rattle.outside.specs.Shelf.{Files}
+use Rattle.vo_spec.specs.Conditions.{Query}
+use Rattle.vo_commands.specs.Expected.{Meets, OfQuery, key_limit, meet_expected, reply_limit, with_file, with_key}
 use Rattle.vo_commands.proofs.CommandSteps.{key_and_query_known}
-use Rattle.vo_commands.proofs.TakingSteps.{takes_more}
+use Rattle.vo_commands.proofs.TakingSteps.{lacks_behind, lacks_it, lacks_query, takes_more}
 use Rattle.vo_commands.proofs.meet.meet.Goals as goal
 
 pub returns-clause-known : goal.returns-clause-known
@@ -12,4 +14,9 @@ returns-clause-known g c =
 
 pub returns-clause-files : goal.returns-clause-files
 returns-clause-files g c =
-    takes_more c.args.key.now (c.args.first.now ∷ c.args.second.now ∷ []) _ _ _ _ _ c.in_ok-key.ensures.files c.meet_files-report.ensures.files
+    let rest = λ (known : Files) (k : List ℕ) (q : Query). with_file known c.args.first.now reply_limit (λ y. with_file known c.args.second.now reply_limit (λ z. Meets k q y z)) in
+    takes_more c.args.key.now (meet_expected c.args.key.now c.args.query.now c.args.first.now c.args.second.now) (λ known. rest known c.in_ok-key.key _) _ _ _ _ _ (λ e. e)
+    (λ known none. lacks_it (known c.args.key.now) c.args.key.now key_limit _ none)
+    (lacks_query c.args.query.now _ (λ known q. rest known c.in_ok-key.key q) _ _ c.in_ok-query.ensures
+    (lacks_behind (λ known. with_key known c.args.key.now) c.in_ok-key.key (λ known k. OfQuery c.args.query.now (λ q. rest known k q)) _ c.in_ok-key.ensures.known))
+    c.in_ok-key.ensures.files c.meet_files-report.ensures.files

@@ -13,4 +13,4 @@ returns-in-Ok-clause-ends g c =
     (FaultRose (g.S.Sink.faults c.args.out.now) (g.S.Sink.faults c.serve_connections.new.out)) c.serve_connections.result first mid last
     (g.N.Link.wire c.args.net.now) (g.N.Link.wire c.listen.new.self) (g.N.Link.wire c.serve_connections.new.net)
     (g.S.Sink.written c.args.out.now) (g.S.Sink.written c.serve_connections.new.out) (rose_later first mid last c.listen.ensures.counts)
-    c.listen.ensures.counts c.listen.ensures.kept c.serve_connections.ensures.ends)
+    c.in-Ok.ensures.quiet c.listen.ensures.kept c.serve_connections.ensures.ends)

@@ -15,7 +15,7 @@ returns-in-Ok-clause-asks g c = λ before is.
 
 pub returns-in_ok-stop_without-in-Err-clause-known : goal.returns-in_ok-stop_without-in-Err-clause-known
 returns-in_ok-stop_without-in-Err-clause-known g c = λ before is.
-    reply_stops _ c.args.checking.now c.fetch_into.new.checking c.in-Err.fault before _ c.in_ok-stop_without-in-Err.field-0 (c.in-Err.ensures.known before is) c.in_ok-stop_without-in-Err.ensures
+    reply_stops _ c.args.checking.now c.fetch_into.new.checking c.in-Err.fault before _ c.in_ok-stop_without-in-Err.field-0 (c.in-Err.ensures.known before is) c.in_ok-stop_without-in-Err.ensures.stops
 
 pub returns-in_ok-stop_without-in-Err-clause-asks : goal.returns-in_ok-stop_without-in-Err-clause-asks
 returns-in_ok-stop_without-in-Err-clause-asks g c = λ before is.

@@ -1,7 +1,11 @@
-use Rattle.std.proofs.Common.{◌≡◌, Some, sym, ap, ◌∙◌, option_map, map, string_bytes}
+use Rattle.std.proofs.Common.{◌≡◌, Some, IfSome, sym, ap, ◌∙◌, subst, option_map, map, string_bytes}
 use Rattle.vo_words.specs.PlainRequest.{request_in}
+use Rattle.vo_words.specs.declared.request.Request.TheVariants.{Serve}
+use Rattle.vo_commands.specs.Expected.{words_expected}
+use Rattle.vo_commands.specs.Taking.{LacksFile}
 use Rattle.vo_words.specs.Request.{plain_command, plain_request}
 use Rattle.vo_commands.proofs.Endings.{asks_nothing, command_ends, ends_empty, own_ends_empty, serve_ends_empty}
+use Rattle.vo_commands.proofs.FilesThere.{none_missed}
 use Rattle.vo_commands.proofs.top.run.Goals as goal
 
 pub returns-in-Ok-Some-Command-clause-lines : goal.returns-in-Ok-Some-Command-clause-lines
@@ -23,3 +27,23 @@ returns-in-Err-clause-owns g c = own_ends_empty _ _ _ _ _ _ _ _
 
 pub returns-in-Err-clause-asks : goal.returns-in-Err-clause-asks
 returns-in-Err-clause-asks g c = λ before is. asks_nothing _ _ before _ is
+
+pub returns-in-Ok-Some-Command-clause-misses_in_order : goal.returns-in-Ok-Some-Command-clause-misses_in_order
+returns-in-Ok-Some-Command-clause-misses_in_order g c =
+    let some = c.in-Ok-Some-Command.field-0-is ∙ ap Some c.in-Ok-Some-Command.field-0-0-is in
+    let asked : Some (plain_command c.in-Ok-Some-Command.command) ≡ request_in (map string_bytes c.args.words.now) =
+    sym (ap (option_map plain_request) some) ∙ c.in-Ok-Some-Command.ensures in
+    subst (λ request. IfSome (g.F.Shelf.contents c.args.files.now) (λ known. (LacksFile (words_expected request known) → ⊥)
+    → g.F.Shelf.misses c.run_command-outcome.new.files ≡ g.F.Shelf.misses c.args.files.now)) asked c.run_command-outcome.ensures.files.missed
+
+pub returns-in-Ok-Some-Command-clause-misses : goal.returns-in-Ok-Some-Command-clause-misses
+returns-in-Ok-Some-Command-clause-misses g c =
+    none_missed (request_in (map string_bytes c.args.words.now)) _ _ _ (returns-in-Ok-Some-Command-clause-misses_in_order g c)
+
+pub returns-in-Ok-Some-Serve-clause-misses_in_order : goal.returns-in-Ok-Some-Serve-clause-misses_in_order
+returns-in-Ok-Some-Serve-clause-misses_in_order g c =
+    let some = c.in-Ok-Some-Serve.field-0-is ∙ ap Some c.in-Ok-Some-Serve.field-0-0-is in
+    let asked : option_map plain_request (Some (Serve c.in-Ok-Some-Serve.service)) ≡ request_in (map string_bytes c.args.words.now) =
+    sym (ap (option_map plain_request) some) ∙ c.in-Ok-Some-Serve.ensures in
+    subst (λ request. IfSome (g.F.Shelf.contents c.args.files.now) (λ known. (LacksFile (words_expected request known) → ⊥)
+    → g.F.Shelf.misses c.serve.new.files ≡ g.F.Shelf.misses c.args.files.now)) asked c.serve.ensures.files.missed
