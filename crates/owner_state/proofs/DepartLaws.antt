@@ -8,15 +8,15 @@ use Rattle.vo_spec.specs.declared.tables.Command.{Command}
 use Rattle.vo_spec.specs.declared.records.Catalog.{Catalog}
 use Rattle.vo_spec.specs.declared.records.Entry.{Entry}
 use Rattle.vo_spec.specs.Journals.{batches_of}
-use Rattle.vo_spec.specs.Honest.{Stored, after_work, catalog_of, honest_record, honest_trees}
+use Rattle.vo_spec.specs.Honest.{Stored, after_work, catalog_of, honest_trees}
 use Rattle.vo_laws.proofs.StepLaws.{no_trees_before, trees_follow}
 use Rattle.owner_roots.specs.declared.roots.Roots.{Roots}
 use Rattle.owner_roots.specs.Next.{NextOf}
-use Rattle.owner_roots.specs.Owners.{AreOwned, AreOwnedTo, IsNextEntry, IsSignedFor, honest_roots, record_of_roots}
+use Rattle.owner_roots.specs.Owners.{AreOwned, AreOwnedTo, IsNextEntry, honest_roots}
 use Rattle.owner_roots.proofs.OwnedLaws.{version}
 use Rattle.owner_state.specs.declared.departures.Departure.{Departure}
 use Rattle.owner_state.specs.NextDeparture.{DepartsNext}
-use Rattle.owner_state.specs.Departing.{AreHonestBelow, Departs, DepartsAt, trees_at}
+use Rattle.owner_state.specs.Departing.{AreHonestBelow, Departs, DepartsAt, HasCatalog, IsFirstDeparture, trees_at}
 use Rattle.owner_state.specs.Owning.{IsBehind, LeadsTo}
 use Rattle.owner_state.proofs.LeadLaws.{behind_more, owned_more}
 
@@ -82,10 +82,10 @@ module _ (key : List ℕ) where
 
   abbrev pub DepartsSoFar : List Entry → ℕ → Option Roots → Option Departure → Type 0
   DepartsSoFar es n roots None = AreHonestBelow key n es × AreHonestRoots n es roots
-  DepartsSoFar es n roots (Some d) = AreHonestBelow key d.index es × DepartsAt es d.index d.tables
+  DepartsSoFar es n roots (Some d) = IsFirstDeparture key es d.index × DepartsAt es d.index d.tables
 
   pub departs_at_end : (es : List Entry) (n : ℕ) (roots : Option Roots) (d : Option Departure) → length es ≤ n → DepartsSoFar es n roots d → Departs key es d
-  departs_at_end es n roots None long so = λ v e below found. so.0 v e (omega (arith, long, below)) found
+  departs_at_end es n roots None long so = λ v below. so.0 v (omega (arith, long, below))
   departs_at_end es n roots (Some d) long so = so
 
   -- the entry that comes next, and what it leads to
@@ -113,9 +113,11 @@ module _ (key : List ℕ) where
         let long : length (take n es) ≡ n = length-take-le n es (omega (arith, turn.within)) in
         omega (arith, number, long, length-append (take n es) (e ∷ []))
 
-    signed : (o : Option Roots) → LeadsTo key o e after → IsSignedFor key after e
-    signed None leads = subst (λ (r : Roots). IsSignedFor key r e) leads.1 leads.0.signed
-    signed (Some roots) leads = leads.signed
+    owned_to : AreOwnedTo key (take (n + 1) es) after
+    owned_to = subst (λ (fs : List Entry). AreOwnedTo key fs after) (sym turn.more) (behind_more key (take n es) before e after turn.behind turn.leads)
+
+    catalog_is : (c : Catalog) → after.catalog ≡ c → HasCatalog key es n c
+    catalog_is c same = record { behind = after; owned = owned_to; same = same }
 
     roots_are : (roots : Roots) (v : ℕ) (c : Catalog) → roots.version ≡ v → roots.catalog ≡ c → roots ≡ with_catalog v c
     roots_are roots v c ev ec = ap (λ (w : ℕ). with_catalog w roots.catalog) ev ∙ ap (with_catalog v) ec
@@ -124,23 +126,18 @@ module _ (key : List ℕ) where
     honest_now : after.catalog ≡ catalog_of (after_work stored e.batch.commands) → after ≡ honest_roots n (trees_at n es)
     honest_now same = roots_are after n (catalog_of (trees_at n es)) version_now (same ∙ ap catalog_of trees_now)
 
-    record_now : after ≡ honest_roots n (trees_at n es) → e.rec ≡ honest_record key n (trees_at n es)
-    unfolding record_of_roots honest_record
-    record_now same = (signed before turn.leads).record_is ∙ ap (record_of_roots key) same
-
-    below_next : AreHonestBelow key n es → e.rec ≡ honest_record key n (trees_at n es) → AreHonestBelow key (n + 1) es
-    below_next below here = λ v f lt found.
+    below_next : AreHonestBelow key n es → HasCatalog key es n (catalog_of (trees_at n es)) → AreHonestBelow key (n + 1) es
+    below_next below here = λ v lt.
         elim (leb_tells n v) [
           | inl t ↦
               let same : v ≡ n = omega (arith, lt, t.1) in
-              let entry : e ≡ f = some_is e f (sym turn.there ∙ ap (slice_get es) (sym same) ∙ found) in
-              subst (λ (g : Entry). g.rec ≡ honest_record key v (trees_at v es)) entry (subst (λ (w : ℕ). e.rec ≡ honest_record key w (trees_at w es)) (sym same) here)
-          | inr t ↦ below v f t.1 found
+              subst (λ (w : ℕ). HasCatalog key es w (catalog_of (trees_at w es))) (sym same) here
+          | inr t ↦ below v t.1
         ]
 
     honest_so_far : AreHonestBelow key n es → after ≡ honest_roots n (trees_at n es) → DepartsSoFar es (n + 1) (Some after) None
     honest_so_far below same = (
-      below_next below (record_now same),
+      below_next below (catalog_is (catalog_of (trees_at n es)) (ap (λ (r : Roots). r.catalog) same)),
       (λ v e1. let number : v ≡ n = omega (arith, e1) in subst (λ (w : ℕ). after ≡ honest_roots w (trees_at w es)) (sym number) same),
     )
 
@@ -176,6 +173,15 @@ module _ (key : List ℕ) where
     departed None is behind leads honest other = absurd (no_departure_at_first leads behind other)
     departed (Some roots) is behind leads honest other = departure_at roots is leads honest (later roots behind) other
 
+    departed_first : AreHonestBelow key n es → after.catalog ≢ catalog_of (after_work stored e.batch.commands) → IsFirstDeparture key es n
+    departed_first below other = record {
+      within = turn.within;
+      before = below;
+      catalog = after.catalog;
+      behind = catalog_is after.catalog refl;
+      departs = λ same. other (same ∙ ap catalog_of (sym trees_now));
+    }
+
     -- One entry more.
     pub departs_next : (d now : Option Departure) → DepartsNext d n stored after.catalog (after_work stored e.batch.commands) now → DepartsSoFar es n before d
         → DepartsSoFar es (n + 1) (Some after) now
@@ -183,6 +189,6 @@ module _ (key : List ℕ) where
     departs_next None None same so = honest_so_far so.0 (honest_now same)
     departs_next None (Some d) other so =
         let at : DepartsAt es n stored = departed before refl turn.behind turn.leads so.1 other.2 in (
-          subst (λ (k : ℕ). AreHonestBelow key k es) (sym other.0) so.0,
+          subst (IsFirstDeparture key es) (sym other.0) (departed_first so.0 other.2),
           subst (λ (k : ℕ). DepartsAt es k d.tables) (sym other.0) (subst (DepartsAt es n) (sym other.1) at),
         )

@@ -1,4 +1,5 @@
 mod AnswerSteps
 pub mod ByNames
 pub mod MissingLaws
+mod QueryStops
 mod RunLaws

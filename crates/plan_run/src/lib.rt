@@ -1,6 +1,7 @@
 //! What the trees of a reply show for a query, and what the query needs of each of them.
 #![tactic(auto)]
 
+mod laws;
 mod left_tree;
 mod left_views;
 mod needing;
@@ -11,6 +12,7 @@ mod running;
 mod seeing;
 mod showing;
 
+pub use laws::plans_run_as_their_queries;
 pub use left_tree::left_need;
 pub use needing::right_needs;
 pub use ran::Ran;

@@ -25,7 +25,8 @@ use Rattle.stored_tables.proofs.WorkLaws.{work_refused, gives_plain}
 use Rattle.owner_roots.specs.declared.owner_fault.OwnerFault.{OwnerFault}
 use Rattle.owner_roots.specs.declared.owner_fault.OwnerFault.TheVariants.{Command as Refused}
 use Rattle.owner_roots.specs.Next.{tables_after, trees_taken, tables_from, roots_with, next_roots}
-use Rattle.root_laws.specs.HonestRoots.{honest_roots, honest_next_roots}
+use Rattle.owner_roots.specs.Owners.{honest_roots}
+use Rattle.root_laws.specs.HonestRoots.{honest_next_roots}
 use Rattle.root_laws.specs.Following.{IsProofFault, TakeParts, IsOrRefusesProof}
 use Rattle.root_laws.proofs.TableSteps.{tables_by_trees, refuses_mapped}
 use Rattle.root_laws.proofs.CommandSteps.{command_followed, command_proved, command_refused, rest_left}

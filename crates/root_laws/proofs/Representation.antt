@@ -11,7 +11,8 @@ use Rattle.vo_laws.proofs.StoredFits.{honest_separated}
 use Rattle.vo_laws.proofs.ProofSizes.{honest_proofs_fit}
 use Rattle.stored_tables.specs.Representation.{IsStanding}
 use Rattle.owner_roots.specs.Next.{NextOf}
-use Rattle.root_laws.specs.HonestRoots.{honest_roots, honest_next_roots}
+use Rattle.owner_roots.specs.Owners.{honest_roots}
+use Rattle.root_laws.specs.HonestRoots.{honest_next_roots}
 use Rattle.root_laws.proofs.BatchSteps.{batch_proved}
 
 pub honest_standing : (earlier : List (List Command)) → AllByRecursion FitsBatch earlier → IsStanding (honest_trees earlier)

@@ -1,4 +1,4 @@
--- The roots of honest trees, and what batches make of them.
+-- What batches make of the roots of honest trees.
 use Rattle.std.specs.Prelude.{ℕ, ◌+◌, List, Result}
 use Rattle.std.specs.Result.{result_map_both}
 use Rattle.vo_spec.specs.declared.tables.Command.{Command}
@@ -9,10 +9,7 @@ use Rattle.stored_tables.specs.Working.{work_from}
 use Rattle.owner_roots.specs.declared.owner_fault.OwnerFault.{OwnerFault}
 use Rattle.owner_roots.specs.declared.owner_fault.OwnerFault.TheVariants.{Command as Refused}
 use Rattle.owner_roots.specs.declared.roots.Roots.{Roots}
-
--- The roots that an honest owner has, by its trees.
-abbrev pub honest_roots : ℕ → List Stored → Roots
-honest_roots version stored = record { version = version; catalog = catalog_of stored }
+use Rattle.owner_roots.specs.Owners.{honest_roots}
 
 -- The tables of the catalog after the command of this number, by the trees, or its refusal.
 abbrev pub honest_tables_after : ℕ → Command → List Stored → Result (List CatalogTable) OwnerFault

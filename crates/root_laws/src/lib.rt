@@ -18,8 +18,9 @@ ghost use Rattle.stored_tables.specs.Representation.{IsStanding};
 ghost use Rattle.stored_tables.specs.Working.{work_from};
 ghost use Rattle.owner_roots.specs.declared.owner_fault.OwnerFault.TheVariants.{Command as Refused};
 ghost use Rattle.owner_roots.specs.Next.{NextOf, next_roots};
+ghost use Rattle.owner_roots.specs.Owners.{honest_roots};
 ghost use Rattle.root_laws.specs.Following.{IsOrRefusesProof, TakeParts};
-ghost use Rattle.root_laws.specs.HonestRoots.{honest_next_roots, honest_roots};
+ghost use Rattle.root_laws.specs.HonestRoots.{honest_next_roots};
 
 /// An owner with the roots of honest trees has those of the next ones after an honest store's
 /// proofs of a batch, or refuses it as the plain tables do.

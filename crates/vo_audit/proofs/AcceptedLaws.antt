@@ -7,6 +7,7 @@ use Rattle.vo_spec.specs.declared.checks.CheckFault.TheVariants as check
 use Rattle.vo_spec.specs.declared.checks.AuditFault.{AuditFault}
 use Rattle.vo_spec.specs.declared.checks.AuditFault.TheVariants.{BadJournal, Refused, Memory}
 use Rattle.vo_spec.specs.declared.checks.Verdict.{Verdict}
+use Rattle.vo_spec.specs.declared.checks.Verdict.TheVariants.{Unsigned, Exact, Collides}
 use Rattle.vo_spec.specs.declared.records.Entry.{Entry}
 use Rattle.vo_spec.specs.Firsts.{first_some, unless}
 use Rattle.vo_spec.specs.Conditions.{Query}
@@ -18,8 +19,10 @@ use Rattle.owner_roots.specs.Owners.{IsOwned, IsBadAt, OwnedAuditOf}
 use Rattle.vo_laws.proofs.JoinLaws.{is_bytes}
 use Rattle.held_replies.specs.Judging.{FitsWhereBound}
 use Rattle.vo_audit.specs.Auditing.{HasPassed, AuditsReply, audit_fault, seen_answer}
-use Rattle.vo_audit.specs.Showing.{AreShown, Shows, ShowsOf}
-use Rattle.std.specs.Prelude.{◌≤◌, IfOk}
+use Rattle.owner_state.specs.declared.departures.Departure.{Departure}
+use Rattle.owner_state.specs.Departing.{Departs}
+use Rattle.vo_audit.specs.Showing.{AreFound, AreOfDeparture, AreOfProofs, AreShown, Shows, ShowsOf}
+use Rattle.std.specs.Prelude.{◌≤◌, IfOk, IsSomeAnd}
 
 unless_ok : {F A : Type 0} (o : Option F) (x y : A) → unless o x ≡ Ok y → (o ≡ None) × (y ≡ x)
 unless_ok None x y e = (refl, cc)
@@ -75,11 +78,29 @@ told_of_bytes key journal bytes es q r (Err Memory) owned short is told = inl re
 told_of_bytes key journal bytes es q r (Ok verdict) owned short is told =
     inr (es, owned, r, is, told.0, inr (inr (short, r, is, sym told.1)), told.2)
 
+-- the departure that a journal's reading gave is the first
+of_departure : (key : List ℕ) (es : List Entry) (departure : Option Departure) (version : ℕ) (x y : List ℕ) → Departs key es departure
+    → IsSomeAnd departure (λ (d : Departure). (d.index ≤ version) × AreOfProofs es d.index x y) → AreOfDeparture key es version x y
+of_departure key es None version x y departs none = absurd none
+of_departure key es (Some d) version x y departs found = (d.index, departs.0, found.0, found.1)
+
+shown_by : (key : List ℕ) (es : List Entry) (departure : Option Departure) (q : Query) (r : Reply) (x y : List ℕ) → Departs key es departure
+    → AreFound q r es departure x y → AreShown key q r es x y
+shown_by key es departure q r x y departs (inl reply) = inl reply
+shown_by key es departure q r x y departs (inr proofs) = inr (of_departure key es departure r.rec.version x y departs proofs)
+
+shows_by : (key : List ℕ) (es : List Entry) (departure : Option Departure) (q : Query) (r : Reply) (verdict : Verdict) → Departs key es departure
+    → Shows verdict (AreFound q r es departure) → Shows verdict (AreShown key q r es)
+shows_by key es departure q r (Unsigned rec signature last) departs shows = tt
+shows_by key es departure q r (Exact version) departs shows = tt
+shows_by key es departure q r (Collides found) departs shows = shown_by key es departure q r found.0 found.1 departs shows
+
 -- what is shown of a reply that was read is shown of its bytes
-pub shown_of_bytes : {E : Type 0} (key journal bytes : List ℕ) (es : List Entry) (q : Query) (r : Reply) (given : Result Verdict E) → IsOwned key journal es → IsReply bytes r
-    → IfOk given (λ verdict. Shows verdict (AreShown q r es)) → IfOk given (λ verdict. ShowsOf key journal q bytes verdict)
-shown_of_bytes key journal bytes es q r (Ok verdict) owned is shows = (es, owned, r, is, shows)
-shown_of_bytes key journal bytes es q r (Err fault) owned is shows = tt
+pub shown_of_bytes : {E : Type 0} (key journal bytes : List ℕ) (es : List Entry) (departure : Option Departure) (q : Query) (r : Reply) (given : Result Verdict E)
+    → IsOwned key journal es → Departs key es departure → IsReply bytes r → IfOk given (λ verdict. Shows verdict (AreFound q r es departure))
+    → IfOk given (λ verdict. ShowsOf key journal q bytes verdict)
+shown_of_bytes key journal bytes es departure q r (Ok verdict) owned departs is shows = (es, owned, r, is, shows_by key es departure q r verdict departs shows)
+shown_of_bytes key journal bytes es departure q r (Err fault) owned departs is shows = tt
 
 memory_or_refused : (fault : CheckFault) → (audit_fault fault ≡ Memory) ⊎ (audit_fault fault ≡ Refused fault)
 memory_or_refused check.Memory = inl refl

@@ -15,7 +15,7 @@ use Rattle.owner_roots.specs.declared.owner_fault.OwnerFault.{OwnerFault}
 use Rattle.owner_roots.specs.declared.roots.Roots.{Roots}
 use Rattle.owner_roots.specs.Next.{NextOf, next_roots, roots_with, tables_after, tables_from, trees_taken}
 use Rattle.root_laws.specs.Following.{TakesPart}
-use Rattle.root_laws.specs.HonestRoots.{honest_roots}
+use Rattle.owner_roots.specs.Owners.{honest_roots}
 use Rattle.root_laws.proofs.CommandSteps.{command_accepted}
 use Rattle.root_laws.proofs.OneAnswer.{one_list}
 use Rattle.vo_audit.specs.Departures.{DepartBy, IsDeparture, IsFollowed}

@@ -6,7 +6,7 @@ use Rattle.vo_spec.specs.Trees.{RowTree}
 use Rattle.vo_spec.specs.Honest.{Stored, catalog_of, work_all}
 use Rattle.owner_roots.specs.declared.roots.Roots.{Roots}
 use Rattle.owner_roots.specs.Next.{NextOf, tables_after, tables_from}
-use Rattle.root_laws.specs.HonestRoots.{honest_roots}
+use Rattle.owner_roots.specs.Owners.{honest_roots}
 
 -- An owner with the roots of these trees follows the batch, by the proofs that these bytes are; and
 -- the batch is refused on these trees, or makes another catalog of them.

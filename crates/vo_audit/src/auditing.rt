@@ -6,7 +6,7 @@ ghost use Rattle.vo_spec.specs.Replies.{FitsReply};
 ghost use Rattle.owner_roots.specs.Owners.{OwnedAuditOf};
 ghost use Rattle.vo_format.specs.View.{reply_of};
 ghost use Rattle.vo_audit.specs.Auditing.{IsReadAt, AuditsReply, audit_fault, version_of};
-ghost use Rattle.vo_audit.specs.Showing.{AreShown, Shows, ShowsOf};
+ghost use Rattle.vo_audit.specs.Showing.{AreFound, Shows, ShowsOf};
 
 use crate::verdicts::verdict_on;
 use held_replies::{judge, read_within};
@@ -47,8 +47,8 @@ fn audit_reply(
     requires fits { FitsReply (reply_of reply.now) }
     ensures verdict { AuditsReply key.now owned.now.entries (query_of query.now)
         (reply_of reply.now) result }
-    ensures shown { IfOk result (λ verdict.
-        Shows verdict (AreShown (query_of query.now) (reply_of reply.now) owned.now.entries)) }
+    ensures shown { IfOk result (λ verdict. Shows verdict (AreFound (query_of query.now)
+        (reply_of reply.now) owned.now.entries owned.now.departure)) }
 {
     let answer = match judge(alloc, key, 0, query, reply) {
         Ok(answer) => answer,
@@ -72,7 +72,8 @@ pub fn audit(
     ensures verdict { (result ≡ Err AuditFault.Memory)
         ⊎ OwnedAuditOf key.now journal.now (query_of query.now) reply.now result }
 
-    // What a collision is of: catalogs, trees of a table, or the proofs of an entry.
+    // What a collision is of: catalogs, trees of a table, or the proofs of the first entry behind
+    // which the owner's catalog isn't the honest one.
     ensures shown { IfOk result (λ verdict.
         ShowsOf key.now journal.now (query_of query.now) reply.now verdict) }
 {

@@ -1,5 +1,5 @@
 //! What a journal says of an answer that a client accepts.
-ghost use Rattle.std.specs.Prelude.{◌≡◌, ◌<◌, ◌-◌, List, IfOk, IfSome, None, Some};
+ghost use Rattle.std.specs.Prelude.{◌≡◌, ◌<◌, ◌≤◌, ◌-◌, List, IfOk, IfSome, None, Some};
 ghost use Rattle.vo_spec.specs.declared.checks.Verdict.TheVariants.{Unsigned};
 ghost use Rattle.vo_spec.specs.declared.tables.Table.{Table};
 ghost use Rattle.vo_spec.specs.Collides.{Collides};
@@ -10,7 +10,7 @@ ghost use Rattle.vo_spec.specs.Honest.{RepresentTables, catalog_of};
 ghost use Rattle.vo_spec.specs.Audits.{IsVerdict};
 ghost use Rattle.vo_format.specs.View.{reply_of};
 ghost use Rattle.vo_audit.specs.Auditing.{HasPassed, IsBefore, IsDepartureIn, IsHeldVerdict, IsReadAt, seen_answer};
-ghost use Rattle.vo_audit.specs.Showing.{AreOfProofs, AreOfReply, AreShown, Shows};
+ghost use Rattle.vo_audit.specs.Showing.{AreFound, AreOfProofs, AreOfReply, Shows};
 
 use crate::departures::collision_of_batch;
 use crate::evidence::evidence;
@@ -72,6 +72,7 @@ fn verdict_by(
 fn departure_by<'o>(owned: &'o OwnedJournal<'_>, version: u64) -> Option<&'o Departure>
     ensures before { result ≡ None → IsBefore version owned.now.departure }
     ensures there { IfSome result (λ departure. owned.now.departure ≡ Some departure.now) }
+    ensures within { IfSome result (λ departure. departure.now.index ≤ version) }
 {
     match &owned.departure {
         Some(departure) if departure.index <= version => Some(departure),
@@ -87,7 +88,8 @@ fn collision_at(
 ) -> Result<Collision, AllocError>
     requires { IsDepartureIn entries.now departure.now }
     ensures collides { IfOk result (λ found. Collides found.0 found.1) }
-    ensures strings { IfOk result (λ found. AreOfProofs entries.now found.0 found.1) }
+    ensures strings { IfOk result (λ found.
+        AreOfProofs entries.now departure.now.index found.0 found.1) }
 {
     match entries.get(departure.index as usize) {
         Some(entry) => {
@@ -110,7 +112,8 @@ fn verdict_behind(
     requires { IsDepartureIn entries.now departure.now }
     ensures held { (plain : List Table) → RepresentTables tables.now plain
         → IfOk result (λ verdict. IsHeldVerdict plain (query_of query.now) answer.now verdict) }
-    ensures shown { IfOk result (λ verdict. Shows verdict (AreOfProofs entries.now)) }
+    ensures shown { IfOk result (λ verdict.
+        Shows verdict (AreOfProofs entries.now departure.now.index)) }
 {
     let exact = is_result(alloc, tables, query, &answer.outcome)?;
     if exact {
@@ -135,8 +138,8 @@ pub(crate) fn verdict_on(
     requires answer { answer.now ≡ seen_answer (query_of query.now) (reply_of reply.now) }
     ensures verdict { IfOk result (λ verdict.
         IsVerdict owned.now.entries (query_of query.now) (reply_of reply.now) answer.now verdict) }
-    ensures shown { IfOk result (λ verdict.
-        Shows verdict (AreShown (query_of query.now) (reply_of reply.now) owned.now.entries)) }
+    ensures shown { IfOk result (λ verdict. Shows verdict (AreFound (query_of query.now)
+        (reply_of reply.now) owned.now.entries owned.now.departure)) }
 {
     if !holds(owned.entries.as_slice(), &reply.rec) {
         return unsigned_verdict(alloc, owned.entries.len(), reply);

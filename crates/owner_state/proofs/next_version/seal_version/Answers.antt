@@ -66,7 +66,7 @@ returns c =
     let step : c.in-Ok-step.step ≡ next = step_is c.in-Ok-step.step next (sym c.in-Ok-step.is ∙ gives) in (
       left,
       done,
-      c.in_ok-put_slot-in-Ok-step.ensures
+      c.in_ok-put_slot-in-Ok-step.ensures.ok
           ∙ ap (λ (e : Entry). c.args.sealed.now.slots.items ++ slot e)
           (ap (λ (s : Step). s.entry) step ∙ entry_behind before.key (before.roots.version + 1) stored after batch done),
       record { key = c.advance.ensures.key; roots = c.advance.ensures.roots ∙ ap (λ (s : Step). s.roots) step },

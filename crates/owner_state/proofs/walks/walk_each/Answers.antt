@@ -27,7 +27,7 @@ loop-index-init c =
       trees = c.requires.tables;
       departs = subst (λ (d : Option Departure). DepartsSoFar key es 0 c.args.walk.now.roots d) (sym c.requires.departure)
           (subst (λ (o : Option Roots). DepartsSoFar key es 0 o None) (sym c.requires.roots)
-          ((λ version e below found. absurd (omega (arith, below))), tt));
+          ((λ version below. absurd (omega (arith, below))), tt));
       kept = subst (λ (k : Option (List Stored)). IfSome k (λ (ss : List Stored). ss ≡ honest_trees (batches_of (take (c.args.version + 1) es)))) (sym c.requires.kept) tt;
       there = λ below. absurd (omega (arith, below));
       only = λ some.

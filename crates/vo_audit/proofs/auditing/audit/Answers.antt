@@ -25,8 +25,8 @@ returns-in-Ok-read-clause-verdict c =
 pub returns-in-Ok-read-clause-shown : goal.returns-in-Ok-read-clause-shown
 returns-in-Ok-read-clause-shown c =
     let reads : ReadsReply c.args.reply.now (Ok c.in-Ok-read.reply) = subst (ReadsReply c.args.reply.now) c.in-Ok-read.is c.read_within-read.ensures in
-    shown_of_bytes c.args.key.now c.args.journal.now c.args.reply.now c.in-Ok.owned.entries (query_of c.args.query.now) (reply_of c.in-Ok-read.reply) c.audit_reply.result
-    c.in-Ok.ensures.owned reads.1 c.audit_reply.ensures.shown
+    shown_of_bytes c.args.key.now c.args.journal.now c.args.reply.now c.in-Ok.owned.entries c.in-Ok.owned.departure (query_of c.args.query.now) (reply_of c.in-Ok-read.reply)
+    c.audit_reply.result c.in-Ok.ensures.owned c.in-Ok.ensures.departure reads.1 c.audit_reply.ensures.shown
 
 pub returns-in-Ok-clause-verdict : goal.returns-in-Ok-clause-verdict
 returns-in-Ok-clause-verdict c =
