@@ -83,7 +83,7 @@ def rows(lists):
 
 
 def reference_in(text):
-    from vo_ref.syntax import Ref
+    from reference.syntax import Ref
     return Ref(*text.split(".")) if "." in text else Ref(None, text)
 
 
