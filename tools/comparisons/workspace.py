@@ -42,9 +42,9 @@ def build(name):
         sys.exit(f"{name} is not built: run `rt run` in crates/{name}")
 
 
-def load_reference():
-    """Lets `reference` be imported, with what is built here; by what is started too."""
-    os.environ["VO_STAGE"] = ",".join(BUILT)
+def load_reference(*features):
+    """Lets `reference` be imported, with what is built here and these features; by what is started too."""
+    os.environ["VO_STAGE"] = ",".join([*BUILT, *features])
     os.environ["PYTHONPATH"] = TOP
     sys.dont_write_bytecode = True
     sys.path.insert(0, TOP)

@@ -136,7 +136,7 @@ def high_rows():
         signature = lm_ots.u32(leaf) + one_time + lm_ots.u32(tree) + path
         yield "ots_sign", b"\x01", ID, lm_ots.u32(leaf), SEED, RECORD
         yield "keep", signature
-        yield from verified_rows(key_bytes(tree, 1, root_of(tree, leaf, path)), signature)
+        yield from verified_rows(key_bytes(tree, 1, root_of(tree, leaf, path, 1, SEED)), signature)
     secret = lms.SecretKey.make(ID, SEED, 1, 10)
     yield "make", b"\x0a", b"\x01", ID, SEED
     yield "node", b"\x01"
@@ -147,10 +147,10 @@ def high_rows():
     yield from verified_rows(secret.public().bytes(), secret.sign(700, RECORD))
 
 
-def root_of(tree, leaf, path):
+def root_of(tree, leaf, path, ots, seed):
     """The root that a path leads to from a leaf's one-time key."""
     place = (1 << lms.HEIGHTS[tree]) + leaf
-    node = lms.leaf_node(ID, place, lm_ots.public_of(ID, leaf, 1, SEED))
+    node = lms.leaf_node(ID, place, lm_ots.public_of(ID, leaf, ots, seed))
     for at in range(0, len(path), 32):
         sibling = path[at:at + 32]
         pair = (sibling, node) if place % 2 else (node, sibling)

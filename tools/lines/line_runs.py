@@ -45,15 +45,24 @@ def write_part(name, pairs):
     write_run(CRATE, [pair for each, part in parts.items() for pair in (turn_of(each), *part)])
 
 
+def input_of(name, lines):
+    """What is said to the program to have a crate's lines answered."""
+    return "".join(line + "\n" for line in [turn_of(name)[0], *lines]).encode()
+
+
+def answers_of(name, lines):
+    """What a crate answers to lines."""
+    workspace.build("answer_lines")
+    ran = subprocess.run([PROGRAM], input=input_of(name, lines), stdout=subprocess.PIPE, check=True)
+    return ran.stdout.decode().split("\n")[1:-1]
+
+
 def compare_lines(name, pairs, show=lambda line: line, what=""):
     """Whether a crate answers some lines otherwise than is due, after these are printed as `show` has them, and all are kept."""
-    workspace.build("answer_lines")
-    due, report = [turn_of(name), *pairs], Report(name)
-    data = "".join(line + "\n" for line, _ in due).encode()
-    ran = subprocess.run([PROGRAM], input=data, stdout=subprocess.PIPE, check=True)
-    answers = ran.stdout.decode().split("\n")[:-1]
-    for (line, want), got in itertools.zip_longest(due, answers, fillvalue=("", "")):
+    report = Report(name)
+    lines = [line for line, _ in pairs]
+    for (line, want), got in itertools.zip_longest(pairs, answers_of(name, lines), fillvalue=("", "")):
         report.compare(show(line)[:2000], want, got)
     if report.differ:
-        report.keep(Run([PROGRAM], {"stdin": data}, "stdin"), "".join(want + "\n" for _, want in due).encode())
+        report.keep(Run([PROGRAM], {"stdin": input_of(name, lines)}, "stdin"), "".join(f"{want}\n" for _, want in pairs).encode())
     return report.end(what)
