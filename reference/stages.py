@@ -20,7 +20,8 @@ FEATURES = {
 }
 
 
-def _named(text):
+def features_of(text):
+    """The features that a text names."""
     names = frozenset(name for name in text.split(",") if name)
     unknown = sorted(names - set(FEATURES))
     if unknown:
@@ -28,7 +29,7 @@ def _named(text):
     return names
 
 
-BUILT = _named(os.environ.get("VO_STAGE", ",".join(FEATURES)))
+BUILT = features_of(os.environ.get("VO_STAGE", ",".join(FEATURES)))
 
 
 def has(feature):
