@@ -3,6 +3,7 @@ import os
 import shlex
 
 from comparisons.workspace import TOP
+from reference.generators.folders import write_files
 
 # The folder that has a folder for each comparison and case.
 KEPT = os.environ.get("VO_DIFFERENCES", os.path.join(TOP, "out/differences"))
@@ -12,13 +13,6 @@ MOST_KEPT = 50
 def short(thing):
     """The beginning of what is compared."""
     return repr(thing)[:300]
-
-
-def write_files(folder, files):
-    """Writes files by their names."""
-    for name, data in files.items():
-        with open(os.path.join(folder, name), "wb") as file:
-            file.write(data)
 
 
 class Run:
