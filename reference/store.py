@@ -212,7 +212,7 @@ class Store:
 
 
 def load_journal(key, journal):
-    """The store that has loaded a journal; Entry{index} for the first entry that it doesn't take."""
+    """The store that has loaded a journal; Entry{index}: the first entry that it doesn't take."""
     return _loaded(key.bytes(), bytes(journal)).copy()
 
 

@@ -3,8 +3,8 @@
     python3 -m reference.generators.folders write FOLDER [SEED [SIZE]]
     python3 -m reference.generators.folders run FOLDER PROGRAM [WORD ..]
 
-The first makes a folder of cases, and the second runs a program on each of them.  A case is a run in
-the folder's own `files` folder: its words, and the status and the output due.
+The first makes a folder of cases, and the second runs a program on each of them.  A case is a run
+in the folder's own `files` folder: its words, and the status and the output due.
 """
 
 import hashlib

@@ -94,8 +94,8 @@ def listen_once(handle):
 class Loopback:
     """A program under test in a folder of its own.
 
-    Its methods yield comparisons: a name, what is due, and what came.  A store that says a lie which
-    was cut short ends its connection once nothing came for `patience` seconds.
+    Its methods yield comparisons: a name, what is due, and what came.  A store that says a lie
+    which was cut short ends its connection once nothing came for `patience` seconds.
     """
 
     def __init__(self, program, folder, patience=1):
@@ -247,7 +247,8 @@ class Loopback:
     def journals(self):
         """`own`, behind journals of some length, whole and damaged."""
         whole, installed = self.world.journal, self.honest_answers()[1::2]
-        for journal in (b"", b"\0", b"\1", b"\1\0", whole[:-1], whole, whole[:9] + b"x" + whole[10:],
+        changed = whole[:9] + b"x" + whole[10:]
+        for journal in (b"", b"\0", b"\1", b"\1\0", whole[:-1], whole, changed,
                         journal_bytes(self.world.entries[:2])):
             answers = [frame(0x82, b"\0")] + installed
             due, got = self.owned(b"DROP TABLE nope; COMMIT;", answers, journal)
@@ -267,7 +268,8 @@ class Loopback:
         write_files(self.folder, {JOURNAL: journal})
         port, thread = listen_once(handle)
         words = ["own", self.file(SEED), f"127.0.0.1:{port}", self.file(script)]
-        disk, sink, files = MemDisk(journal), MemSink(), MemShelf({words[1]: SEED, words[3]: script})
+        disk, sink = MemDisk(journal), MemSink()
+        files = MemShelf({words[1]: SEED, words[3]: script})
         status = run(["vo_cli"] + words, files, disk, PeerNet(answerer()), sink)
         got = self.ended(words)
         if status in (3, 7) and thread.is_alive():      # it may have ended before it connected

@@ -1,4 +1,4 @@
-"""Scripts sealed under throwaway keys, with what their owner, their store and their readers have."""
+"""Scripts sealed under throwaway keys, with what their owner, store and readers have."""
 
 from ..histories import History, history_of
 from ..lms import SecretKey

@@ -1,4 +1,4 @@
-"""The commands, from a seed file to an auditor's verdict, over files, connections and a disk in memory."""
+"""The commands, from a seed file to an auditor's verdict, all in memory."""
 
 import unittest
 
@@ -29,8 +29,8 @@ class Commands(unittest.TestCase):
 
     def ran(self, *words, net=None, disk=None):
         """Status and output."""
-        sink = MemSink()
-        status = run(["vo_cli", *words], MemShelf(self.files), disk or MemDisk(), net or MemNet(), sink)
+        sink, files = MemSink(), MemShelf(self.files)
+        status = run(["vo_cli", *words], files, disk or MemDisk(), net or MemNet(), sink)
         return status, bytes(sink.written)
 
     def test_check(self):
@@ -43,7 +43,8 @@ class Commands(unittest.TestCase):
 
     def test_audit(self):
         """A reply of this history, and one of another under the same key."""
-        self.assertEqual(self.ran("audit", "key", "journal", QUERY, "reply"), (0, b"exact version 2\n"))
+        told = self.ran("audit", "key", "journal", QUERY, "reply")
+        self.assertEqual(told, (0, b"exact version 2\n"))
         self.files["script"] = SCRIPT.replace(b"ann", b"bob")
         self.files["other"] = self.ran("seal", "seed", "script")[1]
         self.files["reply"] = self.ran("answer", "key", "other", QUERY)[1]
@@ -71,7 +72,8 @@ class Commands(unittest.TestCase):
     def test_own(self):
         """A script through a store, behind the journal of the first one."""
         sealed = SealedScript((SCRIPT + LATER).decode())
-        store, disk = load_journal(sealed.public, self.files["journal"]), MemDisk(self.files["journal"])
+        disk = MemDisk(self.files["journal"])
+        store = load_journal(sealed.public, self.files["journal"])
         self.files["script"] = LATER
 
         def answer(request):
@@ -85,7 +87,8 @@ class Commands(unittest.TestCase):
 
     def test_refused_words(self):
         """Words that ask for nothing."""
-        for words in ([], ["help"], ["keygen"], ["keygen", "seed", "--height", "6"], ["keygen", "seed", "-x"]):
+        for words in ([], ["help"], ["keygen"], ["keygen", "seed", "--height", "6"],
+                      ["keygen", "seed", "-x"]):
             self.assertEqual(self.ran(*words), (2, b"refused: words\n"))
 
     def test_features_have_names(self):

@@ -11,9 +11,11 @@ from ..tables import Tables, apply_batch, result
 
 WORLDS, QUERIES = 25, 40
 TEXT = """
-CREATE TABLE t ( id BIGINT , name TEXT NULL , n BIGINT , PRIMARY KEY ( id ) , INDEX ( n ) , SUM ( n ) ) ;
+CREATE TABLE t ( id BIGINT , name TEXT NULL , n BIGINT , PRIMARY KEY ( id ) ,
+                 INDEX ( n ) , SUM ( n ) ) ;
 CREATE TABLE u ( k TEXT , b BOOLEAN , PRIMARY KEY ( k ) ) ;
-INSERT INTO t VALUES ( 3 , 'x' , 7 ) ; INSERT INTO t VALUES ( 1 , NULL , 7 ) ; INSERT INTO t VALUES ( 2 , 'y' , -1 ) ;
+INSERT INTO t VALUES ( 3 , 'x' , 7 ) ; INSERT INTO t VALUES ( 1 , NULL , 7 ) ;
+INSERT INTO t VALUES ( 2 , 'y' , -1 ) ;
 INSERT INTO u VALUES ( 'x' , TRUE ) ; INSERT INTO u VALUES ( 'z' , FALSE ) ;
 COMMIT ;""".replace("\n", " ")
 
@@ -48,7 +50,8 @@ class Rows(unittest.TestCase):
                 ("SELECT id FROM t WHERE NOT name = 'x'", [[2]]),
                 ("SELECT id FROM t WHERE name IS NULL", [[1]]),
                 ("SELECT t.id, u.b FROM t JOIN u ON t.name = u.k", [[3, 1]]),
-                ("SELECT a.id, b.id FROM t AS a JOIN t AS b ON a.n = b.n WHERE a.id = 1", [[1, 1], [1, 3]]),
+                ("SELECT a.id, b.id FROM t AS a JOIN t AS b ON a.n = b.n WHERE a.id = 1",
+                 [[1, 1], [1, 3]]),
                 ("SELECT COUNT(*), SUM(n) FROM t WHERE id >= 2", [[2, 6]]),
                 ("SELECT COUNT(*), SUM(n) FROM t WHERE id > 9", [[0, None]]),
                 ("SELECT id FROM t LIMIT 2", [[1], [2]])):

@@ -1,4 +1,4 @@
-"""Keys and signatures, by the second test case of RFC 8554's appendix F, whose seeds are published."""
+"""Keys and signatures, by RFC 8554, appendix F, test case 2, whose seeds are published."""
 
 import unittest
 
@@ -15,8 +15,8 @@ LOWER_KEY = ("0000000500000004215f83b7ccb9acbcd08db97b0d04dc2b"
              "a1cd035833e0e90059603f26e07ad2aad152338e7a5e5984bcd5f7bb4eba40b7")
 UPPER_C = bytes.fromhex("3d46bee8660f8f215d3f96408a7a64cf1c4da02b63a55f62c666ef5707a914ce")
 LOWER_C = bytes.fromhex("0eb1ed54a2460d512388cad533138d240534e97b1e82d33bd927d201dfc24ebb")
-MESSAGE = (b"The enumeration in the Constitution, of certain rights, shall not be construed to deny "
-           b"or disparage others retained by the people.\n")
+MESSAGE = (b"The enumeration in the Constitution, of certain rights, shall not be construed to "
+           b"deny or disparage others retained by the people.\n")
 # The first values of the two signatures, and the first digests of their paths.
 UPPER_Y = ["0674e8cb7a55f0c48d484f31f3aa4af9719a74f22cf823b94431d01c926e2a76",
            "bb71226d279700ec81c9e95fb11a0d10d065279a5796e265ae17737c44eb8c59",
@@ -60,7 +60,8 @@ class TestCaseTwo(unittest.TestCase):
 
     def test_signatures_are_valid(self):
         """Both signatures are valid under the published keys, and no others near them."""
-        for tree, key, leaf, c, message in ((UPPER, UPPER_KEY, 3, UPPER_C, bytes.fromhex(LOWER_KEY)),
+        lower_key = bytes.fromhex(LOWER_KEY)
+        for tree, key, leaf, c, message in ((UPPER, UPPER_KEY, 3, UPPER_C, lower_key),
                                             (LOWER, LOWER_KEY, 4, LOWER_C, MESSAGE)):
             public = lms.PublicKey.read(bytes.fromhex(key))
             signature = with_randomizer(tree, leaf, c, message)

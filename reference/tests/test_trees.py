@@ -55,7 +55,8 @@ class Trees(unittest.TestCase):
         for number in range(300):
             tree = do_op(tree, Op("insert", key_of(int_value(number)), cells=(int_value(number),)))
         for low, high in ((0, 0), (5, 40), (290, 400), (-9, -1)):
-            need = Need(Interval((key_of(int_value(low)), True), (key_of(int_value(high)), True)), [0])
+            bounds = [(key_of(int_value(number)), True) for number in (low, high)]
+            need = Need(Interval(*bounds), [0])
             part = prune(tree, [need])
             self.assertTrue(is_canonical(part, [need]))
             self.assertIsNone(agree(part, tree))
@@ -80,7 +81,8 @@ class Collisions(unittest.TestCase):
 
     def test_told_by_audits_and_meetings(self):
         """The wrong answer is accepted, and two strings of one digest show that it is wrong."""
-        script = "CREATE TABLE t (id BIGINT, name TEXT, PRIMARY KEY (id)); INSERT INTO t VALUES (1, 'a'); COMMIT;"
+        script = ("CREATE TABLE t (id BIGINT, name TEXT, PRIMARY KEY (id)); "
+                  "INSERT INTO t VALUES (1, 'a'); COMMIT;")
         with hashing.weak(6):
             entries, store = history(parse_script(script))
             forged, journal = self.forged(store), journal_bytes(entries)

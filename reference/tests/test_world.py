@@ -33,7 +33,8 @@ class Events(unittest.TestCase):
         said, fault = self.world.commit(self.batches[1], EMPTY_LEAF)
         self.assertEqual((said, fault.name, fault.index), ("Denied", "ProofRoot", 0))
         said, fault = self.world.commit(parse_batch("DROP TABLE u;"), NO_PROOFS)
-        self.assertEqual((said, fault.name, fault.fields["fault"]), ("Denied", "Command", "NoTable"))
+        self.assertEqual((said, fault.name, fault.fields["fault"]),
+                         ("Denied", "Command", "NoTable"))
         self.assertEqual(journal_bytes(self.world.journal.entries()), journal_bytes(self.entries))
 
     def test_readers(self):

@@ -1,4 +1,4 @@
-// Says of each line of input, a public key, a message and a signature in hexadecimal, whether BouncyCastle takes it.
+// Whether BouncyCastle takes a signature: a line for each key, message and signature in digits.
 import java.io.BufferedReader;
 import java.io.IOException;
 import java.io.InputStreamReader;
@@ -17,7 +17,8 @@ public class SignatureCheck {
         BufferedReader lines = new BufferedReader(new InputStreamReader(System.in));
         for (String line = lines.readLine(); line != null; line = lines.readLine()) {
             String[] parts = line.split(" ", -1);
-            System.out.println(isValid(bytes(parts[0]), bytes(parts[1]), bytes(parts[2])) ? "valid" : "invalid");
+            boolean taken = isValid(bytes(parts[0]), bytes(parts[1]), bytes(parts[2]));
+            System.out.println(taken ? "valid" : "invalid");
         }
     }
 

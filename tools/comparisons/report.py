@@ -1,4 +1,4 @@
-"""What a comparison says: what differs, kept as files by which it can be run again, and how many cases there were."""
+"""What a comparison says: how many cases there were, and what differs, kept to be run again."""
 import os
 import shlex
 
@@ -16,7 +16,7 @@ def short(thing):
 
 
 class Run:
-    """A run of a program that can be made again: its words, and the files of its folder, of which one may be its input."""
+    """A run of a program that can be made again: its words, and files, one of which its input."""
 
     def __init__(self, words, files=None, stdin=None):
         self.words, self.files, self.stdin = words, files or {}, stdin
@@ -29,7 +29,8 @@ class Run:
         words = shlex.join(self.words) + (f" < {self.stdin}" if self.stdin else "")
         path = os.path.join(folder, "again")
         with open(path, "w", encoding="utf-8") as file:
-            file.write(f'#!/bin/sh\n# `due` has what was due.\ncd "$(dirname "$0")" && exec {words}\n')
+            file.write("#!/bin/sh\n# `due` has what was due.\n")
+            file.write(f'cd "$(dirname "$0")" && exec {words}\n')
         os.chmod(path, 0o755)
 
 
@@ -40,7 +41,7 @@ class Report:
         self.name, self.count, self.differ = name, 0, 0
 
     def compare(self, what, due, got, again=None):
-        """Whether what came is what is due; where it isn't, that is printed, and kept if it can be run again."""
+        """Whether what came is what is due; if not, it is printed, and kept to be run again."""
         self.count += 1
         if due != got:
             self.differ += 1
@@ -56,6 +57,6 @@ class Report:
             print(f"  to run it again: {folder}/again")
 
     def end(self, what=""):
-        """Prints how many cases there were and how many differ; the status is 1 where some do, or there were none."""
+        """Prints how many cases there were and how many differ; the status is 0 where none does."""
         print(f"{self.name}: {self.count:,} cases{what}, {self.differ:,} differ")
         return int(self.differ != 0 or self.count == 0)

@@ -29,8 +29,8 @@ def crate(name):
 
 
 def program(name):
-    """The built program of a crate, or the one that a variable of its name in capital letters has."""
-    return os.environ.get(name.upper(), os.path.join(crate(name), "out", name))
+    """The built program of a crate, or the one that the variable of its name in capitals has."""
+    return os.path.abspath(os.environ.get(name.upper(), os.path.join(crate(name), "out", name)))
 
 
 def build(name):
@@ -43,7 +43,7 @@ def build(name):
 
 
 def load_reference(*features):
-    """Lets `reference` be imported, with what is built here and these features; by what is started too."""
+    """Lets `reference` be imported, here and in what is started, with what is built and these."""
     os.environ["VO_STAGE"] = ",".join([*BUILT, *features])
     os.environ["PYTHONPATH"] = TOP
     sys.dont_write_bytecode = True
