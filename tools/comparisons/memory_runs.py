@@ -1,8 +1,8 @@
 """Runs of the other implementation over files, connections and a disk in memory, said as `run_lines` says them."""
 import json
 
-from vo_ref.cli import run
-from vo_ref.outside import MemDisk, MemShelf, MemSink
+from reference.cli import run
+from reference.outside import MemDisk, MemShelf, MemSink
 
 
 def output(data):

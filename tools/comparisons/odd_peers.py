@@ -12,6 +12,7 @@ import threading
 import time
 
 from comparisons import workspace
+from reference.wire import frame
 
 PATIENCE = 30  # seconds for which the program lets nothing move
 SLACK = 20  # seconds that starting, checking and ending may take beside that
@@ -20,10 +21,6 @@ QUERY = "SELECT id FROM t WHERE id = 1"
 LARGE_QUERY = "SELECT * FROM t"
 ROWS_OF_A_BATCH, BATCHES, TEXT = 60, 4, 1000
 RESET_AT_CLOSE = struct.pack("ii", 1, 0)
-
-
-def frame(kind, body):
-    return (len(body) + 1).to_bytes(4, "big") + bytes([kind]) + body
 
 
 def query_frame(text):
@@ -180,7 +177,7 @@ def silent_mirror(folder, *words):
     return ((3, FAULT), True), (ended, took >= PATIENCE)
 
 
-def rows(folder):
+def tried(folder):
     os.mkdir(os.path.join(folder.path, "owner"))
     return {
         "a peer that says nothing": lambda: beside_a_reader(folder, say_nothing, "fault"),
@@ -194,25 +191,20 @@ def rows(folder):
     }
 
 
-def compare(program):
-    """How many rows differ, after each is printed, and how many there are."""
-    differences = []
+def rows(program):
+    """Of each row its name, what was due and what was seen; all run side by side."""
+    seen = []
 
     def run(name, row):
         try:
-            due, got = row()
+            seen.append((name, *row()))
         except (OSError, IndexError, subprocess.SubprocessError) as error:
-            due, got = "no error", error
-        if due != got:
-            differences.append(f"{name}\n  due {due}\n  got {got}")
+            seen.append((name, "no error", error))
 
     with tempfile.TemporaryDirectory() as path:
-        tried = rows(Folder(program, path))
-        running = [threading.Thread(target=run, args=row) for row in tried.items()]
+        running = [threading.Thread(target=run, args=row) for row in tried(Folder(program, path)).items()]
         for thread in running:
             thread.start()
         for thread in running:
             thread.join()
-    for difference in differences:
-        print(f"net: {difference}")
-    return len(differences), len(tried)
+    return seen

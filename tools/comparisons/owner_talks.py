@@ -1,12 +1,13 @@
 """Random conversations of an owner with a store that may lie, over a disk that may fail; for tools/conversations."""
-from comparisons.histories import SECRET
 from comparisons.memory_runs import own_text
-from comparisons.quick_reference import store_of
-from vo_ref import cli, mutate
-from vo_ref.formats import journal_bytes
-from vo_ref.outside import MemDisk, MemLink, MemNet, MemShelf, MemSink, PeerNet
-from vo_ref.sql import print_batch
-from vo_ref.wire import frame, serve_link
+from reference import cli
+from reference.formats import journal_bytes
+from reference.generators import mutate
+from reference.generators.worlds import SECRET
+from reference.outside import MemDisk, MemLink, MemNet, MemShelf, MemSink, PeerNet
+from reference.printing import print_batch
+from reference.store import load_journal
+from reference.wire import frame, serve_link
 
 SEED = SECRET.ident + SECRET.seed
 WORDS = ["vo_cli", "own", "seed", "127.0.0.1:7878", "script"]
@@ -69,6 +70,11 @@ def script_of(world, held):
         odd = [*world.refused, *(print_batch(entry.batch) for entry in world.others[1:])]
         texts.insert(run.randint(0, len(texts)), run.choice(odd))
     return "".join(text + " COMMIT; " for text in texts).encode()
+
+
+def store_of(journal):
+    """A store that has loaded a journal."""
+    return load_journal(SECRET.public(), journal)
 
 
 def store_for(world, held):

@@ -2,7 +2,8 @@
 import subprocess
 import time
 
-from comparisons.watched_owners import JOURNAL, LIMIT, PROGRAM, Store, Watch, entries_of, installation_of, installations, read, run, write
+from comparisons.watched_owners import (JOURNAL, LIMIT, PROGRAM, Store, Watch, entries_of, installation_of, installations, read,
+                                        run, write)
 from comparisons.workspace import SEED
 
 VERSIONS = 32  # of a key of height 5, version 0 among them
@@ -13,18 +14,13 @@ KILLED = -9
 class Rivalry:
     """A journal, to which two owners at a time want to add a batch each; sometimes one of them is killed."""
 
-    def __init__(self, chosen):
-        self.chosen, self.batches = chosen, []
+    def __init__(self, chosen, report):
+        self.chosen, self.compare, self.batches = chosen, report.compare, []
         self.starts = self.tries = self.refused = self.killed = 0
-        self.differences = []
         write(JOURNAL, b"")
         write("key", run("keygen", SEED)[0])
         self.watch = Watch(Store(b"\0"))
         self.length = self.usual_length()
-
-    def compare(self, what, due, got):
-        if due != got:
-            self.differences.append(f"{what}\n  due {repr(due)[:200]}\n  got {repr(got)[:200]}")
 
     def start(self, batch):
         self.starts += 1
@@ -85,7 +81,7 @@ class Rivalry:
         for sent in self.watch.sent:
             for version, frame in installations(sent):
                 self.compare(f"what was sent of version {version}", installation_of(entries[version]), frame)
-        self.differences += self.watch.faults
+        self.compare("what was sent before the journal had it", [], self.watch.faults)
 
     def close(self):
         self.watch.store.end()

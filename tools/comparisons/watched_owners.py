@@ -6,6 +6,7 @@ import threading
 import time
 
 from comparisons import workspace
+from reference.generators.loopback import connected, free_port
 
 PROGRAM = workspace.program("vo_cli")
 JOURNAL = "owner.journal"
@@ -35,22 +36,6 @@ def number_at(data, at, size):
 
 
 # -- the store, and what stands before it
-
-def free_port():
-    with socket.socket() as listener:
-        listener.bind(("127.0.0.1", 0))
-        return listener.getsockname()[1]
-
-
-def connected(port):
-    """A connection to the port, once somebody listens there."""
-    for _ in range(1000):
-        try:
-            return socket.create_connection(("127.0.0.1", port))
-        except ConnectionRefusedError:
-            time.sleep(0.01)
-    raise TimeoutError(f"nobody listens on port {port}")
-
 
 class Store:
     """The program's `serve`, begun with this journal."""

@@ -5,12 +5,9 @@ import sys
 
 TOP = os.path.dirname(os.path.dirname(os.path.dirname(os.path.abspath(__file__))))
 
-# What is built: all that docs/FORMATS.md has. The other implementation counts its own steps, of
-# which these are the first 8 (tables, queries and joins, signed versions, an owner with roots alone,
-# the commands keygen, seal, answer, check and audit, and over a network serve, ask and own), the
-# 12th (the command meet) and the 13th (own brings a store up to its journal, whatever it lacks).
-# Still to come are answers of older versions, NULL, indexes and totals.
-STAGE = "8+12+13"
+# What is built is all that docs/FORMATS.md has. The implementation in reference/ has more, which
+# reference/stages.py lists: of those features these are built here too.
+BUILT = ()
 
 # It signs what comparisons and benches make, one journal after the other: nothing that is kept may
 # be signed by it.
@@ -18,9 +15,6 @@ SEED = os.path.join(TOP, "tools/comparisons/throwaway.seed")
 
 # The wrong bodies that the gate leaves out, in a folder for each crate that has some.
 SECOND_TIER = os.path.join(TOP, "wrong-bodies")
-
-# The independent implementation is the module `vo_ref` in this folder.
-REFERENCE = os.environ.get("VO_REFERENCE", os.path.join(TOP, "../shared/oracle"))
 
 
 def crates():
@@ -34,24 +28,23 @@ def crate(name):
     return os.path.join(TOP, "crates", name)
 
 
-def program(name, variable="VO_PROGRAM"):
-    """The built program of a crate, or the one that the variable names."""
-    return os.environ.get(variable, os.path.join(crate(name), "out", name))
+def program(name):
+    """The built program of a crate, or the one that the variable of its name in capitals has."""
+    return os.path.abspath(os.environ.get(name.upper(), os.path.join(crate(name), "out", name)))
 
 
 def build(name):
-    """Builds the program of a crate, where it isn't built."""
+    """Builds the program of a crate, where it isn't built; where it can't be, the tool ends."""
     if not os.access(program(name), os.X_OK):
         silent = {"stdout": subprocess.DEVNULL, "stderr": subprocess.DEVNULL}
         subprocess.run(["rt", "run"], cwd=crate(name), check=False, **silent)
+    if not os.access(program(name), os.X_OK):
+        sys.exit(f"{name} is not built: run `rt run` in crates/{name}")
 
 
-def load_reference(tool):
-    """Lets `vo_ref` be imported; where it isn't at hand the tool ends, and says so."""
-    if not os.path.isdir(os.path.join(REFERENCE, "vo_ref")):
-        print(f"{tool}: no reference implementation here, nothing compared")
-        sys.exit(0)
-    os.environ["VO_STAGE"] = STAGE
-    os.environ["PYTHONPATH"] = REFERENCE
+def load_reference(*features):
+    """Lets `reference` be imported, here and in what is started, with what is built and these."""
+    os.environ["VO_STAGE"] = ",".join([*BUILT, *features])
+    os.environ["PYTHONPATH"] = TOP
     sys.dont_write_bytecode = True
-    sys.path.insert(0, REFERENCE)
+    sys.path.insert(0, TOP)

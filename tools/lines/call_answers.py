@@ -3,20 +3,21 @@ import random
 import re
 
 from lines import forms
-from vo_ref.binding import bind
-from vo_ref.catalog import Catalog, CatalogTable, column_of
-from vo_ref.faults import BadForm, FormFault, Missing
-from vo_ref.formats import batch_bytes, read_batch, read_tree, tree_bytes
-from vo_ref.mutate import (OddTrees, byte_sets, safe, sample_keys, tidied, tree_variants, truncations,
-                           truth_changes)
-from vo_ref.plan import MAIN, Plan, run_plan, seen_row, true_all
-from vo_ref.sql import parse_batch, parse_query
-from vo_ref.tables import Tables, apply
-from vo_ref.tree import Entry, Leaf, Op, Stub, digest_of, do_op, empty_tree, entries_of, prune, scan
-from vo_ref.values import (BOOL, INT, KIND_NAMES, TEXT, Cursor, int_value, key_of, read_name, take_value, text_value,
-                           value_bytes, value_of_key)
-from vo_ref.vectors import odd_value_bytes
-from vo_ref.workload import Workload
+from reference.binding import bind
+from reference.catalog import Catalog, CatalogTable, column_of
+from reference.changes import Op, do_op
+from reference.faults import BadForm, FormFault, Missing
+from reference.formats import batch_bytes, read_batch, read_tree, tree_bytes
+from reference.generators.mutate import byte_sets, safe, tree_variants, truncations, truth_changes
+from reference.generators.odd_trees import OddTrees, sample_keys, tidied
+from reference.generators.vectors import odd_value_bytes
+from reference.generators.workload import Workload
+from reference.plan import MAIN, Plan, run_plan, seen_row, true_all
+from reference.scans import prune, scan
+from reference.sql import parse_batch, parse_query
+from reference.tables import Tables, apply
+from reference.tree import Entry, Leaf, Stub, digest_of, empty_tree, entries_of
+from reference.values import Cursor, KIND_NAMES, int_value, key_of, read_name, take_value, value_bytes, value_of_key
 
 
 # -- byte strings: values, keys, columns, batches

@@ -5,11 +5,10 @@ A reply that is near the one before is spelled as that one with other bytes in i
 import os
 import re
 
-from comparisons import quick_reference  # which verifies a signature once
 from lines import forms
-from vo_ref.check import check_of
-from vo_ref.faults import CheckFault
-from vo_ref.sql import parse_query
+from reference.check import check_of
+from reference.faults import CheckFault
+from reference.sql import parse_query
 
 LONG_RUN = re.compile(rb"\0{32,}|k{32,}|x{32,}")
 NO_LINE = "no such line"

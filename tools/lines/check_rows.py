@@ -1,15 +1,15 @@
 """The rows of the stored lines of crates/check_lines: chosen replies, each line with the answer due."""
-from comparisons.histories import SECRET, history
 from lines.check_answers import NO_LINE, Reader
-from vo_ref.binding import bind
-from vo_ref.catalog import Catalog, CatalogTable, Record
-from vo_ref.formats import REPLY_LIMIT, read_reply, write_reply
-from vo_ref.lms import SecretKey
-from vo_ref.mutate import at_path, put_at, resign, rooted, shallow, spots
-from vo_ref.plan import Plan
-from vo_ref.sql import parse_batch, parse_query
-from vo_ref.tree import Entry, Inner, Leaf, Stub, cell_digest, digest_of, row_digest
-from vo_ref.values import bool_value, int_value, key_of, text_value
+from reference.binding import bind
+from reference.catalog import Catalog, CatalogTable, Record
+from reference.formats import REPLY_LIMIT, read_reply, write_reply
+from reference.generators.mutate import at_path, put_at, resign, rooted, shallow, spots
+from reference.generators.worlds import SECRET, history
+from reference.lms import SecretKey
+from reference.plan import Plan
+from reference.sql import parse_batch, parse_query
+from reference.tree import Entry, Inner, Leaf, Stub, cell_digest, digest_of, row_digest
+from reference.values import bool_value, int_value, key_of, text_value
 
 EACH = "1", "7", "4096"
 RANGE = "SELECT name FROM t WHERE id > 9 AND id <= 14"

@@ -8,21 +8,22 @@ import re
 
 from comparisons.memory_runs import image_with
 from lines import forms
-from vo_ref import lms
-from vo_ref.audit import read_owned
-from vo_ref.catalog import catalog_digest, read_catalog, read_record
-from vo_ref.faults import (AuditFault, BadForm, EntriesFault, EntryFault, JournalFault, KeyFault, OwnerFault, SignFault,
-                           StoreFault)
-from vo_ref.formats import (entry_bytes, journal_bytes, read_batch, read_entries, read_proofs, read_reply, slot_bytes,
-                            walk_journal, write_proofs, write_reply)
-from vo_ref.hashing import sha256
-from vo_ref.journal import Journal
-from vo_ref.outside import MemDisk
-from vo_ref.owner import Owner, Roots, owned, replay
-from vo_ref.sql import parse_query
-from vo_ref.store import Store
-from vo_ref.tree import attr_digest, cell_digest, hide, row_digest
-from vo_ref.values import Cursor, take_value, value_bytes
+from reference import lm_ots, lms
+from reference.audit import read_owned
+from reference.catalog import catalog_digest, read_catalog, read_record
+from reference.faults import (AuditFault, BadForm, EntriesFault, EntryFault, JournalFault, KeyFault, OwnerFault, SignFault,
+                              StoreFault)
+from reference.formats import (entry_bytes, journal_bytes, read_batch, read_entries, read_proofs, read_reply, slot_bytes,
+                               walk_journal, write_proofs, write_reply)
+from reference.hashing import sha256
+from reference.histories import History
+from reference.journal import Journal
+from reference.outside import MemDisk
+from reference.owner import Owner, Roots, owned, replay
+from reference.sql import parse_query
+from reference.store import load_journal
+from reference.tree import attr_digest, cell_digest, hide, row_digest
+from reference.values import Cursor, take_value, value_bytes
 
 
 # -- the calls, as the other implementation answers them
@@ -56,30 +57,18 @@ def or_none(thing, show):
 
 def seal_batches(key, batches):
     """The journal of batches."""
-    owner, first = Owner.start(key)
-    store, entries = Store(key.public()), [first]
-    store.install(first.rec, first.signature)
+    history = History(key)
     for batch in batches:
-        if owner.roots.version + 1 == key.leaves():
-            raise OwnerFault("KeySpent")
-        step = owner.step(batch, store.propose(batch))
-        store.install(step.entry.rec, step.entry.signature)
-        owner.advance(step)
-        entries.append(step.entry)
-    return journal_bytes(entries)
+        history.commit(batch)
+    return history.journal_bytes()
 
 
 def load_store(key, journal):
     """The store that takes a journal, and how many entries it has."""
-    damaged = None
-    try:
-        entries = read_entries(journal)
-    except EntriesFault as fault:
-        entries, damaged = fault.entries, fault.index
-    store = Store.load(key, entries)
-    if damaged is not None or not entries:
-        raise EntryFault("Entry", index=len(entries))
-    return store, len(entries)
+    store = load_journal(key, journal)
+    if store.version() is None:
+        raise EntryFault("Entry", index=0)
+    return store, store.version() + 1
 
 
 def append_rest(disk, journal, entries):
@@ -133,19 +122,19 @@ class Calls:
     # one-time signatures
 
     def digit(self, ots, data, index):
-        return str(lms.coef(data, number(index), lms.OTS[number(ots)][0]))
+        return str(lm_ots.coef(data, number(index), lm_ots.OTS[number(ots)][0]))
 
     def checksum(self, ots, data):
-        return str(lms.checksum(data, number(ots)))
+        return str(lm_ots.checksum(data, number(ots)))
 
     def ots_public(self, ots, ident, leaf, seed):
-        return lms.public_of(ident, number(leaf), number(ots), seed).hex()
+        return lm_ots.public_of(ident, number(leaf), number(ots), seed).hex()
 
     def ots_sign(self, ots, ident, leaf, seed, message):
-        return self.keeping(lms.sign_ots(ident, number(leaf), number(ots), seed, message))
+        return self.keeping(lm_ots.sign_ots(ident, number(leaf), number(ots), seed, message))
 
     def candidate(self, ots, ident, leaf, message, signature):
-        return or_none(lms.candidate(ident, number(leaf), number(ots), message, signature), bytes.hex)
+        return or_none(lm_ots.candidate(ident, number(leaf), number(ots), message, signature), bytes.hex)
 
     # keys
 

@@ -3,15 +3,15 @@ import random
 from dataclasses import replace
 
 from lines.format_answers import load_store, number, seal_batches
-from vo_ref import lms
-from vo_ref.catalog import catalog_digest
-from vo_ref.faults import StoreFault
-from vo_ref.formats import batch_bytes, journal_bytes, read_proofs, write_proofs
-from vo_ref.owner import Owner
-from vo_ref.sql import parse_query, parse_script
-from vo_ref.store import Store
-from vo_ref.tree import Stub, attr_digest, digest_of, row_digest
-from vo_ref.values import bool_value, int_value, text_value, value_bytes
+from reference import lm_ots, lms
+from reference.catalog import catalog_digest
+from reference.faults import StoreFault
+from reference.formats import batch_bytes, journal_bytes, read_proofs, write_proofs
+from reference.owner import Owner
+from reference.sql import parse_query, parse_script
+from reference.store import Store
+from reference.tree import Stub, attr_digest, digest_of, row_digest
+from reference.values import bool_value, int_value, text_value, value_bytes
 
 
 # -- digests and signatures
@@ -56,7 +56,7 @@ def one_time_rows():
 
 
 def one_time_set_rows(ots):
-    signature = lms.sign_ots(ID, number(LEAF), number(ots), SEED, RECORD)
+    signature = lm_ots.sign_ots(ID, number(LEAF), number(ots), SEED, RECORD)
     yield "ots_public", ots, ID, LEAF, SEED
     yield "ots_sign", ots, ID, LEAF, SEED, RECORD
     # the public key, others for another message, leaf and identifier, and none for other lengths and typecodes
@@ -71,7 +71,7 @@ def one_time_set_rows(ots):
 
 
 def key_bytes(tree, ots, root):
-    return lms.u32(tree) + lms.u32(ots) + ID + root
+    return lm_ots.u32(tree) + lm_ots.u32(ots) + ID + root
 
 
 def public_rows():
@@ -125,18 +125,18 @@ def turned_rows(public, signature):
     # longer, shorter, and by a leaf that the key has not
     yield "verify", public, RECORD, signature + b"\0"
     yield "verify", public, RECORD, signature[:-1]
-    yield "verify", public, RECORD, lms.u32(32 + 31) + signature[4:]
+    yield "verify", public, RECORD, lm_ots.u32(32 + 31) + signature[4:]
 
 
 def high_rows():
     """Signatures under trees that are too high to be made, with a path of made-up digests, and by a key of height 10."""
     for tree, leaf in (7, 21_845), (8, 600_001), (9, 33_554_431):
-        one_time = lms.sign_ots(ID, leaf, 1, SEED, RECORD)
+        one_time = lm_ots.sign_ots(ID, leaf, 1, SEED, RECORD)
         path = b"".join(bytes([level]) * 32 for level in range(lms.HEIGHTS[tree]))
-        signature = lms.u32(leaf) + one_time + lms.u32(tree) + path
-        yield "ots_sign", b"\x01", ID, lms.u32(leaf), SEED, RECORD
+        signature = lm_ots.u32(leaf) + one_time + lm_ots.u32(tree) + path
+        yield "ots_sign", b"\x01", ID, lm_ots.u32(leaf), SEED, RECORD
         yield "keep", signature
-        yield from verified_rows(key_bytes(tree, 1, root_of(tree, leaf, path)), signature)
+        yield from verified_rows(key_bytes(tree, 1, root_of(tree, leaf, path, 1, SEED)), signature)
     secret = lms.SecretKey.make(ID, SEED, 1, 10)
     yield "make", b"\x0a", b"\x01", ID, SEED
     yield "node", b"\x01"
@@ -147,10 +147,10 @@ def high_rows():
     yield from verified_rows(secret.public().bytes(), secret.sign(700, RECORD))
 
 
-def root_of(tree, leaf, path):
+def root_of(tree, leaf, path, ots, seed):
     """The root that a path leads to from a leaf's one-time key."""
     place = (1 << lms.HEIGHTS[tree]) + leaf
-    node = lms.leaf_node(ID, place, lms.public_of(ID, leaf, 1, SEED))
+    node = lms.leaf_node(ID, place, lm_ots.public_of(ID, leaf, ots, seed))
     for at in range(0, len(path), 32):
         sibling = path[at:at + 32]
         pair = (sibling, node) if place % 2 else (node, sibling)
@@ -333,7 +333,7 @@ def slot_rows():
 
 
 def counted(data):
-    return lms.u32(len(data)) + data
+    return lm_ots.u32(len(data)) + data
 
 
 def lone_slot(batch=b"\0\0", signature=b""):

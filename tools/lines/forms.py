@@ -1,5 +1,7 @@
 """Values of the other implementation in the written form of `line_pieces`, for the tools that make lines."""
 
+from reference.syntax import Ref
+
 KINDS = {1: "int", 2: "text", 3: "bool"}
 
 
@@ -83,7 +85,6 @@ def rows(lists):
 
 
 def reference_in(text):
-    from vo_ref.syntax import Ref
     return Ref(*text.split(".")) if "." in text else Ref(None, text)
 
 

@@ -1,14 +1,14 @@
 """Lines of the crates of lines, each with the answer due: their stored runs, and what they answer otherwise."""
+import itertools
 import os
 import subprocess
 
 from comparisons import workspace
-
-SHOWN = 20
+from comparisons.report import Report, Run
 
 # One program asks all crates of lines but `run_lines`: it is told by a line whose lines come.
 CRATE = workspace.crate("answer_lines")
-PROGRAM = workspace.program("answer_lines", "ANSWER_LINES")
+PROGRAM = workspace.program("answer_lines")
 
 
 def turn_of(name):
@@ -45,19 +45,24 @@ def write_part(name, pairs):
     write_run(CRATE, [pair for each, part in parts.items() for pair in (turn_of(each), *part)])
 
 
-def print_difference(line, due, got):
-    print(f"{line[:2000]}\n  due {due[:500]}\n  got {got[:500]}")
+def input_of(name, lines):
+    """What is said to the program to have a crate's lines answered."""
+    return "".join(line + "\n" for line in [turn_of(name)[0], *lines]).encode()
 
 
-def count_differences(name, pairs, show=lambda line: line):
-    """How many lines a crate answers otherwise than is due, after the first are forms."""
-    due = [turn_of(name), *pairs]
-    text = "".join(line + "\n" for line, _ in due)
-    ran = subprocess.run([PROGRAM], input=text.encode(), stdout=subprocess.PIPE, check=True)
-    answers = ran.stdout.decode().split("\n")[:-1]
-    wrong = [(*pair, got) for pair, got in zip(due, answers) if pair[1] != got]
-    for line, want, got in wrong[:SHOWN]:
-        print_difference(show(line), want, got)
-    count = len(wrong) + abs(len(answers) - len(due))
-    print(f"{name}: {len(pairs):,} lines, {count:,} differ")
-    return count
+def answers_of(name, lines):
+    """What a crate answers to lines."""
+    workspace.build("answer_lines")
+    ran = subprocess.run([PROGRAM], input=input_of(name, lines), stdout=subprocess.PIPE, check=True)
+    return ran.stdout.decode().split("\n")[1:-1]
+
+
+def compare_lines(name, pairs, show=lambda line: line, what=""):
+    """Whether a crate answers some lines otherwise than is due, after these are printed as `show` has them, and all are kept."""
+    report = Report(name)
+    lines = [line for line, _ in pairs]
+    for (line, want), got in itertools.zip_longest(pairs, answers_of(name, lines), fillvalue=("", "")):
+        report.compare(show(line)[:2000], want, got)
+    if report.differ:
+        report.keep(Run([PROGRAM], {"stdin": input_of(name, lines)}, "stdin"), "".join(f"{want}\n" for _, want in pairs).encode())
+    return report.end(what)

@@ -3,14 +3,15 @@
 A line is a word and byte strings in hexadecimal; a part tree is given as a node or as bytes, which may be none.
 """
 from lines import forms
-from vo_ref import tree as trees
-from vo_ref.faults import BatchFault, CommandFault, Fault
-from vo_ref.formats import batch_bytes, read_tree, tree_bytes
-from vo_ref.syntax import Create, Drop
-from vo_ref.tables import Tables, apply, catalog_refusal
-from vo_ref.tree import digest_of, do_op, empty_tree, entries_of, found_entry, is_update_proof, prune_update, spelled_key
-from vo_ref.values import Cursor, value_bytes
-from vo_ref.work import main_op
+from reference import changes, overlaps, scans, tree as trees
+from reference.changes import do_op, found_entry, is_update_proof, prune_update
+from reference.faults import BatchFault, CommandFault, Fault
+from reference.formats import batch_bytes, read_tree, tree_bytes
+from reference.syntax import Create, Drop
+from reference.tables import Tables, apply, catalog_refusal
+from reference.tree import digest_of, empty_tree, entries_of, spelled_key
+from reference.values import Cursor, value_bytes
+from reference.work import main_op
 
 # What is done with counted trees, each at the place of its byte; to hide is to put a stub before the tree.
 COUNTED = ["find", "tput", "tset", "remove", "hide"]
@@ -83,7 +84,7 @@ def change_tree(tree, op):
     """The tree after a change, which passes over the cells that the row hasn't."""
     found = found_entry(tree, op.key)
     if op.name == "replace" and found is not None and not isinstance(found.part, bytes):
-        op = trees.Op(op.name, op.key, sets=[(column, value) for column, value in op.sets if column < len(found.part)])
+        op = changes.Op(op.name, op.key, sets=[(column, value) for column, value in op.sets if column < len(found.part)])
     return do_op(tree, op)
 
 
@@ -103,7 +104,7 @@ def after(ops, part):
 
 def without_missing_cells(op):
     """The change without what it sets, by which no proof goes."""
-    return trees.Op(op.name, op.key, cells=op.cells)
+    return changes.Op(op.name, op.key, cells=op.cells)
 
 
 def update_proof(tree, op):
@@ -115,7 +116,7 @@ def judge(op, part):
 
 
 def seen_rows(need, tree):
-    rows = trees.scan(tree, need)
+    rows = scans.scan(tree, need)
     return forms.list_of(forms.row(key, [values[column] for column in sorted(values)]) for key, values in rows)
 
 
@@ -124,7 +125,7 @@ def scan(need, part):
 
 
 def canonical(needs, part):
-    return part_line("canonical", lambda tree: "yes" if trees.is_canonical(tree, needs) else "no", part,
+    return part_line("canonical", lambda tree: "yes" if scans.is_canonical(tree, needs) else "no", part,
                      b"".join(map(need_bytes, needs)))
 
 
@@ -156,7 +157,7 @@ def twins(needs, first, second):
         cursor.end()
         if digest_of(one) != digest_of(other):
             return "another digest"
-        are_proofs = trees.is_canonical(one, needs) and trees.is_canonical(other, needs)
+        are_proofs = scans.is_canonical(one, needs) and scans.is_canonical(other, needs)
         return "one proof" if are_proofs else "no proof"
     return line("twins", b"".join(map(need_bytes, needs)), data), value_or_fault(told)
 
@@ -176,12 +177,12 @@ class CountedChanges:
 
     def done(self, kind, key, value):
         if kind == "find":
-            trees.change_entry(self.tree, key, lambda entry: entry)
-            return trees.found_entry(self.tree, key).value
+            changes.change_entry(self.tree, key, lambda entry: entry)
+            return changes.found_entry(self.tree, key).value
         if kind == "hide":
             self.tree = trees.TInner([key], [trees.TChild(value, 0, trees.Stub(bytes(32))), trees.TInner.slot(self.tree)])
         else:
-            self.tree = do_op(self.tree, trees.Op(kind, key, value=value))
+            self.tree = do_op(self.tree, changes.Op(kind, key, value=value))
         return trees.totals_held(self.tree)[0]
 
     def line(self):
@@ -207,14 +208,14 @@ def prove(tree, op):
 
 
 def prune(tree, needs):
-    return line("prune", b"".join(map(need_bytes, needs))), tree_bytes(trees.prune(tree, needs)).hex()
+    return line("prune", b"".join(map(need_bytes, needs))), tree_bytes(scans.prune(tree, needs)).hex()
 
 
 def agree(tree, part):
     def agreed(read_part):
         if digest_of(read_part) != digest_of(tree):
             return "another digest"
-        return "prunes" if trees.agree(read_part, tree) is None else "collides"
+        return "prunes" if overlaps.agree(read_part, tree) is None else "collides"
     return part_line("agree", agreed, part)
 
 

@@ -1,12 +1,13 @@
 """The rows of the stored lines of crates/tree_lines: chosen cases, each line with the answer due."""
 from itertools import product
 
-from lines.tree_answers import (CountedChanges, Twin, after, agree, canonical, change, digest, judge, preimage, prove, prune, read,
-                          root, same, scan, part_bytes, twins, update_proof, walks, work)
-from vo_ref.sql import parse_batch
-from vo_ref.tree import Entry, Inner, Leaf, Need, Op, Stub, attr_digest, digest_of, do_op, empty_tree
-from vo_ref.tree import prune as pruned
-from vo_ref.values import EVERYTHING, Interval, bool_value, int_value, key_of, text_value
+from lines.tree_answers import (CountedChanges, Twin, after, agree, canonical, change, digest, judge, preimage, prove, prune,
+                                read, root, same, scan, part_bytes, twins, update_proof, walks, work)
+from reference.changes import Op, do_op
+from reference.scans import Need, prune as pruned
+from reference.sql import parse_batch
+from reference.tree import Entry, Inner, Leaf, Stub, attr_digest, digest_of, empty_tree
+from reference.values import EVERYTHING, Interval, bool_value, int_value, key_of, text_value
 
 CREATE = "CREATE TABLE t (id BIGINT, name TEXT, PRIMARY KEY (id))"
 ANN, BOB = "INSERT INTO t VALUES (1, 'ann')", "INSERT INTO t VALUES (3, 'bob')"

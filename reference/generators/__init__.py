@@ -1,0 +1,1 @@
+"""What is put to the program and to the implementation: random worlds, hostile bytes, cases."""

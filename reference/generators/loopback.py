@@ -1,0 +1,295 @@
+"""`serve`, `ask` and `own` of a program over TCP, each against this implementation's other side.
+
+    python3 -m reference.generators.loopback PROGRAM [WORD ..]
+"""
+
+import contextlib
+import os
+import random
+import socket
+import subprocess
+import sys
+import tempfile
+import threading
+import time
+
+from ..cli import run
+from ..formats import journal_bytes, long_bytes
+from ..outside import MemDisk, MemLink, MemNet, MemShelf, MemSink, PeerNet
+from ..sql import parse_script
+from ..store import Store
+from ..wire import frame, serve_link
+from .folders import file_name, write_files
+from .mutate import proof_variants
+from .workload import Workload
+from .worlds import SEED, SealedScript
+
+LIMIT = 60      # seconds that a run may take
+JOURNAL = "owner.journal"
+
+
+class SocketLink:
+    """A connection as a link."""
+
+    def __init__(self, sock):
+        self.sock = sock
+
+    def get(self, most):
+        """At most so many bytes."""
+        return self.sock.recv(min(most, 65_536))
+
+    def put(self, piece):
+        """Sends all of them."""
+        self.sock.sendall(piece)
+
+    def frame_ends(self):
+        """Takes a frame; whether a whole one came."""
+        head = self.get(4)
+        left = int.from_bytes(head, "big")
+        while left and (piece := self.get(left)):
+            left -= len(piece)
+        return len(head) == 4 and not left
+
+    def rest(self):
+        """All that still comes."""
+        got = b""
+        with contextlib.suppress(OSError):
+            while piece := self.get(65_536):
+                got += piece
+        return got
+
+
+def free_port():
+    """A port on which nobody listens."""
+    with socket.socket() as probe:
+        probe.bind(("127.0.0.1", 0))
+        return probe.getsockname()[1]
+
+
+def connected(port):
+    """A connection to the port, once somebody listens there."""
+    end = time.monotonic() + LIMIT
+    while True:
+        try:
+            return socket.create_connection(("127.0.0.1", port), timeout=LIMIT)
+        except ConnectionRefusedError:
+            if time.monotonic() > end:
+                raise
+            time.sleep(0.05)
+
+
+def listen_once(handle):
+    """A port on which one connection is handled by a thread, and the thread."""
+    server = socket.create_server(("127.0.0.1", 0))
+
+    def work():
+        sock, _ = server.accept()
+        with server, sock, contextlib.suppress(OSError):
+            handle(sock)
+    thread = threading.Thread(target=work, daemon=True)
+    thread.start()
+    return server.getsockname()[1], thread
+
+
+class Loopback:
+    """A program under test in a folder of its own.
+
+    Its methods yield comparisons: a name, what is due, and what came.  A store that says a lie
+    which was cut short ends its connection once nothing came for `patience` seconds.
+    """
+
+    def __init__(self, program, folder, patience=1):
+        self.program, self.folder, self.patience = program, folder, patience
+        work = Workload(77, batches=5, commands=10, queries=6)
+        self.world, self.queries = SealedScript(work.script), work.queries
+
+    def comparisons(self):
+        """All of them."""
+        for part in (self.serve, self.ask, self.own, self.lies, self.journals):
+            yield from part()
+
+    # -- the program
+
+    def file(self, data):
+        """The name of a file of these bytes."""
+        write_files(self.folder, {file_name(data): data})
+        return file_name(data)
+
+    def start(self, words):
+        """Starts the program."""
+        return subprocess.Popen(self.program + words, cwd=self.folder,
+                                stdout=subprocess.PIPE, stderr=subprocess.DEVNULL)
+
+    def ended(self, words):
+        """The status and the output of a run."""
+        process = self.start(words)
+        out, _ = process.communicate(timeout=LIMIT)
+        return process.returncode, out
+
+    # -- serve
+
+    def streams(self):
+        """Bytes that come to a store: requests, and such as are none."""
+        query, record = frame(1, self.queries[0].encode()), self.world.entries[1].rec.bytes()
+        at = (1).to_bytes(8, "big"), (99).to_bytes(8, "big")
+        return [b"", b"\0", b"\0\0\0\0", frame(2), query, query + query, frame(2)[:3],
+                frame(1, b"SELECT"), frame(1, b"\xff"), frame(7), frame(0x81), frame(3, b"\0\0"),
+                frame(3, b"\0\1"), frame(4, record + long_bytes(b"x")), frame(4, bytes(64)),
+                frame(5, at[0] + self.queries[0].encode()), frame(5, at[1] + b"SELECT * FROM t0"),
+                frame(2) + b"\0\0", (1 << 31).to_bytes(4, "big") + b"\1",
+                (2).to_bytes(4, "big") + b"\2x"]
+
+    def serve(self):
+        """`serve`, one connection after the other."""
+        world, port, lines = self.world, free_port(), []
+        store = Store.load(world.public, world.entries)
+        process = self.start(["serve", f"127.0.0.1:{port}", self.file(world.public_bytes),
+                              self.file(world.journal), str(len(self.streams()))])
+        for number, stream in enumerate(self.streams(), 1):
+            link = MemLink(stream)
+            end = " ".join(map(str, serve_link(store, link)))
+            lines.append(f"connection {number} {end}\n")
+            yield f"serve {stream[:20].hex()}", bytes(link.sent), self.exchanged(port, stream)
+        lines.append(f"served {len(lines)}\n")
+        out, _ = process.communicate(timeout=LIMIT)
+        yield "serve lines", (0, "".join(lines)), (process.returncode, out.decode())
+
+    @staticmethod
+    def exchanged(port, stream):
+        """What comes back for these bytes."""
+        with connected(port) as sock:
+            with contextlib.suppress(OSError):
+                sock.sendall(stream)
+                sock.shutdown(socket.SHUT_WR)
+            return SocketLink(sock).rest()
+
+    # -- ask
+
+    def ask(self):
+        """`ask`, of stores that answer rightly and wrongly."""
+        reply = self.world.reply(self.queries[0])
+        answers = [frame(0x81, reply), frame(0x81, reply[:-1]), frame(0x8F, b"\2"),
+                   frame(0x8F, b"\xee"), b"", b"\0\0", b"\0\0\0\0", frame(0x82, b"\0"),
+                   frame(0x81, reply)[:-1], frame(0x81), frame(0x8F, b"\1\1"),
+                   frame(0x81, reply) + b"more"]
+        for answer in answers:
+            for options in ([], ["--least", "99"], ["--at", "2"]):
+                due, got = self.asked(answer, options)
+                yield f"ask {answer[:8].hex()} {options}", due, got
+
+    def asked(self, answer, options):
+        """How an `ask` ends in memory, and how over TCP."""
+        def handle(sock):
+            if SocketLink(sock).frame_ends():
+                sock.sendall(answer)
+                sock.shutdown(socket.SHUT_WR)
+                SocketLink(sock).rest()
+        port, thread = listen_once(handle)
+        key = self.file(self.world.public_bytes)
+        words = ["ask", f"127.0.0.1:{port}", key, self.queries[0]] + options
+        sink, files = MemSink(), MemShelf({key: self.world.public_bytes})
+        status = run(["vo_cli"] + words, files, MemDisk(), MemNet([answer]), sink)
+        got = self.ended(words)
+        thread.join(LIMIT)
+        return (status, bytes(sink.written)), got
+
+    # -- own
+
+    def own(self):
+        """`own`, to a store that has what it has, and to one that lost all."""
+        parts = self.world.script.decode().split("COMMIT ;")[:-1]
+        scripts = ["".join(part + "COMMIT ;" for part in some) for some in (parts[:3], parts[3:])]
+        version = 0
+        for script in scripts:
+            store = Store(self.world.public)
+            port, thread = listen_once(lambda sock, to=store: serve_link(to, SocketLink(sock)))
+            words = ["own", self.file(SEED), f"127.0.0.1:{port}", self.file(script.encode())]
+            status, out = self.ended(words)
+            thread.join(LIMIT)
+            before, version = version, version + len(parse_script(script))
+            lines = "".join(f"version {v}\n" for v in range(before + 1, version + 1))
+            yield "own lines", (0, lines), (status, out.decode())
+            due = journal_bytes(self.world.entries[:version + 1])
+            yield "own journal", due, self.journal()
+            yield "own store", version, store.version()
+
+    def journal(self):
+        """The owner's journal."""
+        with open(os.path.join(self.folder, JOURNAL), "rb") as file:
+            return file.read()
+
+    def honest_answers(self):
+        """What a store that has nothing answers to the owner of the whole script."""
+        answers = [frame(0x82, b"\0")]
+        for version, entry in enumerate(self.world.entries):
+            answers += [frame(0x83, entry.proofs)] if version else []
+            answers.append(frame(0x84, version.to_bytes(8, "big")))
+        return answers
+
+    def lies(self):
+        """`own`, of stores that lie in one answer."""
+        honest, rng = self.honest_answers(), random.Random(5)
+        installed, proofs = honest[1::2], [frame(0x83)] + honest[2::2]
+        standing = frame(0x82, b"\1" + self.world.entries[2].rec.bytes())
+        lies = [(0, standing), (0, frame(0x8F, b"\2")), (0, b""), (0, frame(0x82, b"\2")),
+                (1, installed[1]), (1, frame(0x8F, b"\5")), (3, frame(0x8F, b"\6")),
+                (3, installed[0]), (2, frame(0x8F, b"\3")), (4, frame(0x83)),
+                (4, frame(0x83, b"VOU1\0\0")), (5, b""), (5, frame(0x84, b"\0")), (4, proofs[1]),
+                (6, frame(0x81, b"")), (4, proofs[2][:-1])]
+        for place in (4, 6, 8):
+            variants = rng.sample(list(proof_variants(honest[place][5:], rng, 60)), 8)
+            lies += [(place, frame(0x83, other)) for _, other in variants]
+        for place, lie in lies:
+            answers = honest[:place] + [lie] + honest[place + 1:]
+            due, got = self.owned(self.world.script, answers, b"")
+            yield f"own lie {place} {lie[:9].hex()}", due, got
+
+    def journals(self):
+        """`own`, behind journals of some length, whole and damaged."""
+        whole, installed = self.world.journal, self.honest_answers()[1::2]
+        changed = whole[:9] + b"x" + whole[10:]
+        for journal in (b"", b"\0", b"\1", b"\1\0", whole[:-1], whole, changed,
+                        journal_bytes(self.world.entries[:2])):
+            answers = [frame(0x82, b"\0")] + installed
+            due, got = self.owned(b"DROP TABLE nope; COMMIT;", answers, journal)
+            yield f"own journal of {len(journal)}", due, got
+
+    def owned(self, script, answers, journal):
+        """How an `own` ends whose store says these answers, in memory and over TCP."""
+        def answerer():
+            left = list(answers)
+            return lambda request: left.pop(0) if left else b""
+
+        def handle(sock, answer=answerer()):
+            sock.settimeout(self.patience)
+            link = SocketLink(sock)
+            while link.frame_ends() and (said := answer(b"")):
+                link.put(said)
+        write_files(self.folder, {JOURNAL: journal})
+        port, thread = listen_once(handle)
+        words = ["own", self.file(SEED), f"127.0.0.1:{port}", self.file(script)]
+        disk, sink = MemDisk(journal), MemSink()
+        files = MemShelf({words[1]: SEED, words[3]: script})
+        status = run(["vo_cli"] + words, files, disk, PeerNet(answerer()), sink)
+        got = self.ended(words)
+        if status in (3, 7) and thread.is_alive():      # it may have ended before it connected
+            socket.create_connection(("127.0.0.1", port)).close()
+        thread.join(LIMIT)
+        return (status, bytes(sink.written), bytes(disk.data)), (*got, self.journal())
+
+
+def main(words):
+    """Prints what differs; the status is 1 where something does."""
+    count = differ = 0
+    with tempfile.TemporaryDirectory() as folder:
+        for name, due, got in Loopback(words[1:], folder).comparisons():
+            count += 1
+            if due != got:
+                differ += 1
+                print(f"{name}\n  due {str(due)[:300]}\n  got {str(got)[:300]}")
+    print(f"{count} comparisons, {differ} differ")
+    return 1 if differ else 0
+
+
+if __name__ == "__main__":
+    sys.exit(main(sys.argv))
