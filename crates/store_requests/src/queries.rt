@@ -1,5 +1,5 @@
 //! The query that the body of a request is.
-ghost use Rattle.std.specs.Prelude.{◌≡◌, ◌≢◌, None, IfOk, option_map};
+ghost use Rattle.std.specs.Prelude.{◌≡◌, ◌≢◌, None, IfOk, IsOk, option_map};
 ghost use Rattle.vo_spec.specs.Conditions.{query_of};
 ghost use Rattle.store_requests.specs.Texts.{query_in};
 
@@ -28,7 +28,8 @@ fn query_of_text(alloc: Global, text: &str) -> Result<Option<QueryText>, AllocEr
 
 /// There is no query where a text has a fault, but for want of memory.
 fn without_query(fault: SqlFault) -> Result<Option<QueryText>, AllocError>
-    ensures { IfOk result (λ query. (query ≡ None) × (fault ≢ SqlFault.Memory)) }
+    ensures none { IfOk result (λ query. (query ≡ None) × (fault ≢ SqlFault.Memory)) }
+    ensures told { fault ≢ SqlFault.Memory → IsOk result }
 {
     match fault {
         SqlFault::Memory => Err(AllocError),

@@ -47,6 +47,11 @@ code_of fault.BadSignature = 6
 code_of (fault.Command index why proofs) = 0
 code_of fault.Memory = 0
 
+-- of those that are told: all but want of memory
+abbrev pub told_code : StoreFault → Option ℕ
+told_code fault.Memory = None
+told_code why = Some (code_of why)
+
 -- Queries.
 
 abbrev pub reply_answer : Result (List ℕ) StoreFault → KindAndBody

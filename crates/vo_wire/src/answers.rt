@@ -1,7 +1,7 @@
 //! Answers as frames, and the codes of refusals.
 ghost use Rattle.std.specs.Prelude.{◌≡◌, Some, IfOk, IsErr};
 ghost use Rattle.vo_store.specs.declared.fault.StoreFault.TheVariants.{Memory};
-ghost use Rattle.vo_wire.specs.Answering.{FitsFrame, refusal, code_of, frame_answer};
+ghost use Rattle.vo_wire.specs.Answering.{FitsFrame, refusal, code_of, frame_answer, told_code};
 
 use link_frames::{Frame, FrameKind};
 use std::alloc::{AllocError, Global};
@@ -29,13 +29,23 @@ pub(crate) fn refusal_by(alloc: Global, fault: StoreFault) -> Result<Option<Fram
     ensures fits { IfOk result FitsFrame }
     ensures memory { fault ≡ Memory → IsErr result }
 {
+    match told_code(fault) {
+        Some(code) => refusal(alloc, code),
+        None => Err(AllocError),
+    }
+}
+
+/// The code of a refusal that is told: any but want of memory.
+fn told_code(fault: StoreFault) -> Option<u8>
+    ensures { result ≡ told_code fault }
+{
     match fault {
-        StoreFault::Empty => refusal(alloc, 2),
-        StoreFault::TooLarge { .. } => refusal(alloc, 3),
-        StoreFault::NothingProposed => refusal(alloc, 4),
-        StoreFault::WrongRecord { .. } => refusal(alloc, 5),
-        StoreFault::BadSignature => refusal(alloc, 6),
-        StoreFault::Command { .. } => refusal(alloc, 0),
-        StoreFault::Memory => Err(AllocError),
+        StoreFault::Empty => Some(2),
+        StoreFault::TooLarge { .. } => Some(3),
+        StoreFault::NothingProposed => Some(4),
+        StoreFault::WrongRecord { .. } => Some(5),
+        StoreFault::BadSignature => Some(6),
+        StoreFault::Command { .. } => Some(0),
+        StoreFault::Memory => None,
     }
 }

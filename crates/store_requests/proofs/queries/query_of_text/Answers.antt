@@ -7,4 +7,4 @@ pub returns-in-Ok : goal.returns-in-Ok
 returns-in-Ok c = sym (text_read c.args.text.now (query_of c.in-Ok.query) c.utf8.text c.in-Ok.ensures.found)
 
 pub returns-in-Err : goal.returns-in-Err
-returns-in-Err c = refused_query c.args.text.now c.in-Err.fault c.without_query.result c.without_query.ensures c.in-Err.ensures.only
+returns-in-Err c = refused_query c.args.text.now c.in-Err.fault c.without_query.result c.without_query.ensures.none c.in-Err.ensures.only
