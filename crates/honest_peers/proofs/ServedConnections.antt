@@ -1,6 +1,9 @@
 -- A store that serves a connection answers each request that is put on it.
-use Rattle.std.proofs.Common.{◌≡◌, ℕ, zero, suc, ◌+◌, ◌≤◌, List, [], ◌∷◌, ◌++◌, length, drop, Option, Some, append_assoc, refl, ap, ◌∙◌, arith}
+use Rattle.std.proofs.Common.{◌≡◌, ℕ, zero, suc, ◌+◌, ◌≤◌, List, [], ◌∷◌, ◌++◌, length, drop, Option, Some, append-nil, append_assoc, refl, sym, ap, ◌∙◌, arith, lit≤}
+use Rattle.std.specs.Prelude.{IsTrue}
+use Rattle.std.specs.Str.{IsUtf8}
 use Rattle.std.proofs.lemmas.List.{drop_at}
+use Rattle.outside.specs.Shelf.{Files}
 use Rattle.link_frames.specs.declared.awaits.Awaits.TheVariants.{Request}
 use Rattle.link_frames.specs.declared.end.End.{End}
 use Rattle.link_frames.specs.declared.frame_kind.FrameKind.{FrameKind}
@@ -10,7 +13,11 @@ use Rattle.link_frames.specs.Serving.{last_state, max_turns, serving_script, wit
 use Rattle.link_frames.proofs.FrameLaws.{read_back}
 use Rattle.vo_store.specs.StoreState.{StoreState}
 use Rattle.vo_wire.specs.Answering.{KindAndBody, next_after, reply_to}
-use Rattle.honest_peers.specs.Answering.{AreServed, bytes_put, frames_put}
+use Rattle.vo_spec.specs.Conditions.{Query}
+use Rattle.vo_commands.specs.Expected.{is_public_key}
+use Rattle.vo_commands.specs.Texts.{IsQueryText}
+use Rattle.honest_peers.specs.Answering.{AreServed, bytes_put, frames_put, service}
+use Rattle.honest_peers.specs.Asking.{IsAsked, question}
 use Rattle.honest_peers.proofs.Trading.{AnswersEach, IsRequest, frame_long}
 
 abbrev serve : ℕ → StoreState → List ℕ → Script StoreState End
@@ -87,3 +94,33 @@ pub served_answers : {X : Type 0} (s : StoreState) (events : List (Event X)) (co
     (later : StoreState) → AreServed s events coming later → AnswersEach s events coming later
 served_answers s events coming later served = each_answered max_turns events s coming served.comes.0
     later served.few served.comes.1 served.later_is
+
+-- Bytes that come so.
+
+pub some_answers : {X : Type 0} (s : StoreState) (events : List (Event X)) → frames_put events ≤ max_turns
+    → (coming : List ℕ) × (later : StoreState) × AreServed s events coming later
+some_answers s events few =
+    let answers : List ℕ = bytes_put (service s events).events in (
+      answers,
+      last_state s (others (service s events).events),
+      record { few = few; comes = ([], sym (append-nil answers)); later_is = refl },
+    )
+
+one_frame : 1 ≤ max_turns
+unfolding max_turns
+one_frame = lit≤ tt
+
+pub some_question : (s : StoreState) (key text : List ℕ) (files : Files) (q : Query) → files key ≡ Some s.key
+    → IsTrue (is_public_key s.key) → IsUtf8 text → IsQueryText text q
+    → (coming : List ℕ) × IsAsked key text files s q coming
+some_question s key text files q known is_key utf8 query =
+    let served = some_answers s (question text) one_frame in (
+      served.0,
+      record {
+        key_is = known;
+        is_key = is_key;
+        is_text = utf8;
+        is_query = query;
+        served = (served.1, served.2);
+      },
+    )

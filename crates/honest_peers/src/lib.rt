@@ -8,6 +8,7 @@ mod crashing;
 mod judging;
 mod one_reading;
 mod owning;
+mod serving;
 mod writing;
 
 pub use asking::{checks_have_one_answer, loaded_stores_are_honest, questions_are_answered};
@@ -17,4 +18,5 @@ pub use one_reading::{bytes_have_one_reading, honest_replies_have_one_answer};
 pub use owning::{
     owners_begin_plainly, owners_end_plainly, owners_reopen_plainly, sessions_end_plainly,
 };
+pub use serving::connections_are_served;
 pub use writing::owners_write_what_they_own;
