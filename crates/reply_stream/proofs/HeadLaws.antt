@@ -184,7 +184,7 @@ bad_catalog (Ok state) field fault token len read is = record {
 
 -- Less than a field.
 
-some_size : (a b : ℕ) → Some a ≡ Some b → a ≡ b
+pub some_size : (a b : ℕ) → Some a ≡ Some b → a ≡ b
 some_size a b e = cc
 
 pub short_none : (state : HeadState) (bytes : List ℕ) (size : ℕ) → field_size state ≡ Some size → length bytes < size → rest_of_head state bytes ≡ None

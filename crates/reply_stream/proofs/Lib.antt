@@ -2,7 +2,9 @@ pub mod Locals
 pub mod CatalogSizes
 pub mod HeadLaws
 pub mod HeadPieces
+pub mod HeadFronts
 pub mod EndedTrees
 pub mod TreesLaws
 pub mod TreesPieces
 pub mod PartLaws
+pub mod NeededBytes

@@ -5,9 +5,14 @@ use Rattle.batch_format.specs.BatchReading.{Reader}
 use Rattle.reply_stream.specs.ReplyHeads.{ReplyHead}
 use Rattle.reply_stream.specs.declared.head_stream.HeadStream.{HeadStream}
 use Rattle.reply_stream.specs.Heads.{rest_of_head}
+use Rattle.reply_stream.specs.HeadFronts.{IsBehindBytes}
 
 unfoldable pub head_of : HeadStream → Reader ReplyHead
 head_of stream bytes = rest_of_head stream.state (stream.held.items ++ bytes)
+
+-- the stream took these bytes
+abbrev pub IsBehind : HeadStream → List ℕ → Type 0
+IsBehind stream bytes = IsBehindBytes stream.state stream.held.items bytes
 
 -- it takes no more bytes: they come behind the head, or the bytes before them are no head
 abbrev pub IsSettled : HeadStream → Type 0

@@ -1,6 +1,7 @@
 pub mod ReplyHeads
 pub mod Heads
 pub mod HeadFields
+pub mod HeadFronts
 pub mod HeadStreams
 pub mod ReplyTrees
 pub mod TreesStreams

@@ -1,8 +1,10 @@
 -- What reading gives of the trees of a reply: how many there are, and what is found in the first.
-use Rattle.std.specs.Prelude.{◌≡◌, ℕ, Bool, true, false, List, [], ◌∷◌, ◌++◌, length, Option, Some, None, Result, Ok, Err}
+use Rattle.std.specs.Prelude.{◌≡◌, ℕ, ◌<◌, Bool, true, false, IsTrue, List, [], ◌∷◌, ◌++◌, length, Option, Some, None, Result, Ok, Err}
 use Rattle.std.specs.declared.alloc.AllocError.{AllocError}
+use Rattle.vo_spec.specs.declared.keys.Interval.{Interval}
 use Rattle.vo_spec.specs.Bytes.{IsBytes}
 use Rattle.vo_spec.specs.Fits.{max_levels}
+use Rattle.vo_spec.specs.Scans.{in_interval}
 use Rattle.vo_spec.specs.Trees.{RowTree, digest}
 use Rattle.row_bytes.specs.Reading.{byte_at}
 use Rattle.row_bytes.specs.Fields.{◌>>=◌, times, whole}
@@ -13,8 +15,8 @@ use Rattle.tree_stream.specs.declared.findings.Summary.{Summary}
 use Rattle.tree_stream.specs.declared.stream.TreeStream.{TreeStream}
 use Rattle.tree_stream.specs.Findings.{findings_in}
 use Rattle.tree_stream.specs.Remaining.{summary}
-use Rattle.tree_stream.specs.Summaries.{summary_of_tree}
-use Rattle.tree_stream.specs.Streams.{summary_of, target_in, WantsMemory as TreeWants}
+use Rattle.tree_stream.specs.Streams.{summary_of, target_in, IsBehind as IsBehindTree}
+use Rattle.tree_stream.specs.Places.{EndsInRow}
 use Rattle.reply_stream.specs.declared.trees_summary.TreesSummary.{TreesSummary}
 use Rattle.reply_stream.specs.declared.trees_state.OpenTree.{OpenTree}
 use Rattle.reply_stream.specs.declared.trees_state.TreesState.{TreesState}
@@ -75,10 +77,35 @@ pub record CanBecomeTrees (state : TreesState) : Type 0 where
   pub found : TreesSummary
   pub is : rest_of_trees state bytes ≡ Some found
 
--- some byte of the piece is of a row of the first tree whose key is in the target's interval
-abbrev pub WantsRow : TreesState → List ℕ → Type 0
-WantsRow (Count target) (count ∷ piece) = (tree : TreeStream) × (target_in tree ≡ target)
-    × ((bytes : List ℕ) → summary_of tree bytes ≡ summary_of_tree target bytes)
-    × TreeWants tree piece
-WantsRow (Tree tree) piece = (tree.first ≡ None) × TreeWants tree.stream piece
-WantsRow _ piece = ⊥
+-- The bytes that came behind the catalog's last byte.
+
+-- they are those of the first tree, behind the byte that says how many there are; it is read for
+-- the target
+pub record IsInFirstTree (target : Target) (stream : TreeStream) (bytes : List ℕ) : Type 0 where
+  pub count : ℕ
+  pub tree : List ℕ
+  pub bytes_are : bytes ≡ count ∷ tree
+  pub is_target : target_in stream ≡ target
+  pub behind : IsBehindTree stream tree
+
+-- the state took them, and reads the first tree for the target
+abbrev pub IsStateBehind : Target → TreesState → List ℕ → Type 0
+IsStateBehind target (Count own) bytes = (own ≡ target) × (bytes ≡ [])
+IsStateBehind target Empty bytes = Unit {0}
+IsStateBehind target (Tree tree) bytes =
+    tree.first ≡ None → IsInFirstTree target tree.stream bytes
+IsStateBehind target Invalid bytes = Unit {0}
+
+-- some byte of the piece, which comes behind these bytes, is of a row of the first tree whose key
+-- is in the interval
+pub record HasNeededByte (interval : Interval) (bytes piece : List ℕ) : Type 0 where
+  pub key : List ℕ
+  pub front : List ℕ
+  pub left : List ℕ
+  pub count : ℕ
+  pub tree : List ℕ
+  pub parts : piece ≡ front ++ left
+  pub some : 0 < length left
+  pub bytes_are : bytes ++ front ≡ count ∷ tree
+  pub inside : EndsInRow key tree
+  pub needed : IsTrue (in_interval interval key)

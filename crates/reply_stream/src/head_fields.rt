@@ -1,9 +1,10 @@
 //! The fields of a reply's head, each taken once it is whole.
-ghost use Rattle.std.specs.Prelude.{◌≡◌, ◌++◌, ◌<◌, Some, length, IfOk, OnOk, OnErr};
+ghost use Rattle.std.specs.Prelude.{◌≡◌, ◌++◌, ◌<◌, ℕ, List as Bytes, Some, length, IfOk, OnOk, OnErr};
 ghost use Rattle.vo_spec.specs.Bytes.{u32_of};
 ghost use Rattle.row_bytes.specs.declared.read_fault.ReadFault.TheVariants.{BadForm};
 ghost use Rattle.row_bytes.specs.Fields.{whole};
 ghost use Rattle.reply_stream.specs.Heads.{Yields, front_at, rest_of_head};
+ghost use Rattle.reply_stream.specs.HeadFronts.{TookFields};
 ghost use Rattle.reply_stream.specs.HeadFields.{field_size as size_of_field, fields_left};
 
 use crate::head::Head;
@@ -43,6 +44,7 @@ fn record_in(token: &[u8]) -> Option<Record>
 fn take_front(token: &[u8]) -> HeadState
     requires { length token.now ≡ 64 }
     ensures yields { Yields result (λ rest. rest_of_head HeadState.Front (token.now ++ rest)) }
+    ensures took { TookFields result token.now }
     ensures fewer { fields_left result < 5 }
 {
     match record_in(token) {
@@ -67,6 +69,8 @@ fn take_signature_length(rec: Record, token: &[u8]) -> HeadState
     requires { length token.now ≡ 4 }
     ensures yields { Yields result (λ rest. rest_of_head (HeadState.SignatureLength rec)
         (token.now ++ rest)) }
+    ensures took { (taken : Bytes ℕ) → TookFields (HeadState.SignatureLength rec) taken
+        → TookFields result (taken ++ token.now) }
     ensures fewer { fields_left result < 4 }
 {
     let size = length_in(token);
@@ -84,6 +88,9 @@ fn take_signature(
     requires { length token.now ≡ field.size }
     ensures yields { IfOk result (λ state. Yields state (λ rest.
         rest_of_head (HeadState.Signature field) (token.now ++ rest))) }
+    ensures took { IfOk result (λ state. (taken : Bytes ℕ)
+        → TookFields (HeadState.Signature field) taken
+        → TookFields state (taken ++ token.now)) }
     ensures fewer { IfOk result (λ state. fields_left state < 3) }
 {
     let SignatureField { rec, .. } = field;
@@ -95,6 +102,8 @@ fn take_catalog_length(signed: SignedRecord, token: &[u8]) -> HeadState
     requires { length token.now ≡ 4 }
     ensures yields { Yields result (λ rest. rest_of_head (HeadState.CatalogLength signed)
         (token.now ++ rest)) }
+    ensures took { (taken : Bytes ℕ) → TookFields (HeadState.CatalogLength signed) taken
+        → TookFields result (taken ++ token.now) }
     ensures fewer { fields_left result < 2 }
 {
     let size = length_in(token);
@@ -108,6 +117,7 @@ fn take_catalog(alloc: Global, field: CatalogField, token: &[u8]) -> Result<Head
     requires { length token.now ≡ field.size }
     ensures yields { IfOk result (λ state. Yields state (λ rest.
         rest_of_head (HeadState.Catalog field) (token.now ++ rest))) }
+    ensures took { IfOk result (λ state. (taken : Bytes ℕ) → TookFields state taken) }
     ensures fewer { IfOk result (λ state. fields_left state < 1) }
 {
     let CatalogField { signed, .. } = field;
@@ -125,6 +135,7 @@ fn take_catalog(alloc: Global, field: CatalogField, token: &[u8]) -> Result<Head
 /// What comes of bytes of which no catalog was read.
 fn after_fault(fault: ReadFault) -> Result<HeadState, AllocError>
     ensures invalid { IfOk result (λ state. (fault ≡ BadForm) × (state ≡ HeadState.Invalid)) }
+    ensures took { IfOk result (λ state. (taken : Bytes ℕ) → TookFields state taken) }
     ensures fewer { IfOk result (λ state. fields_left state < 1) }
 {
     match fault {
@@ -137,6 +148,8 @@ fn next_state(alloc: Global, state: HeadState, token: &[u8]) -> Result<HeadState
     requires { size_of_field state ≡ Some (length token.now) }
     ensures yields { IfOk result (λ next. Yields next (λ rest.
         rest_of_head state (token.now ++ rest))) }
+    ensures took { IfOk result (λ next. (taken : Bytes ℕ) → TookFields state taken
+        → TookFields next (taken ++ token.now)) }
     ensures fewer { IfOk result (λ next. fields_left next < fields_left state) }
 {
     match state {
@@ -159,6 +172,8 @@ pub(crate) fn take_field(
     requires { size_of_field state.old ≡ Some (length token.now) }
     ensures yields { OnOk result (Yields state.new (λ rest.
         rest_of_head state.old (token.now ++ rest))) }
+    ensures took { OnOk result ((taken : Bytes ℕ) → TookFields state.old taken
+        → TookFields state.new (taken ++ token.now)) }
     ensures fewer { OnOk result (fields_left state.new < fields_left state.old) }
     ensures err { OnErr result (state.new ≡ HeadState.Invalid) }
 {

@@ -1,6 +1,7 @@
 //! Where the reading of a reply's head stands: which field comes next, and what was read.
 ghost use Rattle.std.specs.Prelude.{◌≤◌};
 ghost use Rattle.vo_spec.specs.Journals.{max_signature};
+ghost use Rattle.vo_spec.specs.Records.{max_catalog};
 
 use crate::head::Head;
 use vo_spec::{List, Record};
@@ -40,4 +41,5 @@ pub(crate) struct SignedRecord {
 pub(crate) struct CatalogField {
     pub signed: SignedRecord,
     pub size: u32,
+    ghost within: { size ≤ max_catalog },
 }

@@ -1,6 +1,7 @@
 //! A reply's head whose bytes come in pieces.
-ghost use Rattle.std.specs.Prelude.{◌≡◌, ◌⊎◌, ◌++◌, ◌<◌, ◌≤◌, ℕ, List, [], Some, None, length, IsNone, IfOk, IfSome, OnOk, OnErr};
+ghost use Rattle.std.specs.Prelude.{◌≡◌, ◌⊎◌, ◌++◌, ◌<◌, ◌≤◌, ℕ, List, [], Some, None, length, IsNone, IsErr, IsOk, IfOk, IfSome, OnOk, OnErr};
 ghost use Rattle.reply_stream.specs.Heads.{head_at, rest_of_head};
+ghost use Rattle.reply_stream.specs.HeadFronts.{IsBehindBytes, IsHeadFront, TookFields};
 ghost use Rattle.reply_stream.specs.HeadFields.{FitField, field_size as size_of_field, fields_left};
 
 use crate::head::Head;
@@ -18,11 +19,12 @@ pub struct HeadStream {
 }
 
 impl HeadStream {
-    ghost use Rattle.reply_stream.specs.HeadStreams.{IsSettled, head_of};
+    ghost use Rattle.reply_stream.specs.HeadStreams.{IsBehind, IsSettled, head_of};
 
     /// A reader that was given no bytes.
     pub fn new(alloc: Global) -> HeadStream
-        ensures { (bytes : List ℕ) → head_of result bytes ≡ head_at bytes }
+        ensures head { (bytes : List ℕ) → head_of result bytes ≡ head_at bytes }
+        ensures behind { IsBehind result [] }
     {
         HeadStream {
             state: HeadState::Front,
@@ -38,11 +40,18 @@ impl HeadStream {
         ensures ok { IfOk result (λ left. (more : List ℕ)
             → head_of self.new (left.now ++ more) ≡ head_of self.old (piece.now ++ more)) }
 
+        ensures behind { IfOk result (λ left. (bytes : List ℕ) → IsBehind self.old bytes
+            → IsBehind self.new (bytes ++ piece.now)) }
+
         // All of it is taken until the head ends.
         ensures all { IfOk result (λ left. (left.now ≡ []) ⊎ IsSettled self.new) }
 
         // Where memory ran out, no head comes of it any more.
         ensures err { OnErr result ((more : List ℕ) → head_of self.new more ≡ None) }
+
+        // It runs out only where the bytes so far are the front of a head.
+        ensures memory { IsErr result → (bytes : List ℕ) → IsBehind self.old bytes
+            → IsHeadFront bytes }
     {
         feed_fields(&mut self.state, &mut self.held, alloc, piece)
     }
@@ -100,6 +109,10 @@ fn feed_fields<'b>(
         → length held.new.items < size }
     ensures kept { size_of_field state.new ≡ None → held.new.items ≡ [] }
     ensures err { OnErr result (state.new ≡ HeadState.Invalid) }
+    ensures behind { IfOk result (λ left. (bytes : List ℕ)
+        → IsBehindBytes state.old held.old.items bytes
+        → IsBehindBytes state.new held.new.items (bytes ++ piece.now)) }
+    ensures memory { size_of_field state.old ≡ None → IsOk result }
 {
     let Some(size) = field_size(state) else {
         return Ok(piece);
@@ -129,6 +142,8 @@ fn fill_field(
     requires { size_of_field state.old ≡ Some (length (held.old.items ++ front.now)) }
     ensures yields { OnOk result ((rest : List ℕ) → rest_of_head state.new rest
         ≡ rest_of_head state.old ((held.old.items ++ front.now) ++ rest)) }
+    ensures took { OnOk result ((taken : List ℕ) → TookFields state.old taken
+        → TookFields state.new (taken ++ (held.old.items ++ front.now))) }
     ensures fewer { OnOk result (fields_left state.new < fields_left state.old) }
 {
     held.extend_from_slice(front)?;

@@ -1,11 +1,12 @@
 //! The trees of a reply, whose bytes come in pieces behind the catalog's last byte.
-ghost use Rattle.std.specs.Prelude.{◌≡◌, ◌<◌, ◌++◌, ◌≢◌, ◌∷◌, ℕ, List, [], Some, None, Ok, true, false, nat_lt, if◌then◌else◌, IsErr, IsOk, IfOk, OnOk, OnErr};
+ghost use Rattle.std.specs.Prelude.{◌≡◌, ◌<◌, ◌++◌, ◌≢◌, ◌∷◌, ℕ, List, [], Some, None, Ok, true, false, nat_lt, if◌then◌else◌, is_some, IsTrue, IsErr, IsOk, IfOk, OnOk, OnErr};
 ghost use Rattle.vo_spec.specs.Bytes.{IsBytes};
 ghost use Rattle.row_bytes.specs.Fields.{whole};
 ghost use Rattle.tree_stream.specs.Findings.{no_target};
 ghost use Rattle.tree_stream.specs.Summaries.{CanEnd as CanEndTree};
-ghost use Rattle.tree_stream.specs.Streams.{IsSettled, WantsMemory as TreeWantsMemory, summary_of, target_in};
-ghost use Rattle.reply_stream.specs.ReplyTrees.{CanBecomeTrees, GoesOn, WantsRow, awaits_count, count_and_first, kept_first, rest_of_open, rest_of_trees, trees_at};
+ghost use Rattle.tree_stream.specs.Streams.{IsBehind as IsBehindTree, IsSettled, summary_of, target_in};
+ghost use Rattle.tree_stream.specs.declared.target.Target.{Target as PlainTarget};
+ghost use Rattle.reply_stream.specs.ReplyTrees.{CanBecomeTrees, GoesOn, HasNeededByte, IsInFirstTree, IsStateBehind, awaits_count, count_and_first, kept_first, rest_of_open, rest_of_trees, trees_at};
 
 use crate::trees_state::{OpenTree, TreesState};
 use crate::trees_summary::TreesSummary;
@@ -20,11 +21,12 @@ pub struct TreesStream {
 }
 
 impl TreesStream {
-    ghost use Rattle.reply_stream.specs.TreesStreams.{CanEnd, WantsMemory, trees_of};
+    ghost use Rattle.reply_stream.specs.TreesStreams.{CanEnd, IsBehind, trees_of};
 
     /// A reader that was given no bytes, of trees the first of which is read for a target.
     pub fn new(target: Target) -> TreesStream
-        ensures { (bytes : List ℕ) → trees_of result bytes ≡ whole (trees_at target bytes) }
+        ensures trees { (bytes : List ℕ) → trees_of result bytes ≡ whole (trees_at target bytes) }
+        ensures behind { IsBehind target result [] }
     {
         TreesStream {
             state: TreesState::Count(target),
@@ -37,6 +39,9 @@ impl TreesStream {
         ensures ok { OnOk result ((more : List ℕ)
             → trees_of self.new more ≡ trees_of self.old (piece.now ++ more)) }
 
+        ensures behind { OnOk result ((target : PlainTarget) (bytes : List ℕ)
+            → IsBehind target self.old bytes → IsBehind target self.new (bytes ++ piece.now)) }
+
         // Where memory ran out, no trees come of it any more.
         ensures err { OnErr result ((more : List ℕ) → trees_of self.new more ≡ None) }
 
@@ -46,8 +51,9 @@ impl TreesStream {
             → IsOk result }
 
         // It runs out only at a byte of the piece that is of a row of the first tree whose key is
-        // in the target's interval.
-        ensures memory { IsErr result → WantsMemory self.old piece.now }
+        // in the target's interval, as the bytes say that came.
+        ensures memory { IsErr result → (target : PlainTarget) (bytes : List ℕ)
+            → IsBehind target self.old bytes → HasNeededByte target.interval bytes piece.now }
     {
         if awaits_count(&self.state) {
             return self.feed_count(alloc, piece);
@@ -72,7 +78,10 @@ impl TreesStream {
             → trees_of self.new more ≡ trees_of self.old (piece.now ++ more)) }
         ensures err { OnErr result ((more : List ℕ) → trees_of self.new more ≡ None) }
         ensures way { IsErr result → CanEnd self.old }
-        ensures memory { IsErr result → WantsMemory self.old piece.now }
+        ensures behind { OnOk result ((target : PlainTarget) (bytes : List ℕ)
+            → IsBehind target self.old bytes → IsBehind target self.new (bytes ++ piece.now)) }
+        ensures memory { IsErr result → (target : PlainTarget) (bytes : List ℕ)
+            → IsBehind target self.old bytes → HasNeededByte target.interval bytes piece.now }
     {
         match mem::replace(&mut self.state, TreesState::Invalid) {
             TreesState::Count(target) => {
@@ -115,7 +124,12 @@ fn feed_in_place(state: &mut TreesState, alloc: Global, piece: &[u8]) -> Result<
     ensures lost { result ≡ Ok false → (more : List ℕ)
         → rest_of_trees state.old (piece.now ++ more) ≡ None }
     ensures way { IsErr result → CanBecomeTrees state.old }
-    ensures memory { IsErr result → WantsRow state.old piece.now }
+    ensures behind { result ≡ Ok true → (target : PlainTarget) (bytes : List ℕ)
+        → IsStateBehind target state.old bytes
+        → IsStateBehind target state.new (bytes ++ piece.now) }
+    ensures memory { IsErr result → (target : PlainTarget) (bytes : List ℕ)
+        → IsStateBehind target state.old bytes
+        → HasNeededByte target.interval bytes piece.now }
 {
     match state {
         TreesState::Count(_) => unreachable!(),
@@ -130,7 +144,8 @@ fn state_behind_count(target: Target, alloc: Global, piece: &[u8]) -> Result<Tre
     ensures ok { IfOk result (λ new. (more : List ℕ) → rest_of_trees new more
         ≡ rest_of_trees (TreesState.Count target) (piece.now ++ more)) }
     ensures way { IsErr result → CanBecomeTrees (TreesState.Count target) }
-    ensures memory { IsErr result → WantsRow (TreesState.Count target) piece.now }
+    ensures behind { IfOk result (λ new. IsStateBehind target new piece.now) }
+    ensures memory { IsErr result → HasNeededByte target.interval [] piece.now }
 {
     match piece.split_first() {
         Some((count, behind)) => begin_trees(target, alloc, *count, behind),
@@ -148,7 +163,8 @@ fn begin_trees(
     ensures ok { IfOk result (λ new. (more : List ℕ) → rest_of_trees new more
         ≡ rest_of_trees (TreesState.Count target) (count ∷ behind.now ++ more)) }
     ensures way { IsErr result → CanBecomeTrees (TreesState.Count target) }
-    ensures memory { IsErr result → WantsRow (TreesState.Count target) (count ∷ behind.now) }
+    ensures behind { IfOk result (λ new. IsStateBehind target new (count ∷ behind.now)) }
+    ensures memory { IsErr result → HasNeededByte target.interval [] (count ∷ behind.now) }
 {
     if count == 0 {
         return Ok(without_trees(behind));
@@ -164,8 +180,9 @@ fn begin_trees(
 
 /// There are no trees, and these bytes come behind.
 fn without_trees(behind: &[u8]) -> TreesState
-    ensures { (more : List ℕ) → rest_of_trees result more
+    ensures trees { (more : List ℕ) → rest_of_trees result more
         ≡ whole (Some (count_and_first 0 None, behind.now ++ more)) }
+    ensures behind { (target : PlainTarget) (bytes : List ℕ) → IsStateBehind target result bytes }
 {
     if behind.is_empty() {
         TreesState::Empty
@@ -178,7 +195,12 @@ fn feed_open(mut tree: OpenTree, alloc: Global, piece: &[u8]) -> Result<TreesSta
     ensures ok { IfOk result (λ new. (more : List ℕ)
         → rest_of_trees new more ≡ whole (rest_of_open tree (piece.now ++ more))) }
     ensures way { IsErr result → CanEndTree (summary_of tree.stream) }
-    ensures memory { IsErr result → (tree.first ≡ None) × TreeWantsMemory tree.stream piece.now }
+    ensures behind { IfOk result (λ new. (target : PlainTarget) (bytes : List ℕ)
+        → (tree.first ≡ None → IsInFirstTree target tree.stream bytes)
+        → IsStateBehind target new (bytes ++ piece.now)) }
+    ensures memory { IsErr result → (target : PlainTarget) (bytes : List ℕ)
+        → (tree.first ≡ None → IsInFirstTree target tree.stream bytes)
+        → HasNeededByte target.interval bytes piece.now }
 {
     let goes_on = feed_trees(&mut tree, alloc, piece)?;
     if goes_on {
@@ -191,8 +213,12 @@ fn feed_open(mut tree: OpenTree, alloc: Global, piece: &[u8]) -> Result<TreesSta
 fn feed_trees(tree: &mut OpenTree, alloc: Global, piece: &[u8]) -> Result<bool, AllocError>
     ensures ok { GoesOn result tree.old tree.new piece.now }
     ensures way { IsErr result → CanEndTree (summary_of tree.old.stream) }
-    ensures memory { IsErr result → (tree.old.first ≡ None)
-        × TreeWantsMemory tree.old.stream piece.now }
+    ensures behind { result ≡ Ok true → (target : PlainTarget) (bytes : List ℕ)
+        → (tree.old.first ≡ None → IsInFirstTree target tree.old.stream bytes)
+        → tree.new.first ≡ None → IsInFirstTree target tree.new.stream (bytes ++ piece.now) }
+    ensures memory { IsErr result → (target : PlainTarget) (bytes : List ℕ)
+        → (tree.old.first ≡ None → IsInFirstTree target tree.old.stream bytes)
+        → HasNeededByte target.interval bytes piece.now }
 {
     let mut left = tree.stream.feed(alloc, piece)?;
     'trees: while !left.is_empty() {
@@ -212,6 +238,7 @@ fn next_tree(tree: &mut OpenTree, alloc: Global) -> bool
     ensures last { result ≡ false → (bytes : List ℕ) → bytes ≢ []
         → whole (rest_of_open tree.old bytes) ≡ None }
     ensures target { result ≡ true → target_in tree.new.stream ≡ no_target }
+    ensures kept { result ≡ true → IsTrue (is_some tree.new.first) }
     ensures fewer { result ≡ true → tree.new.left < tree.old.left }
 {
     if tree.left == 0 {

@@ -1,14 +1,15 @@
 -- The cells of a row, of which those before the last are taken where the row stands.
-use Rattle.std.proofs.Common.{◌≡◌, ℕ, suc, ◌≤◌, List, ◌++◌, length, take, refl, sym, ◌∙◌}
+use Rattle.std.proofs.Common.{◌≡◌, ℕ, ◌+◌, ap, suc, ◌≤◌, List, ◌++◌, length, take, refl, sym, ◌∙◌}
 use Rattle.tree_stream.specs.declared.context.Context.{Context}
 use Rattle.tree_stream.specs.declared.state.OpenRow.{OpenRow}
 use Rattle.tree_stream.specs.declared.state.State.{State}
 use Rattle.tree_stream.specs.declared.state.State.TheVariants.{Cell}
-use Rattle.tree_stream.specs.Machines.{Advances, Passes, machine_of, row_summary}
+use Rattle.tree_stream.specs.Machines.{Advances, Passes, TakesCells, machine_of, row_summary}
 use Rattle.tree_stream.specs.Summaries.{CanEnd, summary_from}
 use Rattle.tree_stream.specs.Tokens.{cell_size}
 use Rattle.tree_stream.proofs.Endings.{can_same}
 use Rattle.tree_stream.proofs.PieceLaws.{token_whole}
+use Rattle.tree_stream.proofs.PlaceLaws.{cells_moved}
 use Rattle.tree_stream.proofs.StateLaws.{cell_token}
 use Rattle.tree_stream.proofs.Steps.{yields_cell}
 
@@ -22,10 +23,11 @@ pub row_can : (context : Context) (row : OpenRow) → CanEnd (row_summary contex
 row_can context row can = can_same (summary_from context (Cell row)) (row_summary context row row.hasher) (λ rest. (yields_cell context row (suc row.left) refl).each rest) can
 
 -- what was gathered of the row is hashed
-pub row_advances : (context : Context) (old mid new : OpenRow) (hashed bytes left : List ℕ) → Passes (row_summary context old old.hasher) (row_summary context mid hashed) bytes left
+pub row_advances : (context : Context) (old mid new : OpenRow) (hashed bytes left : List ℕ) → Passes (row_summary context old old.hasher) (row_summary context mid hashed) bytes left → TakesCells old mid bytes left
+    → new.leaf.left ≡ mid.leaf.left → new.column ≡ mid.column → new.left ≡ mid.left
     → ((rest : List ℕ) → row_summary context new new.hasher rest ≡ row_summary context mid hashed rest)
     → Advances (machine_of context (Cell old)) (machine_of context (Cell new)) bytes left
-row_advances context old mid new hashed bytes left p same = record {
+row_advances context old mid new hashed bytes left p t behind column count same = record {
   taken = p.taken;
   parts = p.parts;
   each = λ rest.
@@ -33,4 +35,6 @@ row_advances context old mid new hashed bytes left p same = record {
       ∙ same rest
       ∙ p.each rest
       ∙ sym ((yields_cell context old (suc old.left) refl).each (p.taken ++ rest));
+  moves = λ before at. cells_moved context.ancestors.items context.last_key.items old new bytes left p.taken before
+      (record { cells = t.cells; parts = t.parts; column = column ∙ t.column; left = ap (λ (n : ℕ). n + length t.cells) count ∙ t.left; behind = behind ∙ t.behind; fit = t.fit }) p.parts at;
 }

@@ -18,3 +18,4 @@ pub mod RowLaws
 pub mod ShapeLaws
 pub mod TreeWords
 pub mod NoTarget
+pub mod PlaceLaws

@@ -1,5 +1,7 @@
 -- A stream of a tree that is read for nothing never wants memory.
-use Rattle.std.proofs.Common.{◌≡◌, ℕ, true, false, List, [], ◌∷◌, refl, sym, ap, ◌∙◌}
+use Rattle.std.proofs.Common.{◌≡◌, ℕ, true, false, List, [], ◌∷◌, Result, Ok, Err, refl, sym, ap, ◌∙◌}
+use Rattle.std.specs.Prelude.{IsErr, IsOk}
+use Rattle.std.specs.declared.alloc.AllocError.{AllocError}
 use Rattle.std.proofs.lemmas.Bool.{false≢true}
 use Rattle.vo_spec.specs.Scans.{in_interval}
 use Rattle.tree_stream.specs.declared.target.Target.{Target}
@@ -9,7 +11,8 @@ use Rattle.tree_stream.specs.declared.state.State.TheVariants.{Node, Separator, 
 use Rattle.tree_stream.specs.declared.stream.TreeStream.{TreeStream}
 use Rattle.tree_stream.specs.Findings.{no_target}
 use Rattle.tree_stream.specs.Summaries.{IsInNeededRow}
-use Rattle.tree_stream.specs.Streams.{target_in, WantsMemory}
+use Rattle.tree_stream.specs.Machines.{StopsInRow}
+use Rattle.tree_stream.specs.Streams.{target_in}
 
 -- no key is above the first key and below it
 none_between : (key : List ℕ) → in_interval no_target.interval key ≡ false
@@ -29,5 +32,8 @@ no_row context (Key leaf) is inside = inside
 no_row context (Complete digest) is inside = inside
 no_row context Invalid is inside = inside
 
-pub never_wanted : (stream : TreeStream) (piece : List ℕ) → target_in stream ≡ no_target → WantsMemory stream piece → ⊥
-never_wanted stream piece is wants = no_row wants.0.reached.context wants.0.reached.state (wants.0.target ∙ is) wants.0.inside
+pub quiet : {T : Type 0} (r : Result T AllocError) (old : TreeStream) (piece : List ℕ) → (IsErr r → StopsInRow old.machine old.partial.items piece) → target_in old ≡ no_target → IsOk r
+quiet (Ok done) old piece stops is = refl
+quiet (Err e) old piece stops is =
+    let s = stops refl in
+    absurd (no_row s.reached.context s.reached.state (s.target ∙ is) s.inside)

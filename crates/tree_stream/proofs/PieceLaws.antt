@@ -1,5 +1,5 @@
 -- What is taken of pieces, step by step.
-use Rattle.std.proofs.Common.{◌≡◌, ℕ, ◌+◌, ◌<◌, ◌≤◌, eqb, List, [], ◌∷◌, ◌++◌, length, take, drop, Some, None, refl, sym, ap, ◌∙◌, append-nil, append_assoc, arith, Result, Ok, Err, ◌⊎◌, inl, inr}
+use Rattle.std.proofs.Common.{◌≡◌, ℕ, ◌+◌, ◌<◌, ◌≤◌, eqb, List, [], ◌∷◌, ◌++◌, length, take, drop, Some, None, refl, sym, ap, subst, ◌∙◌, append-nil, append_assoc, arith, Result, Ok, Err, ◌⊎◌, inl, inr}
 use Rattle.std.specs.Prelude.{IfOk, OnOk, OnErr, IsOk, IsErr, IsTrue, true, false}
 use Rattle.std.specs.Borrow.{Bor}
 use Rattle.std.specs.declared.alloc.AllocError.{AllocError}
@@ -12,7 +12,13 @@ use Rattle.tree_stream.specs.declared.findings.Summary.{Summary}
 use Rattle.tree_stream.specs.declared.machine.Machine.{Machine}
 use Rattle.tree_stream.specs.declared.state.State.{State}
 use Rattle.tree_stream.specs.declared.state.State.TheVariants.{Invalid}
-use Rattle.tree_stream.specs.Machines.{summary_of_machine, Takes, Passes, Advances, EndsWith, Grows, StopsInRow}
+use Rattle.tree_stream.specs.Machines.{summary_of_machine, IsAt, Takes, Passes, Advances, EndsWith, Grows, StopsInRow}
+use Rattle.vo_spec.specs.Scans.{in_interval}
+use Rattle.tree_stream.specs.declared.stream.TreeStream.{TreeStream}
+use Rattle.tree_stream.specs.declared.target.Target.{Target}
+use Rattle.tree_stream.specs.Places.{EndsInRow, HasNeededByte}
+use Rattle.tree_stream.specs.Streams.{IsBehind, target_in}
+use Rattle.tree_stream.proofs.PlaceLaws.{ends_in_row}
 use Rattle.tree_stream.specs.Remaining.{rest_of_node}
 use Rattle.tree_stream.specs.Summaries.{is_settled, summary_with, summary_from, CanEnd, IsInNeededRow}
 use Rattle.tree_stream.specs.Tokens.{token_size}
@@ -93,9 +99,27 @@ passes_back before old bytes left token behind fits a is can =
           ∙ can.each rest;
     }
 
+pub passes_of : (old new : Machine) (bytes left : List ℕ) → Advances old new bytes left → Passes (summary_of_machine old) (summary_of_machine new) bytes left
+passes_of old new bytes left a = record { taken = a.taken; parts = a.parts; each = a.each }
+
+abbrev Moves : Machine → Machine → List ℕ → Type 0
+Moves old new taken = (before : List ℕ) → IsAt old before → IsAt new (before ++ taken)
+
+moved_on : (first old new : Machine) (taken token : List ℕ) → Moves first old taken → Moves old new token → Moves first new (taken ++ token)
+moved_on first old new taken token a b = λ before at.
+    let P : List ℕ → Type 0 = λ bytes. IsAt new bytes in
+    subst P (append_assoc before taken token) (b (before ++ taken) (a before at))
+
+stays : (machine : Machine) → Moves machine machine []
+stays machine = λ before at.
+    let P : List ℕ → Type 0 = λ bytes. IsAt machine bytes in
+    subst P (sym (append-nil before)) at
+
 pub goes_on : (first old new : Machine) (bytes left token behind : List ℕ) → Advances first old bytes left → Takes old new token → left ≡ token ++ behind → Advances first new bytes behind
+unfolding passes_on passes_of
 goes_on first old new bytes left token behind a t is =
-    passes_on (summary_of_machine first) (summary_of_machine old) (summary_of_machine new) bytes left token behind a t.each is
+    let p = passes_on (summary_of_machine first) (summary_of_machine old) (summary_of_machine new) bytes left token behind (passes_of first old bytes left a) t.each is in
+    record { taken = a.taken ++ token; parts = p.parts; each = p.each; moves = moved_on first old new a.taken token a.moves t.moves }
 
 -- first some bytes, and then those that they left
 pub and_then : (first old new : Machine) (bytes left behind : List ℕ) → Advances first old bytes left → Advances old new left behind → Advances first new bytes behind
@@ -103,6 +127,7 @@ and_then first old new bytes left behind a b = record {
   taken = a.taken ++ b.taken;
   parts = a.parts ∙ ap (λ (l : List ℕ). a.taken ++ l) b.parts ∙ sym (append_assoc a.taken b.taken behind);
   each = λ rest. b.each rest ∙ a.each (b.taken ++ rest) ∙ ap (summary_of_machine first) (sym (append_assoc a.taken b.taken rest));
+  moves = moved_on first old new a.taken b.taken a.moves b.moves;
 }
 
 -- Sizes.
@@ -128,7 +153,7 @@ longer_way machine partial front all fits is can =
     }
 
 pub same_bytes : (machine : Machine) (bytes left : List ℕ) → left ≡ bytes → Advances machine machine bytes left
-same_bytes machine bytes left is = record { taken = []; parts = sym is; each = λ rest. refl }
+same_bytes machine bytes left is = record { taken = []; parts = sym is; each = λ rest. refl; moves = stays machine }
 
 -- the bytes of a token that was filled up, and those behind them
 pub filled_is : (partial front left piece all : List ℕ) → all ≡ partial ++ front → piece ≡ front ++ left → all ++ left ≡ partial ++ piece
@@ -139,12 +164,13 @@ filled_taken old new partial front left piece all kept is parts taken none = rec
   taken = all;
   parts = sym (filled_is partial front left piece all is parts) ∙ ap (λ (k : List ℕ). all ++ (k ++ left)) (sym none);
   each = taken.each;
+  moves = taken.moves;
 }
 
 pub ok_advances : (r : Result (Bor (List ℕ)) AllocError) (first old new : Machine) (bytes partial left kept : List ℕ) → partial ≡ [] → Advances first old bytes (partial ++ left)
     → IfOk r (λ end. Advances old new left (kept ++ end.now)) → IfOk r (λ end. Advances first new bytes (kept ++ end.now))
 ok_advances (Ok end) first old new bytes partial left kept none a b =
-    let all : Advances first old bytes left = record { taken = a.taken; parts = a.parts ∙ ap (λ (p : List ℕ). a.taken ++ (p ++ left)) none; each = a.each } in
+    let all : Advances first old bytes left = record { taken = a.taken; parts = a.parts ∙ ap (λ (p : List ℕ). a.taken ++ (p ++ left)) none; each = a.each; moves = a.moves } in
     and_then first old new bytes left (kept ++ end.now) all b
 ok_advances (Err e) first old new bytes partial left kept none a b = tt
 
@@ -224,18 +250,93 @@ no_length (x ∷ xs) is = absurd (omega (arith, eqb-true (length (x ∷ xs)) 0 i
 
 -- Where memory runs out.
 
-pub stops_here : (first old : Machine) (bytes left : List ℕ) → Advances first old bytes left → old.context.target ≡ first.context.target → IsInNeededRow old.context old.state → 0 < length left → StopsInRow first bytes
-stops_here first old bytes left a same inside some =
-    record { reached = old; left = left; advances = a; target = same; inside = inside; some = some }
+pub stops_here : (first old : Machine) (bytes left : List ℕ) → Advances first old bytes left → old.context.target ≡ first.context.target → IsInNeededRow old.context old.state → 0 < length left → StopsInRow first [] bytes
+stops_here first old bytes left a same inside some = record {
+  reached = old;
+  taken = a.taken;
+  part = [];
+  front = a.taken;
+  left = left;
+  parts = a.parts;
+  some = some;
+  all = sym (append-nil a.taken);
+  short = empty_short old.state [] refl;
+  moves = a.moves;
+  target = same;
+  inside = inside;
+}
 
-pub stops_later : (first old : Machine) (bytes partial left : List ℕ) → partial ≡ [] → Advances first old bytes (partial ++ left) → old.context.target ≡ first.context.target → StopsInRow old left → StopsInRow first bytes
-stops_later first old bytes partial left none a same stops =
-    let all : Advances first old bytes left = record { taken = a.taken; parts = a.parts ∙ ap (λ (p : List ℕ). a.taken ++ (p ++ left)) none; each = a.each } in
+-- in the token that is in front
+pub stops_first : (machine : Machine) (partial piece : List ℕ) → IsInNeededRow machine.context machine.state → length partial < token_size machine.state partial → 0 < length piece → StopsInRow machine partial piece
+stops_first machine partial piece inside short some = record {
+  reached = machine;
+  taken = [];
+  part = partial;
+  front = [];
+  left = piece;
+  parts = refl;
+  some = some;
+  all = append-nil partial;
+  short = short;
+  moves = stays machine;
+  target = refl;
+  inside = inside;
+}
+
+pub stops_later : (first old : Machine) (partial piece kept left : List ℕ) → kept ≡ [] → Advances first old (partial ++ piece) (kept ++ left) → EndsWith piece left → old.context.target ≡ first.context.target → StopsInRow old [] left
+    → StopsInRow first partial piece
+stops_later first old partial piece kept left none a ends same stops =
+    let begun : List ℕ = ends.0 in
+    let parts : (partial ++ begun) ++ left ≡ a.taken ++ left =
+    append_assoc partial begun left ∙ ap (λ (t : List ℕ). partial ++ t) (sym ends.1) ∙ a.parts ∙ ap (λ (k : List ℕ). a.taken ++ (k ++ left)) none in
+    let taken : partial ++ begun ≡ a.taken = same_front (partial ++ begun) a.taken left parts in
     record {
       reached = stops.reached;
+      taken = a.taken ++ stops.taken;
+      part = stops.part;
+      front = begun ++ stops.front;
       left = stops.left;
-      advances = and_then first old stops.reached bytes left stops.left all stops.advances;
+      parts = ends.1 ∙ ap (λ (t : List ℕ). begun ++ t) stops.parts ∙ sym (append_assoc begun stops.front stops.left);
+      some = stops.some;
+      all = sym (append_assoc partial begun stops.front)
+          ∙ ap (λ (t : List ℕ). t ++ stops.front) taken
+          ∙ ap (λ (t : List ℕ). a.taken ++ t) stops.all
+          ∙ sym (append_assoc a.taken stops.taken stops.part);
+      short = stops.short;
+      moves = moved_on first old stops.reached a.taken stops.taken a.moves stops.moves;
       target = stops.target ∙ same;
       inside = stops.inside;
-      some = stops.some;
+    }
+
+-- The stream, in the bytes of a tree.
+
+pub behind_piece : (r : Result (Bor (List ℕ)) AllocError) (old new : TreeStream) (piece : List ℕ) → IfOk r (λ left. Advances old.machine new.machine (old.partial.items ++ piece) (new.partial.items ++ left.now))
+    → IfOk r (λ left. left.now ≡ [] → (bytes : List ℕ) → IsBehind old bytes → IsBehind new (bytes ++ piece))
+behind_piece (Ok left) old new piece a = λ none bytes b. record {
+  taken = b.taken ++ a.taken;
+  at = a.moves b.taken b.at;
+  parts =
+      ap (λ (t : List ℕ). t ++ piece) b.parts
+      ∙ append_assoc b.taken old.partial.items piece
+      ∙ ap (λ (t : List ℕ). b.taken ++ t) (a.parts ∙ ap (λ (t : List ℕ). a.taken ++ t) (ap (λ (t : List ℕ). new.partial.items ++ t) none ∙ append-nil new.partial.items))
+      ∙ sym (append_assoc b.taken a.taken new.partial.items);
+}
+behind_piece (Err e) old new piece a = tt
+
+pub has_needed_byte : (old : TreeStream) (piece bytes : List ℕ) → StopsInRow old.machine old.partial.items piece → IsBehind old bytes → HasNeededByte (target_in old).interval bytes piece
+has_needed_byte old piece bytes s b =
+    let context = s.reached.context in
+    let e = ends_in_row context s.reached.state (b.taken ++ s.taken) s.part (s.moves b.taken b.at) s.inside s.short in
+    let P : List ℕ → Type 0 = λ t. EndsInRow context.last_key.items t in
+    let Q : Target → Type 0 = λ target. IsTrue (in_interval target.interval context.last_key.items) in
+    let is : (b.taken ++ s.taken) ++ s.part ≡ bytes ++ s.front =
+    append_assoc b.taken s.taken s.part ∙ ap (λ (t : List ℕ). b.taken ++ t) (sym s.all) ∙ sym (append_assoc b.taken old.partial.items s.front) ∙ ap (λ (t : List ℕ). t ++ s.front) (sym b.parts) in
+    record {
+      key = context.last_key.items;
+      front = s.front;
+      left = s.left;
+      parts = s.parts;
+      some = s.some;
+      inside = subst P is e.0;
+      needed = subst Q s.target e.1;
     }

@@ -1,5 +1,7 @@
 pub mod Findings
 pub mod Tokens
+pub mod Places
+pub mod Positions
 pub mod Parsing
 pub mod Remaining
 pub mod Summaries

@@ -1,11 +1,11 @@
 -- What comes of a stream and of the bytes to come: those of a token that isn't whole are not taken
 -- yet.
-use Rattle.std.specs.Prelude.{ℕ, ◌<◌, List, ◌++◌, length, Some, None, ◌≡◌, ◌⊎◌}
+use Rattle.std.specs.Prelude.{ℕ, List, ◌++◌, Some, None, ◌≡◌, ◌⊎◌}
 use Rattle.batch_format.specs.BatchReading.{Reader}
 use Rattle.tree_stream.specs.declared.target.Target.{Target}
 use Rattle.tree_stream.specs.declared.findings.Summary.{Summary}
 use Rattle.tree_stream.specs.declared.stream.TreeStream.{TreeStream}
-use Rattle.tree_stream.specs.Machines.{summary_of_machine, StopsInRow}
+use Rattle.tree_stream.specs.Machines.{IsAt, summary_of_machine}
 
 unfoldable pub summary_of : TreeStream → Reader Summary
 summary_of stream bytes = summary_of_machine stream.machine (stream.partial.items ++ bytes)
@@ -14,10 +14,11 @@ summary_of stream bytes = summary_of_machine stream.machine (stream.partial.item
 abbrev pub target_in : TreeStream → Target
 target_in stream = stream.machine.context.target
 
--- some byte of the piece is of a row whose key is in the target's interval
-abbrev pub WantsMemory : TreeStream → List ℕ → Type 0
-WantsMemory stream piece =
-    StopsInRow stream.machine (stream.partial.items ++ piece) × (0 < length piece)
+-- the stream took these bytes of a tree, which the bytes of a token that isn't whole come behind
+pub record IsBehind (stream : TreeStream) (bytes : List ℕ) : Type 0 where
+  pub taken : List ℕ
+  pub at : IsAt stream.machine taken
+  pub parts : bytes ≡ taken ++ stream.partial.items
 
 -- it takes no more bytes: they come behind the tree, or the bytes before them are no tree
 abbrev pub IsSettled : TreeStream → Type 0

@@ -1,5 +1,10 @@
 //! From a node that ends up to its ancestors, and down to their next children.
-ghost use Rattle.std.specs.Prelude.{◌≡◌, ◌-◌, ◌<◌, length, reverse};
+ghost use Rattle.std.specs.Prelude.{◌≡◌, ◌-◌, ◌<◌, ◌++◌, ℕ, List, length, reverse};
+ghost use Rattle.vo_spec.specs.Fits.{FitsPart};
+ghost use Rattle.vo_spec.specs.TreeBytes.{tree_bytes};
+ghost use Rattle.vo_spec.specs.Trees.{RowTree};
+ghost use Rattle.tree_stream.specs.Places.{IsInnerFront};
+ghost use Rattle.tree_stream.specs.Positions.{IsBelow, StandsAt};
 ghost use Rattle.tree_stream.specs.Remaining.{rest_of_children};
 ghost use Rattle.tree_stream.specs.Summaries.{Yields, levels_below, summary_after, summary_by};
 
@@ -13,6 +18,9 @@ pub(crate) fn next_child(context: &mut Context, node: InnerNode) -> State
     ensures yields { Yields context.new result (summary_by context.old
         (rest_of_children context.old.target (levels_below context.old.ancestors.items - 1)
         node.hasher node.child_visits.items)) }
+    ensures stands { (above parent : List ℕ) → IsBelow (reverse context.old.ancestors.items) above
+        → IsInnerFront parent (length node.child_visits.items)
+        → StandsAt context.new result (above ++ parent) }
     ensures target { context.new.target ≡ context.old.target }
 {
     if context.ancestors.is_full() {
@@ -34,6 +42,9 @@ pub(crate) fn next_child(context: &mut Context, node: InnerNode) -> State
 pub(crate) fn end_node(context: &mut Context, digest: Digest) -> State
     ensures yields { Yields context.new result (summary_after context.old.target
         (reverse context.old.ancestors.items) digest context.old.findings) }
+    ensures stands { (above : List ℕ) (p : RowTree)
+        → IsBelow (reverse context.old.ancestors.items) above → FitsPart p
+        → StandsAt context.new result (above ++ tree_bytes p) }
     ensures target { context.new.target ≡ context.old.target }
 {
     match context.ancestors.pop() {

@@ -4,8 +4,9 @@ ghost use Rattle.vo_spec.specs.Cells.{cell_digest};
 ghost use Rattle.vo_spec.specs.Fits.{FitsCell, max_cells};
 ghost use Rattle.vo_spec.specs.TreeBytes.{cell_form};
 ghost use Rattle.tree_stream.specs.Findings.{columns_at as columns_of};
-ghost use Rattle.tree_stream.specs.Machines.{Advances, Passes, machine_of, row_summary};
+ghost use Rattle.tree_stream.specs.Machines.{Advances, Passes, TakesCells, machine_of, row_summary};
 ghost use Rattle.tree_stream.specs.Parsing.{BeginsCell, IsEncoded, cell_of};
+ghost use Rattle.tree_stream.specs.Positions.{IsInCells, StandsAt};
 ghost use Rattle.tree_stream.specs.Remaining.{rest_of_cells};
 ghost use Rattle.tree_stream.specs.Summaries.{CanEnd, Yields, is_needed_row, summary_by, summary_from};
 ghost use Rattle.tree_stream.specs.Tokens.{cell_size as size_of_cell};
@@ -53,6 +54,9 @@ pub(crate) fn take_cell(
     ensures ok { IfOk result (λ state. Yields context.new state (λ rest. summary_by context.old
         (rest_of_cells context.old.target row.leaf.hasher context.old.last_key.items row.leaf.left
         row.hasher row.column row.findings (suc row.left)) (token.now ++ rest))) }
+    ensures stands { IfOk result (λ state. (bytes : List ℕ)
+        → IsInCells context.old.ancestors.items row.leaf.left context.old.last_key.items row.column
+        (suc row.left) bytes → StandsAt context.new state (bytes ++ token.now)) }
     ensures good { IsErr result → BeginsCell token.now }
     ensures memory { IsErr result → IsTrue (is_needed_row context.old) }
     ensures target { context.new.target ≡ context.old.target }
@@ -76,6 +80,9 @@ fn add_whole_cell(
     ensures ok { IfOk result (λ state. Yields context.new state (λ rest. summary_by context.old
         (rest_of_cells context.old.target row.leaf.hasher context.old.last_key.items row.leaf.left
         row.hasher row.column row.findings (suc row.left)) (token.now ++ rest))) }
+    ensures stands { IfOk result (λ state. (bytes : List ℕ)
+        → IsInCells context.old.ancestors.items row.leaf.left context.old.last_key.items row.column
+        (suc row.left) bytes → StandsAt context.new state (bytes ++ token.now)) }
     ensures memory { IsErr result → IsTrue (is_needed_row context.old) }
     ensures target { context.new.target ≡ context.old.target }
 {
@@ -126,6 +133,7 @@ fn gather_cells<'b>(
     ensures ok { IfOk result (λ left. Passes (row_summary context.now row.old row.old.hasher)
         (row_summary context.now row.new (row.new.hasher ++ digests.new.items))
         bytes.now left.now) }
+    ensures cells { IfOk result (λ left. TakesCells row.old row.new bytes.now left.now) }
     ensures way { IsErr result → CanEnd (row_summary context.now row.old row.old.hasher) }
     ensures memory { IsErr result → IsTrue (is_needed_row context.now) }
     ensures some { IsErr result → 0 < length bytes.now }
@@ -178,6 +186,8 @@ fn pass_cell(
         ≡ row_summary context.now row.old (row.old.hasher ++ digests.old.items)
         (cell_form (cell_of cell.now) ++ rest)) }
     ensures count { OnOk result (suc row.new.left ≡ row.old.left) }
+    ensures column { OnOk result (row.new.column ≡ row.old.column + 1) }
+    ensures behind { OnOk result (row.new.leaf.left ≡ row.old.leaf.left) }
     ensures room { OnOk result (length digests.new.items ≤ 32 * row.new.column) }
     ensures memory { IsErr result → IsTrue (is_needed_row context.now) }
 {

@@ -1,9 +1,10 @@
 //! The separators of an inner node.
-ghost use Rattle.std.specs.Prelude.{◌≡◌, ◌++◌, ◌≤◌, ◌+◌, ◌-◌, suc, length};
+ghost use Rattle.std.specs.Prelude.{◌≡◌, ◌++◌, ◌≤◌, ◌+◌, ◌-◌, ℕ, List, suc, length};
 ghost use Rattle.std.specs.Option.{option_copied};
 ghost use Rattle.vo_spec.specs.Fits.{max_fill};
 ghost use Rattle.vo_spec.specs.Tables.{max_key};
 ghost use Rattle.tree_stream.specs.Findings.{visits_child as visits_between};
+ghost use Rattle.tree_stream.specs.Positions.{IsInSeparators, StandsAt};
 ghost use Rattle.tree_stream.specs.Remaining.{lower_separator as separator_below, rest_of_inner};
 ghost use Rattle.tree_stream.specs.Summaries.{Yields, levels_below, summary_by};
 ghost use Rattle.tree_stream.specs.Tokens.{string_size};
@@ -45,6 +46,9 @@ pub(crate) fn next_separator(
         (rest_of_inner context.old.target
         (levels_below context.old.ancestors.items - 1) visited hasher child_visits.items
         (separator_below has_lower context.old.last_key.items) left)) }
+    ensures stands { (bytes : List ℕ)
+        → IsInSeparators context.old.ancestors.items (length child_visits.items) left bytes
+        → StandsAt context.new result bytes }
     ensures target { context.new.target ≡ context.old.target }
 {
     if left > 0 {
@@ -74,6 +78,9 @@ pub(crate) fn take_separator(context: &mut Context, head: InnerHead, token: &[u8
         head.visited head.hasher head.child_visits.items
         (separator_below head.has_lower context.old.last_key.items) (suc head.left))
         (token.now ++ rest)) }
+    ensures stands { (bytes : List ℕ) → IsInSeparators context.old.ancestors.items
+        (length head.child_visits.items) (suc head.left) bytes
+        → StandsAt context.new result (bytes ++ token.now) }
     ensures target { context.new.target ≡ context.old.target }
 {
     match parse_key(token) {

@@ -1,9 +1,12 @@
 //! The entries of a leaf: their keys and rows.
-ghost use Rattle.std.specs.Prelude.{◌≡◌, ◌∷◌, ◌++◌, ◌≤◌, ◌+◌, suc, length, IsTrue, IfOk, IsErr};
-ghost use Rattle.vo_spec.specs.Fits.{max_cells};
+ghost use Rattle.std.specs.Prelude.{◌≡◌, [], ◌∷◌, ◌++◌, ◌≤◌, ◌+◌, ℕ, List, suc, length, IsTrue, IfOk, IsErr};
+ghost use Rattle.vo_spec.specs.declared.cells.RowPart.{RowPart};
+ghost use Rattle.vo_spec.specs.Fits.{FitsRowPart, max_cells};
 ghost use Rattle.vo_spec.specs.Tables.{max_key};
+ghost use Rattle.vo_spec.specs.TreeBytes.{row_form};
 ghost use Rattle.tree_stream.specs.Findings.{entry_findings_by};
 ghost use Rattle.tree_stream.specs.Parsing.{BeginsRow};
+ghost use Rattle.tree_stream.specs.Positions.{IsBehindKey, IsInCells, IsInLeaf, StandsAt};
 ghost use Rattle.tree_stream.specs.Remaining.{rest_of_cells, rest_of_leaf, rest_of_row, with_findings};
 ghost use Rattle.tree_stream.specs.Summaries.{Yields, is_needed_row, summary_by};
 ghost use Rattle.tree_stream.specs.Tokens.{row_size, string_size};
@@ -23,6 +26,8 @@ use vo_spec::Digest;
 pub(crate) fn next_entry(context: &mut Context, hasher: RunningHash, left: u8) -> State
     ensures yields { Yields context.new result (summary_by context.old
         (rest_of_leaf context.old.target hasher left)) }
+    ensures stands { (bytes : List ℕ) → IsInLeaf context.old.ancestors.items left bytes
+        → StandsAt context.new result bytes }
     ensures target { context.new.target ≡ context.old.target }
 {
     if left == 0 {
@@ -47,6 +52,8 @@ pub(crate) fn take_key(context: &mut Context, leaf: OpenLeaf, token: &[u8]) -> S
     requires { length token.now ≡ string_size max_key token.now }
     ensures yields { Yields context.new result (λ rest. summary_by context.old
         (rest_of_leaf context.old.target leaf.hasher (suc leaf.left)) (token.now ++ rest)) }
+    ensures stands { (bytes : List ℕ) → IsInLeaf context.old.ancestors.items (suc leaf.left) bytes
+        → StandsAt context.new result (bytes ++ token.now) }
     ensures target { context.new.target ≡ context.old.target }
 {
     match parse_key(token) {
@@ -71,6 +78,9 @@ pub(crate) fn end_row(
     ensures ok { IfOk result (λ state. Yields context.new state (summary_by context.old
         (with_findings (entry_findings_by context.old.target context.old.last_key.items found)
         (rest_of_leaf context.old.target (leaf.hasher ++ digest) leaf.left)))) }
+    ensures stands { IfOk result (λ state. (bytes : List ℕ) (row : RowPart)
+        → IsBehindKey context.old.ancestors.items leaf.left context.old.last_key.items bytes
+        → FitsRowPart row → StandsAt context.new state (bytes ++ row_form row)) }
     ensures memory { IsErr result → IsTrue (is_needed_row context.old) }
     ensures target { context.new.target ≡ context.old.target }
 {
@@ -100,6 +110,9 @@ pub(crate) fn next_cell(
     ensures ok { IfOk result (λ state. Yields context.new state (summary_by context.old
         (rest_of_cells context.old.target leaf.hasher context.old.last_key.items leaf.left hasher
         column found left))) }
+    ensures stands { IfOk result (λ state. (bytes : List ℕ)
+        → IsInCells context.old.ancestors.items leaf.left context.old.last_key.items column left
+        bytes → StandsAt context.new state bytes) }
     ensures memory { IsErr result → IsTrue (is_needed_row context.old) }
     ensures target { context.new.target ≡ context.old.target }
 {
@@ -125,6 +138,9 @@ pub(crate) fn take_row(
     ensures ok { IfOk result (λ state. Yields context.new state (λ rest. summary_by context.old
         (rest_of_row context.old.target leaf.hasher context.old.last_key.items leaf.left)
         (token.now ++ rest))) }
+    ensures stands { IfOk result (λ state. (bytes : List ℕ)
+        → IsBehindKey context.old.ancestors.items leaf.left context.old.last_key.items bytes
+        → StandsAt context.new state (bytes ++ token.now)) }
     ensures good { IsErr result → BeginsRow token.now }
     ensures memory { IsErr result → IsTrue (is_needed_row context.old) }
     ensures target { context.new.target ≡ context.old.target }
@@ -146,6 +162,9 @@ fn take_closed_row(
     ensures ok { IfOk result (λ state. Yields context.new state (λ rest. summary_by context.old
         (rest_of_row context.old.target leaf.hasher context.old.last_key.items leaf.left)
         (0 ∷ digest ++ rest))) }
+    ensures stands { IfOk result (λ state. (bytes : List ℕ)
+        → IsBehindKey context.old.ancestors.items leaf.left context.old.last_key.items bytes
+        → StandsAt context.new state (bytes ++ 0 ∷ digest)) }
     ensures memory { IsErr result → IsTrue (is_needed_row context.old) }
     ensures target { context.new.target ≡ context.old.target }
 {
@@ -164,6 +183,9 @@ fn take_open_row(
     ensures ok { IfOk result (λ state. Yields context.new state (λ rest. summary_by context.old
         (rest_of_row context.old.target leaf.hasher context.old.last_key.items leaf.left)
         (1 ∷ count ∷ rest))) }
+    ensures stands { IfOk result (λ state. (bytes : List ℕ)
+        → IsBehindKey context.old.ancestors.items leaf.left context.old.last_key.items bytes
+        → StandsAt context.new state (bytes ++ 1 ∷ count ∷ [])) }
     ensures memory { IsErr result → IsTrue (is_needed_row context.old) }
     ensures target { context.new.target ≡ context.old.target }
 {

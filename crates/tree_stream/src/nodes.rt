@@ -1,6 +1,7 @@
 //! How a node begins.
-ghost use Rattle.std.specs.Prelude.{◌≡◌, ◌∷◌, ◌++◌, ◌≤◌, length};
+ghost use Rattle.std.specs.Prelude.{◌≡◌, [], ◌∷◌, ◌++◌, ◌≤◌, ℕ, List, length, reverse};
 ghost use Rattle.vo_spec.specs.Fits.{max_fill};
+ghost use Rattle.tree_stream.specs.Positions.{IsBelow, StandsAt};
 ghost use Rattle.tree_stream.specs.Remaining.{summary_at};
 ghost use Rattle.tree_stream.specs.Summaries.{Yields, levels_below, summary_by};
 ghost use Rattle.tree_stream.specs.Tokens.{node_size};
@@ -21,6 +22,8 @@ pub(crate) fn take_node(context: &mut Context, visited: bool, token: &[u8]) -> S
     ensures yields { Yields context.new result (λ rest. summary_by context.old
         (summary_at context.old.target (levels_below context.old.ancestors.items) visited)
         (token.now ++ rest)) }
+    ensures stands { (bytes : List ℕ) → IsBelow (reverse context.old.ancestors.items) bytes
+        → StandsAt context.new result (bytes ++ token.now) }
     ensures target { context.new.target ≡ context.old.target }
 {
     match parse_node(token) {
@@ -36,6 +39,8 @@ fn take_stub(context: &mut Context, visited: bool, digest: Digest) -> State
     ensures yields { Yields context.new result (λ rest. summary_by context.old
         (summary_at context.old.target (levels_below context.old.ancestors.items) visited)
         (0 ∷ digest ++ rest)) }
+    ensures stands { (bytes : List ℕ) → IsBelow (reverse context.old.ancestors.items) bytes
+        → StandsAt context.new result (bytes ++ 0 ∷ digest) }
     ensures target { context.new.target ≡ context.old.target }
 {
     add_stub(&mut context.findings, visited);
@@ -47,6 +52,8 @@ fn take_leaf(context: &mut Context, visited: bool, count: u8) -> State
     ensures yields { Yields context.new result (λ rest. summary_by context.old
         (summary_at context.old.target (levels_below context.old.ancestors.items) visited)
         (1 ∷ count ∷ rest)) }
+    ensures stands { (bytes : List ℕ) → IsBelow (reverse context.old.ancestors.items) bytes
+        → StandsAt context.new result (bytes ++ 1 ∷ count ∷ []) }
     ensures target { context.new.target ≡ context.old.target }
 {
     add_open_node(&mut context.findings, visited);
@@ -61,6 +68,8 @@ fn take_inner(context: &mut Context, visited: bool, count: u8) -> State
     ensures yields { Yields context.new result (λ rest. summary_by context.old
         (summary_at context.old.target (levels_below context.old.ancestors.items) visited)
         (2 ∷ count ∷ rest)) }
+    ensures stands { (bytes : List ℕ) → IsBelow (reverse context.old.ancestors.items) bytes
+        → StandsAt context.new result (bytes ++ 2 ∷ count ∷ []) }
     ensures target { context.new.target ≡ context.old.target }
 {
     add_open_node(&mut context.findings, visited);

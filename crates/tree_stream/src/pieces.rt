@@ -22,7 +22,7 @@ fn take_all<'b>(
         length left.now < size_of_token machine.new.state left.now) }
     ensures err { OnErr result (machine.new.state ≡ State.Invalid) }
     ensures way { IsErr result → CanEnd (summary_of_machine machine.old) }
-    ensures memory { IsErr result → StopsInRow machine.old bytes.now }
+    ensures memory { IsErr result → StopsInRow machine.old [] bytes.now }
     ensures target { machine.new.context.target ≡ machine.old.context.target }
 {
     let mut left = bytes;
@@ -77,8 +77,7 @@ fn fill<'b>(
     ensures err { OnErr result (machine.new.state ≡ State.Invalid) }
     ensures way { IsErr result → CanEnd (λ rest. summary_of_machine machine.old
         (partial.old.items ++ rest)) }
-    ensures memory { IsErr result → StopsInRow machine.old (partial.old.items ++ piece.now) }
-    ensures some { IsErr result → 0 < length piece.now }
+    ensures memory { IsErr result → StopsInRow machine.old partial.old.items piece.now }
     ensures target { machine.new.context.target ≡ machine.old.context.target }
 {
     let left = grow(&machine.state, partial, piece);
@@ -135,7 +134,7 @@ fn feed_whole<'b>(
     ensures short { length partial.new.items < size_of_token machine.new.state partial.new.items }
     ensures err { OnErr result (machine.new.state ≡ State.Invalid) }
     ensures way { IsErr result → CanEnd (summary_of_machine machine.old) }
-    ensures memory { IsErr result → StopsInRow machine.old bytes.now }
+    ensures memory { IsErr result → StopsInRow machine.old [] bytes.now }
     ensures target { machine.new.context.target ≡ machine.old.context.target }
 {
     let behind = take_all(machine, alloc, bytes)?;
@@ -165,8 +164,7 @@ pub(crate) fn feed_piece<'b>(
     ensures err { OnErr result (machine.new.state ≡ State.Invalid) }
     ensures way { IsErr result → CanEnd (λ rest. summary_of_machine machine.old
         (partial.old.items ++ rest)) }
-    ensures memory { IsErr result → StopsInRow machine.old (partial.old.items ++ piece.now) }
-    ensures some { IsErr result → 0 < length piece.now }
+    ensures memory { IsErr result → StopsInRow machine.old partial.old.items piece.now }
     ensures target { machine.new.context.target ≡ machine.old.context.target }
 {
     if partial.is_empty() {

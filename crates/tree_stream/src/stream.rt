@@ -1,6 +1,8 @@
 //! A tree whose bytes come in pieces.
 ghost use Rattle.std.specs.Prelude.{◌≡◌, ◌⊎◌, ◌<◌, ◌++◌, ℕ, List, [], None, length, option_map, IsTrue, IsErr, IsOk, IfOk, OnErr};
 ghost use Rattle.vo_spec.specs.Bytes.{IsBytes};
+ghost use Rattle.tree_stream.specs.Findings.{no_target};
+ghost use Rattle.tree_stream.specs.Places.{HasNeededByte};
 ghost use Rattle.tree_stream.specs.Summaries.{CanEnd, complete_digest as digest_where_complete, is_settled, summary_of_tree};
 ghost use Rattle.tree_stream.specs.Tokens.{token_size};
 
@@ -26,13 +28,14 @@ pub struct TreeStream {
 }
 
 impl TreeStream {
-    ghost use Rattle.tree_stream.specs.Streams.{IsSettled, WantsMemory, summary_of, target_in};
+    ghost use Rattle.tree_stream.specs.Streams.{IsBehind, IsSettled, summary_of, target_in};
 
     /// A reader that was given no bytes, of a tree that is read for a target.
     pub fn new(alloc: Global, target: Target) -> TreeStream
         ensures summary { (bytes : List ℕ)
             → summary_of result bytes ≡ summary_of_tree target bytes }
         ensures target { target_in result ≡ target }
+        ensures behind { IsBehind result [] }
     {
         let visited = !is_empty_interval(&target.interval);
         TreeStream {
@@ -60,6 +63,9 @@ impl TreeStream {
         // All of it is taken until the tree ends.
         ensures all { IfOk result (λ left. (left.now ≡ []) ⊎ IsSettled self.new) }
 
+        ensures behind { IfOk result (λ left. left.now ≡ [] → (bytes : List ℕ)
+            → IsBehind self.old bytes → IsBehind self.new (bytes ++ piece.now)) }
+
         // Where memory ran out, no tree comes of it any more.
         ensures err { OnErr result ((more : List ℕ) → summary_of self.new more ≡ None) }
 
@@ -68,8 +74,13 @@ impl TreeStream {
         ensures dead { ((more : List ℕ) → IsBytes more → summary_of self.old more ≡ None)
             → IsOk result }
 
-        // It runs out only at a byte of the piece that is of a row whose key is in the interval.
-        ensures memory { IsErr result → WantsMemory self.old piece.now }
+        // It runs out only at a byte of the piece that is of a row whose key is in the interval,
+        // as the bytes say that came.
+        ensures memory { IsErr result → (bytes : List ℕ) → IsBehind self.old bytes
+            → HasNeededByte (target_in self.old).interval bytes piece.now }
+
+        // Read for no rows, it wants none.
+        ensures quiet { target_in self.old ≡ no_target → IsOk result }
         ensures target { target_in self.new ≡ target_in self.old }
     {
         feed_piece(&mut self.machine, &mut self.partial, alloc, piece)

@@ -1,8 +1,8 @@
 -- What a check stands for, step by step, and what comes of it at the end.
-use Rattle.std.proofs.Common.{◌≡◌, ℕ, ◌<◌, ◌≤◌, ◌^◌, ◌-◌, IfOk, Bool, true, false, if◌then◌else◌, arith, List, [], ◌++◌, length, Option, Some, None, Result, Ok, Err, refl, sym, ap, subst, ◌∙◌, ◌⊎◌, inl, inr, append_assoc, append-nil}
-use Rattle.std.specs.Prelude.{IsErr, OnErr, OnOk, nat_lt}
+use Rattle.std.proofs.Common.{◌≡◌, ℕ, ◌+◌, ◌<◌, ◌≤◌, ◌^◌, ◌-◌, IfOk, Bool, true, false, if◌then◌else◌, arith, List, [], ◌++◌, length, Option, Some, None, Result, Ok, Err, refl, sym, ap, subst, ◌∙◌, ◌⊎◌, inl, inr, append_assoc, append-nil}
+use Rattle.std.specs.Prelude.{IsErr, OnErr, OnOk, is_some, nat_lt}
 use Rattle.std.specs.declared.alloc.AllocError.{AllocError}
-use Rattle.std.proofs.lemmas.Bool.{ltb-true, ltb-false}
+use Rattle.std.proofs.lemmas.Bool.{false≢true, ltb-true, ltb-false}
 use Rattle.row_bytes.specs.Fields.{◌>>=◌, whole, word_at}
 use Rattle.row_bytes.specs.Reading.{bytes_at}
 use Rattle.vo_spec.specs.declared.checks.Answer.{Answer}
@@ -20,14 +20,19 @@ use Rattle.reply_stream.specs.Heads.{front_at, head_at}
 use Rattle.reply_stream.specs.Lengths.{count_up_to_most, excess}
 use Rattle.reply_stream.specs.ReplyHeads.{ReplyHead}
 use Rattle.reply_stream.specs.ReplyParts.{Parts, parts_of, reply_parts}
-use Rattle.reply_stream.specs.ReplyTrees.{trees_at}
-use Rattle.reply_stream.specs.TreesStreams.{trees_of}
+use Rattle.reply_stream.specs.ReplyTrees.{trees_at, HasNeededByte}
+use Rattle.reply_stream.specs.TreesStreams.{trees_of, IsBehind as IsBehindHead}
+use Rattle.reply_stream.specs.declared.head_stream.HeadStream.{HeadStream}
+use Rattle.reply_stream.specs.HeadFronts.{IsHeadFront}
+use Rattle.reply_stream.specs.HeadStreams.{head_of, IsBehind}
+use Rattle.reply_stream.proofs.HeadFronts.{front_or_settled}
+use Rattle.reply_stream.proofs.HeadPieces.{settled}
 use Rattle.reply_stream.proofs.PartLaws.{parts_again, parts_found}
 use Rattle.tree_stream.proofs.AllBytes.{IsBytes-append}
 use Rattle.held_replies.specs.Accepting.{IsSignedReply}
 use Rattle.held_replies.proofs.AcceptedRecords.{accepted}
 use Rattle.vo_check.specs.Streamed.{plan_for}
-use Rattle.vo_check.specs.Checkings.{CheckingModel, ReadsTrees, no_bytes_of, with_piece, without_memory}
+use Rattle.vo_check.specs.Checkings.{CheckingModel, ReadsTrees, WantsRow, no_bytes_of, with_piece, without_memory}
 
 not_none : {A : Type 0} {x : A} → Some x ≡ None → ⊥
 not_none e = absurd cc
@@ -35,13 +40,13 @@ not_none e = absurd cc
 module _ (q : Query) (head : ReplyHead) where
   -- a head with these bytes behind it, of which the trees are read so
   pub begun : (trees : TreesStream) (bytes left : List ℕ) → ((more : List ℕ) → head_at (bytes ++ more) ≡ Some (head, left ++ more))
-      → ((more : List ℕ) → trees_of trees more ≡ whole (trees_at (plan_for q head) (left ++ more))) → ReadsTrees q head trees bytes
-  begun trees bytes left head_is trees_are = record { behind = left; head_is = head_is; trees_are = trees_are }
+      → ((more : List ℕ) → trees_of trees more ≡ whole (trees_at (plan_for q head) (left ++ more))) → IsBehindHead (plan_for q head) trees left → ReadsTrees q head trees bytes
+  begun trees bytes left head_is trees_are trees_behind = record { behind = left; head_is = head_is; trees_are = trees_are; trees_behind = trees_behind }
 
   -- a piece more
   pub fed : (old new : TreesStream) (bytes piece : List ℕ) → ReadsTrees q head old bytes → ((more : List ℕ) → trees_of new more ≡ trees_of old (piece ++ more))
-      → ReadsTrees q head new (bytes ++ piece)
-  fed old new bytes piece reads ok = record {
+      → ((target : Target) (behind : List ℕ) → IsBehindHead target old behind → IsBehindHead target new (behind ++ piece)) → ReadsTrees q head new (bytes ++ piece)
+  fed old new bytes piece reads ok moved = record {
     behind = reads.behind ++ piece;
     head_is = λ more.
         ap head_at (append_assoc bytes piece more)
@@ -51,9 +56,20 @@ module _ (q : Query) (head : ReplyHead) where
         ok more
         ∙ reads.trees_are (piece ++ more)
         ∙ ap (λ (left : List ℕ). whole (trees_at (plan_for q head) left)) (sym (append_assoc reads.behind piece more));
+    trees_behind = moved (plan_for q head) reads.behind reads.trees_behind;
   }
 
   module _ (trees : TreesStream) (bytes : List ℕ) (reads : ReadsTrees q head trees bytes) where
+    pub wants_row : (piece : List ℕ) → ((target : Target) (behind : List ℕ) → IsBehindHead target trees behind → HasNeededByte target.interval behind piece) → WantsRow q bytes piece
+    wants_row piece memory = record {
+      head = head;
+      behind = reads.behind;
+      head_is = ap head_at (sym (append-nil bytes))
+          ∙ reads.head_is []
+          ∙ ap (λ (left : List ℕ). let found : Option (ReplyHead × List ℕ) = Some (head, left) in found) (append-nil reads.behind);
+      needed = memory (plan_for q head) reads.behind reads.trees_behind;
+    }
+
     abbrev with_head : Option TreesSummary → Option Parts
     with_head found = found >>= λ summary. let parts : Option Parts = Some (head, summary) in parts
 
@@ -97,6 +113,20 @@ pub no_head : (plan : ReplyHead → Target) (bytes : List ℕ) → head_at bytes
 unfolding reply_parts
 no_head plan bytes none r reply = not_none (sym (parts_again plan bytes r reply) ∙ ap (λ (o : Option (ReplyHead × List ℕ)). o >>= λ h. whole (trees_at (plan h.0) h.1) >>= λ summary. let parts : Option Parts = Some (h.0, summary) in parts) none)
 
+-- A head that a piece ended: what came before the piece is the front of it.
+pub front_of_found : (old new : HeadStream) (piece left bytes : List ℕ) (found : ReplyHead) → IsBehind old bytes → head_of old [] ≡ None → ((more : List ℕ) → head_of new (left ++ more) ≡ head_of old (piece ++ more))
+    → ((more : List ℕ) → head_of new more ≡ Some (found, more)) → IsHeadFront bytes
+unfolding head_of
+front_of_found old new piece left bytes found behind none fed is =
+    elim (front_or_settled old bytes behind) [
+      | inl front ↦ front
+      | inr settled_state ↦
+          elim (settled old.state old.held.items settled_state (old.kept settled_state)) [
+            | inl nowhere ↦ absurd (not_none (sym (is (left ++ [])) ∙ fed [] ∙ nowhere (piece ++ [])))
+            | inr other ↦ absurd (not_none (sym (other.1 []) ∙ none))
+          ]
+    ]
+
 -- Answers.
 
 module _ (key : List ℕ) (least : ℕ) (q : Query) (bytes : List ℕ) (short : length bytes ≤ max_reply) where
@@ -116,6 +146,10 @@ pub unless_out_of_memory : {A : Type 0} (fed : Result (Unit {0}) AllocError) (re
 unless_out_of_memory {A = A} (Ok done) result state P ok err H h holds = subst (λ (r : Result A AllocError). IfOk r P) (sym ok) (holds h)
 unless_out_of_memory (Err error) (Ok value) state P ok err H h holds = absurd cc
 unless_out_of_memory (Err error) (Err other) state P ok err H h holds = tt
+
+pub both : {A E : Type 0} (r : Result A E) (P Q : Type 0) → OnOk r P → OnOk r Q → OnOk r (P × Q)
+both (Ok done) P Q p q = (p, q)
+both (Err e) P Q p q = tt
 
 -- All bytes that came in one piece, whether or not memory was found for it.
 pub fed_whole : (o : Result (Unit {0}) AllocError) (old new : CheckingModel) (query : QueryText) (piece : List ℕ) → old ≡ no_bytes_of query → OnOk o (new ≡ with_piece old piece)
@@ -148,6 +182,13 @@ too_long key least q bytes few count counted n is fault (inr e) =
 
 pub counted_most : (bytes : List ℕ) → 2 ^ 64 ≤ length bytes → count_up_to_most (length bytes) ≡ 2 ^ 64 - 1
 counted_most bytes many = omega (arith, many)
+
+pub not_over : (count piece old new : ℕ) → old ≡ count_up_to_most count → new ≡ count_up_to_most (old + piece) → is_some (excess new) ≡ false → count + piece ≤ max_reply
+not_over count piece old new counted added none = by (nat_lt max_reply new) refl
+  where
+    by : (b : Bool) → nat_lt max_reply new ≡ b → count + piece ≤ max_reply
+    by true e = absurd (false≢true (sym (ap (λ (b : Bool). is_some (if b then Some new else None)) (sym e) ∙ none)))
+    by false e = omega (arith, ltb-false max_reply new e, counted, added)
 
 -- What is accepted is signed.
 

@@ -6,10 +6,10 @@ use Rattle.vo_spec.specs.Conditions.{Query}
 use Rattle.vo_spec.specs.Replies.{max_reply}
 use Rattle.reply_stream.specs.declared.trees_stream.TreesStream.{TreesStream}
 use Rattle.reply_stream.specs.Heads.{head_at}
-use Rattle.reply_stream.specs.HeadStreams.{head_of}
+use Rattle.reply_stream.specs.HeadStreams.{head_of, IsBehind}
 use Rattle.reply_stream.specs.ReplyHeads.{ReplyHead}
-use Rattle.reply_stream.specs.ReplyTrees.{trees_at}
-use Rattle.reply_stream.specs.TreesStreams.{trees_of, WantsMemory}
+use Rattle.reply_stream.specs.ReplyTrees.{trees_at, HasNeededByte}
+use Rattle.reply_stream.specs.TreesStreams.{trees_of, IsBehind as IsBehindHead}
 use Rattle.vo_check.specs.declared.progress.Progress.{Progress}
 use Rattle.vo_check.specs.declared.progress.Progress.TheVariants.{Head, Trees, Kept, TooLong, OutOfMemory}
 use Rattle.vo_check.specs.Streaming.{IsStreamed, IsKept}
@@ -53,11 +53,12 @@ pub record ReadsTrees (q : Query) (head : ReplyHead) (trees : TreesStream) (byte
   pub head_is : (more : List ℕ) → head_at (bytes ++ more) ≡ Some (head, behind ++ more)
   pub trees_are : (more : List ℕ)
       → trees_of trees more ≡ whole (trees_at (plan_for q head) (behind ++ more))
+  pub trees_behind : IsBehindHead (plan_for q head) trees behind
 
 -- the check of a reply to this query is so far behind these bytes
 abbrev pub StandsBehind : Query → Progress → List ℕ → Type 0
 StandsBehind q (Head stream) bytes = IsStreamed q × (head_of stream [] ≡ None)
-    × ((more : List ℕ) → head_of stream more ≡ head_at (bytes ++ more))
+    × ((more : List ℕ) → head_of stream more ≡ head_at (bytes ++ more)) × IsBehind stream bytes
 StandsBehind q (Trees reply) bytes =
     IsStreamed q × ReadsTrees q reply.head reply.trees bytes
 StandsBehind q (Kept held) bytes = IsKept q × (held.items ≡ bytes)
@@ -76,6 +77,8 @@ HasHead bytes = (head : ReplyHead) × (behind : List ℕ) × (head_at bytes ≡ 
 
 -- some byte of the piece is of a row of the first tree whose key is in the interval that the query
 -- needs
-abbrev pub WantsRow : Query → List ℕ → List ℕ → Type 0
-WantsRow q bytes piece = (head : ReplyHead) × (trees : TreesStream)
-    × ReadsTrees q head trees bytes × WantsMemory trees piece
+pub record WantsRow (q : Query) (bytes piece : List ℕ) : Type 0 where
+  pub head : ReplyHead
+  pub behind : List ℕ
+  pub head_is : head_at bytes ≡ Some (head, behind)
+  pub needed : HasNeededByte (plan_for q head).interval behind piece

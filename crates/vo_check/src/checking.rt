@@ -1,9 +1,10 @@
 //! The check of a reply whose bytes come in pieces.
-ghost use Rattle.std.specs.Prelude.{◌≡◌, ◌⊎◌, ◌≤◌, ◌<◌, ◌^◌, ◌-◌, ◌++◌, ℕ, List, None, Ok, Err, true, length, IsErr, IsOk, IfOk, OnOk, OnErr};
+ghost use Rattle.std.specs.Prelude.{◌≡◌, ◌⊎◌, ◌≤◌, ◌<◌, ◌^◌, ◌+◌, ◌-◌, ◌++◌, ℕ, List, None, Ok, Err, true, length, IsErr, IsOk, IfOk, OnOk, OnErr};
 ghost use Rattle.vo_spec.specs.Bytes.{IsBytes};
 ghost use Rattle.vo_spec.specs.Checks.{CheckOf};
 ghost use Rattle.vo_spec.specs.Conditions.{query_of};
-ghost use Rattle.vo_spec.specs.Replies.{IsNoReply};
+ghost use Rattle.vo_spec.specs.Replies.{IsNoReply, max_reply};
+ghost use Rattle.reply_stream.specs.HeadFronts.{IsHeadFront};
 ghost use Rattle.held_replies.specs.Accepting.{IsSignedReply};
 ghost use Rattle.vo_check.specs.Streaming.{IsStreamed};
 ghost use Rattle.vo_check.specs.Checkings.{HasHead, WantsRow, with_piece, without_memory};
@@ -59,13 +60,20 @@ impl Checking<'_> {
         ensures ok { OnOk result (self.new ≡ with_piece self.old piece.now) }
         ensures err { OnErr result (self.new ≡ without_memory self.old piece.now) }
 
-        // Behind the catalog's last byte memory runs out only while the bytes so far can still
-        // become a reply,
+        // Of a reply over the limit only the length is counted.
+        ensures over { max_reply < length self.old.bytes + length piece.now → IsOk result }
+
+        // Up to the catalog's last byte memory runs out only where the bytes so far are the front
+        // of a head.
+        ensures head { IsStreamed (query_of self.old.query) → (HasHead self.old.bytes → ⊥)
+            → IsErr result → IsHeadFront self.old.bytes }
+
+        // Behind it memory runs out only while the bytes so far can still become a reply,
         ensures dead { IsStreamed (query_of self.old.query) → HasHead self.old.bytes
             → ((more : List ℕ) → IsBytes more → IsNoReply (self.old.bytes ++ more))
             → IsOk result }
 
-        // and only at a byte of a row that the query needs.
+        // and only at a byte of a row that the query needs, as the bytes say.
         ensures memory { IsStreamed (query_of self.old.query) → HasHead self.old.bytes → IsErr result
             → WantsRow (query_of self.old.query) self.old.bytes piece.now }
     {

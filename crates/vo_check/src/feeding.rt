@@ -4,6 +4,7 @@ ghost use Rattle.vo_spec.specs.Conditions.{Query, query_of};
 ghost use Rattle.vo_spec.specs.Bytes.{IsBytes};
 ghost use Rattle.vo_spec.specs.Replies.{IsNoReply, max_reply};
 ghost use Rattle.reply_stream.specs.Heads.{head_at};
+ghost use Rattle.reply_stream.specs.HeadFronts.{IsHeadFront};
 ghost use Rattle.vo_check.specs.Streaming.{IsStreamed};
 ghost use Rattle.vo_check.specs.Checkings.{HasHead, StandsBehind, WantsRow, is_of_head, is_out_of_memory};
 
@@ -57,6 +58,9 @@ pub(crate) fn feed_progress(
     ensures memory { (bytes : List ℕ) → StandsBehind (query_of query.now) progress.old bytes
         → IsStreamed (query_of query.now) → HasHead bytes → IsErr result
         → WantsRow (query_of query.now) bytes piece.now }
+    ensures front { (bytes : List ℕ) → StandsBehind (query_of query.now) progress.old bytes
+        → IsStreamed (query_of query.now) → (HasHead bytes → ⊥) → IsErr result
+        → IsHeadFront bytes }
 {
     match feed_in_place(progress, alloc, piece) {
         Ok(true) => Ok(()),
@@ -113,6 +117,8 @@ fn feed_head(
     ensures err { OnErr result (progress.new ≡ Progress.OutOfMemory) }
     ensures before { (q : Query) (bytes : List ℕ) → StandsBehind q progress.old bytes
         → HasHead bytes → ⊥ }
+    ensures front { IsErr result → (bytes : List ℕ)
+        → StandsBehind (query_of query.now) progress.old bytes → IsHeadFront bytes }
 {
     match mem::replace(progress, Progress::OutOfMemory) {
         Progress::Head(stream) => {
@@ -134,6 +140,8 @@ fn progress_behind(
         → StandsBehind (query_of query.now) (Progress.Head stream) bytes
         → StandsBehind (query_of query.now) next (bytes ++ piece.now)) }
     ensures out { IfOk result (λ next. is_out_of_memory next ≡ false) }
+    ensures front { IsErr result → (bytes : List ℕ)
+        → StandsBehind (query_of query.now) (Progress.Head stream) bytes → IsHeadFront bytes }
 {
     let left = stream.feed(alloc, piece)?;
     if stream.head().is_none() {

@@ -1,4 +1,4 @@
-use Rattle.std.proofs.Common.{◌≡◌, false, None, ◌++◌, refl, sym, ap, ◌∙◌}
+use Rattle.std.proofs.Common.{◌≡◌, false, None, ◌++◌, sym, ap, ◌∙◌}
 use Rattle.reply_stream.specs.declared.trees_state.TreesState.{TreesState}
 use Rattle.reply_stream.specs.ReplyTrees.{count_and_first, rest_of_trees}
 use Rattle.reply_stream.proofs.TreesLaws.{tree_way}

@@ -1,3 +1,4 @@
+use Rattle.tree_stream.proofs.PlaceLaws.{cell_added}
 use Rattle.std.proofs.Common.{List, ℕ, ◌++◌, ap, ◌∙◌}
 use Rattle.vo_spec.specs.Pruning.{has_column}
 use Rattle.vo_spec.specs.declared.values.Kind.{Kind}
@@ -20,3 +21,8 @@ returns-clause-ok c =
     (c.has_column-is_named.ensures ∙ ap (λ (named : List ℕ). has_column named row.column) (c.columns_at-named.ensures ∙ ap (columns_at target) c.as_slice.ensures.value))
     (c.fits_kind-fits.ensures ∙ ap (λ (kinds : List Kind). fits_kind kinds row.column cell) c.as_slice-2.ensures)
     c.in_ok-add_cell.ensures.sum))
+
+pub returns-clause-stands : goal.returns-clause-stands
+returns-clause-stands c =
+    let row = c.args.row in
+    cell_added c.args.context.now.ancestors.items row.leaf.left row.column row.left c.args.context.now.last_key.items c.args.token.now (cell_of c.args.cell.now) c.next_cell.new.context c.next_cell.result c.requires.form c.requires.fits c.next_cell.ensures.stands

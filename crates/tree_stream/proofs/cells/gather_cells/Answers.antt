@@ -4,6 +4,7 @@ use Rattle.tree_stream.specs.Machines.{row_summary}
 use Rattle.tree_stream.specs.Parsing.{BeginsCell, cell_of}
 use Rattle.tree_stream.proofs.CellLaws.{cell_whole}
 use Rattle.tree_stream.proofs.Endings.{cell_can}
+use Rattle.tree_stream.proofs.PlaceLaws.{next_cell_taken}
 use Rattle.tree_stream.proofs.PieceLaws.{passes_back, passes_on, split_is}
 use Rattle.tree_stream.proofs.cells.gather_cells.Goals as goal
 
@@ -35,6 +36,8 @@ cells-preserved c =
     record {
       passes = passes_on _ (row_summary context row hashed) _ c.args.bytes.now left token behind c.cells.invariant.passes
           (λ rest. c.in_ok-pass_cell-in-Some.ensures.ok rest ∙ ap (λ (t : List ℕ). row_summary context row hashed (t ++ rest)) (sym c.in-Some.ensures.0)) parts;
+      cells = next_cell_taken c.args.row.now row c.pass_cell.new.row c.args.bytes.now left token behind (cell_of c.in-Some.cell) c.cells.invariant.cells parts c.in-Some.ensures.0 c.in-Some.ensures.1
+          c.in_ok-pass_cell-in-Some.ensures.count c.in_ok-pass_cell-in-Some.ensures.column c.in_ok-pass_cell-in-Some.ensures.behind;
       room = c.in_ok-pass_cell-in-Some.ensures.room;
     }
 

@@ -1,3 +1,7 @@
+use Rattle.std.proofs.Common.{◌≡◌, Bool, suc, length, subst, sym, [], ◌∷◌}
+use Rattle.std.proofs.lemmas.List.{length-append}
+use Rattle.tree_stream.specs.Positions.{IsInSeparators, StandsAt}
+use Rattle.tree_stream.proofs.PlaceLaws.{separators_taken}
 use Rattle.std.proofs.Common.{List, ℕ, ◌-◌, Option, ap, ◌∙◌, arith}
 use Rattle.std.specs.Prelude.{None}
 use Rattle.tree_stream.specs.Findings.{visits_child}
@@ -23,3 +27,17 @@ returns-clause-yields c =
     c.push.ensures.items
     (c.visits_child.ensures ∙ ap (λ (o : Option (List ℕ)). visits_child target c.args.visited o None) (c.lower_separator-lower.ensures ∙ ap (lower_separator c.args.has_lower) c.as_slice.ensures.value))
     (omega arith)))
+
+pub returns-then-left-gt0-clause-stands : goal.returns-then-left-gt0-clause-stands
+returns-then-left-gt0-clause-stands c = λ bytes at.
+    let n : c.args.left ≡ suc (c.args.left - 1) = omega arith in
+    let P : ℕ → Type 0 = λ left. IsInSeparators c.args.context.now.ancestors.items (length c.args.child_visits.items) left bytes in
+    subst P n at
+
+pub returns-clause-stands : goal.returns-clause-stands
+returns-clause-stands c = λ bytes at.
+    let grown : length c.push.new.self.items ≡ suc (length c.args.child_visits.items) =
+    omega (arith, ap (λ (t : List Bool). length t) c.push.ensures.items, length-append c.args.child_visits.items (c.visits_child.result ∷ [])) in
+    let w = separators_taken c.args.context.now.ancestors.items (length c.args.child_visits.items) (length c.push.new.self.items) c.args.left bytes at (omega arith) grown in
+    let P : List ℕ → Type 0 = λ t. StandsAt c.next_child.new.context c.next_child.result t in
+    subst P (sym w.parts) (c.next_child.ensures.stands w.above w.parent w.below w.front)

@@ -1,3 +1,6 @@
+use Rattle.std.proofs.Common.{◌≡◌, length, arith, Bool, [], ◌∷◌}
+use Rattle.std.proofs.lemmas.List.{length-append}
+use Rattle.tree_stream.proofs.PlaceLaws.{separator_taken}
 use Rattle.std.proofs.Common.{List, ℕ, ◌-◌, ◌++◌, suc, Option, Some, ap, ◌∙◌}
 use Rattle.tree_stream.specs.Findings.{visits_child}
 use Rattle.tree_stream.specs.Remaining.{rest_of_inner, lower_separator}
@@ -30,3 +33,10 @@ returns-in-Some-clause-yields c =
     c.in-Some.ensures.0 c.in-Some.ensures.1 c.add.ensures c.push.ensures.items
     (c.visits_child.ensures ∙ ap (λ (o : Option (List ℕ)). visits_child target c.args.head.visited o (Some c.in-Some.separator.now)) (c.lower_separator-lower.ensures ∙ ap (lower_separator c.args.head.has_lower) c.as_slice.ensures.value))
     c.replace_key.ensures))
+
+pub returns-in-Some-clause-stands : goal.returns-in-Some-clause-stands
+returns-in-Some-clause-stands c = λ bytes at.
+    let grown : length c.push.new.self.items ≡ suc (length c.args.head.child_visits.items) =
+    omega (arith, ap (λ (t : List Bool). length t) c.push.ensures.items, length-append c.args.head.child_visits.items (c.visits_child.result ∷ [])) in
+    c.next_separator.ensures.stands (bytes ++ c.args.token.now)
+    (separator_taken c.args.context.now.ancestors.items (length c.args.head.child_visits.items) (length c.push.new.self.items) c.args.head.left bytes c.in-Some.separator.now c.args.token.now at grown c.in-Some.ensures.0 c.in-Some.ensures.1)

@@ -1,3 +1,5 @@
+use Rattle.vo_spec.specs.TreeBytes.{row_form}
+use Rattle.tree_stream.proofs.PlaceLaws.{row_taken}
 use Rattle.std.proofs.Common.{List, ℕ, ◌++◌, ap, ◌∙◌}
 use Rattle.tree_stream.specs.Findings.{combine, entry_findings_by}
 use Rattle.tree_stream.proofs.Steps.{yields_then, row_done}
@@ -10,3 +12,7 @@ returns-clause-ok c =
     (entry_findings_by c.args.context.now.target c.args.context.now.last_key.items c.args.found) (c.args.leaf.hasher ++ c.args.digest) c.add.new.self c.args.leaf.left rest
     (c.in_ok-add_entry.ensures.sum ∙ ap (λ (key : List ℕ). combine c.args.context.now.findings (entry_findings_by c.args.context.now.target key c.args.found)) c.as_slice.ensures.value)
     (c.add.ensures ∙ ap (λ (t : List ℕ). c.args.leaf.hasher ++ t) c.as_bytes.ensures.value))
+
+pub returns-clause-stands : goal.returns-clause-stands
+returns-clause-stands c = λ bytes row at fits.
+    c.next_entry.ensures.stands (bytes ++ row_form row) (row_taken c.args.context.now.ancestors.items c.args.leaf.left c.args.context.now.last_key.items bytes row at fits)

@@ -1,3 +1,6 @@
+use Rattle.std.proofs.Common.{◌≡◌, ℕ, suc, ◌-◌, subst}
+use Rattle.tree_stream.specs.Positions.{IsInCells}
+use Rattle.tree_stream.proofs.PlaceLaws.{row_ended}
 use Rattle.std.proofs.Common.{arith}
 use Rattle.tree_stream.proofs.Remainders.{same_with}
 use Rattle.tree_stream.proofs.Steps.{ok_then, yields_cell, cells_done}
@@ -11,3 +14,13 @@ returns-then-left-eq0-clause-ok c =
 
 pub returns-clause-ok : goal.returns-clause-ok
 returns-clause-ok c = yields_cell c.args.context.now _ c.args.left (omega arith)
+
+pub returns-then-left-eq0-clause-stands : goal.returns-then-left-eq0-clause-stands
+returns-then-left-eq0-clause-stands c =
+    row_ended c.args.context.now.ancestors.items c.args.leaf.left c.args.context.now.last_key.items c.args.column c.args.left c.end_row.new.context c.end_row.result (omega arith) c.end_row.ensures.stands
+
+pub returns-clause-stands : goal.returns-clause-stands
+returns-clause-stands c = λ bytes at.
+    let n : c.args.left ≡ suc (c.args.left - 1) = omega arith in
+    let P : ℕ → Type 0 = λ left. IsInCells c.args.context.now.ancestors.items c.args.leaf.left c.args.context.now.last_key.items c.args.column left bytes in
+    subst P n at

@@ -1,3 +1,4 @@
+use Rattle.tree_stream.proofs.PlaceLaws.{closed_row_ended}
 use Rattle.std.proofs.Common.{ap, ◌∙◌}
 use Rattle.tree_stream.specs.Findings.{closed_row_findings, columns_at}
 use Rattle.tree_stream.proofs.Remainders.{same_with}
@@ -11,3 +12,7 @@ returns-clause-ok c =
     same_with target c.args.context.now.ancestors.items c.args.context.now.findings _ _ rest _
     (closed_step target c.args.leaf.hasher c.args.context.now.last_key.items c.args.leaf.left c.args.digest c.closed_row-found.result rest c.requires
     (c.closed_row-found.ensures ∙ ap closed_row_findings (c.columns_at-named.ensures ∙ ap (columns_at target) c.as_slice.ensures.value))))
+
+pub returns-clause-stands : goal.returns-clause-stands
+returns-clause-stands c =
+    closed_row_ended c.args.context.now.ancestors.items c.args.leaf.left c.args.context.now.last_key.items c.args.digest c.end_row.new.context c.end_row.result c.requires c.end_row.ensures.stands

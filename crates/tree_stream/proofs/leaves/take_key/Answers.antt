@@ -1,3 +1,6 @@
+use Rattle.std.proofs.Common.{ℕ, List, subst, sym}
+use Rattle.tree_stream.specs.Positions.{IsBehindKey}
+use Rattle.tree_stream.proofs.PlaceLaws.{key_taken}
 use Rattle.std.proofs.Common.{◌++◌, suc}
 use Rattle.tree_stream.specs.Remaining.{rest_of_leaf, rest_of_row}
 use Rattle.tree_stream.proofs.LeafLaws.{no_key}
@@ -19,3 +22,8 @@ returns-in-Some-clause-yields c =
     (rest_of_leaf c.args.context.now.target c.args.leaf.hasher (suc c.args.leaf.left)) rest (c.args.token.now ++ rest)
     (key_step c.args.context.now.target c.args.leaf.hasher c.add.new.self c.args.leaf.left c.args.token.now c.in-Some.key.now c.replace_key.new.last_key.items rest
     c.in-Some.ensures.0 c.in-Some.ensures.1 c.add.ensures c.replace_key.ensures))
+
+pub returns-in-Some-clause-stands : goal.returns-in-Some-clause-stands
+returns-in-Some-clause-stands c = λ bytes at.
+    let P : List ℕ → Type 0 = λ key. IsBehindKey c.args.context.now.ancestors.items c.args.leaf.left key (bytes ++ c.args.token.now) in
+    subst P (sym c.replace_key.ensures) (key_taken c.args.context.now.ancestors.items c.args.leaf.left bytes c.in-Some.key.now c.args.token.now at c.in-Some.ensures.0 c.in-Some.ensures.1)

@@ -1,3 +1,4 @@
+use Rattle.tree_stream.proofs.PlaceLaws.{open_row_begun}
 use Rattle.std.proofs.Common.{List, ℕ, ◌∷◌, [], ◌++◌, ap, ◌∙◌}
 use Rattle.vo_spec.specs.declared.values.Kind.{Kind}
 use Rattle.tree_stream.specs.Findings.{row_head_findings, columns_at}
@@ -15,3 +16,7 @@ returns-clause-ok c =
     (c.begin_cells-found.ensures
     ∙ ap (λ (kinds : List Kind). row_head_findings kinds c.columns_at-named.result.now c.args.count) c.as_slice-2.ensures
     ∙ ap (λ (named : List ℕ). row_head_findings target.cell_kinds named c.args.count) (c.columns_at-named.ensures ∙ ap (columns_at target) c.as_slice.ensures.value))))
+
+pub returns-clause-stands : goal.returns-clause-stands
+returns-clause-stands c =
+    open_row_begun c.args.context.now.ancestors.items c.args.leaf.left c.args.context.now.last_key.items c.args.count c.next_cell.new.context c.next_cell.result c.requires c.next_cell.ensures.stands

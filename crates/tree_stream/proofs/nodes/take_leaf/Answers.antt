@@ -1,3 +1,5 @@
+use Rattle.tree_stream.proofs.PlaceLaws.{leaf_begun}
+use Rattle.std.proofs.Common.{◌++◌}
 use Rattle.std.proofs.Common.{List, ℕ, ◌∷◌, [], ◌++◌, ap, ◌∙◌}
 use Rattle.tree_stream.proofs.Steps.{yields_then, leaf_step}
 use Rattle.tree_stream.proofs.nodes.take_leaf.Goals as goal
@@ -8,3 +10,7 @@ returns-clause-yields c =
     leaf_step c.args.context.now.target c.args.context.now.ancestors.items c.args.context.now.findings c.add_open_node.new.findings c.args.visited c.args.count c.add.new.self rest
     c.args.context.now.few c.requires c.add_open_node.ensures
     (c.add.ensures ∙ ap (λ (h : List ℕ). h ++ 3 ∷ c.args.count ∷ []) c.new-hasher.ensures))
+
+pub returns-clause-stands : goal.returns-clause-stands
+returns-clause-stands c = λ bytes below.
+    c.next_entry.ensures.stands (bytes ++ 1 ∷ c.args.count ∷ []) (leaf_begun c.args.context.now.ancestors.items c.args.count bytes below c.requires)

@@ -1,5 +1,4 @@
 use Rattle.std.proofs.Common.{List, ℕ, ◌++◌, subst, sym, ◌∙◌, arith}
-use Rattle.std.proofs.lemmas.Grind.{common_steps}
 use Rattle.std.specs.Prelude.{IfOk}
 use Rattle.tree_stream.specs.Machines.{Advances, StopsInRow, summary_of_machine}
 use Rattle.tree_stream.specs.Summaries.{CanEnd}
@@ -21,8 +20,8 @@ returns-then-is_empty-2-clause-way c = λ err.
 
 pub returns-then-is_empty-2-clause-memory : goal.returns-then-is_empty-2-clause-memory
 returns-then-is_empty-2-clause-memory c = λ err.
-    stops_later c.args.machine.now c.fill.new.machine (c.args.partial.now.items ++ c.args.piece.now) c.fill.new.partial.items c.in_ok-left.left.now
-    (no_length c.fill.new.partial.items (sym c.is_empty-2.ensures ∙ c.if-is_empty-2.true)) c.in_ok-left.ensures.ok c.fill.ensures.target (c.feed_whole-then-is_empty-2.ensures.memory err)
+    stops_later c.args.machine.now c.fill.new.machine c.args.partial.now.items c.args.piece.now c.fill.new.partial.items c.in_ok-left.left.now
+    (no_length c.fill.new.partial.items (sym c.is_empty-2.ensures ∙ c.if-is_empty-2.true)) c.in_ok-left.ensures.ok c.in_ok-left.ensures.behind c.fill.ensures.target (c.feed_whole-then-is_empty-2.ensures.memory err)
 
 pub feed_whole-requires : goal.feed_whole-requires
 feed_whole-requires c = no_length c.args.partial.now.items (sym c.is_empty.ensures ∙ c.if-is_empty.true)
@@ -39,14 +38,8 @@ returns-then-is_empty-clause-way c = λ err.
 
 pub returns-then-is_empty-clause-memory : goal.returns-then-is_empty-clause-memory
 returns-then-is_empty-clause-memory c = λ err.
-    let P : List ℕ → Type 0 = λ partial. StopsInRow c.args.machine.now (partial ++ c.args.piece.now) in
+    let P : List ℕ → Type 0 = λ partial. StopsInRow c.args.machine.now partial c.args.piece.now in
     subst P (sym (no_length c.args.partial.now.items (sym c.is_empty.ensures ∙ c.if-is_empty.true))) (c.feed_whole.ensures.memory err)
-
-pub returns-then-is_empty-clause-some : goal.returns-then-is_empty-clause-some
-returns-then-is_empty-clause-some c = grind (arith, common_steps)
 
 pub feed_whole-requires-then-is_empty-2 : goal.feed_whole-requires-then-is_empty-2
 feed_whole-requires-then-is_empty-2 c = no_length c.fill.new.partial.items (sym c.is_empty-2.ensures ∙ c.if-is_empty-2.true)
-
-pub returns-then-is_empty-2-clause-some : goal.returns-then-is_empty-2-clause-some
-returns-then-is_empty-2-clause-some c = grind (arith, common_steps)

@@ -1,11 +1,10 @@
 use Rattle.std.proofs.Common.{List, ℕ, ◌≡◌, ◌≤◌, ◌<◌, ◌++◌, length, refl, subst, sym, ap, ◌∙◌, arith, inr}
-use Rattle.std.proofs.lemmas.List.{length-append}
 use Rattle.vo_spec.specs.Bytes.{IsBytes}
 use Rattle.tree_stream.specs.Machines.{Takes, summary_of_machine}
 use Rattle.tree_stream.specs.Summaries.{CanEnd}
 use Rattle.tree_stream.specs.Tokens.{token_size}
 use Rattle.tree_stream.proofs.AllBytes.{IsBytes-before}
-use Rattle.tree_stream.proofs.PieceLaws.{empty_short, filled_is, filled_taken, grew_some, is_filled, longer_way, none_behind, same_bytes, stops_here}
+use Rattle.tree_stream.proofs.PieceLaws.{empty_short, filled_is, filled_taken, grew_some, is_filled, longer_way, none_behind, same_bytes, stops_first}
 use Rattle.tree_stream.proofs.pieces.fill.Goals as goal
 
 pub take-taken-requires : goal.take-taken-requires
@@ -90,17 +89,4 @@ returns-in_err-taken-clause-memory c = λ err.
     let le : token_size machine.state all ≤ length all = omega (arith, size, c.len.ensures.value, c.if-len-token_size.false) in
     let whole : length all ≡ token_size machine.state all = is_filled (length all) (token_size machine.state all) left c.grow-left.ensures.filled le in
     let some : 0 < length piece = grew_some machine.state partial grown.front left piece all grown.grown grown.parts c.requires.short whole in
-    stops_here machine machine (partial ++ piece) (partial ++ piece) (same_bytes machine (partial ++ piece) (partial ++ piece) refl) refl (c.in_err-taken.ensures.memory refl) (omega (arith, some, length-append partial piece))
-
-pub returns-in_err-taken-clause-some : goal.returns-in_err-taken-clause-some
-returns-in_err-taken-clause-some c = λ err.
-    let machine = c.args.machine.now in
-    let partial = c.args.partial.now.items in
-    let piece = c.args.piece.now in
-    let all = c.grow-left.new.partial.items in
-    let left = c.grow-left.result.now in
-    let grown = c.grow-left.ensures.grown in
-    let size : c.token_size.result ≡ token_size machine.state all = c.token_size.ensures ∙ ap (token_size machine.state) c.as_slice.ensures.value in
-    let le : token_size machine.state all ≤ length all = omega (arith, size, c.len.ensures.value, c.if-len-token_size.false) in
-    let whole : length all ≡ token_size machine.state all = is_filled (length all) (token_size machine.state all) left c.grow-left.ensures.filled le in
-    grew_some machine.state partial grown.front left piece all grown.grown grown.parts c.requires.short whole
+    stops_first machine partial piece (c.in_err-taken.ensures.memory refl) c.requires.short some

@@ -1,7 +1,7 @@
 use Rattle.std.proofs.Common.{◌<◌, ◌≡◌, List, ℕ, [], ◌++◌, length, ap, refl, ◌∙◌, arith}
 use Rattle.std.proofs.lemmas.List.{length-append, length-drop}
 use Rattle.tree_stream.specs.Machines.{Advances, summary_of_machine}
-use Rattle.tree_stream.proofs.PieceLaws.{and_then, goes_on, passes_back, size_positive, split_is, stops_here, token_whole}
+use Rattle.tree_stream.proofs.PieceLaws.{and_then, goes_on, passes_back, passes_of, size_positive, split_is, stops_here, token_whole}
 use Rattle.tree_stream.proofs.pieces.take_all.Goals as goal
 
 pub take-requires : goal.take-requires
@@ -51,7 +51,7 @@ returns-in_err-take-clause-way c = λ err.
     let token : List ℕ = c.split_at.result.0.now in
     let behind : List ℕ = c.split_at.result.1.now in
     let parts : left ≡ token ++ behind = split_is c.tokens.size left token behind c.split_at.ensures.front c.split_at.ensures.back in
-    passes_back (summary_of_machine c.args.machine.now) (summary_of_machine c.tokens.machine) c.args.bytes.now left token behind (λ i. omega (arith, c.type_inv.bytes i)) c.tokens.invariant.advances parts (c.in_err-take.ensures.way refl)
+    passes_back (summary_of_machine c.args.machine.now) (summary_of_machine c.tokens.machine) c.args.bytes.now left token behind (λ i. omega (arith, c.type_inv.bytes i)) (passes_of c.args.machine.now c.tokens.machine c.args.bytes.now left c.tokens.invariant.advances) parts (c.in_err-take.ensures.way refl)
 
 pub returns-in_err-left-clause-memory : goal.returns-in_err-left-clause-memory
 returns-in_err-left-clause-memory c = λ err.
@@ -73,4 +73,4 @@ returns-in_err-left-clause-way c = λ err.
     let behind : List ℕ = c.split_at.result.1.now in
     let parts : left ≡ token ++ behind = split_is c.tokens.size left token behind c.split_at.ensures.front c.split_at.ensures.back in
     let taken : Advances first c.take.new.machine bytes behind = goes_on first c.tokens.machine c.take.new.machine bytes left token behind c.tokens.invariant.advances c.in_ok-take.ensures.ok parts in
-    passes_back (summary_of_machine first) (summary_of_machine c.take.new.machine) bytes behind [] behind (λ i. omega (arith, c.type_inv.bytes i)) taken refl (c.in_err-left.ensures.way refl)
+    passes_back (summary_of_machine first) (summary_of_machine c.take.new.machine) bytes behind [] behind (λ i. omega (arith, c.type_inv.bytes i)) (passes_of first c.take.new.machine bytes behind taken) refl (c.in_err-left.ensures.way refl)

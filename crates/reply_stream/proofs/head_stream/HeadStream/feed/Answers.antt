@@ -1,3 +1,4 @@
+use Rattle.reply_stream.proofs.HeadFronts.{front_before}
 use Rattle.reply_stream.specs.HeadStreams.{head_of}
 use Rattle.reply_stream.proofs.HeadPieces.{all_or_settled, nothing_after}
 use Rattle.reply_stream.proofs.head_stream.HeadStream.feed.Goals as goal
@@ -13,3 +14,6 @@ returns-clause-all c = all_or_settled c.feed_fields.result c.feed_fields.new.sta
 pub returns-clause-err : goal.returns-clause-err
 unfolding head_of
 returns-clause-err c = nothing_after c.feed_fields.result c.feed_fields.new.state c.feed_fields.new.held.items c.feed_fields.ensures.err
+
+pub returns-clause-memory : goal.returns-clause-memory
+returns-clause-memory c = λ err bytes behind. front_before c.feed_fields.result c.args.self.now bytes behind c.feed_fields.ensures.memory err

@@ -1,3 +1,5 @@
+use Rattle.tree_stream.proofs.NoTarget.{quiet}
+use Rattle.tree_stream.proofs.PieceLaws.{behind_piece, has_needed_byte}
 use Rattle.std.proofs.Common.{◌++◌}
 use Rattle.tree_stream.specs.Machines.{summary_of_machine}
 use Rattle.tree_stream.specs.Streams.{summary_of}
@@ -25,3 +27,12 @@ returns-clause-all c = all_or_settled c.feed_piece.result c.feed_piece.new.machi
 pub returns-clause-way : goal.returns-clause-way
 unfolding summary_of
 returns-clause-way c = c.feed_piece.ensures.way
+
+pub returns-clause-behind : goal.returns-clause-behind
+returns-clause-behind c = behind_piece c.feed_piece.result c.args.self.now _ c.args.piece.now c.feed_piece.ensures.ok
+
+pub returns-clause-memory : goal.returns-clause-memory
+returns-clause-memory c = λ err bytes behind. has_needed_byte c.args.self.now c.args.piece.now bytes (c.feed_piece.ensures.memory err) behind
+
+pub returns-clause-quiet : goal.returns-clause-quiet
+returns-clause-quiet c = λ is. quiet c.feed_piece.result c.args.self.now c.args.piece.now c.feed_piece.ensures.memory is

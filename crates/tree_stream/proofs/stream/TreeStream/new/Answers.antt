@@ -1,10 +1,11 @@
-use Rattle.std.proofs.Common.{List, ℕ, Bool, ◌++◌, length, ap, arith, ◌∙◌}
+use Rattle.std.proofs.Common.{List, ℕ, Bool, [], sym, ◌++◌, length, ap, arith, ◌∙◌}
 use Rattle.std.specs.Prelude.{not}
 use Rattle.tree_stream.specs.declared.context.Context.{Context}
 use Rattle.tree_stream.specs.declared.state.InnerNode.{InnerNode}
 use Rattle.tree_stream.specs.declared.state.State.TheVariants.{Node}
 use Rattle.tree_stream.specs.Streams.{summary_of}
 use Rattle.tree_stream.specs.Summaries.{summary_from}
+use Rattle.tree_stream.proofs.PlaceLaws.{below_none}
 use Rattle.tree_stream.proofs.PieceLaws.{empty_short}
 use Rattle.tree_stream.proofs.ShortLaws.{start_is}
 use Rattle.tree_stream.proofs.stream.TreeStream.new.Goals as goal
@@ -22,3 +23,6 @@ returns-clause-summary c = λ bytes.
     ap (λ (partial : List ℕ). summary_from context (Node (not c.is_empty_interval-visited.result)) (partial ++ bytes)) c.new-3.ensures
     ∙ ap (λ (b : Bool). summary_from context (Node (not b)) bytes) c.is_empty_interval-visited.ensures
     ∙ start_is context bytes c.new.ensures c.empty_findings.ensures
+
+pub returns-clause-behind : goal.returns-clause-behind
+returns-clause-behind c = record { taken = []; at = below_none c.new.result.items c.new.ensures; parts = sym c.new-3.ensures }
