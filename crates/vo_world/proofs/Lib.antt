@@ -1,0 +1,6 @@
+pub mod HeldRecords
+pub mod EntryFits
+pub mod Disks
+pub mod StepLaws
+pub mod RunLaws
+pub mod SoundLaws

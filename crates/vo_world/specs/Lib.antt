@@ -1,0 +1,5 @@
+pub mod WorldModel
+pub mod Steps
+pub mod Runs
+pub mod Keeping
+pub mod Soundness
