@@ -32,7 +32,7 @@ queue-after (event ∷ events) before = queue-after events (wire_next event befo
 queue_begun : {X : Type 0} (event : Event X) (before after : ConnectionModel) → IsBegun event before after
     → after.queue ≡ before.queue
 queue_begun (Puts frame) before after h = ap (λ (w : ConnectionModel). w.queue) h.1
-queue_begun (Takes count) before after h = ap (λ (w : ConnectionModel). w.queue) h.1
+queue_begun (Takes count) before after h = ap (λ (w : ConnectionModel). w.queue) h.2
 queue_begun (Does x) before after h = ap (λ (w : ConnectionModel). w.queue) h
 
 queue_stops : {X : Type 0} (events : List (Event X)) (done : List X) (before after : ConnectionModel)

@@ -79,13 +79,13 @@ ends_there n count end old new before wire all same t = (
 -- the taking of a request stopped
 stops_taking : {S : Type 0} (next : Next S) (old new : S) (kind : FrameKind) (body : List ℕ)
     (answer : Option (FrameKind × List ℕ)) (rest : Script S End) (n : ℕ) (before : ConnectionModel)
-    (wire : Option ConnectionModel) → new ≡ old → Took n before wire
+    (wire : Option ConnectionModel) → n ≤ 5 + length body → new ≡ old → Took n before wire
     → (after : ConnectionModel) × (wire ≡ Some after)
     × StopsIn (with_reply next old kind body answer rest) old new before after
-stops_taking next old new kind body (Some answer) rest n before wire same t =
-    (take_from n before, t, ([], same, inl (refl, (n, refl))))
-stops_taking next old new kind body None rest n before wire same t =
-    (take_from n before, t, ([], same, inl (refl, (n, refl))))
+stops_taking next old new kind body (Some answer) rest n before wire within same t =
+    (take_from n before, t, ([], same, inl (refl, (n, within, refl))))
+stops_taking next old new kind body None rest n before wire within same t =
+    (take_from n before, t, ([], same, inl (refl, (n, within, refl))))
 
 -- the same, whatever was to come
 stops_reading : {S : Type 0} (reply : Reply S) (next : Next S) (first : Coming) (old new : S)
@@ -93,13 +93,13 @@ stops_reading : {S : Type 0} (reply : Reply S) (next : Next S) (first : Coming) 
     → new ≡ old → TookWithin 0 first before wire
     → (after : ConnectionModel) × (wire ≡ Some after) × StopsIn (with_first reply next old first rest) old new before after
 stops_reading reply next (Whole kind body) old new before wire rest same t =
-    stops_taking next old new kind body (reply old kind body) (rest kind body) t.0 before wire same t.2
+    stops_taking next old new kind body (reply old kind body) (rest kind body) t.0 before wire (omega (arith, t.1)) same t.2
 stops_reading reply next Ended old new before wire rest same t =
-    (take_from t.0 before, t.2, ([], same, inl (refl, (t.0, refl))))
+    (take_from t.0 before, t.2, ([], same, inl (refl, (t.0, omega (arith, t.1), refl))))
 stops_reading reply next (Cut got) old new before wire rest same t =
-    (take_from t.0 before, t.2, ([], same, inl (refl, (t.0, refl))))
+    (take_from t.0 before, t.2, ([], same, inl (refl, (t.0, omega (arith, t.1), refl))))
 stops_reading reply next (Bad length taken) old new before wire rest same t =
-    (take_from t.0 before, t.2, ([], same, inl (refl, (t.0, refl))))
+    (take_from t.0 before, t.2, ([], same, inl (refl, (t.0, omega (arith, t.1), refl))))
 
 without_first : {S : Type 0} (reply : Reply S) (next : Next S) (first : Coming) (fault : NoFrame) (s : S)
     (before : ConnectionModel) (wire : Option ConnectionModel) (rest : FrameKind → List ℕ → Script S End)
@@ -181,7 +181,7 @@ pub no_memory : {S : Type 0} (reply : Reply S) (next : Next S) (kind : FrameKind
     (before : ConnectionModel) (wire : Option ConnectionModel) → new ≡ old → wire ≡ Some before
     → AnswersOne reply next kind body (Err end.Memory) old new before wire
 no_memory reply next kind body old new before wire same is =
-    λ rest start taken. stops_taking next old new kind body (reply old kind body) rest (5 + length body) start wire same
+    λ rest start taken. stops_taking next old new kind body (reply old kind body) rest (5 + length body) start wire (omega arith) same
     (is ∙ ap (λ (w : ConnectionModel). Some w) taken)
 
 -- the body was none of its kind

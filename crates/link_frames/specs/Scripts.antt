@@ -1,5 +1,5 @@
 -- Scripts: what is to happen on a connection, in order, and beside it.
-use Rattle.std.specs.Prelude.{◌≡◌, ℕ, ◌⊎◌, List, [], ◌∷◌, ◌++◌, take}
+use Rattle.std.specs.Prelude.{◌≡◌, ℕ, ◌⊎◌, ◌≤◌, List, [], ◌∷◌, ◌++◌, take}
 use Rattle.outside.specs.ConnectionModel.{ConnectionModel, take_from, send_on}
 
 -- a frame is put, bytes are taken, or something else is done
@@ -35,10 +35,11 @@ others (Puts frame ∷ events) = others events
 others (Takes count ∷ events) = others events
 others (Does x ∷ events) = x ∷ others events
 
--- the connection in the midst of an event: a front of the frame was put, or some bytes were taken
+-- the connection in the midst of an event: a front of the frame was put, or some of the bytes were
+-- taken
 abbrev pub IsBegun : {X : Type 0} → Event X → ConnectionModel → ConnectionModel → Type 0
 IsBegun (Puts frame) before after = (n : ℕ) × (after ≡ send_on (take n frame) before)
-IsBegun (Takes count) before after = (n : ℕ) × (after ≡ take_from n before)
+IsBegun (Takes count) before after = (n : ℕ) × (n ≤ count) × (after ≡ take_from n before)
 IsBegun (Does x) before after = after ≡ before
 
 -- all events were done, and this besides

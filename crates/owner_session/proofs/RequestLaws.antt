@@ -78,7 +78,7 @@ module _ {S B E : Type 0} (forms : Forms B E) (batches : List B) where
       puts_behind forms batches (es ++ entries_of deeds) before mid after request
       (request_stays forms batches es (entries_of deeds) request one) refl
       (puts_nothing forms batches (es ++ entries_of deeds) mid after
-      (ap (λ (w : ConnectionModel). w.sent) taken.1.1))
+      (ap (λ (w : ConnectionModel). w.sent) taken.1.2))
   puts_exchange es request n events one rest deeds before after
       (inr (later, are, inr (last, same, stops))) =
       let mid = take_from n (send_on (request_bytes forms request) before) in

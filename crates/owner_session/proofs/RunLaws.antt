@@ -215,7 +215,7 @@ stops-at-once : {X : Type 0} (events : List (Event X)) (wire : ConnectionModel) 
 stops-at-once [] wire = (refl, refl)
 stops-at-once (Puts frame ∷ events) wire =
     inl (refl, (0, ap (λ (bytes : List ℕ). record wire { sent = bytes }) (sym (append-nil wire.sent))))
-stops-at-once (Takes count ∷ events) wire = inl (refl, (0, refl))
+stops-at-once (Takes count ∷ events) wire = inl (refl, (0, omega arith, refl))
 stops-at-once (Does deed ∷ events) wire = inl (refl, refl)
 
 pub wants-here : {S B E G : Type 0} (IsJudgement : S → B → List ℕ → Judgement S E → Type 0) (Kept : E → Type 0)

@@ -9,7 +9,7 @@ pub on_link_stops : {X : Type 0} (events : List (Event X)) (done : List X) (befo
     → StopsOnLink events done before after → Stops events done before after
 on_link_stops [] done before after s = absurd s
 on_link_stops (Puts frame ∷ events) done before after (inl h) = inl h
-on_link_stops (Takes count ∷ events) done before after (inl h) = inl (h.0, (h.1.0, h.1.2))
+on_link_stops (Takes count ∷ events) done before after (inl h) = inl (h.0, (h.1.0, h.1.1, h.1.3))
 on_link_stops (Does x ∷ events) done before after (inl h) = absurd h.1
 on_link_stops (event ∷ events) done before after (inr h) =
     inr (h.0, h.1, on_link_stops events h.0 (wire_next event before) after h.2)

@@ -52,12 +52,13 @@ half_wire frame first before wire (inl h) = (send_on (take h.0 frame) before, h.
 half_wire frame first before wire (inr h) = (take_from h.0 (send_on frame before), h.2)
 
 half_stops : {S B E : Type 0} (kind : FrameKind) (body : List ℕ) (awaits : Awaits) (input : Input S E)
-    (go : List ℕ → Input S E → Work S B E) (first : Coming) (before : ConnectionModel) (wire : Option ConnectionModel)
-    (h : IsHalfAsked (frame_bytes kind body) first before wire)
-    → Stops (exchange kind body awaits input go).events [] before (half_wire (frame_bytes kind body) first before wire h).0
+    (go : List ℕ → Input S E → Work S B E) (before : ConnectionModel) (wire : Option ConnectionModel)
+    (h : IsHalfAsked (frame_bytes kind body) (first_frame awaits input.coming) before wire)
+    → Stops (exchange kind body awaits input go).events [] before
+    (half_wire (frame_bytes kind body) (first_frame awaits input.coming) before wire h).0
 unfolding exchange
-half_stops kind body awaits input go first before wire (inl h) = inl (refl, (h.0, refl))
-half_stops kind body awaits input go first before wire (inr h) = inr ([], refl, inl (refl, (h.0, refl)))
+half_stops kind body awaits input go before wire (inl h) = inl (refl, (h.0, refl))
+half_stops kind body awaits input go before wire (inr h) = inr ([], refl, inl (refl, (h.0, omega (arith, h.1), refl)))
 
 -- the same where the link failed
 abbrev broken_wire : (frame : List ℕ) (first : Coming) (before : ConnectionModel) (wire : Option ConnectionModel)
@@ -89,6 +90,7 @@ broken_stops kind body awaits input go before wire (inr h) =
         refl,
         (
           h.0,
+          omega (arith, h.1),
           part_taken first (input_after (span first) input) go h.0 (λ is. omega (arith, h.2 is)),
           refl,
         ),
@@ -164,7 +166,7 @@ traded {S} {B} {E} IsJudgement kind body awaits (Err stop.Memory) before wire h 
     let first : Coming = first_frame awaits before.wire.coming in
     half_fails IsJudgement kind body awaits stop.Memory before wire (half_wire (frame_bytes kind body) first before.wire wire h)
     (λ (more : List (Judgement S E)) (go : List ℕ → Input S E → Work S B E).
-    (half_stops kind body awaits (input_of before more) go first before.wire wire h, added-nil before.written))
+    (half_stops kind body awaits (input_of before more) go before.wire wire h, added-nil before.written))
 traded IsJudgement kind body awaits (Err stop.DiskFault) before wire h = absurd h
 traded IsJudgement kind body awaits (Err stop.OutputFault) before wire h = absurd h
 
