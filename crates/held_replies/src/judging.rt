@@ -16,7 +16,7 @@ ghost use Rattle.vo_format.specs.View.{reply_of};
 ghost use Rattle.held_replies.specs.Testing.{GivesIfPassed, PassesTests, needs_fault, trees_fault};
 ghost use Rattle.held_replies.specs.Judging.{FitsWhereBound, needed_for, shown_for, bound_fault, proof_fault};
 
-use crate::head_faults::test_head;
+use crate::head_faults::head_fault;
 use crate::need_faults::test_needs;
 use crate::tree_faults::test_trees;
 use lms_sign::PublicKey;
@@ -156,9 +156,9 @@ fn answer_of(
     ensures numbers { IfOk result (λ answer.
         FitsWhereBound (query_of query.now) (reply_of reply.now)) }
 {
-    match test_head(key, least, &reply.rec, reply.signature, &reply.catalog) {
-        Ok(()) => {},
-        Err(fault) => return Err(fault),
+    match head_fault(key, least, &reply.rec, reply.signature, &reply.catalog) {
+        Some(fault) => return Err(fault),
+        None => {},
     }
     match judge_trees(alloc, query, reply) {
         Ok(outcome) => Ok(Answer {

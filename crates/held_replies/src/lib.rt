@@ -11,7 +11,7 @@ mod shape;
 mod table_tree;
 mod tree_faults;
 
-pub use head_faults::test_head;
+pub use head_faults::head_fault;
 pub use judging::judge;
 pub use pairing::table_named;
 pub use reading::{judge_bytes, read_within};

@@ -19,7 +19,7 @@ ghost use Rattle.held_replies.specs.Judging.{bound_fault, proof_fault, shown_for
 ghost use Rattle.held_replies.specs.Testing.{GivesIfPassed, PassesTests};
 ghost use Rattle.vo_check.specs.Streamed.{HasFound, HasSchema, IsSummedUp, bound_target, findings_fault, plan_for, summary_fault, table_fault, target_for};
 
-use held_replies::{count_fault, table_named, test_digest, test_head};
+use held_replies::{count_fault, head_fault, table_named, test_digest};
 use lms_sign::PublicKey;
 use plan_run::rows_of_seen;
 use query_plan::{BindFault, Plan, Query, bind, header, plan};
@@ -186,9 +186,9 @@ fn answer_of(
         (record { version = r.rec.version; outcome = seen_outcome q r.catalog r.trees }) }
 {
     let rec = head.rec();
-    match test_head(key, least, rec, head.signature(), head.catalog()) {
-        Ok(()) => {},
-        Err(fault) => return Err(fault),
+    match head_fault(key, least, rec, head.signature(), head.catalog()) {
+        Some(fault) => return Err(fault),
+        None => {},
     }
     match judge_trees(alloc, query, head.catalog(), trees) {
         Ok(outcome) => Ok(Answer {
