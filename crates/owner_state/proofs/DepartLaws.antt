@@ -43,9 +43,6 @@ trees_of v (x ∷ xs) empty =
     ∙ ap (λ (batch : List Command). honest_trees (batch ∷ batches_of (take v xs))) empty
     ∙ no_trees_before (batches_of (take v xs))
 
-some_is : {A : Type 0} (x y : A) → Some x ≡ Some y → x ≡ y
-some_is x y e = cc
-
 abbrev with_catalog : ℕ → Catalog → Roots
 with_catalog v c = record { version = v; catalog = c }
 

@@ -1,5 +1,5 @@
 -- Where a run of a query's plan stops, a tree is missing something of what the query needs.
-use Rattle.std.proofs.Common.{◌≡◌, true, false, List, ◌∷◌, Option, Some, None, length, map, refl, sym, subst}
+use Rattle.std.proofs.Common.{◌≡◌, true, false, List, ◌∷◌, Option, Some, None, length, map, refl, subst}
 use Rattle.std.specs.Prelude.{◌==◌, option_map, option_to_list, zip}
 use Rattle.std.specs.List.{list_any}
 use Rattle.vo_spec.specs.declared.needs.Need.{Need}
@@ -13,7 +13,7 @@ use Rattle.vo_spec.specs.Pruning.{is_missing}
 use Rattle.vo_spec.specs.Needs.{needs, tables_used}
 use Rattle.query_plan.specs.BoundQueries.{bound_join, bound_query}
 use Rattle.query_plan.specs.Plans.{plan_of}
-use Rattle.plan_run.specs.Running.{run_needs, stops}
+use Rattle.plan_run.specs.Running.{stops}
 use Rattle.plan_run.proofs.ByNames.{needs_same}
 use Rattle.plan_run.proofs.MissingLaws.{stopped_missing}
 

@@ -1,11 +1,9 @@
 -- What two byte strings of one digest are that an audit finds.
 use Rattle.std.specs.Prelude.{◌⊎◌, ◌-◌, ◌≤◌, ℕ, List, ◌∷◌, slice_get, Option, IsSomeAnd}
-use Rattle.vo_spec.specs.declared.records.Catalog.{Catalog}
 use Rattle.vo_spec.specs.declared.records.Entry.{Entry}
 use Rattle.vo_spec.specs.declared.checks.Verdict.{Verdict}
 use Rattle.vo_spec.specs.declared.checks.Verdict.TheVariants.{Unsigned, Exact, Collides as Collide}
 use Rattle.vo_spec.specs.Conditions.{Query}
-use Rattle.vo_spec.specs.Records.{catalog_bytes}
 use Rattle.vo_spec.specs.Trees.{RowTree}
 use Rattle.vo_spec.specs.Replies.{Reply, IsReply}
 use Rattle.vo_spec.specs.Checks.{tables_wanted}
