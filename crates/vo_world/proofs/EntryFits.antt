@@ -1,9 +1,10 @@
 -- Entries that an owner writes: they fit, and lead it on.
-use Rattle.std.proofs.Common.{◌≡◌, ℕ, ◌^◌, ◌<◌, ◌≤◌, lit<, List, ◌∷◌, length, Ok, refl, sym, ap, subst, ◌∙◌, arith}
+use Rattle.std.proofs.Common.{◌≡◌, ℕ, ◌+◌, ◌^◌, ◌<◌, ◌≤◌, lit<, zero, suc, take, List, [], ◌∷◌, length, Ok, refl, sym, ap, subst, ◌∙◌, arith}
 use Rattle.vo_spec.specs.declared.tables.Command.{Command}
 use Rattle.vo_spec.specs.declared.records.Entry.{Entry}
 use Rattle.vo_spec.specs.Batches.{FitsBatch}
 use Rattle.vo_spec.specs.Journals.{FitsEntry, max_proofs}
+use Rattle.vo_spec.specs.LmsSets.{leaves_of}
 use Rattle.vo_spec.specs.Records.{FitsRecord, catalog_bytes, catalog_digest, record_bytes}
 use Rattle.vo_spec.specs.Secret.{Secret, public_of_secret}
 use Rattle.vo_laws.specs.Sealing.{SignsValidly}
@@ -12,13 +13,15 @@ use Rattle.lms_sign.proofs.Keys.{leaves_few}
 use Rattle.lms_sign.proofs.SignatureLaws.{signed_len}
 use Rattle.sha2.proofs.Facts256.{length-sha256}
 use Rattle.owner_roots.specs.declared.roots.Roots.{Roots}
-use Rattle.owner_roots.specs.Owners.{record_of_roots}
+use Rattle.owner_roots.specs.Owners.{first_roots, record_of_roots}
 use Rattle.owner_roots.proofs.OwnedLaws.{next_version}
+use Rattle.round_trips.proofs.SealedJournals.{some_leaf}
 use Rattle.owner_state.specs.declared.steps.Step.{Step}
-use Rattle.owner_state.specs.Stepping.{AreStepsTo, IsStepTo, StepOf, first_entry, signed_entry}
+use Rattle.owner_state.specs.Stepping.{AreSteps, AreStepsTo, IsNoStepAt, IsStepTo, StepOf, first_entry, signed_entry}
 use Rattle.owner_state.proofs.OwnerSteps.{proofs_fit, step_parts}
 use Rattle.vo_commands.proofs.OwnerLaws.{count_of}
 use Rattle.honest_peers.proofs.Beginnings.{begins}
+use Rattle.vo_world.specs.Keeping.{AreReplayable}
 
 module _ (key : Secret) (signs : SignsValidly key) where
   pub first_fits : FitsEntry (first_entry key)
@@ -82,3 +85,47 @@ module _ (key : Secret) where
 
   pub some_entry : (es : List Entry) (roots : Roots) → AreStepsTo key es roots → 0 < length es
   some_entry es roots steps = omega (arith, count_of key es roots steps)
+
+  -- entries that an owner writes are so from the front on
+
+  front_after : (before : Roots) (es : List Entry) (behind : Roots) (n : ℕ) → AreSteps key before es behind
+      → (middle : Roots) × AreSteps key before (take n es) middle
+  front_after before [] behind zero all = (before, refl)
+  front_after before [] behind (suc n) all = (before, refl)
+  front_after before (e ∷ es) behind zero all = (before, refl)
+  front_after before (e ∷ es) behind (suc n) (after, is, rest) =
+      let front = front_after after es behind n rest in
+      (front.0, (after, is, front.1))
+
+  front_steps : (es : List Entry) (roots : Roots) (n : ℕ) → AreStepsTo key es roots → (behind : Roots) × AreStepsTo key (take (suc n) es) behind
+  unfolding AreStepsTo
+  front_steps [] roots n all = absurd all
+  front_steps (e ∷ es) roots n all = let front = front_after first_roots es roots n all.1 in (front.0, (all.0, front.1))
+
+  pub never_no_step : (es : List Entry) (index : ℕ) → AreReplayable key es → IsNoStepAt key es index → ⊥
+  never_no_step es index replayable stops =
+      let front = front_steps es replayable.0 index replayable.1 in
+      let same : suc index ≡ index + 1 = omega arith in
+      stops.not_on front.0 (subst (λ (n : ℕ). AreStepsTo key (take n es) front.0) same front.1)
+
+  -- there are no more entries than leaves
+
+  abbrev step_with : Entry → Roots → Step
+  step_with e roots = record { entry = e; roots = roots }
+
+  version_few : (before : Roots) (es : List Entry) (behind : Roots) → before.version < leaves_of key.lms → AreSteps key before es behind
+      → behind.version < leaves_of key.lms
+  version_few before [] behind few same = subst (λ (r : Roots). r.version < leaves_of key.lms) same few
+  version_few before (e ∷ es) behind few (after, is, rest) =
+      let parts = step_parts key before e.batch.commands e.proofs (step_with e after) is in
+      version_few after es behind (omega (arith, parts.left, next_version before e.batch.commands e.proofs after parts.next)) rest
+
+  last_few : (es : List Entry) (roots : Roots) → AreStepsTo key es roots → roots.version < leaves_of key.lms
+  unfolding AreStepsTo
+  last_few [] roots all = absurd all
+  last_few (e ∷ es) roots all = version_few first_roots es roots (some_leaf key.lms) all.1
+
+  pub few_entries : (es : List Entry) (roots : Roots) → AreStepsTo key es roots → length es < 2 ^ 32
+  few_entries es roots steps =
+      let wide : 33554432 < 2 ^ 32 = lit< tt in
+      omega (arith, count_of key es roots steps, last_few es roots steps, leaves_few key.lms, wide)

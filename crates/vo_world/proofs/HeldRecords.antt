@@ -1,6 +1,8 @@
 -- Records, those that a journal holds among them.
-use Rattle.std.proofs.Common.{◌≡◌, ℕ, zero, suc, ◌<◌, Bool, true, false, if◌then◌else◌, List, [], ◌∷◌, ◌++◌, length, Some, option_map, slice_get, refl, sym, ap, subst, append_assoc, arith}
-use Rattle.std.specs.Prelude.{Contains, slice_index_or}
+use Rattle.std.proofs.Common.{◌≡◌, ℕ, zero, suc, ◌+◌, ◌<◌, Bool, true, false, if◌then◌else◌, List, [], ◌∷◌, ◌++◌, length, Some, option_map, slice_get, take, get_or, refl, sym, ap, subst, ◌∙◌, append_assoc, arith}
+use Rattle.std.specs.Prelude.{Contains, fold, slice_index_or}
+use Rattle.std.proofs.lemmas.List.{map-append, take_more}
+use Rattle.std.proofs.lemmas.List.Sums.{fold-append}
 use Rattle.std.specs.List.{AllByRecursion, list_any}
 use Rattle.vo_spec.specs.declared.records.Entry.{Entry}
 use Rattle.vo_spec.specs.declared.records.Record.{Record}
@@ -47,6 +49,25 @@ module _ (P : Record → Type 0) where
   unfolding gain_records
   gained_all released [] all more = all
   gained_all released (rec ∷ records) all more = gained_all (with_record released rec) records (with_one released rec all more.0) more.1
+
+pub with_new : (released : List Record) (rec : Record) → list_any (same_record rec) released ≡ false → released ++ rec ∷ [] ≡ with_record released rec
+with_new released rec none = sym (ap (λ (b : Bool). if b then released else released ++ rec ∷ []) none)
+
+pub with_old : (released : List Record) (rec : Record) → list_any (same_record rec) released ≡ true → released ≡ with_record released rec
+with_old released rec one = sym (ap (λ (b : Bool). if b then released else released ++ rec ∷ []) one)
+
+pub gain_none : (released : List Record) → released ≡ gain_records released []
+unfolding gain_records
+gain_none released = refl
+
+pub gain_more : (released : List Record) (es : List Entry) (i : ℕ) (d : Entry) → i < length es
+    → with_record (gain_records released (records_of (take i es))) (get_or es i d).rec ≡ gain_records released (records_of (take (i + 1) es))
+unfolding gain_records
+gain_more released es i d within =
+    let one : Entry = get_or es i d in
+    sym (ap (λ (xs : List Entry). fold with_record released (records_of xs)) (take_more es i d within)
+    ∙ ap (fold with_record released) (map-append (λ (e : Entry). e.rec) (take i es) (one ∷ []))
+    ∙ fold-append with_record released (records_of (take i es)) (one.rec ∷ []))
 
 -- A journal holds the records of its entries.
 

@@ -4,3 +4,5 @@ pub mod Disks
 pub mod StepLaws
 pub mod RunLaws
 pub mod SoundLaws
+pub mod Clients
+pub mod Models

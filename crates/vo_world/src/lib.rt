@@ -5,8 +5,14 @@
 //! comes back to its journal, a client gets bytes as a reply.
 #![tactic(auto)]
 
+mod committing;
 mod events;
 mod laws;
+mod opening;
+mod releasing;
+mod reopening;
+mod world;
 
 pub use events::{AcceptedReply, Event, Said};
 pub use laws::schedules_are_sound;
+pub use world::World;
