@@ -6,3 +6,4 @@ pub mod RunLaws
 pub mod SoundLaws
 pub mod Clients
 pub mod Models
+pub mod Receipts

@@ -1,10 +1,12 @@
 -- Worlds by their parts.
-use Rattle.std.proofs.Common.{◌≡◌, ℕ, List, [], ◌∷◌, replicate, refl, sym, ap, ◌∙◌}
+use Rattle.std.proofs.Common.{◌≡◌, ℕ, List, [], ◌∷◌, length, replicate, refl, sym, ap, ◌∙◌}
+use Rattle.std.proofs.lemmas.List.{length-replicate}
 use Rattle.outside.specs.DiskModel.{now}
 use Rattle.vo_spec.specs.declared.records.Entry.{Entry}
 use Rattle.vo_spec.specs.declared.records.Record.{Record}
 use Rattle.owner_roots.specs.Owners.{first_roots}
 use Rattle.owner_state.specs.Stepping.{first_entry}
+use Rattle.vo_spec.specs.Secret.{Secret}
 use Rattle.vo_world.specs.Steps.{empty_disk, gain_records, start, with_entry}
 use Rattle.vo_world.specs.WorldModel.{WorldModel, records_of}
 
@@ -31,3 +33,7 @@ pub gained_is : (a b : List Record) (xs ys : List Entry) (out : List Record) →
     → gain_records b (records_of ys) ≡ out
 gained_is a b xs ys out released entries is =
     sym (is ∙ ap (λ (rs : List Record). gain_records rs (records_of xs)) released ∙ ap (λ (es : List Entry). gain_records b (records_of es)) entries)
+
+pub start_count : (key : Secret) (clients : ℕ) → length (start key clients).leasts ≡ clients
+unfolding start
+start_count key clients = length-replicate clients 0

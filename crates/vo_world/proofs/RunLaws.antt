@@ -1,5 +1,6 @@
 -- Lists of events.
-use Rattle.std.proofs.Common.{◌≡◌, List, [], ◌∷◌, ◌++◌, length, refl, sym, ap, subst, ◌∙◌}
+use Rattle.std.proofs.Common.{◌≡◌, ℕ, ◌<◌, All, List, [], ◌∷◌, ◌++◌, length, take, get_or, Result, Ok, Err, OnErr, refl, sym, ap, subst, ◌∙◌, arith, length-append}
+use Rattle.std.proofs.Math.Seq.{take-append_seam}
 use Rattle.vo_world.specs.declared.events.Event.{Event}
 use Rattle.vo_world.specs.declared.events.Said.{Said}
 use Rattle.vo_world.specs.Keeping.{Keeps}
@@ -31,3 +32,23 @@ run_clients w (event ∷ events) (says ∷ said) after (mid, fits, steps, runs) 
     run_clients mid events said after runs ∙ same_clients w event says mid steps
 run_clients w [] (says ∷ said) after runs = absurd runs
 run_clients w (event ∷ events) [] after runs = absurd runs
+
+-- Events that come one after the other out of a list.
+
+middle : {X : Type 0} (ys : List X) (x : X) (zs : List X) (d : X) → get_or (ys ++ x ∷ zs) (length ys) d ≡ x
+middle [] x zs d = refl
+middle (y ∷ ys) x zs d = middle ys x zs d
+
+pub fits_there : (clients : ℕ) (all ys zs : List Event) (event : Event) → ys ++ event ∷ zs ≡ all → All (FitsEvent clients) all → FitsEvent clients event
+fits_there clients all ys zs event is fits =
+    let within : length ys < length all = omega (arith, ap length is, length-append ys (event ∷ zs)) in
+    subst (FitsEvent clients) (ap (λ (es : List Event). get_or es (length ys) event) (sym is) ∙ middle ys event zs event) (fits (length ys) event within)
+
+pub front_runs : (w : WorldModel) (all ys zs : List Event) (said : List Said) (after : WorldModel) → ys ++ zs ≡ all → Runs w ys said after
+    → (count : ℕ) × (said : List Said) × Runs w (take count all) said after
+front_runs w all ys zs said after is runs =
+    (length ys, said, subst (λ (es : List Event). Runs w es said after) (sym (take-append_seam ys zs) ∙ ap (take (length ys)) is) runs)
+
+pub on_err : {T E P : Type 0} (r : Result T E) → P → OnErr r P
+on_err (Ok x) p = tt
+on_err (Err e) p = p

@@ -9,10 +9,14 @@ mod committing;
 mod events;
 mod laws;
 mod opening;
+mod receiving;
 mod releasing;
 mod reopening;
+mod schedules;
+mod stepping;
 mod world;
 
 pub use events::{AcceptedReply, Event, Said};
 pub use laws::schedules_are_sound;
+pub use schedules::run_schedule;
 pub use world::World;
