@@ -78,6 +78,11 @@ def connected(port):
             time.sleep(0.05)
 
 
+def is_cut(said):
+    """Whether the bytes are less than a frame."""
+    return len(said) < 4 or len(said) < 4 + int.from_bytes(said[:4], "big")
+
+
 def listen_once(handle):
     """A port on which one connection is handled by a thread, and the thread."""
     server = socket.create_server(("127.0.0.1", 0))
@@ -91,15 +96,22 @@ def listen_once(handle):
     return server.getsockname()[1], thread
 
 
+def end_listening(port, thread):
+    """Ends a thread that listens, also where the program ended before it made a connection."""
+    if thread.is_alive():
+        with contextlib.suppress(OSError):
+            socket.create_connection(("127.0.0.1", port)).close()
+    thread.join(LIMIT)
+
+
 class Loopback:
     """A program under test in a folder of its own.
 
-    Its methods yield comparisons: a name, what is due, and what came.  A store that says a lie
-    which was cut short ends its connection once nothing came for `patience` seconds.
+    Its methods yield comparisons: a name, what is due, and what came.
     """
 
-    def __init__(self, program, folder, patience=1):
-        self.program, self.folder, self.patience = program, folder, patience
+    def __init__(self, program, folder):
+        self.program, self.folder = program, folder
         work = Workload(77, batches=5, commands=10, queries=6)
         self.world, self.queries = SealedScript(work.script), work.queries
 
@@ -190,7 +202,7 @@ class Loopback:
         sink, files = MemSink(), MemShelf({key: self.world.public_bytes})
         status = run(["vo_cli"] + words, files, MemDisk(), MemNet([answer]), sink)
         got = self.ended(words)
-        thread.join(LIMIT)
+        end_listening(port, thread)
         return (status, bytes(sink.written)), got
 
     # -- own
@@ -205,7 +217,7 @@ class Loopback:
             port, thread = listen_once(lambda sock, to=store: serve_link(to, SocketLink(sock)))
             words = ["own", self.file(SEED), f"127.0.0.1:{port}", self.file(script.encode())]
             status, out = self.ended(words)
-            thread.join(LIMIT)
+            end_listening(port, thread)
             before, version = version, version + len(parse_script(script))
             lines = "".join(f"version {v}\n" for v in range(before + 1, version + 1))
             yield "own lines", (0, lines), (status, out.decode())
@@ -261,10 +273,13 @@ class Loopback:
             return lambda request: left.pop(0) if left else b""
 
         def handle(sock, answer=answerer()):
-            sock.settimeout(self.patience)
+            sock.settimeout(LIMIT)
             link = SocketLink(sock)
             while link.frame_ends() and (said := answer(b"")):
                 link.put(said)
+                if is_cut(said):        # nothing more comes behind it
+                    sock.shutdown(socket.SHUT_WR)
+                    link.rest()
         write_files(self.folder, {JOURNAL: journal})
         port, thread = listen_once(handle)
         words = ["own", self.file(SEED), f"127.0.0.1:{port}", self.file(script)]
@@ -272,9 +287,7 @@ class Loopback:
         files = MemShelf({words[1]: SEED, words[3]: script})
         status = run(["vo_cli"] + words, files, disk, PeerNet(answerer()), sink)
         got = self.ended(words)
-        if status in (3, 7) and thread.is_alive():      # it may have ended before it connected
-            socket.create_connection(("127.0.0.1", port)).close()
-        thread.join(LIMIT)
+        end_listening(port, thread)
         return (status, bytes(sink.written), bytes(disk.data)), (*got, self.journal())
 
 
